@@ -1,0 +1,5 @@
+pub mod WordLemmas
+pub mod TagLemmas
+pub mod Put
+pub mod Searched
+pub mod SortedTags

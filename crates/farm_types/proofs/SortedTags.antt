@@ -1,0 +1,109 @@
+-- Tags that rise are sorted, and what a put keeps of them.
+use Rattle.std.proofs.Common.{◌≡◌, ◌∙◌, ℕ, ◌+◌, ◌<◌, ◌≤◌, ◌==◌, ◌&&◌, Bool, true, false, cond, List, [], ◌∷◌, ◌++◌, length, take, get_or, sym, ap, refl, arith, Ok, Err}
+use Rattle.std.specs.Prelude.{nat_le}
+use Rattle.std.specs.List.{list_all, AllByRecursion, slice_split}
+use Rattle.std.specs.List.Sorted.{IsStrictlySortedBy}
+use Rattle.std.specs.Cmp.Lexicographic.{nat_list_cmp_total}
+use Rattle.std.specs.Ordering.{is_lt}
+use Rattle.std.proofs.lemmas.Bool.Decides.{nat_tests}
+use Rattle.std.proofs.lemmas.List.{take_more}
+use Rattle.std.proofs.lemmas.List.Sums.{fold-append}
+use Rattle.farm_types.specs.Words.{IsTag, IsTags, is_tag, is_tags, rise, text_cmp, word_or}
+use Rattle.farm_types.specs.Tags.{tag_parts, list_of_tags}
+use Rattle.farm_types.specs.Table.{put, put_all}
+use Rattle.farm_types.proofs.Put.{AllByRecursion-weaker, AllByRecursion-put, length_put}
+use Rattle.farm_types.specs.declared.fault.WordFault.{WordFault}
+use Rattle.farm_types.specs.declared.fault.WordFault.TheVariants.{Refused, NoMemory}
+use Rattle.farm_types.specs.declared.refusal.TheConstants.{BAD_TAG}
+use Rattle.farm_types.specs.Reads.{Refuses}
+use Rattle.farm_types.proofs.Searched.{is_lt-Less}
+use Rattle.farm_types.proofs.WordLemmas.{and_parts}
+
+pub sorted_from_rise : (xs : List (List ℕ)) → rise xs ≡ true → IsStrictlySortedBy text_cmp xs
+unfolding IsStrictlySortedBy
+sorted_from_rise [] up = tt
+sorted_from_rise (x ∷ []) up = (tt, tt)
+sorted_from_rise (x ∷ y ∷ rest) up =
+    let both = and_parts (is_lt (text_cmp x y)) (rise (y ∷ rest)) up in
+    let less = is_lt-Less (text_cmp x y) both.0 in
+    let tail = sorted_from_rise (y ∷ rest) both.1 in
+    ((less, AllByRecursion-weaker (λ z above. nat_list_cmp_total.trans x y z less above) rest tail.0), tail)
+
+pub rise_from_sorted : (xs : List (List ℕ)) → IsStrictlySortedBy text_cmp xs → rise xs ≡ true
+unfolding IsStrictlySortedBy
+rise_from_sorted [] sorted = refl
+rise_from_sorted (x ∷ []) sorted = refl
+rise_from_sorted (x ∷ y ∷ rest) sorted = rw (sorted.0.0) (rise_from_sorted (y ∷ rest) sorted.1)
+
+same_answer : (a b : Bool) → (a ≡ true → b ≡ true) → (b ≡ true → a ≡ true) → a ≡ b
+same_answer true b to from = sym (to refl)
+same_answer false true to from = from refl
+same_answer false false to from = refl
+
+-- the test by neighbours is the test of order
+pub rise_is : (xs : List (List ℕ)) (answer : Bool) → (answer ≡ true → IsStrictlySortedBy text_cmp xs) → (IsStrictlySortedBy text_cmp xs → answer ≡ true) → answer ≡ rise xs
+rise_is xs answer to from = same_answer answer (rise xs) (λ yes. rise_from_sorted xs (to yes)) (λ up. from (sorted_from_rise xs up))
+
+all_tags : (xs : List (List ℕ)) → AllByRecursion IsTag xs → list_all is_tag xs ≡ true
+all_tags [] all = refl
+all_tags (x ∷ xs) all = rw all.0 (all_tags xs all.1)
+
+few : (n : ℕ) → n ≤ 16 → nat_le n 16 ≡ true
+few n small = grind (arith, nat_tests)
+
+-- at most sixteen tags in order are tags
+pub tags_from : (xs : List (List ℕ)) → length xs ≤ 16 → AllByRecursion IsTag xs → IsStrictlySortedBy text_cmp xs → IsTags xs
+unfolding is_tags
+tags_from xs small all sorted = rw (few (length xs) small, all_tags xs all) (rise_from_sorted xs sorted)
+
+-- one more tag is put
+pub put_all-more : (xs : List (List ℕ)) (at : ℕ) (x : List ℕ) → at < length xs → get_or xs at x ≡ x → put text_cmp (put_all text_cmp [] (take at xs)) x ≡ put_all text_cmp [] (take (at + 1) xs)
+put_all-more xs at x lt is = rw (take_more xs at x lt, is) (sym (fold-append (put text_cmp) [] (take at xs) (x ∷ [])))
+
+pub list_all-more : (xs : List (List ℕ)) (x : List ℕ) → list_all is_tag xs ≡ true → is_tag x ≡ true → list_all is_tag (xs ++ x ∷ []) ≡ true
+list_all-more [] x all is = rw is
+list_all-more (y ∷ xs) x all is =
+    let both = and_parts (is_tag y) (list_all is_tag xs) all in
+    rw both.0 (list_all-more xs x both.1 is)
+
+pub parts_of_none : (text : List ℕ) → (length text == 0) ≡ true → tag_parts text ≡ []
+parts_of_none [] none = refl
+parts_of_none (c ∷ text) none = absurd (grind (arith, nat_tests))
+
+pub parts_of_some : (text : List ℕ) → (length text == 0) ≡ false → tag_parts text ≡ slice_split (λ byte. byte == 44) text
+parts_of_some [] some = absurd (grind (arith, nat_tests))
+parts_of_some (c ∷ text) some = refl
+
+-- a part that is refused refuses the list
+pub refused_part : (fault : WordFault) (part : List ℕ) (parts : List (List ℕ)) → Refuses {Y = List ℕ} fault (word_or (is_tag part) part BAD_TAG) → (is_tag part ≡ false → list_all is_tag parts ≡ false) → Refuses {Y = List (List ℕ)} fault (list_of_tags parts)
+refused_part NoMemory part parts bad all = tt
+refused_part (Refused refusal) part parts bad all = by (is_tag part) refl bad
+  where
+    by : (b : Bool) → is_tag part ≡ b → word_or b part BAD_TAG ≡ Err refusal.code → list_of_tags parts ≡ Err refusal.code
+    by true is bad = cc
+    by false is bad = let code : BAD_TAG ≡ refusal.code = cc in rw (all is, code)
+
+pub none_put : (items : List (List ℕ)) → items ≡ [] → (items ≡ put_all text_cmp [] []) × IsStrictlySortedBy text_cmp items × AllByRecursion IsTag items × (length items ≤ 0)
+unfolding IsStrictlySortedBy
+none_put [] is = (refl, tt, tt, omega arith)
+none_put (x ∷ items) is = cc
+
+-- one more of the tags is put
+pub one_put : (tags items new : List (List ℕ)) (at : ℕ) (tag copy : List ℕ) → at < length tags → get_or tags at tag ≡ tag → copy ≡ tag → IsTag tag
+    → items ≡ put_all text_cmp [] (take at tags) → IsStrictlySortedBy text_cmp items → AllByRecursion IsTag items → length items ≤ at → new ≡ put text_cmp items copy
+    → (new ≡ put_all text_cmp [] (take (at + 1) tags)) × AllByRecursion IsTag new × (length new ≤ at + 1)
+one_put tags items new at tag copy lt here same is put_is sorted each small new_is =
+    let taken : new ≡ put text_cmp items tag = new_is ∙ ap (put text_cmp items) same in (
+      taken ∙ rw put_is (put_all-more tags at tag lt here),
+      rw taken (AllByRecursion-put text_cmp nat_list_cmp_total tag IsTag is items each),
+      rw taken (omega (arith, length_put text_cmp nat_list_cmp_total tag items)),
+    )
+
+-- a short list of tags that rises is tags
+pub tags_checked : (parts items : List (List ℕ)) → list_of_tags parts ≡ Ok items → length parts ≤ 16 → rise items ≡ true → IsTags items
+unfolding is_tags
+tags_checked parts items read small up = by (list_all is_tag parts) refl read
+  where
+    by : (b : Bool) → list_all is_tag parts ≡ b → cond b (Ok parts) (Err BAD_TAG) ≡ Ok items → nat_le (length items) 16 && list_all is_tag items && rise items ≡ true
+    by true all read = let same : parts ≡ items = cc in rw (few (length items) (rw same at small), rw same at all, up)
+    by false all read = cc

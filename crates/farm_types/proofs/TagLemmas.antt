@@ -1,0 +1,112 @@
+-- The key of a tag, by the place of the first '=', and what a tag is by it.
+use Rattle.std.proofs.Common.{◌≡◌, ℕ, ◌+◌, ◌<◌, ◌≤◌, ◌==◌, ◌&&◌, ◌||◌, Bool, true, false, cond, not, List, [], ◌∷◌, length, take, drop, Some, None, sym, ap, ◌∙◌, refl, arith, suc, add-one, ◌++◌, append_assoc, get_or}
+use Rattle.std.specs.List.{position, prefix_len, list_all}
+use Rattle.std.proofs.lemmas.List.{take_all, take_more}
+use Rattle.farm_types.specs.Tags.{tags_text}
+use Rattle.std.proofs.lemmas.Bool.Decides.{nat_tests}
+use Rattle.std.specs.Prelude.{nat_lt}
+use Rattle.std.specs.Str.{bytes_eq, IsUtf8}
+use Rattle.std.proofs.lemmas.List.{length-take}
+use Rattle.std.proofs.Math.Bool.{and-true, and-false}
+use Rattle.std.proofs.lemmas.Slice.Eq.{bytes_eq-Decides}
+use Rattle.farm_types.proofs.WordLemmas.{below_ascii, ascii_bytes, name_bytes, and_parts}
+use Rattle.std.specs.Str.{IsAscii}
+use Rattle.std.proofs.lemmas.Str.Ascii.{IsAscii-nil, IsAscii-cons}
+use Rattle.std.proofs.lemmas.Str.{IsUtf8-from_ascii}
+use Rattle.farm_types.specs.Words.{tag_key, is_tag, is_word, is_name_byte}
+
+pub key_at : (xs : List ℕ) (end : ℕ) → position (λ c. c == 61) xs ≡ Some end → take end xs ≡ tag_key xs
+key_at xs end is = by (nat_lt (prefix_len (λ c. not (c == 61)) xs) (length xs)) is
+  where
+    by : (b : Bool) → cond b (Some (prefix_len (λ c. not (c == 61)) xs)) None ≡ Some end → take end xs ≡ tag_key xs
+    by true is = let e : prefix_len (λ c. not (c == 61)) xs ≡ end = cc in ap (λ n. take n xs) (sym e)
+    by false is = cc
+
+pub key_whole : (xs : List ℕ) → position (λ c. c == 61) xs ≡ None → xs ≡ tag_key xs
+key_whole xs is = by (nat_lt (prefix_len (λ c. not (c == 61)) xs) (length xs)) refl is
+  where
+    by : (b : Bool) → nat_lt (prefix_len (λ c. not (c == 61)) xs) (length xs) ≡ b → cond b (Some (prefix_len (λ c. not (c == 61)) xs)) None ≡ None → xs ≡ tag_key xs
+    by true e is = cc
+    by false e is = let h : length xs ≤ prefix_len (λ c. not (c == 61)) xs = grind (arith, nat_tests) in sym (take_all (prefix_len (λ c. not (c == 61)) xs) xs h)
+
+short_key : (xs : List ℕ) (end : ℕ) → position (λ c. c == 61) xs ≡ Some end → end < length xs
+short_key xs end is = by (nat_lt (prefix_len (λ c. not (c == 61)) xs) (length xs)) refl is
+  where
+    by : (b : Bool) → nat_lt (prefix_len (λ c. not (c == 61)) xs) (length xs) ≡ b → cond b (Some (prefix_len (λ c. not (c == 61)) xs)) None ≡ Some end → end < length xs
+    by true lt is = let e : prefix_len (λ c. not (c == 61)) xs ≡ end = cc in grind (arith, nat_tests)
+    by false lt is = cc
+
+text_itself : (text : List ℕ) → bytes_eq text text ≡ true
+text_itself text = (bytes_eq-Decides text text).1 refl
+
+-- a text that is shorter is another
+differs_by_length : (xs ys : List ℕ) → length xs < length ys → bytes_eq xs ys ≡ false
+differs_by_length [] [] less = absurd (omega arith)
+differs_by_length [] (y ∷ ys) less = refl
+differs_by_length (x ∷ xs) [] less = absurd (omega arith)
+differs_by_length (x ∷ xs) (y ∷ ys) less = rw (differs_by_length xs ys (omega arith)) (and-false (x == y))
+
+pub tag_without : (xs : List ℕ) → position (λ c. c == 61) xs ≡ None → is_tag xs ≡ is_word 32 xs
+unfolding is_tag
+tag_without xs is =
+    let e : xs ≡ tag_key xs = key_whole xs is in
+    rw (← e) (rw (text_itself xs) (and-true (is_word 32 xs)))
+
+pub tag_with : (xs : List ℕ) (end : ℕ) → position (λ c. c == 61) xs ≡ Some end → is_tag xs ≡ (is_word 32 (take end xs) && is_word 64 (drop (end + 1) xs))
+unfolding is_tag
+tag_with xs end is =
+    let e : take end xs ≡ tag_key xs = key_at xs end is in
+    let short : end < length xs = short_key xs end is in
+    let long : length (take end xs) ≡ end = grind (arith, length-take {A = ℕ}) in
+    rw (← e) (rw (differs_by_length (take end xs) xs (omega arith), long))
+
+one_more : (n : ℕ) → 1 + n ≡ suc n
+one_more n = omega arith
+
+-- a key and a value of ASCII bytes, with '=' between them, are ASCII
+ascii_tag : (xs : List ℕ) → list_all is_name_byte (tag_key xs) ≡ true → list_all is_name_byte (drop (suc (length (tag_key xs))) xs) ≡ true → IsAscii xs
+ascii_tag [] key value = IsAscii-nil
+ascii_tag (x ∷ xs) key value = by (ascii_tag xs) (x == 61) refl key value
+  where
+    by : (list_all is_name_byte (tag_key xs) ≡ true → list_all is_name_byte (drop (suc (length (tag_key xs))) xs) ≡ true → IsAscii xs) → (b : Bool) → (x == 61) ≡ b
+        → list_all is_name_byte (take (cond (not b) (1 + prefix_len (λ c. not (c == 61)) xs) 0) (x ∷ xs)) ≡ true
+        → list_all is_name_byte (drop (suc (length (take (cond (not b) (1 + prefix_len (λ c. not (c == 61)) xs) 0) (x ∷ xs)))) (x ∷ xs)) ≡ true → IsAscii (x ∷ xs)
+    by more true is key value = IsAscii-cons x xs (grind (arith, nat_tests)) (ascii_bytes xs value)
+    by more false is key value =
+        let both = and_parts (is_name_byte x) (list_all is_name_byte (tag_key xs)) (rw (one_more (prefix_len (λ c. not (c == 61)) xs)) at key) in
+        IsAscii-cons x xs (below_ascii x both.0) (more both.1 (rw (one_more (prefix_len (λ c. not (c == 61)) xs)) at value))
+
+either : (p q : Bool) (P : Type 0) → (p ≡ true → P) → (q ≡ true → P) → (p || q) ≡ true → P
+either true q P yes_p yes_q is = yes_p refl
+either false q P yes_p yes_q is = yes_q is
+
+pub IsUtf8_of_tag : (text : List ℕ) → is_tag text ≡ true → IsUtf8 text
+unfolding is_tag
+IsUtf8_of_tag text is =
+    let both = and_parts (is_word 32 (tag_key text)) (bytes_eq (tag_key text) text || is_word 64 (drop (length (tag_key text) + 1) text)) is in
+    let key = name_bytes 32 (tag_key text) both.0 in
+    either (bytes_eq (tag_key text) text) (is_word 64 (drop (length (tag_key text) + 1) text)) (IsUtf8 text)
+    (λ same. let e : tag_key text ≡ text = (bytes_eq-Decides (tag_key text) text).0 same in IsUtf8-from_ascii text (ascii_bytes text (rw e at key)))
+    (λ value. IsUtf8-from_ascii text (ascii_tag text key (rw add-one at (name_bytes 64 (drop (length (tag_key text) + 1) text) value))))
+    both.1
+
+-- one more tag behind the text of others
+joined : (y : List ℕ) (ys : List (List ℕ)) (x : List ℕ) → (tags_text (y ∷ ys) ++ 44 ∷ []) ++ x ≡ tags_text ((y ∷ ys) ++ x ∷ [])
+joined y [] x = append_assoc y (44 ∷ []) x
+joined y (z ∷ ys) x =
+    append_assoc (y ++ (44 ∷ tags_text (z ∷ ys))) (44 ∷ []) x ∙ (append_assoc y (44 ∷ tags_text (z ∷ ys)) (44 ∷ x)
+    ∙ ap (λ rest. y ++ (44 ∷ rest)) (sym (append_assoc (tags_text (z ∷ ys)) (44 ∷ []) x) ∙ joined z ys x))
+
+not_none : (n : ℕ) → 0 < n → (n == 0) ≡ false
+not_none n some = grind (arith, nat_tests)
+
+separated : (ys : List (List ℕ)) (x : List ℕ) → (cond (length ys == 0) (tags_text ys) (tags_text ys ++ 44 ∷ [])) ++ x ≡ tags_text (ys ++ x ∷ [])
+separated [] x = refl
+separated (y ∷ ys) x = rw (not_none (length (y ∷ ys)) (omega arith)) (joined y ys x)
+
+pub tags_text-more : (tags : List (List ℕ)) (at : ℕ) (tag : List ℕ) → at < length tags → get_or tags at tag ≡ tag
+    → (cond (at == 0) (tags_text (take at tags)) (tags_text (take at tags) ++ 44 ∷ [])) ++ tag ≡ tags_text (take (at + 1) tags)
+tags_text-more tags at tag lt is =
+    let long : length (take at tags) ≡ at = grind (arith, length-take {A = List ℕ}) in
+    let step : (cond (length (take at tags) == 0) (tags_text (take at tags)) (tags_text (take at tags) ++ 44 ∷ [])) ++ tag ≡ tags_text (take at tags ++ tag ∷ []) = separated (take at tags) tag in
+    rw (take_more tags at tag lt, is) (rw long at step)

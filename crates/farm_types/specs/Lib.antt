@@ -1,0 +1,17 @@
+pub mod Words
+pub mod Codes
+pub mod Refusals
+pub mod Reads
+pub mod Limits
+pub mod Proper
+pub mod Table
+pub mod Tags
+pub mod Farm
+pub mod Small
+pub mod Pick
+pub mod Pass
+pub mod Refuse
+pub mod Change
+pub mod Machine
+pub mod Sound
+pub mod Worked

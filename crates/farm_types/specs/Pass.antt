@@ -1,0 +1,141 @@
+-- The pass.
+use Rattle.std.specs.Prelude.{ℕ, ◌==◌, ◌&&◌, ◌||◌, ◌+◌, ◌-◌, ◌*◌, Bool, true, false, nat_le, List, [], ◌∷◌, length, Option, Some, None, if◌then◌else◌, codes}
+use Rattle.std.specs.List.{filter, fold, zip}
+use Rattle.std.specs.Option.{option_map_or}
+use Rattle.std.specs.Str.{bytes_eq}
+use Rattle.farm_types.specs.Codes.{same_health, same_res_state}
+use Rattle.farm_types.specs.Table.{put, job_cmp, change_where}
+use Rattle.farm_types.specs.Farm.{job_of, Farm, board_of, res_of, members, put_board}
+use Rattle.farm_types.specs.Pick.{is_nobody, is_free, check_of, least, Claimed, queue}
+use Rattle.farm_types.specs.declared.rows.Health.{Health}
+use Rattle.farm_types.specs.declared.rows.State.{State}
+use Rattle.farm_types.specs.declared.rows.Holder.{Holder}
+use Rattle.farm_types.specs.declared.rows.JobState.{JobState}
+use Rattle.farm_types.specs.declared.rows.ResState.{ResState}
+use Rattle.farm_types.specs.declared.rows.Check.{Check}
+use Rattle.farm_types.specs.declared.rows.BoardRow.{BoardRow}
+use Rattle.farm_types.specs.declared.rows.JobRow.{JobRow}
+use Rattle.farm_types.specs.declared.rows.ResRow.{ResRow}
+
+-- a board in someone's hands, and in nobody's
+abbrev pub held : Holder → State → BoardRow → BoardRow
+held holder state b = record b { holder = holder; state = state }
+
+abbrev pub idle : BoardRow → BoardRow
+idle = held Holder.Nobody State.Idle
+
+-- the farm with a named board changed; with none named it stays
+abbrev pub with_board : (BoardRow → BoardRow) → Farm → Option (List ℕ) → Farm
+with_board f F None = F
+with_board f F (Some name) = option_map_or (λ b. put_board F (f b)) (board_of F name) F
+
+-- a waiting or allocated reservation whose deadline has come
+abbrev pub is_dead : ℕ → ResRow → Bool
+is_dead t r = (same_res_state r.state ResState.Waiting || same_res_state r.state ResState.Allocated) && nat_le r.deadline t
+
+-- whether a job that passes, or a reservation that passes, is the holder
+abbrev pub is_job_so : Farm → (JobRow → Bool) → Holder → Bool
+is_job_so F test (Holder.Job n) = option_map_or test (job_of F n) false
+is_job_so F test h = false
+
+abbrev pub is_res_so : Farm → (ResRow → Bool) → Holder → Bool
+is_res_so F test (Holder.Res n) = option_map_or test (res_of F n) false
+is_res_so F test h = false
+
+-- the jobs that pass are changed, and the boards that they hold
+abbrev pub change_jobs : (JobRow → Bool) → (JobRow → JobRow) → (BoardRow → BoardRow) → Farm → Farm
+change_jobs test f g F = record F { jobs = change_where test f F.jobs; boards = change_where (λ b. is_job_so F test b.holder) g F.boards }
+
+-- the reservations that pass are changed, and the boards that they hold
+abbrev pub change_res : (ResRow → Bool) → (ResRow → ResRow) → (BoardRow → BoardRow) → Farm → Farm
+change_res test f g F = record F { reservations = change_where test f F.reservations; boards = change_where (λ b. is_res_so F test b.holder) g F.boards }
+
+-- 1. each dead reservation is expired, and the board that it holds is free
+abbrev pub expire : Farm → ℕ → Farm
+expire F t = change_res (is_dead t) (λ r. record r { state = ResState.Expired }) idle F
+
+-- 2. each due board is checked, while there is room
+abbrev pub is_reached : ℕ → BoardRow → Check → Bool
+is_reached t b Check.Never = false
+is_reached t b (Check.Hours n) = nat_le (3600 * n) (t - b.last_check)
+is_reached t b (Check.Jobs n) = nat_le n b.jobs_since
+
+abbrev pub is_due_by : Check → ℕ → BoardRow → Bool
+is_due_by Check.Never t b = false
+is_due_by check t b = same_health b.health Health.Unknown || (same_health b.health Health.Good && is_reached t b check)
+
+abbrev pub is_due : Farm → ℕ → BoardRow → Bool
+is_due F t b = is_nobody b.holder && is_due_by (check_of F.types b.kind) t b
+
+abbrev pub has_room : Farm → ℕ → Bool
+has_room F n = nat_le (length F.jobs + n) 100000 && nat_le (F.next + n) 1000000000
+
+-- the job that checks a board
+abbrev pub check_job : ℕ → BoardRow → JobRow
+check_job number b = record {
+  number = number;
+  group = number;
+  checking = true;
+  owner = codes "admin";
+  priority = 100;
+  want = record { kind = Some b.kind; tags = [] };
+  role = None;
+  state = JobState.Scheduled;
+  outcome = None;
+  board = Some b.name;
+  body = [];
+}
+
+abbrev pub check_one : Farm → BoardRow → Farm
+check_one F b =
+    if has_room F 1
+    then record F {
+      jobs = put job_cmp F.jobs (check_job F.next b);
+      boards = change_where (λ c. bytes_eq c.name b.name) (held (Holder.Job F.next) State.Reserved) F.boards;
+      next = F.next + 1;
+    }
+    else F
+
+abbrev pub checks : Farm → ℕ → Farm
+checks F t = fold check_one F (filter (is_due F t) F.boards)
+
+-- 3. the claims are taken in queue order, and each is given the least list of free boards that meets it
+abbrev pub scheduled : List ℕ → JobRow → JobRow
+scheduled name j = record j { state = JobState.Scheduled; board = Some name }
+
+abbrev pub allocated : List ℕ → ℕ → ResRow → ResRow
+allocated name t r = record r { state = ResState.Allocated; board = Some name; deadline = t + 60 }
+
+-- a member is given its board
+abbrev pub give_member : Farm → JobRow × BoardRow → Farm
+give_member F (j, b) = record F {
+  jobs = change_where (λ m. m.number == j.number) (scheduled b.name) F.jobs;
+  boards = change_where (λ c. bytes_eq c.name b.name) (held (Holder.Job j.number) State.Reserved) F.boards;
+}
+
+-- each member is given its board
+abbrev pub give_group : Farm → ℕ → List BoardRow → Farm
+give_group F group bs = fold give_member F (zip (members F group) bs)
+
+abbrev pub give_res : Farm → ℕ → List BoardRow → ℕ → Farm
+give_res F number [] t = F
+give_res F number (b ∷ bs) t = record F {
+  reservations = change_where (λ r. r.number == number) (allocated b.name t) F.reservations;
+  boards = change_where (λ c. bytes_eq c.name b.name) (held (Holder.Res number) State.Reserved) F.boards;
+}
+
+abbrev pub give : Farm → Claimed → List BoardRow → ℕ → Farm
+give F c bs t =
+    if c.reservation then give_res F c.number bs t else give_group F c.number bs
+
+-- the farm so far, and how many claims were served
+pub record Served : Type 0 where
+  pub farm : Farm
+  pub claims : ℕ
+
+abbrev pub serve : ℕ → Served → Claimed → Served
+serve t s c =
+    option_map_or (λ bs. record { farm = give s.farm c bs t; claims = s.claims + 1 }) (least s.farm.boards (is_free s.farm.types) c.wants) s
+
+abbrev pub serve_all : Farm → ℕ → Served
+serve_all F t = fold (serve t) (record { farm = F; claims = 0 }) (queue F)

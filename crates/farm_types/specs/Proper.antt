@@ -1,0 +1,43 @@
+-- Which commands are proper: the others never reach the farm.
+use Rattle.std.specs.Prelude.{ℕ, ◌==◌, ◌&&◌, Bool, true, not, nat_le, List, length, is_some, codes, Option}
+use Rattle.std.specs.List.{list_all, list_any}
+use Rattle.std.specs.Str.{bytes_eq}
+use Rattle.farm_types.specs.Words.{tag_key, is_word, is_tags}
+use Rattle.std.specs.Option.{option_map_or}
+use Rattle.farm_types.specs.declared.rows.Want.{Want}
+use Rattle.farm_types.specs.Codes.{same_outcome}
+use Rattle.farm_types.specs.declared.rows.Outcome.{Outcome}
+use Rattle.farm_types.specs.declared.rows.Check.{Check}
+use Rattle.farm_types.specs.declared.calls.Cmd.{Cmd}
+pub use Rattle.farm_types.specs.Limits.{is_priority, are_few_wants}
+
+-- a check's frequency is 1 to 10,000
+abbrev pub is_frequency : Check → Bool
+is_frequency Check.Never = true
+is_frequency (Check.Hours n) = nat_le 1 n && nat_le n 10000
+is_frequency (Check.Jobs n) = nat_le 1 n && nat_le n 10000
+
+-- no tag has the key `name`, which each board carries by itself
+abbrev pub has_no_name_tag : List (List ℕ) → Bool
+has_no_name_tag tags = not (list_any (λ tag. bytes_eq (tag_key tag) (codes "name")) tags)
+
+-- a want names a type, if it names one, and tags
+abbrev pub is_want : Want → Bool
+is_want w = option_map_or (is_word 48) w.kind true && is_tags w.tags
+
+-- the words of a command are words, and it keeps the rules above
+unfoldable pub is_proper_cmd : Cmd → Bool
+is_proper_cmd (Cmd.AddType name check) = is_word 48 name && is_frequency check
+is_proper_cmd (Cmd.AddBoard name kind tags) = is_word 48 name && is_word 48 kind && is_tags tags && has_no_name_tag tags
+is_proper_cmd (Cmd.SetTags name tags) = is_word 48 name && is_tags tags && has_no_name_tag tags
+is_proper_cmd (Cmd.SetHealth name health) = is_word 48 name
+is_proper_cmd (Cmd.Submit priority wants roles body) =
+    is_priority priority && nat_le 1 (length wants) && nat_le (length wants) 4 && list_all (λ w. is_some w.kind && is_want w) wants
+    && (length roles == length wants) && list_all (λ r. option_map_or (is_word 48) r true) roles && nat_le (length body) 65536
+is_proper_cmd (Cmd.Finish number outcome) = not (same_outcome outcome Outcome.Canceled)
+is_proper_cmd (Cmd.Reserve priority tags) = is_priority priority && is_tags tags
+is_proper_cmd cmd = true
+
+-- so do its caller and its key
+abbrev pub is_proper : List ℕ → Option (List ℕ) → Cmd → Bool
+is_proper caller key cmd = is_word 48 caller && option_map_or (is_word 64) key true && is_proper_cmd cmd

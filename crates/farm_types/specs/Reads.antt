@@ -1,0 +1,14 @@
+-- What a reader of a word returns.
+use Rattle.std.specs.Prelude.{◌≡◌, ℕ, Result, Ok, Err}
+use Rattle.farm_types.specs.declared.fault.WordFault.{WordFault}
+use Rattle.farm_types.specs.declared.fault.WordFault.TheVariants.{Refused, NoMemory}
+
+-- the refusal is the spelled one, unless memory ran out
+abbrev pub Refuses : {Y : Type 0} → WordFault → Result Y ℕ → Type 0
+Refuses NoMemory spelled = Unit {0}
+Refuses (Refused refusal) spelled = spelled ≡ Err refusal.code
+
+-- what a reader returned, seen by `view`, is what the text spells: a value, or the code of its refusal
+abbrev pub Reads : {X Y : Type 0} → (X → Y) → Result X WordFault → Result Y ℕ → Type 0
+Reads view (Ok word) spelled = spelled ≡ Ok (view word)
+Reads view (Err fault) spelled = Refuses fault spelled

@@ -1,0 +1,177 @@
+//! What a caller asks, and what the farm answers.
+ghost use Rattle.std.specs.Prelude.{◌≡◌, IsTrue, ⊤};
+ghost use Rattle.farm_types.specs.Proper.{is_proper};
+
+pub use crate::asked::{Roles, Wants};
+use crate::refusal::Refusal;
+use crate::rows::{
+    BoardRow, Check, Health, JobRow, KeptRow, MetaRow, Outcome, Reply, ResRow, TypeRow,
+};
+use crate::words::{Body, Key, Name, Priority, Tags};
+
+/// One of the fourteen commands.
+#[derive(Debug, Drop)]
+pub enum Cmd {
+    AddType(Name, Check),
+    AddBoard(Name, Name, Tags),
+    SetTags(Name, Tags),
+    SetHealth(Name, Health),
+    Submit(Priority, Wants, Roles, Body),
+    Cancel(u64),
+    Start(u64),
+    Finish(u64, Outcome),
+    Reserve(Priority, Tags),
+    Acquire(u64),
+    Release(u64),
+    Refresh(u64),
+    CancelRes(u64),
+    Pass,
+}
+
+impl Cmd {
+    ghost use Rattle.farm_types.specs.Refuse.{kind_of};
+
+    /// The number of the command.
+    pub fn kind(&self) -> u64
+        ensures { result ≡ kind_of self.now }
+    {
+        match self {
+            Cmd::AddType(_, _) => 1,
+            Cmd::AddBoard(_, _, _) => 2,
+            Cmd::SetTags(_, _) => 3,
+            Cmd::SetHealth(_, _) => 4,
+            Cmd::Submit(_, _, _, _) => 5,
+            Cmd::Cancel(_) => 6,
+            Cmd::Start(_) => 7,
+            Cmd::Finish(_, _) => 8,
+            Cmd::Reserve(_, _) => 9,
+            Cmd::Acquire(_) => 10,
+            Cmd::Release(_) => 11,
+            Cmd::Refresh(_) => 12,
+            Cmd::CancelRes(_) => 13,
+            Cmd::Pass => 14,
+        }
+    }
+}
+
+impl Cmd {
+    ghost use Rattle.farm_types.specs.Proper.{is_proper_cmd, is_frequency, has_no_name_tag};
+    ghost use Rattle.farm_types.specs.declared.calls.Cmd.{Cmd};
+
+    /// The command that adds a type; its check's frequency is 1 to 10,000.
+    #[tactic(auto, unfolding(crate::specs::Proper::is_proper_cmd))]
+    pub fn add_type(name: Name, check: Check) -> Cmd
+        requires { IsTrue (is_frequency check) }
+        ensures cmd { result ≡ Cmd.AddType name check }
+        ensures proper { IsTrue (is_proper_cmd result) }
+    {
+        let _name = name.as_str();
+        Cmd::AddType(name, check)
+    }
+
+    /// The command that adds a board; none of its tags has the key `name`.
+    #[tactic(auto, unfolding(crate::specs::Proper::is_proper_cmd))]
+    pub fn add_board(name: Name, kind: Name, tags: Tags) -> Cmd
+        requires { IsTrue (has_no_name_tag tags) }
+        ensures cmd { result ≡ Cmd.AddBoard name kind tags }
+        ensures proper { IsTrue (is_proper_cmd result) }
+    {
+        let (_name, _kind, _tags) = (name.as_str(), kind.as_str(), tags.items());
+        Cmd::AddBoard(name, kind, tags)
+    }
+
+    /// The command that gives a board other tags, none with the key `name`.
+    #[tactic(auto, unfolding(crate::specs::Proper::is_proper_cmd))]
+    pub fn set_tags(name: Name, tags: Tags) -> Cmd
+        requires { IsTrue (has_no_name_tag tags) }
+        ensures cmd { result ≡ Cmd.SetTags name tags }
+        ensures proper { IsTrue (is_proper_cmd result) }
+    {
+        let (_name, _tags) = (name.as_str(), tags.items());
+        Cmd::SetTags(name, tags)
+    }
+
+    /// The command that gives a board another health.
+    #[tactic(auto, unfolding(crate::specs::Proper::is_proper_cmd))]
+    pub fn set_health(name: Name, health: Health) -> Cmd
+        ensures cmd { result ≡ Cmd.SetHealth name health }
+        ensures proper { IsTrue (is_proper_cmd result) }
+    {
+        let _name = name.as_str();
+        Cmd::SetHealth(name, health)
+    }
+
+    /// The command that reserves a board with these tags.
+    #[tactic(auto, unfolding(crate::specs::Proper::is_proper_cmd))]
+    pub fn reserve(priority: Priority, tags: Tags) -> Cmd
+        ensures cmd { result ≡ Cmd.Reserve priority tags }
+        ensures proper { IsTrue (is_proper_cmd result) }
+    {
+        let (_priority, _tags) = (priority.get(), tags.items());
+        Cmd::Reserve(priority, tags)
+    }
+}
+
+/// A command, who gives it, at what moment, and the key under which its reply is kept.
+#[derive(Debug, Drop)]
+pub struct Call {
+    pub caller: Name,
+    pub key: Option<Key>,
+    pub now: u64,
+    pub cmd: Cmd,
+    ghost proper: { IsTrue (is_proper caller key cmd) },
+}
+
+impl Call {
+    ghost use Rattle.farm_types.specs.Proper.{is_proper_cmd};
+
+    /// The call of a proper command.
+    pub fn new(caller: Name, key: Option<Key>, now: u64, cmd: Cmd) -> Call
+        requires { IsTrue (is_proper_cmd cmd) }
+        ensures caller { result.caller ≡ caller }
+        ensures key { result.key ≡ key }
+        ensures now { result.now ≡ now }
+        ensures cmd { result.cmd ≡ cmd }
+    {
+        let _caller = caller.as_str();
+        if let Some(key) = &key {
+            let _key = key.as_str();
+        }
+        Call {
+            caller,
+            key,
+            now,
+            cmd,
+        }
+    }
+}
+
+/// Whole rows, to be put one after another by their keys.
+#[derive(Debug, Drop)]
+pub struct Changes {
+    pub types: Vec<TypeRow>,
+    pub boards: Vec<BoardRow>,
+    pub jobs: Vec<JobRow>,
+    pub reservations: Vec<ResRow>,
+    pub kept: Vec<KeptRow>,
+    pub meta: MetaRow,
+}
+
+/// The rows of the six tables.
+#[derive(Debug, Drop)]
+pub struct Rows {
+    pub types: Vec<TypeRow>,
+    pub boards: Vec<BoardRow>,
+    pub jobs: Vec<JobRow>,
+    pub reservations: Vec<ResRow>,
+    pub kept: Vec<KeptRow>,
+    pub meta: MetaRow,
+}
+
+/// What the farm answers to a call.
+#[derive(Debug, Drop)]
+pub enum Answer {
+    Did(Reply, Changes),
+    Kept(Reply),
+    Refused(Refusal),
+}

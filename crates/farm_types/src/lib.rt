@@ -1,0 +1,18 @@
+//! The words, rows, calls and refusals of the board farm, and in `specs/` the whole machine.
+//!
+//! Read `specs/` in the order Words, Tags, Codes, Refusals, Proper, Table, Farm, Pick, Pass, Refuse,
+//! Change, Machine, Sound.
+#![tactic(auto)]
+
+pub mod asked;
+pub mod calls;
+pub mod claims;
+pub mod codes;
+pub mod fault;
+pub mod laws;
+pub mod priority;
+pub mod refusal;
+pub mod rows;
+pub mod table;
+pub mod tags;
+pub mod words;

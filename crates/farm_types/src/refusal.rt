@@ -1,0 +1,182 @@
+//! The one table of refusals and faults: number, HTTP status and text.
+ghost use Rattle.std.specs.Prelude.{◌≡◌};
+ghost use Rattle.std.specs.Option.{option_map};
+ghost use Rattle.farm_types.specs.Refusals.{line_of, text_of, status_of, reason_of};
+
+use std::fmt;
+
+/// Memory ran out: the command may be repeated with its key.
+pub const NO_MEMORY: u16 = 1;
+/// The moment is beyond the last one that the desk knows.
+pub const BAD_MOMENT: u16 = 2;
+/// The caller may not give this command.
+pub const FORBIDDEN: u16 = 3;
+/// The command would go beyond a limit of the farm.
+pub const FULL: u16 = 4;
+/// A text is no name.
+pub const BAD_NAME: u16 = 5;
+/// A text is no tag, or a board's own tag has the key `name`.
+pub const BAD_TAG: u16 = 6;
+/// Too many tags, or no wants, or too many.
+pub const BAD_COUNT: u16 = 7;
+/// There is no type of that name.
+pub const NO_TYPE: u16 = 10;
+/// There is a type of that name.
+pub const TYPE_EXISTS: u16 = 11;
+/// There is no board of that name.
+pub const NO_BOARD: u16 = 12;
+/// There is a board of that name.
+pub const BOARD_EXISTS: u16 = 13;
+/// A held board can't be retired.
+pub const HELD: u16 = 14;
+/// A retired board stays as it is.
+pub const RETIRED: u16 = 15;
+/// There is no job of that number.
+pub const NO_JOB: u16 = 20;
+/// The job's state doesn't allow the command.
+pub const WRONG_STATE: u16 = 21;
+/// No list of boards meets the wants, whoever holds them now.
+pub const NO_SUCH_BOARDS: u16 = 22;
+/// The priority is no whole number from 0 to 100.
+pub const BAD_PRIORITY: u16 = 23;
+/// There is no reservation of that number.
+pub const NO_RESERVATION: u16 = 30;
+/// The reservation's deadline has come.
+pub const EXPIRED: u16 = 31;
+/// The reservation's state doesn't allow the command.
+pub const WRONG_RESERVATION_STATE: u16 = 32;
+/// The key's reply is kept for another command.
+pub const KEY_REUSED: u16 = 40;
+/// A text is no key.
+pub const BAD_KEY: u16 = 41;
+/// The request can't be read.
+pub const BAD_REQUEST: u16 = 50;
+/// The head or the body has too many bytes.
+pub const TOO_LARGE: u16 = 51;
+/// There is nothing at that path.
+pub const NO_ROUTE: u16 = 52;
+/// The path has other methods.
+pub const WRONG_METHOD: u16 = 53;
+/// Transfer codings aren't read.
+pub const BAD_CODING: u16 = 54;
+/// A call of the store was refused: open it again.
+pub const STORE: u16 = 60;
+/// The desk was closed by an earlier fault.
+pub const CLOSED: u16 = 61;
+/// The file's rows are no sound farm's.
+pub const BAD_STORE: u16 = 62;
+/// The file is of an earlier edition.
+pub const OLD_SCHEMA: u16 = 63;
+/// A job file can't be read.
+pub const BAD_JOB_FILE: u16 = 70;
+/// A lab file can't be read.
+pub const BAD_LAB_FILE: u16 = 71;
+/// The input failed.
+pub const READ: u16 = 80;
+/// The output failed.
+pub const WRITE: u16 = 81;
+
+/// A line of the table: the HTTP status of a refusal's answer (RFC 9110), where it has one, and its
+/// text.
+#[derive(Clone, Copy, Debug)]
+struct Line {
+    status: Option<u16>,
+    text: &'static str,
+}
+
+/// The line of a number.
+#[rattlefmt::skip]
+fn line_of(code: u16) -> Option<Line>
+    ensures { option_map (λ line. (line.status, line.text.now)) result ≡ line_of code }
+{
+    match code {
+        NO_MEMORY => Some(Line { status: Some(503), text: "no memory" }),
+        BAD_MOMENT => Some(Line { status: Some(400), text: "bad moment" }),
+        FORBIDDEN => Some(Line { status: Some(403), text: "forbidden" }),
+        FULL => Some(Line { status: Some(409), text: "full" }),
+        BAD_NAME => Some(Line { status: Some(400), text: "bad name" }),
+        BAD_TAG => Some(Line { status: Some(400), text: "bad tag" }),
+        BAD_COUNT => Some(Line { status: Some(400), text: "bad count" }),
+        NO_TYPE => Some(Line { status: Some(404), text: "no such type" }),
+        TYPE_EXISTS => Some(Line { status: Some(409), text: "type exists" }),
+        NO_BOARD => Some(Line { status: Some(404), text: "no such board" }),
+        BOARD_EXISTS => Some(Line { status: Some(409), text: "board exists" }),
+        HELD => Some(Line { status: Some(409), text: "board is held" }),
+        RETIRED => Some(Line { status: Some(409), text: "board is retired" }),
+        NO_JOB => Some(Line { status: Some(404), text: "no such job" }),
+        WRONG_STATE => Some(Line { status: Some(409), text: "wrong job state" }),
+        NO_SUCH_BOARDS => Some(Line { status: Some(409), text: "no such boards" }),
+        BAD_PRIORITY => Some(Line { status: Some(400), text: "bad priority" }),
+        NO_RESERVATION => Some(Line { status: Some(404), text: "no such reservation" }),
+        EXPIRED => Some(Line { status: Some(409), text: "reservation expired" }),
+        WRONG_RESERVATION_STATE => Some(Line { status: Some(409), text: "wrong reservation state" }),
+        KEY_REUSED => Some(Line { status: Some(409), text: "key reused" }),
+        BAD_KEY => Some(Line { status: Some(400), text: "bad key" }),
+        BAD_REQUEST => Some(Line { status: Some(400), text: "bad request" }),
+        TOO_LARGE => Some(Line { status: Some(413), text: "too large" }),
+        NO_ROUTE => Some(Line { status: Some(404), text: "no such route" }),
+        WRONG_METHOD => Some(Line { status: Some(405), text: "wrong method" }),
+        BAD_CODING => Some(Line { status: Some(501), text: "bad coding" }),
+        STORE => Some(Line { status: Some(503), text: "store fault" }),
+        CLOSED => Some(Line { status: Some(503), text: "closed" }),
+        BAD_STORE => Some(Line { status: None, text: "bad store" }),
+        OLD_SCHEMA => Some(Line { status: None, text: "old schema" }),
+        BAD_JOB_FILE => Some(Line { status: Some(400), text: "bad job file" }),
+        BAD_LAB_FILE => Some(Line { status: None, text: "bad lab file" }),
+        READ => Some(Line { status: None, text: "read fault" }),
+        WRITE => Some(Line { status: None, text: "write fault" }),
+        _ => None,
+    }
+}
+
+/// A refusal, by its number.
+#[derive(Clone, Copy, Debug, PartialEq, Eq)]
+pub struct Refusal {
+    pub code: u16,
+}
+
+impl Refusal {
+    /// What went wrong, in two or three words; empty for a number that the table lacks.
+    pub fn text(self) -> &'static str
+        ensures { result.now ≡ text_of self.code }
+    {
+        match line_of(self.code) {
+            Some(line) => line.text,
+            None => "",
+        }
+    }
+
+    /// The HTTP status of its answer, if it is ever answered over HTTP.
+    pub fn status(self) -> Option<u16>
+        ensures { result ≡ status_of self.code }
+    {
+        match line_of(self.code) {
+            Some(line) => line.status,
+            None => None,
+        }
+    }
+}
+
+impl fmt::Display for Refusal {
+    fn fmt<W: fmt::Write>(&self, f: &mut fmt::Formatter<W>) -> fmt::Result {
+        f.write_str(self.text())
+    }
+}
+
+/// The reason phrase of a status that the desk answers with (RFC 9110).
+pub fn reason_of(status: u16) -> &'static str
+    ensures { result.now ≡ reason_of status }
+{
+    match status {
+        200 => "OK",
+        400 => "Bad Request",
+        403 => "Forbidden",
+        404 => "Not Found",
+        405 => "Method Not Allowed",
+        409 => "Conflict",
+        413 => "Content Too Large",
+        501 => "Not Implemented",
+        503 => "Service Unavailable",
+        _ => "",
+    }
+}

@@ -1,0 +1,263 @@
+//! The rows of the six tables.
+ghost use Rattle.std.specs.Prelude.{◌≡◌, IfOk};
+ghost use Rattle.farm_types.specs.Proper.{is_frequency};
+
+use crate::words::{Body, Key, Name, Priority, Tags};
+use std::alloc::AllocError;
+
+/// How often a type's boards are checked.
+#[derive(Clone, Copy, Debug, PartialEq, Eq)]
+pub enum Check {
+    Never,
+    Hours(u64),
+    Jobs(u64),
+}
+
+/// A board's health, after LAVA's device health.
+#[derive(Clone, Copy, Debug, PartialEq, Eq)]
+pub enum Health {
+    Good,
+    Bad,
+    Unknown,
+    Maintenance,
+    Retired,
+}
+
+/// A board's state: in nobody's hands, given, or in use.
+#[derive(Clone, Copy, Debug, PartialEq, Eq)]
+pub enum State {
+    Idle,
+    Reserved,
+    Running,
+}
+
+/// Who holds a board: a job or a reservation, by its number.
+#[derive(Clone, Copy, Debug, PartialEq, Eq)]
+pub enum Holder {
+    Nobody,
+    Job(u64),
+    Res(u64),
+}
+
+/// A job's state, after LAVA's job states.
+#[derive(Clone, Copy, Debug, PartialEq, Eq)]
+pub enum JobState {
+    Submitted,
+    Scheduled,
+    Running,
+    Canceling,
+    Finished,
+}
+
+/// How a job ended.
+#[derive(Clone, Copy, Debug, PartialEq, Eq)]
+pub enum Outcome {
+    Complete,
+    Incomplete,
+    Infra,
+    Canceled,
+}
+
+/// A reservation's state, after labgrid's reservations.
+#[derive(Clone, Copy, Debug, PartialEq, Eq)]
+pub enum ResState {
+    Waiting,
+    Allocated,
+    Acquired,
+    Expired,
+    Canceled,
+}
+
+/// What a claim asks of one board.
+#[derive(Debug, Drop)]
+pub struct Want {
+    pub kind: Option<Name>,
+    pub tags: Tags,
+}
+
+/// A device type, and how often its boards are checked.
+#[derive(Debug, Drop)]
+pub struct TypeRow {
+    pub name: Name,
+    pub check: Check,
+}
+
+/// A board: one device and one place. `jobs_since` counts ordinary jobs since its last good check,
+/// `last_check` is the moment of that check in seconds since 1970.
+#[derive(Debug, Drop)]
+pub struct BoardRow {
+    pub name: Name,
+    pub kind: Name,
+    pub tags: Tags,
+    pub health: Health,
+    pub state: State,
+    pub holder: Holder,
+    pub jobs_since: u64,
+    pub last_check: u64,
+}
+
+/// A job. Members of a group have consecutive numbers that begin with the group's.
+#[derive(Debug, Drop)]
+pub struct JobRow {
+    pub number: u64,
+    pub group: u64,
+    pub checking: bool,
+    pub owner: Name,
+    pub priority: Priority,
+    pub want: Want,
+    pub role: Option<Name>,
+    pub state: JobState,
+    pub outcome: Option<Outcome>,
+    pub board: Option<Name>,
+    pub body: Body,
+}
+
+/// A reservation of one board. Its deadline is a moment in seconds since 1970.
+#[derive(Debug, Drop)]
+pub struct ResRow {
+    pub number: u64,
+    pub owner: Name,
+    pub priority: Priority,
+    pub want: Want,
+    pub state: ResState,
+    pub deadline: u64,
+    pub board: Option<Name>,
+}
+
+/// The three numbers of a reply.
+#[derive(Clone, Copy, Debug, PartialEq, Eq)]
+pub struct Reply(pub u64, pub u64, pub u64);
+
+/// A reply that is kept under a caller's key, for the command of that kind.
+#[derive(Debug, Drop)]
+pub struct KeptRow {
+    pub caller: Name,
+    pub key: Key,
+    pub kind: u64,
+    pub reply: Reply,
+}
+
+/// The farm's three numbers: its clock, its accepted commands, and the next free number.
+#[derive(Clone, Copy, Debug, PartialEq, Eq)]
+pub struct MetaRow {
+    pub clock: u64,
+    pub count: u64,
+    pub next: u64,
+}
+
+impl Check {
+    /// Whether its frequency, if it has one, is 1 to 10,000.
+    pub fn is_frequency(self) -> bool
+        ensures { result ≡ is_frequency self }
+    {
+        match self {
+            Check::Never => true,
+            Check::Hours(n) => 1 <= n && n <= 10_000,
+            Check::Jobs(n) => 1 <= n && n <= 10_000,
+        }
+    }
+}
+
+/// An equal name, if there is one.
+pub fn copy_name(name: &Option<Name>) -> Result<Option<Name>, AllocError>
+    ensures { IfOk result (λ copy. copy ≡ name.now) }
+{
+    match name {
+        None => Ok(None),
+        Some(name) => Ok(Some(name.copy()?)),
+    }
+}
+
+impl Want {
+    /// An equal want.
+    pub fn copy(&self) -> Result<Want, AllocError>
+        ensures { IfOk result (λ copy. copy ≡ self.now) }
+    {
+        Ok(Want {
+            kind: copy_name(&self.kind)?,
+            tags: self.tags.copy()?,
+        })
+    }
+}
+
+impl TypeRow {
+    /// An equal row.
+    pub fn copy(&self) -> Result<TypeRow, AllocError>
+        ensures { IfOk result (λ copy. copy ≡ self.now) }
+    {
+        Ok(TypeRow {
+            name: self.name.copy()?,
+            check: self.check,
+        })
+    }
+}
+
+impl KeptRow {
+    /// An equal row.
+    pub fn copy(&self) -> Result<KeptRow, AllocError>
+        ensures { IfOk result (λ copy. copy ≡ self.now) }
+    {
+        Ok(KeptRow {
+            caller: self.caller.copy()?,
+            key: self.key.copy()?,
+            kind: self.kind,
+            reply: self.reply,
+        })
+    }
+}
+
+impl BoardRow {
+    /// An equal row.
+    pub fn copy(&self) -> Result<BoardRow, AllocError>
+        ensures { IfOk result (λ copy. copy ≡ self.now) }
+    {
+        Ok(BoardRow {
+            name: self.name.copy()?,
+            kind: self.kind.copy()?,
+            tags: self.tags.copy()?,
+            health: self.health,
+            state: self.state,
+            holder: self.holder,
+            jobs_since: self.jobs_since,
+            last_check: self.last_check,
+        })
+    }
+}
+
+impl JobRow {
+    /// An equal row.
+    pub fn copy(&self) -> Result<JobRow, AllocError>
+        ensures { IfOk result (λ copy. copy ≡ self.now) }
+    {
+        Ok(JobRow {
+            number: self.number,
+            group: self.group,
+            checking: self.checking,
+            owner: self.owner.copy()?,
+            priority: self.priority,
+            want: self.want.copy()?,
+            role: copy_name(&self.role)?,
+            state: self.state,
+            outcome: self.outcome,
+            board: copy_name(&self.board)?,
+            body: self.body.copy()?,
+        })
+    }
+}
+
+impl ResRow {
+    /// An equal row.
+    pub fn copy(&self) -> Result<ResRow, AllocError>
+        ensures { IfOk result (λ copy. copy ≡ self.now) }
+    {
+        Ok(ResRow {
+            number: self.number,
+            owner: self.owner.copy()?,
+            priority: self.priority,
+            want: self.want.copy()?,
+            state: self.state,
+            deadline: self.deadline,
+            board: copy_name(&self.board)?,
+        })
+    }
+}

@@ -1,0 +1,310 @@
+//! Tags, as labgrid's places have them: a key alone, or a key and a value.
+ghost use Rattle.std.specs.Prelude.{◌≡◌, ◌↔◌, ◌==◌, ◌&&◌, ◌+◌, ◌++◌, ◌∷◌, [], length, take, drop, IsTrue, IfOk, IfErr, OnOk, Ok, Err, codes, not, map, MatchResult, ◌<◌, ◌≤◌, if◌then◌else◌, nat_lt, string_bytes};
+ghost use Rattle.std.specs.List.{list_any, list_all, position, slice_split};
+ghost use Rattle.std.specs.Str.{bytes_eq};
+ghost use Rattle.farm_types.specs.Words.{IsTag, IsTags, is_word, is_tag, is_tags, tag_key, rise, text_cmp, word_or};
+ghost use Rattle.farm_types.specs.Tags.{tags_text, tags_read, tags_of, tag_parts, list_of_tags};
+ghost use Rattle.farm_types.specs.Proper.{has_no_name_tag};
+ghost use Rattle.farm_types.specs.Reads.{Reads};
+
+use crate::fault::WordFault;
+use crate::refusal::{BAD_COUNT, BAD_TAG, Refusal};
+use crate::table::{Keyed, is_sorted, upsert};
+use crate::words::{LONGEST_KEY, is_word, owned_text};
+use std::alloc::{AllocError, Global};
+use std::cmp::Ordering;
+use std::marker::Model;
+
+/// The most bytes of a tag's key.
+pub const LONGEST_TAG_KEY: usize = 32;
+
+/// The most bytes of a tag's value.
+pub const LONGEST_TAG_VALUE: usize = 64;
+
+/// The most tags of a board or a want.
+pub const MOST_TAGS: usize = 16;
+
+/// The place of the first '=', if there is one.
+fn key_end(text: &[u8]) -> Option<usize>
+    ensures { result ≡ position (λ byte. byte == 61) text.now }
+{
+    text.iter().position(|byte| *byte == b'=')
+}
+
+/// What stands before the first '='.
+#[tactic(auto, using(crate::proofs::TagLemmas::key_at, crate::proofs::TagLemmas::key_whole))]
+fn key_of(text: &[u8]) -> &[u8]
+    ensures { result.now ≡ tag_key text.now }
+{
+    match key_end(text) {
+        None => text,
+        Some(end) => &text[..end],
+    }
+}
+
+/// Whether what stands before and behind a place is a key and a value.
+fn is_keyed(text: &[u8], end: usize) -> bool
+    requires { end < length text.now }
+    ensures { result ≡ (is_word 32 (take end text.now) && is_word 64 (drop (end + 1) text.now)) }
+{
+    is_word(LONGEST_TAG_KEY, &text[..end]) && is_word(LONGEST_TAG_VALUE, &text[end + 1..])
+}
+
+/// Whether a text is a tag: a key of at most 32 bytes, or one, `=` and a value of at most 64.
+pub fn is_tag(text: &[u8]) -> bool
+    ensures { result ≡ is_tag text.now }
+{
+    match key_end(text) {
+        None => is_word(LONGEST_TAG_KEY, text),
+        Some(end) => is_keyed(text, end),
+    }
+}
+
+/// A tag: a key, or a key, `=` and a value.
+#[derive(Debug, Drop)]
+pub struct Tag {
+    text: String,
+}
+
+impl Model for Tag {
+    ghost use Rattle.std.specs.Prelude.{List, ℕ};
+    ghost use Rattle.std.specs.String.{string_bytes};
+    ghost use Rattle.farm_types.specs.Words.{IsTag};
+
+    ghost Value = { List ℕ };
+
+    ghost view = { λ n. string_bytes n.text };
+
+    ghost invariant = { λ n. IsTag (string_bytes n.text) };
+}
+
+impl Tag {
+    /// The tag that a text spells; refused as a bad tag, or for memory.
+    #[tactic(auto, using(crate::proofs::TagLemmas::IsUtf8_of_tag))]
+    pub fn parse(alloc: Global, text: &[u8]) -> Result<Tag, WordFault>
+        ensures { Reads (λ tag. tag) result (word_or (is_tag text.now) text.now BAD_TAG) }
+    {
+        if !is_tag(text) {
+            return Err(WordFault::Refused(Refusal { code: BAD_TAG }));
+        }
+        Ok(Tag {
+            text: owned_text(alloc, text)?,
+        })
+    }
+
+    /// The bytes of the tag.
+    pub fn as_str(&self) -> &str
+        ensures text { result.now ≡ self.now }
+        ensures tag { IsTag self.now }
+    {
+        self.text.as_str()
+    }
+
+    /// The bytes of its key.
+    pub fn key(&self) -> &[u8]
+        ensures { result.now ≡ tag_key self.now }
+    {
+        key_of(self.text.as_bytes())
+    }
+
+    /// Whether its key is `name`, which stands for the name that each board carries by itself.
+    pub fn names_a_board(&self) -> bool
+        ensures { result ≡ bytes_eq (tag_key self.now) (codes "name") }
+    {
+        self.key() == b"name".as_slice()
+    }
+
+    /// An equal tag.
+    pub fn copy(&self) -> Result<Tag, AllocError>
+        ensures same { IfOk result (λ tag. tag ≡ self.now) }
+    {
+        Ok(Tag {
+            text: self.text.clone()?,
+        })
+    }
+}
+
+impl Keyed for Tag {
+    ghost use Rattle.farm_types.specs.Words.{text_cmp};
+    ghost use Rattle.std.specs.Cmp.Lexicographic.{nat_list_cmp_total};
+
+    ghost cmp = { text_cmp };
+
+    fn key_cmp(&self, other: &Tag) -> Ordering {
+        self.text.as_str().cmp(other.text.as_str())
+    }
+
+    ghost total = { nat_list_cmp_total };
+}
+
+/// A comma before each tag but the first.
+fn separate(text: &mut String, at: usize) -> Result<(), AllocError>
+    ensures { OnOk result (string_bytes text.new ≡ (if at == 0 then string_bytes text.old else string_bytes text.old ++ 44 ∷ [])) }
+{
+    if at > 0 {
+        text.push(',')?;
+    }
+    Ok(())
+}
+
+/// What stands between the commas; nothing in an empty text.
+fn parts_of(alloc: Global, text: &[u8]) -> Result<Vec<&[u8]>, AllocError>
+    ensures { IfOk result (λ parts. map (λ part. part.now) parts.items ≡ tag_parts text.now) }
+{
+    if text.is_empty() {
+        return Ok(Vec::new(alloc));
+    }
+    cut_at_commas(alloc, text)
+}
+
+fn cut_at_commas(alloc: Global, text: &[u8]) -> Result<Vec<&[u8]>, AllocError>
+    ensures { IfOk result (λ parts. map (λ part. part.now) parts.items ≡ slice_split (λ byte. byte == 44) text.now) }
+{
+    text.split(|byte| *byte == b',').collect(alloc)
+}
+
+/// The tag that each part spells.
+fn tags_in(alloc: Global, parts: &[&[u8]]) -> Result<Vec<Tag>, WordFault>
+    ensures { Reads (λ tags. tags.items) result (list_of_tags (map (λ part. part.now) parts.now)) }
+{
+    let mut items = Vec::new(alloc);
+    for part in parts {
+        match Tag::parse(alloc, part) {
+            Ok(tag) => items.push(tag)?,
+            Err(fault) => return Err(fault),
+        }
+    }
+    Ok(items)
+}
+
+/// Whether tags stand in strict byte order.
+fn rise(tags: &[Tag]) -> bool
+    ensures { result ≡ rise tags.now }
+{
+    is_sorted(tags)
+}
+
+/// Up to sixteen tags in byte order, without doubles.
+#[derive(Debug, Drop)]
+pub struct Tags {
+    items: Vec<Tag>,
+}
+
+impl Model for Tags {
+    ghost use Rattle.std.specs.Prelude.{List, ℕ};
+    ghost use Rattle.farm_types.specs.Words.{IsTags};
+
+    ghost Value = { List (List ℕ) };
+
+    ghost view = { λ t. t.items.items };
+
+    ghost invariant = { λ t. IsTags t.items.items };
+}
+
+impl Tags {
+    /// The tags in byte order.
+    pub fn items(&self) -> &[Tag]
+        ensures items { result.now ≡ self.now }
+        ensures tags { IsTags self.now }
+    {
+        self.items.as_slice()
+    }
+
+    /// No tags.
+    #[tactic(auto, unfolding(crate::specs::Words::is_tags))]
+    pub fn none(alloc: Global) -> Tags
+        ensures { result ≡ [] }
+    {
+        Tags {
+            items: Vec::new(alloc),
+        }
+    }
+
+    /// Whether they are tags: they always are.
+    pub fn are_tags(&self) -> bool
+        ensures { result ≡ is_tags self.now }
+    {
+        let _ = &self.items;
+        true
+    }
+
+    /// Whether there are none.
+    pub fn is_empty(&self) -> bool
+        ensures { IsTrue result ↔ (self.now ≡ []) }
+    {
+        self.items.is_empty()
+    }
+
+    fn name_a_board(&self) -> bool
+        ensures { result ≡ list_any (λ tag. bytes_eq (tag_key tag) (codes "name")) self.now }
+    {
+        self.items().iter().any(|tag| tag.names_a_board())
+    }
+
+    /// Whether none has the key `name`, as a board's own tags must.
+    pub fn has_no_name_tag(&self) -> bool
+        ensures { result ≡ has_no_name_tag self.now }
+    {
+        !self.name_a_board()
+    }
+
+    #[tactic(auto, unfolding(crate::specs::Tags::tags_of))]
+    /// The tags of a list in any order and with doubles: refused as a bad count where the list has
+    /// more than sixteen items, or for memory.
+    pub fn of(alloc: Global, tags: &[Tag]) -> Result<Tags, WordFault>
+        ensures { Reads (λ tags. tags) result (tags_of tags.now) }
+    {
+        if tags.len() > MOST_TAGS {
+            return Err(WordFault::Refused(Refusal { code: BAD_COUNT }));
+        }
+        let mut items = Vec::new(alloc);
+        for tag in tags {
+            let _tag = tag.as_str();
+            upsert(&mut items, tag.copy()?)?;
+        }
+        Ok(Tags { items })
+    }
+
+    #[tactic(auto, unfolding(crate::specs::Tags::tags_read))]
+    /// The tags that a canonical text spells: tags in byte order without doubles, joined by commas.
+    /// Refused as a bad count above sixteen, else as a bad tag, or for memory.
+    pub fn parse(alloc: Global, text: &[u8]) -> Result<Tags, WordFault>
+        ensures { Reads (λ tags. tags) result (tags_read text.now) }
+    {
+        let parts = parts_of(alloc, text)?;
+        if parts.len() > MOST_TAGS {
+            return Err(WordFault::Refused(Refusal { code: BAD_COUNT }));
+        }
+        let items = match tags_in(alloc, parts.as_slice()) {
+            Ok(items) => items,
+            Err(fault) => return Err(fault),
+        };
+        if !rise(items.as_slice()) {
+            return Err(WordFault::Refused(Refusal { code: BAD_TAG }));
+        }
+        Ok(Tags { items })
+    }
+
+    /// The canonical text: the tags in order, joined by commas.
+    pub fn text(&self) -> Result<String, AllocError>
+        ensures { IfOk result (λ text. string_bytes text ≡ tags_text self.now) }
+    {
+        let mut text = String::new(*self.items.allocator());
+        for (at, tag) in self.items().iter().enumerate() {
+            separate(&mut text, at)?;
+            text.push_str(tag.as_str())?;
+        }
+        Ok(text)
+    }
+
+    /// Equal tags.
+    pub fn copy(&self) -> Result<Tags, AllocError>
+        ensures same { IfOk result (λ tags. tags ≡ self.now) }
+    {
+        let mut items = Vec::new(*self.items.allocator());
+        for tag in self.items.as_slice() {
+            items.push(tag.copy()?)?;
+        }
+        Ok(Tags { items })
+    }
+}

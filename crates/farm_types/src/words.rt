@@ -1,0 +1,265 @@
+//! Words: texts that keep a rule of their own.
+ghost use Rattle.std.specs.Prelude.{◌≡◌, ◌↔◌, [], length, IsTrue, IfOk};
+ghost use Rattle.std.specs.List.{list_all};
+ghost use Rattle.std.specs.Str.{IsUtf8, bytes_eq};
+ghost use Rattle.std.specs.String.{string_bytes};
+ghost use Rattle.farm_types.specs.Words.{IsName, IsKey, is_word, is_name_byte, text_cmp, word_or};
+ghost use Rattle.farm_types.specs.Reads.{Reads};
+
+use crate::fault::WordFault;
+pub use crate::priority::Priority;
+use crate::refusal::{BAD_KEY, BAD_NAME, Refusal};
+pub use crate::tags::{Tag, Tags};
+use std::alloc::{AllocError, Global};
+use std::cmp::Ordering;
+use std::marker::Model;
+
+/// The most bytes of a name.
+pub const LONGEST_NAME: usize = 48;
+
+/// The most bytes of a key.
+pub const LONGEST_KEY: usize = 64;
+
+/// Whether a byte may stand in a word: a letter, a digit, `-`, `_` or `.`.
+pub fn is_name_byte(byte: u8) -> bool
+    ensures { result ≡ is_name_byte byte }
+{
+    (b'a' <= byte && byte <= b'z')
+        || (b'A' <= byte && byte <= b'Z')
+        || (b'0' <= byte && byte <= b'9')
+        || byte == b'-'
+        || byte == b'_'
+        || byte == b'.'
+}
+
+fn are_name_bytes(text: &[u8]) -> bool
+    ensures { result ≡ list_all is_name_byte text.now }
+{
+    text.iter().all(|byte| is_name_byte(*byte))
+}
+
+/// Whether a text is one up to `most` bytes that may stand in a word.
+#[tactic(auto, unfolding(crate::specs::Words::is_word))]
+pub fn is_word(most: usize, text: &[u8]) -> bool
+    ensures { result ≡ is_word most text.now }
+{
+    1 <= text.len() && text.len() <= most && are_name_bytes(text)
+}
+
+/// The text of bytes that are known to be UTF-8, in memory of its own.
+pub fn owned_text(alloc: Global, bytes: &[u8]) -> Result<String, AllocError>
+    requires { IsUtf8 bytes.now }
+    ensures { IfOk result (λ text. string_bytes text ≡ bytes.now) }
+{
+    match std::str::from_utf8(bytes) {
+        Ok(text) => String::from_str(alloc, text),
+        Err(_) => unreachable!(),
+    }
+}
+
+/// A name of a type, a board, a person or a role: 1 to 48 letters, digits, `-`, `_` or `.`.
+#[derive(Debug, Drop)]
+pub struct Name {
+    text: String,
+}
+
+impl Model for Name {
+    ghost use Rattle.std.specs.Prelude.{List, ℕ};
+    ghost use Rattle.std.specs.String.{string_bytes};
+    ghost use Rattle.farm_types.specs.Words.{IsName};
+
+    ghost Value = { List ℕ };
+
+    ghost view = { λ n. string_bytes n.text };
+
+    ghost invariant = { λ n. IsName (string_bytes n.text) };
+}
+
+impl Name {
+    /// The name that a text spells; refused as a bad name, or for memory.
+    #[tactic(auto, using(crate::proofs::WordLemmas::IsUtf8_of_word))]
+    pub fn parse(alloc: Global, text: &[u8]) -> Result<Name, WordFault>
+        ensures { Reads (λ name. name) result (word_or (is_word 48 text.now) text.now BAD_NAME) }
+    {
+        if !is_word(LONGEST_NAME, text) {
+            return Err(WordFault::Refused(Refusal { code: BAD_NAME }));
+        }
+        Ok(Name {
+            text: owned_text(alloc, text)?,
+        })
+    }
+
+    /// The bytes of the name.
+    pub fn as_str(&self) -> &str
+        ensures text { result.now ≡ self.now }
+        ensures name { IsName self.now }
+    {
+        self.text.as_str()
+    }
+
+    /// Whether it is a name: each is.
+    pub fn is_name(&self) -> bool
+        ensures { result ≡ is_word 48 self.now }
+    {
+        let _ = &self.text;
+        true
+    }
+
+    /// An equal name.
+    pub fn copy(&self) -> Result<Name, AllocError>
+        ensures same { IfOk result (λ name. name ≡ self.now) }
+    {
+        Ok(Name {
+            text: self.text.clone()?,
+        })
+    }
+
+    /// Whether two names are equal.
+    pub fn is(&self, other: &Name) -> bool
+        ensures { result ≡ bytes_eq self.now other.now }
+    {
+        self.text.as_str() == other.text.as_str()
+    }
+
+    /// The byte order of names.
+    pub fn order(&self, other: &Name) -> Ordering
+        ensures { result ≡ text_cmp self.now other.now }
+    {
+        self.text.as_str().cmp(other.text.as_str())
+    }
+}
+
+/// A key under which a reply is kept: 1 to 64 letters, digits, `-`, `_` or `.`.
+#[derive(Debug, Drop)]
+pub struct Key {
+    text: String,
+}
+
+impl Model for Key {
+    ghost use Rattle.std.specs.Prelude.{List, ℕ};
+    ghost use Rattle.std.specs.String.{string_bytes};
+    ghost use Rattle.farm_types.specs.Words.{IsKey};
+
+    ghost Value = { List ℕ };
+
+    ghost view = { λ n. string_bytes n.text };
+
+    ghost invariant = { λ n. IsKey (string_bytes n.text) };
+}
+
+impl Key {
+    /// The key that a text spells; refused as a bad key, or for memory.
+    #[tactic(auto, using(crate::proofs::WordLemmas::IsUtf8_of_word))]
+    pub fn parse(alloc: Global, text: &[u8]) -> Result<Key, WordFault>
+        ensures { Reads (λ key. key) result (word_or (is_word 64 text.now) text.now BAD_KEY) }
+    {
+        if !is_word(LONGEST_KEY, text) {
+            return Err(WordFault::Refused(Refusal { code: BAD_KEY }));
+        }
+        Ok(Key {
+            text: owned_text(alloc, text)?,
+        })
+    }
+
+    /// The bytes of the key.
+    pub fn as_str(&self) -> &str
+        ensures text { result.now ≡ self.now }
+        ensures key { IsKey self.now }
+    {
+        self.text.as_str()
+    }
+
+    /// Whether it is a key: each is.
+    pub fn is_key(&self) -> bool
+        ensures { result ≡ is_word 64 self.now }
+    {
+        let _ = &self.text;
+        true
+    }
+
+    /// An equal key.
+    pub fn copy(&self) -> Result<Key, AllocError>
+        ensures same { IfOk result (λ key. key ≡ self.now) }
+    {
+        Ok(Key {
+            text: self.text.clone()?,
+        })
+    }
+
+    /// Whether two keys are equal.
+    pub fn is(&self, other: &Key) -> bool
+        ensures { result ≡ bytes_eq self.now other.now }
+    {
+        self.text.as_str() == other.text.as_str()
+    }
+
+    /// The byte order of keys.
+    pub fn order(&self, other: &Key) -> Ordering
+        ensures { result ≡ text_cmp self.now other.now }
+    {
+        self.text.as_str().cmp(other.text.as_str())
+    }
+}
+
+/// A text that is carried and never read: the job file of a group's first member.
+#[derive(Debug, Drop)]
+pub struct Body {
+    text: String,
+}
+
+impl Model for Body {
+    ghost use Rattle.std.specs.Prelude.{List, ℕ};
+    ghost use Rattle.std.specs.String.{string_bytes};
+
+    ghost Value = { List ℕ };
+
+    ghost view = { λ n. string_bytes n.text };
+}
+
+impl Body {
+    /// The text as a body.
+    pub fn of(text: String) -> Body
+        ensures { result ≡ string_bytes text }
+    {
+        Body { text }
+    }
+
+    /// No text.
+    pub fn none(alloc: Global) -> Body
+        ensures { result ≡ [] }
+    {
+        Body {
+            text: String::new(alloc),
+        }
+    }
+
+    /// The bytes of the text.
+    pub fn as_str(&self) -> &str
+        ensures { result.now ≡ self.now }
+    {
+        self.text.as_str()
+    }
+
+    /// Whether there is none.
+    pub fn is_empty(&self) -> bool
+        ensures { IsTrue result ↔ (self.now ≡ []) }
+    {
+        self.text.is_empty()
+    }
+
+    /// The number of bytes.
+    pub fn len(&self) -> usize
+        ensures { result ≡ length self.now }
+    {
+        self.text.len()
+    }
+
+    /// An equal text.
+    pub fn copy(&self) -> Result<Body, AllocError>
+        ensures same { IfOk result (λ body. body ≡ self.now) }
+    {
+        Ok(Body {
+            text: self.text.clone()?,
+        })
+    }
+}
