@@ -1,6 +1,6 @@
 -- Tags that rise are sorted, and what a put keeps of them.
 use Rattle.std.proofs.Common.{◌≡◌, ◌∙◌, ℕ, ◌+◌, ◌<◌, ◌≤◌, ◌==◌, ◌&&◌, Bool, true, false, cond, List, [], ◌∷◌, ◌++◌, length, take, get_or, sym, ap, refl, arith, Ok, Err}
-use Rattle.std.specs.Prelude.{nat_le}
+use Rattle.std.specs.Prelude.{nat_le, nat_lt}
 use Rattle.std.specs.List.{list_all, AllByRecursion, slice_split}
 use Rattle.std.specs.List.Sorted.{IsStrictlySortedBy}
 use Rattle.std.specs.Cmp.Lexicographic.{nat_list_cmp_total}
@@ -9,12 +9,14 @@ use Rattle.std.proofs.lemmas.Bool.Decides.{nat_tests}
 use Rattle.std.proofs.lemmas.List.{take_more}
 use Rattle.std.proofs.lemmas.List.Sums.{fold-append}
 use Rattle.farm_types.specs.Words.{IsTag, IsTags, is_tag, is_tags, rise, text_cmp, word_or}
-use Rattle.farm_types.specs.Tags.{tag_parts, list_of_tags}
+use Rattle.farm_types.specs.Tags.{tag_parts, list_of_tags, tags_read, tags_text}
+use Rattle.std.proofs.lemmas.List.Splits.{join_with_byte-slice_split}
+use Rattle.farm_types.proofs.TagLemmas.{parts_of_text}
 use Rattle.farm_types.specs.Table.{put, put_all}
 use Rattle.farm_types.proofs.Put.{AllByRecursion-weaker, AllByRecursion-put, length_put}
 use Rattle.farm_types.specs.declared.fault.WordFault.{WordFault}
 use Rattle.farm_types.specs.declared.fault.WordFault.TheVariants.{Refused, NoMemory}
-use Rattle.farm_types.specs.declared.refusal.TheConstants.{BAD_TAG}
+use Rattle.farm_types.specs.declared.refusal.TheConstants.{BAD_TAG, BAD_COUNT}
 use Rattle.farm_types.specs.Reads.{Refuses}
 use Rattle.farm_types.proofs.Searched.{is_lt-Less}
 use Rattle.farm_types.proofs.WordLemmas.{and_parts}
@@ -107,3 +109,28 @@ tags_checked parts items read small up = by (list_all is_tag parts) refl read
     by : (b : Bool) → list_all is_tag parts ≡ b → cond b (Ok parts) (Err BAD_TAG) ≡ Ok items → nat_le (length items) 16 && list_all is_tag items && rise items ≡ true
     by true all read = let same : parts ≡ items = cc in rw (few (length items) (rw same at small), rw same at all, up)
     by false all read = cc
+
+not_many : (n : ℕ) → nat_le n 16 ≡ true → nat_lt 16 n ≡ false
+not_many n small = grind (arith, nat_tests)
+
+-- the canonical text of tags reads back
+pub tags_read_back : (tags : List (List ℕ)) → IsTags tags → tags_read (tags_text tags) ≡ Ok tags
+unfolding is_tags tags_read
+tags_read_back tags is =
+    let all = and_parts (nat_le (length tags) 16 && list_all is_tag tags) (rise tags) is in
+    let both = and_parts (nat_le (length tags) 16) (list_all is_tag tags) all.0 in
+    rw (parts_of_text tags both.1, not_many (length tags) both.0, both.1, all.1)
+
+-- and no other text reads as these tags
+pub tags_read_only : (tags : List (List ℕ)) (text : List ℕ) → tags_read text ≡ Ok tags → tags_text tags ≡ text
+unfolding tags_read
+tags_read_only tags text read = by (nat_lt 16 (length (tag_parts text))) (list_all is_tag (tag_parts text) && rise (tag_parts text)) read
+  where
+    joined : (text : List ℕ) → tags_text (tag_parts text) ≡ text
+    joined [] = refl
+    joined (c ∷ text) = join_with_byte-slice_split 44 (c ∷ text)
+
+    by : (many good : Bool) → cond many (Err BAD_COUNT) (cond good (Ok (tag_parts text)) (Err BAD_TAG)) ≡ Ok tags → tags_text tags ≡ text
+    by true good read = cc
+    by false true read = let same : tag_parts text ≡ tags = cc in ap tags_text (sym same) ∙ joined text
+    by false false read = cc

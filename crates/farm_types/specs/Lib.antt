@@ -15,3 +15,7 @@ pub mod Change
 pub mod Machine
 pub mod Sound
 pub mod Worked
+pub mod WorkedJobs
+pub mod WorkedChecks
+pub mod WorkedReservations
+pub mod WorkedWhole

@@ -1,5 +1,7 @@
 //! Laws over the machine.
-ghost use Rattle.std.specs.Prelude.{◌≡◌, ℕ, List, [], Some};
+ghost use Rattle.std.specs.Prelude.{◌≡◌, ℕ, List, [], Some, Ok};
+ghost use Rattle.farm_types.specs.Words.{IsTags};
+ghost use Rattle.farm_types.specs.Tags.{tags_read, tags_text};
 ghost use Rattle.farm_types.specs.Codes.{health_code, health_with, state_code, state_with, job_state_code, job_state_with, outcome_code, outcome_with, res_state_code, res_state_with};
 ghost use Rattle.farm_types.specs.declared.rows.Health.{Health};
 ghost use Rattle.farm_types.specs.declared.rows.State.{State};
@@ -8,7 +10,10 @@ ghost use Rattle.farm_types.specs.declared.rows.Outcome.{Outcome};
 ghost use Rattle.farm_types.specs.declared.rows.ResState.{ResState};
 ghost use Rattle.farm_types.specs.Farm.{Farm};
 ghost use Rattle.farm_types.specs.Machine.{run};
-ghost use Rattle.farm_types.specs.Worked.{AllAsWorked};
+ghost use Rattle.farm_types.specs.WorkedJobs.{AllJobsAsWorked};
+ghost use Rattle.farm_types.specs.WorkedChecks.{AllChecksAsWorked};
+ghost use Rattle.farm_types.specs.WorkedReservations.{AllReservationsAsWorked};
+ghost use Rattle.farm_types.specs.WorkedWhole.{AllAsWorked};
 
 /// A run of no calls stays.
 pub fn nothing_runs()
@@ -24,7 +29,28 @@ pub fn codes_read_back()
     ensures res_state { (x : ResState) → res_state_with (res_state_code x) ≡ Some x }
 {}
 
-/// What all fourteen commands leave.
-pub fn all_commands()
+/// The canonical text of tags reads back as these tags, and no other text does.
+pub fn tags_read_back()
+    ensures back { (tags : List (List ℕ)) → IsTags tags → tags_read (tags_text tags) ≡ Ok tags }
+    ensures only { (tags : List (List ℕ)) (text : List ℕ) → tags_read text ≡ Ok tags → tags_text tags ≡ text }
+{}
+
+/// The scripts of jobs, groups and the plain pass answer and leave what was worked out by hand.
+pub fn jobs_as_worked()
+    ensures { AllJobsAsWorked }
+{}
+
+/// The scripts of health checks answer and leave what was worked out by hand.
+pub fn checks_as_worked()
+    ensures { AllChecksAsWorked }
+{}
+
+/// The scripts of reservations answer and leave what was worked out by hand.
+pub fn reservations_as_worked()
+    ensures { AllReservationsAsWorked }
+{}
+
+/// The scripts of the whole machine answer and leave what was worked out by hand.
+pub fn all_as_worked()
     ensures { AllAsWorked }
 {}

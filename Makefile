@@ -1,0 +1,13 @@
+# make run   builds the program and shows its main job on real input
+# make test  every proof, every must-fail edit, every test and program, from nothing
+# make bin   leaves the program at bin/farm
+.PHONY: run test bin
+
+run: bin
+	@sh tests/show.sh bin/farm
+
+test:
+	rt ci
+
+bin:
+	cd crates/farm && rt run < /dev/null > /dev/null 2>&1; mkdir -p ../../bin && cp out/farm ../../bin/farm

@@ -1,0 +1,67 @@
+-- What a sound farm gives the commands.
+use Rattle.std.proofs.Common.{◌≡◌, ℕ, ◌+◌, ◌<◌, ◌≤◌, List, [], ◌∷◌, Option, Some, None, IsTrue, refl, ap, sym, subst, arith}
+use Rattle.std.specs.List.{AllByRecursion}
+use Rattle.std.specs.Option.{option_map_or}
+use Rattle.farm_types.specs.Proper.{is_frequency}
+use Rattle.farm_types.specs.Farm.{Farm, job_of, res_of}
+use Rattle.farm_types.specs.Small.{IsSmall, every_of, held_by, IsSmallType, IsSmallBoard, IsSmallJob, IsSmallRes, AreSmall}
+use Rattle.farm_types.specs.Sound.{IsSound, IsBoardRow, IsHeldBy, job_hold, res_hold, shown}
+use Rattle.farm_types.specs.declared.rows.Check.{Check}
+use Rattle.farm_types.specs.declared.rows.Holder.{Holder}
+use Rattle.farm_types.specs.declared.rows.TypeRow.{TypeRow}
+use Rattle.farm_types.specs.declared.rows.BoardRow.{BoardRow}
+use Rattle.farm_types.specs.declared.rows.JobRow.{JobRow}
+use Rattle.farm_types.specs.declared.rows.ResRow.{ResRow}
+use Rattle.farm_types.specs.declared.rows.MetaRow.{MetaRow}
+use Rattle.farm_types.specs.declared.calls.Changes.{Changes}
+use Rattle.farm_core.specs.Orderly.{IsOrderly}
+use Rattle.farm_core.specs.Tracks.{AreSmallRows}
+use Rattle.farm_core.proofs.Small.{small_frequency}
+use Rattle.farm_types.proofs.Put.{AllByRecursion-weaker}
+use Rattle.farm_sound.proofs.Accepted.{low_job, low_res}
+use Rattle.farm_sound.proofs.Where.{AllByRecursion-both}
+
+module _ (F : Farm) (sound : IsSound F) where
+  -- a holder's number is that of a row
+  small_holder : (b : BoardRow) (h : Holder) → IsHeldBy F b h → IsSmall (held_by h)
+  small_holder b Holder.Nobody held = omega arith
+  small_holder b (Holder.Job n) held = by (job_of F n) refl held
+    where
+      by : (o : Option JobRow) → job_of F n ≡ o → option_map_or job_hold o None ≡ Some (shown b) → IsSmall n
+      by None is held = cc
+      by (Some j) is held = omega (arith, (low_job F n j is sound).0)
+  small_holder b (Holder.Res n) held = by (res_of F n) refl held
+    where
+      by : (o : Option ResRow) → res_of F n ≡ o → option_map_or res_hold o None ≡ Some (shown b) → IsSmall n
+      by None is held = cc
+      by (Some r) is held = omega (arith, low_res F n r is sound)
+
+  small_board : (b : BoardRow) → IsBoardRow F b × IsHeldBy F b b.holder → IsSmallBoard b
+  small_board b is = record {
+    held_by = small_holder b b.holder is.1;
+    jobs_since = omega (arith, is.0.since);
+    last_check = omega (arith, is.0.checked, sound.steady.clock)
+  }
+
+  pub IsOrderly-sound : IsOrderly F
+  IsOrderly-sound = record {
+    types = sound.steady.types_sorted;
+    boards = sound.steady.boards_sorted;
+    jobs = sound.steady.jobs_sorted;
+    reservations = sound.steady.reservations_sorted;
+    kept = sound.steady.kept_sorted;
+    small_types = AllByRecursion-weaker (λ r is. small_frequency r.check is.check) F.types sound.steady.types;
+    small_boards = AllByRecursion-weaker small_board F.boards (AllByRecursion-both (IsBoardRow F) (λ b. IsHeldBy F b b.holder) F.boards sound.steady.boards sound.held.boards);
+    small_jobs = AllByRecursion-weaker (λ r is. record { number = omega (arith, is.number.1, sound.steady.next.1); group = omega (arith, is.group.0, is.number.1, sound.steady.next.1) }) F.jobs sound.steady.jobs;
+    small_reservations = AllByRecursion-weaker (λ r is. record { number = omega (arith, is.number.1, sound.steady.next.1); deadline = omega (arith, is.deadline, sound.steady.clock) }) F.reservations sound.steady.reservations;
+    near = AllByRecursion-weaker (λ r is. is.group) F.jobs sound.steady.jobs
+  }
+
+-- the changed rows' numbers and the sound farm's own three are small
+pub AreSmall-sound : (c : Changes) (G : Farm) → AreSmallRows c → c.meta ≡ record { clock = G.clock; count = G.count; next = G.next } → IsSound G → AreSmall c
+AreSmall-sound c G rows meta sound = record {
+  types = rows.types; boards = rows.boards; jobs = rows.jobs; reservations = rows.reservations; kept = rows.kept;
+  clock = rw (ap (λ (m : MetaRow). m.clock) meta) (omega (arith, sound.steady.clock));
+  count = rw (ap (λ (m : MetaRow). m.count) meta) sound.steady.count;
+  next = rw (ap (λ (m : MetaRow). m.next) meta) (omega (arith, sound.steady.next.1))
+}

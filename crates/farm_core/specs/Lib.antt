@@ -1,0 +1,5 @@
+pub mod Plain
+pub mod Orderly
+pub mod Tracks
+pub mod Shown
+pub mod Answers

@@ -1,0 +1,25 @@
+-- What the commands rely on in a sound farm, and keep at each step on their way.
+use Rattle.std.specs.Prelude.{◌≤◌, ◌<◌, ◌+◌}
+use Rattle.std.specs.List.{AllByRecursion}
+use Rattle.std.specs.List.Sorted.{IsStrictlySortedBy}
+use Rattle.farm_types.specs.Table.{type_cmp, board_cmp, job_cmp, res_cmp, kept_cmp}
+use Rattle.farm_types.specs.Farm.{Farm}
+use Rattle.farm_types.specs.Small.{IsSmallType, IsSmallBoard, IsSmallJob, IsSmallRes}
+use Rattle.farm_types.specs.declared.rows.JobRow.{JobRow}
+
+-- a member's number is one of the four from its group's on
+abbrev pub IsNear : JobRow → Type 0
+IsNear j = (j.group ≤ j.number) × (j.number < j.group + 4)
+
+-- each table stands in order of its keys, no number is large, and the members of a group stand side by side
+pub record IsOrderly (F : Farm) : Type 0 where
+  pub types : IsStrictlySortedBy type_cmp F.types
+  pub boards : IsStrictlySortedBy board_cmp F.boards
+  pub jobs : IsStrictlySortedBy job_cmp F.jobs
+  pub reservations : IsStrictlySortedBy res_cmp F.reservations
+  pub kept : IsStrictlySortedBy kept_cmp F.kept
+  pub small_types : AllByRecursion IsSmallType F.types
+  pub small_boards : AllByRecursion IsSmallBoard F.boards
+  pub small_jobs : AllByRecursion IsSmallJob F.jobs
+  pub small_reservations : AllByRecursion IsSmallRes F.reservations
+  pub near : AllByRecursion IsNear F.jobs

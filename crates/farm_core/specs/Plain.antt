@@ -1,0 +1,9 @@
+-- The farm that the program's tables are.
+use Rattle.farm_types.specs.Farm.{Farm}
+use Rattle.farm_core.specs.declared.tables.Tables.{Tables}
+
+abbrev pub plain : Tables → Farm
+plain t = record {
+  types = t.types.items; boards = t.boards.items; jobs = t.jobs.items; reservations = t.reservations.items; kept = t.kept;
+  clock = t.clock; count = t.count; next = t.next
+}

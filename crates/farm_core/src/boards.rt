@@ -1,0 +1,157 @@
+//! The commands on boards.
+ghost use Rattle.std.specs.Prelude.{◌≡◌, ◌&&◌, ◌∷◌, [], Some, OnOk, not, is_some, is_none, length};
+ghost use Rattle.std.specs.List.{filter};
+ghost use Rattle.std.specs.Str.{bytes_eq};
+ghost use Rattle.farm_types.specs.Codes.{same_health};
+ghost use Rattle.farm_types.specs.Farm.{Farm, type_of, board_of, put_board};
+ghost use Rattle.farm_types.specs.Pick.{is_nobody};
+ghost use Rattle.farm_types.specs.Pass.{with_board};
+ghost use Rattle.farm_types.specs.Refuse.{first_code, board_is, is_retired};
+ghost use Rattle.farm_types.specs.Change.{new_board};
+ghost use Rattle.farm_core.specs.Plain.{plain};
+ghost use Rattle.farm_core.specs.Orderly.{IsOrderly};
+ghost use Rattle.farm_core.specs.Tracks.{Tracks};
+
+use crate::tables::Tables;
+use farm_types::calls::Changes;
+use farm_types::refusal::{BOARD_EXISTS, HELD, NO_BOARD, NO_TYPE, RETIRED};
+use farm_types::rows::{BoardRow, Health, Holder, State};
+use farm_types::tags::Tags;
+use farm_types::words::Name;
+use std::alloc::AllocError;
+
+/// Whether a board is retired.
+fn is_retired(row: &BoardRow) -> bool
+    ensures { result ≡ is_retired row.now }
+{
+    matches!(row.health, Health::Retired)
+}
+
+impl Tables {
+    /// How many boards are of a type.
+    pub fn count_kind(&self, kind: &Name) -> usize
+        ensures { result ≡ length (filter (λ b. bytes_eq b.kind kind.now) (plain self.now).boards) }
+    {
+        self.boards.iter().filter(|row| row.kind.is(kind)).count()
+    }
+
+    /// Why a board of that name and type isn't added.
+    pub fn refuse_add_board(&self, name: &Name, kind: &Name) -> Option<u16>
+        requires { IsOrderly (plain self.now) }
+        ensures { result ≡ first_code ((is_none (type_of (plain self.now) kind.now), 10) ∷ (is_some (board_of (plain self.now) name.now), 13) ∷ []) }
+    {
+        if self.find_type(kind).is_none() {
+            return Some(NO_TYPE);
+        }
+        if self.find_board(name).is_some() {
+            return Some(BOARD_EXISTS);
+        }
+        None
+    }
+
+    /// Adds a board, in Maintenance and in nobody's hands.
+    pub fn add_board(
+        &mut self,
+        changes: &mut Changes,
+        name: &Name,
+        kind: &Name,
+        tags: &Tags,
+    ) -> Result<(), AllocError>
+        requires { IsOrderly (plain self.old) }
+        ensures farm { OnOk result (plain self.new ≡ put_board (plain self.old) (new_board name.now kind.now tags.now)) }
+        ensures orderly { OnOk result (IsOrderly (plain self.new)) }
+        ensures tracked { OnOk result ((F : Farm) → Tracks F changes.old (plain self.old)
+            → Tracks F changes.new (plain self.new)) }
+    {
+        let row = BoardRow {
+            name: name.copy()?,
+            kind: kind.copy()?,
+            tags: tags.copy()?,
+            health: Health::Maintenance,
+            state: State::Idle,
+            holder: Holder::Nobody,
+            jobs_since: 0,
+            last_check: 0,
+        };
+        self.put_board(changes, row)
+    }
+
+    /// Why a board's tags aren't set.
+    pub fn refuse_set_tags(&self, name: &Name) -> Option<u16>
+        requires { IsOrderly (plain self.now) }
+        ensures { result ≡ first_code ((is_none (board_of (plain self.now) name.now), 12) ∷ (board_is (plain self.now) name.now is_retired, 15) ∷ []) }
+    {
+        match self.find_board(name) {
+            None => Some(NO_BOARD),
+            Some(row) => {
+                if is_retired(row) {
+                    return Some(RETIRED);
+                }
+                None
+            }
+        }
+    }
+
+    /// Sets a board's tags.
+    pub fn set_tags(
+        &mut self,
+        changes: &mut Changes,
+        name: &Name,
+        tags: &Tags,
+    ) -> Result<(), AllocError>
+        requires { IsOrderly (plain self.old) }
+        ensures farm { OnOk result (plain self.new ≡ with_board (λ b. record b { tags = tags.now }) (plain self.old) (Some name.now)) }
+        ensures orderly { OnOk result (IsOrderly (plain self.new)) }
+        ensures tracked { OnOk result ((F : Farm) → Tracks F changes.old (plain self.old)
+            → Tracks F changes.new (plain self.new)) }
+    {
+        let mut row = match self.find_board(name) {
+            None => return Ok(()),
+            Some(row) => row.copy()?,
+        };
+        row.tags = tags.copy()?;
+        self.put_board(changes, row)
+    }
+
+    /// Why a board's health isn't set.
+    pub fn refuse_set_health(&self, name: &Name, health: Health) -> Option<u16>
+        requires { IsOrderly (plain self.now) }
+        ensures { result ≡ first_code ((is_none (board_of (plain self.now) name.now), 12)
+            ∷ (board_is (plain self.now) name.now is_retired, 15)
+            ∷ (same_health health Health.Retired && board_is (plain self.now) name.now (λ b. not (is_nobody b.holder)), 14) ∷ []) }
+    {
+        match self.find_board(name) {
+            None => Some(NO_BOARD),
+            Some(row) => {
+                if is_retired(row) {
+                    return Some(RETIRED);
+                }
+                if matches!(health, Health::Retired) && !matches!(row.holder, Holder::Nobody) {
+                    return Some(HELD);
+                }
+                None
+            }
+        }
+    }
+
+    /// Sets a board's health.
+    pub fn set_health(
+        &mut self,
+        changes: &mut Changes,
+        name: &Name,
+        health: Health,
+    ) -> Result<(), AllocError>
+        requires { IsOrderly (plain self.old) }
+        ensures farm { OnOk result (plain self.new ≡ with_board (λ b. record b { health = health }) (plain self.old) (Some name.now)) }
+        ensures orderly { OnOk result (IsOrderly (plain self.new)) }
+        ensures tracked { OnOk result ((F : Farm) → Tracks F changes.old (plain self.old)
+            → Tracks F changes.new (plain self.new)) }
+    {
+        let mut row = match self.find_board(name) {
+            None => return Ok(()),
+            Some(row) => row.copy()?,
+        };
+        row.health = health;
+        self.put_board(changes, row)
+    }
+}

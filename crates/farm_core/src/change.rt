@@ -1,0 +1,90 @@
+//! A whole change: the clock moves, the command acts, its reply is kept, and it is counted.
+ghost use Rattle.std.specs.Prelude.{◌≡◌, ◌≤◌, ◌<◌, OnOk, IfOk};
+ghost use Rattle.farm_types.specs.Farm.{Farm, put_rows};
+ghost use Rattle.farm_types.specs.Refuse.{kind_of};
+ghost use Rattle.farm_types.specs.Change.{act, keep, change};
+ghost use Rattle.farm_types.specs.Small.{IsSmall};
+ghost use Rattle.farm_core.specs.Plain.{plain};
+ghost use Rattle.farm_core.specs.Orderly.{IsOrderly};
+ghost use Rattle.farm_core.specs.Tracks.{Tracks, AreSmallRows, IsSmallReply};
+
+use crate::tables::{no_changes, Tables};
+use farm_types::calls::{Call, Changes, Cmd};
+use farm_types::rows::{KeptRow, MetaRow, Reply};
+use std::alloc::AllocError;
+
+impl Tables {
+    /// What the command does.
+    fn act(&mut self, changes: &mut Changes, call: &Call) -> Result<Reply, AllocError>
+        requires orderly { IsOrderly (plain self.old) }
+        requires kind { kind_of call.now.cmd ≤ 4 }
+        ensures farm { OnOk result (plain self.new ≡ (act (plain self.old) call.entry.now.caller call.entry.now.cmd).farm) }
+        ensures reply { IfOk result (λ reply. reply ≡ (act (plain self.old) call.entry.now.caller call.entry.now.cmd).reply) }
+        ensures small { IfOk result IsSmallReply }
+        ensures orderly { OnOk result (IsOrderly (plain self.new)) }
+        ensures tracked { OnOk result ((F : Farm) → Tracks F changes.old (plain self.old)
+            → Tracks F changes.new (plain self.new)) }
+    {
+        match &call.cmd {
+            Cmd::AddType(name, check) => self.add_type(changes, name, *check)?,
+            Cmd::AddBoard(name, kind, tags) => self.add_board(changes, name, kind, tags)?,
+            Cmd::SetTags(name, tags) => self.set_tags(changes, name, tags)?,
+            Cmd::SetHealth(name, health) => self.set_health(changes, name, *health)?,
+            _ => unreachable!(),
+        }
+        Ok(Reply(0, 0, 0))
+    }
+
+    /// Keeps the reply under the call's key, if it has one.
+    fn keep(
+        &mut self,
+        changes: &mut Changes,
+        call: &Call,
+        reply: Reply,
+    ) -> Result<(), AllocError>
+        requires orderly { IsOrderly (plain self.old) }
+        requires small { IsSmallReply reply }
+        ensures farm { OnOk result (plain self.new ≡ keep call.entry.now reply (plain self.old)) }
+        ensures orderly { OnOk result (IsOrderly (plain self.new)) }
+        ensures tracked { OnOk result ((F : Farm) → Tracks F changes.old (plain self.old)
+            → Tracks F changes.new (plain self.new)) }
+    {
+        match &call.key {
+            None => Ok(()),
+            Some(key) => {
+                let row = KeptRow {
+                    caller: call.caller.copy()?,
+                    key: key.copy()?,
+                    kind: call.cmd.kind(),
+                    reply,
+                };
+                self.put_kept(changes, row)
+            }
+        }
+    }
+
+    /// The command is done, its reply kept, the clock moved and the command counted.
+    #[tactic(auto, unfolding(farm_types::specs::Change::change))]
+    pub fn change(&mut self, call: &Call) -> Result<(Reply, Changes), AllocError>
+        requires orderly { IsOrderly (plain self.old) }
+        requires kind { kind_of call.now.cmd ≤ 4 }
+        requires room { self.old.count < 9000000000000000000 }
+        ensures farm { OnOk result (plain self.new ≡ (change (plain self.old) call.entry.now).farm) }
+        ensures reply { IfOk result (λ r. r.0 ≡ (change (plain self.old) call.entry.now).reply) }
+        ensures rows { IfOk result (λ r. put_rows (plain self.old) r.1 ≡ plain self.new) }
+        ensures small { IfOk result (λ r. AreSmallRows r.1) }
+        ensures meta { IfOk result (λ r. r.1.meta ≡ record { clock = self.new.clock; count = self.new.count; next = self.new.next }) }
+    {
+        self.clock = self.clock.max(call.now);
+        let mut changes = no_changes(*self.types.allocator());
+        let reply = self.act(&mut changes, call)?;
+        self.keep(&mut changes, call, reply)?;
+        self.count += 1;
+        changes.meta = MetaRow {
+            clock: self.clock,
+            count: self.count,
+            next: self.next,
+        };
+        Ok((reply, changes))
+    }
+}

@@ -1,0 +1,198 @@
+//! The farm.
+ghost use Rattle.std.specs.Prelude.{◌≡◌, ◌≤◌, ◌↔◌, true, false, Err, IsOk, IfOk, OnOk};
+ghost use Rattle.farm_types.specs.Farm.{empty, farm_of, status_of};
+ghost use Rattle.farm_types.specs.Refuse.{kind_of};
+ghost use Rattle.farm_types.specs.Machine.{answer, step};
+ghost use Rattle.farm_types.specs.Sound.{IsSound};
+ghost use Rattle.farm_core.specs.Answers.{shown, Leads, Rests, AreSmallChanges, IsChange};
+
+use crate::kept::Kept;
+use crate::tables::Tables;
+use farm_sound::sound::is_sound;
+use farm_types::calls::{Answer, Call, Rows};
+use farm_types::claims::Status;
+use farm_types::refusal::Refusal;
+use farm_types::rows::{BoardRow, ResRow, TypeRow};
+use std::alloc::{AllocError, Global};
+use std::marker::Model;
+use thiserror::Error;
+
+/// Why a step gave no answer.
+#[derive(Clone, Copy, Debug, PartialEq, Eq, Error)]
+pub enum StepFault {
+    /// There is no memory for the change: from now on the farm has failed.
+    #[error("no memory")]
+    NoMemory,
+    /// The farm failed at an earlier step.
+    #[error("failed")]
+    Failed,
+}
+
+/// Why rows make no farm.
+#[derive(Clone, Copy, Debug, PartialEq, Eq, Error)]
+pub enum BadRows {
+    /// The rows are no sound farm's.
+    #[error("unsound rows")]
+    Unsound,
+}
+
+impl From<AllocError> for StepFault {
+    ghost use Rattle.std.specs.Prelude.{◌≡◌};
+    ghost use Rattle.farm_core.specs.declared.farm.StepFault.TheVariants.{NoMemory};
+
+    ghost from_gives = { λ _ e. e ≡ NoMemory };
+
+    fn from(_error: AllocError) -> StepFault {
+        StepFault::NoMemory
+    }
+}
+
+/// The board farm: types, boards, jobs, reservations, kept replies and three numbers. A farm that
+/// has not failed is sound.
+#[derive(Debug, Drop)]
+pub struct Farm {
+    tables: Tables,
+    failed: bool,
+}
+
+impl Model for Farm {
+    ghost use Rattle.farm_core.specs.Shown.{Shown, IsSoundUnlessFailed};
+    ghost use Rattle.farm_core.specs.Plain.{plain};
+
+    ghost Value = { Shown };
+
+    ghost view = { λ f. record { failed = f.failed; farm = plain f.tables } };
+
+    ghost invariant = { λ f. IsSoundUnlessFailed (record { failed = f.failed; farm = plain f.tables }) };
+}
+
+impl Farm {
+    /// The farm that nothing was asked of.
+    pub fn empty(alloc: Global) -> Farm
+        ensures farm { result.farm ≡ empty }
+        ensures working { result.failed ≡ false }
+    {
+        Farm {
+            tables: Tables::new(alloc),
+            failed: false,
+        }
+    }
+
+    /// The farm of these rows; refused exactly where they are no sound farm's. It takes no memory.
+    /// With n rows it costs O(n log n): each looks up a few others by binary search.
+    pub fn from_rows(rows: Rows) -> Result<Farm, BadRows>
+        ensures farm { IfOk result (λ f. f.farm ≡ farm_of rows) }
+        ensures working { IfOk result (λ f. f.failed ≡ false) }
+        ensures taken { IsOk result ↔ IsSound (farm_of rows) }
+    {
+        if !is_sound(&rows) {
+            return Err(BadRows::Unsound);
+        }
+        let Rows {
+            types,
+            boards,
+            jobs,
+            reservations,
+            kept,
+            meta,
+        } = rows;
+        Ok(Farm {
+            tables: Tables {
+                types,
+                boards,
+                jobs,
+                reservations,
+                kept: Kept::of(kept),
+                clock: meta.clock,
+                count: meta.count,
+                next: meta.next,
+            },
+            failed: false,
+        })
+    }
+
+    /// Whether memory has run out in the middle of a change. What a failed farm shows is open.
+    pub fn is_failed(&self) -> bool
+        ensures failed { result ≡ self.now.failed }
+        ensures sound { result ≡ false → IsSound self.now.farm }
+    {
+        self.failed
+    }
+
+    /// The types in name order.
+    pub fn types(&self) -> &[TypeRow]
+        ensures { result.now ≡ self.now.farm.types }
+    {
+        self.tables.types.as_slice()
+    }
+
+    /// The boards in name order.
+    pub fn boards(&self) -> &[BoardRow]
+        ensures { result.now ≡ self.now.farm.boards }
+    {
+        self.tables.boards.as_slice()
+    }
+
+    /// The reservations in order of number.
+    pub fn reservations(&self) -> &[ResRow]
+        ensures { result.now ≡ self.now.farm.reservations }
+    {
+        self.tables.reservations.as_slice()
+    }
+
+    /// How many rows there are, and the farm's three numbers.
+    pub fn status(&self) -> Status
+        ensures { result ≡ status_of self.now.farm }
+    {
+        Status {
+            boards: self.tables.boards.len() as u64,
+            clock: self.tables.clock,
+            count: self.tables.count,
+            jobs: self.tables.jobs.len() as u64,
+            next: self.tables.next,
+            reservations: self.tables.reservations.len() as u64,
+            types: self.tables.types.len() as u64,
+        }
+    }
+
+    /// One step of the machine: the answer, and where the command is accepted the changed rows.
+    pub fn step(&mut self, call: &Call) -> Result<Answer, StepFault>
+        requires { kind_of call.now.cmd ≤ 4 }
+
+        // The answer is the machine's, and so is the farm.
+        ensures answer { IfOk result (λ a. shown a ≡ answer self.old.farm call.entry.now) }
+        ensures farm { OnOk result (self.new.farm ≡ step self.old.farm call.entry.now) }
+
+        // The changed rows, put by their keys, lead from the old farm to the new one, and a store can keep them.
+        ensures rows { IfOk result (λ a. Leads a self.old.farm self.new.farm) }
+        ensures small { IfOk result AreSmallChanges }
+
+        // A kept reply and a refusal leave the very farm.
+        ensures rests { IfOk result (λ a. Rests a self.old self.new) }
+        ensures sound { OnOk result (IsSound self.new.farm) }
+        ensures working { OnOk result (self.new.failed ≡ false) }
+
+        // Memory is wanted only for a change, and then the farm has failed.
+        ensures memory { result ≡ Err StepFault.NoMemory → IsChange (answer self.old.farm call.entry.now) }
+        ensures fails { result ≡ Err StepFault.NoMemory → self.new.failed ≡ true }
+
+        // A failed farm stays as it is.
+        ensures failed { (result ≡ Err StepFault.Failed) ↔ (self.old.failed ≡ true) }
+        ensures stays { result ≡ Err StepFault.Failed → self.new ≡ self.old }
+    {
+        if self.failed {
+            return Err(StepFault::Failed);
+        }
+        if let Some(reply) = self.tables.kept_reply(call) {
+            return Ok(Answer::Kept(reply));
+        }
+        if let Some(code) = self.tables.refusal(call) {
+            return Ok(Answer::Refused(Refusal { code }));
+        }
+        // A `?` in the middle leaves a farm that has failed.
+        self.failed = true;
+        let (reply, changes) = self.tables.change(call)?;
+        self.failed = false;
+        Ok(Answer::Did(reply, changes))
+    }
+}

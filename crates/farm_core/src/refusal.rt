@@ -1,0 +1,185 @@
+//! Why a call is refused: the first reason that applies.
+ghost use Rattle.std.specs.Prelude.{◌≡◌, ◌≤◌, ◌&&◌, nat_le, length};
+ghost use Rattle.farm_types.specs.Pass.{has_room};
+ghost use Rattle.farm_types.specs.Refuse.{is_admin, is_dispatcher, may_give, kind_of, is_full, is_full_for, is_reused, early_refusal, own_refusal, refusal};
+ghost use Rattle.farm_types.specs.Machine.{repeated};
+ghost use Rattle.farm_core.specs.Plain.{plain};
+ghost use Rattle.farm_core.specs.Orderly.{IsOrderly};
+
+use crate::tables::Tables;
+use farm_types::calls::{Call, Cmd};
+use farm_types::refusal::{BAD_MOMENT, FORBIDDEN, FULL, KEY_REUSED};
+use farm_types::rows::Reply;
+use farm_types::words::Name;
+
+/// The last moment that a call may name, in seconds since 1970.
+const LAST_MOMENT: u64 = 250_000_000_000;
+/// The most rows of each table, and of boards of one type.
+const MOST_TYPES: usize = 64;
+const MOST_BOARDS: usize = 256;
+const MOST_OF_TYPE: usize = 64;
+const MOST_JOBS: usize = 100_000;
+const MOST_RESERVATIONS: usize = 100_000;
+const MOST_KEPT: usize = 300_000;
+/// Numbers of jobs and reservations are below this one.
+const NUMBERS_END: u64 = 1_000_000_000;
+/// The most commands that a farm accepts in its life.
+const MOST_COMMANDS: u64 = 9_000_000_000_000_000_000;
+
+fn is_admin(caller: &Name) -> bool
+    ensures { result ≡ is_admin caller.now }
+{
+    caller.as_str() == "admin"
+}
+
+fn is_dispatcher(caller: &Name) -> bool
+    ensures { result ≡ is_dispatcher caller.now }
+{
+    caller.as_str() == "dispatcher"
+}
+
+/// Whether the caller may give the command, owners aside.
+fn may_give(caller: &Name, cmd: &Cmd) -> bool
+    ensures { result ≡ may_give caller.now cmd.now }
+{
+    match cmd {
+        Cmd::AddType(_, _) => is_admin(caller),
+        Cmd::AddBoard(_, _, _) => is_admin(caller),
+        Cmd::SetTags(_, _) => is_admin(caller),
+        Cmd::SetHealth(_, _) => is_admin(caller),
+        Cmd::Submit(_, _, _, _) => !is_dispatcher(caller),
+        Cmd::Start(_) => is_dispatcher(caller) || is_admin(caller),
+        Cmd::Finish(_, _) => is_dispatcher(caller) || is_admin(caller),
+        Cmd::Reserve(_, _) => !is_dispatcher(caller),
+        Cmd::Pass => is_dispatcher(caller) || is_admin(caller),
+        Cmd::Cancel(_) => true,
+        Cmd::Acquire(_) => true,
+        Cmd::Release(_) => true,
+        Cmd::Refresh(_) => true,
+        Cmd::CancelRes(_) => true,
+    }
+}
+
+impl Tables {
+    /// Whether the farm has room for more jobs, and numbers for them.
+    pub fn has_room(&self, jobs: usize) -> bool
+        requires { jobs ≤ 4 }
+        ensures { result ≡ has_room (plain self.now) jobs }
+    {
+        self.jobs.len() <= MOST_JOBS - jobs && self.next <= NUMBERS_END - jobs as u64
+    }
+
+    /// Whether the command would go beyond a limit of its own.
+    fn is_full_for(&self, cmd: &Cmd) -> bool
+        ensures { result ≡ is_full_for (plain self.now) cmd.now }
+    {
+        match cmd {
+            Cmd::AddType(_, _) => self.types.len() >= MOST_TYPES,
+            Cmd::AddBoard(_, kind, _) => {
+                self.boards.len() >= MOST_BOARDS || self.count_kind(kind) >= MOST_OF_TYPE
+            }
+            Cmd::Submit(_, wants, _, _) => !self.has_room(wants.items().len()),
+            Cmd::Reserve(_, _) => {
+                self.reservations.len() >= MOST_RESERVATIONS || self.next >= NUMBERS_END
+            }
+            Cmd::SetTags(_, _) => false,
+            Cmd::SetHealth(_, _) => false,
+            Cmd::Cancel(_) => false,
+            Cmd::Start(_) => false,
+            Cmd::Finish(_, _) => false,
+            Cmd::Acquire(_) => false,
+            Cmd::Release(_) => false,
+            Cmd::Refresh(_) => false,
+            Cmd::CancelRes(_) => false,
+            Cmd::Pass => false,
+        }
+    }
+
+    /// Whether the call would go beyond a limit.
+    fn is_full(&self, call: &Call) -> bool
+        ensures { result ≡ is_full (plain self.now) call.entry.now }
+    {
+        self.is_full_for(&call.cmd)
+            || call.key.is_some() && self.kept.len() >= MOST_KEPT
+            || self.count >= MOST_COMMANDS
+    }
+
+    /// Whether the reply of the call's key is kept for another command.
+    fn is_reused(&self, call: &Call) -> bool
+        requires { IsOrderly (plain self.now) }
+        ensures { result ≡ is_reused (plain self.now) call.entry.now }
+    {
+        match self.find_kept(call) {
+            None => false,
+            Some(row) => row.kind != call.cmd.kind(),
+        }
+    }
+
+    /// The reply that is kept for the call's key and the same command, where the moment is good.
+    pub fn kept_reply(&self, call: &Call) -> Option<Reply>
+        requires { IsOrderly (plain self.now) }
+        ensures { result ≡ repeated (plain self.now) call.entry.now }
+    {
+        if call.now > LAST_MOMENT {
+            return None;
+        }
+        let row = self.find_kept(call)?;
+        if row.kind != call.cmd.kind() {
+            return None;
+        }
+        Some(row.reply)
+    }
+
+    /// The reasons that come first.
+    #[tactic(auto, unfolding(farm_types::specs::Refuse::early_refusal))]
+    fn early_refusal(&self, call: &Call) -> Option<u16>
+        requires { IsOrderly (plain self.now) }
+        ensures { result ≡ early_refusal (plain self.now) call.entry.now }
+    {
+        if call.now > LAST_MOMENT {
+            return Some(BAD_MOMENT);
+        }
+        if self.is_reused(call) {
+            return Some(KEY_REUSED);
+        }
+        if !may_give(&call.caller, &call.cmd) {
+            return Some(FORBIDDEN);
+        }
+        None
+    }
+
+    /// The command's own reasons.
+    #[tactic(auto, unfolding(farm_types::specs::Refuse::own_refusal))]
+    fn own_refusal(&self, call: &Call) -> Option<u16>
+        requires orderly { IsOrderly (plain self.now) }
+        requires kind { kind_of call.now.cmd ≤ 4 }
+        ensures { result ≡ own_refusal (plain self.now) call.entry.now }
+    {
+        match &call.cmd {
+            Cmd::AddType(name, _) => self.refuse_add_type(name),
+            Cmd::AddBoard(name, kind, _) => self.refuse_add_board(name, kind),
+            Cmd::SetTags(name, _) => self.refuse_set_tags(name),
+            Cmd::SetHealth(name, health) => self.refuse_set_health(name, *health),
+            _ => unreachable!(),
+        }
+    }
+
+    /// The first code that applies.
+    #[tactic(auto, unfolding(farm_types::specs::Refuse::refusal))]
+    pub fn refusal(&self, call: &Call) -> Option<u16>
+        requires orderly { IsOrderly (plain self.now) }
+        requires kind { kind_of call.now.cmd ≤ 4 }
+        ensures { result ≡ refusal (plain self.now) call.entry.now }
+    {
+        if let Some(code) = self.early_refusal(call) {
+            return Some(code);
+        }
+        if let Some(code) = self.own_refusal(call) {
+            return Some(code);
+        }
+        if self.is_full(call) {
+            return Some(FULL);
+        }
+        None
+    }
+}

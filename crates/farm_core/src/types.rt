@@ -1,0 +1,49 @@
+//! The command on types.
+ghost use Rattle.std.specs.Prelude.{◌≡◌, ◌∷◌, [], OnOk, IsTrue, is_some};
+ghost use Rattle.farm_types.specs.Farm.{Farm, type_of, put_type};
+ghost use Rattle.farm_types.specs.Proper.{is_frequency};
+ghost use Rattle.farm_types.specs.Refuse.{first_code};
+ghost use Rattle.farm_core.specs.Plain.{plain};
+ghost use Rattle.farm_core.specs.Orderly.{IsOrderly};
+ghost use Rattle.farm_core.specs.Tracks.{Tracks};
+
+use crate::tables::Tables;
+use farm_types::calls::Changes;
+use farm_types::refusal::TYPE_EXISTS;
+use farm_types::rows::{Check, TypeRow};
+use farm_types::words::Name;
+use std::alloc::AllocError;
+
+impl Tables {
+    /// Why a type of that name isn't added.
+    pub fn refuse_add_type(&self, name: &Name) -> Option<u16>
+        requires { IsOrderly (plain self.now) }
+        ensures { result ≡ first_code ((is_some (type_of (plain self.now) name.now), 11) ∷ []) }
+    {
+        if self.find_type(name).is_some() {
+            return Some(TYPE_EXISTS);
+        }
+        None
+    }
+
+    /// Adds a type.
+    pub fn add_type(
+        &mut self,
+        changes: &mut Changes,
+        name: &Name,
+        check: Check,
+    ) -> Result<(), AllocError>
+        requires orderly { IsOrderly (plain self.old) }
+        requires frequency { IsTrue (is_frequency check) }
+        ensures farm { OnOk result (plain self.new ≡ put_type (plain self.old) (record { name = name.now; check = check })) }
+        ensures orderly { OnOk result (IsOrderly (plain self.new)) }
+        ensures tracked { OnOk result ((F : Farm) → Tracks F changes.old (plain self.old)
+            → Tracks F changes.new (plain self.new)) }
+    {
+        let row = TypeRow {
+            name: name.copy()?,
+            check,
+        };
+        self.put_type(changes, row)
+    }
+}

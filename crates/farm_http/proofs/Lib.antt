@@ -1,0 +1,7 @@
+pub mod HeadLemmas
+pub mod SliceReads
+pub mod Whole
+pub mod Known
+pub mod Digits
+pub mod Found
+pub mod TakenLemmas

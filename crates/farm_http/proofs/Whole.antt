@@ -1,0 +1,69 @@
+-- A head and a body behind it.
+use Rattle.std.proofs.Common.{◌≡◌, ℕ, ◌+◌, ◌-◌, ◌<◌, ◌≤◌, List, [], ◌++◌, length, take, drop, ap, sym, subst, ◌∙◌, refl, append-nil, Ok, arith, inl, inr}
+use Rattle.std.specs.Prelude.{Option}
+use Rattle.std.specs.Io.KnownBytes.{Consumes}
+use Rattle.std.proofs.KnownBytes.{Consumes-trans}
+use Rattle.std.proofs.lemmas.List.{length-take-le, drop_at}
+use Rattle.std.proofs.lemmas.Slice.{take-put_mid}
+use Rattle.std.proofs.Math.Seq.{take-append_seam}
+use borrow.Rule.Slice.PartMut.{put_mid}
+use Rattle.httparse.specs.Grammar.{RequestHead, print_request}
+use Rattle.farm_http.specs.Fields.{body_length}
+use Rattle.farm_http.specs.Heads.{IsHead}
+use Rattle.farm_http.specs.Requests.{IsRequestOf}
+use Rattle.farm_http.specs.Faults.{BodyFails, Fails, IsCut}
+use Rattle.farm_http.specs.declared.fault.WireFault.{WireFault}
+use Rattle.farm_http.specs.declared.fault.WireFault.TheVariants.{NoMemory, Read, Write, Refused}
+
+-- a head is what it prints
+pub head_text : (bytes : List ℕ) (h : RequestHead) → IsHead bytes h → bytes ≡ print_request h
+head_text bytes h is = is.reads.1 ∙ append-nil (print_request h)
+
+-- the body was put behind the head
+pub joined : (bytes body : List ℕ) (head k j : ℕ) → head ≤ length bytes → length body ≡ k → take (head + k) (put_mid head j bytes body) ≡ take head bytes ++ body
+joined bytes body head k j within long = take-put_mid head j bytes body (head + k) (ap (λ n. head + n) (sym long)) within
+
+pub request_of : (bytes body : List ℕ) (head k j : ℕ) (h : RequestHead) → head ≤ length bytes → length body ≡ k → IsHead (take head bytes) h → Ok k ≡ body_length h
+    → IsRequestOf (take (head + k) (put_mid head j bytes body)) head h
+request_of bytes body head k j h within long is declared =
+    let text = head_text (take head bytes) h is in
+    let len : length (print_request h) ≡ head = ap length (sym text) ∙ length-take-le head bytes within in
+    let all : take (head + k) (put_mid head j bytes body) ≡ print_request h ++ body = joined bytes body head k j within long ∙ ap (λ l. l ++ body) text in
+    let rest : drop head (take (head + k) (put_mid head j bytes body)) ≡ body = ap (drop head) all ∙ drop_at (print_request h) body head len in
+    record {
+      front = subst (λ l. IsHead l h) text is;
+      head_is = sym len;
+      whole = all ∙ ap (λ l. print_request h ++ l) (sym rest);
+      declared = sym declared ∙ ap (λ n. Ok n) (sym long ∙ ap length (sym rest));
+    }
+
+pub consumes_joined : (a b c : Option (List ℕ)) (bytes body : List ℕ) (head k j : ℕ) → head ≤ length bytes → length body ≡ k → Consumes a b (take head bytes) → Consumes b c body
+    → Consumes a c (take (head + k) (put_mid head j bytes body))
+consumes_joined a b c bytes body head k j within long first second =
+    subst (Consumes a c) (sym (joined bytes body head k j within long)) (Consumes-trans a b c (take head bytes) body first second)
+
+-- a body that fails makes its request fail
+pub body_fails : (front used : List ℕ) (AtEnd Spent : Type 0) (e : WireFault) (h : RequestHead) (k : ℕ) → IsHead front h → Ok k ≡ body_length h
+    → BodyFails k used AtEnd Spent e → Fails (front ++ used) AtEnd Spent e
+body_fails front used AtEnd Spent NoMemory h k is declared f = absurd f
+body_fails front used AtEnd Spent Read h k is declared f = f
+body_fails front used AtEnd Spent Write h k is declared f = absurd f
+body_fails front used AtEnd Spent (Refused r) h k is declared f =
+    let text = head_text front h is in
+    inr (inr (record {
+      head = h;
+      body = used;
+      len = k;
+      reads = subst (λ l. IsHead l h) text is;
+      whole = ap (λ l. l ++ used) text;
+      declared = sym declared;
+      short = f.short;
+      end = f.end;
+      refused = f.refused;
+    }))
+
+-- the front of a request is its head
+pub front_is_head : (bytes : List ℕ) (head : ℕ) (h : RequestHead) → IsRequestOf bytes head h → IsHead (take head bytes) h
+front_is_head bytes head h is =
+    let cut : take head bytes ≡ print_request h = ap (λ n. take n bytes) is.head_is ∙ ap (take (length (print_request h))) is.whole ∙ take-append_seam (print_request h) (drop head bytes) in
+    subst (λ l. IsHead l h) (sym cut) is.front

@@ -1,0 +1,23 @@
+-- A write adds to the front that was written.
+use Rattle.std.proofs.Common.{◌≡◌, ◌+◌, ◌-◌, ◌≤◌, length, take, drop, ap, arith, rules, ◌++◌, sym, ◌∙◌}
+use Rattle.std.specs.Io.KnownBytes.{Appends}
+use Rattle.std.proofs.KnownBytes.{Appends-trans}
+use Rattle.std.proofs.Math.Seq.{take-add}
+use Rattle.std.proofs.lemmas.List.{take-take, length-take, length-drop}
+use Rattle.farm_http.proofs.write.write_whole_logged.Goals as goal
+
+pub loop-done-preserved : goal.loop-done-preserved
+loop-done-preserved g c =
+    let done = c.loop-done.done in
+    let count = c.in_ok-done.field-0 in
+    let bytes = c.args.bytes.now in
+    let size : length (take (length bytes - done) (drop done bytes)) ≡ length bytes - done = simp (length-take, length-drop) (omega arith) in
+    let fits : count ≤ length bytes - done = rw size at c.in_ok-done.ensures.within.1 in
+    let part = rw (take-take count (length bytes - done) (drop done bytes) fits) at c.in_ok-done.ensures.ok in
+    let all = Appends-trans _ _ _ (take done bytes) (take count (drop done bytes)) c.loop-done.invariant.written part in
+    record {
+      within = omega (arith, fits);
+      calls = omega (arith, c.in_ok-done.ensures.within.0, c.write_some.ensures.calls);
+      alive = search rules;
+      written = rw (take-add done count bytes) all;
+    }

@@ -1,0 +1,47 @@
+-- The head of a request: the first prefix that is one, or why there is none.
+use Rattle.std.specs.Prelude.{◌≡◌, ℕ, ◌+◌, ◌-◌, ◌<◌, ◌≤◌, ◌⊎◌, List, [], ◌∷◌, ◌++◌, length, take, slice_index}
+use Rattle.httparse.specs.Ascii.{line_feed}
+use Rattle.httparse.specs.Grammar.{RequestHead, ReadsRequest, HasNoRequest, MayBecomeRequest}
+use Rattle.httparse.specs.Spans.{RequestOverflows}
+use Rattle.farm_types.specs.declared.refusal.TheConstants.{BAD_REQUEST, TOO_LARGE}
+use Rattle.farm_http.specs.declared.limits.TheConstants.{MAX_HEAD, MAX_FIELDS}
+
+-- the bytes are a head with no more fields and bytes than a head may have
+pub record IsHead (bytes : List ℕ) (h : RequestHead) : Type 0 where
+  pub reads : ReadsRequest bytes h []
+  pub few : length h.fields ≤ MAX_FIELDS
+  pub short : length bytes ≤ MAX_HEAD
+
+-- the prefix is no head, and more bytes can make it one
+pub record IsOpen (front : List ℕ) : Type 0 where
+  pub none : HasNoRequest front
+  pub more : MayBecomeRequest front
+
+-- each prefix that ends in one of the first n bytes, a line feed, is open
+abbrev pub OpenBelow : ℕ → List ℕ → Type 0
+OpenBelow n bytes = (i : ℕ) → i < n → slice_index bytes i ≡ line_feed → IsOpen (take (i + 1) bytes)
+
+-- the input ends before a head
+pub record EndsEarly (used : List ℕ) (AtEnd : Type 0) (code : ℕ) : Type 0 where
+  pub refused : code ≡ BAD_REQUEST
+  pub end : AtEnd
+  pub short : length used < MAX_HEAD
+  pub open_lines : OpenBelow (length used) used
+
+-- the last line, and no line before it, makes a head impossible that has no more fields than it may
+pub record IsHopeless (used : List ℕ) (code : ℕ) : Type 0 where
+  pub refused : code ≡ BAD_REQUEST
+  pub short : length used ≤ MAX_HEAD
+  pub line : (front : List ℕ) × (used ≡ front ++ line_feed ∷ [])
+  pub overflows : RequestOverflows MAX_FIELDS used
+  pub open_lines : OpenBelow (length used - 1) used
+
+-- as many bytes as a head may have are none yet
+pub record IsTooLong (used : List ℕ) (code : ℕ) : Type 0 where
+  pub refused : code ≡ TOO_LARGE
+  pub long : length used ≡ MAX_HEAD
+  pub open_lines : OpenBelow MAX_HEAD used
+
+-- these bytes are taken, and there is no head
+abbrev pub HasNoHead : List ℕ → Type 0 → ℕ → Type 0
+HasNoHead used AtEnd code = EndsEarly used AtEnd code ⊎ (IsHopeless used code ⊎ IsTooLong used code)

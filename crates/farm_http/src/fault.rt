@@ -1,0 +1,54 @@
+//! Why no request was read, or no answer written.
+ghost use Rattle.std.specs.Prelude.{◌≡◌};
+
+use crate::read_log::NoBytes;
+use crate::write_log::NotTaken;
+use farm_types::refusal::Refusal;
+use thiserror::Error;
+
+/// Why no request was read, or no answer written.
+#[derive(Clone, Copy, Debug, PartialEq, Eq, Error)]
+pub enum WireFault {
+    /// The room for a request was refused, and nothing was read.
+    #[error("no memory")]
+    NoMemory,
+    /// The reader failed, or gave no request in 80,000 calls.
+    #[error("read fault")]
+    Read,
+    /// The writer failed, took no byte or was interrupted.
+    #[error("write fault")]
+    Write,
+    /// The bytes that came are no request that the desk reads.
+    #[error("{0}")]
+    Refused(Refusal),
+}
+
+impl From<NoBytes> for WireFault {
+    ghost use Rattle.farm_http.specs.declared.fault.WireFault.TheVariants.{Read as read_fault};
+
+    ghost from_gives = { λ _ e. e ≡ read_fault };
+
+    fn from(_none: NoBytes) -> WireFault {
+        WireFault::Read
+    }
+}
+
+impl From<NotTaken> for WireFault {
+    ghost use Rattle.farm_http.specs.declared.fault.WireFault.TheVariants.{Write as write_fault};
+
+    ghost from_gives = { λ _ e. e ≡ write_fault };
+
+    fn from(_none: NotTaken) -> WireFault {
+        WireFault::Write
+    }
+}
+
+impl From<Refusal> for WireFault {
+    ghost use Rattle.farm_http.specs.declared.fault.WireFault.TheVariants.{Refused as refused};
+
+    ghost from_gives = { λ r e. e ≡ refused r };
+
+    fn from(refusal: Refusal) -> WireFault {
+        WireFault::Refused(refusal)
+    }
+}

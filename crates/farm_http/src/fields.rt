@@ -1,0 +1,116 @@
+//! The fields of a head (RFC 9112, section 5): one by its name, and how long the body is.
+ghost use Rattle.std.specs.Prelude.{◌≡◌, ◌+◌, ◌*◌, ◌<◌, ◌≤◌, length, map, All, IfOk, MatchOption, nat_lt, ◌&&◌};
+ghost use Rattle.std.specs.Char.{is_ascii_digit, digit_value};
+ghost use Rattle.std.specs.List.{list_all};
+ghost use Rattle.std.specs.Str.{str_eq_ignore_ascii_case};
+ghost use Rattle.std.specs.Str.Parse.{digits_value};
+ghost use Rattle.httparse.specs.Spans.{IsHeaderWithin, header_bytes};
+ghost use Rattle.farm_http.specs.Fields.{answered, field_of, declared_length, length_among, numbered};
+
+use crate::limits::MAX_BODY;
+use farm_types::refusal::{BAD_CODING, BAD_REQUEST, Refusal, TOO_LARGE};
+use httparse::spans::HeaderSpan;
+
+/// More than one field has the name.
+#[derive(Clone, Copy, Debug, PartialEq, Eq)]
+pub struct Repeated;
+
+/// The value of the only field of that name, whatever the case of its letters, without the spaces
+/// and tabs at both ends. Looks at each field of the head once.
+pub(crate) fn find<'b>(
+    buf: &'b [u8],
+    headers: &[HeaderSpan],
+    name: &[u8],
+) -> Result<Option<&'b [u8]>, Repeated>
+    requires { All (IsHeaderWithin (length buf.now)) headers.now }
+    ensures { answered result ≡ field_of name.now (map (header_bytes buf.now) headers.now) }
+{
+    let mut found: Option<&'b [u8]> = None;
+    for header in headers {
+        if is_named(buf, header, name) {
+            if found.is_some() {
+                return Err(Repeated);
+            }
+            found = Some(header.value.of(buf));
+        }
+    }
+    Ok(found)
+}
+
+/// Whether a field has that name.
+fn is_named(buf: &[u8], header: &HeaderSpan, name: &[u8]) -> bool
+    requires { IsHeaderWithin (length buf.now) header.now }
+    ensures { result ≡ str_eq_ignore_ascii_case (header_bytes buf.now header.now).0 name.now }
+{
+    header.name.of(buf).eq_ignore_ascii_case(name)
+}
+
+/// How long the body is that follows a head with these fields, at most 65,536 bytes. Refused are
+/// any transfer coding, and a `content-length` that stands twice, is no number or is above that.
+pub(crate) fn declared_among(head: &[u8], headers: &[HeaderSpan]) -> Result<usize, Refusal>
+    requires { All (IsHeaderWithin (length head.now)) headers.now }
+    ensures length { numbered result ≡ length_among (map (header_bytes head.now) headers.now) }
+    ensures small { IfOk result (λ n. n ≤ MAX_BODY) }
+{
+    let Ok(None) = find(head, headers, b"transfer-encoding") else {
+        return Err(Refusal { code: BAD_CODING });
+    };
+    match find(head, headers, b"content-length") {
+        Ok(None) => Ok(0),
+        Ok(Some(value)) => declared(value),
+        Err(Repeated) => Err(Refusal { code: BAD_REQUEST }),
+    }
+}
+
+/// The number that a `content-length` declares: decimal digits alone, leading zeros too.
+fn declared(value: &[u8]) -> Result<usize, Refusal>
+    ensures number { numbered result ≡ declared_length value.now }
+    ensures small { IfOk result (λ n. n ≤ MAX_BODY) }
+{
+    if !is_number(value) {
+        return Err(Refusal { code: BAD_REQUEST });
+    }
+    match small_number(value) {
+        Some(number) => Ok(number),
+        None => Err(Refusal { code: TOO_LARGE }),
+    }
+}
+
+/// Whether the value is one digit or more, and nothing else.
+fn is_number(value: &[u8]) -> bool
+    ensures { result ≡ nat_lt 0 (length value.now) && list_all is_ascii_digit value.now }
+{
+    !value.is_empty() && is_digits(value)
+}
+
+/// Whether each byte is a digit.
+fn is_digits(value: &[u8]) -> bool
+    ensures { result ≡ list_all is_ascii_digit value.now }
+{
+    value.iter().all(|byte| byte.is_ascii_digit())
+}
+
+/// The number that digits write, if a body may be so long.
+fn small_number(value: &[u8]) -> Option<usize>
+    ensures { MatchOption result (MAX_BODY < digits_value 10 value.now)
+        (λ n. (n ≤ MAX_BODY) × (n ≡ digits_value 10 value.now)) }
+{
+    let mut number = 0usize;
+    for digit in value {
+        number = number * 10 + value_of(*digit);
+        if number > MAX_BODY {
+            return None;
+        }
+    }
+    Some(number)
+}
+
+/// What a digit stands for.
+fn value_of(digit: u8) -> usize
+    ensures { result ≡ digit_value digit }
+{
+    match (digit as char).to_digit(36) {
+        Some(value) => value as usize,
+        None => 36,
+    }
+}

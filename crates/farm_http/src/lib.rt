@@ -1,0 +1,18 @@
+//! HTTP/1.1 on the wire (RFC 9112): the bytes of one request taken from any reader, and bytes
+//! written whole to any writer.
+//!
+//! Reading takes what it needs and no more: the head byte by byte, since the bytes behind a request
+//! belong to whoever reads next, then exactly the body that the head declares. So a head costs one
+//! call of `read` for each byte, and a caller hands in a buffered reader where calls are dear.
+#![tactic(auto)]
+
+pub mod fault;
+pub mod fields;
+pub mod laws;
+pub mod limits;
+pub mod parts;
+pub mod read_log;
+pub mod request;
+pub mod taken;
+pub mod write;
+pub mod write_log;

@@ -1,0 +1,101 @@
+//! The parts of a request, for whoever asks what it means.
+ghost use Rattle.std.specs.Prelude.{◌≡◌, ◌+◌, ◌<◌, ◌≤◌, length, take, map};
+ghost use Rattle.httparse.specs.Grammar.{RequestHead};
+ghost use Rattle.httparse.specs.Spans.{IsRequestAt, IsRequestWithin, span_bytes, header_bytes};
+ghost use Rattle.farm_http.specs.Fields.{answered, field_of};
+ghost use Rattle.farm_http.specs.Heads.{IsHead};
+ghost use Rattle.farm_http.specs.Request.{Request};
+ghost use Rattle.farm_http.specs.Requests.{Spells};
+
+use crate::fields::{Repeated, find};
+use crate::limits::MAX_FIELDS;
+use crate::taken::Taken;
+use httparse::Status;
+use httparse::spans::{EMPTY_HEADER_SPAN, HeaderSpan, RequestSpans, parse_request};
+use std::marker::Model;
+
+/// A request by its parts, each lent from the bytes that were taken.
+#[derive(Drop)]
+pub struct Parts<'a> {
+    head: &'a [u8],
+    body: &'a [u8],
+    spans: RequestSpans,
+    headers: [HeaderSpan; MAX_FIELDS],
+}
+
+impl<'a> Model for Parts<'a> {
+    ghost use Rattle.std.specs.Prelude.{take, map};
+    ghost use Rattle.httparse.specs.Spans.{IsRequestWithin, span_bytes, header_bytes};
+    ghost use Rattle.farm_http.specs.Request.{Request};
+
+    ghost Value = { Request };
+
+    ghost view = { λ p. record {
+      method = span_bytes p.head.now p.spans.method;
+      target = span_bytes p.head.now p.spans.path;
+      fields = map (header_bytes p.head.now) (take p.spans.headers p.headers);
+      body = p.body.now;
+    } };
+
+    ghost invariant = { λ p. IsRequestWithin p.head.now p.headers p.spans };
+}
+
+/// The parts of what was taken. Reads the head once more, in one pass.
+pub fn parts_of(taken: &Taken) -> Parts<'_>
+    ensures { (request : Request) → Spells taken.now.bytes.items taken.now.head request
+        → result ≡ request }
+{
+    let (head, body) = taken.bytes.as_slice().split_at(taken.head);
+    let mut headers = [EMPTY_HEADER_SPAN; MAX_FIELDS];
+    let spans = spans_of(head, &mut headers);
+    Parts {
+        head,
+        body,
+        spans,
+        headers,
+    }
+}
+
+/// Where the parts of a head are.
+pub(crate) fn spans_of(head: &[u8], headers: &mut [HeaderSpan]) -> RequestSpans
+    requires head { ∥ ((h : RequestHead) × IsHead head.now h) ∥₁ }
+    requires room { length headers.old ≡ MAX_FIELDS }
+    ensures within { IsRequestWithin head.now headers.new result }
+    ensures parts { (h : RequestHead) → IsHead head.now h → IsRequestAt head.now headers.new result h }
+{
+    match parse_request(head, headers) {
+        Ok(Status::Complete(spans)) => spans,
+        _ => unreachable!(),
+    }
+}
+
+impl<'a> Parts<'a> {
+    /// The method, as it was sent: its case matters.
+    pub fn method(&self) -> &'a [u8]
+        ensures { result.now ≡ self.now.method }
+    {
+        self.spans.method.of(self.head)
+    }
+
+    /// The target of the request line, undecoded.
+    pub fn target(&self) -> &'a [u8]
+        ensures { result.now ≡ self.now.target }
+    {
+        self.spans.path.of(self.head)
+    }
+
+    /// The value of the only field of that name, whatever the case of its letters, without the
+    /// spaces and tabs at both ends. Looks at each field once.
+    pub fn field(&self, name: &[u8]) -> Result<Option<&'a [u8]>, Repeated>
+        ensures { answered result ≡ field_of name.now self.now.fields }
+    {
+        find(self.head, &self.headers[..self.spans.headers], name)
+    }
+
+    /// The body, which is empty where no length was declared.
+    pub fn body(&self) -> &'a [u8]
+        ensures { result.now ≡ self.now.body }
+    {
+        self.body
+    }
+}

@@ -1,0 +1,179 @@
+//! Reading one request.
+ghost use Rattle.std.specs.Prelude.{◌≡◌, ℕ, ◌+◌, ◌<◌, ◌≤◌, length, take, false, ⊤, List, IsTrue, IfOk, IfErr, IfSome, OnOk, IsErrOf, Some};
+ghost use Rattle.std.specs.Io.KnownBytes.{Consumes, IsAtEnd};
+ghost use Rattle.httparse.specs.Grammar.{RequestHead};
+ghost use Rattle.farm_http.specs.Fields.{body_length, numbered};
+ghost use Rattle.farm_http.specs.Faults.{HeadFails, BodyFails, FailsAfter, Gives};
+ghost use Rattle.farm_http.specs.Heads.{IsHead};
+ghost use Rattle.farm_http.specs.Logs.{unread, IsSpent};
+ghost use Rattle.farm_http.specs.Requests.{IsRequest};
+
+use crate::fault::WireFault;
+use crate::fields::declared_among;
+use crate::limits::{MAX_BODY, MAX_FIELDS, MAX_HEAD, MAX_TURNS};
+use crate::parts::spans_of;
+use crate::read_log::{ReadLog, read_some};
+use crate::taken::Taken;
+use farm_types::refusal::{BAD_REQUEST, Refusal, TOO_LARGE};
+use httparse::Status;
+use httparse::spans::{EMPTY_HEADER_SPAN, HeaderSpan, parse_request};
+use std::alloc::Global;
+use std::io::Read;
+
+/// Reads one request, and leaves the bytes behind it unread.
+///
+/// The head is the first prefix that the parser takes for one; it is tried at each line feed. A
+/// refusal comes after the first bytes that rule a request out: 50 for a head that can't be one, for
+/// more than 64 fields, for a wrong `content-length` and for an input that ends too early, 51 for a
+/// head above 8,192 bytes or a body above 65,536, 54 for any `transfer-encoding`.
+///
+/// Costs one growth of 73,728 bytes, one call of `read` for each byte of the head and as few as the
+/// reader allows for the body, and at each line of the head a parse of what came so far, which is at
+/// most 8,192 bytes a line.
+pub fn read_request<R: Read>(alloc: Global, reader: &mut R) -> Result<Taken, WireFault>
+    ensures taken { IfOk result (λ taken. Consumes (R.remaining reader.old) (R.remaining reader.new) taken.bytes.items) }
+    ensures fault { IfErr result (FailsAfter (R.remaining reader.old) (R.remaining reader.new) ⊤) }
+
+    // Of a reader that tells its bytes, its end is the end of the input.
+    ensures known { IfSome (R.remaining reader.old) (λ input. (used : List ℕ)
+        × Consumes (Some input) (R.remaining reader.new) used × Gives input used ⊤ result) }
+{
+    read_request_logged(alloc, reader, &mut ReadLog::new())
+}
+
+/// Reads one request as `read_request` does, and tells how often the reader was called and whether
+/// it failed.
+pub fn read_request_logged<R: Read>(
+    alloc: Global,
+    reader: &mut R,
+    log: &mut ReadLog,
+) -> Result<Taken, WireFault>
+    requires fresh { log.old ≡ unread }
+    ensures taken { IfOk result (λ taken. Consumes (R.remaining reader.old) (R.remaining reader.new) taken.bytes.items) }
+
+    // The fault Read comes only of a reader that failed or took all its turns, and always of one that failed.
+    ensures fault { IfErr result (FailsAfter (R.remaining reader.old) (R.remaining reader.new) (IsSpent log.new)) }
+    ensures failed { IsTrue log.new.failed → IsErrOf result WireFault.Read }
+    ensures turns { log.new.calls ≤ MAX_TURNS }
+    ensures known { IfSome (R.remaining reader.old) (λ input. (used : List ℕ)
+        × Consumes (Some input) (R.remaining reader.new) used × Gives input used (IsSpent log.new) result) }
+{
+    take_request(alloc, reader, log)
+}
+
+/// The same, as it is said of any reader.
+fn take_request<R: Read>(
+    alloc: Global,
+    reader: &mut R,
+    log: &mut ReadLog,
+) -> Result<Taken, WireFault>
+    requires { log.old ≡ unread }
+    ensures taken { IfOk result (λ taken. Consumes (R.remaining reader.old) (R.remaining reader.new) taken.bytes.items) }
+    ensures request { IfOk result (λ taken. IsRequest taken.bytes.items taken.head) }
+    ensures fault { IfErr result (FailsAfter (R.remaining reader.old) (R.remaining reader.new) (IsSpent log.new)) }
+    ensures failed { IsTrue log.new.failed → IsErrOf result WireFault.Read }
+    ensures turns { log.new.calls ≤ MAX_TURNS }
+{
+    let Ok(mut bytes) = vec![in alloc; 0u8; MAX_HEAD + MAX_BODY] else {
+        return Err(WireFault::NoMemory);
+    };
+    let (head, len) = fill(reader, log, bytes.as_mut_slice())?;
+    bytes.truncate(len);
+    Ok(Taken { bytes, head })
+}
+
+/// Reads a request to the front of the bytes, and gives the lengths of its head and of all of it.
+fn fill<R: Read>(
+    reader: &mut R,
+    log: &mut ReadLog,
+    bytes: &mut [u8],
+) -> Result<(usize, usize), WireFault>
+    requires room { length bytes.old ≡ MAX_HEAD + MAX_BODY }
+    requires fresh { log.old ≡ unread }
+    ensures request { IfOk result (λ n. IsRequest (take n.1 bytes.new) n.0) }
+    ensures taken { IfOk result (λ n. Consumes (R.remaining reader.old) (R.remaining reader.new) (take n.1 bytes.new)) }
+    ensures fault { IfErr result (FailsAfter (R.remaining reader.old) (R.remaining reader.new) (IsSpent log.new)) }
+    ensures failed { IsTrue log.new.failed → IsErrOf result WireFault.Read }
+    ensures turns { log.new.calls ≤ MAX_TURNS }
+{
+    let mut headers = [EMPTY_HEADER_SPAN; MAX_FIELDS];
+    let head = read_head(reader, log, bytes, &mut headers)?;
+    let body = length_after(&bytes[..head])?;
+    read_body(reader, log, &mut bytes[head..head + body])?;
+    Ok((head, head + body))
+}
+
+/// Reads a head to the front of the bytes, and gives its length.
+fn read_head<R: Read>(
+    reader: &mut R,
+    log: &mut ReadLog,
+    bytes: &mut [u8],
+    headers: &mut [HeaderSpan],
+) -> Result<usize, WireFault>
+    requires room { MAX_HEAD ≤ length bytes.old }
+    requires fields { length headers.old ≡ MAX_FIELDS }
+    requires fresh { log.old ≡ unread }
+    ensures within { IfOk result (λ n. n ≤ MAX_HEAD) }
+    ensures head { IfOk result (λ n. (h : RequestHead) × IsHead (take n bytes.new) h) }
+    ensures bytes { IfOk result (λ n. Consumes (R.remaining reader.old) (R.remaining reader.new) (take n bytes.new)) }
+    ensures fault { IfErr result (λ e. (used : List ℕ)
+        × Consumes (R.remaining reader.old) (R.remaining reader.new) used
+        × HeadFails used (IsAtEnd (R.remaining reader.new)) (IsSpent log.new) e) }
+    ensures failed { IsTrue log.new.failed → IsErrOf result WireFault.Read }
+    ensures turns { log.new.calls ≤ MAX_TURNS }
+{
+    let mut len = 0usize;
+    while len < MAX_HEAD {
+        let mut byte = [0u8; 1];
+        if read_some(reader, log, &mut byte)? == 0 {
+            return Err(WireFault::Refused(Refusal { code: BAD_REQUEST }));
+        }
+        let last = byte[0];
+        bytes[len] = last;
+        len += 1;
+        if last == b'\n' {
+            match parse_request(&bytes[..len], headers) {
+                Ok(Status::Complete(_)) => return Ok(len),
+                Ok(Status::Partial) => {}
+                Err(_) => return Err(WireFault::Refused(Refusal { code: BAD_REQUEST })),
+            }
+        }
+    }
+    Err(WireFault::Refused(Refusal { code: TOO_LARGE }))
+}
+
+/// How long the body is that follows a head.
+fn length_after(head: &[u8]) -> Result<usize, Refusal>
+    requires { ∥ ((h : RequestHead) × IsHead head.now h) ∥₁ }
+    ensures length { (h : RequestHead) → IsHead head.now h → numbered result ≡ body_length h }
+    ensures small { IfOk result (λ n. n ≤ MAX_BODY) }
+{
+    let mut headers = [EMPTY_HEADER_SPAN; MAX_FIELDS];
+    let spans = spans_of(head, &mut headers);
+    declared_among(head, &headers[..spans.headers])
+}
+
+/// Reads a body of a known length.
+fn read_body<R: Read>(reader: &mut R, log: &mut ReadLog, body: &mut [u8]) -> Result<(), WireFault>
+    requires turns { log.old.calls ≤ MAX_TURNS }
+    requires alive { log.old.failed ≡ false }
+    ensures ok { OnOk result (Consumes (R.remaining reader.old) (R.remaining reader.new) body.new) }
+    ensures fault { IfErr result (λ e. (used : List ℕ)
+        × Consumes (R.remaining reader.old) (R.remaining reader.new) used
+        × BodyFails (length body.old) used (IsAtEnd (R.remaining reader.new)) (IsSpent log.new) e) }
+    ensures failed { IsTrue log.new.failed → IsErrOf result WireFault.Read }
+    ensures turns { log.new.calls ≤ MAX_TURNS }
+{
+    let mut at = 0usize;
+    while at < body.len() {
+        let count = read_some(reader, log, &mut body[at..])?;
+        if count == 0 {
+            return Err(WireFault::Refused(Refusal { code: BAD_REQUEST }));
+        }
+        at += count;
+    }
+    Ok(())
+}
+
+#[cfg(test)]
+mod tests;

@@ -1,0 +1,6 @@
+pub mod Choices
+pub mod Places
+pub mod Meeting
+pub mod Unique
+pub mod Lists
+pub mod Answering

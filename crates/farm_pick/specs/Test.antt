@@ -1,0 +1,17 @@
+-- Which boards may be given for a want.
+use Rattle.std.specs.Prelude.{Bool, ◌&&◌, List}
+use Rattle.farm_types.specs.Pick.{fits, is_free, not_retired}
+use Rattle.farm_types.specs.declared.rows.Want.{Want}
+use Rattle.farm_types.specs.declared.rows.BoardRow.{BoardRow}
+use Rattle.farm_types.specs.declared.rows.TypeRow.{TypeRow}
+use Rattle.farm_pick.specs.declared.free.Free.{Free}
+use Rattle.farm_pick.specs.declared.free.Free.TheVariants.{ServingIdle, NotRetired}
+
+-- what is asked of a board beside that it fits
+abbrev pub passes : List TypeRow → Free → BoardRow → Bool
+passes types ServingIdle = is_free types
+passes types NotRetired = not_retired
+
+-- a board that fits the want and passes the test
+abbrev pub is_candidate : (BoardRow → Bool) → Want → BoardRow → Bool
+is_candidate test want board = fits board want && test board

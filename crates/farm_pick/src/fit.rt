@@ -1,0 +1,101 @@
+//! The tests of one board.
+ghost use Rattle.std.specs.Prelude.{◌≡◌, ◌||◌, true, bytes_eq};
+ghost use Rattle.std.specs.List.{list_all, list_any, find};
+ghost use Rattle.std.specs.Option.{option_map_or, option_copied};
+ghost use Rattle.farm_types.specs.Words.{name_tag};
+ghost use Rattle.farm_types.specs.Pick.{fits, check_of, serves};
+ghost use Rattle.farm_pick.specs.Test.{passes, is_candidate};
+
+use crate::free::Free;
+use farm_types::rows::{BoardRow, Check, Health, Holder, TypeRow, Want};
+use farm_types::tags::Tag;
+use farm_types::words::Name;
+
+fn is_of_kind(board: &BoardRow, kind: &Option<Name>) -> bool
+    ensures { result ≡ option_map_or (λ k. bytes_eq board.now.kind k) kind.now true }
+{
+    match kind {
+        None => true,
+        Some(kind) => board.kind.is(kind),
+    }
+}
+
+/// Whether the text is the tag that a board of this name carries for it: `name=` and the name.
+fn is_name_tag(text: &str, name: &str) -> bool
+    ensures { result ≡ bytes_eq text.now (name_tag name.now) }
+{
+    match text.strip_prefix("name=") {
+        Some(rest) => rest == name,
+        None => false,
+    }
+}
+
+fn is_among(tags: &[Tag], wanted: &str) -> bool
+    ensures { result ≡ list_any (bytes_eq wanted.now) tags.now }
+{
+    tags.iter().any(|own| wanted == own.as_str())
+}
+
+fn has_tag(board: &BoardRow, tag: &Tag) -> bool
+    ensures { result ≡ (list_any (bytes_eq tag.now) board.now.tags || bytes_eq tag.now (name_tag board.now.name)) }
+{
+    is_among(board.tags.items(), tag.as_str()) || is_name_tag(tag.as_str(), board.name.as_str())
+}
+
+fn has_all_tags(board: &BoardRow, tags: &[Tag]) -> bool
+    ensures { result ≡ list_all (λ tag. list_any (bytes_eq tag) board.now.tags || bytes_eq tag (name_tag board.now.name)) tags.now }
+{
+    tags.iter().all(|tag| has_tag(board, tag))
+}
+
+/// Whether the board is of the type that the want names, if it names one, and has each of its tags.
+fn fits(board: &BoardRow, want: &Want) -> bool
+    ensures { result ≡ fits board.now want.now }
+{
+    is_of_kind(board, &want.kind) && has_all_tags(board, want.tags.items())
+}
+
+fn row_of<'a>(types: &'a [TypeRow], kind: &Name) -> Option<&'a TypeRow>
+    ensures { option_copied result ≡ find (λ t. bytes_eq t.name kind.now) types.now }
+{
+    types.iter().find(|row| row.name.is(kind))
+}
+
+/// How often boards of a type are checked: never, where there is no such type.
+fn check_of(types: &[TypeRow], kind: &Name) -> Check
+    ensures { result ≡ check_of types.now kind.now }
+{
+    match row_of(types, kind) {
+        Some(row) => row.check,
+        None => Check::Never,
+    }
+}
+
+/// Whether the board is Good, or Unknown and of a type that isn't checked. Only an Unknown board
+/// costs a look at the types, of which a farm has 64 at most.
+fn serves(types: &[TypeRow], board: &BoardRow) -> bool
+    ensures { result ≡ serves types.now board.now }
+{
+    match board.health {
+        Health::Good => true,
+        Health::Unknown => check_of(types, &board.kind) == Check::Never,
+        Health::Bad | Health::Maintenance | Health::Retired => false,
+    }
+}
+
+/// Whether the board passes the test.
+fn passes(types: &[TypeRow], free: Free, board: &BoardRow) -> bool
+    ensures { result ≡ passes types.now free board.now }
+{
+    match free {
+        Free::ServingIdle => board.holder == Holder::Nobody && serves(types, board),
+        Free::NotRetired => board.health != Health::Retired,
+    }
+}
+
+/// Whether the board may be given for the want. The test that takes no look at tags comes first.
+pub fn is_candidate(types: &[TypeRow], want: &Want, free: Free, board: &BoardRow) -> bool
+    ensures { result ≡ is_candidate (passes types.now free) want.now board.now }
+{
+    passes(types, free, board) && fits(board, want)
+}

@@ -1,0 +1,22 @@
+//! Which boards are given to a claim, and which claim goes first. Nothing here takes memory.
+#![tactic(auto)]
+
+mod candidates;
+mod choose;
+mod fit;
+mod free;
+mod laws;
+#[cfg(test)]
+mod made;
+mod order;
+mod picked;
+mod search;
+#[cfg(test)]
+mod tests;
+
+pub use candidates::Candidates;
+pub use free::Free;
+pub use laws::{least_is_least, one_least};
+pub use order::before;
+pub use picked::Picked;
+pub use search::{least, least_of};

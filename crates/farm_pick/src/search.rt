@@ -1,0 +1,66 @@
+ghost use Rattle.std.specs.Prelude.{◌≡◌, ◌≢◌, ◌<◌, ◌≤◌, All, AllPairs, length, map, IfSome, option_map};
+ghost use Rattle.std.specs.List.Sorted.{IsStrictlySortedBy};
+ghost use Rattle.farm_types.specs.Table.{board_cmp};
+ghost use Rattle.farm_types.specs.Pick.{least};
+ghost use Rattle.farm_pick.specs.Test.{passes};
+ghost use Rattle.farm_pick.specs.Least.{boards_at};
+
+use crate::choose;
+use crate::free::Free;
+use crate::picked::Picked;
+use farm_types::asked::Wants;
+use farm_types::rows::{BoardRow, TypeRow, Want};
+
+/// The places of the least list of boards that meets the wants, or None where no list does: the
+/// form for wants that are lent one by one, as those of a group's job rows. One want `w` is
+/// `&[&w]`.
+///
+/// With k wants the least list uses for each want one of its first k candidates: of these k the
+/// other wants use k - 1 at most, so a later one could be exchanged for an earlier one. So each
+/// want costs one scan up to its k-th candidate, k * n tests of a board at most for n boards, and
+/// the search over at most 4 lists of 4 places costs at most 340 steps, however large n is.
+pub fn least_of(
+    boards: &[BoardRow],
+    types: &[TypeRow],
+    wants: &[&Want],
+    free: Free,
+) -> Option<Picked>
+    requires ordered { IsStrictlySortedBy board_cmp boards.now }
+    requires few { length wants.now ≤ 4 }
+    ensures least { option_map (boards_at boards.now) result ≡ least boards.now (passes types.now free) (map (λ w. w.now) wants.now) }
+    ensures len { IfSome result (λ places. length places ≡ length wants.now) }
+    ensures within { IfSome result (λ places. All (λ i. i < length boards.now) places) }
+    ensures different { IfSome result (λ places. AllPairs (λ i j. i ≢ j) places) }
+{
+    let mut lists = [Picked::new(), Picked::new(), Picked::new(), Picked::new()];
+    for (i, want) in wants.iter().enumerate() {
+        let places = choose::shortlist(boards, types, want, free, wants.len());
+        if places.len() == 0 {
+            return None;
+        }
+        lists[i] = places;
+    }
+    choose::choose(&lists[..wants.len()], Picked::new())
+}
+
+/// The places of the least list of boards that meets the wants, or None where no list does.
+pub fn least(
+    boards: &[BoardRow],
+    types: &[TypeRow],
+    wants: &Wants,
+    free: Free,
+) -> Option<Picked>
+    requires { IsStrictlySortedBy board_cmp boards.now }
+    ensures least { option_map (boards_at boards.now) result ≡ least boards.now (passes types.now free) wants.now }
+    ensures len { IfSome result (λ places. length places ≡ length wants.now) }
+    ensures within { IfSome result (λ places. All (λ i. i < length boards.now) places) }
+    ensures different { IfSome result (λ places. AllPairs (λ i j. i ≢ j) places) }
+{
+    match wants.items() {
+        [a] => least_of(boards, types, &[a], free),
+        [a, b] => least_of(boards, types, &[a, b], free),
+        [a, b, c] => least_of(boards, types, &[a, b, c], free),
+        [a, b, c, d] => least_of(boards, types, &[a, b, c, d], free),
+        _ => unreachable!(),
+    }
+}

@@ -1,0 +1,104 @@
+-- The commands on types and boards, where they aren't refused.
+use Rattle.std.proofs.Common.{◌≡◌, ℕ, ◌&&◌, not, nat_le, is_some, is_none, false, List, [], ◌∷◌, length, Option, refl, sym, ap, ◌∙◌, subst, arith}
+use mathlib.Core.Bool.{false≢true}
+use Rattle.std.specs.List.{filter}
+use Rattle.std.specs.Option.{option_map_or}
+use Rattle.std.specs.Str.{bytes_eq}
+use Rattle.std.proofs.lemmas.Bool.Decides.{nat_tests}
+use Rattle.farm_types.specs.Words.{is_word, is_tags}
+use Rattle.farm_types.specs.Codes.{same_health}
+use Rattle.farm_types.specs.Proper.{is_proper_cmd, is_frequency, has_no_name_tag}
+use Rattle.farm_types.specs.Farm.{Farm, type_of, board_of, put_board}
+use Rattle.farm_types.specs.Pick.{is_nobody}
+use Rattle.farm_types.specs.Refuse.{is_retired}
+use Rattle.farm_types.specs.Change.{act, done, new_board}
+use Rattle.farm_types.specs.Sound.{IsSound}
+use Rattle.farm_types.specs.declared.rows.Check.{Check}
+use Rattle.farm_types.specs.declared.rows.Health.{Health}
+use Rattle.farm_types.specs.declared.rows.Holder.{Holder}
+use Rattle.farm_types.specs.declared.rows.BoardRow.{BoardRow}
+use Rattle.farm_types.specs.declared.calls.Cmd.{Cmd}
+use Rattle.farm_sound.proofs.Commands.{both}
+use Rattle.farm_sound.proofs.Boards.{IsSound-put_type, IsSound-put_board, IsSound-replace_board}
+use Rattle.farm_sound.proofs.Clear.{both_false, first_clear, some_of, IsSome-from, none_of}
+use Rattle.farm_sound.proofs.Accepted.{IsAccepted, Acted, acted_one}
+
+nobody_from_not : (h : Holder) → not (is_nobody h) ≡ false → h ≡ Holder.Nobody
+nobody_from_not Holder.Nobody is = refl
+nobody_from_not (Holder.Job n) is = absurd (false≢true (sym is))
+nobody_from_not (Holder.Res n) is = absurd (false≢true (sym is))
+
+-- a Retired board has no holder
+retired_idle : (health : Health) (h : Holder) → (same_health health Health.Retired && not (is_nobody h)) ≡ false → health ≡ Health.Retired → h ≡ Holder.Nobody
+retired_idle health h is retired = nobody_from_not h (subst (λ x. (same_health x Health.Retired && not (is_nobody h)) ≡ false) retired is)
+
+module _ (F : Farm) (t : ℕ) (caller : List ℕ) (sound : IsSound F) where
+  pub acted_add_type : (name : List ℕ) (check : Check) → IsAccepted F t caller (Cmd.AddType name check) → Acted F (act F caller (Cmd.AddType name check))
+  unfolding is_proper_cmd
+  acted_add_type name check is =
+      let words = both (is_word 48 name) (is_frequency check) is.proper in
+      let room = is.room in
+      acted_one F (act F caller (Cmd.AddType name check)).farm 0 refl (omega arith)
+      (IsSound-put_type F (record { name = name; check = check }) (record { name = words.0; check = words.1 }) (grind (arith, nat_tests)) sound)
+
+  pub acted_add_board : (name kind : List ℕ) (tags : List (List ℕ)) → IsAccepted F t caller (Cmd.AddBoard name kind tags) → Acted F (act F caller (Cmd.AddBoard name kind tags))
+  unfolding is_proper_cmd
+  acted_add_board name kind tags is =
+      let words = both (is_word 48 name && is_word 48 kind && is_tags tags) (has_no_name_tag tags) is.proper in
+      let more = both (is_word 48 name && is_word 48 kind) (is_tags tags) words.0 in
+      let names = both (is_word 48 name) (is_word 48 kind) more.0 in
+      let typed = first_clear (is_none (type_of F kind)) 10 ((is_some (board_of F name), 13) ∷ []) is.clear in
+      let absent = first_clear (is_some (board_of F name)) 13 [] typed.1 in
+      let rooms = both_false (nat_le 256 (length F.boards)) (nat_le 64 (length (filter (λ b. bytes_eq b.kind kind) F.boards))) is.room in
+      acted_one F (put_board F (new_board name kind tags)) 0 refl (omega arith)
+      (IsSound-put_board F (new_board name kind tags)
+      (record {
+        name = names.0;
+        kind = IsSome-from (type_of F kind) typed.0;
+        tags = more.1;
+        no_name_tag = words.1;
+        since = omega arith;
+        checked = omega arith;
+        retired = λ _. refl;
+      })
+      (none_of (board_of F name) absent.0) refl refl (let r = rooms.0 in grind (arith, nat_tests)) (let r = rooms.1 in grind (arith, nat_tests)) sound)
+
+  pub acted_set_tags : (name : List ℕ) (tags : List (List ℕ)) → IsAccepted F t caller (Cmd.SetTags name tags) → Acted F (act F caller (Cmd.SetTags name tags))
+  unfolding is_proper_cmd
+  acted_set_tags name tags is =
+      let words = both (is_word 48 name && is_tags tags) (has_no_name_tag tags) is.proper in
+      let more = both (is_word 48 name) (is_tags tags) words.0 in
+      let clear = first_clear (is_none (board_of F name)) 12 ((option_map_or is_retired (board_of F name) false, 15) ∷ []) is.clear in
+      let b = some_of (board_of F name) clear.0 in
+      subst (λ o. Acted F (done 0 (option_map_or (λ b. put_board F (record b { tags = tags })) o F))) (sym b.1)
+      (acted_one F (put_board F (record b.0 { tags = tags })) 0 refl (omega arith)
+      (IsSound-replace_board F name b.0 (record b.0 { tags = tags }) b.1 (record { name = refl; kind = refl; holder = refl; state = refl })
+      (λ old. record {
+        name = old.name;
+        kind = old.kind;
+        tags = more.1;
+        no_name_tag = words.1;
+        since = old.since;
+        checked = old.checked;
+        retired = old.retired;
+      }) sound))
+
+  pub acted_set_health : (name : List ℕ) (health : Health) → IsAccepted F t caller (Cmd.SetHealth name health) → Acted F (act F caller (Cmd.SetHealth name health))
+  acted_set_health name health is =
+      let last = λ (o : Option BoardRow). same_health health Health.Retired && option_map_or (λ b. not (is_nobody b.holder)) o false in
+      let clear = first_clear (is_none (board_of F name)) 12 ((option_map_or is_retired (board_of F name) false, 15) ∷ (last (board_of F name), 14) ∷ []) is.clear in
+      let b = some_of (board_of F name) clear.0 in
+      let second = first_clear (option_map_or is_retired (board_of F name) false) 15 ((last (board_of F name), 14) ∷ []) clear.1 in
+      let third = first_clear (last (board_of F name)) 14 [] second.1 in
+      subst (λ o. Acted F (done 0 (option_map_or (λ b. put_board F (record b { health = health })) o F))) (sym b.1)
+      (acted_one F (put_board F (record b.0 { health = health })) 0 refl (omega arith)
+      (IsSound-replace_board F name b.0 (record b.0 { health = health }) b.1 (record { name = refl; kind = refl; holder = refl; state = refl })
+      (λ old. record {
+        name = old.name;
+        kind = old.kind;
+        tags = old.tags;
+        no_name_tag = old.no_name_tag;
+        since = old.since;
+        checked = old.checked;
+        retired = retired_idle health b.0.holder (sym (ap last b.1) ∙ third.0);
+      }) sound))

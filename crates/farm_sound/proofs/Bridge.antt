@@ -1,0 +1,92 @@
+-- A change where a test passes is one put after another of the changed rows.
+use Rattle.std.proofs.Common.{◌≡◌, ℕ, ◌==◌, List, [], ◌∷◌, map, Some, Bool, true, false, cond, refl, sym, ap, ◌∙◌, arith}
+use Rattle.std.specs.List.{AllByRecursion, find, filter}
+use Rattle.std.specs.List.Sorted.{IsStrictlySortedBy}
+use Rattle.std.specs.Cmp.{IsTotalOrder, nat_cmp_total}
+use Rattle.std.specs.Cmp.Lexicographic.{nat_list_cmp_total, nat_list_eq_equiv}
+use Rattle.std.specs.Str.{bytes_eq}
+use Rattle.std.specs.Ordering.{match_ordering, ordering_reverse, nat_cmp, is_eq}
+use Rattle.std.specs.declared.cmp.Ordering.TheVariants.{Less, Equal, Greater}
+use Rattle.std.specs.declared.cmp.Ordering.{Ordering}
+use Rattle.std.proofs.lemmas.Bool.Decides.{nat_tests}
+use Rattle.std.proofs.lemmas.Cmp.{ranked, tied_itself}
+use Rattle.std.proofs.lemmas.Map.Text.{is_eq-slice_cmp}
+use Rattle.std.proofs.lemmas.Slice.Eq.{bytes_eq-Decides}
+use Rattle.farm_types.specs.Words.{text_cmp}
+use Rattle.farm_types.specs.Table.{put, put_all, change_where, board_cmp, job_cmp, res_cmp}
+use Rattle.farm_types.specs.declared.rows.BoardRow.{BoardRow}
+use Rattle.farm_types.specs.declared.rows.JobRow.{JobRow}
+use Rattle.farm_types.specs.declared.rows.ResRow.{ResRow}
+use Rattle.farm_types.proofs.Put.{AllByRecursion-weaker}
+use Rattle.farm_sound.proofs.Where.{AllByRecursion-map}
+use Rattle.farm_sound.proofs.Group.{filter_all}
+
+module _ {R : Type 0} (cmp : R → R → Ordering) (total : IsTotalOrder cmp) (test : R → Bool) (f : R → R) (keeps : (r : R) → cmp (f r) r ≡ Equal) where
+  -- rows above the first one leave it in its place
+  above : (r : R) (changed rows : List R) → AllByRecursion (λ c. cmp c r ≡ Greater) changed → put_all cmp (r ∷ rows) changed ≡ r ∷ put_all cmp rows changed
+  above r [] rows all = refl
+  above r (c ∷ changed) rows all =
+      ap (λ o. put_all cmp (match_ordering o (c ∷ r ∷ rows) (c ∷ rows) (r ∷ put cmp rows c)) changed) all.0 ∙ above r changed (put cmp rows c) all.1
+
+  changed_above : (r s : R) (rows : List R) → cmp s r ≡ Equal → AllByRecursion (λ y. cmp r y ≡ Less) rows → AllByRecursion (λ c. cmp c s ≡ Greater) (map f (filter test rows))
+  changed_above r s rows same less =
+      AllByRecursion-map (λ y. cmp r y ≡ Less) (λ c. cmp c s ≡ Greater) f
+      (λ y is. total.congr (f y) y s (keeps y) ∙ total.antisymm y s ∙ ap ordering_reverse (total.congr s r y same ∙ is))
+      (filter test rows) (AllByRecursion-weaker (λ y two. two.0) (filter test rows) (filter_all (λ y. cmp r y ≡ Less) test rows less))
+
+  pub puts_are_change : (rows : List R) → IsStrictlySortedBy cmp rows → put_all cmp rows (map f (filter test rows)) ≡ change_where test f rows
+  unfolding IsStrictlySortedBy
+  puts_are_change [] sorted = refl
+  puts_are_change (r ∷ rows) sorted = by (test r) (puts_are_change rows sorted.1)
+    where
+      by : (v : Bool) → put_all cmp rows (map f (filter test rows)) ≡ change_where test f rows → put_all cmp (r ∷ rows) (map f (cond v (r ∷ filter test rows) (filter test rows))) ≡ cond v (f r) r ∷ change_where test f rows
+      by true rest =
+          ap (λ o. put_all cmp (match_ordering o (f r ∷ r ∷ rows) (f r ∷ rows) (r ∷ put cmp rows (f r))) (map f (filter test rows))) (keeps r)
+          ∙ above (f r) (map f (filter test rows)) rows (changed_above r (f r) rows (keeps r) sorted.0)
+          ∙ ap (λ rest. f r ∷ rest) rest
+      by false rest = above r (map f (filter test rows)) rows (changed_above r r rows (tied_itself total r) sorted.0) ∙ ap (λ rest. r ∷ rest) rest
+
+-- ---- one row
+
+none_pass : {R : Type 0} (test : R → Bool) (rows : List R) → AllByRecursion (λ r. test r ≡ false) rows → filter test rows ≡ []
+none_pass test [] all = refl
+none_pass test (r ∷ rows) all = rw all.0 (none_pass test rows all.1)
+
+-- of rows in order only the one that is found passes a test by the key
+filter_one : {R : Type 0} (cmp : R → R → Ordering) (test : R → Bool) → ((x y : R) → cmp x y ≡ Less → test x ≡ true → test y ≡ false) → (r : R) (rows : List R)
+    → IsStrictlySortedBy cmp rows → find test rows ≡ Some r → filter test rows ≡ r ∷ []
+unfolding IsStrictlySortedBy
+filter_one cmp test apart r [] sorted found = cc
+filter_one cmp test apart r (x ∷ rows) sorted found = by (test x) refl found (λ later. filter_one cmp test apart r rows sorted.1 later)
+  where
+    by : (v : Bool) → test x ≡ v → cond v (Some x) (find test rows) ≡ Some r → (find test rows ≡ Some r → filter test rows ≡ r ∷ [])
+        → cond v (x ∷ filter test rows) (filter test rows) ≡ r ∷ []
+    by true is here rest =
+        let same : x ≡ r = cc in
+        let none : filter test rows ≡ [] = none_pass test rows (AllByRecursion-weaker (λ y less. apart x y less is) rows sorted.0) in
+        (λ i. same i ∷ none i)
+    by false is here rest = rest here
+
+-- changing it is putting the changed one
+pub put_is_change : {R : Type 0} (cmp : R → R → Ordering) (total : IsTotalOrder cmp) (test : R → Bool) (f : R → R) → ((r : R) → cmp (f r) r ≡ Equal)
+    → ((x y : R) → cmp x y ≡ Less → test x ≡ true → test y ≡ false) → (r : R) (rows : List R) → IsStrictlySortedBy cmp rows → find test rows ≡ Some r
+    → put cmp rows (f r) ≡ change_where test f rows
+put_is_change cmp total test f keeps apart r rows sorted found =
+    sym (ap (λ xs. put_all cmp rows (map f xs)) (filter_one cmp test apart r rows sorted found)) ∙ puts_are_change cmp total test f keeps rows sorted
+
+pub job_keeps : (f : JobRow → JobRow) → ((k : JobRow) → (f k).number ≡ k.number) → (j : JobRow) → job_cmp (f j) j ≡ Equal
+job_keeps f keeps j = ap (λ n. nat_cmp n j.number) (keeps j) ∙ tied_itself nat_cmp_total j.number
+
+pub res_keeps : (f : ResRow → ResRow) → ((q : ResRow) → (f q).number ≡ q.number) → (r : ResRow) → res_cmp (f r) r ≡ Equal
+res_keeps f keeps r = ap (λ n. nat_cmp n r.number) (keeps r) ∙ tied_itself nat_cmp_total r.number
+
+pub board_keeps : (f : BoardRow → BoardRow) → ((c : BoardRow) → (f c).name ≡ c.name) → (b : BoardRow) → board_cmp (f b) b ≡ Equal
+board_keeps f keeps b = ap (λ n. text_cmp n b.name) (keeps b) ∙ tied_itself nat_list_cmp_total b.name
+
+pub numbers_apart : (n a b : ℕ) → nat_cmp a b ≡ Less → (a == n) ≡ true → (b == n) ≡ false
+numbers_apart n a b less same = let below = ranked a b Less (sym less) in grind (arith, nat_tests)
+
+pub names_apart : (n a b : List ℕ) → text_cmp a b ≡ Less → bytes_eq a n ≡ true → bytes_eq b n ≡ false
+names_apart n a b less same =
+    let e : a ≡ n = (bytes_eq-Decides a n).0 same in
+    nat_list_eq_equiv.symm b n ∙ sym (ap (λ x. bytes_eq x b) e) ∙ sym (is_eq-slice_cmp a b) ∙ ap is_eq less

@@ -1,0 +1,119 @@
+-- Who holds which board, told by keys, after rows have changed.
+use Rattle.std.proofs.Common.{◌≡◌, ℕ, ◌==◌, Bool, true, false, cond, List, map, Option, Some, None, IsSomeAnd, refl, sym, ap, ◌∙◌, subst, arith}
+use mathlib.Core.Bool.{true≢false}
+use Rattle.std.specs.List.{AllByRecursion}
+use Rattle.std.specs.Option.{option_map, option_map_or}
+use Rattle.std.specs.Str.{bytes_eq}
+use Rattle.std.proofs.lemmas.Bool.Decides.{nat_tests}
+use Rattle.farm_types.specs.Farm.{Farm, board_of, job_of, res_of}
+use Rattle.farm_types.specs.Sound.{IsHeldBy, IsHeldByKeys, Hold, hold, hold_of, job_hold, res_hold, job_gives, res_gives, shown}
+use Rattle.farm_types.specs.declared.rows.Holder.{Holder}
+use Rattle.farm_types.specs.declared.rows.State.{State}
+use Rattle.farm_types.specs.declared.rows.BoardRow.{BoardRow}
+use Rattle.farm_types.specs.declared.rows.JobRow.{JobRow}
+use Rattle.farm_types.specs.declared.rows.ResRow.{ResRow}
+use Rattle.farm_types.proofs.Put.{found_has, found_passes}
+use Rattle.farm_sound.proofs.Where.{AllByRecursion-map, by_cases}
+
+-- a hold names its holder
+pub hold_names : (h : Holder) (board : Option (List ℕ)) (state : Option State) (x : Hold) → hold h board state ≡ Some x → x.holder ≡ h
+hold_names h None state x is = cc
+hold_names h (Some name) None x is = cc
+hold_names h (Some name) (Some state) x is = let e : record { board = name; holder = h; state = state } ≡ x = cc in sym (ap (λ (y : Hold). y.holder) e)
+
+pub holder_is : (F : Farm) (h : Holder) (x : Hold) → hold_of F h ≡ Some x → x.holder ≡ h
+holder_is F Holder.Nobody x is = cc
+holder_is F (Holder.Job n) x is = by (job_of F n) refl is
+  where
+    by : (o : Option JobRow) → job_of F n ≡ o → option_map_or job_hold o None ≡ Some x → x.holder ≡ Holder.Job n
+    by None there is = cc
+    by (Some j) there is =
+        let e : j.number ≡ n = (let p = found_passes (λ (r : JobRow). r.number == n) j F.jobs there in grind (arith, nat_tests)) in
+        hold_names (Holder.Job j.number) j.board (job_gives j.state) x is ∙ ap Holder.Job e
+holder_is F (Holder.Res n) x is = by (res_of F n) refl is
+  where
+    by : (o : Option ResRow) → res_of F n ≡ o → option_map_or res_hold o None ≡ Some x → x.holder ≡ Holder.Res n
+    by None there is = cc
+    by (Some r) there is =
+        let e : r.number ≡ n = (let p = found_passes (λ (r : ResRow). r.number == n) r F.reservations there in grind (arith, nat_tests)) in
+        hold_names (Holder.Res r.number) r.board (res_gives r.state) x is ∙ ap Holder.Res e
+
+-- a board's holder that holds something holds this board
+pub held_is : (F : Farm) (b : BoardRow) (h : Holder) (x : Hold) → IsHeldBy F b h → hold_of F h ≡ Some x → x ≡ shown b
+held_is F b Holder.Nobody x told is = cc
+held_is F b (Holder.Job n) x told is = cc
+held_is F b (Holder.Res n) x told is = cc
+
+pub held_from : (F : Farm) (b : BoardRow) (h : Holder) → hold_of F h ≡ Some (shown b) → IsHeldBy F b h
+held_from F b Holder.Nobody is = cc
+held_from F b (Holder.Job n) is = is
+held_from F b (Holder.Res n) is = is
+
+-- the board after its holder's row has changed: in nobody's hands, or in the same ones
+abbrev pub IsLeft : Option Hold → BoardRow → Type 0
+IsLeft None b = (b.holder ≡ Holder.Nobody) × (b.state ≡ State.Idle)
+IsLeft (Some x) b = x ≡ shown b
+
+-- some holders' rows change, and the boards that they hold
+module _ (F G : Farm) (moved : Holder → Bool) (g : BoardRow → BoardRow) where
+  pub record Regives : Type 0 where
+    pub nobody : moved Holder.Nobody ≡ false
+    pub name : (b : BoardRow) → (g b).name ≡ b.name
+    pub boards : (name : List ℕ) → board_of G name ≡ option_map (λ b. cond (moved b.holder) (g b) b) (board_of F name)
+    pub stays : (h : Holder) → moved h ≡ false → hold_of G h ≡ hold_of F h
+    pub gains_none : (h : Holder) → moved h ≡ true → hold_of F h ≡ None → hold_of G h ≡ None
+    pub gives : (h : Holder) (b : BoardRow) → moved h ≡ true → b.holder ≡ h → hold_of F h ≡ Some (shown b) → IsLeft (hold_of G h) (g b)
+
+  left_told : (b : BoardRow) (h : Holder) (o : Option Hold) → hold_of G h ≡ o → b.holder ≡ h → IsLeft o (g b) → IsHeldBy G (g b) (g b).holder
+  left_told b h None is mine left = subst (λ k. IsHeldBy G (g b) k) (sym left.0) left.1
+  left_told b h (Some x) is mine left =
+      let same : (g b).holder ≡ h = sym (ap (λ (y : Hold). y.holder) left) ∙ holder_is G h x is in
+      subst (λ k. IsHeldBy G (g b) k) (sym same) (held_from G (g b) h (is ∙ ap Some left))
+
+  stays_told : Regives → (b : BoardRow) (h : Holder) → moved h ≡ false → IsHeldBy F b h → IsHeldBy G b h
+  stays_told re b Holder.Nobody apart told = told
+  stays_told re b (Holder.Job n) apart told = re.stays (Holder.Job n) apart ∙ told
+  stays_told re b (Holder.Res n) apart told = re.stays (Holder.Res n) apart ∙ told
+
+  moved_told : Regives → (b : BoardRow) (h : Holder) → moved h ≡ true → b.holder ≡ h → IsHeldBy F b h → IsHeldBy G (g b) (g b).holder
+  moved_told re b Holder.Nobody so mine told = absurd (true≢false (sym so ∙ re.nobody))
+  moved_told re b (Holder.Job n) so mine told = left_told b (Holder.Job n) (hold_of G (Holder.Job n)) refl mine (re.gives (Holder.Job n) b so mine told)
+  moved_told re b (Holder.Res n) so mine told = left_told b (Holder.Res n) (hold_of G (Holder.Res n)) refl mine (re.gives (Holder.Res n) b so mine told)
+
+  told_after : Regives → (b : BoardRow) → IsHeldBy F b b.holder → IsHeldBy G (cond (moved b.holder) (g b) b) (cond (moved b.holder) (g b) b).holder
+  told_after re b told =
+      by_cases (λ c. IsHeldBy G c c.holder) (moved b.holder) (g b) b (λ so. moved_told re b b.holder so refl told) (λ apart. stays_told re b b.holder apart told)
+
+  rows_after : Regives → IsHeldByKeys F → (h : Holder) (x : Hold) → hold_of G h ≡ Some x → IsSomeAnd (board_of G x.board) (λ b. b.holder ≡ h)
+  rows_after re held h x is = by (moved h) refl
+    where
+      -- a board that h holds in F
+      there : (y : Hold) → hold_of F h ≡ Some y → (o : Option BoardRow) → board_of F y.board ≡ o → IsSomeAnd o (λ b. b.holder ≡ h) → (b : BoardRow) × (board_of F y.board ≡ Some b) × (b.holder ≡ h) × (y ≡ shown b)
+      there y was None found told = absurd told
+      there y was (Some b) found told =
+          (b, found, told, held_is F b h y (subst (IsHeldBy F b) told (found_has (λ b. IsHeldBy F b b.holder) (λ r. bytes_eq r.name y.board) b F.boards held.boards found)) was)
+
+      by_hold : moved h ≡ true → (o : Option Hold) → hold_of F h ≡ o → IsSomeAnd (board_of G x.board) (λ b. b.holder ≡ h)
+      by_hold so None was = let n : hold_of G h ≡ None = re.gains_none h so was in cc
+      by_hold so (Some y) was =
+          let t = there y was (board_of F y.board) refl (held.rows h y was) in
+          let b : BoardRow = t.0 in
+          let left : x ≡ shown (g b) = subst (λ o. IsLeft o (g b)) is (re.gives h b so t.2 (was ∙ ap Some t.3)) in
+          let here : x.board ≡ y.board = ap (λ (z : Hold). z.board) left ∙ re.name b ∙ sym (ap (λ (z : Hold). z.board) t.3) in
+          let found : board_of G x.board ≡ Some (g b) = ap (board_of G) here ∙ re.boards y.board ∙ ap (option_map (λ b. cond (moved b.holder) (g b) b)) t.1 ∙ ap (λ v. Some (cond v (g b) b)) (ap moved t.2 ∙ so) in
+          rw found (sym (ap (λ (z : Hold). z.holder) left) ∙ holder_is G h x is)
+
+      by : (v : Bool) → moved h ≡ v → IsSomeAnd (board_of G x.board) (λ b. b.holder ≡ h)
+      by true so = by_hold so (hold_of F h) refl
+      by false apart =
+          let was : hold_of F h ≡ Some x = sym (re.stays h apart) ∙ is in
+          let t = there x was (board_of F x.board) refl (held.rows h x was) in
+          let b : BoardRow = t.0 in
+          let found : board_of G x.board ≡ Some b = re.boards x.board ∙ ap (option_map (λ b. cond (moved b.holder) (g b) b)) t.1 ∙ ap (λ v. Some (cond v (g b) b)) (ap moved t.2 ∙ apart) in
+          rw found t.2
+
+  pub IsHeldByKeys-regiven : Regives → G.boards ≡ map (λ b. cond (moved b.holder) (g b) b) F.boards → IsHeldByKeys F → IsHeldByKeys G
+  IsHeldByKeys-regiven re same held = record {
+    boards = subst (AllByRecursion (λ b. IsHeldBy G b b.holder)) (sym same) (AllByRecursion-map (λ b. IsHeldBy F b b.holder) (λ b. IsHeldBy G b b.holder) (λ b. cond (moved b.holder) (g b) b) (told_after re) F.boards held.boards);
+    rows = rows_after re held;
+  }

@@ -1,0 +1,164 @@
+-- The first list of boards that meets the wants is the least one.
+use Rattle.std.proofs.Common.{◌≡◌, ℕ, zero, suc, ◌++◌, map, ◌&&◌, Bool, true, false, cond, List, [], ◌∷◌, length, Some, None, refl, sym, ap, ◌∙◌, subst, arith, inl, inr, Ordering}
+use mathlib.Core.Bool.{false≢true}
+use Rattle.std.specs.List.{AllByRecursion, find, flat_map, list_all}
+use Rattle.std.specs.List.Sorted.{IsStrictlySortedBy}
+use Rattle.std.specs.Ordering.{ordering_reverse, is_lt}
+use Rattle.std.specs.declared.cmp.Ordering.TheVariants.{Less}
+use Rattle.std.specs.Cmp.{IsTotalOrder, on_total}
+use Rattle.std.specs.Cmp.Lexicographic.{nat_list_cmp_total, lists_total, pointwise, as_long}
+use Rattle.std.specs.Cmp.{first_so}
+use Rattle.std.proofs.lemmas.Cmp.{tied_itself}
+use Rattle.farm_types.specs.Table.{board_cmp}
+use Rattle.farm_types.specs.Pick.{Among, AreAmong, IsLeast, names_cmp, lists_of, least, meets, fits, are_apart}
+use Rattle.farm_types.specs.declared.rows.BoardRow.{BoardRow}
+use Rattle.farm_types.specs.declared.rows.Want.{Want}
+use Rattle.farm_types.proofs.Put.{AllByRecursion-weaker, found_has, found_passes}
+
+among_all : {A : Type 0} (P : A → Type 0) (x : A) (xs : List A) → AllByRecursion P xs → Among x xs → P x
+among_all P x [] all at = absurd at
+among_all P x (y ∷ ys) all (inl same) = subst P (sym same) all.0
+among_all P x (y ∷ ys) all (inr at) = among_all P x ys all.1 at
+
+among_left : {A : Type 0} (x : A) (xs ys : List A) → Among x xs → Among x (xs ++ ys)
+among_left x [] ys at = absurd at
+among_left x (y ∷ xs) ys (inl same) = inl same
+among_left x (y ∷ xs) ys (inr at) = inr (among_left x xs ys at)
+
+among_right : {A : Type 0} (x : A) (xs ys : List A) → Among x ys → Among x (xs ++ ys)
+among_right x [] ys at = at
+among_right x (y ∷ xs) ys at = inr (among_right x xs ys at)
+
+among_map : {A B : Type 0} (f : A → B) (x : A) (xs : List A) → Among x xs → Among (f x) (map f xs)
+among_map f x [] at = absurd at
+among_map f x (y ∷ ys) (inl same) = inl (ap f same)
+among_map f x (y ∷ ys) (inr at) = inr (among_map f x ys at)
+
+among_flat : {A B : Type 0} (f : A → List B) (x : A) (z : B) (xs : List A) → Among x xs → Among z (f x) → Among z (flat_map f xs)
+among_flat f x z [] at here = absurd at
+among_flat f x z (y ∷ ys) (inl same) here = among_left z (f y) (flat_map f ys) (subst (λ w. Among z (f w)) same here)
+among_flat f x z (y ∷ ys) (inr at) here = among_right z (f y) (flat_map f ys) (among_flat f x z ys at here)
+
+-- each list of so many of the boards is one of the lists
+pub among_lists : (boards : List BoardRow) (n : ℕ) (cs : List BoardRow) → length cs ≡ n → AllByRecursion (λ c. Among c boards) cs → Among cs (lists_of n boards)
+among_lists boards zero [] long all = inl refl
+among_lists boards zero (c ∷ cs) long all = absurd (omega arith)
+among_lists boards (suc n) [] long all = absurd (omega arith)
+among_lists boards (suc n) (c ∷ cs) long all =
+    among_flat (λ b. map (λ bs. b ∷ bs) (lists_of n boards)) c (c ∷ cs) boards all.0
+    (among_map (λ bs. c ∷ bs) cs (lists_of n boards) (among_lists boards n cs (omega arith) all.1))
+
+module _ {A : Type 0} (cmp : A → A → Ordering) (total : IsTotalOrder cmp) where
+  -- the first that passes is the least that passes
+  pub first_is_least : (p : A → Bool) (b c : A) (xs : List A) → IsStrictlySortedBy cmp xs → find p xs ≡ Some b → Among c xs → p c ≡ true → is_lt (cmp c b) ≡ false
+  unfolding IsStrictlySortedBy
+  first_is_least p b c [] sorted found at passes = absurd at
+  first_is_least p b c (x ∷ xs) sorted found at passes = by (first_is_least p b c xs sorted.1) (p x) refl found at
+    where
+      by : (find p xs ≡ Some b → Among c xs → p c ≡ true → is_lt (cmp c b) ≡ false) → (v : Bool) → p x ≡ v → cond v (Some x) (find p xs) ≡ Some b → Among c (x ∷ xs) → is_lt (cmp c b) ≡ false
+      by rest true is here (inl same) = let e : x ≡ b = cc in ap is_lt (ap (λ z. cmp z b) (same ∙ e) ∙ tied_itself total b)
+      by rest true is here (inr later) =
+          let e : x ≡ b = cc in
+          let less : cmp b c ≡ Less = subst (λ z. cmp z c ≡ Less) e (among_all (λ y. cmp x y ≡ Less) c xs sorted.0 later) in
+          ap is_lt (total.antisymm c b ∙ ap ordering_reverse less)
+      by rest false is here (inl same) = absurd (false≢true (sym is ∙ sym (ap p same) ∙ passes))
+      by rest false is here (inr later) = rest here later passes
+
+  all_append : (P : A → Type 0) (xs ys : List A) → AllByRecursion P xs → AllByRecursion P ys → AllByRecursion P (xs ++ ys)
+  all_append P [] ys all more = more
+  all_append P (x ∷ xs) ys all more = (all.0, all_append P xs ys all.1 more)
+
+  sorted_append : (xs ys : List A) → IsStrictlySortedBy cmp xs → IsStrictlySortedBy cmp ys → AllByRecursion (λ x. AllByRecursion (λ y. cmp x y ≡ Less) ys) xs → IsStrictlySortedBy cmp (xs ++ ys)
+  unfolding IsStrictlySortedBy
+  sorted_append [] ys sx sy below = sy
+  sorted_append (x ∷ xs) ys sx sy below = (all_append (λ y. cmp x y ≡ Less) xs ys sx.0 below.0, sorted_append xs ys sx.1 sy below.1)
+
+all_map : {A B : Type 0} (P : B → Type 0) (f : A → B) (xs : List A) → ((x : A) → P (f x)) → AllByRecursion P (map f xs)
+all_map P f [] each = tt
+all_map P f (x ∷ xs) each = (each x, all_map P f xs each)
+
+all_join : {A : Type 0} (P : A → Type 0) (xs ys : List A) → AllByRecursion P xs → AllByRecursion P ys → AllByRecursion P (xs ++ ys)
+all_join P [] ys all more = more
+all_join P (x ∷ xs) ys all more = (all.0, all_join P xs ys all.1 more)
+
+all_flat : {A B : Type 0} (P : B → Type 0) (Q : A → Type 0) (f : A → List B) (xs : List A) → AllByRecursion Q xs → ((x : A) → Q x → AllByRecursion P (f x)) → AllByRecursion P (flat_map f xs)
+all_flat P Q f [] all each = tt
+all_flat P Q f (x ∷ xs) all each = all_join P (f x) (flat_map f xs) (each x all.0) (all_flat P Q f xs all.1 each)
+
+board_total : IsTotalOrder board_cmp
+board_total = on_total (λ (r : BoardRow). r.name) nat_list_cmp_total
+
+-- lists that begin with one board are in the order of their rests
+block_sorted : (b : BoardRow) (xs : List (List BoardRow)) → IsStrictlySortedBy names_cmp xs → IsStrictlySortedBy names_cmp (map (λ bs. b ∷ bs) xs)
+unfolding IsStrictlySortedBy
+block_sorted b [] sorted = tt
+block_sorted b (x ∷ xs) sorted = (heads xs sorted.0, block_sorted b xs sorted.1)
+  where
+    heads : (ys : List (List BoardRow)) → AllByRecursion (λ y. names_cmp x y ≡ Less) ys → AllByRecursion (λ y. names_cmp (b ∷ x) y ≡ Less) (map (λ bs. b ∷ bs) ys)
+    heads [] all = tt
+    heads (y ∷ ys) all = (rw (tied_itself board_total b) all.0, heads ys all.1)
+
+-- so are all lists that begin with boards in order, block after block
+flat_sorted : (rest : List (List BoardRow)) → IsStrictlySortedBy names_cmp rest → (boards : List BoardRow) → IsStrictlySortedBy board_cmp boards → IsStrictlySortedBy names_cmp (flat_map (λ b. map (λ bs. b ∷ bs) rest) boards)
+unfolding IsStrictlySortedBy
+flat_sorted rest sorted [] bs = tt
+flat_sorted rest sorted (b ∷ boards) bs =
+    sorted_append names_cmp (lists_total board_total) (map (λ bs. b ∷ bs) rest) (flat_map (λ b. map (λ bs. b ∷ bs) rest) boards) (block_sorted b rest sorted) (flat_sorted rest sorted boards bs.1)
+    (all_map (λ x. AllByRecursion (λ y. names_cmp x y ≡ Less) (flat_map (λ b. map (λ bs. b ∷ bs) rest) boards)) (λ bs. b ∷ bs) rest
+    (λ xs. all_flat (λ y. names_cmp (b ∷ xs) y ≡ Less) (λ c. board_cmp b c ≡ Less) (λ c. map (λ bs. c ∷ bs) rest) boards bs.0
+    (λ c less. all_map (λ y. names_cmp (b ∷ xs) y ≡ Less) (λ bs. c ∷ bs) rest (λ cs. rw less))))
+
+-- all lists of so many boards in name order are in order
+pub lists_sorted : (boards : List BoardRow) → IsStrictlySortedBy board_cmp boards → (n : ℕ) → IsStrictlySortedBy names_cmp (lists_of n boards)
+unfolding IsStrictlySortedBy
+lists_sorted boards sorted zero = (tt, tt)
+lists_sorted boards sorted (suc n) = flat_sorted (lists_of n boards) (lists_sorted boards sorted n) boards sorted
+
+long_as_wants : (test : BoardRow → Bool) (wants : List Want) (cs : List BoardRow) → meets test wants cs ≡ true → length cs ≡ length wants
+long_as_wants test wants cs is =
+    as_long fits cs wants (first_so (pointwise fits cs wants) (are_apart cs) (first_so (pointwise fits cs wants && are_apart cs) (list_all test cs) is))
+
+-- no list that meets the wants comes before the one that is found
+pub least_is_least : (boards : List BoardRow) (test : BoardRow → Bool) (wants : List Want) (bs cs : List BoardRow) → IsStrictlySortedBy board_cmp boards → least boards test wants ≡ Some bs → AllByRecursion (λ c. Among c boards) cs → meets test wants cs ≡ true → is_lt (names_cmp cs bs) ≡ false
+unfolding least
+least_is_least boards test wants bs cs sorted found among meeting =
+    first_is_least names_cmp (lists_total board_total) (meets test wants) bs cs (lists_of (length wants) boards) (lists_sorted boards sorted (length wants)) found
+    (among_lists boards (length wants) cs (long_as_wants test wants cs meeting) among) meeting
+
+none_found : {A : Type 0} (p : A → Bool) (c : A) (xs : List A) → find p xs ≡ None → Among c xs → p c ≡ true → ⊥
+none_found p c [] none at passes = at
+none_found p c (x ∷ xs) none at passes = by (none_found p c xs) (p x) refl none at
+  where
+    by : (find p xs ≡ None → Among c xs → p c ≡ true → ⊥) → (v : Bool) → p x ≡ v → cond v (Some x) (find p xs) ≡ None → Among c (x ∷ xs) → ⊥
+    by rest true is here at' = cc
+    by rest false is here (inl same) = false≢true (sym is ∙ sym (ap p same) ∙ passes)
+    by rest false is here (inr later) = rest here later passes
+
+-- where none is found, no list meets the wants
+pub none_meets : (boards : List BoardRow) (test : BoardRow → Bool) (wants : List Want) (cs : List BoardRow) → least boards test wants ≡ None → AllByRecursion (λ c. Among c boards) cs → meets test wants cs ≡ true → ⊥
+unfolding least
+none_meets boards test wants cs none among meeting =
+    none_found (meets test wants) cs (lists_of (length wants) boards) none (among_lists boards (length wants) cs (long_as_wants test wants cs meeting) among) meeting
+
+all_self : {A : Type 0} (xs : List A) → AllByRecursion (λ x. Among x xs) xs
+all_self [] = tt
+all_self (x ∷ xs) = (inl refl, AllByRecursion-weaker (λ y at. inr at) xs (all_self xs))
+
+all_map_from : {A B : Type 0} (Q : A → Type 0) (P : B → Type 0) (f : A → B) → ((x : A) → Q x → P (f x)) → (xs : List A) → AllByRecursion Q xs → AllByRecursion P (map f xs)
+all_map_from Q P f each [] all = tt
+all_map_from Q P f each (x ∷ xs) all = (each x all.0, all_map_from Q P f each xs all.1)
+
+lists_among : (boards : List BoardRow) (n : ℕ) → AllByRecursion (AreAmong boards) (lists_of n boards)
+lists_among boards zero = (tt, tt)
+lists_among boards (suc n) =
+    all_flat (AreAmong boards) (λ b. Among b boards) (λ b. map (λ bs. b ∷ bs) (lists_of n boards)) boards (all_self boards)
+    (λ b at. all_map_from (AreAmong boards) (AreAmong boards) (λ bs. b ∷ bs) (λ bs all. (at, all)) (lists_of n boards) (lists_among boards n))
+
+-- what is found is the least list
+pub IsLeast-least : (boards : List BoardRow) (test : BoardRow → Bool) (wants : List Want) (bs : List BoardRow) → IsStrictlySortedBy board_cmp boards → least boards test wants ≡ Some bs → IsLeast boards test wants bs
+unfolding least
+IsLeast-least boards test wants bs sorted found = record {
+  among = found_has (AreAmong boards) (meets test wants) bs (lists_of (length wants) boards) (lists_among boards (length wants)) found;
+  meeting = found_passes (meets test wants) bs (lists_of (length wants) boards) found;
+  least = λ cs among meeting. least_is_least boards test wants bs cs sorted found among meeting;
+}

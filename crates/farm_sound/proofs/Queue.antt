@@ -1,0 +1,200 @@
+-- The queue is the claims in their order, each once.
+use Rattle.std.proofs.Common.{◌≡◌, ℕ, ◌==◌, ◌⊎◌, inl, inr, ◌++◌, Bool, true, false, cond, List, [], ◌∷◌, map, Some, IsNone, refl, sym, ap, ◌∙◌, subst, arith}
+use mathlib.Core.Bool.{true≢false}
+use Rattle.std.specs.List.{AllByRecursion, find, filter}
+use Rattle.std.specs.List.Sorted.{IsStrictlySortedBy, IsPermutation}
+use Rattle.std.specs.Cmp.{IsTotalOrder}
+use Rattle.std.specs.Ordering.{match_ordering, ordering_reverse, ordering_then, nat_cmp}
+use Rattle.std.specs.declared.cmp.Ordering.TheVariants.{Less, Equal, Greater}
+use Rattle.std.specs.declared.cmp.Ordering.{Ordering}
+use Rattle.std.proofs.lemmas.Cmp.{ranked}
+use Rattle.std.proofs.lemmas.List.Sorted.{IsPermutation-refl, IsPermutation-sym, IsPermutation-cons, IsPermutation-trans, IsPermutation-middle, IsPermutation-append_right}
+use Rattle.farm_types.specs.Table.{put, put_all, job_cmp, res_cmp}
+use Rattle.farm_types.specs.Farm.{Farm, res_of}
+use Rattle.farm_types.specs.Pick.{Among, Claimed, claim_cmp, claims, queue, is_waiting, res_claim, leads_claim, group_claim}
+use Rattle.farm_types.specs.Sound.{EachTwo, IsSteady, IsJobRow}
+use Rattle.farm_types.specs.declared.rows.JobRow.{JobRow}
+use Rattle.farm_types.specs.declared.rows.ResRow.{ResRow}
+use Rattle.farm_types.proofs.Put.{AllByRecursion-put, AllByRecursion-weaker}
+use Rattle.farm_sound.proofs.Where.{AllByRecursion-map, AllByRecursion-both}
+use Rattle.farm_sound.proofs.Own.{own_res}
+use Rattle.farm_sound.proofs.Group.{filter_all}
+use Rattle.farm_sound.proofs.Serve.{IsClaim, all_join, claim_total, leads}
+
+-- ---- each two of a list
+
+each_append : {A : Type 0} (R : A → A → Type 0) (xs ys : List A) → EachTwo R xs → EachTwo R ys → AllByRecursion (λ x. AllByRecursion (R x) ys) xs → EachTwo R (xs ++ ys)
+each_append R [] ys here there across = there
+each_append R (x ∷ xs) ys here there across = (all_join (R x) xs ys here.0 across.0, each_append R xs ys here.1 there across.1)
+
+each_map : {A B : Type 0} (S : A → A → Type 0) (R : B → B → Type 0) (f : A → B) → ((a b : A) → S a b → R (f a) (f b)) → (xs : List A) → EachTwo S xs → EachTwo R (map f xs)
+each_map S R f follows [] each = tt
+each_map S R f follows (x ∷ xs) each = (AllByRecursion-map (S x) (R (f x)) f (λ y. follows x y) xs each.0, each_map S R f follows xs each.1)
+
+each_with : {A : Type 0} (S : A → A → Type 0) (P : A → Type 0) (xs : List A) → EachTwo S xs → AllByRecursion P xs → EachTwo (λ a b. S a b × P a × P b) xs
+each_with S P [] each all = tt
+each_with S P (x ∷ xs) each all =
+    (AllByRecursion-weaker (λ y two. (two.0, all.0, two.1)) xs (AllByRecursion-both (S x) P xs each.0 all.1), each_with S P xs each.1 all.1)
+
+-- of rows in order those that pass are in order
+each_sorted : {A : Type 0} (cmp : A → A → Ordering) (test : A → Bool) (xs : List A) → IsStrictlySortedBy cmp xs → EachTwo (λ a b. cmp a b ≡ Less) (filter test xs)
+unfolding IsStrictlySortedBy
+each_sorted cmp test [] sorted = tt
+each_sorted cmp test (x ∷ xs) sorted = by (test x) (each_sorted cmp test xs sorted.1)
+  where
+    by : (v : Bool) → EachTwo (λ a b. cmp a b ≡ Less) (filter test xs) → EachTwo (λ a b. cmp a b ≡ Less) (cond v (x ∷ filter test xs) (filter test xs))
+    by true rest = (AllByRecursion-weaker (λ y two. two.0) (filter test xs) (filter_all (λ y. cmp x y ≡ Less) test xs sorted.0), rest)
+    by false rest = rest
+
+-- ---- putting rows that don't tie
+
+module _ {R : Type 0} (cmp : R → R → Ordering) (total : IsTotalOrder cmp) where
+  abbrev IsApart : R → R → Type 0
+  IsApart a b = cmp a b ≡ Equal → ⊥
+
+  apart_back : (a b : R) → IsApart a b → IsApart b a
+  apart_back a b apart ties = apart (total.antisymm a b ∙ ap ordering_reverse ties)
+
+  put_permutes : (row : R) (rows : List R) → AllByRecursion (IsApart row) rows → IsPermutation (row ∷ rows) (put cmp rows row)
+  put_permutes row [] apart = IsPermutation-refl (row ∷ [])
+  put_permutes row (r ∷ rows) apart = by (put_permutes row rows apart.1) (cmp row r) refl
+    where
+      by : IsPermutation (row ∷ rows) (put cmp rows row) → (o : Ordering) → cmp row r ≡ o → IsPermutation (row ∷ r ∷ rows) (match_ordering o (row ∷ r ∷ rows) (row ∷ rows) (r ∷ put cmp rows row))
+      by rest Less is = IsPermutation-refl (row ∷ r ∷ rows)
+      by rest Equal is = absurd (apart.0 is)
+      by rest Greater is =
+          IsPermutation-trans (row ∷ r ∷ rows) (r ∷ row ∷ rows) (r ∷ put cmp rows row)
+          (IsPermutation-sym (r ∷ row ∷ rows) (row ∷ r ∷ rows) (IsPermutation-middle (r ∷ []) row rows))
+          (IsPermutation-cons r (row ∷ rows) (put cmp rows row) rest)
+
+  among_put : (x row : R) (rows : List R) → AllByRecursion (IsApart row) rows → Among x (row ∷ rows) → Among x (put cmp rows row)
+  among_put x row [] apart at = at
+  among_put x row (r ∷ rows) apart at = by (among_put x row rows apart.1) (cmp row r) refl at
+    where
+      by : (Among x (row ∷ rows) → Among x (put cmp rows row)) → (o : Ordering) → cmp row r ≡ o → Among x (row ∷ r ∷ rows) → Among x (match_ordering o (row ∷ r ∷ rows) (row ∷ rows) (r ∷ put cmp rows row))
+      by rest Less is at = at
+      by rest Equal is at = absurd (apart.0 is)
+      by rest Greater is (inl same) = inr (rest (inl same))
+      by rest Greater is (inr (inl same)) = inl same
+      by rest Greater is (inr (inr later)) = inr (rest (inr later))
+
+  -- the rows that are yet to come are apart from those that were put
+  still_apart : (row : R) (changed rows : List R) → AllByRecursion (IsApart row) changed → AllByRecursion (λ c. AllByRecursion (IsApart c) rows) changed
+      → AllByRecursion (λ c. AllByRecursion (IsApart c) (put cmp rows row)) changed
+  still_apart row changed rows from apart =
+      AllByRecursion-weaker (λ c two. AllByRecursion-put cmp total row (IsApart c) (apart_back row c two.0) rows two.1) changed
+      (AllByRecursion-both (IsApart row) (λ c. AllByRecursion (IsApart c) rows) changed from apart)
+
+  pub put_all_permutes : (changed rows : List R) → EachTwo IsApart changed → AllByRecursion (λ c. AllByRecursion (IsApart c) rows) changed
+      → IsPermutation (changed ++ rows) (put_all cmp rows changed)
+  put_all_permutes [] rows each apart = IsPermutation-refl rows
+  put_all_permutes (c ∷ changed) rows each apart =
+      IsPermutation-trans (c ∷ (changed ++ rows)) (changed ++ (c ∷ rows)) (put_all cmp (put cmp rows c) changed)
+      (IsPermutation-sym (changed ++ (c ∷ rows)) (c ∷ (changed ++ rows)) (IsPermutation-middle changed c rows))
+      (IsPermutation-trans (changed ++ (c ∷ rows)) (changed ++ put cmp rows c) (put_all cmp (put cmp rows c) changed)
+      (IsPermutation-append_right changed (c ∷ rows) (put cmp rows c) (put_permutes c rows apart.0))
+      (put_all_permutes changed (put cmp rows c) each.1 (still_apart c changed rows each.0 apart.1)))
+
+  pub among_put_all : (x : R) (changed rows : List R) → EachTwo IsApart changed → AllByRecursion (λ c. AllByRecursion (IsApart c) rows) changed
+      → Among x changed ⊎ Among x rows → Among x (put_all cmp rows changed)
+  among_put_all x [] rows each apart (inl at) = absurd at
+  among_put_all x [] rows each apart (inr at) = at
+  among_put_all x (c ∷ changed) rows each apart at =
+      among_put_all x changed (put cmp rows c) each.1 (still_apart c changed rows each.0 apart.1) (by at)
+    where
+      by : Among x (c ∷ changed) ⊎ Among x rows → Among x changed ⊎ Among x (put cmp rows c)
+      by (inl (inl same)) = inr (among_put x c rows apart.0 (inl same))
+      by (inl (inr later)) = inl later
+      by (inr there) = inr (among_put x c rows apart.0 (inr there))
+
+-- ---- claims have different numbers
+
+claim_ties : (c d : Claimed) → claim_cmp c d ≡ Equal → c.number ≡ d.number
+claim_ties c d ties = by (nat_cmp d.priority c.priority) ties
+  where
+    by : (o : Ordering) → ordering_then o (nat_cmp c.number d.number) ≡ Equal → c.number ≡ d.number
+    by Less is = cc
+    by Equal is = ranked c.number d.number Equal (sym is)
+    by Greater is = cc
+
+module _ (F : Farm) (steady : IsSteady F) where
+  abbrev IsOther : Claimed → Claimed → Type 0
+  IsOther c d = c.number ≡ d.number → ⊥
+
+  number_below : (a b : ℕ) → nat_cmp a b ≡ Less → a ≡ b → ⊥
+  number_below a b less same = let below = ranked a b Less (sym less) in absurd (omega arith)
+
+  res_claims : EachTwo IsOther (map res_claim (filter is_waiting F.reservations))
+  res_claims = each_map (λ a b. res_cmp a b ≡ Less) IsOther res_claim (λ a b less same. number_below a.number b.number less same)
+      (filter is_waiting F.reservations) (each_sorted res_cmp is_waiting F.reservations steady.reservations_sorted)
+
+  -- what is known of a job that leads a claim
+  leading : AllByRecursion (λ j. (j.number ≡ j.group) × IsNone (res_of F j.number)) (filter (leads_claim F) F.jobs)
+  leading = AllByRecursion-weaker (λ j two. ((leads F j two.1).0, two.0.apart)) (filter (leads_claim F) F.jobs) (filter_all (IsJobRow F) (leads_claim F) F.jobs steady.jobs)
+
+  group_claims : EachTwo IsOther (map (group_claim F) (filter (leads_claim F) F.jobs))
+  group_claims = each_map (λ a b. (job_cmp a b ≡ Less) × ((a.number ≡ a.group) × IsNone (res_of F a.number)) × ((b.number ≡ b.group) × IsNone (res_of F b.number)))
+      IsOther (group_claim F) (λ a b three same. number_below a.number b.number three.0 (three.1.0 ∙ same ∙ sym three.2.0))
+      (filter (leads_claim F) F.jobs)
+      (each_with (λ a b. job_cmp a b ≡ Less) (λ j. (j.number ≡ j.group) × IsNone (res_of F j.number)) (filter (leads_claim F) F.jobs)
+      (each_sorted job_cmp (leads_claim F) F.jobs steady.jobs_sorted) leading)
+
+  -- no number is a reservation's and a job's
+  across : (r : ResRow) (j : JobRow) → res_of F r.number ≡ Some r → (j.number ≡ j.group) × IsNone (res_of F j.number) → r.number ≡ j.group → ⊥
+  across r j own lead same =
+      let there : res_of F j.number ≡ Some r = ap (res_of F) (lead.0 ∙ sym same) ∙ own in
+      true≢false (subst IsNone there lead.1)
+
+  claims_differ : EachTwo IsOther (claims F)
+  claims_differ = each_append IsOther (map res_claim (filter is_waiting F.reservations)) (map (group_claim F) (filter (leads_claim F) F.jobs)) res_claims group_claims
+      (AllByRecursion-map (λ r. (res_of F r.number ≡ Some r) × (is_waiting r ≡ true)) (λ c. AllByRecursion (IsOther c) (map (group_claim F) (filter (leads_claim F) F.jobs))) res_claim
+      (λ r own. AllByRecursion-map (λ j. (j.number ≡ j.group) × IsNone (res_of F j.number)) (IsOther (res_claim r)) (group_claim F) (λ j lead. across r j own.0 lead)
+      (filter (leads_claim F) F.jobs) leading)
+      (filter is_waiting F.reservations) (filter_all (λ r. res_of F r.number ≡ Some r) is_waiting F.reservations (own_res F steady)))
+
+  claims_apart : EachTwo (λ c d. claim_cmp c d ≡ Equal → ⊥) (claims F)
+  claims_apart = each_weaker (claims F) claims_differ
+    where
+      each_weaker : (cs : List Claimed) → EachTwo IsOther cs → EachTwo (λ c d. claim_cmp c d ≡ Equal → ⊥) cs
+      each_weaker [] each = tt
+      each_weaker (c ∷ cs) each = (AllByRecursion-weaker (λ d other ties. other (claim_ties c d ties)) cs each.0, each_weaker cs each.1)
+
+  none_before : (cs : List Claimed) → AllByRecursion (λ c. AllByRecursion (λ d. claim_cmp c d ≡ Equal → ⊥) []) cs
+  none_before [] = tt
+  none_before (c ∷ cs) = (tt, none_before cs)
+
+  pub queue_permutes : IsPermutation (claims F ++ []) (queue F)
+  queue_permutes = put_all_permutes claim_cmp claim_total (claims F) [] claims_apart (none_before (claims F))
+
+  -- ---- each claim stands in the queue
+
+  among_append : {A : Type 0} (x : A) (xs ys : List A) → Among x xs ⊎ Among x ys → Among x (xs ++ ys)
+  among_append x [] ys (inl at) = absurd at
+  among_append x [] ys (inr at) = at
+  among_append x (y ∷ xs) ys (inl (inl same)) = inl same
+  among_append x (y ∷ xs) ys (inl (inr at)) = inr (among_append x xs ys (inl at))
+  among_append x (y ∷ xs) ys (inr at) = inr (among_append x xs ys (inr at))
+
+  among_filter : {A B : Type 0} (find_test test : A → Bool) (f : A → B) (x : A) (xs : List A) → find find_test xs ≡ Some x → test x ≡ true → Among (f x) (map f (filter test xs))
+  among_filter find_test test f x [] there passes = cc
+  among_filter find_test test f x (y ∷ xs) there passes = by (find_test y) there (test y) refl (λ later. among_filter find_test test f x xs later passes)
+    where
+      by : (v : Bool) → cond v (Some y) (find find_test xs) ≡ Some x → (w : Bool) → test y ≡ w → (find find_test xs ≡ Some x → Among (f x) (map f (filter test xs)))
+          → Among (f x) (map f (cond w (y ∷ filter test xs) (filter test xs)))
+      by true is true here rest = let same : y ≡ x = cc in inl (ap f (sym same))
+      by true is false here rest = let same : y ≡ x = cc in absurd (true≢false (sym passes ∙ ap test (sym same) ∙ here))
+      by false is true here rest = inr (rest is)
+      by false is false here rest = rest is
+
+  among_claims : (d : Claimed) → IsClaim F d → Among d (claims F)
+  among_claims d (inl (r, is)) =
+      subst (λ e. Among e (claims F)) (sym is.2)
+      (among_append (res_claim r) (map res_claim (filter is_waiting F.reservations)) (map (group_claim F) (filter (leads_claim F) F.jobs))
+      (inl (among_filter (λ q. q.number == r.number) is_waiting res_claim r F.reservations is.0 is.1)))
+  among_claims d (inr (j, is)) =
+      subst (λ e. Among e (claims F)) (sym is.2)
+      (among_append (group_claim F j) (map res_claim (filter is_waiting F.reservations)) (map (group_claim F) (filter (leads_claim F) F.jobs))
+      (inr (among_filter (λ k. k.number == j.number) (leads_claim F) (group_claim F) j F.jobs is.0 is.1)))
+
+  pub among_queue : (d : Claimed) → IsClaim F d → Among d (queue F)
+  among_queue d is = among_put_all claim_cmp claim_total d (claims F) [] claims_apart (none_before (claims F)) (inl (among_claims d is))

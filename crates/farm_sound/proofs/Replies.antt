@@ -1,0 +1,85 @@
+-- How large the numbers of a pass's reply are, and that a pass leaves the kept replies.
+use Rattle.std.proofs.Common.{◌≡◌, ℕ, ◌+◌, ◌≤◌, Bool, true, false, cond, List, [], ◌∷◌, length, map, Option, Some, None, refl, ◌∙◌, arith}
+use Rattle.std.specs.List.{filter, fold, zip}
+use Rattle.std.specs.Option.{option_map_or}
+use Rattle.std.specs.Str.{bytes_eq}
+use Rattle.std.proofs.lemmas.List.{length-map, length-append}
+use Rattle.farm_types.specs.Table.{put, put_all, job_cmp, change_where}
+use Rattle.farm_types.specs.Farm.{Farm, members}
+use Rattle.farm_types.specs.Pick.{Claimed, claim_cmp, claims, queue, is_waiting, res_claim, leads_claim, group_claim, least, is_free}
+use Rattle.farm_types.specs.Pass.{Served, serve, serve_all, give, give_res, give_group, give_member, checks, check_one, check_job, has_room, held, is_due}
+use Rattle.farm_types.specs.declared.rows.Holder.{Holder}
+use Rattle.farm_types.specs.declared.rows.State.{State}
+use Rattle.farm_types.specs.declared.rows.BoardRow.{BoardRow}
+use Rattle.farm_types.specs.declared.rows.JobRow.{JobRow}
+use Rattle.farm_types.proofs.Put.{length_put}
+use Rattle.farm_sound.proofs.Serve.{claim_total}
+
+pub length_filter : {A : Type 0} (test : A → Bool) (xs : List A) → length (filter test xs) ≤ length xs
+length_filter test [] = omega arith
+length_filter test (x ∷ xs) = by (test x) (length_filter test xs)
+  where
+    by : (v : Bool) → length (filter test xs) ≤ length xs → length (cond v (x ∷ filter test xs) (filter test xs)) ≤ length (x ∷ xs)
+    by true low = omega arith
+    by false low = omega arith
+
+-- ---- a served claim was a claim
+
+length_put_all : (rows changed : List Claimed) → length (put_all claim_cmp rows changed) ≤ length rows + length changed
+length_put_all rows [] = omega arith
+length_put_all rows (c ∷ changed) = omega (arith, length_put_all (put claim_cmp rows c) changed, length_put claim_cmp claim_total c rows)
+
+few_claims : (F : Farm) → length (queue F) ≤ length F.reservations + length F.jobs
+few_claims F =
+    let of_res : length (map res_claim (filter is_waiting F.reservations)) ≡ length (filter is_waiting F.reservations) = length-map (filter is_waiting F.reservations) res_claim in
+    let of_jobs : length (map (group_claim F) (filter (leads_claim F) F.jobs)) ≡ length (filter (leads_claim F) F.jobs) = length-map (filter (leads_claim F) F.jobs) (group_claim F) in
+    let all : length (claims F) ≡ length (map res_claim (filter is_waiting F.reservations)) + length (map (group_claim F) (filter (leads_claim F) F.jobs)) =
+    length-append (map res_claim (filter is_waiting F.reservations)) (map (group_claim F) (filter (leads_claim F) F.jobs)) in
+    omega (arith, length_put_all [] (claims F), length_filter is_waiting F.reservations, length_filter (leads_claim F) F.jobs)
+
+served_few : (t : ℕ) (cs : List Claimed) (s : Served) → (fold (serve t) s cs).claims ≤ s.claims + length cs
+served_few t [] s = omega arith
+served_few t (c ∷ cs) s = by (λ u. served_few t cs u) (least s.farm.boards (is_free s.farm.types) c.wants)
+  where
+    by : ((u : Served) → (fold (serve t) u cs).claims ≤ u.claims + length cs) → (o : Option (List BoardRow)) → (fold (serve t) (option_map_or (λ bs. record { farm = give s.farm c bs t; claims = s.claims + 1 }) o s) cs).claims ≤ s.claims + length (c ∷ cs)
+    by rest None = omega (arith, rest s)
+    by rest (Some bs) = omega (arith, rest (record { farm = give s.farm c bs t; claims = s.claims + 1 }))
+
+pub few_served : (F : Farm) (t : ℕ) → (serve_all F t).claims ≤ length F.reservations + length F.jobs
+few_served F t = omega (arith, served_few t (queue F) (record { farm = F; claims = 0 }), few_claims F)
+
+-- ---- the kept replies stay
+
+members_kept : (ps : List (JobRow × BoardRow)) (F : Farm) → (fold give_member F ps).kept ≡ F.kept
+members_kept [] F = refl
+members_kept (p ∷ ps) F = members_kept ps (give_member F (p.0, p.1))
+
+res_kept : (F : Farm) (n : ℕ) (bs : List BoardRow) (t : ℕ) → (give_res F n bs t).kept ≡ F.kept
+res_kept F n [] t = refl
+res_kept F n (b ∷ bs) t = refl
+
+give_kept : (F : Farm) (c : Claimed) (bs : List BoardRow) (t : ℕ) → (give F c bs t).kept ≡ F.kept
+give_kept F c bs t = by c.reservation
+  where
+    by : (v : Bool) → (cond v (give_res F c.number bs t) (give_group F c.number bs)).kept ≡ F.kept
+    by true = res_kept F c.number bs t
+    by false = members_kept (zip (members F c.number) bs) F
+
+served_kept : (t : ℕ) (cs : List Claimed) (s : Served) → (fold (serve t) s cs).farm.kept ≡ s.farm.kept
+served_kept t [] s = refl
+served_kept t (c ∷ cs) s = by (λ u. served_kept t cs u) (least s.farm.boards (is_free s.farm.types) c.wants)
+  where
+    by : ((u : Served) → (fold (serve t) u cs).farm.kept ≡ u.farm.kept) → (o : Option (List BoardRow)) → (fold (serve t) (option_map_or (λ bs. record { farm = give s.farm c bs t; claims = s.claims + 1 }) o s) cs).farm.kept ≡ s.farm.kept
+    by rest None = rest s
+    by rest (Some bs) = rest (record { farm = give s.farm c bs t; claims = s.claims + 1 }) ∙ give_kept s.farm c bs t
+
+checks_kept : (bs : List BoardRow) (F : Farm) → (fold check_one F bs).kept ≡ F.kept
+checks_kept [] F = refl
+checks_kept (b ∷ bs) F = checks_kept bs (check_one F b) ∙ one (has_room F 1)
+  where
+    one : (v : Bool) → (cond v (record F { jobs = put job_cmp F.jobs (check_job F.next b); boards = change_where (λ c. bytes_eq c.name b.name) (held (Holder.Job F.next) State.Reserved) F.boards; next = F.next + 1 }) F).kept ≡ F.kept
+    one true = refl
+    one false = refl
+
+pub pass_kept : (F : Farm) (t : ℕ) → (serve_all (checks F t) t).farm.kept ≡ F.kept
+pass_kept F t = served_kept t (queue (checks F t)) (record { farm = checks F t; claims = 0 }) ∙ checks_kept (filter (is_due F t) F.boards) F

@@ -1,0 +1,122 @@
+-- Who holds which board: row by row, and by keys.
+use Rattle.std.proofs.Common.{◌≡◌, ℕ, ◌==◌, List, Option, Some, None, IsSome, IfSome, IsSomeAnd, sym, ap, ◌∙◌, refl, subst}
+use mathlib.Core.Bool.{false≢true}
+use Rattle.std.specs.List.{AllByRecursion}
+use Rattle.std.specs.Option.{option_map_or}
+use Rattle.farm_types.specs.Farm.{Farm, board_of, job_of, res_of}
+use Rattle.farm_types.specs.Sound.{IsHeldBy, IsHeldByKeys, Hold, hold, hold_of, job_hold, res_hold, job_gives, res_gives, shown, IsJobRow, IsResRow}
+use Rattle.farm_types.specs.declared.rows.Holder.{Holder}
+use Rattle.farm_types.specs.declared.rows.State.{State}
+use Rattle.farm_types.specs.declared.rows.BoardRow.{BoardRow}
+use Rattle.farm_types.specs.declared.rows.JobRow.{JobRow}
+use Rattle.farm_types.specs.declared.rows.ResRow.{ResRow}
+use Rattle.farm_sound.specs.Told.{IsNamedBy, IsSaid, IsSaidOfJob, IsSaidOfRes}
+use Rattle.farm_types.proofs.Put.{AllByRecursion-weaker, found_has, found_passes}
+use Rattle.farm_sound.proofs.Where.{AllByRecursion-both}
+use Rattle.farm_sound.proofs.Commands.{same_number}
+
+-- a row's hold is made of its board and of the state that it gives
+record IsHold (holder : Holder) (name : Option (List ℕ)) (given : Option State) (x : Hold) : Type 0 where
+  pub board : name ≡ Some x.board
+  pub by : holder ≡ x.holder
+  pub state : given ≡ Some x.state
+
+is_hold : (holder : Holder) (name : Option (List ℕ)) (given : Option State) (x : Hold) → hold holder name given ≡ Some x → IsHold holder name given x
+is_hold holder None given x e = cc
+is_hold holder (Some n) None x e = cc
+is_hold holder (Some n) (Some s) x e =
+    let same : record { board = n; holder = holder; state = s } ≡ x = cc in
+    record { board = ap (λ (h : Hold). Some h.board) same; by = ap (λ (h : Hold). h.holder) same; state = ap (λ (h : Hold). Some h.state) same }
+
+hold_from : (holder : Holder) (name : Option (List ℕ)) (given : Option State) (x : Hold) → name ≡ Some x.board → holder ≡ x.holder → given ≡ Some x.state
+    → hold holder name given ≡ Some x
+hold_from holder name given x board by state = λ i. hold (by i) (board i) (state i)
+
+-- the option that is there
+some_and : {A : Type 0} {P : A → Type 0} (o : Option A) → IsSomeAnd o P → (a : A) × (o ≡ Some a) × P a
+some_and None is = absurd is
+some_and (Some a) is = (a, refl, is)
+
+module _ (F : Farm) where
+  -- ---- boards
+
+  held_from_named : (b : BoardRow) (holder : Holder) → b.holder ≡ holder → IsNamedBy F b holder → IsHeldBy F b holder
+  held_from_named b Holder.Nobody e named = named
+  held_from_named b (Holder.Job n) e named =
+      let j = some_and {P = λ j. (j.board ≡ Some b.name) × (job_gives j.state ≡ Some b.state)} (job_of F n) named in
+      let number : j.0.number ≡ n = same_number j.0.number n (found_passes (λ r. r.number == n) j.0 F.jobs j.1) in
+      ap (λ o. option_map_or job_hold o None) j.1
+      ∙ hold_from (Holder.Job j.0.number) j.0.board (job_gives j.0.state) (shown b) j.2.0 (ap Holder.Job number ∙ sym e) j.2.1
+  held_from_named b (Holder.Res n) e named =
+      let r = some_and {P = λ r. (r.board ≡ Some b.name) × (res_gives r.state ≡ Some b.state)} (res_of F n) named in
+      let number : r.0.number ≡ n = same_number r.0.number n (found_passes (λ q. q.number == n) r.0 F.reservations r.1) in
+      ap (λ o. option_map_or res_hold o None) r.1
+      ∙ hold_from (Holder.Res r.0.number) r.0.board (res_gives r.0.state) (shown b) r.2.0 (ap Holder.Res number ∙ sym e) r.2.1
+
+  named_from_held : (b : BoardRow) (holder : Holder) → IsHeldBy F b holder → IsNamedBy F b holder
+  named_from_held b Holder.Nobody held = held
+  named_from_held b (Holder.Job n) held = by (job_of F n) held
+    where
+      by : (o : Option JobRow) → option_map_or job_hold o None ≡ Some (shown b) → IsSomeAnd o (λ j. (j.board ≡ Some b.name) × (job_gives j.state ≡ Some b.state))
+      by None e = cc
+      by (Some j) e = let is = is_hold (Holder.Job j.number) j.board (job_gives j.state) (shown b) e in (is.board, is.state)
+  named_from_held b (Holder.Res n) held = by (res_of F n) held
+    where
+      by : (o : Option ResRow) → option_map_or res_hold o None ≡ Some (shown b) → IsSomeAnd o (λ r. (r.board ≡ Some b.name) × (res_gives r.state ≡ Some b.state))
+      by None e = cc
+      by (Some r) e = let is = is_hold (Holder.Res r.number) r.board (res_gives r.state) (shown b) e in (is.board, is.state)
+
+  -- ---- jobs and reservations
+
+  -- the board of a hold says so, where that of its row does
+  said_of : (board : Option (List ℕ)) (given : Option State) (holder named : Holder) (x : Hold) → IfSome given (λ _. IsSaid F board holder)
+      → IsHold holder board given x → holder ≡ named → IsSomeAnd (board_of F x.board) (λ b. b.holder ≡ named)
+  said_of board given holder named x said is same =
+      let there : IsSaid F board holder = subst (λ o. IfSome o (λ _. IsSaid F board holder)) is.state said in
+      subst (λ h. IsSomeAnd (board_of F x.board) (λ b. b.holder ≡ h)) same (subst (λ o. IsSaid F o holder) is.board there)
+
+  rows_from_said : AllByRecursion (IsSaidOfJob F) F.jobs → AllByRecursion (IsSaidOfRes F) F.reservations
+      → (h : Holder) (x : Hold) → hold_of F h ≡ Some x → IsSomeAnd (board_of F x.board) (λ b. b.holder ≡ h)
+  rows_from_said jobs reservations Holder.Nobody x e = cc
+  rows_from_said jobs reservations (Holder.Job n) x e = by (job_of F n) refl e
+    where
+      by : (o : Option JobRow) → job_of F n ≡ o → option_map_or job_hold o None ≡ Some x → IsSomeAnd (board_of F x.board) (λ b. b.holder ≡ Holder.Job n)
+      by None is e = cc
+      by (Some j) is e =
+          said_of j.board (job_gives j.state) (Holder.Job j.number) (Holder.Job n) x (found_has (IsSaidOfJob F) (λ r. r.number == n) j F.jobs jobs is)
+          (is_hold (Holder.Job j.number) j.board (job_gives j.state) x e) (ap Holder.Job (same_number j.number n (found_passes (λ r. r.number == n) j F.jobs is)))
+  rows_from_said jobs reservations (Holder.Res n) x e = by (res_of F n) refl e
+    where
+      by : (o : Option ResRow) → res_of F n ≡ o → option_map_or res_hold o None ≡ Some x → IsSomeAnd (board_of F x.board) (λ b. b.holder ≡ Holder.Res n)
+      by None is e = cc
+      by (Some r) is e =
+          said_of r.board (res_gives r.state) (Holder.Res r.number) (Holder.Res n) x (found_has (IsSaidOfRes F) (λ q. q.number == n) r F.reservations reservations is)
+          (is_hold (Holder.Res r.number) r.board (res_gives r.state) x e) (ap Holder.Res (same_number r.number n (found_passes (λ q. q.number == n) r F.reservations is)))
+
+  pub held_from_said : AllByRecursion (λ b. IsNamedBy F b b.holder) F.boards → AllByRecursion (IsSaidOfJob F) F.jobs → AllByRecursion (IsSaidOfRes F) F.reservations
+      → IsHeldByKeys F
+  held_from_said boards jobs reservations = record {
+    boards = AllByRecursion-weaker (λ b named. held_from_named b b.holder refl named) F.boards boards;
+    rows = rows_from_said jobs reservations;
+  }
+
+  pub named_from_keys : IsHeldByKeys F → AllByRecursion (λ b. IsNamedBy F b b.holder) F.boards
+  named_from_keys held = AllByRecursion-weaker (λ b told. named_from_held b b.holder told) F.boards held.boards
+
+  -- the board of a row that gives a state says so
+  said_by : (h : Holder) (board : Option (List ℕ)) (given : Option State) → IsHeldByKeys F → hold_of F h ≡ hold h board given → (IsSome given → IsSome board)
+      → IfSome given (λ _. IsSaid F board h)
+  said_by h board None held is some = tt
+  said_by h None (Some s) held is some = absurd (false≢true (some refl))
+  said_by h (Some name) (Some s) held is some = held.rows h (record { board = name; holder = h; state = s }) is
+
+  pub jobs_from_keys : IsHeldByKeys F → AllByRecursion (λ j. job_of F j.number ≡ Some j) F.jobs → AllByRecursion (IsJobRow F) F.jobs → AllByRecursion (IsSaidOfJob F) F.jobs
+  jobs_from_keys held own rows =
+      AllByRecursion-weaker (λ j two. said_by (Holder.Job j.number) j.board (job_gives j.state) held (ap (λ o. option_map_or job_hold o None) two.0) two.1.holds) F.jobs
+      (AllByRecursion-both (λ j. job_of F j.number ≡ Some j) (IsJobRow F) F.jobs own rows)
+
+  pub reservations_from_keys : IsHeldByKeys F → AllByRecursion (λ r. res_of F r.number ≡ Some r) F.reservations → AllByRecursion (IsResRow F) F.reservations
+      → AllByRecursion (IsSaidOfRes F) F.reservations
+  reservations_from_keys held own rows =
+      AllByRecursion-weaker (λ r two. said_by (Holder.Res r.number) r.board (res_gives r.state) held (ap (λ o. option_map_or res_hold o None) two.0) two.1.holds) F.reservations
+      (AllByRecursion-both (λ r. res_of F r.number ≡ Some r) (IsResRow F) F.reservations own rows)

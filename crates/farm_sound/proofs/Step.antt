@@ -1,0 +1,132 @@
+-- Every command keeps a farm sound, and so does every run.
+use Rattle.std.proofs.Common.{◌≡◌, ℕ, ◌+◌, ◌<◌, ◌≤◌, ◌&&◌, ◌||◌, not, nat_le, is_some, true, false, List, [], ◌∷◌, length, Option, Some, None, refl, sym, subst, arith}
+use Rattle.std.specs.Option.{option_map_or}
+use Rattle.std.proofs.lemmas.Bool.Decides.{nat_tests}
+use Rattle.farm_types.specs.Words.{is_word}
+use Rattle.farm_types.specs.Proper.{is_proper_cmd}
+use Rattle.farm_types.specs.Farm.{Farm, put_kept}
+use Rattle.farm_types.specs.Refuse.{refusal, kind_of, is_full_for, own_refusal, early_refusal, moment, is_late, is_reused, may_give}
+use Rattle.farm_types.specs.Change.{act, change, moved, keep, Done}
+use Rattle.farm_types.specs.Machine.{run, step, repeated}
+use Rattle.farm_types.specs.Sound.{IsSound}
+use Rattle.farm_types.specs.declared.rows.Reply.{Reply}
+use Rattle.farm_types.specs.declared.calls.Cmd.{Cmd}
+use Rattle.farm_types.specs.declared.calls.Call.{Call}
+use Rattle.farm_sound.proofs.Commands.{both}
+use Rattle.farm_sound.proofs.Answered.{unrefused, count_has_room, answers_repeated, answers_denied, answers_changed}
+use Rattle.farm_sound.proofs.Clear.{both_false, first_clear}
+use Rattle.farm_sound.proofs.Numbers.{IsSound-moved, IsSound-put_kept, IsSound-counted}
+use Rattle.farm_sound.proofs.Accepted.{IsAccepted, Acted}
+use Rattle.farm_sound.proofs.AcceptedBoards.{acted_add_type, acted_add_board, acted_set_tags, acted_set_health}
+use Rattle.farm_sound.proofs.AcceptedJobs.{acted_submit, acted_cancel, acted_start, acted_finish}
+use Rattle.farm_sound.proofs.AcceptedRes.{acted_reserve, acted_acquire, acted_release, acted_refresh, acted_cancel_res, acted_pass}
+
+-- every accepted command, in a farm whose clock has moved
+pub acted : (F : Farm) (t : ℕ) (caller : List ℕ) (cmd : Cmd) → IsAccepted F t caller cmd → IsSound F → Acted F (act F caller cmd)
+acted F t caller (Cmd.AddType name check) is sound = acted_add_type F t caller sound name check is
+acted F t caller (Cmd.AddBoard name kind tags) is sound = acted_add_board F t caller sound name kind tags is
+acted F t caller (Cmd.SetTags name tags) is sound = acted_set_tags F t caller sound name tags is
+acted F t caller (Cmd.SetHealth name health) is sound = acted_set_health F t caller sound name health is
+acted F t caller (Cmd.Submit priority wants roles body) is sound = acted_submit F t caller sound priority wants roles body is
+acted F t caller (Cmd.Cancel n) is sound = acted_cancel F t caller sound n is
+acted F t caller (Cmd.Start n) is sound = acted_start F t caller sound n is
+acted F t caller (Cmd.Finish n outcome) is sound = acted_finish F t caller sound n outcome is
+acted F t caller (Cmd.Reserve priority tags) is sound = acted_reserve F t caller sound priority tags is
+acted F t caller (Cmd.Acquire n) is sound = acted_acquire F t caller sound n is
+acted F t caller (Cmd.Release n) is sound = acted_release F t caller sound n is
+acted F t caller (Cmd.Refresh n) is sound = acted_refresh F t caller sound n is
+acted F t caller (Cmd.CancelRes n) is sound = acted_cancel_res F t caller sound n is
+acted F t caller Cmd.Pass is sound = acted_pass F t caller sound
+
+-- the reasons and the room are those of the farm before its clock moved
+IsAccepted-moved : (F : Farm) (m t : ℕ) (caller : List ℕ) (cmd : Cmd) → IsAccepted F t caller cmd → IsAccepted (record F { clock = m }) t caller cmd
+IsAccepted-moved F m t caller (Cmd.AddType name check) is = record { caller = is.caller; proper = is.proper; clear = is.clear; room = is.room }
+IsAccepted-moved F m t caller (Cmd.AddBoard name kind tags) is = record { caller = is.caller; proper = is.proper; clear = is.clear; room = is.room }
+IsAccepted-moved F m t caller (Cmd.SetTags name tags) is = record { caller = is.caller; proper = is.proper; clear = is.clear; room = is.room }
+IsAccepted-moved F m t caller (Cmd.SetHealth name health) is = record { caller = is.caller; proper = is.proper; clear = is.clear; room = is.room }
+IsAccepted-moved F m t caller (Cmd.Submit priority wants roles body) is = record { caller = is.caller; proper = is.proper; clear = is.clear; room = is.room }
+IsAccepted-moved F m t caller (Cmd.Reserve priority tags) is = record { caller = is.caller; proper = is.proper; clear = is.clear; room = is.room }
+IsAccepted-moved F m t caller cmd is = record { caller = is.caller; proper = is.proper; clear = is.clear; room = is.room }
+
+-- ---- the reply is kept
+
+low_kind : (cmd : Cmd) → (1 ≤ kind_of cmd) × (kind_of cmd ≤ 14)
+low_kind (Cmd.AddType a b) = (omega arith, omega arith)
+low_kind (Cmd.AddBoard a b c) = (omega arith, omega arith)
+low_kind (Cmd.SetTags a b) = (omega arith, omega arith)
+low_kind (Cmd.SetHealth a b) = (omega arith, omega arith)
+low_kind (Cmd.Submit a b c d) = (omega arith, omega arith)
+low_kind (Cmd.Cancel a) = (omega arith, omega arith)
+low_kind (Cmd.Start a) = (omega arith, omega arith)
+low_kind (Cmd.Finish a b) = (omega arith, omega arith)
+low_kind (Cmd.Reserve a b) = (omega arith, omega arith)
+low_kind (Cmd.Acquire a) = (omega arith, omega arith)
+low_kind (Cmd.Release a) = (omega arith, omega arith)
+low_kind (Cmd.Refresh a) = (omega arith, omega arith)
+low_kind (Cmd.CancelRes a) = (omega arith, omega arith)
+low_kind Cmd.Pass = (omega arith, omega arith)
+
+IsSound-keep : (F : Farm) (call : Call) (d : Done) → Acted F d → (is_some call.key && nat_le 300000 (length F.kept)) ≡ false → IsSound (keep call d.reply d.farm)
+IsSound-keep F call d left room = by call.key words.1 room
+  where
+    words : (is_word 48 call.caller ≡ true) × (option_map_or (is_word 64) call.key true ≡ true)
+    words = both (is_word 48 call.caller) (option_map_or (is_word 64) call.key true) (both (is_word 48 call.caller && option_map_or (is_word 64) call.key true) (is_proper_cmd call.cmd) call.proper).0
+
+    by : (key : Option (List ℕ)) → option_map_or (is_word 64) key true ≡ true → (is_some key && nat_le 300000 (length F.kept)) ≡ false
+        → IsSound (option_map_or (λ k. put_kept d.farm (record { caller = call.caller; key = k; kind = kind_of call.cmd; reply = d.reply })) key d.farm)
+    by None proper room = left.sound
+    by (Some k) proper room =
+        IsSound-put_kept d.farm (record { caller = call.caller; key = k; kind = kind_of call.cmd; reply = d.reply })
+        (record { caller = words.0; key = proper; kind = low_kind call.cmd; reply = (left.first, left.second, left.third) })
+        (subst (λ rows. length rows < 300000) (sym left.kept) (grind (arith, nat_tests))) left.sound
+
+-- ---- a change, a step and a run
+
+accepted : (F : Farm) (call : Call) → None ≡ refusal F call → IsAccepted F (moment F call) call.caller call.cmd
+unfolding own_refusal
+accepted F call clear =
+    let free = unrefused F call clear in
+    let full = both_false (is_full_for F call.cmd || (is_some call.key && nat_le 300000 (length F.kept))) (nat_le 9000000000000000000 F.count) free.room in
+    let words = both (is_word 48 call.caller && option_map_or (is_word 64) call.key true) (is_proper_cmd call.cmd) call.proper in
+    record {
+      caller = (both (is_word 48 call.caller) (option_map_or (is_word 64) call.key true) words.0).0;
+      proper = words.1;
+      clear = free.own;
+      room = (both_false (is_full_for F call.cmd) (is_some call.key && nat_le 300000 (length F.kept)) full.0).0;
+    }
+
+-- the farm whose clock has moved
+pub IsSound-moved_to : (F : Farm) (call : Call) → None ≡ refusal F call → IsSound F → IsSound (moved F call)
+unfolding early_refusal
+IsSound-moved_to F call clear sound =
+    let free = unrefused F call clear in
+    let early = first_clear (is_late call) 2 ((is_reused F call, 40) ∷ (not (may_give call.caller call.cmd), 3) ∷ []) free.early in
+    let in_time : call.now ≤ 250000000000 = (let late = early.0 in grind (arith, nat_tests)) in
+    IsSound-moved F (moment F call) (omega arith) (omega (arith, sound.steady.clock)) sound
+
+-- what the command leaves, before its reply is kept
+pub acted_call : (F : Farm) (call : Call) → None ≡ refusal F call → IsSound F → Acted (moved F call) (act (moved F call) call.caller call.cmd)
+acted_call F call clear sound =
+    acted (moved F call) (moment F call) call.caller call.cmd
+    (IsAccepted-moved F (moment F call) (moment F call) call.caller call.cmd (accepted F call clear)) (IsSound-moved_to F call clear sound)
+
+pub IsSound-change : (F : Farm) (call : Call) → None ≡ refusal F call → IsSound F → IsSound (change F call).farm
+unfolding change
+IsSound-change F call clear sound =
+    let done : Done = act (moved F call) call.caller call.cmd in
+    let full = both_false (is_full_for F call.cmd || (is_some call.key && nat_le 300000 (length F.kept))) (nat_le 9000000000000000000 F.count) (unrefused F call clear).room in
+    let room = both_false (is_full_for F call.cmd) (is_some call.key && nat_le 300000 (length F.kept)) full.0 in
+    IsSound-counted (keep call done.reply done.farm) (F.count + 1) (omega (arith, count_has_room F call clear))
+    (IsSound-keep (moved F call) call done (acted_call F call clear sound) room.1)
+
+pub IsSound-step : (F : Farm) (call : Call) → IsSound F → IsSound (step F call)
+IsSound-step F call sound = by (repeated F call) refl (refusal F call) refl
+  where
+    by : (kept : Option Reply) → repeated F call ≡ kept → (code : Option ℕ) → refusal F call ≡ code → IsSound (step F call)
+    by (Some r) is code denied = subst IsSound (sym (answers_repeated F call r (sym is)).step) sound
+    by None is (Some code) denied = subst IsSound (sym (answers_denied F call code (sym is) (sym denied)).step) sound
+    by None is None denied = subst IsSound (sym (answers_changed F call (sym is) (sym denied)).step) (IsSound-change F call (sym denied) sound)
+
+pub IsSound-run : (calls : List Call) (F : Farm) → IsSound F → IsSound (run F calls)
+IsSound-run [] F sound = sound
+IsSound-run (call ∷ calls) F sound = IsSound-run calls (step F call) (IsSound-step F call sound)

@@ -1,0 +1,74 @@
+-- A farm is sound exactly where it is so row by row.
+use Rattle.farm_types.specs.Farm.{Farm}
+use Rattle.farm_types.specs.Sound.{IsSound, IsSteady, IsBoardRow, IsJobRow, IsResRow}
+use Rattle.farm_sound.specs.Told.{IsTold, IsInStep, IsNamedBy, IsSaidOfJob, IsSaidOfRes}
+use Rattle.farm_types.proofs.Put.{AllByRecursion-weaker}
+use Rattle.farm_sound.proofs.Where.{AllByRecursion-both}
+use Rattle.farm_sound.proofs.Own.{own_job, own_res}
+use Rattle.farm_sound.proofs.Steps.{whole_from_steps, steps_from_whole, few_of_kinds}
+use Rattle.farm_sound.proofs.Said.{held_from_said, named_from_keys, jobs_from_keys, reservations_from_keys}
+
+steady_from_told : (F : Farm) → IsTold F → IsSteady F
+steady_from_told F is = record {
+  types_sorted = is.ordered.types;
+  boards_sorted = is.ordered.boards;
+  jobs_sorted = is.ordered.jobs;
+  reservations_sorted = is.ordered.reservations;
+  kept_sorted = is.ordered.kept;
+  types = is.types;
+  boards = AllByRecursion-weaker (λ b told. told.row) F.boards is.boards;
+  jobs = AllByRecursion-weaker (λ j told. told.row) F.jobs is.jobs;
+  reservations = AllByRecursion-weaker (λ r told. told.row) F.reservations is.reservations;
+  kept = is.kept;
+  few_types = is.few.types;
+  few_boards = is.few.boards;
+  few_of_kind = few_of_kinds F (AllByRecursion-weaker (λ b told. told.few) F.boards is.boards);
+  few_jobs = is.few.jobs;
+  few_reservations = is.few.reservations;
+  few_kept = is.few.kept;
+  clock = is.few.clock;
+  count = is.few.count;
+  next = is.few.next;
+}
+
+pub sound_from_told : (F : Farm) → IsTold F → IsSound F
+sound_from_told F is =
+    let steady = steady_from_told F is in
+    record {
+      steady = steady;
+      held = held_from_said F (AllByRecursion-weaker (λ b told. told.held) F.boards is.boards) (AllByRecursion-weaker (λ j told. told.said) F.jobs is.jobs)
+          (AllByRecursion-weaker (λ r told. told.said) F.reservations is.reservations);
+      whole = whole_from_steps F (own_job F steady) steady.jobs (AllByRecursion-weaker (λ j told. told.step) F.jobs is.jobs);
+    }
+
+pub told_from_sound : (F : Farm) → IsSound F → IsTold F
+told_from_sound F is =
+    let steady = is.steady in
+    let jobs = AllByRecursion-both (IsInStep F) (IsSaidOfJob F) F.jobs (steps_from_whole F steady.jobs is.whole) (jobs_from_keys F is.held (own_job F steady) steady.jobs) in
+    record {
+      ordered = record {
+        types = steady.types_sorted;
+        boards = steady.boards_sorted;
+        jobs = steady.jobs_sorted;
+        reservations = steady.reservations_sorted;
+        kept = steady.kept_sorted;
+      };
+      few = record {
+        types = steady.few_types;
+        boards = steady.few_boards;
+        jobs = steady.few_jobs;
+        reservations = steady.few_reservations;
+        kept = steady.few_kept;
+        clock = steady.clock;
+        count = steady.count;
+        next = steady.next;
+      };
+      types = steady.types;
+      boards = AllByRecursion-weaker (λ b two. record { row = two.0; few = steady.few_of_kind b.kind; held = two.1 }) F.boards
+          (AllByRecursion-both (IsBoardRow F) (λ b. IsNamedBy F b b.holder) F.boards steady.boards (named_from_keys F is.held));
+      jobs = AllByRecursion-weaker (λ j two. record { row = two.0; step = two.1.0; said = two.1.1 }) F.jobs
+          (AllByRecursion-both (IsJobRow F) (λ j. IsInStep F j × IsSaidOfJob F j) F.jobs steady.jobs jobs);
+      reservations = AllByRecursion-weaker (λ r two. record { row = two.0; said = two.1 }) F.reservations
+          (AllByRecursion-both (IsResRow F) (IsSaidOfRes F) F.reservations steady.reservations (reservations_from_keys F is.held (own_res F steady) steady.reservations));
+      kept = steady.kept;
+    }

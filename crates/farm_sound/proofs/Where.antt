@@ -1,0 +1,54 @@
+-- Rows that are changed where they pass a test.
+use Rattle.std.proofs.Common.{◌≡◌, List, [], ◌∷◌, length, map, suc, Bool, true, false, cond, Some, ap, ◌∙◌, refl}
+use Rattle.std.specs.List.{AllByRecursion, find, filter}
+use Rattle.std.specs.List.Sorted.{IsStrictlySortedBy}
+use Rattle.std.specs.Option.{option_map}
+use Rattle.std.specs.declared.cmp.Ordering.TheVariants.{Less}
+use Rattle.std.specs.declared.cmp.Ordering.{Ordering}
+
+-- each row is the changed one or itself
+pub by_cases : {R : Type 0} (P : R → Type 0) (v : Bool) (x y : R) → (v ≡ true → P x) → (v ≡ false → P y) → P (cond v x y)
+by_cases P true x y so other = so refl
+by_cases P false x y so other = other refl
+
+-- what holds of each row after the change
+pub AllByRecursion-map : {R S : Type 0} (P : R → Type 0) (Q : S → Type 0) (f : R → S) → ((r : R) → P r → Q (f r)) → (rows : List R) → AllByRecursion P rows → AllByRecursion Q (map f rows)
+AllByRecursion-map P Q f each [] all = tt
+AllByRecursion-map P Q f each (r ∷ rows) all = (each r all.0, AllByRecursion-map P Q f each rows all.1)
+
+pub AllByRecursion-both : {R : Type 0} (P Q : R → Type 0) (rows : List R) → AllByRecursion P rows → AllByRecursion Q rows → AllByRecursion (λ r. P r × Q r) rows
+AllByRecursion-both P Q [] p q = tt
+AllByRecursion-both P Q (r ∷ rows) p q = ((p.0, q.0), AllByRecursion-both P Q rows p.1 q.1)
+
+-- a row is found by a key that stays
+pub find_map : {R : Type 0} (test : R → Bool) (f : R → R) → ((r : R) → test (f r) ≡ test r) → (rows : List R) → find test (map f rows) ≡ option_map f (find test rows)
+find_map test f same [] = refl
+find_map test f same (r ∷ rows) = rw (same r, find_map test f same rows) (by (test r))
+  where
+    by : (v : Bool) → cond v (Some (f r)) (option_map f (find test rows)) ≡ option_map f (cond v (Some r) (find test rows))
+    by true = refl
+    by false = refl
+
+-- as many pass a test by what stays
+pub count_map : {R : Type 0} (test : R → Bool) (f : R → R) → ((r : R) → test (f r) ≡ test r) → (rows : List R) → length (filter test (map f rows)) ≡ length (filter test rows)
+count_map test f same [] = refl
+count_map test f same (r ∷ rows) = rw (same r) (by (count_map test f same rows) (test r))
+  where
+    by : length (filter test (map f rows)) ≡ length (filter test rows) → (v : Bool) → length (cond v (f r ∷ filter test (map f rows)) (filter test (map f rows))) ≡ length (cond v (r ∷ filter test rows) (filter test rows))
+    by rest true = ap suc rest
+    by rest false = rest
+
+-- rows in order of what stays are in order
+pub sorted_map : {R : Type 0} (cmp : R → R → Ordering) (f : R → R) → ((a b : R) → cmp (f a) (f b) ≡ cmp a b) → (rows : List R) → IsStrictlySortedBy cmp rows → IsStrictlySortedBy cmp (map f rows)
+unfolding IsStrictlySortedBy
+sorted_map cmp f same [] sorted = tt
+sorted_map cmp f same (r ∷ rows) sorted =
+    (AllByRecursion-map (λ y. cmp r y ≡ Less) (λ y. cmp (f r) y ≡ Less) f (λ y less. same r y ∙ less) rows sorted.0, sorted_map cmp f same rows sorted.1)
+
+pub map_id : {R : Type 0} (rows : List R) → map (λ r. r) rows ≡ rows
+map_id [] = refl
+map_id (r ∷ rows) = ap (λ rest. r ∷ rest) (map_id rows)
+
+pub all_true : {R : Type 0} (rows : List R) → AllByRecursion (λ r. Unit {0}) rows
+all_true [] = tt
+all_true (r ∷ rows) = (tt, all_true rows)

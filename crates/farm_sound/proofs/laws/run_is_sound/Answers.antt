@@ -1,0 +1,10 @@
+use Rattle.farm_types.specs.Farm.{empty}
+use Rattle.farm_sound.proofs.Numbers.{IsSound-empty}
+use Rattle.farm_sound.proofs.Step.{IsSound-run}
+use Rattle.farm_sound.proofs.laws.run_is_sound.Goals as goal
+
+pub returns-clause-empty : goal.returns-clause-empty
+returns-clause-empty c = IsSound-empty
+
+pub returns-clause-run : goal.returns-clause-run
+returns-clause-run c = λ calls. IsSound-run calls empty IsSound-empty

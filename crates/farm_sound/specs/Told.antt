@@ -1,0 +1,113 @@
+-- What a sound farm is, row by row: each line speaks of one row and of the rows that it looks up.
+use Rattle.std.specs.Prelude.{◌≡◌, ◌≢◌, ◌≤◌, ◌<◌, ◌+◌, ◌-◌, ◌↔◌, ℕ, true, List, Option, Some, None, is_some, length, IsTrue, IsSome, IsNone, IfSome, IsSomeAnd}
+use Rattle.std.specs.List.{filter, AllByRecursion}
+use Rattle.std.specs.List.Sorted.{IsStrictlySortedBy}
+use Rattle.std.specs.Str.{bytes_eq}
+use Rattle.farm_types.specs.Words.{IsName}
+use Rattle.farm_types.specs.Table.{type_cmp, board_cmp, job_cmp, res_cmp, kept_cmp}
+use Rattle.farm_types.specs.Proper.{is_priority, is_want}
+use Rattle.farm_types.specs.Farm.{Farm, type_of, board_of, job_of, res_of}
+use Rattle.farm_types.specs.Sound.{IsBoardOf, IsCheck, Follows, job_gives, res_gives, phase, IsTypeRow, IsBoardRow, IsJobRow, IsResRow, IsKeptRow}
+use Rattle.farm_types.specs.declared.rows.Holder.{Holder}
+use Rattle.farm_types.specs.declared.rows.State.{State}
+use Rattle.farm_types.specs.declared.rows.JobState.{JobState}
+use Rattle.farm_types.specs.declared.rows.BoardRow.{BoardRow}
+use Rattle.farm_types.specs.declared.rows.JobRow.{JobRow}
+use Rattle.farm_types.specs.declared.rows.ResRow.{ResRow}
+
+-- ---- the lines on a job, in four parts
+
+pub record IsJobNumbered (F : Farm) (r : JobRow) : Type 0 where
+  pub number : (1 ≤ r.number) × (r.number < F.next)
+  pub apart : IsNone (res_of F r.number)
+  pub group : (r.group ≤ r.number) × (r.number < r.group + 4)
+
+pub record IsJobWorded (F : Farm) (r : JobRow) : Type 0 where
+  pub owner : IsName r.owner
+  pub priority : IsTrue (is_priority r.priority)
+  pub want : IsTrue (is_want r.want)
+  pub kind : IsSomeAnd r.want.kind (λ kind. IsSome (type_of F kind))
+  pub role : IfSome r.role IsName
+  pub body : length r.body ≤ 65536
+
+pub record IsJobPlaced (F : Farm) (r : JobRow) : Type 0 where
+  pub board : IsBoardOf F r.board
+  pub outcome : IsTrue (is_some r.outcome) ↔ (r.state ≡ JobState.Finished)
+  pub waits : r.state ≡ JobState.Submitted → r.board ≡ None
+  pub holds : IsSome (job_gives r.state) → IsSome r.board
+
+pub record IsJobGrouped (F : Farm) (r : JobRow) : Type 0 where
+  pub follows : r.number ≢ r.group → Follows F r
+  pub check : r.checking ≡ true → IsCheck r
+
+-- ---- who holds which board, and groups
+
+-- the board's holder names the board, and gives it its state
+abbrev pub IsNamedBy : Farm → BoardRow → Holder → Type 0
+IsNamedBy F b Holder.Nobody = b.state ≡ State.Idle
+IsNamedBy F b (Holder.Job n) = IsSomeAnd (job_of F n) (λ j. (j.board ≡ Some b.name) × (job_gives j.state ≡ Some b.state))
+IsNamedBy F b (Holder.Res n) = IsSomeAnd (res_of F n) (λ r. (r.board ≡ Some b.name) × (res_gives r.state ≡ Some b.state))
+
+-- the board says that the holder has it
+abbrev pub IsSaid : Farm → Option (List ℕ) → Holder → Type 0
+IsSaid F board holder = IsSomeAnd board (λ name. IsSomeAnd (board_of F name) (λ b. b.holder ≡ holder))
+
+-- the board that a job or a reservation holds says so
+abbrev pub IsSaidOfJob : Farm → JobRow → Type 0
+IsSaidOfJob F j = IfSome (job_gives j.state) (λ _. IsSaid F j.board (Holder.Job j.number))
+
+abbrev pub IsSaidOfRes : Farm → ResRow → Type 0
+IsSaidOfRes F r = IfSome (res_gives r.state) (λ _. IsSaid F r.board (Holder.Res r.number))
+
+-- a member but the first is in the phase of the one before it
+abbrev pub IsInStep : Farm → JobRow → Type 0
+IsInStep F r = r.number ≢ r.group → IsSomeAnd (job_of F (r.number - 1)) (λ previous. phase previous.state ≡ phase r.state)
+
+-- the boards of a board's type are few
+abbrev pub IsOfFew : Farm → BoardRow → Type 0
+IsOfFew F b = length (filter (λ c. bytes_eq c.kind b.kind) F.boards) ≤ 64
+
+-- ---- a farm, row by row
+
+-- the tables keep their order
+pub record IsOrdered (F : Farm) : Type 0 where
+  pub types : IsStrictlySortedBy type_cmp F.types
+  pub boards : IsStrictlySortedBy board_cmp F.boards
+  pub jobs : IsStrictlySortedBy job_cmp F.jobs
+  pub reservations : IsStrictlySortedBy res_cmp F.reservations
+  pub kept : IsStrictlySortedBy kept_cmp F.kept
+
+-- and their limits
+pub record IsFew (F : Farm) : Type 0 where
+  pub types : length F.types ≤ 64
+  pub boards : length F.boards ≤ 256
+  pub jobs : length F.jobs ≤ 100000
+  pub reservations : length F.reservations ≤ 100000
+  pub kept : length F.kept ≤ 300000
+  pub clock : F.clock ≤ 250000000000
+  pub count : F.count ≤ 9000000000000000000
+  pub next : (1 ≤ F.next) × (F.next ≤ 1000000000)
+
+-- what a row says, and what the others say of it
+pub record IsBoardTold (F : Farm) (b : BoardRow) : Type 0 where
+  pub row : IsBoardRow F b
+  pub few : IsOfFew F b
+  pub held : IsNamedBy F b b.holder
+
+pub record IsJobTold (F : Farm) (j : JobRow) : Type 0 where
+  pub row : IsJobRow F j
+  pub step : IsInStep F j
+  pub said : IsSaidOfJob F j
+
+pub record IsResTold (F : Farm) (r : ResRow) : Type 0 where
+  pub row : IsResRow F r
+  pub said : IsSaidOfRes F r
+
+pub record IsTold (F : Farm) : Type 0 where
+  pub ordered : IsOrdered F
+  pub few : IsFew F
+  pub types : AllByRecursion IsTypeRow F.types
+  pub boards : AllByRecursion (IsBoardTold F) F.boards
+  pub jobs : AllByRecursion (IsJobTold F) F.jobs
+  pub reservations : AllByRecursion (IsResTold F) F.reservations
+  pub kept : AllByRecursion IsKeptRow F.kept

@@ -1,0 +1,90 @@
+//! The lines on types and boards.
+ghost use Rattle.std.specs.Prelude.{◌≡◌, ◌↔◌, IsTrue, Some, length};
+ghost use Rattle.std.specs.List.{filter};
+ghost use Rattle.std.specs.List.Sorted.{IsStrictlySortedBy};
+ghost use Rattle.std.specs.Str.{bytes_eq};
+ghost use Rattle.farm_types.specs.Table.{type_cmp};
+ghost use Rattle.farm_types.specs.Farm.{farm_of, type_of};
+ghost use Rattle.farm_types.specs.Sound.{IsTypeRow, IsBoardRow};
+ghost use Rattle.farm_sound.specs.Told.{IsOrdered, IsOfFew, IsNamedBy};
+
+use crate::job::job_gives;
+use crate::reservation::res_gives;
+use crate::seek::{job_of, res_of, type_of};
+use crate::want::is_named;
+use farm_types::calls::Rows;
+use farm_types::rows::{BoardRow, Health, Holder, State, TypeRow};
+use farm_types::words::Name;
+
+/// The most uses of a board that are counted.
+const MOST_USES: u64 = 1_000_000;
+
+/// The most boards of a type.
+const MOST_OF_KIND: usize = 64;
+
+/// The lines on a type.
+pub fn is_type_row(row: &TypeRow) -> bool
+    ensures { IsTrue result ↔ IsTypeRow row.now }
+{
+    row.name.is_name() && row.check.is_frequency()
+}
+
+/// The lines on a board.
+pub fn is_board_row(rows: &Rows, row: &BoardRow) -> bool
+    requires { IsStrictlySortedBy type_cmp rows.now.types.items }
+    ensures { IsTrue result ↔ IsBoardRow (farm_of rows.now) row.now }
+{
+    row.name.is_name()
+        && type_of(rows.types.as_slice(), &row.kind).is_some()
+        && row.tags.are_tags()
+        && row.tags.has_no_name_tag()
+        && row.jobs_since <= MOST_USES
+        && row.last_check <= rows.meta.clock
+        && (!matches!(row.health, Health::Retired) || matches!(row.holder, Holder::Nobody))
+}
+
+/// How many boards are of a type.
+fn count_kind(rows: &Rows, kind: &Name) -> usize
+    ensures { result ≡ length (filter (λ b. bytes_eq b.kind kind.now) rows.now.boards.items) }
+{
+    rows.boards.iter().filter(|row| row.kind.is(kind)).count()
+}
+
+/// Whether the boards of a board's type are few. Of at most 256 boards each is compared with each.
+pub fn is_of_few(rows: &Rows, row: &BoardRow) -> bool
+    ensures { IsTrue result ↔ IsOfFew (farm_of rows.now) row.now }
+{
+    count_kind(rows, &row.kind) <= MOST_OF_KIND
+}
+
+/// Whether a row gives a board this state.
+fn is_state(given: Option<State>, state: State) -> bool
+    ensures { IsTrue result ↔ (given ≡ Some state) }
+{
+    match given {
+        None => false,
+        Some(given) => given == state,
+    }
+}
+
+/// Whether the board's holder names the board, and gives it its state.
+pub fn is_held(rows: &Rows, row: &BoardRow) -> bool
+    requires { IsOrdered (farm_of rows.now) }
+    ensures { IsTrue result ↔ IsNamedBy (farm_of rows.now) row.now row.now.holder }
+{
+    match row.holder {
+        Holder::Nobody => matches!(row.state, State::Idle),
+        Holder::Job(number) => match job_of(rows.jobs.as_slice(), number) {
+            None => false,
+            Some(job) => {
+                is_named(&job.board, &row.name) && is_state(job_gives(job.state), row.state)
+            }
+        },
+        Holder::Res(number) => match res_of(rows.reservations.as_slice(), number) {
+            None => false,
+            Some(res) => {
+                is_named(&res.board, &row.name) && is_state(res_gives(res.state), row.state)
+            }
+        },
+    }
+}

@@ -1,0 +1,166 @@
+//! The lines on jobs and their groups.
+ghost use Rattle.std.specs.Prelude.{◌≡◌, ◌≤◌, ◌↔◌, IsTrue};
+ghost use Rattle.std.specs.List.Sorted.{IsStrictlySortedBy};
+ghost use Rattle.farm_types.specs.Table.{type_cmp, board_cmp, job_cmp, res_cmp};
+ghost use Rattle.farm_types.specs.Farm.{farm_of};
+ghost use Rattle.farm_types.specs.Sound.{IsJobRow, IsCheck, Follows, job_gives, phase};
+ghost use Rattle.farm_sound.specs.Told.{IsOrdered, IsJobNumbered, IsJobWorded, IsJobPlaced, IsJobGrouped, IsInStep, IsSaidOfJob};
+
+use crate::seek::{board_of, job_of, res_of};
+use crate::want::{is_role, is_want, names_board, names_type};
+use farm_types::calls::Rows;
+use farm_types::rows::{Holder, JobRow, JobState, State};
+
+/// The most members of a group.
+const MOST_MEMBERS: u64 = 4;
+
+/// The most bytes of a job's text.
+const LONGEST_BODY: usize = 65_536;
+
+/// The priority of a check: the highest.
+const CHECK_PRIORITY: u64 = 100;
+
+/// The state that a job gives the board that it holds, if it holds one.
+pub fn job_gives(state: JobState) -> Option<State>
+    ensures { result ≡ job_gives state }
+{
+    match state {
+        JobState::Scheduled => Some(State::Reserved),
+        JobState::Running | JobState::Canceling => Some(State::Running),
+        _ => None,
+    }
+}
+
+/// 0 while a group waits, 1 when all its members have boards, 2 from the start on.
+fn phase(state: JobState) -> u8
+    ensures { result ≡ phase state }
+{
+    match state {
+        JobState::Submitted => 0,
+        JobState::Scheduled => 1,
+        _ => 2,
+    }
+}
+
+/// The lines on a job's numbers.
+fn is_numbered(rows: &Rows, row: &JobRow) -> bool
+    requires { IsStrictlySortedBy res_cmp rows.now.reservations.items }
+    ensures { IsTrue result ↔ IsJobNumbered (farm_of rows.now) row.now }
+{
+    1 <= row.number
+        && row.number < rows.meta.next
+        && res_of(rows.reservations.as_slice(), row.number).is_none()
+        && row.group <= row.number
+        && row.number - row.group < MOST_MEMBERS
+}
+
+/// The lines on a job's words.
+fn is_worded(rows: &Rows, row: &JobRow) -> bool
+    requires { IsStrictlySortedBy type_cmp rows.now.types.items }
+    ensures { IsTrue result ↔ IsJobWorded (farm_of rows.now) row.now }
+{
+    row.owner.is_name()
+        && row.priority.get() <= 100
+        && is_want(&row.want)
+        && names_type(rows, &row.want.kind)
+        && is_role(&row.role)
+        && row.body.len() <= LONGEST_BODY
+}
+
+/// The lines on a job's state, outcome and board.
+fn is_placed(rows: &Rows, row: &JobRow) -> bool
+    requires { IsStrictlySortedBy board_cmp rows.now.boards.items }
+    ensures { IsTrue result ↔ IsJobPlaced (farm_of rows.now) row.now }
+{
+    names_board(rows, &row.board)
+        && match row.state {
+            JobState::Submitted => row.outcome.is_none() && row.board.is_none(),
+            JobState::Finished => row.outcome.is_some(),
+            _ => row.outcome.is_none() && row.board.is_some(),
+        }
+}
+
+/// Whether a member but the first follows another.
+fn follows(rows: &Rows, row: &JobRow) -> bool
+    requires sorted { IsStrictlySortedBy job_cmp rows.now.jobs.items }
+    requires number { 1 ≤ row.now.number }
+    ensures { IsTrue result ↔ Follows (farm_of rows.now) row.now }
+{
+    match job_of(rows.jobs.as_slice(), row.number - 1) {
+        None => false,
+        Some(previous) => {
+            previous.group == row.group
+                && previous.owner.is(&row.owner)
+                && previous.priority.get() == row.priority.get()
+                && !previous.checking
+                && row.body.is_empty()
+        }
+    }
+}
+
+/// The lines on a check.
+fn is_check(row: &JobRow) -> bool
+    ensures { IsTrue result ↔ IsCheck row.now }
+{
+    row.number == row.group
+        && row.owner.as_str() == "admin"
+        && row.priority.get() == CHECK_PRIORITY
+        && !matches!(row.state, JobState::Submitted)
+        && row.want.tags.is_empty()
+        && row.role.is_none()
+        && row.body.is_empty()
+}
+
+/// The lines on a job's group.
+fn is_grouped(rows: &Rows, row: &JobRow) -> bool
+    requires sorted { IsStrictlySortedBy job_cmp rows.now.jobs.items }
+    requires number { 1 ≤ row.now.number }
+    ensures { IsTrue result ↔ IsJobGrouped (farm_of rows.now) row.now }
+{
+    (row.number == row.group || follows(rows, row)) && (!row.checking || is_check(row))
+}
+
+/// The lines on a job.
+pub fn is_job_row(rows: &Rows, row: &JobRow) -> bool
+    requires { IsOrdered (farm_of rows.now) }
+    ensures { IsTrue result ↔ IsJobRow (farm_of rows.now) row.now }
+{
+    is_numbered(rows, row) && is_worded(rows, row) && is_placed(rows, row) && is_grouped(rows, row)
+}
+
+/// Whether a member but the first is in the phase of the one before it.
+pub fn is_in_step(rows: &Rows, row: &JobRow) -> bool
+    requires sorted { IsStrictlySortedBy job_cmp rows.now.jobs.items }
+    requires number { 1 ≤ row.now.number }
+    ensures { IsTrue result ↔ IsInStep (farm_of rows.now) row.now }
+{
+    row.number == row.group
+        || match job_of(rows.jobs.as_slice(), row.number - 1) {
+            None => false,
+            Some(previous) => phase(previous.state) == phase(row.state),
+        }
+}
+
+fn is_job(holder: Holder, number: u64) -> bool
+    ensures { IsTrue result ↔ (holder ≡ Holder.Job number) }
+{
+    match holder {
+        Holder::Job(job) => job == number,
+        _ => false,
+    }
+}
+
+/// Whether the board that a job holds says so.
+pub fn is_said_of_job(rows: &Rows, row: &JobRow) -> bool
+    requires { IsStrictlySortedBy board_cmp rows.now.boards.items }
+    ensures { IsTrue result ↔ IsSaidOfJob (farm_of rows.now) row.now }
+{
+    match (job_gives(row.state), &row.board) {
+        (None, _) => true,
+        (Some(_), None) => false,
+        (Some(_), Some(name)) => match board_of(rows.boards.as_slice(), name) {
+            None => false,
+            Some(board) => is_job(board.holder, row.number),
+        },
+    }
+}

@@ -1,0 +1,14 @@
+//! What each farm that the machine reaches keeps: the laws that every command keeps a farm sound,
+//! the exact test whether rows are those of a sound farm, and look-ups in tables by binary search.
+//!
+//! `laws` says what is proved of the machine's definitions; `sound` decides them at run time, row by
+//! row as `specs/Told.antt` says; `seek` finds rows.
+#![tactic(auto)]
+
+pub mod board;
+pub mod job;
+pub mod laws;
+pub mod reservation;
+pub mod seek;
+pub mod sound;
+pub mod want;

@@ -1,0 +1,71 @@
+//! The lines on reservations.
+ghost use Rattle.std.specs.Prelude.{◌≡◌, ◌≤◌, ◌↔◌, IsTrue};
+ghost use Rattle.std.specs.List.Sorted.{IsStrictlySortedBy};
+ghost use Rattle.farm_types.specs.Table.{board_cmp};
+ghost use Rattle.farm_types.specs.Farm.{farm_of};
+ghost use Rattle.farm_types.specs.Sound.{IsResRow, res_gives};
+ghost use Rattle.farm_sound.specs.Told.{IsSaidOfRes};
+
+use crate::seek::board_of;
+use crate::want::{is_want, names_board};
+use farm_types::calls::Rows;
+use farm_types::rows::{Holder, ResRow, ResState, State};
+
+/// How long a reservation lives without a refresh, in seconds.
+const LEASE_SECONDS: u64 = 60;
+
+/// The state that a reservation gives the board that it holds, if it holds one.
+pub fn res_gives(state: ResState) -> Option<State>
+    ensures { result ≡ res_gives state }
+{
+    match state {
+        ResState::Allocated => Some(State::Reserved),
+        ResState::Acquired => Some(State::Running),
+        _ => None,
+    }
+}
+
+/// The lines on a reservation.
+pub fn is_res_row(rows: &Rows, row: &ResRow) -> bool
+    requires sorted { IsStrictlySortedBy board_cmp rows.now.boards.items }
+    requires clock { rows.now.meta.clock ≤ 250000000000 }
+    ensures { IsTrue result ↔ IsResRow (farm_of rows.now) row.now }
+{
+    1 <= row.number
+        && row.number < rows.meta.next
+        && row.owner.is_name()
+        && row.priority.get() <= 100
+        && is_want(&row.want)
+        && row.want.kind.is_none()
+        && row.deadline <= rows.meta.clock + LEASE_SECONDS
+        && names_board(rows, &row.board)
+        && match row.state {
+            ResState::Waiting => row.board.is_none(),
+            ResState::Allocated | ResState::Acquired => row.board.is_some(),
+            _ => true,
+        }
+}
+
+fn is_res(holder: Holder, number: u64) -> bool
+    ensures { IsTrue result ↔ (holder ≡ Holder.Res number) }
+{
+    match holder {
+        Holder::Res(res) => res == number,
+        _ => false,
+    }
+}
+
+/// Whether the board that a reservation holds says so.
+pub fn is_said_of_res(rows: &Rows, row: &ResRow) -> bool
+    requires { IsStrictlySortedBy board_cmp rows.now.boards.items }
+    ensures { IsTrue result ↔ IsSaidOfRes (farm_of rows.now) row.now }
+{
+    match (res_gives(row.state), &row.board) {
+        (None, _) => true,
+        (Some(_), None) => false,
+        (Some(_), Some(name)) => match board_of(rows.boards.as_slice(), name) {
+            None => false,
+            Some(board) => is_res(board.holder, row.number),
+        },
+    }
+}

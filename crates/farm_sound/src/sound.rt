@@ -1,0 +1,178 @@
+//! Whether rows are those of a sound farm.
+ghost use Rattle.std.specs.Prelude.{◌≡◌, ◌↔◌, IsTrue};
+ghost use Rattle.std.specs.List.{AllByRecursion};
+ghost use Rattle.farm_types.specs.Farm.{farm_of};
+ghost use Rattle.farm_types.specs.Sound.{IsSound, IsKeptRow};
+ghost use Rattle.farm_sound.specs.Told.{IsOrdered, IsFew, IsTold};
+
+use crate::board::{is_board_row, is_held, is_of_few, is_type_row};
+use crate::job::{is_in_step, is_job_row, is_said_of_job};
+use crate::reservation::{is_res_row, is_said_of_res};
+use farm_types::calls::Rows;
+use farm_types::rows::{BoardRow, JobRow, KeptRow, ResRow, TypeRow};
+use farm_types::table::is_sorted;
+
+/// The most types of a farm.
+pub const MOST_TYPES: usize = 64;
+
+/// The most boards of a farm.
+pub const MOST_BOARDS: usize = 256;
+
+/// The most job rows of a farm.
+pub const MOST_JOBS: usize = 100_000;
+
+/// The most reservation rows of a farm.
+pub const MOST_RESERVATIONS: usize = 100_000;
+
+/// The most kept replies of a farm.
+pub const MOST_KEPT: usize = 300_000;
+
+/// The last moment that the desk knows, in seconds since 1970.
+pub const LAST_MOMENT: u64 = 250_000_000_000;
+
+/// The most accepted commands of a farm.
+pub const MOST_COMMANDS: u64 = 9_000_000_000_000_000_000;
+
+/// The highest number that a farm can give next, and the highest in a reply.
+pub const HIGHEST_NUMBER: u64 = 1_000_000_000;
+
+/// How many kinds of commands there are.
+const COMMAND_KINDS: u64 = 14;
+
+fn is_ordered(rows: &Rows) -> bool
+    ensures { IsTrue result ↔ IsOrdered (farm_of rows.now) }
+{
+    is_sorted(rows.types.as_slice())
+        && is_sorted(rows.boards.as_slice())
+        && is_sorted(rows.jobs.as_slice())
+        && is_sorted(rows.reservations.as_slice())
+        && is_sorted(rows.kept.as_slice())
+}
+
+fn is_few(rows: &Rows) -> bool
+    ensures { IsTrue result ↔ IsFew (farm_of rows.now) }
+{
+    rows.types.len() <= MOST_TYPES
+        && rows.boards.len() <= MOST_BOARDS
+        && rows.jobs.len() <= MOST_JOBS
+        && rows.reservations.len() <= MOST_RESERVATIONS
+        && rows.kept.len() <= MOST_KEPT
+        && rows.meta.clock <= LAST_MOMENT
+        && rows.meta.count <= MOST_COMMANDS
+        && 1 <= rows.meta.next
+        && rows.meta.next <= HIGHEST_NUMBER
+}
+
+/// The lines on a kept reply.
+fn is_kept_row(row: &KeptRow) -> bool
+    ensures { IsTrue result ↔ IsKeptRow row.now }
+{
+    row.caller.is_name()
+        && row.key.is_key()
+        && 1 <= row.kind
+        && row.kind <= COMMAND_KINDS
+        && row.reply.0 <= HIGHEST_NUMBER
+        && row.reply.1 <= HIGHEST_NUMBER
+        && row.reply.2 <= HIGHEST_NUMBER
+}
+
+/// A row of a table.
+pub trait Told {
+    ghost use Rattle.farm_types.specs.Farm.{Farm, farm_of};
+    ghost use Rattle.farm_sound.specs.Told.{IsOrdered, IsFew};
+
+    /// What the row says, and what the others say of it.
+    ghost IsIn: { Farm → Self → Type 0 };
+
+    /// Whether the row is one of a sound farm, among rows in order and within the limits.
+    fn is_told(&self, rows: &Rows) -> bool
+        requires ordered { IsOrdered (farm_of rows.now) }
+        requires few { IsFew (farm_of rows.now) }
+        ensures { IsTrue result ↔ IsIn (farm_of rows.now) self.now };
+}
+
+impl Told for TypeRow {
+    ghost use Rattle.farm_types.specs.Sound.{IsTypeRow};
+
+    ghost IsIn = { λ _ row. IsTypeRow row };
+
+    fn is_told(&self, _rows: &Rows) -> bool {
+        is_type_row(self)
+    }
+}
+
+impl Told for BoardRow {
+    ghost use Rattle.farm_sound.specs.Told.{IsBoardTold};
+
+    ghost IsIn = { IsBoardTold };
+
+    fn is_told(&self, rows: &Rows) -> bool {
+        is_board_row(rows, self) && is_of_few(rows, self) && is_held(rows, self)
+    }
+}
+
+impl Told for JobRow {
+    ghost use Rattle.farm_sound.specs.Told.{IsJobTold};
+
+    ghost IsIn = { IsJobTold };
+
+    fn is_told(&self, rows: &Rows) -> bool {
+        is_job_row(rows, self) && is_in_step(rows, self) && is_said_of_job(rows, self)
+    }
+}
+
+impl Told for ResRow {
+    ghost use Rattle.farm_sound.specs.Told.{IsResTold};
+
+    ghost IsIn = { IsResTold };
+
+    fn is_told(&self, rows: &Rows) -> bool {
+        is_res_row(rows, self) && is_said_of_res(rows, self)
+    }
+}
+
+impl Told for KeptRow {
+    ghost use Rattle.farm_types.specs.Sound.{IsKeptRow};
+
+    ghost IsIn = { λ _ row. IsKeptRow row };
+
+    fn is_told(&self, _rows: &Rows) -> bool {
+        is_kept_row(self)
+    }
+}
+
+/// Whether each row is one of a sound farm.
+fn are_told<R: Told>(rows: &Rows, list: &[R]) -> bool
+    requires ordered { IsOrdered (farm_of rows.now) }
+    requires few { IsFew (farm_of rows.now) }
+    ensures { IsTrue result ↔ AllByRecursion (R.IsIn (farm_of rows.now)) list.now }
+{
+    list.iter().all(
+        |row: &R| -> bool
+            requires ordered { IsOrdered (farm_of rows.now) }
+            requires few { IsFew (farm_of rows.now) }
+            ensures { IsTrue result ↔ R.IsIn (farm_of rows.entry.now) row.now }
+        { row.is_told(rows) },
+    )
+}
+
+/// Whether the rows are those of a sound farm, row by row.
+fn is_farm_told(rows: &Rows) -> bool
+    ensures { IsTrue result ↔ IsTold (farm_of rows.now) }
+{
+    is_few(rows)
+        && is_ordered(rows)
+        && are_told(rows, rows.types.as_slice())
+        && are_told(rows, rows.boards.as_slice())
+        && are_told(rows, rows.jobs.as_slice())
+        && are_told(rows, rows.reservations.as_slice())
+        && are_told(rows, rows.kept.as_slice())
+}
+
+/// Whether the rows are those of a sound farm, exactly. It takes no memory. With n rows it costs
+/// O(n log n): each row is looked at once and looks up a few others by binary search.
+pub fn is_sound(rows: &Rows) -> bool
+    ensures { IsTrue result ↔ IsSound (farm_of rows.now) }
+{
+    is_farm_told(rows)
+}

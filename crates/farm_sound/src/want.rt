@@ -1,0 +1,65 @@
+//! The words of a row that are words by their types, and the names that it gives of other rows.
+ghost use Rattle.std.specs.Prelude.{◌≡◌, ◌↔◌, IsTrue, IsSome, IfSome, IsSomeAnd, Some};
+ghost use Rattle.std.specs.List.Sorted.{IsStrictlySortedBy};
+ghost use Rattle.farm_types.specs.Words.{IsName};
+ghost use Rattle.farm_types.specs.Table.{type_cmp, board_cmp};
+ghost use Rattle.farm_types.specs.Farm.{farm_of, type_of};
+ghost use Rattle.farm_types.specs.Proper.{is_want};
+ghost use Rattle.farm_types.specs.Sound.{IsBoardOf};
+
+use crate::seek::{board_of, type_of};
+use farm_types::calls::Rows;
+use farm_types::rows::Want;
+use farm_types::words::Name;
+
+/// Whether a want names a type, if it names one, and tags.
+pub fn is_want(want: &Want) -> bool
+    ensures { result ≡ is_want want.now }
+{
+    match &want.kind {
+        None => want.tags.are_tags(),
+        Some(kind) => kind.is_name() && want.tags.are_tags(),
+    }
+}
+
+/// Whether a role, if there is one, is a name.
+pub fn is_role(role: &Option<Name>) -> bool
+    ensures { IsTrue result ↔ IfSome role.now IsName }
+{
+    match role {
+        None => true,
+        Some(name) => name.is_name(),
+    }
+}
+
+/// Whether a type is named that is there.
+pub fn names_type(rows: &Rows, kind: &Option<Name>) -> bool
+    requires { IsStrictlySortedBy type_cmp rows.now.types.items }
+    ensures { IsTrue result ↔ IsSomeAnd kind.now (λ kind. IsSome (type_of (farm_of rows.now) kind)) }
+{
+    match kind {
+        None => false,
+        Some(kind) => type_of(rows.types.as_slice(), kind).is_some(),
+    }
+}
+
+/// Whether the board that is named, if one is, is there.
+pub fn names_board(rows: &Rows, board: &Option<Name>) -> bool
+    requires { IsStrictlySortedBy board_cmp rows.now.boards.items }
+    ensures { IsTrue result ↔ IsBoardOf (farm_of rows.now) board.now }
+{
+    match board {
+        None => true,
+        Some(name) => board_of(rows.boards.as_slice(), name).is_some(),
+    }
+}
+
+/// Whether a board is named, and has this name.
+pub fn is_named(board: &Option<Name>, name: &Name) -> bool
+    ensures { IsTrue result ↔ (board.now ≡ Some name.now) }
+{
+    match board {
+        None => false,
+        Some(board) => board.is(name),
+    }
+}

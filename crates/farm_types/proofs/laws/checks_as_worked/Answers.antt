@@ -1,0 +1,19 @@
+use Rattle.std.proofs.Common.{refl}
+use Rattle.farm_types.specs.Words.{is_word, is_tag, is_tags}
+use Rattle.farm_types.specs.Pick.{least}
+use Rattle.farm_types.specs.Refuse.{refusal, early_refusal, own_refusal}
+use Rattle.farm_types.specs.Change.{change}
+use Rattle.farm_types.specs.Machine.{answer, step}
+use Rattle.farm_types.specs.WorkedChecks.{check_goes_first, hours_since_the_last_check, jobs_since_the_last_check, check_in_maintenance}
+use Rattle.farm_types.proofs.laws.checks_as_worked.Goals as goal
+
+pub returns : goal.returns
+unfolding check_goes_first hours_since_the_last_check jobs_since_the_last_check check_in_maintenance is_word is_tag is_tags least refusal early_refusal own_refusal change answer step
+returns c = record {
+  check_goes_first_answers = refl;
+  check_goes_first_board__b1 = refl;
+  hours_since_the_last_check_answers = refl;
+  jobs_since_the_last_check_answers = refl;
+  jobs_since_the_last_check_board__b1 = refl;
+  check_in_maintenance_board__b1 = refl;
+}
