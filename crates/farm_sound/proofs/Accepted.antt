@@ -1,16 +1,16 @@
 -- What a command that isn't refused has, and what it leaves: a sound farm, a small reply, and the kept replies.
-use Rattle.std.proofs.Common.{◌≡◌, ℕ, ◌==◌, ◌≤◌, true, false, List, Some, None, arith}
-use Rattle.farm_types.specs.Words.{IsName}
-use Rattle.farm_types.specs.Proper.{is_proper_cmd}
-use Rattle.farm_types.specs.Farm.{Farm, job_of, res_of}
-use Rattle.farm_types.specs.Refuse.{first_code, reasons, is_full_for}
+use Rattle.std.proofs.Common.{◌==◌, ◌≡◌, ◌≤◌, List, None, Some, arith, false, true, ℕ}
 use Rattle.farm_types.specs.Change.{Done, done}
-use Rattle.farm_types.specs.Sound.{IsSound, IsJobRow, IsResRow}
+use Rattle.farm_types.specs.Farm.{Farm, job_of, res_of}
+use Rattle.farm_types.specs.Proper.{is_proper_cmd}
+use Rattle.farm_types.specs.Refuse.{first_code, is_full_for, reasons}
+use Rattle.farm_types.specs.Sound.{IsJobRow, IsResRow, IsSound}
+use Rattle.farm_types.specs.Words.{IsName}
+use Rattle.farm_types.specs.declared.calls.Cmd.{Cmd}
 use Rattle.farm_types.specs.declared.rows.JobRow.{JobRow}
 use Rattle.farm_types.specs.declared.rows.ResRow.{ResRow}
-use Rattle.farm_types.specs.declared.calls.Cmd.{Cmd}
 use Rattle.farm_types.proofs.Put.{found_has, found_passes}
-use Rattle.farm_sound.proofs.Commands.{same_number}
+use Rattle.farm_sound.proofs.Tests.{same_number}
 
 -- what a command that isn't refused has
 pub record IsAccepted (F : Farm) (t : ℕ) (who : List ℕ) (cmd : Cmd) : Type 0 where

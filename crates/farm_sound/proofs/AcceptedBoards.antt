@@ -1,36 +1,25 @@
 -- The commands on types and boards, where they aren't refused.
-use Rattle.std.proofs.Common.{◌≡◌, ℕ, ◌&&◌, not, nat_le, is_some, is_none, false, List, [], ◌∷◌, length, Option, refl, sym, ap, ◌∙◌, subst, arith}
-use mathlib.Core.Bool.{false≢true}
+use Rattle.std.proofs.Common.{◌&&◌, ◌∙◌, ◌∷◌, List, Option, ap, arith, false, is_none, is_some, length, nat_le, not, refl, subst, sym, ℕ, []}
 use Rattle.std.specs.List.{filter}
 use Rattle.std.specs.Option.{option_map_or}
 use Rattle.std.specs.Str.{bytes_eq}
 use Rattle.std.proofs.lemmas.Bool.Decides.{nat_tests}
-use Rattle.farm_types.specs.Words.{is_word, is_tags}
-use Rattle.farm_types.specs.Codes.{same_health}
-use Rattle.farm_types.specs.Proper.{is_proper_cmd, is_frequency, has_no_name_tag}
-use Rattle.farm_types.specs.Farm.{Farm, type_of, board_of, put_board}
-use Rattle.farm_types.specs.Pick.{is_nobody}
-use Rattle.farm_types.specs.Refuse.{is_retired}
 use Rattle.farm_types.specs.Change.{act, done, new_board}
+use Rattle.farm_types.specs.Codes.{same_health}
+use Rattle.farm_types.specs.Farm.{Farm, board_of, put_board, type_of}
+use Rattle.farm_types.specs.Pick.{is_nobody}
+use Rattle.farm_types.specs.Proper.{has_no_name_tag, is_frequency, is_proper_cmd}
+use Rattle.farm_types.specs.Refuse.{is_retired}
 use Rattle.farm_types.specs.Sound.{IsSound}
+use Rattle.farm_types.specs.Words.{is_tags, is_word}
+use Rattle.farm_types.specs.declared.calls.Cmd.{Cmd}
+use Rattle.farm_types.specs.declared.rows.BoardRow.{BoardRow}
 use Rattle.farm_types.specs.declared.rows.Check.{Check}
 use Rattle.farm_types.specs.declared.rows.Health.{Health}
-use Rattle.farm_types.specs.declared.rows.Holder.{Holder}
-use Rattle.farm_types.specs.declared.rows.BoardRow.{BoardRow}
-use Rattle.farm_types.specs.declared.calls.Cmd.{Cmd}
-use Rattle.farm_sound.proofs.Commands.{both}
-use Rattle.farm_sound.proofs.Boards.{IsSound-put_type, IsSound-put_board, IsSound-replace_board}
-use Rattle.farm_sound.proofs.Clear.{both_false, first_clear, some_of, IsSome-from, none_of}
-use Rattle.farm_sound.proofs.Accepted.{IsAccepted, Acted, acted_one}
-
-nobody_from_not : (h : Holder) → not (is_nobody h) ≡ false → h ≡ Holder.Nobody
-nobody_from_not Holder.Nobody is = refl
-nobody_from_not (Holder.Job n) is = absurd (false≢true (sym is))
-nobody_from_not (Holder.Res n) is = absurd (false≢true (sym is))
-
--- a Retired board has no holder
-retired_idle : (health : Health) (h : Holder) → (same_health health Health.Retired && not (is_nobody h)) ≡ false → health ≡ Health.Retired → h ≡ Holder.Nobody
-retired_idle health h is retired = nobody_from_not h (subst (λ x. (same_health x Health.Retired && not (is_nobody h)) ≡ false) retired is)
+use Rattle.farm_sound.proofs.Accepted.{Acted, IsAccepted, acted_one}
+use Rattle.farm_sound.proofs.Boards.{IsSound-put_board, IsSound-put_type, IsSound-replace_board}
+use Rattle.farm_sound.proofs.Clear.{IsSome-from, first_clear, none_of, some_of}
+use Rattle.farm_sound.proofs.Tests.{both, both_false, retired_idle}
 
 module _ (F : Farm) (t : ℕ) (caller : List ℕ) (sound : IsSound F) where
   pub acted_add_type : (name : List ℕ) (check : Check) → IsAccepted F t caller (Cmd.AddType name check) → Acted F (act F caller (Cmd.AddType name check))
@@ -41,7 +30,8 @@ module _ (F : Farm) (t : ℕ) (caller : List ℕ) (sound : IsSound F) where
       acted_one F (act F caller (Cmd.AddType name check)).farm 0 refl (omega arith)
       (IsSound-put_type F (record { name = name; check = check }) (record { name = words.0; check = words.1 }) (grind (arith, nat_tests)) sound)
 
-  pub acted_add_board : (name kind : List ℕ) (tags : List (List ℕ)) → IsAccepted F t caller (Cmd.AddBoard name kind tags) → Acted F (act F caller (Cmd.AddBoard name kind tags))
+  pub acted_add_board : (name kind : List ℕ) (tags : List (List ℕ)) → IsAccepted F t caller (Cmd.AddBoard name kind tags)
+      → Acted F (act F caller (Cmd.AddBoard name kind tags))
   unfolding is_proper_cmd
   acted_add_board name kind tags is =
       let words = both (is_word 48 name && is_word 48 kind && is_tags tags) (has_no_name_tag tags) is.proper in
@@ -83,10 +73,12 @@ module _ (F : Farm) (t : ℕ) (caller : List ℕ) (sound : IsSound F) where
         retired = old.retired;
       }) sound))
 
-  pub acted_set_health : (name : List ℕ) (health : Health) → IsAccepted F t caller (Cmd.SetHealth name health) → Acted F (act F caller (Cmd.SetHealth name health))
+  pub acted_set_health : (name : List ℕ) (health : Health) → IsAccepted F t caller (Cmd.SetHealth name health)
+      → Acted F (act F caller (Cmd.SetHealth name health))
   acted_set_health name health is =
       let last = λ (o : Option BoardRow). same_health health Health.Retired && option_map_or (λ b. not (is_nobody b.holder)) o false in
-      let clear = first_clear (is_none (board_of F name)) 12 ((option_map_or is_retired (board_of F name) false, 15) ∷ (last (board_of F name), 14) ∷ []) is.clear in
+      let clear = first_clear (is_none (board_of F name)) 12
+      ((option_map_or is_retired (board_of F name) false, 15) ∷ (last (board_of F name), 14) ∷ []) is.clear in
       let b = some_of (board_of F name) clear.0 in
       let second = first_clear (option_map_or is_retired (board_of F name) false) 15 ((last (board_of F name), 14) ∷ []) clear.1 in
       let third = first_clear (last (board_of F name)) 14 [] second.1 in

@@ -1,52 +1,41 @@
 -- The commands on jobs, where they aren't refused.
-use Rattle.std.proofs.Common.{◌≡◌, ℕ, ◌+◌, ◌==◌, ◌&&◌, ◌||◌, not, nat_le, is_some, is_none, true, false, List, [], ◌∷◌, length, Option, Some, None, IsTrue, IsSome, IsSomeAnd, IfSome, refl, sym, subst, arith}
+use Rattle.std.proofs.Common.{◌&&◌, ◌+◌, ◌==◌, ◌||◌, ◌∷◌, ◌≡◌, IfSome, IsSome, IsSomeAnd, IsTrue, List, None, Option, Some, arith, false, is_none, is_some, length, nat_le, not, refl, subst, sym, true, ℕ, []}
 use mathlib.Core.Bool.{false≢true}
 use Rattle.std.specs.List.{list_all, list_any}
 use Rattle.std.specs.Option.{option_map_or}
 use Rattle.std.proofs.lemmas.Bool.Decides.{nat_tests}
-use Rattle.farm_types.specs.Words.{IsName, is_word}
+use Rattle.farm_types.specs.Change.{act, cancel_group, done, finish_one, start_group}
 use Rattle.farm_types.specs.Codes.{same_job_state}
-use Rattle.farm_types.specs.Proper.{is_proper_cmd, is_priority, is_want}
-use Rattle.farm_types.specs.Farm.{Farm, type_of, job_of, members}
-use Rattle.farm_types.specs.Pick.{least, not_retired}
+use Rattle.farm_types.specs.Farm.{Farm, job_of, members, type_of}
 use Rattle.farm_types.specs.Pass.{has_room}
-use Rattle.farm_types.specs.Refuse.{job_is, owned_by, can_cancel}
-use Rattle.farm_types.specs.Change.{act, done, cancel_group, start_group, finish_one}
-use Rattle.farm_types.specs.Sound.{IsSound, phase}
-use Rattle.farm_types.specs.declared.rows.Outcome.{Outcome}
-use Rattle.farm_types.specs.declared.rows.JobState.{JobState}
-use Rattle.farm_types.specs.declared.rows.Want.{Want}
-use Rattle.farm_types.specs.declared.rows.JobRow.{JobRow}
+use Rattle.farm_types.specs.Pick.{least, not_retired}
+use Rattle.farm_types.specs.Proper.{is_priority, is_proper_cmd, is_want}
+use Rattle.farm_types.specs.Refuse.{can_cancel, job_is, owned_by}
+use Rattle.farm_types.specs.Sound.{IsSound}
+use Rattle.std.specs.Str.{is_utf8}
+use Rattle.farm_types.specs.Words.{IsName, is_word}
 use Rattle.farm_types.specs.declared.calls.Cmd.{Cmd}
+use Rattle.farm_types.specs.declared.rows.JobRow.{JobRow}
+use Rattle.farm_types.specs.declared.rows.JobState.{JobState}
+use Rattle.farm_types.specs.declared.rows.Outcome.{Outcome}
+use Rattle.farm_types.specs.declared.rows.Want.{Want}
 use Rattle.farm_types.proofs.Put.{AllByRecursion-weaker}
-use Rattle.farm_sound.proofs.Where.{AllByRecursion-both}
-use Rattle.farm_sound.proofs.Group.{all_tested}
-use Rattle.farm_sound.proofs.Commands.{both, same_number, IsSound-start, IsSound-cancel}
-use Rattle.farm_sound.proofs.Rest.{IsSound-finish}
+use Rattle.farm_sound.proofs.Accepted.{Acted, IsAccepted, acted_one, low_job}
+use Rattle.farm_sound.proofs.Clear.{IsSome-from, first_clear, passes, some_of}
+use Rattle.farm_sound.proofs.Finish.{IsSound-finish}
+use Rattle.farm_sound.proofs.Jobs.{IsSound-cancel, IsSound-start}
+use Rattle.farm_sound.proofs.Lists.{all_tested, none_passes}
 use Rattle.farm_sound.proofs.Submit.{IsSound-submit}
-use Rattle.farm_sound.proofs.Clear.{first_clear, not_false, some_of, IsSome-from, passes, none_passes}
-use Rattle.farm_sound.proofs.Accepted.{IsAccepted, Acted, acted_one, low_job}
-
-scheduled_from : (s : JobState) → same_job_state s JobState.Scheduled ≡ true → s ≡ JobState.Scheduled
-scheduled_from JobState.Scheduled is = refl
-scheduled_from JobState.Submitted is = absurd (false≢true is)
-scheduled_from JobState.Running is = absurd (false≢true is)
-scheduled_from JobState.Canceling is = absurd (false≢true is)
-scheduled_from JobState.Finished is = absurd (false≢true is)
-
-started_from : (s : JobState) → (same_job_state s JobState.Running || same_job_state s JobState.Canceling) ≡ true → (phase s ≡ 2) × (s ≡ JobState.Finished → ⊥)
-started_from JobState.Running is = (refl, λ e. cc)
-started_from JobState.Canceling is = (refl, λ e. cc)
-started_from JobState.Submitted is = absurd (false≢true is)
-started_from JobState.Scheduled is = absurd (false≢true is)
-started_from JobState.Finished is = absurd (false≢true is)
+use Rattle.farm_sound.proofs.Tests.{both, not_false, same_number, scheduled_from, started_from}
+use Rattle.farm_sound.proofs.Where.{AllByRecursion-both}
 
 module _ (F : Farm) (t : ℕ) (caller : List ℕ) (sound : IsSound F) where
   wanted : (w : Want) → (option_map_or (λ kind. is_none (type_of F kind)) w.kind false) ≡ false → (is_some w.kind && is_want w) ≡ true
       → IsSomeAnd w.kind (λ kind. IsSome (type_of F kind)) × IsTrue (is_want w)
   wanted w clear proper = (by w.kind clear (both (is_some w.kind) (is_want w) proper).0, (both (is_some w.kind) (is_want w) proper).1)
     where
-      by : (o : Option (List ℕ)) → option_map_or (λ kind. is_none (type_of F kind)) o false ≡ false → is_some o ≡ true → IsSomeAnd o (λ kind. IsSome (type_of F kind))
+      by : (o : Option (List ℕ)) → option_map_or (λ kind. is_none (type_of F kind)) o false ≡ false → is_some o ≡ true
+          → IsSomeAnd o (λ kind. IsSome (type_of F kind))
       by None clear some = absurd (false≢true some)
       by (Some kind) clear some = IsSome-from (type_of F kind) clear
 
@@ -61,16 +50,21 @@ module _ (F : Farm) (t : ℕ) (caller : List ℕ) (sound : IsSound F) where
       let kinds = λ (w : Want). option_map_or (λ kind. is_none (type_of F kind)) w.kind false in
       let full = λ (w : Want). is_some w.kind && is_want w in
       let words = λ (r : Option (List ℕ)). option_map_or (is_word 48) r true in
-      let p6 = both (is_priority priority && nat_le 1 (length wants) && nat_le (length wants) 4 && list_all full wants && (length roles == length wants) && list_all words roles) (nat_le (length body) 65536) is.proper in
-      let p5 = both (is_priority priority && nat_le 1 (length wants) && nat_le (length wants) 4 && list_all full wants && (length roles == length wants)) (list_all words roles) p6.0 in
+      let p7 = both (is_priority priority && nat_le 1 (length wants) && nat_le
+      (length wants) 4 && list_all full wants && (length roles == length wants) && list_all words roles && nat_le (length body) 65536) (is_utf8 body) is.proper in
+      let p6 = both (is_priority priority && nat_le 1 (length wants) && nat_le
+      (length wants) 4 && list_all full wants && (length roles == length wants) && list_all words roles) (nat_le (length body) 65536) p7.0 in
+      let p5 = both (is_priority priority && nat_le 1 (length wants) && nat_le
+      (length wants) 4 && list_all full wants && (length roles == length wants)) (list_all words roles) p6.0 in
       let p4 = both (is_priority priority && nat_le 1 (length wants) && nat_le (length wants) 4 && list_all full wants) (length roles == length wants) p5.0 in
       let p3 = both (is_priority priority && nat_le 1 (length wants) && nat_le (length wants) 4) (list_all full wants) p4.0 in
       let p2 = both (is_priority priority && nat_le 1 (length wants)) (nat_le (length wants) 4) p3.0 in
       let p1 = both (is_priority priority) (nat_le 1 (length wants)) p2.0 in
       let clear = first_clear (list_any kinds wants) 10 ((is_none (least F.boards not_retired wants), 22) ∷ []) is.clear in
-      let room = both (nat_le (length F.jobs + length wants) 100000) (nat_le (F.next + length wants) 1000000000) (not_false (has_room F (length wants)) is.room) in
+      let room = both (nat_le (length F.jobs + length wants) 100000) (nat_le (F.next + length wants) 1000000000)
+      (not_false (has_room F (length wants)) is.room) in
       acted_one F (act F caller (Cmd.Submit priority wants roles body)).farm F.next refl sound.steady.next.1
-      (IsSound-submit F caller priority wants roles body sound is.caller p1.0 (let e = p6.1 in grind (arith, nat_tests))
+      (IsSound-submit F caller priority wants roles body sound is.caller p1.0 (let e = p6.1 in grind (arith, nat_tests)) p7.1
       (AllByRecursion-weaker (λ w two. wanted w two.0 two.1) wants
       (AllByRecursion-both (λ w. kinds w ≡ false) (λ w. full w ≡ true) wants (none_passes kinds wants clear.0) (all_tested full wants p3.1)))
       (AllByRecursion-weaker named roles (all_tested words roles p5.1)) (same_number (length roles) (length wants) p4.1)

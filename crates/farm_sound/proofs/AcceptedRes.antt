@@ -1,42 +1,29 @@
 -- The commands on reservations and the pass, where they aren't refused.
-use Rattle.std.proofs.Common.{◌≡◌, ℕ, ◌+◌, ◌||◌, not, nat_le, is_none, Bool, true, List, [], ◌∷◌, length, Some, None, refl, ap, ◌∙◌, arith}
-use mathlib.Core.Bool.{false≢true}
+use Rattle.std.proofs.Common.{◌+◌, ◌||◌, ◌∙◌, ◌∷◌, ◌≡◌, Bool, List, None, Some, ap, arith, is_none, length, nat_le, not, refl, true, ℕ, []}
 use Rattle.std.specs.Str.{bytes_eq}
 use Rattle.std.proofs.lemmas.Bool.Decides.{nat_tests}
-use Rattle.farm_types.specs.Words.{is_tags}
-use Rattle.farm_types.specs.Codes.{same_res_state}
-use Rattle.farm_types.specs.Proper.{is_proper_cmd, is_priority}
-use Rattle.farm_types.specs.Farm.{Farm, res_of}
-use Rattle.farm_types.specs.Pass.{is_dead, expire, checks}
-use Rattle.farm_types.specs.Refuse.{first_code, res_reasons, res_is, owned_by, is_alive}
 use Rattle.farm_types.specs.Change.{act}
+use Rattle.farm_types.specs.Codes.{same_res_state}
+use Rattle.farm_types.specs.Farm.{Farm, res_of}
+use Rattle.farm_types.specs.Pass.{checks, expire, is_dead}
+use Rattle.farm_types.specs.Proper.{is_priority, is_proper_cmd}
+use Rattle.farm_types.specs.Refuse.{first_code, is_alive, owned_by, res_is, res_reasons}
 use Rattle.farm_types.specs.Sound.{IsSound}
-use Rattle.farm_types.specs.declared.rows.State.{State}
-use Rattle.farm_types.specs.declared.rows.ResState.{ResState}
-use Rattle.farm_types.specs.declared.rows.ResRow.{ResRow}
+use Rattle.farm_types.specs.Words.{is_tags}
 use Rattle.farm_types.specs.declared.calls.Cmd.{Cmd}
+use Rattle.farm_types.specs.declared.rows.ResRow.{ResRow}
+use Rattle.farm_types.specs.declared.rows.ResState.{ResState}
+use Rattle.farm_types.specs.declared.rows.State.{State}
 use Rattle.farm_types.proofs.Put.{AllByRecursion-weaker}
+use Rattle.farm_sound.proofs.Accepted.{Acted, IsAccepted, acted_one, low_res}
+use Rattle.farm_sound.proofs.Checks.{IsSound-checks}
+use Rattle.farm_sound.proofs.Clear.{first_clear, passes, some_of}
+use Rattle.farm_sound.proofs.Lists.{length_filter}
 use Rattle.farm_sound.proofs.Own.{only_res}
-use Rattle.farm_sound.proofs.Commands.{both, goes_on, IsSound-expire, IsSound-refresh, IsSound-cancel_res}
-use Rattle.farm_sound.proofs.Rest.{IsSound-reserve, IsSound-checks}
+use Rattle.farm_sound.proofs.Replies.{few_served, pass_kept}
+use Rattle.farm_sound.proofs.Reservations.{IsSound-cancel_res, IsSound-expire, IsSound-refresh, IsSound-reserve, goes_on}
 use Rattle.farm_sound.proofs.Serve.{IsSound-pass}
-use Rattle.farm_sound.proofs.Clear.{both_false, first_clear, some_of, passes}
-use Rattle.farm_sound.proofs.Replies.{length_filter, few_served, pass_kept}
-use Rattle.farm_sound.proofs.Accepted.{IsAccepted, Acted, acted_one, low_res}
-
-allocated_from : (s : ResState) → same_res_state s ResState.Allocated ≡ true → s ≡ ResState.Allocated
-allocated_from ResState.Allocated is = refl
-allocated_from ResState.Waiting is = absurd (false≢true is)
-allocated_from ResState.Acquired is = absurd (false≢true is)
-allocated_from ResState.Expired is = absurd (false≢true is)
-allocated_from ResState.Canceled is = absurd (false≢true is)
-
-acquired_from : (s : ResState) → same_res_state s ResState.Acquired ≡ true → s ≡ ResState.Acquired
-acquired_from ResState.Acquired is = refl
-acquired_from ResState.Waiting is = absurd (false≢true is)
-acquired_from ResState.Allocated is = absurd (false≢true is)
-acquired_from ResState.Expired is = absurd (false≢true is)
-acquired_from ResState.Canceled is = absurd (false≢true is)
+use Rattle.farm_sound.proofs.Tests.{acquired_from, allocated_from, both, both_false}
 
 -- the reservation of one of the four commands is there, and in a right state
 right_res : (F : Farm) (t n : ℕ) (mine right : ResRow → Bool) → first_code (res_reasons F t n mine right) ≡ None
@@ -52,27 +39,31 @@ right_res F t n mine right is =
     (r.0, r.1, passes right (res_of F n) r.0 r.1 (first_clear wrong 32 [] alive.1).0)
 
 module _ (F : Farm) (t : ℕ) (caller : List ℕ) (sound : IsSound F) where
-  pub acted_reserve : (priority : ℕ) (tags : List (List ℕ)) → IsAccepted F t caller (Cmd.Reserve priority tags) → Acted F (act F caller (Cmd.Reserve priority tags))
+  pub acted_reserve : (priority : ℕ) (tags : List (List ℕ)) → IsAccepted F t caller (Cmd.Reserve priority tags)
+      → Acted F (act F caller (Cmd.Reserve priority tags))
   unfolding is_proper_cmd
   acted_reserve priority tags is =
       let words = both (is_priority priority) (is_tags tags) is.proper in
       let rooms = both_false (nat_le 100000 (length F.reservations)) (nat_le 1000000000 F.next) is.room in
       acted_one F (act F caller (Cmd.Reserve priority tags)).farm F.next refl sound.steady.next.1
-      (IsSound-reserve F caller priority tags is.caller words.0 words.1 (let r = rooms.0 in grind (arith, nat_tests)) (let r = rooms.1 in grind (arith, nat_tests)) sound)
+      (IsSound-reserve F caller priority tags is.caller words.0 words.1 (let r = rooms.0 in grind (arith, nat_tests))
+      (let r = rooms.1 in grind (arith, nat_tests)) sound)
 
   pub acted_acquire : (n : ℕ) → IsAccepted F t caller (Cmd.Acquire n) → Acted F (act F caller (Cmd.Acquire n))
   acted_acquire n is =
       let r = right_res F t n (λ r. bytes_eq caller r.owner) (λ r. same_res_state r.state ResState.Allocated) is.clear in
       acted_one F (act F caller (Cmd.Acquire n)).farm n refl (low_res F n r.0 r.1 sound)
       (goes_on F n ResState.Allocated ResState.Acquired State.Reserved State.Running (λ d. d) (λ k low. low) refl refl
-      (AllByRecursion-weaker (λ q one same. ap (λ (x : ResRow). x.state) (one same) ∙ allocated_from r.0.state r.2) F.reservations (only_res F sound.steady n r.0 r.1)) sound)
+      (AllByRecursion-weaker (λ q one same. ap (λ (x : ResRow). x.state) (one same) ∙ allocated_from r.0.state r.2) F.reservations
+      (only_res F sound.steady n r.0 r.1)) sound)
 
   pub acted_release : (n : ℕ) → IsAccepted F t caller (Cmd.Release n) → Acted F (act F caller (Cmd.Release n))
   acted_release n is =
       let r = right_res F t n (λ r. owned_by caller r.owner) (λ r. same_res_state r.state ResState.Acquired) is.clear in
       acted_one F (act F caller (Cmd.Release n)).farm n refl (low_res F n r.0 r.1 sound)
       (goes_on F n ResState.Acquired ResState.Allocated State.Running State.Reserved (λ d. F.clock + 60) (λ k low. omega arith) refl refl
-      (AllByRecursion-weaker (λ q one same. ap (λ (x : ResRow). x.state) (one same) ∙ acquired_from r.0.state r.2) F.reservations (only_res F sound.steady n r.0 r.1)) sound)
+      (AllByRecursion-weaker (λ q one same. ap (λ (x : ResRow). x.state) (one same) ∙ acquired_from r.0.state r.2) F.reservations
+      (only_res F sound.steady n r.0 r.1)) sound)
 
   pub acted_refresh : (n : ℕ) → IsAccepted F t caller (Cmd.Refresh n) → Acted F (act F caller (Cmd.Refresh n))
   acted_refresh n is =

@@ -1,23 +1,24 @@
 -- A row with the next number is added.
-use Rattle.std.proofs.Common.{◌≡◌, ℕ, ◌+◌, ◌==◌, ◌<◌, Bool, true, false, cond, length, Some, None, IsNone, IsSomeAnd, refl, sym, ap, ◌∙◌, subst, arith}
+use Rattle.std.proofs.Common.{◌+◌, ◌<◌, ◌==◌, ◌∙◌, ◌≡◌, Bool, IsNone, IsSomeAnd, None, Some, ap, arith, cond, false, length, refl, subst, sym, true, ℕ}
+use Rattle.std.specs.Cmp.{IsTotalOrder, nat_cmp_total, on_total}
 use Rattle.std.specs.List.{AllByRecursion, find}
 use Rattle.std.specs.Option.{option_map_or}
-use Rattle.std.specs.Str.{bytes_eq}
 use Rattle.std.specs.Ordering.{nat_cmp}
+use Rattle.std.specs.Str.{bytes_eq}
 use Rattle.std.specs.declared.cmp.Ordering.TheVariants.{Equal}
-use Rattle.std.specs.Cmp.{on_total, nat_cmp_total, IsTotalOrder}
 use Rattle.std.proofs.lemmas.Bool.Decides.{nat_tests}
 use Rattle.std.proofs.lemmas.Cmp.{ranked, tied_itself}
-use Rattle.farm_types.specs.Table.{put, job_cmp, res_cmp}
 use Rattle.farm_types.specs.Farm.{Farm, job_of, res_of}
-use Rattle.farm_types.specs.Sound.{IsSteady, IsJobRow, IsResRow, IsHeldByKeys, IsHeldBy, hold_of, job_hold, res_hold}
-use Rattle.farm_types.specs.declared.rows.Holder.{Holder}
+use Rattle.farm_types.specs.Pass.{held}
+use Rattle.farm_types.specs.Sound.{IsHeldBy, IsHeldByKeys, IsJobRow, IsResRow, IsSteady, hold_of, job_hold, res_hold}
+use Rattle.farm_types.specs.Table.{job_cmp, put, res_cmp}
 use Rattle.farm_types.specs.declared.rows.BoardRow.{BoardRow}
+use Rattle.farm_types.specs.declared.rows.Holder.{Holder}
 use Rattle.farm_types.specs.declared.rows.JobRow.{JobRow}
 use Rattle.farm_types.specs.declared.rows.ResRow.{ResRow}
-use Rattle.farm_types.proofs.Put.{AllByRecursion-put, AllByRecursion-weaker, put_sorted, length_put, find_put_is, found_has, found_passes}
+use Rattle.farm_types.proofs.Put.{AllByRecursion-put, AllByRecursion-weaker, find_put_is, found_has, found_passes, length_put, put_sorted}
 use Rattle.farm_sound.proofs.Grow.{Grows, IsBoardRow-grows, IsJobRow-grows, IsResRow-grows}
-use Rattle.farm_sound.proofs.Own.{fresh_job, fresh_res, differs_more}
+use Rattle.farm_sound.proofs.Own.{differs_more, fresh_job, fresh_res}
 
 -- the same holds and the same boards
 pub IsHeldByKeys-same : (F G : Farm) → ((h : Holder) → hold_of G h ≡ hold_of F h) → G.boards ≡ F.boards → IsHeldByKeys F → IsHeldByKeys G
@@ -72,7 +73,8 @@ module _ (F : Farm) (row : JobRow) where
     next = omega arith;
   }
 
-  pub IsSteady-add_job : row.number ≡ F.next → length F.jobs < 100000 → F.next < 1000000000 → IsJobRow (add_job row F) row → IsSteady F → IsSteady (add_job row F)
+  pub IsSteady-add_job : row.number ≡ F.next → length F.jobs < 100000 → F.next < 1000000000 → IsJobRow (add_job row F) row → IsSteady F
+      → IsSteady (add_job row F)
   IsSteady-add_job fresh room numbers is steady =
       let G = add_job row F in
       let grows = Grows-add_job steady fresh in
@@ -99,10 +101,12 @@ module _ (F : Farm) (row : JobRow) where
       }
 
   -- the row holds nothing: all holds stay
-  hold_at : (n : ℕ) (v : Bool) → (row.number == n) ≡ v → IsSteady F → row.number ≡ F.next → job_hold row ≡ None → hold_of (add_job row F) (Holder.Job n) ≡ hold_of F (Holder.Job n)
+  hold_at : (n : ℕ) (v : Bool) → (row.number == n) ≡ v → IsSteady F → row.number ≡ F.next → job_hold row ≡ None
+      → hold_of (add_job row F) (Holder.Job n) ≡ hold_of F (Holder.Job n)
   hold_at n true same steady fresh nothing =
       let e : row.number ≡ n = (grind (arith, nat_tests)) in
-      ap (λ o. option_map_or job_hold o None) (job_of-add n ∙ ap (λ v. cond v (Some row) (job_of F n)) same) ∙ nothing ∙ sym (ap (λ o. option_map_or job_hold o None) (fresh_job F steady n (omega (arith, e, fresh))))
+      ap (λ o. option_map_or job_hold o None) (job_of-add n ∙ ap (λ v. cond v (Some row) (job_of F n)) same) ∙ nothing
+      ∙ sym (ap (λ o. option_map_or job_hold o None) (fresh_job F steady n (omega (arith, e, fresh))))
   hold_at n false other steady fresh nothing = ap (λ o. option_map_or job_hold o None) (job_of-add n ∙ ap (λ v. cond v (Some row) (job_of F n)) other)
 
   pub IsHeldByKeys-add_job : IsSteady F → row.number ≡ F.next → job_hold row ≡ None → IsHeldByKeys F → IsHeldByKeys (add_job row F)
@@ -129,12 +133,14 @@ module _ (F : Farm) (row : ResRow) where
     types = λ k h. h;
     boards = λ k h. h;
     jobs = λ n p is. (p, is, refl, refl, refl, refl);
-    reservations = λ n lt none. subst IsNone (sym (res_of-add n ∙ ap (λ v. cond v (Some row) (res_of F n)) (differs_more row.number n (omega (arith, lt, fresh))))) none;
+    reservations = λ n lt none. subst IsNone
+        (sym (res_of-add n ∙ ap (λ v. cond v (Some row) (res_of F n)) (differs_more row.number n (omega (arith, lt, fresh))))) none;
     clock = omega arith;
     next = omega arith;
   }
 
-  pub IsSteady-add_res : row.number ≡ F.next → length F.reservations < 100000 → F.next < 1000000000 → IsResRow (add_res row F) row → IsSteady F → IsSteady (add_res row F)
+  pub IsSteady-add_res : row.number ≡ F.next → length F.reservations < 100000 → F.next < 1000000000 → IsResRow (add_res row F) row → IsSteady F
+      → IsSteady (add_res row F)
   IsSteady-add_res fresh room numbers is steady =
       let G = add_res row F in
       let grows = Grows-add_res steady fresh in
@@ -147,7 +153,8 @@ module _ (F : Farm) (row : ResRow) where
         types = steady.types;
         boards = AllByRecursion-weaker (IsBoardRow-grows F G grows) F.boards steady.boards;
         jobs = AllByRecursion-weaker (IsJobRow-grows F G grows) F.jobs steady.jobs;
-        reservations = AllByRecursion-put res_cmp res_total row (IsResRow G) is F.reservations (AllByRecursion-weaker (IsResRow-grows F G grows) F.reservations steady.reservations);
+        reservations = AllByRecursion-put res_cmp res_total row (IsResRow G) is F.reservations
+            (AllByRecursion-weaker (IsResRow-grows F G grows) F.reservations steady.reservations);
         kept = steady.kept;
         few_types = steady.few_types;
         few_boards = steady.few_boards;
@@ -161,10 +168,12 @@ module _ (F : Farm) (row : ResRow) where
       }
 
   -- the row holds nothing: all holds stay
-  res_hold_at : (n : ℕ) (v : Bool) → (row.number == n) ≡ v → IsSteady F → row.number ≡ F.next → res_hold row ≡ None → hold_of (add_res row F) (Holder.Res n) ≡ hold_of F (Holder.Res n)
+  res_hold_at : (n : ℕ) (v : Bool) → (row.number == n) ≡ v → IsSteady F → row.number ≡ F.next → res_hold row ≡ None
+      → hold_of (add_res row F) (Holder.Res n) ≡ hold_of F (Holder.Res n)
   res_hold_at n true same steady fresh nothing =
       let e : row.number ≡ n = (grind (arith, nat_tests)) in
-      ap (λ o. option_map_or res_hold o None) (res_of-add n ∙ ap (λ v. cond v (Some row) (res_of F n)) same) ∙ nothing ∙ sym (ap (λ o. option_map_or res_hold o None) (fresh_res F steady n (omega (arith, e, fresh))))
+      ap (λ o. option_map_or res_hold o None) (res_of-add n ∙ ap (λ v. cond v (Some row) (res_of F n)) same) ∙ nothing
+      ∙ sym (ap (λ o. option_map_or res_hold o None) (fresh_res F steady n (omega (arith, e, fresh))))
   res_hold_at n false other steady fresh nothing = ap (λ o. option_map_or res_hold o None) (res_of-add n ∙ ap (λ v. cond v (Some row) (res_of F n)) other)
 
   pub IsHeldByKeys-add_res : IsSteady F → row.number ≡ F.next → res_hold row ≡ None → IsHeldByKeys F → IsHeldByKeys (add_res row F)

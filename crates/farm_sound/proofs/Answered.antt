@@ -1,12 +1,12 @@
 -- What the machine answers, by what the tests found.
-use Rattle.std.proofs.Common.{◌≡◌, ℕ, ◌<◌, Bool, true, false, Option, Some, None, refl, sym, ap, arith}
+use Rattle.std.proofs.Common.{◌<◌, ◌≡◌, Bool, None, Option, Some, ap, arith, false, refl, sym, true, ℕ}
 use Rattle.std.specs.Bool.{then_some}
 use Rattle.std.specs.Option.{option_or}
 use Rattle.std.proofs.lemmas.Bool.Decides.{nat_tests}
-use Rattle.farm_types.specs.Farm.{Farm}
-use Rattle.farm_types.specs.Refuse.{refusal, early_refusal, own_refusal, is_full}
 use Rattle.farm_types.specs.Change.{change}
-use Rattle.farm_types.specs.Machine.{Answered, Changed, Repeated, Denied, repeated, answer, answer_by, step, step_by}
+use Rattle.farm_types.specs.Farm.{Farm}
+use Rattle.farm_types.specs.Machine.{Answered, Changed, Denied, Repeated, answer, answer_by, repeated, step, step_by}
+use Rattle.farm_types.specs.Refuse.{early_refusal, is_full, own_refusal, refusal}
 use Rattle.farm_types.specs.declared.calls.Call.{Call}
 use Rattle.farm_types.specs.declared.rows.Reply.{Reply}
 
@@ -29,7 +29,8 @@ answers_denied F call code none is = record {
   step = λ i. step_by (answer_by (sym none i) (sym is i) (change F call).reply) F (change F call).farm;
 }
 
-pub answers_changed : (F : Farm) (call : Call) → None ≡ repeated F call → None ≡ refusal F call → Answers F call (Changed (change F call).reply) (change F call).farm
+pub answers_changed : (F : Farm) (call : Call) → None ≡ repeated F call → None ≡ refusal F call
+    → Answers F call (Changed (change F call).reply) (change F call).farm
 unfolding answer step
 answers_changed F call none is = record {
   answer = λ i. answer_by (sym none i) (sym is i) (change F call).reply;

@@ -1,25 +1,26 @@
 -- The commands on types and boards keep soundness.
-use Rattle.std.proofs.Common.{◌≡◌, ℕ, ◌+◌, ◌<◌, ◌≤◌, Bool, true, false, cond, List, [], ◌∷◌, length, Some, None, IsSomeAnd, refl, sym, ap, ◌∙◌, subst, arith}
-use Rattle.std.specs.List.{find, filter}
-use Rattle.std.specs.Str.{bytes_eq}
-use Rattle.std.specs.Ordering.{is_eq}
-use Rattle.std.specs.declared.cmp.Ordering.TheVariants.{Equal}
+use Rattle.std.proofs.Common.{◌+◌, ◌<◌, ◌∙◌, ◌∷◌, ◌≡◌, ◌≤◌, Bool, IsSomeAnd, List, None, Some, ap, arith, cond, false, length, refl, subst, sym, true, ℕ, []}
 use Rattle.std.specs.Cmp.{IsTotalOrder, on_total}
 use Rattle.std.specs.Cmp.Lexicographic.{nat_list_cmp_total, nat_list_eq_equiv}
+use Rattle.std.specs.List.{filter, find}
+use Rattle.std.specs.Ordering.{is_eq}
+use Rattle.std.specs.Str.{bytes_eq}
+use Rattle.std.specs.declared.cmp.Ordering.TheVariants.{Equal}
 use Rattle.std.proofs.lemmas.Cmp.{tied_itself}
 use Rattle.std.proofs.lemmas.Map.Text.{is_eq-slice_cmp}
 use Rattle.std.proofs.lemmas.Slice.Eq.{bytes_eq-Decides}
+use Rattle.farm_types.specs.Farm.{Farm, board_of, put_board, put_type}
+use Rattle.farm_types.specs.Pass.{held, idle}
+use Rattle.farm_types.specs.Sound.{Hold, IsBoardRow, IsHeldBy, IsHeldByKeys, IsSound, IsSteady, IsTypeRow, hold_of, holds}
+use Rattle.farm_types.specs.Table.{board_cmp, type_cmp}
 use Rattle.farm_types.specs.Words.{text_cmp}
-use Rattle.farm_types.specs.Table.{type_cmp, board_cmp}
-use Rattle.farm_types.specs.Farm.{Farm, board_of, put_type, put_board}
-use Rattle.farm_types.specs.Sound.{IsSound, IsSteady, IsTypeRow, IsBoardRow, IsHeldBy, IsHeldByKeys, Hold, hold_of}
+use Rattle.farm_types.specs.declared.rows.BoardRow.{BoardRow}
 use Rattle.farm_types.specs.declared.rows.Holder.{Holder}
 use Rattle.farm_types.specs.declared.rows.State.{State}
 use Rattle.farm_types.specs.declared.rows.TypeRow.{TypeRow}
-use Rattle.farm_types.specs.declared.rows.BoardRow.{BoardRow}
-use Rattle.farm_types.proofs.Put.{AllByRecursion-put, AllByRecursion-weaker, put_sorted, find_put, find_put_is, length_put, count_put, count_replaced, found_has, found_passes}
-use Rattle.farm_sound.proofs.Grow.{Grows, same_texts, IsBoardRow-grows, IsJobRow-grows, IsResRow-grows}
+use Rattle.farm_types.proofs.Put.{AllByRecursion-put, AllByRecursion-weaker, count_put, count_replaced, find_put, find_put_is, found_has, found_passes, length_put, put_sorted}
 use Rattle.farm_sound.proofs.Add.{IsHeldByKeys-same}
+use Rattle.farm_sound.proofs.Grow.{Grows, IsBoardRow-grows, IsJobRow-grows, IsResRow-grows, same_texts}
 
 pub type_total : IsTotalOrder type_cmp
 type_total = on_total (λ (r : TypeRow). r.name) nat_list_cmp_total
@@ -150,9 +151,11 @@ IsHeldByKeys-put_board F row told holds held = record {
     still b (Holder.Res n) is = is
 
     rows : (h : Holder) (x : Hold) → hold_of G h ≡ Some x → IsSomeAnd (board_of G x.board) (λ b. b.holder ≡ h)
-    rows h x is = subst (λ o. IsSomeAnd o (λ b. b.holder ≡ h)) (sym (board_of-put F row x.board)) (by (bytes_eq row.name x.board) refl (held.rows h x (sym (same h) ∙ is)))
+    rows h x is = subst (λ o. IsSomeAnd o (λ b. b.holder ≡ h)) (sym (board_of-put F row x.board))
+        (by (bytes_eq row.name x.board) refl (held.rows h x (sym (same h) ∙ is)))
       where
-        by : (v : Bool) → bytes_eq row.name x.board ≡ v → IsSomeAnd (board_of F x.board) (λ b. b.holder ≡ h) → IsSomeAnd (cond v (Some row) (board_of F x.board)) (λ b. b.holder ≡ h)
+        by : (v : Bool) → bytes_eq row.name x.board ≡ v → IsSomeAnd (board_of F x.board) (λ b. b.holder ≡ h)
+            → IsSomeAnd (cond v (Some row) (board_of F x.board)) (λ b. b.holder ≡ h)
         by true at was = holds h (subst (λ k. IsSomeAnd (board_of F k) (λ b. b.holder ≡ h)) (sym ((bytes_eq-Decides row.name x.board).0 at)) was)
         by false at was = was
 
@@ -176,7 +179,8 @@ pub IsSound-put_board : (F : Farm) (row : BoardRow) → IsBoardRow F row → boa
     → length F.boards < 256 → length (filter (λ b. bytes_eq b.kind row.kind) F.boards) < 64 → IsSound F → IsSound (put_board F row)
 IsSound-put_board F row is absent nobody idle room room_of_kind sound = record {
   steady = IsSteady-put_board F row is (omega (arith, length_put board_cmp board_total row F.boards))
-      (λ kind. few_more F row room_of_kind kind (sound.steady.few_of_kind kind) _ (count_put board_cmp board_total row (λ b. bytes_eq b.kind kind) F.boards)) sound.steady;
+      (λ kind. few_more F row room_of_kind kind (sound.steady.few_of_kind kind) _
+      (count_put board_cmp board_total row (λ b. bytes_eq b.kind kind) F.boards)) sound.steady;
   held = IsHeldByKeys-put_board F row (subst (IsHeldBy F row) (sym nobody) idle)
       (λ h was. absurd (subst (λ o. IsSomeAnd o (λ b. b.holder ≡ h)) absent was)) sound.held;
   whole = sound.whole;

@@ -1,22 +1,14 @@
 -- What a call that isn't refused has: each reason's test fails.
-use Rattle.std.proofs.Common.{◌≡◌, ℕ, ◌||◌, not, is_some, is_none, Bool, true, false, List, [], ◌∷◌, Option, Some, None, IsSome, refl, sym, ap, ◌∙◌}
+use Rattle.std.proofs.Common.{◌∙◌, ◌∷◌, ◌≡◌, Bool, IsSome, List, None, Option, Some, ap, false, is_none, is_some, not, refl, sym, true, ℕ}
 use mathlib.Core.Bool.{false≢true}
-use Rattle.std.specs.List.{AllByRecursion, list_any}
 use Rattle.std.specs.Option.{option_map_or}
 use Rattle.farm_types.specs.Refuse.{first_code}
-
-pub both_false : (a b : Bool) → (a || b) ≡ false → (a ≡ false) × (b ≡ false)
-both_false true b is = absurd (false≢true (sym is))
-both_false false b is = (refl, is)
+use Rattle.farm_sound.proofs.Tests.{not_false}
 
 -- the first reason doesn't apply, and no later one
 pub first_clear : (b : Bool) (code : ℕ) (rest : List (Bool × ℕ)) → first_code ((b, code) ∷ rest) ≡ None → (b ≡ false) × (first_code rest ≡ None)
 first_clear true code rest is = cc
 first_clear false code rest is = (refl, is)
-
-pub not_false : (b : Bool) → not b ≡ false → b ≡ true
-not_false true is = refl
-not_false false is = absurd (false≢true (sym is))
 
 -- what isn't missing is there
 pub some_of : {A : Type 0} (o : Option A) → is_none o ≡ false → (a : A) × (o ≡ Some a)
@@ -38,8 +30,3 @@ passes test o a there is = sym (ap (λ p. option_map_or test p false) there) ∙
 -- or doesn't
 pub fails : {A : Type 0} (test : A → Bool) (o : Option A) (a : A) → o ≡ Some a → option_map_or test o false ≡ false → test a ≡ false
 fails test o a there is = sym (ap (λ p. option_map_or test p false) there) ∙ is
-
--- none of a list passes
-pub none_passes : {A : Type 0} (test : A → Bool) (xs : List A) → list_any test xs ≡ false → AllByRecursion (λ x. test x ≡ false) xs
-none_passes test [] is = tt
-none_passes test (x ∷ xs) is = let two = both_false (test x) (list_any test xs) is in (two.0, none_passes test xs two.1)

@@ -1,9 +1,9 @@
 -- Rows with different keys are put in any order.
-use Rattle.std.proofs.Common.{◌≡◌, List, [], ◌∷◌, refl, sym, ap, ◌∙◌}
+use Rattle.std.proofs.Common.{◌∙◌, ◌∷◌, ◌≡◌, List, ap, refl, sym, []}
 use Rattle.std.specs.Cmp.{IsTotalOrder}
 use Rattle.std.specs.Ordering.{match_ordering, ordering_reverse}
-use Rattle.std.specs.declared.cmp.Ordering.TheVariants.{Less, Equal, Greater}
 use Rattle.std.specs.declared.cmp.Ordering.{Ordering}
+use Rattle.std.specs.declared.cmp.Ordering.TheVariants.{Equal, Greater, Less}
 use Rattle.farm_types.specs.Table.{put}
 
 module _ {R : Type 0} (cmp : R → R → Ordering) (total : IsTotalOrder cmp) where
@@ -21,7 +21,8 @@ module _ {R : Type 0} (cmp : R → R → Ordering) (total : IsTotalOrder cmp) wh
   flip a b o is = total.antisymm b a ∙ ap ordering_reverse is
 
   -- two rows that both stand below the others
-  both_first : (a b : R) (rows : List R) → (cmp a b ≡ Equal → ⊥) → put cmp rows a ≡ a ∷ rows → put cmp rows b ≡ b ∷ rows → put cmp (a ∷ rows) b ≡ put cmp (b ∷ rows) a
+  both_first : (a b : R) (rows : List R) → (cmp a b ≡ Equal → ⊥) → put cmp rows a ≡ a ∷ rows → put cmp rows b ≡ b ∷ rows
+      → put cmp (a ∷ rows) b ≡ put cmp (b ∷ rows) a
   both_first a b rows apart first second = by (cmp a b) refl
     where
       by : (o : Ordering) → cmp a b ≡ o → put cmp (a ∷ rows) b ≡ put cmp (b ∷ rows) a

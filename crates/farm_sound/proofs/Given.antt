@@ -1,18 +1,18 @@
 -- A board that nobody holds is given to a row that holds none.
-use Rattle.std.proofs.Common.{◌≡◌, ℕ, ◌⊎◌, inl, inr, Bool, true, false, cond, List, map, Option, Some, None, IsSomeAnd, refl, sym, ap, ◌∙◌, subst}
+use Rattle.std.proofs.Common.{◌∙◌, ◌≡◌, ◌⊎◌, Bool, IsSomeAnd, List, None, Option, Some, ap, cond, false, inl, inr, map, refl, subst, sym, true, ℕ}
 use Rattle.std.specs.List.{AllByRecursion}
 use Rattle.std.specs.Option.{option_map}
 use Rattle.std.specs.Str.{bytes_eq}
 use Rattle.std.proofs.lemmas.Slice.Eq.{bytes_eq-Decides}
 use Rattle.farm_types.specs.Farm.{Farm, board_of}
 use Rattle.farm_types.specs.Pass.{held}
-use Rattle.farm_types.specs.Sound.{IsHeldBy, IsHeldByKeys, Hold, hold_of, shown}
+use Rattle.farm_types.specs.Sound.{Hold, IsHeldBy, IsHeldByKeys, hold_of, shown}
+use Rattle.farm_types.specs.declared.rows.BoardRow.{BoardRow}
 use Rattle.farm_types.specs.declared.rows.Holder.{Holder}
 use Rattle.farm_types.specs.declared.rows.State.{State}
-use Rattle.farm_types.specs.declared.rows.BoardRow.{BoardRow}
 use Rattle.farm_types.proofs.Put.{found_passes}
-use Rattle.farm_sound.proofs.Where.{AllByRecursion-map, by_cases}
 use Rattle.farm_sound.proofs.Held.{held_from}
+use Rattle.farm_sound.proofs.Where.{AllByRecursion-map, by_cases}
 
 module _ (F G : Farm) (h0 : Holder) (b0 : BoardRow) where
   -- the boards after the gift
@@ -28,7 +28,8 @@ module _ (F G : Farm) (h0 : Holder) (b0 : BoardRow) where
     pub boards : (name : List ℕ) → board_of G name ≡ option_map given_board (board_of F name)
     pub rows : G.boards ≡ map given_board F.boards
 
-  stays_by : (h : Holder) (x : Option Hold) → (hold_of G h ≡ hold_of F h) ⊎ (h ≡ h0) → hold_of F h0 ≡ None → (y : Hold) → hold_of F h ≡ Some y → hold_of G h ≡ Some y
+  stays_by : (h : Holder) (x : Option Hold) → (hold_of G h ≡ hold_of F h) ⊎ (h ≡ h0) → hold_of F h0 ≡ None → (y : Hold) → hold_of F h ≡ Some y
+      → hold_of G h ≡ Some y
   stays_by h x (inl same) nothing y is = same ∙ is
   stays_by h x (inr mine) nothing y is = let e : hold_of F h ≡ hold_of F h0 = ap (hold_of F) mine in cc
 
@@ -40,7 +41,8 @@ module _ (F G : Farm) (h0 : Holder) (b0 : BoardRow) where
   told_given : IsGift → (c : BoardRow) → IsHeldBy F c c.holder → IsHeldBy G (given_board c) (given_board c).holder
   told_given gift c told =
       by_cases (λ (d : BoardRow). IsHeldBy G d d.holder) (bytes_eq c.name b0.name) (held h0 State.Reserved c) c
-      (λ so. held_from G (held h0 State.Reserved c) h0 (gift.gets ∙ ap (λ n. Some (record { board = n; holder = h0; state = State.Reserved })) (sym ((bytes_eq-Decides c.name b0.name).0 so))))
+      (λ so. held_from G (held h0 State.Reserved c) h0
+      (gift.gets ∙ ap (λ n. Some (record { board = n; holder = h0; state = State.Reserved })) (sym ((bytes_eq-Decides c.name b0.name).0 so))))
       (λ _. stays_told gift c c.holder told)
 
   rows_given : IsGift → IsHeldByKeys F → (h : Holder) (x : Hold) → hold_of G h ≡ Some x → IsSomeAnd (board_of G x.board) (λ b. b.holder ≡ h)
@@ -49,7 +51,8 @@ module _ (F G : Farm) (h0 : Holder) (b0 : BoardRow) where
       itself : bytes_eq b0.name b0.name ≡ true
       itself = (bytes_eq-Decides b0.name b0.name).1 refl
 
-      there : hold_of F h ≡ Some x → (o : Option BoardRow) → board_of F x.board ≡ o → IsSomeAnd o (λ b. b.holder ≡ h) → (v : Option BoardRow → Bool) → IsSomeAnd (board_of G x.board) (λ b. b.holder ≡ h)
+      there : hold_of F h ≡ Some x → (o : Option BoardRow) → board_of F x.board ≡ o → IsSomeAnd o (λ b. b.holder ≡ h) → (v : Option BoardRow → Bool)
+          → IsSomeAnd (board_of G x.board) (λ b. b.holder ≡ h)
       there was None found told v = absurd told
       there was (Some c) found told v = other (bytes_eq c.name b0.name) refl
         where
@@ -63,7 +66,8 @@ module _ (F G : Farm) (h0 : Holder) (b0 : BoardRow) where
               let none : None ≡ Some x = ap (hold_of F) (sym nobody) ∙ was in
               cc
           other false apart =
-              let found' : board_of G x.board ≡ Some c = gift.boards x.board ∙ ap (option_map given_board) found ∙ ap (λ w. Some (cond w (held h0 State.Reserved c) c)) apart in
+              let found' : board_of G x.board ≡ Some c =
+              gift.boards x.board ∙ ap (option_map given_board) found ∙ ap (λ w. Some (cond w (held h0 State.Reserved c) c)) apart in
               rw found' told
 
       by : (hold_of G h ≡ hold_of F h) ⊎ (h ≡ h0) → IsSomeAnd (board_of G x.board) (λ b. b.holder ≡ h)
@@ -71,11 +75,14 @@ module _ (F G : Farm) (h0 : Holder) (b0 : BoardRow) where
       by (inr mine) =
           let e : Some x ≡ Some (record { board = b0.name; holder = h0; state = State.Reserved }) = sym is ∙ ap (hold_of G) mine ∙ gift.gets in
           let at : x ≡ record { board = b0.name; holder = h0; state = State.Reserved } = cc in
-          let found : board_of G x.board ≡ Some (held h0 State.Reserved b0) = ap (λ (y : Hold). board_of G y.board) at ∙ gift.boards b0.name ∙ ap (option_map given_board) gift.there ∙ ap (λ w. Some (cond w (held h0 State.Reserved b0) b0)) itself in
+          let found : board_of G x.board ≡ Some (held h0 State.Reserved b0) =
+          ap (λ (y : Hold). board_of G y.board) at ∙ gift.boards b0.name ∙ ap (option_map given_board) gift.there
+          ∙ ap (λ w. Some (cond w (held h0 State.Reserved b0) b0)) itself in
           rw found (sym mine)
 
   pub IsHeldByKeys-given : IsGift → IsHeldByKeys F → IsHeldByKeys G
   IsHeldByKeys-given gift held_in = record {
-    boards = subst (AllByRecursion (λ b. IsHeldBy G b b.holder)) (sym gift.rows) (AllByRecursion-map (λ b. IsHeldBy F b b.holder) (λ b. IsHeldBy G b b.holder) given_board (told_given gift) F.boards held_in.boards);
+    boards = subst (AllByRecursion (λ b. IsHeldBy G b b.holder)) (sym gift.rows)
+        (AllByRecursion-map (λ b. IsHeldBy F b b.holder) (λ b. IsHeldBy G b b.holder) given_board (told_given gift) F.boards held_in.boards);
     rows = rows_given gift held_in;
   }

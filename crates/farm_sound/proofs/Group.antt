@@ -1,69 +1,28 @@
 -- A group is given its boards, member by member.
-use Rattle.std.proofs.Common.{◌≡◌, ℕ, ◌==◌, ◌⊎◌, inl, inr, ◌&&◌, ◌||◌, not, Bool, true, false, cond, List, [], ◌∷◌, length, map, Some, refl, sym, ap, ◌∙◌, subst, arith}
+use Rattle.std.proofs.Common.{◌==◌, ◌||◌, ◌∙◌, ◌∷◌, ◌≡◌, ◌⊎◌, Bool, List, Some, ap, arith, cond, false, inl, inr, length, map, not, refl, subst, sym, true, ℕ, []}
 use mathlib.Core.Bool.{false≢true}
-use Rattle.std.specs.List.{AllByRecursion, filter, zip, fold, list_any, list_all}
+use Rattle.std.specs.Cmp.Lexicographic.{nat_list_eq_equiv}
+use Rattle.std.specs.List.{AllByRecursion, filter, fold, list_any, zip}
 use Rattle.std.specs.List.Sorted.{IsStrictlySortedBy}
-use Rattle.std.specs.declared.cmp.Ordering.TheVariants.{Less}
 use Rattle.std.specs.Str.{bytes_eq}
-use Rattle.std.specs.Cmp.Lexicographic.{nat_list_eq_equiv, as_long, pointwise}
+use Rattle.std.specs.declared.cmp.Ordering.TheVariants.{Less}
 use Rattle.std.proofs.lemmas.Bool.Decides.{nat_tests}
 use Rattle.std.proofs.lemmas.Cmp.{ranked}
-use Rattle.farm_types.specs.Codes.{same_health}
+use Rattle.farm_types.specs.Farm.{Farm, job_of, members}
+use Rattle.farm_types.specs.Pass.{give_group, give_member, held, scheduled}
+use Rattle.farm_types.specs.Pick.{are_apart}
+use Rattle.farm_types.specs.Sound.{IsHeldByKeys, IsSound, IsSteady, phase}
 use Rattle.farm_types.specs.Table.{job_cmp}
-use Rattle.farm_types.specs.Farm.{Farm, board_of, job_of, members}
-use Rattle.farm_types.specs.Pick.{Among, least, fits, are_apart, is_free, serves, is_nobody, is_checked, check_of}
-use Rattle.farm_types.specs.Pass.{scheduled, give_member, give_group}
-use Rattle.farm_types.specs.Sound.{IsSound, IsSteady, IsHeldByKeys, phase}
-use Rattle.farm_types.specs.declared.rows.Health.{Health}
-use Rattle.farm_types.specs.declared.rows.Holder.{Holder}
-use Rattle.farm_types.specs.declared.rows.JobState.{JobState}
-use Rattle.farm_types.specs.declared.rows.TypeRow.{TypeRow}
 use Rattle.farm_types.specs.declared.rows.BoardRow.{BoardRow}
 use Rattle.farm_types.specs.declared.rows.JobRow.{JobRow}
-use Rattle.farm_types.specs.declared.rows.Want.{Want}
+use Rattle.farm_types.specs.declared.rows.JobState.{JobState}
 use Rattle.farm_types.proofs.Put.{AllByRecursion-weaker}
-use Rattle.farm_sound.proofs.Where.{AllByRecursion-map, AllByRecursion-both, by_cases}
-use Rattle.farm_sound.proofs.Own.{own_job, own_board, differs_more}
-use Rattle.farm_sound.proofs.Least.{IsLeast-least}
-use Rattle.farm_sound.proofs.Commands.{both, same_number}
+use Rattle.farm_sound.proofs.Give.{IsFreeBoard, IsHeldByKeys-give_member, IsSteady-give_member, other_board, other_job}
+use Rattle.farm_sound.proofs.Lists.{filter_all}
+use Rattle.farm_sound.proofs.Own.{differs_more, own_job}
+use Rattle.farm_sound.proofs.Tests.{both, same_number}
+use Rattle.farm_sound.proofs.Where.{AllByRecursion-both, AllByRecursion-map, by_cases}
 use Rattle.farm_sound.proofs.Whole.{Alike}
-use Rattle.farm_sound.proofs.Give.{IsFreeBoard, IsSteady-give_member, IsHeldByKeys-give_member, other_job, other_board}
-
--- ---- the boards of the least list are free
-
-pub among_has : {A : Type 0} (P : A → Type 0) (x : A) (xs : List A) → AllByRecursion P xs → Among x xs → P x
-among_has P x [] all at = absurd at
-among_has P x (y ∷ ys) all (inl same) = subst P (sym same) all.0
-among_has P x (y ∷ ys) all (inr at) = among_has P x ys all.1 at
-
-pub all_tested : {A : Type 0} (test : A → Bool) (xs : List A) → list_all test xs ≡ true → AllByRecursion (λ x. test x ≡ true) xs
-all_tested test [] is = tt
-all_tested test (x ∷ xs) is = let two = both (test x) (list_all test xs) is in (two.0, all_tested test xs two.1)
-
-pub nobody_from : (h : Holder) → is_nobody h ≡ true → h ≡ Holder.Nobody
-nobody_from Holder.Nobody is = refl
-nobody_from (Holder.Job n) is = absurd (false≢true is)
-nobody_from (Holder.Res n) is = absurd (false≢true is)
-
-serves_kept : (types : List TypeRow) (b : BoardRow) → serves types b ≡ true → b.health ≡ Health.Retired → ⊥
-serves_kept types b is retired =
-    false≢true (ap (λ h. same_health h Health.Good || (same_health h Health.Unknown && not (is_checked (check_of types b.kind)))) (sym retired) ∙ is)
-
-pub free_boards : (F : Farm) (wants : List Want) (bs : List BoardRow) → IsSteady F → least F.boards (is_free F.types) wants ≡ Some bs → AllByRecursion (IsFreeBoard F) bs × (are_apart bs ≡ true) × (length bs ≡ length wants)
-free_boards F wants bs steady found =
-    let is = IsLeast-least F.boards (is_free F.types) wants bs steady.boards_sorted found in
-    let outer = both (pointwise fits bs wants && are_apart bs) (list_all (is_free F.types) bs) is.meeting in
-    let inner = both (pointwise fits bs wants) (are_apart bs) outer.0 in (
-      AllByRecursion-weaker
-          (λ b two. record {
-            there = among_has (λ c. board_of F c.name ≡ Some c) b F.boards (own_board F steady) two.0;
-            nobody = nobody_from b.holder (both (serves F.types b) (is_nobody b.holder) two.1).1;
-            kept = serves_kept F.types b (both (serves F.types b) (is_nobody b.holder) two.1).0;
-          })
-          bs (AllByRecursion-both (λ b. Among b F.boards) (λ b. is_free F.types b ≡ true) bs is.among (all_tested (is_free F.types) bs outer.1)),
-      inner.1,
-      as_long fits bs wants inner.0,
-    )
 
 -- ---- pairs of members and boards
 
@@ -78,32 +37,28 @@ AreApart (p ∷ ps) = AllByRecursion (λ q. ((q.0.number == p.0.number) ≡ fals
 abbrev ArePairs : Farm → JobRow × BoardRow → Type 0
 ArePairs F p = Ready F p.0 × IsFreeBoard F p.1
 
-rest_ready : (F : Farm) (p : JobRow × BoardRow) (ps : List (JobRow × BoardRow)) → ArePairs F p → AllByRecursion (λ q. ((q.0.number == p.0.number) ≡ false) × (bytes_eq q.1.name p.1.name ≡ false)) ps → AllByRecursion (ArePairs F) ps → AllByRecursion (ArePairs (give_member F (p.0, p.1))) ps
+rest_ready : (F : Farm) (p : JobRow × BoardRow) (ps : List (JobRow × BoardRow)) → ArePairs F p
+    → AllByRecursion (λ q. ((q.0.number == p.0.number) ≡ false) × (bytes_eq q.1.name p.1.name ≡ false)) ps → AllByRecursion (ArePairs F) ps
+    → AllByRecursion (ArePairs (give_member F (p.0, p.1))) ps
 rest_ready F p [] is apart all = tt
 rest_ready F p (q ∷ qs) is apart all = (
   ((other_job F p.0 p.1 is.0.0 is.0.1 is.1 q.0 apart.0.0 all.0.0.0, all.0.0.1), other_board F p.0 p.1 is.0.0 is.0.1 is.1 q.1 apart.0.1 all.0.1),
   rest_ready F p qs is apart.1 all.1,
 )
 
-pub give_all : (ps : List (JobRow × BoardRow)) (F : Farm) → AllByRecursion (ArePairs F) ps → AreApart ps → IsSteady F → IsHeldByKeys F → IsSteady (fold give_member F ps) × IsHeldByKeys (fold give_member F ps)
+pub give_all : (ps : List (JobRow × BoardRow)) (F : Farm) → AllByRecursion (ArePairs F) ps → AreApart ps → IsSteady F → IsHeldByKeys F
+    → IsSteady (fold give_member F ps) × IsHeldByKeys (fold give_member F ps)
 give_all [] F all apart steady held = (steady, held)
 give_all (p ∷ ps) F all apart steady held =
     give_all ps (give_member F (p.0, p.1)) (rest_ready F p ps all.0 apart.0 all.1) apart.1
     (IsSteady-give_member F p.0 p.1 all.0.0.0 all.0.0.1 all.0.1 steady)
     (IsHeldByKeys-give_member F p.0 p.1 all.0.0.0 all.0.0.1 all.0.1 held)
 
-zip_all : {A B : Type 0} (P : A → Type 0) (Q : B → Type 0) (xs : List A) (ys : List B) → AllByRecursion P xs → AllByRecursion Q ys → AllByRecursion (λ p. P p.0 × Q p.1) (zip xs ys)
+zip_all : {A B : Type 0} (P : A → Type 0) (Q : B → Type 0) (xs : List A) (ys : List B) → AllByRecursion P xs → AllByRecursion Q ys
+    → AllByRecursion (λ p. P p.0 × Q p.1) (zip xs ys)
 zip_all P Q [] ys p q = tt
 zip_all P Q (x ∷ xs) [] p q = tt
 zip_all P Q (x ∷ xs) (y ∷ ys) p q = ((p.0, q.0), zip_all P Q xs ys p.1 q.1)
-
-pub filter_all : {A : Type 0} (P : A → Type 0) (test : A → Bool) (xs : List A) → AllByRecursion P xs → AllByRecursion (λ x. P x × (test x ≡ true)) (filter test xs)
-filter_all P test [] all = tt
-filter_all P test (x ∷ xs) all = by (test x) refl (filter_all P test xs all.1)
-  where
-    by : (v : Bool) → test x ≡ v → AllByRecursion (λ x. P x × (test x ≡ true)) (filter test xs) → AllByRecursion (λ x. P x × (test x ≡ true)) (cond v (x ∷ filter test xs) (filter test xs))
-    by true is rest = ((all.0, is), rest)
-    by false is rest = rest
 
 filter_sorted : (test : JobRow → Bool) (xs : List JobRow) → IsStrictlySortedBy job_cmp xs → IsStrictlySortedBy job_cmp (filter test xs)
 unfolding IsStrictlySortedBy
@@ -118,7 +73,9 @@ not_any : (b : BoardRow) (bs : List BoardRow) → not (list_any (λ c. bytes_eq 
 not_any b [] is = tt
 not_any b (c ∷ bs) is = by (bytes_eq b.name c.name) refl is (not_any b bs)
   where
-    by : (v : Bool) → bytes_eq b.name c.name ≡ v → not (v || list_any (λ c. bytes_eq b.name c.name) bs) ≡ true → (not (list_any (λ c. bytes_eq b.name c.name) bs) ≡ true → AllByRecursion (λ c. bytes_eq c.name b.name ≡ false) bs) → AllByRecursion (λ c. bytes_eq c.name b.name ≡ false) (c ∷ bs)
+    by : (v : Bool) → bytes_eq b.name c.name ≡ v → not (v || list_any (λ c. bytes_eq b.name c.name) bs) ≡ true
+        → (not (list_any (λ c. bytes_eq b.name c.name) bs) ≡ true → AllByRecursion (λ c. bytes_eq c.name b.name ≡ false) bs)
+        → AllByRecursion (λ c. bytes_eq c.name b.name ≡ false) (c ∷ bs)
     by true same is rest = absurd (false≢true is)
     by false other is rest = (nat_list_eq_equiv.symm c.name b.name ∙ other, rest is)
 
@@ -167,19 +124,24 @@ has_from n (m ∷ ms) (b ∷ bs) long (inr at) = inr (has_from n ms bs (omega ar
 
 pub given_number : (ps : List (JobRow × BoardRow)) (m : JobRow) → (given ps m).number ≡ m.number
 given_number [] m = refl
-given_number (p ∷ ps) m = given_number ps (cond (m.number == p.0.number) (scheduled p.1.name m) m) ∙ by_cases (λ (k : JobRow). k.number ≡ m.number) (m.number == p.0.number) (scheduled p.1.name m) m (λ _. refl) (λ _. refl)
+given_number (p ∷ ps) m = given_number ps (cond (m.number == p.0.number) (scheduled p.1.name m) m)
+    ∙ by_cases (λ (k : JobRow). k.number ≡ m.number) (m.number == p.0.number) (scheduled p.1.name m) m (λ _. refl) (λ _. refl)
 
 pub given_group : (ps : List (JobRow × BoardRow)) (m : JobRow) → (given ps m).group ≡ m.group
 given_group [] m = refl
-given_group (p ∷ ps) m = given_group ps (cond (m.number == p.0.number) (scheduled p.1.name m) m) ∙ by_cases (λ (k : JobRow). k.group ≡ m.group) (m.number == p.0.number) (scheduled p.1.name m) m (λ _. refl) (λ _. refl)
+given_group (p ∷ ps) m = given_group ps (cond (m.number == p.0.number) (scheduled p.1.name m) m)
+    ∙ by_cases (λ (k : JobRow). k.group ≡ m.group) (m.number == p.0.number) (scheduled p.1.name m) m (λ _. refl) (λ _. refl)
 
-given_scheduled : (ps : List (JobRow × BoardRow)) (m : JobRow) → (m.state ≡ JobState.Scheduled) ⊎ HasNumber m.number ps → (given ps m).state ≡ JobState.Scheduled
+given_scheduled : (ps : List (JobRow × BoardRow)) (m : JobRow) → (m.state ≡ JobState.Scheduled) ⊎ HasNumber m.number ps
+    → (given ps m).state ≡ JobState.Scheduled
 given_scheduled [] m (inl is) = is
 given_scheduled [] m (inr at) = absurd at
 given_scheduled (p ∷ ps) m at = given_scheduled ps (cond (m.number == p.0.number) (scheduled p.1.name m) m)
-    (by_cases (λ (k : JobRow). (k.state ≡ JobState.Scheduled) ⊎ HasNumber k.number ps) (m.number == p.0.number) (scheduled p.1.name m) m (λ _. inl refl) (λ other. left at other))
+    (by_cases (λ (k : JobRow). (k.state ≡ JobState.Scheduled) ⊎ HasNumber k.number ps) (m.number == p.0.number) (scheduled p.1.name m) m
+    (λ _. inl refl) (λ other. left at other))
   where
-    left : (m.state ≡ JobState.Scheduled) ⊎ HasNumber m.number (p ∷ ps) → (m.number == p.0.number) ≡ false → (m.state ≡ JobState.Scheduled) ⊎ HasNumber m.number ps
+    left : (m.state ≡ JobState.Scheduled) ⊎ HasNumber m.number (p ∷ ps) → (m.number == p.0.number) ≡ false
+        → (m.state ≡ JobState.Scheduled) ⊎ HasNumber m.number ps
     left (inl is) other = inl is
     left (inr (inl same)) other = let h : (m.number == p.0.number) ≡ true = (grind (arith, nat_tests)) in absurd (false≢true (sym other ∙ h))
     left (inr (inr later)) other = inr later
@@ -193,17 +155,21 @@ members_number group [] = tt
 members_number group (m ∷ jobs) =
     (here (m.group == group) refl, AllByRecursion-weaker (λ k at same. later (m.group == group) k (at same)) jobs (members_number group jobs))
   where
-    here : (v : Bool) → (m.group == group) ≡ v → m.group ≡ group → IsNumberOf m.number (cond v (m ∷ filter (λ r. r.group == group) jobs) (filter (λ r. r.group == group) jobs))
+    here : (v : Bool) → (m.group == group) ≡ v → m.group ≡ group
+        → IsNumberOf m.number (cond v (m ∷ filter (λ r. r.group == group) jobs) (filter (λ r. r.group == group) jobs))
     here true is same = inl refl
     here false is same = let h : (m.group == group) ≡ true = (grind (arith, nat_tests)) in absurd (false≢true (sym is ∙ h))
 
-    later : (v : Bool) (k : JobRow) → IsNumberOf k.number (filter (λ r. r.group == group) jobs) → IsNumberOf k.number (cond v (m ∷ filter (λ r. r.group == group) jobs) (filter (λ r. r.group == group) jobs))
+    later : (v : Bool) (k : JobRow) → IsNumberOf k.number (filter (λ r. r.group == group) jobs)
+        → IsNumberOf k.number (cond v (m ∷ filter (λ r. r.group == group) jobs) (filter (λ r. r.group == group) jobs))
     later true k at = inr at
     later false k at = at
 
 -- ---- the group
 
-module _ (F : Farm) (group : ℕ) (bs : List BoardRow) (sound : IsSound F) (waits : AllByRecursion (λ m. m.state ≡ JobState.Submitted) (members F group)) (free : AllByRecursion (IsFreeBoard F) bs) (apart : are_apart bs ≡ true) (long : length bs ≡ length (members F group)) where
+module _ (F : Farm) (group : ℕ) (bs : List BoardRow) (sound : IsSound F)
+    (waits : AllByRecursion (λ m. m.state ≡ JobState.Submitted) (members F group)) (free : AllByRecursion (IsFreeBoard F) bs)
+    (apart : are_apart bs ≡ true) (long : length bs ≡ length (members F group)) where
   abbrev pairs : List (JobRow × BoardRow)
   pairs = zip (members F group) bs
 
@@ -211,13 +177,16 @@ module _ (F : Farm) (group : ℕ) (bs : List BoardRow) (sound : IsSound F) (wait
   own_members = filter_all (λ m. job_of F m.number ≡ Some m) (λ r. r.group == group) F.jobs (own_job F sound.steady)
 
   ready : AllByRecursion (Ready F) (members F group)
-  ready = AllByRecursion-weaker (λ m two. (two.0.0, two.1)) (members F group) (AllByRecursion-both (λ m. (job_of F m.number ≡ Some m) × ((m.group == group) ≡ true)) (λ m. m.state ≡ JobState.Submitted) (members F group) own_members waits)
+  ready = AllByRecursion-weaker (λ m two. (two.0.0, two.1)) (members F group)
+      (AllByRecursion-both (λ m. (job_of F m.number ≡ Some m) × ((m.group == group) ≡ true)) (λ m. m.state ≡ JobState.Submitted)
+      (members F group) own_members waits)
 
   pairs_ready : AllByRecursion (ArePairs F) pairs
   pairs_ready = zip_all (Ready F) (IsFreeBoard F) (members F group) bs ready free
 
   steady_held : IsSteady (give_group F group bs) × IsHeldByKeys (give_group F group bs)
-  steady_held = give_all pairs F pairs_ready (zip_apart (members F group) bs (filter_sorted (λ r. r.group == group) F.jobs sound.steady.jobs_sorted) apart) sound.steady sound.held
+  steady_held = give_all pairs F pairs_ready
+      (zip_apart (members F group) bs (filter_sorted (λ r. r.group == group) F.jobs sound.steady.jobs_sorted) apart) sound.steady sound.held
 
   -- each job's part in it
   abbrev pub Part : JobRow → Type 0
@@ -230,7 +199,8 @@ module _ (F : Farm) (group : ℕ) (bs : List BoardRow) (sound : IsSound F) (wait
         (zip_all (λ k. (job_of F k.number ≡ Some k) × ((k.group == group) ≡ true)) (λ b. IsFreeBoard F b) (members F group) bs own_members free)),
   )
     where
-      elsewhere : (m.group == group) ≡ false → (k : JobRow) → job_of F k.number ≡ Some k → (k.group == group) ≡ true → (v : Bool) → (m.number == k.number) ≡ v → (m.number == k.number) ≡ false
+      elsewhere : (m.group == group) ≡ false → (k : JobRow) → job_of F k.number ≡ Some k → (k.group == group) ≡ true → (v : Bool)
+          → (m.number == k.number) ≡ v → (m.number == k.number) ≡ false
       elsewhere other k there is true same =
           let e : m.number ≡ k.number = same_number m.number k.number same in
           let two : Some m ≡ Some k = sym own ∙ ap (job_of F) e ∙ there in
@@ -240,7 +210,8 @@ module _ (F : Farm) (group : ℕ) (bs : List BoardRow) (sound : IsSound F) (wait
 
   pub parts : AllByRecursion Part F.jobs
   parts = AllByRecursion-weaker (λ m two. part m two.0 two.1) F.jobs
-      (AllByRecursion-both (λ m. job_of F m.number ≡ Some m) (λ m. m.group ≡ group → IsNumberOf m.number (members F group)) F.jobs (own_job F sound.steady) (members_number group F.jobs))
+      (AllByRecursion-both (λ m. job_of F m.number ≡ Some m) (λ m. m.group ≡ group → IsNumberOf m.number (members F group)) F.jobs
+      (own_job F sound.steady) (members_number group F.jobs))
 
   alike_given : (j m : JobRow) → Part j → Part m → Alike j m → Alike (given pairs j) (given pairs m)
   alike_given j m pj pm alike same = by (j.group == group) refl
@@ -256,7 +227,8 @@ module _ (F : Farm) (group : ℕ) (bs : List BoardRow) (sound : IsSound F) (wait
 
   whole_given : AllByRecursion (λ j. AllByRecursion (Alike j) (map (given pairs) F.jobs)) (map (given pairs) F.jobs)
   whole_given = AllByRecursion-map (λ j. Part j × AllByRecursion (Alike j) F.jobs) (λ j. AllByRecursion (Alike j) (map (given pairs) F.jobs)) (given pairs)
-      (λ j two. AllByRecursion-map (λ m. Part m × Alike j m) (Alike (given pairs j)) (given pairs) (λ m three. alike_given j m two.0 three.0 three.1) F.jobs (AllByRecursion-both Part (Alike j) F.jobs parts two.1))
+      (λ j two. AllByRecursion-map (λ m. Part m × Alike j m) (Alike (given pairs j)) (given pairs)
+      (λ m three. alike_given j m two.0 three.0 three.1) F.jobs (AllByRecursion-both Part (Alike j) F.jobs parts two.1))
       F.jobs (AllByRecursion-both Part (λ j. AllByRecursion (Alike j) F.jobs) F.jobs parts sound.whole)
 
   pub IsSound-give_group : IsSound (give_group F group bs)

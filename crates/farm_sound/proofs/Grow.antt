@@ -1,12 +1,12 @@
 -- A farm that has all that another has.
-use Rattle.std.proofs.Common.{◌≡◌, ℕ, ◌-◌, ◌<◌, ◌≤◌, List, Option, Some, None, IsSome, IsNone, IfSome, IsSomeAnd, sym, ap, ◌∙◌, arith}
+use Rattle.std.proofs.Common.{◌-◌, ◌<◌, ◌∙◌, ◌≡◌, ◌≤◌, IfSome, IsNone, IsSome, IsSomeAnd, List, None, Option, Some, ap, arith, sym, ℕ}
 use Rattle.std.specs.Ordering.{is_eq}
 use Rattle.std.specs.declared.cmp.Ordering.TheVariants.{Equal}
 use Rattle.std.proofs.lemmas.Map.Text.{is_eq-slice_cmp}
 use Rattle.std.proofs.lemmas.Slice.Eq.{bytes_eq-Decides}
+use Rattle.farm_types.specs.Farm.{Farm, board_of, job_of, res_of, type_of}
+use Rattle.farm_types.specs.Sound.{Follows, IsBoardRow, IsJobRow, IsResRow}
 use Rattle.farm_types.specs.Words.{text_cmp}
-use Rattle.farm_types.specs.Farm.{Farm, type_of, board_of, job_of, res_of}
-use Rattle.farm_types.specs.Sound.{IsBoardRow, IsJobRow, IsResRow, Follows}
 use Rattle.farm_types.specs.declared.rows.BoardRow.{BoardRow}
 use Rattle.farm_types.specs.declared.rows.JobRow.{JobRow}
 use Rattle.farm_types.specs.declared.rows.ResRow.{ResRow}
@@ -21,7 +21,8 @@ same_texts a b ties = (bytes_eq-Decides a b).0 (sym (is_eq-slice_cmp a b) ∙ ap
 pub record Grows (F G : Farm) : Type 0 where
   pub types : (k : List ℕ) → IsSome (type_of F k) → IsSome (type_of G k)
   pub boards : (k : List ℕ) → IsSome (board_of F k) → IsSome (board_of G k)
-  pub jobs : (n : ℕ) (p : JobRow) → job_of F n ≡ Some p → (q : JobRow) × (job_of G n ≡ Some q) × (q.group ≡ p.group) × (q.owner ≡ p.owner) × (q.priority ≡ p.priority) × (q.checking ≡ p.checking)
+  pub jobs : (n : ℕ) (p : JobRow) → job_of F n ≡ Some p
+      → (q : JobRow) × (job_of G n ≡ Some q) × (q.group ≡ p.group) × (q.owner ≡ p.owner) × (q.priority ≡ p.priority) × (q.checking ≡ p.checking)
   pub reservations : (n : ℕ) → n < F.next → IsNone (res_of F n) → IsNone (res_of G n)
   pub clock : F.clock ≤ G.clock
   pub next : F.next ≤ G.next
@@ -50,7 +51,15 @@ module _ (F G : Farm) (grows : Grows F G) where
   Follows-grows : (r : JobRow) → Follows F r → Follows G r
   Follows-grows r f =
       let there = grows.jobs (r.number - 1) f.previous f.there in
-      record { previous = there.0; there = there.1; group = there.2 ∙ f.group; owner = there.3 ∙ f.owner; priority = there.4 ∙ f.priority; ordinary = there.5 ∙ f.ordinary; body = f.body }
+      record {
+        previous = there.0;
+        there = there.1;
+        group = there.2 ∙ f.group;
+        owner = there.3 ∙ f.owner;
+        priority = there.4 ∙ f.priority;
+        ordinary = there.5 ∙ f.ordinary;
+        body = f.body;
+      }
 
   pub IsJobRow-grows : (r : JobRow) → IsJobRow F r → IsJobRow G r
   IsJobRow-grows r is = record {
@@ -62,6 +71,7 @@ module _ (F G : Farm) (grows : Grows F G) where
     kind = IsSomeAnd-weaker _ _ grows.types r.want.kind is.kind;
     role = is.role;
     body = is.body;
+    text = is.text;
     board = IfSome-weaker _ _ grows.boards r.board is.board;
     outcome = is.outcome;
     waits = is.waits;

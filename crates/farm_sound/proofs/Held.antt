@@ -1,17 +1,18 @@
 -- Who holds which board, told by keys, after rows have changed.
-use Rattle.std.proofs.Common.{◌≡◌, ℕ, ◌==◌, Bool, true, false, cond, List, map, Option, Some, None, IsSomeAnd, refl, sym, ap, ◌∙◌, subst, arith}
+use Rattle.std.proofs.Common.{◌==◌, ◌∙◌, ◌≡◌, Bool, IsSomeAnd, List, None, Option, Some, ap, arith, cond, false, map, refl, subst, sym, true, ℕ}
 use mathlib.Core.Bool.{true≢false}
 use Rattle.std.specs.List.{AllByRecursion}
 use Rattle.std.specs.Option.{option_map, option_map_or}
 use Rattle.std.specs.Str.{bytes_eq}
 use Rattle.std.proofs.lemmas.Bool.Decides.{nat_tests}
 use Rattle.farm_types.specs.Farm.{Farm, board_of, job_of, res_of}
-use Rattle.farm_types.specs.Sound.{IsHeldBy, IsHeldByKeys, Hold, hold, hold_of, job_hold, res_hold, job_gives, res_gives, shown}
-use Rattle.farm_types.specs.declared.rows.Holder.{Holder}
-use Rattle.farm_types.specs.declared.rows.State.{State}
+use Rattle.farm_types.specs.Pass.{held}
+use Rattle.farm_types.specs.Sound.{Hold, IsHeldBy, IsHeldByKeys, hold, hold_of, job_gives, job_hold, res_gives, res_hold, shown}
 use Rattle.farm_types.specs.declared.rows.BoardRow.{BoardRow}
+use Rattle.farm_types.specs.declared.rows.Holder.{Holder}
 use Rattle.farm_types.specs.declared.rows.JobRow.{JobRow}
 use Rattle.farm_types.specs.declared.rows.ResRow.{ResRow}
+use Rattle.farm_types.specs.declared.rows.State.{State}
 use Rattle.farm_types.proofs.Put.{found_has, found_passes}
 use Rattle.farm_sound.proofs.Where.{AllByRecursion-map, by_cases}
 
@@ -82,16 +83,23 @@ module _ (F G : Farm) (moved : Holder → Bool) (g : BoardRow → BoardRow) wher
 
   told_after : Regives → (b : BoardRow) → IsHeldBy F b b.holder → IsHeldBy G (cond (moved b.holder) (g b) b) (cond (moved b.holder) (g b) b).holder
   told_after re b told =
-      by_cases (λ c. IsHeldBy G c c.holder) (moved b.holder) (g b) b (λ so. moved_told re b b.holder so refl told) (λ apart. stays_told re b b.holder apart told)
+      by_cases (λ c. IsHeldBy G c c.holder) (moved b.holder) (g b) b (λ so. moved_told re b b.holder so refl told)
+      (λ apart. stays_told re b b.holder apart told)
 
   rows_after : Regives → IsHeldByKeys F → (h : Holder) (x : Hold) → hold_of G h ≡ Some x → IsSomeAnd (board_of G x.board) (λ b. b.holder ≡ h)
   rows_after re held h x is = by (moved h) refl
     where
       -- a board that h holds in F
-      there : (y : Hold) → hold_of F h ≡ Some y → (o : Option BoardRow) → board_of F y.board ≡ o → IsSomeAnd o (λ b. b.holder ≡ h) → (b : BoardRow) × (board_of F y.board ≡ Some b) × (b.holder ≡ h) × (y ≡ shown b)
+      there : (y : Hold) → hold_of F h ≡ Some y → (o : Option BoardRow) → board_of F y.board ≡ o → IsSomeAnd o (λ b. b.holder ≡ h)
+          → (b : BoardRow) × (board_of F y.board ≡ Some b) × (b.holder ≡ h) × (y ≡ shown b)
       there y was None found told = absurd told
-      there y was (Some b) found told =
-          (b, found, told, held_is F b h y (subst (IsHeldBy F b) told (found_has (λ b. IsHeldBy F b b.holder) (λ r. bytes_eq r.name y.board) b F.boards held.boards found)) was)
+      there y was (Some b) found told = (
+        b,
+        found,
+        told,
+        held_is F b h y
+            (subst (IsHeldBy F b) told (found_has (λ b. IsHeldBy F b b.holder) (λ r. bytes_eq r.name y.board) b F.boards held.boards found)) was,
+      )
 
       by_hold : moved h ≡ true → (o : Option Hold) → hold_of F h ≡ o → IsSomeAnd (board_of G x.board) (λ b. b.holder ≡ h)
       by_hold so None was = let n : hold_of G h ≡ None = re.gains_none h so was in cc
@@ -100,7 +108,9 @@ module _ (F G : Farm) (moved : Holder → Bool) (g : BoardRow → BoardRow) wher
           let b : BoardRow = t.0 in
           let left : x ≡ shown (g b) = subst (λ o. IsLeft o (g b)) is (re.gives h b so t.2 (was ∙ ap Some t.3)) in
           let here : x.board ≡ y.board = ap (λ (z : Hold). z.board) left ∙ re.name b ∙ sym (ap (λ (z : Hold). z.board) t.3) in
-          let found : board_of G x.board ≡ Some (g b) = ap (board_of G) here ∙ re.boards y.board ∙ ap (option_map (λ b. cond (moved b.holder) (g b) b)) t.1 ∙ ap (λ v. Some (cond v (g b) b)) (ap moved t.2 ∙ so) in
+          let found : board_of G x.board ≡ Some (g b) =
+          ap (board_of G) here ∙ re.boards y.board ∙ ap (option_map (λ b. cond (moved b.holder) (g b) b)) t.1
+          ∙ ap (λ v. Some (cond v (g b) b)) (ap moved t.2 ∙ so) in
           rw found (sym (ap (λ (z : Hold). z.holder) left) ∙ holder_is G h x is)
 
       by : (v : Bool) → moved h ≡ v → IsSomeAnd (board_of G x.board) (λ b. b.holder ≡ h)
@@ -109,11 +119,14 @@ module _ (F G : Farm) (moved : Holder → Bool) (g : BoardRow → BoardRow) wher
           let was : hold_of F h ≡ Some x = sym (re.stays h apart) ∙ is in
           let t = there x was (board_of F x.board) refl (held.rows h x was) in
           let b : BoardRow = t.0 in
-          let found : board_of G x.board ≡ Some b = re.boards x.board ∙ ap (option_map (λ b. cond (moved b.holder) (g b) b)) t.1 ∙ ap (λ v. Some (cond v (g b) b)) (ap moved t.2 ∙ apart) in
+          let found : board_of G x.board ≡ Some b =
+          re.boards x.board ∙ ap (option_map (λ b. cond (moved b.holder) (g b) b)) t.1 ∙ ap (λ v. Some (cond v (g b) b)) (ap moved t.2 ∙ apart) in
           rw found t.2
 
   pub IsHeldByKeys-regiven : Regives → G.boards ≡ map (λ b. cond (moved b.holder) (g b) b) F.boards → IsHeldByKeys F → IsHeldByKeys G
   IsHeldByKeys-regiven re same held = record {
-    boards = subst (AllByRecursion (λ b. IsHeldBy G b b.holder)) (sym same) (AllByRecursion-map (λ b. IsHeldBy F b b.holder) (λ b. IsHeldBy G b b.holder) (λ b. cond (moved b.holder) (g b) b) (told_after re) F.boards held.boards);
+    boards = subst (AllByRecursion (λ b. IsHeldBy G b b.holder)) (sym same)
+        (AllByRecursion-map (λ b. IsHeldBy F b b.holder) (λ b. IsHeldBy G b b.holder) (λ b. cond (moved b.holder) (g b) b)
+        (told_after re) F.boards held.boards);
     rows = rows_after re held;
   }

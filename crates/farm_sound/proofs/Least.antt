@@ -1,19 +1,19 @@
 -- The first list of boards that meets the wants is the least one.
-use Rattle.std.proofs.Common.{◌≡◌, ℕ, zero, suc, ◌++◌, map, ◌&&◌, Bool, true, false, cond, List, [], ◌∷◌, length, Some, None, refl, sym, ap, ◌∙◌, subst, arith, inl, inr, Ordering}
+use Rattle.std.proofs.Common.{◌&&◌, ◌++◌, ◌∙◌, ◌∷◌, ◌≡◌, Bool, List, None, Ordering, Some, ap, arith, cond, false, inl, inr, length, map, refl, subst, suc, sym, true, zero, ℕ, []}
 use mathlib.Core.Bool.{false≢true}
+use Rattle.std.specs.Cmp.{IsTotalOrder, first_so, on_total}
+use Rattle.std.specs.Cmp.Lexicographic.{as_long, lists_total, nat_list_cmp_total, pointwise}
 use Rattle.std.specs.List.{AllByRecursion, find, flat_map, list_all}
 use Rattle.std.specs.List.Sorted.{IsStrictlySortedBy}
-use Rattle.std.specs.Ordering.{ordering_reverse, is_lt}
+use Rattle.std.specs.Ordering.{is_lt, ordering_reverse}
 use Rattle.std.specs.declared.cmp.Ordering.TheVariants.{Less}
-use Rattle.std.specs.Cmp.{IsTotalOrder, on_total}
-use Rattle.std.specs.Cmp.Lexicographic.{nat_list_cmp_total, lists_total, pointwise, as_long}
-use Rattle.std.specs.Cmp.{first_so}
 use Rattle.std.proofs.lemmas.Cmp.{tied_itself}
+use Rattle.farm_types.specs.Pick.{Among, AreAmong, IsLeast, are_apart, fits, least, lists_of, meets, names_cmp}
 use Rattle.farm_types.specs.Table.{board_cmp}
-use Rattle.farm_types.specs.Pick.{Among, AreAmong, IsLeast, names_cmp, lists_of, least, meets, fits, are_apart}
 use Rattle.farm_types.specs.declared.rows.BoardRow.{BoardRow}
 use Rattle.farm_types.specs.declared.rows.Want.{Want}
 use Rattle.farm_types.proofs.Put.{AllByRecursion-weaker, found_has, found_passes}
+use Rattle.farm_sound.proofs.Lists.{all_join}
 
 among_all : {A : Type 0} (P : A → Type 0) (x : A) (xs : List A) → AllByRecursion P xs → Among x xs → P x
 among_all P x [] all at = absurd at
@@ -50,12 +50,14 @@ among_lists boards (suc n) (c ∷ cs) long all =
 
 module _ {A : Type 0} (cmp : A → A → Ordering) (total : IsTotalOrder cmp) where
   -- the first that passes is the least that passes
-  pub first_is_least : (p : A → Bool) (b c : A) (xs : List A) → IsStrictlySortedBy cmp xs → find p xs ≡ Some b → Among c xs → p c ≡ true → is_lt (cmp c b) ≡ false
+  pub first_is_least : (p : A → Bool) (b c : A) (xs : List A) → IsStrictlySortedBy cmp xs → find p xs ≡ Some b → Among c xs → p c ≡ true
+      → is_lt (cmp c b) ≡ false
   unfolding IsStrictlySortedBy
   first_is_least p b c [] sorted found at passes = absurd at
   first_is_least p b c (x ∷ xs) sorted found at passes = by (first_is_least p b c xs sorted.1) (p x) refl found at
     where
-      by : (find p xs ≡ Some b → Among c xs → p c ≡ true → is_lt (cmp c b) ≡ false) → (v : Bool) → p x ≡ v → cond v (Some x) (find p xs) ≡ Some b → Among c (x ∷ xs) → is_lt (cmp c b) ≡ false
+      by : (find p xs ≡ Some b → Among c xs → p c ≡ true → is_lt (cmp c b) ≡ false) → (v : Bool) → p x ≡ v → cond v (Some x) (find p xs) ≡ Some b
+          → Among c (x ∷ xs) → is_lt (cmp c b) ≡ false
       by rest true is here (inl same) = let e : x ≡ b = cc in ap is_lt (ap (λ z. cmp z b) (same ∙ e) ∙ tied_itself total b)
       by rest true is here (inr later) =
           let e : x ≡ b = cc in
@@ -68,7 +70,8 @@ module _ {A : Type 0} (cmp : A → A → Ordering) (total : IsTotalOrder cmp) wh
   all_append P [] ys all more = more
   all_append P (x ∷ xs) ys all more = (all.0, all_append P xs ys all.1 more)
 
-  sorted_append : (xs ys : List A) → IsStrictlySortedBy cmp xs → IsStrictlySortedBy cmp ys → AllByRecursion (λ x. AllByRecursion (λ y. cmp x y ≡ Less) ys) xs → IsStrictlySortedBy cmp (xs ++ ys)
+  sorted_append : (xs ys : List A) → IsStrictlySortedBy cmp xs → IsStrictlySortedBy cmp ys
+      → AllByRecursion (λ x. AllByRecursion (λ y. cmp x y ≡ Less) ys) xs → IsStrictlySortedBy cmp (xs ++ ys)
   unfolding IsStrictlySortedBy
   sorted_append [] ys sx sy below = sy
   sorted_append (x ∷ xs) ys sx sy below = (all_append (λ y. cmp x y ≡ Less) xs ys sx.0 below.0, sorted_append xs ys sx.1 sy below.1)
@@ -77,11 +80,8 @@ all_map : {A B : Type 0} (P : B → Type 0) (f : A → B) (xs : List A) → ((x 
 all_map P f [] each = tt
 all_map P f (x ∷ xs) each = (each x, all_map P f xs each)
 
-all_join : {A : Type 0} (P : A → Type 0) (xs ys : List A) → AllByRecursion P xs → AllByRecursion P ys → AllByRecursion P (xs ++ ys)
-all_join P [] ys all more = more
-all_join P (x ∷ xs) ys all more = (all.0, all_join P xs ys all.1 more)
-
-all_flat : {A B : Type 0} (P : B → Type 0) (Q : A → Type 0) (f : A → List B) (xs : List A) → AllByRecursion Q xs → ((x : A) → Q x → AllByRecursion P (f x)) → AllByRecursion P (flat_map f xs)
+all_flat : {A B : Type 0} (P : B → Type 0) (Q : A → Type 0) (f : A → List B) (xs : List A) → AllByRecursion Q xs
+    → ((x : A) → Q x → AllByRecursion P (f x)) → AllByRecursion P (flat_map f xs)
 all_flat P Q f [] all each = tt
 all_flat P Q f (x ∷ xs) all each = all_join P (f x) (flat_map f xs) (each x all.0) (all_flat P Q f xs all.1 each)
 
@@ -94,16 +94,19 @@ unfolding IsStrictlySortedBy
 block_sorted b [] sorted = tt
 block_sorted b (x ∷ xs) sorted = (heads xs sorted.0, block_sorted b xs sorted.1)
   where
-    heads : (ys : List (List BoardRow)) → AllByRecursion (λ y. names_cmp x y ≡ Less) ys → AllByRecursion (λ y. names_cmp (b ∷ x) y ≡ Less) (map (λ bs. b ∷ bs) ys)
+    heads : (ys : List (List BoardRow)) → AllByRecursion (λ y. names_cmp x y ≡ Less) ys
+        → AllByRecursion (λ y. names_cmp (b ∷ x) y ≡ Less) (map (λ bs. b ∷ bs) ys)
     heads [] all = tt
     heads (y ∷ ys) all = (rw (tied_itself board_total b) all.0, heads ys all.1)
 
 -- so are all lists that begin with boards in order, block after block
-flat_sorted : (rest : List (List BoardRow)) → IsStrictlySortedBy names_cmp rest → (boards : List BoardRow) → IsStrictlySortedBy board_cmp boards → IsStrictlySortedBy names_cmp (flat_map (λ b. map (λ bs. b ∷ bs) rest) boards)
+flat_sorted : (rest : List (List BoardRow)) → IsStrictlySortedBy names_cmp rest → (boards : List BoardRow) → IsStrictlySortedBy board_cmp boards
+    → IsStrictlySortedBy names_cmp (flat_map (λ b. map (λ bs. b ∷ bs) rest) boards)
 unfolding IsStrictlySortedBy
 flat_sorted rest sorted [] bs = tt
 flat_sorted rest sorted (b ∷ boards) bs =
-    sorted_append names_cmp (lists_total board_total) (map (λ bs. b ∷ bs) rest) (flat_map (λ b. map (λ bs. b ∷ bs) rest) boards) (block_sorted b rest sorted) (flat_sorted rest sorted boards bs.1)
+    sorted_append names_cmp (lists_total board_total) (map (λ bs. b ∷ bs) rest) (flat_map (λ b. map (λ bs. b ∷ bs) rest) boards)
+    (block_sorted b rest sorted) (flat_sorted rest sorted boards bs.1)
     (all_map (λ x. AllByRecursion (λ y. names_cmp x y ≡ Less) (flat_map (λ b. map (λ bs. b ∷ bs) rest) boards)) (λ bs. b ∷ bs) rest
     (λ xs. all_flat (λ y. names_cmp (b ∷ xs) y ≡ Less) (λ c. board_cmp b c ≡ Less) (λ c. map (λ bs. c ∷ bs) rest) boards bs.0
     (λ c less. all_map (λ y. names_cmp (b ∷ xs) y ≡ Less) (λ bs. c ∷ bs) rest (λ cs. rw less))))
@@ -119,10 +122,13 @@ long_as_wants test wants cs is =
     as_long fits cs wants (first_so (pointwise fits cs wants) (are_apart cs) (first_so (pointwise fits cs wants && are_apart cs) (list_all test cs) is))
 
 -- no list that meets the wants comes before the one that is found
-pub least_is_least : (boards : List BoardRow) (test : BoardRow → Bool) (wants : List Want) (bs cs : List BoardRow) → IsStrictlySortedBy board_cmp boards → least boards test wants ≡ Some bs → AllByRecursion (λ c. Among c boards) cs → meets test wants cs ≡ true → is_lt (names_cmp cs bs) ≡ false
+pub least_is_least : (boards : List BoardRow) (test : BoardRow → Bool) (wants : List Want) (bs cs : List BoardRow)
+    → IsStrictlySortedBy board_cmp boards → least boards test wants ≡ Some bs → AllByRecursion (λ c. Among c boards) cs → meets test wants cs ≡ true
+    → is_lt (names_cmp cs bs) ≡ false
 unfolding least
 least_is_least boards test wants bs cs sorted found among meeting =
-    first_is_least names_cmp (lists_total board_total) (meets test wants) bs cs (lists_of (length wants) boards) (lists_sorted boards sorted (length wants)) found
+    first_is_least names_cmp (lists_total board_total) (meets test wants) bs cs (lists_of (length wants) boards)
+    (lists_sorted boards sorted (length wants)) found
     (among_lists boards (length wants) cs (long_as_wants test wants cs meeting) among) meeting
 
 none_found : {A : Type 0} (p : A → Bool) (c : A) (xs : List A) → find p xs ≡ None → Among c xs → p c ≡ true → ⊥
@@ -135,16 +141,19 @@ none_found p c (x ∷ xs) none at passes = by (none_found p c xs) (p x) refl non
     by rest false is here (inr later) = rest here later passes
 
 -- where none is found, no list meets the wants
-pub none_meets : (boards : List BoardRow) (test : BoardRow → Bool) (wants : List Want) (cs : List BoardRow) → least boards test wants ≡ None → AllByRecursion (λ c. Among c boards) cs → meets test wants cs ≡ true → ⊥
+pub none_meets : (boards : List BoardRow) (test : BoardRow → Bool) (wants : List Want) (cs : List BoardRow) → least boards test wants ≡ None
+    → AllByRecursion (λ c. Among c boards) cs → meets test wants cs ≡ true → ⊥
 unfolding least
 none_meets boards test wants cs none among meeting =
-    none_found (meets test wants) cs (lists_of (length wants) boards) none (among_lists boards (length wants) cs (long_as_wants test wants cs meeting) among) meeting
+    none_found (meets test wants) cs (lists_of (length wants) boards) none
+    (among_lists boards (length wants) cs (long_as_wants test wants cs meeting) among) meeting
 
 all_self : {A : Type 0} (xs : List A) → AllByRecursion (λ x. Among x xs) xs
 all_self [] = tt
 all_self (x ∷ xs) = (inl refl, AllByRecursion-weaker (λ y at. inr at) xs (all_self xs))
 
-all_map_from : {A B : Type 0} (Q : A → Type 0) (P : B → Type 0) (f : A → B) → ((x : A) → Q x → P (f x)) → (xs : List A) → AllByRecursion Q xs → AllByRecursion P (map f xs)
+all_map_from : {A B : Type 0} (Q : A → Type 0) (P : B → Type 0) (f : A → B) → ((x : A) → Q x → P (f x)) → (xs : List A) → AllByRecursion Q xs
+    → AllByRecursion P (map f xs)
 all_map_from Q P f each [] all = tt
 all_map_from Q P f each (x ∷ xs) all = (each x all.0, all_map_from Q P f each xs all.1)
 
@@ -155,7 +164,8 @@ lists_among boards (suc n) =
     (λ b at. all_map_from (AreAmong boards) (AreAmong boards) (λ bs. b ∷ bs) (λ bs all. (at, all)) (lists_of n boards) (lists_among boards n))
 
 -- what is found is the least list
-pub IsLeast-least : (boards : List BoardRow) (test : BoardRow → Bool) (wants : List Want) (bs : List BoardRow) → IsStrictlySortedBy board_cmp boards → least boards test wants ≡ Some bs → IsLeast boards test wants bs
+pub IsLeast-least : (boards : List BoardRow) (test : BoardRow → Bool) (wants : List Want) (bs : List BoardRow) → IsStrictlySortedBy board_cmp boards
+    → least boards test wants ≡ Some bs → IsLeast boards test wants bs
 unfolding least
 IsLeast-least boards test wants bs sorted found = record {
   among = found_has (AreAmong boards) (meets test wants) bs (lists_of (length wants) boards) (lists_among boards (length wants)) found;

@@ -1,17 +1,17 @@
 -- The empty farm, and what stays sound when the clock moves, a reply is kept or a command is counted.
-use Rattle.std.proofs.Common.{◌≡◌, ℕ, ◌<◌, ◌≤◌, List, length, Some, IsSomeAnd, refl, arith}
-use Rattle.std.specs.List.{AllByRecursion}
-use Rattle.std.specs.List.Sorted.{IsStrictlySortedBy}
+use Rattle.std.proofs.Common.{◌<◌, ◌≡◌, ◌≤◌, IsSomeAnd, List, Some, arith, length, refl, ℕ}
 use Rattle.std.specs.Cmp.{IsTotalOrder, on_total, then_total}
 use Rattle.std.specs.Cmp.Lexicographic.{nat_list_cmp_total}
-use Rattle.farm_types.specs.Table.{put, kept_cmp}
-use Rattle.farm_types.specs.Farm.{Farm, empty, board_of, put_kept}
-use Rattle.farm_types.specs.Sound.{IsSound, IsKeptRow, Hold, hold_of}
+use Rattle.std.specs.List.{AllByRecursion}
+use Rattle.std.specs.List.Sorted.{IsStrictlySortedBy}
+use Rattle.farm_types.specs.Farm.{Farm, board_of, empty, put_kept}
+use Rattle.farm_types.specs.Sound.{Hold, IsKeptRow, IsSound, hold_of}
+use Rattle.farm_types.specs.Table.{kept_cmp, put}
 use Rattle.farm_types.specs.declared.rows.Holder.{Holder}
 use Rattle.farm_types.specs.declared.rows.KeptRow.{KeptRow}
-use Rattle.farm_types.proofs.Put.{AllByRecursion-put, AllByRecursion-weaker, put_sorted, length_put}
-use Rattle.farm_sound.proofs.Grow.{Grows, IsBoardRow-grows, IsJobRow-grows, IsResRow-grows}
+use Rattle.farm_types.proofs.Put.{AllByRecursion-put, AllByRecursion-weaker, length_put, put_sorted}
 use Rattle.farm_sound.proofs.Add.{IsHeldByKeys-same}
+use Rattle.farm_sound.proofs.Grow.{Grows, IsBoardRow-grows, IsJobRow-grows, IsResRow-grows}
 
 -- ---- the empty farm
 

@@ -1,32 +1,34 @@
--- Holders told by keys are D15's words: no board is held twice, and each says who holds it.
-use Rattle.std.proofs.Common.{◌≡◌, ◌≢◌, ℕ, ◌==◌, ◌<◌, inl, inr, ◌++◌, Bool, true, false, cond, List, [], ◌∷◌, Option, Some, None, unwrap_or, IsSome, IsSomeAnd, refl, sym, ap, ◌∙◌, subst, arith}
+-- Holders told by keys say that no board is held twice, and that each says who holds it; and back.
+use Rattle.std.proofs.Common.{◌++◌, ◌<◌, ◌==◌, ◌∙◌, ◌∷◌, ◌≡◌, ◌≢◌, Bool, IsSome, IsSomeAnd, List, None, Option, Some, ap, arith, cond, false, inl, inr, refl, subst, sym, true, unwrap_or, ℕ, []}
 use mathlib.Core.Bool.{false≢true}
-use Rattle.std.specs.List.{AllByRecursion, find, filter_map, cons_option}
+use Rattle.std.specs.List.{AllByRecursion, cons_option, filter_map, find}
 use Rattle.std.specs.List.Sorted.{IsStrictlySortedBy}
 use Rattle.std.specs.Option.{option_map_or}
-use Rattle.std.specs.declared.cmp.Ordering.TheVariants.{Less}
-use Rattle.std.specs.declared.cmp.Ordering.{Ordering}
 use Rattle.std.specs.Str.{bytes_eq}
+use Rattle.std.specs.declared.cmp.Ordering.{Ordering}
+use Rattle.std.specs.declared.cmp.Ordering.TheVariants.{Less}
 use Rattle.std.proofs.lemmas.Cmp.{ranked}
 use Rattle.std.proofs.lemmas.Slice.Eq.{bytes_eq-Decides}
-use Rattle.farm_types.specs.Table.{job_cmp, res_cmp}
 use Rattle.farm_types.specs.Farm.{Farm, board_of, job_of, res_of}
+use Rattle.farm_types.specs.Pass.{held}
 use Rattle.farm_types.specs.Pick.{Among}
-use Rattle.farm_types.specs.Sound.{IsSteady, IsHeldBy, IsHeldByKeys, IsHeldOnce, EachTwo, IsBoardOf, IsJobRow, IsResRow, Hold, hold, hold_of, holds, no_hold, job_hold, res_hold, job_gives, res_gives, shown}
-use Rattle.farm_types.specs.declared.rows.Holder.{Holder}
-use Rattle.farm_types.specs.declared.rows.State.{State}
+use Rattle.farm_types.specs.Sound.{EachTwo, Hold, IsBoardOf, IsHeldBy, IsHeldByKeys, IsHeldOnce, IsJobRow, IsResRow, IsSteady, hold, hold_of, holds, job_gives, job_hold, no_hold, res_gives, res_hold, shown}
+use Rattle.farm_types.specs.Table.{job_cmp, res_cmp}
 use Rattle.farm_types.specs.declared.rows.BoardRow.{BoardRow}
+use Rattle.farm_types.specs.declared.rows.Holder.{Holder}
 use Rattle.farm_types.specs.declared.rows.JobRow.{JobRow}
 use Rattle.farm_types.specs.declared.rows.ResRow.{ResRow}
-use Rattle.farm_types.proofs.Put.{found_has, found_passes, AllByRecursion-weaker}
+use Rattle.farm_types.specs.declared.rows.State.{State}
+use Rattle.farm_types.proofs.Put.{AllByRecursion-weaker, found_has, found_passes}
+use Rattle.farm_sound.proofs.Held.{held_from, held_is, hold_names, holder_is}
+use Rattle.farm_sound.proofs.Lists.{all_join, among_has, each_append, each_weaker, each_with}
+use Rattle.farm_sound.proofs.Own.{own_board, own_job, own_res, text_itself}
 use Rattle.farm_sound.proofs.Where.{AllByRecursion-both}
-use Rattle.farm_sound.proofs.Own.{own_job, own_res, own_board, text_itself}
-use Rattle.farm_sound.proofs.Held.{hold_names, holder_is, held_is, held_from}
-use Rattle.farm_sound.proofs.Group.{among_has}
 
 -- ---- lists
 
-filter_map_all : {R S : Type 0} (f : R → Option S) (P : S → Type 0) (rows : List R) → AllByRecursion (λ r. (x : S) → f r ≡ Some x → P x) rows → AllByRecursion P (filter_map f rows)
+filter_map_all : {R S : Type 0} (f : R → Option S) (P : S → Type 0) (rows : List R) → AllByRecursion (λ r. (x : S) → f r ≡ Some x → P x) rows
+    → AllByRecursion P (filter_map f rows)
 filter_map_all f P [] all = tt
 filter_map_all {R = R} {S = S} f P (r ∷ rows) all = by (f r) all.0 (filter_map_all f P rows all.1)
   where
@@ -34,7 +36,9 @@ filter_map_all {R = R} {S = S} f P (r ∷ rows) all = by (f r) all.0 (filter_map
     by None here rest = rest
     by (Some x) here rest = (here x refl, rest)
 
-filter_map_two : {R S : Type 0} (cmp : R → R → Ordering) (f : R → Option S) (P : S → S → Type 0) → ((a b : R) (x y : S) → cmp a b ≡ Less → f a ≡ Some x → f b ≡ Some y → P x y) → (rows : List R) → IsStrictlySortedBy cmp rows → EachTwo P (filter_map f rows)
+filter_map_two : {R S : Type 0} (cmp : R → R → Ordering) (f : R → Option S) (P : S → S → Type 0)
+    → ((a b : R) (x y : S) → cmp a b ≡ Less → f a ≡ Some x → f b ≡ Some y → P x y) → (rows : List R) → IsStrictlySortedBy cmp rows
+    → EachTwo P (filter_map f rows)
 unfolding IsStrictlySortedBy
 filter_map_two cmp f P two [] sorted = tt
 filter_map_two {R = R} {S = S} cmp f P two (r ∷ rows) sorted = by (f r) refl (filter_map_two cmp f P two rows sorted.1)
@@ -42,19 +46,6 @@ filter_map_two {R = R} {S = S} cmp f P two (r ∷ rows) sorted = by (f r) refl (
     by : (o : Option S) → f r ≡ o → EachTwo P (filter_map f rows) → EachTwo P (cons_option o (filter_map f rows))
     by None is rest = rest
     by (Some x) is rest = (filter_map_all f (P x) rows (AllByRecursion-weaker (λ b less y. two r b x y less is) rows sorted.0), rest)
-
-all_join : {A : Type 0} (P : A → Type 0) (xs ys : List A) → AllByRecursion P xs → AllByRecursion P ys → AllByRecursion P (xs ++ ys)
-all_join P [] ys all more = more
-all_join P (x ∷ xs) ys all more = (all.0, all_join P xs ys all.1 more)
-
-two_append : {S : Type 0} (P : S → S → Type 0) (xs ys : List S) → EachTwo P xs → EachTwo P ys → AllByRecursion (λ x. AllByRecursion (P x) ys) xs → EachTwo P (xs ++ ys)
-two_append P [] ys xx yy xy = yy
-two_append P (x ∷ xs) ys xx yy xy = (all_join (P x) xs ys xx.0 xy.0, two_append P xs ys xx.1 yy xy.1)
-
-two_weaker : {S : Type 0} (P Q : S → S → Type 0) (O : S → Type 0) → ((x y : S) → O x → O y → P x y → Q x y) → (xs : List S) → AllByRecursion O xs → EachTwo P xs → EachTwo Q xs
-two_weaker P Q O weaker [] all two = tt
-two_weaker P Q O weaker (x ∷ xs) all two =
-    (AllByRecursion-weaker (λ y both. weaker x y all.0 both.0 both.1) xs (AllByRecursion-both O (P x) xs all.1 two.0), two_weaker P Q O weaker xs all.1 two.1)
 
 among_found : {A : Type 0} (test : A → Bool) (x : A) (xs : List A) → find test xs ≡ Some x → Among x xs
 among_found test x [] is = cc
@@ -120,23 +111,29 @@ module _ (F : Farm) (steady : IsSteady F) where
 
   -- no two have one holder
   two_holders : EachTwo (λ x y. x.holder ≢ y.holder) (holds F)
-  two_holders = two_append (λ x y. x.holder ≢ y.holder) (filter_map job_hold F.jobs) (filter_map res_hold F.reservations)
+  two_holders = each_append (λ x y. x.holder ≢ y.holder) (filter_map job_hold F.jobs) (filter_map res_hold F.reservations)
       (filter_map_two job_cmp job_hold (λ x y. x.holder ≢ y.holder)
       (λ a b x y less ax by_b same.
       let low : a.number < b.number = ranked a.number b.number Less (sym less) in
-      let e : Holder.Job a.number ≡ Holder.Job b.number = sym (hold_names (Holder.Job a.number) a.board (job_gives a.state) x ax) ∙ same ∙ hold_names (Holder.Job b.number) b.board (job_gives b.state) y by_b in
+      let e : Holder.Job a.number ≡ Holder.Job b.number =
+      sym (hold_names (Holder.Job a.number) a.board (job_gives a.state) x ax) ∙ same
+      ∙ hold_names (Holder.Job b.number) b.board (job_gives b.state) y by_b in
       let n : a.number ≡ b.number = cc in
       absurd (omega (arith, low, n))) F.jobs steady.jobs_sorted)
       (filter_map_two res_cmp res_hold (λ x y. x.holder ≢ y.holder)
       (λ a b x y less ax by_b same.
       let low : a.number < b.number = ranked a.number b.number Less (sym less) in
-      let e : Holder.Res a.number ≡ Holder.Res b.number = sym (hold_names (Holder.Res a.number) a.board (res_gives a.state) x ax) ∙ same ∙ hold_names (Holder.Res b.number) b.board (res_gives b.state) y by_b in
+      let e : Holder.Res a.number ≡ Holder.Res b.number =
+      sym (hold_names (Holder.Res a.number) a.board (res_gives a.state) x ax) ∙ same
+      ∙ hold_names (Holder.Res b.number) b.board (res_gives b.state) y by_b in
       let n : a.number ≡ b.number = cc in
       absurd (omega (arith, low, n))) F.reservations steady.reservations_sorted)
       (filter_map_all job_hold (λ x. AllByRecursion (λ y. x.holder ≢ y.holder) (filter_map res_hold F.reservations)) F.jobs
       (AllByRecursion-weaker (λ j _ x ax. filter_map_all res_hold (λ y. x.holder ≢ y.holder) F.reservations
       (AllByRecursion-weaker (λ r _ y ry same.
-      let e : Holder.Job j.number ≡ Holder.Res r.number = sym (hold_names (Holder.Job j.number) j.board (job_gives j.state) x ax) ∙ same ∙ hold_names (Holder.Res r.number) r.board (res_gives r.state) y ry in cc)
+      let e : Holder.Job j.number ≡ Holder.Res r.number =
+      sym (hold_names (Holder.Job j.number) j.board (job_gives j.state) x ax) ∙ same
+      ∙ hold_names (Holder.Res r.number) r.board (res_gives r.state) y ry in cc)
       F.reservations (own_res F steady))) F.jobs (own_job F steady)))
 
   -- what is held is in the list
@@ -146,12 +143,14 @@ module _ (F : Farm) (steady : IsSteady F) where
     where
       by : (o : Option JobRow) → job_of F n ≡ o → option_map_or job_hold o None ≡ Some x → Among x (holds F)
       by None there is = cc
-      by (Some j) there is = among_join_left x (filter_map job_hold F.jobs) (filter_map res_hold F.reservations) (among_filter_map job_hold j x F.jobs (among_found (λ r. r.number == n) j F.jobs there) is)
+      by (Some j) there is = among_join_left x (filter_map job_hold F.jobs) (filter_map res_hold F.reservations)
+          (among_filter_map job_hold j x F.jobs (among_found (λ r. r.number == n) j F.jobs there) is)
   among_holds (Holder.Res n) x is = by (res_of F n) refl is
     where
       by : (o : Option ResRow) → res_of F n ≡ o → option_map_or res_hold o None ≡ Some x → Among x (holds F)
       by None there is = cc
-      by (Some r) there is = among_join_right x (filter_map job_hold F.jobs) (filter_map res_hold F.reservations) (among_filter_map res_hold r x F.reservations (among_found (λ q. q.number == n) r F.reservations there) is)
+      by (Some r) there is = among_join_right x (filter_map job_hold F.jobs) (filter_map res_hold F.reservations)
+          (among_filter_map res_hold r x F.reservations (among_found (λ q. q.number == n) r F.reservations there) is)
 
   -- ---- by keys, so once
 
@@ -160,19 +159,25 @@ module _ (F : Farm) (steady : IsSteady F) where
   holder_by_keys held x own b there = rw there at (held.rows x.holder x own)
 
   one_holder : IsHeldByKeys F → (x y : Hold) → hold_of F x.holder ≡ Some x → hold_of F y.holder ≡ Some y → x.board ≡ y.board → x.holder ≡ y.holder
-  one_holder held x y ox oy same = by (board_of F x.board) refl (held.rows x.holder x ox) (subst (λ n. IsSomeAnd (board_of F n) (λ b. b.holder ≡ y.holder)) (sym same) (held.rows y.holder y oy))
+  one_holder held x y ox oy same =
+      by (board_of F x.board) refl (held.rows x.holder x ox)
+      (subst (λ n. IsSomeAnd (board_of F n) (λ b. b.holder ≡ y.holder)) (sym same) (held.rows y.holder y oy))
     where
-      by : (o : Option BoardRow) → board_of F x.board ≡ o → IsSomeAnd o (λ b. b.holder ≡ x.holder) → IsSomeAnd o (λ b. b.holder ≡ y.holder) → x.holder ≡ y.holder
+      by : (o : Option BoardRow) → board_of F x.board ≡ o → IsSomeAnd o (λ b. b.holder ≡ x.holder) → IsSomeAnd o (λ b. b.holder ≡ y.holder)
+          → x.holder ≡ y.holder
       by None there hx hy = absurd hx
       by (Some b) there hx hy = sym hx ∙ hy
 
-  told_by_keys : IsHeldByKeys F → (b : BoardRow) → board_of F b.name ≡ Some b → IsHeldBy F b b.holder → shown b ≡ unwrap_or (find (λ h. bytes_eq h.board b.name) (holds F)) (no_hold b.name)
+  told_by_keys : IsHeldByKeys F → (b : BoardRow) → board_of F b.name ≡ Some b → IsHeldBy F b b.holder
+      → shown b ≡ unwrap_or (find (λ h. bytes_eq h.board b.name) (holds F)) (no_hold b.name)
   told_by_keys held b own told = by (find (λ h. bytes_eq h.board b.name) (holds F)) refl
     where
       none : (h : Holder) → b.holder ≡ h → IsHeldBy F b h → find (λ x. bytes_eq x.board b.name) (holds F) ≡ None → shown b ≡ no_hold b.name
       none Holder.Nobody at told is = λ i. record { board = b.name; holder = at i; state = told i }
-      none (Holder.Job n) at told is = absurd (among_none (λ x. bytes_eq x.board b.name) (shown b) (holds F) (among_holds (Holder.Job n) (shown b) told) (text_itself b.name) is)
-      none (Holder.Res n) at told is = absurd (among_none (λ x. bytes_eq x.board b.name) (shown b) (holds F) (among_holds (Holder.Res n) (shown b) told) (text_itself b.name) is)
+      none (Holder.Job n) at told is =
+          absurd (among_none (λ x. bytes_eq x.board b.name) (shown b) (holds F) (among_holds (Holder.Job n) (shown b) told) (text_itself b.name) is)
+      none (Holder.Res n) at told is =
+          absurd (among_none (λ x. bytes_eq x.board b.name) (shown b) (holds F) (among_holds (Holder.Res n) (shown b) told) (text_itself b.name) is)
 
       by : (o : Option Hold) → find (λ h. bytes_eq h.board b.name) (holds F) ≡ o → shown b ≡ unwrap_or o (no_hold b.name)
       by None is = none b.holder refl told is
@@ -184,8 +189,11 @@ module _ (F : Farm) (steady : IsSteady F) where
 
   pub IsHeldOnce-from_keys : IsHeldByKeys F → IsHeldOnce F
   IsHeldOnce-from_keys held = record {
-    once = two_weaker (λ x y. x.holder ≢ y.holder) (λ x y. x.board ≢ y.board) (λ x. hold_of F x.holder ≡ Some x) (λ x y ox oy differ same. differ (one_holder held x y ox oy same)) (holds F) own_holds two_holders;
-    told = AllByRecursion-weaker (λ b two. told_by_keys held b two.0 two.1) F.boards (AllByRecursion-both (λ b. board_of F b.name ≡ Some b) (λ b. IsHeldBy F b b.holder) F.boards (own_board F steady) held.boards);
+    once = each_weaker (λ x y. (x.holder ≢ y.holder) × (hold_of F x.holder ≡ Some x) × (hold_of F y.holder ≡ Some y)) (λ x y. x.board ≢ y.board)
+        (λ x y three same. three.0 (one_holder held x y three.1 three.2 same)) (holds F)
+        (each_with (λ x y. x.holder ≢ y.holder) (λ x. hold_of F x.holder ≡ Some x) (holds F) two_holders own_holds);
+    told = AllByRecursion-weaker (λ b two. told_by_keys held b two.0 two.1) F.boards
+        (AllByRecursion-both (λ b. board_of F b.name ≡ Some b) (λ b. IsHeldBy F b b.holder) F.boards (own_board F steady) held.boards);
   }
 
   -- ---- once, so by keys
@@ -199,10 +207,12 @@ module _ (F : Farm) (steady : IsSteady F) where
           let ox : hold_of F x.holder ≡ Some x = found_has (λ y. hold_of F y.holder ≡ Some y) (λ y. bytes_eq y.board b.name) x (holds F) own_holds is in
           held_from F b b.holder (ap (hold_of F) (ap (λ (y : Hold). y.holder) told) ∙ ox ∙ ap Some (sym told))
 
-  hold_board : (h : Holder) (board : Option (List ℕ)) (state : Option State) (x : Hold) → hold h board state ≡ Some x → IsBoardOf F board → IsSome (board_of F x.board)
+  hold_board : (h : Holder) (board : Option (List ℕ)) (state : Option State) (x : Hold) → hold h board state ≡ Some x → IsBoardOf F board
+      → IsSome (board_of F x.board)
   hold_board h None state x is there = cc
   hold_board h (Some name) None x is there = cc
-  hold_board h (Some name) (Some state) x is there = let e : record { board = name; holder = h; state = state } ≡ x = cc in subst (λ (y : Hold). IsSome (board_of F y.board)) e there
+  hold_board h (Some name) (Some state) x is there = let e : record { board = name; holder = h; state = state } ≡ x = cc in
+      subst (λ (y : Hold). IsSome (board_of F y.board)) e there
 
   board_there : (h : Holder) (x : Hold) → hold_of F h ≡ Some x → IsSome (board_of F x.board)
   board_there Holder.Nobody x is = cc
@@ -210,28 +220,35 @@ module _ (F : Farm) (steady : IsSteady F) where
     where
       by : (o : Option JobRow) → job_of F n ≡ o → option_map_or job_hold o None ≡ Some x → IsSome (board_of F x.board)
       by None there is = cc
-      by (Some j) there is = hold_board (Holder.Job j.number) j.board (job_gives j.state) x is (found_has (IsJobRow F) (λ r. r.number == n) j F.jobs steady.jobs there).board
+      by (Some j) there is = hold_board (Holder.Job j.number) j.board (job_gives j.state) x is
+          (found_has (IsJobRow F) (λ r. r.number == n) j F.jobs steady.jobs there).board
   board_there (Holder.Res n) x is = by (res_of F n) refl is
     where
       by : (o : Option ResRow) → res_of F n ≡ o → option_map_or res_hold o None ≡ Some x → IsSome (board_of F x.board)
       by None there is = cc
-      by (Some r) there is = hold_board (Holder.Res r.number) r.board (res_gives r.state) x is (found_has (IsResRow F) (λ q. q.number == n) r F.reservations steady.reservations there).board
+      by (Some r) there is = hold_board (Holder.Res r.number) r.board (res_gives r.state) x is
+          (found_has (IsResRow F) (λ q. q.number == n) r F.reservations steady.reservations there).board
 
   keys_rows : IsHeldOnce F → (h : Holder) (x : Hold) → hold_of F h ≡ Some x → x.holder ≡ h → IsSomeAnd (board_of F x.board) (λ b. b.holder ≡ h)
   keys_rows held h x is mine = by (board_of F x.board) refl (board_there h x is)
     where
-      found : (b : BoardRow) → b.name ≡ x.board → (o : Option Hold) → find (λ y. bytes_eq y.board b.name) (holds F) ≡ o → shown b ≡ unwrap_or o (no_hold b.name) → b.holder ≡ h
-      found b named None none told = absurd (among_none (λ y. bytes_eq y.board b.name) x (holds F) (among_holds h x is) ((bytes_eq-Decides x.board b.name).1 (sym named)) none)
+      found : (b : BoardRow) → b.name ≡ x.board → (o : Option Hold) → find (λ y. bytes_eq y.board b.name) (holds F) ≡ o
+          → shown b ≡ unwrap_or o (no_hold b.name) → b.holder ≡ h
+      found b named None none told =
+          absurd (among_none (λ y. bytes_eq y.board b.name) x (holds F) (among_holds h x is) ((bytes_eq-Decides x.board b.name).1 (sym named)) none)
       found b named (Some y) at told =
           let same : y.board ≡ x.board = (bytes_eq-Decides y.board b.name).0 (found_passes (λ (z : Hold). bytes_eq z.board b.name) y (holds F) at) ∙ named in
-          let e : y ≡ x = two_same (λ z. z.board) y x (holds F) held.once (among_found (λ z. bytes_eq z.board b.name) y (holds F) at) (among_holds h x is) same in
+          let e : y ≡ x = two_same (λ z. z.board) y x (holds F) held.once (among_found (λ z. bytes_eq z.board b.name) y (holds F) at)
+          (among_holds h x is) same in
           ap (λ (z : Hold). z.holder) (told ∙ e) ∙ mine
 
       by : (o : Option BoardRow) → board_of F x.board ≡ o → IsSome o → IsSomeAnd o (λ b. b.holder ≡ h)
       by None there some = absurd (false≢true some)
       by (Some b) there some =
-          found b ((bytes_eq-Decides b.name x.board).0 (found_passes (λ (c : BoardRow). bytes_eq c.name x.board) b F.boards there)) (find (λ y. bytes_eq y.board b.name) (holds F)) refl
-          (found_has (λ b. shown b ≡ unwrap_or (find (λ h. bytes_eq h.board b.name) (holds F)) (no_hold b.name)) (λ c. bytes_eq c.name x.board) b F.boards held.told there)
+          found b ((bytes_eq-Decides b.name x.board).0 (found_passes (λ (c : BoardRow). bytes_eq c.name x.board) b F.boards there))
+          (find (λ y. bytes_eq y.board b.name) (holds F)) refl
+          (found_has (λ b. shown b ≡ unwrap_or (find (λ h. bytes_eq h.board b.name) (holds F)) (no_hold b.name))
+          (λ c. bytes_eq c.name x.board) b F.boards held.told there)
 
   pub IsHeldByKeys-from_once : IsHeldOnce F → IsHeldByKeys F
   IsHeldByKeys-from_once held = record {

@@ -1,35 +1,35 @@
 -- Each row is found by its own key, and no row by the next number.
-use Rattle.std.proofs.Common.{◌≡◌, ℕ, ◌==◌, ◌<◌, ◌≤◌, Bool, true, false, cond, List, [], ◌∷◌, Some, None, refl, sym, ap, ◌∙◌, arith}
+use Rattle.std.proofs.Common.{◌<◌, ◌==◌, ◌∙◌, ◌∷◌, ◌≡◌, ◌≤◌, Bool, List, None, Some, ap, arith, cond, false, refl, sym, true, ℕ, []}
 use Rattle.std.specs.List.{AllByRecursion, find}
 use Rattle.std.specs.List.Sorted.{IsStrictlySortedBy}
 use Rattle.std.specs.Ordering.{is_eq}
-use Rattle.std.specs.declared.cmp.Ordering.TheVariants.{Less}
-use Rattle.std.specs.declared.cmp.Ordering.{Ordering}
 use Rattle.std.specs.Str.{bytes_eq}
+use Rattle.std.specs.declared.cmp.Ordering.{Ordering}
+use Rattle.std.specs.declared.cmp.Ordering.TheVariants.{Less}
 use Rattle.std.proofs.lemmas.Bool.Decides.{nat_tests}
 use Rattle.std.proofs.lemmas.Cmp.{ranked}
 use Rattle.std.proofs.lemmas.Map.Text.{is_eq-slice_cmp}
 use Rattle.std.proofs.lemmas.Slice.Eq.{bytes_eq-Decides}
-use Rattle.farm_types.specs.Table.{board_cmp, job_cmp, res_cmp}
 use Rattle.farm_types.specs.Farm.{Farm, board_of, job_of, res_of}
 use Rattle.farm_types.specs.Sound.{IsSteady}
+use Rattle.farm_types.specs.Table.{board_cmp, job_cmp, res_cmp}
 use Rattle.farm_types.specs.declared.rows.BoardRow.{BoardRow}
 use Rattle.farm_types.specs.declared.rows.JobRow.{JobRow}
 use Rattle.farm_types.specs.declared.rows.ResRow.{ResRow}
 use Rattle.farm_types.proofs.Put.{AllByRecursion-weaker}
+use Rattle.farm_sound.proofs.Lists.{none_found}
 
-pub found_all : {R : Type 0} (cmp : R → R → Ordering) (test : R → R → Bool) → ((r : R) → test r r ≡ true) → ((x y : R) → cmp x y ≡ Less → test x y ≡ false) → (rows : List R) → IsStrictlySortedBy cmp rows → AllByRecursion (λ j. find (λ r. test r j) rows ≡ Some j) rows
+pub found_all : {R : Type 0} (cmp : R → R → Ordering) (test : R → R → Bool) → ((r : R) → test r r ≡ true)
+    → ((x y : R) → cmp x y ≡ Less → test x y ≡ false) → (rows : List R) → IsStrictlySortedBy cmp rows
+    → AllByRecursion (λ j. find (λ r. test r j) rows ≡ Some j) rows
 unfolding IsStrictlySortedBy
 found_all cmp test self less [] sorted = tt
 found_all {R = R} cmp test self less (x ∷ rows) sorted = (rw (self x), later rows sorted.0 (found_all cmp test self less rows sorted.1))
   where
-    later : (ys : List R) → AllByRecursion (λ y. cmp x y ≡ Less) ys → AllByRecursion (λ j. find (λ r. test r j) rows ≡ Some j) ys → AllByRecursion (λ j. cond (test x j) (Some x) (find (λ r. test r j) rows) ≡ Some j) ys
+    later : (ys : List R) → AllByRecursion (λ y. cmp x y ≡ Less) ys → AllByRecursion (λ j. find (λ r. test r j) rows ≡ Some j) ys
+        → AllByRecursion (λ j. cond (test x j) (Some x) (find (λ r. test r j) rows) ≡ Some j) ys
     later [] l f = tt
     later (y ∷ ys) l f = (rw (less x y l.0) f.0, later ys l.1 f.1)
-
-pub none_found : {R : Type 0} (test : R → Bool) (rows : List R) → AllByRecursion (λ r. test r ≡ false) rows → find test rows ≡ None
-none_found test [] all = refl
-none_found test (r ∷ rows) all = rw all.0 (none_found test rows all.1)
 
 pub itself : (n : ℕ) → (n == n) ≡ true
 itself n = grind (arith, nat_tests)
@@ -45,19 +45,23 @@ differs_more a b less = grind (arith, nat_tests)
 
 module _ (F : Farm) (steady : IsSteady F) where
   pub own_job : AllByRecursion (λ j. job_of F j.number ≡ Some j) F.jobs
-  own_job = found_all job_cmp (λ r j. r.number == j.number) (λ r. itself r.number) (λ x y less. differs x.number y.number (ranked x.number y.number Less (sym less))) F.jobs steady.jobs_sorted
+  own_job = found_all job_cmp (λ r j. r.number == j.number) (λ r. itself r.number)
+      (λ x y less. differs x.number y.number (ranked x.number y.number Less (sym less))) F.jobs steady.jobs_sorted
 
   pub own_res : AllByRecursion (λ r. res_of F r.number ≡ Some r) F.reservations
-  own_res = found_all res_cmp (λ r j. r.number == j.number) (λ r. itself r.number) (λ x y less. differs x.number y.number (ranked x.number y.number Less (sym less))) F.reservations steady.reservations_sorted
+  own_res = found_all res_cmp (λ r j. r.number == j.number) (λ r. itself r.number)
+      (λ x y less. differs x.number y.number (ranked x.number y.number Less (sym less))) F.reservations steady.reservations_sorted
 
   pub own_board : AllByRecursion (λ b. board_of F b.name ≡ Some b) F.boards
-  own_board = found_all board_cmp (λ r b. bytes_eq r.name b.name) (λ r. text_itself r.name) (λ x y less. sym (is_eq-slice_cmp x.name y.name) ∙ ap is_eq less) F.boards steady.boards_sorted
+  own_board = found_all board_cmp (λ r b. bytes_eq r.name b.name) (λ r. text_itself r.name)
+      (λ x y less. sym (is_eq-slice_cmp x.name y.name) ∙ ap is_eq less) F.boards steady.boards_sorted
 
   pub fresh_job : (n : ℕ) → F.next ≤ n → job_of F n ≡ None
   fresh_job n high = none_found (λ r. r.number == n) F.jobs (AllByRecursion-weaker (λ j is. differs j.number n (omega (arith, is.number.1))) F.jobs steady.jobs)
 
   pub fresh_res : (n : ℕ) → F.next ≤ n → res_of F n ≡ None
-  fresh_res n high = none_found (λ r. r.number == n) F.reservations (AllByRecursion-weaker (λ j is. differs j.number n (omega (arith, is.number.1))) F.reservations steady.reservations)
+  fresh_res n high = none_found (λ r. r.number == n) F.reservations
+      (AllByRecursion-weaker (λ j is. differs j.number n (omega (arith, is.number.1))) F.reservations steady.reservations)
 
   -- the row with a number is the only one
   pub only_job : (n : ℕ) (j : JobRow) → job_of F n ≡ Some j → AllByRecursion (λ k. k.number ≡ n → k ≡ j) F.jobs

@@ -1,13 +1,13 @@
 -- The place at which a binary search ends.
-use Rattle.std.proofs.Common.{◌≡◌, ℕ, ◌&&◌, Bool, List, length, Result, Ok, Err, sym, refl, subst}
-use Rattle.std.specs.List.{find}
-use Rattle.std.specs.List.Sorted.{IsStrictlySortedBy, IsSearchInRange, IsBinarySearchResult}
+use Rattle.std.proofs.Common.{◌&&◌, ◌≡◌, Bool, Err, List, Ok, Result, length, refl, subst, sym, ℕ}
 use Rattle.std.specs.Cmp.{IsTotalOrder, on_total, then_total}
 use Rattle.std.specs.Cmp.Lexicographic.{nat_list_cmp_total}
-use Rattle.std.specs.Ordering.{ordering_then, is_eq}
+use Rattle.std.specs.List.{find}
+use Rattle.std.specs.List.Sorted.{IsBinarySearchResult, IsSearchInRange, IsStrictlySortedBy}
+use Rattle.std.specs.Ordering.{is_eq, ordering_then}
 use Rattle.std.specs.Str.{bytes_eq}
 use Rattle.std.specs.declared.cmp.Ordering.{Ordering}
-use Rattle.std.specs.declared.cmp.Ordering.TheVariants.{Less, Equal, Greater}
+use Rattle.std.specs.declared.cmp.Ordering.TheVariants.{Equal, Greater, Less}
 use Rattle.farm_types.specs.Words.{text_cmp}
 use Rattle.farm_types.proofs.Put.{put_searched}
 use Rattle.farm_types.proofs.Searched.{found_at, same_names}

@@ -1,50 +1,25 @@
 -- The queue is the claims in their order, each once.
-use Rattle.std.proofs.Common.{◌≡◌, ℕ, ◌==◌, ◌⊎◌, inl, inr, ◌++◌, Bool, true, false, cond, List, [], ◌∷◌, map, Some, IsNone, refl, sym, ap, ◌∙◌, subst, arith}
+use Rattle.std.proofs.Common.{◌++◌, ◌==◌, ◌∙◌, ◌∷◌, ◌≡◌, ◌⊎◌, Bool, IsNone, List, Some, ap, arith, cond, false, inl, inr, map, refl, subst, sym, true, ℕ, []}
 use mathlib.Core.Bool.{true≢false}
-use Rattle.std.specs.List.{AllByRecursion, find, filter}
-use Rattle.std.specs.List.Sorted.{IsStrictlySortedBy, IsPermutation}
 use Rattle.std.specs.Cmp.{IsTotalOrder}
-use Rattle.std.specs.Ordering.{match_ordering, ordering_reverse, ordering_then, nat_cmp}
-use Rattle.std.specs.declared.cmp.Ordering.TheVariants.{Less, Equal, Greater}
+use Rattle.std.specs.List.{AllByRecursion, filter, find}
+use Rattle.std.specs.List.Sorted.{IsPermutation}
+use Rattle.std.specs.Ordering.{match_ordering, nat_cmp, ordering_reverse, ordering_then}
 use Rattle.std.specs.declared.cmp.Ordering.{Ordering}
+use Rattle.std.specs.declared.cmp.Ordering.TheVariants.{Equal, Greater, Less}
 use Rattle.std.proofs.lemmas.Cmp.{ranked}
-use Rattle.std.proofs.lemmas.List.Sorted.{IsPermutation-refl, IsPermutation-sym, IsPermutation-cons, IsPermutation-trans, IsPermutation-middle, IsPermutation-append_right}
-use Rattle.farm_types.specs.Table.{put, put_all, job_cmp, res_cmp}
+use Rattle.std.proofs.lemmas.List.Sorted.{IsPermutation-append_right, IsPermutation-cons, IsPermutation-middle, IsPermutation-refl, IsPermutation-sym, IsPermutation-trans}
 use Rattle.farm_types.specs.Farm.{Farm, res_of}
-use Rattle.farm_types.specs.Pick.{Among, Claimed, claim_cmp, claims, queue, is_waiting, res_claim, leads_claim, group_claim}
-use Rattle.farm_types.specs.Sound.{EachTwo, IsSteady, IsJobRow}
+use Rattle.farm_types.specs.Pick.{Among, Claimed, claim_cmp, claims, group_claim, is_waiting, leads_claim, queue, res_claim}
+use Rattle.farm_types.specs.Sound.{EachTwo, IsJobRow, IsSteady}
+use Rattle.farm_types.specs.Table.{job_cmp, put, put_all, res_cmp}
 use Rattle.farm_types.specs.declared.rows.JobRow.{JobRow}
 use Rattle.farm_types.specs.declared.rows.ResRow.{ResRow}
 use Rattle.farm_types.proofs.Put.{AllByRecursion-put, AllByRecursion-weaker}
-use Rattle.farm_sound.proofs.Where.{AllByRecursion-map, AllByRecursion-both}
+use Rattle.farm_sound.proofs.Claims.{IsClaim, claim_total, leads}
+use Rattle.farm_sound.proofs.Lists.{each_append, each_map, each_sorted, each_weaker, each_with, filter_all}
 use Rattle.farm_sound.proofs.Own.{own_res}
-use Rattle.farm_sound.proofs.Group.{filter_all}
-use Rattle.farm_sound.proofs.Serve.{IsClaim, all_join, claim_total, leads}
-
--- ---- each two of a list
-
-each_append : {A : Type 0} (R : A → A → Type 0) (xs ys : List A) → EachTwo R xs → EachTwo R ys → AllByRecursion (λ x. AllByRecursion (R x) ys) xs → EachTwo R (xs ++ ys)
-each_append R [] ys here there across = there
-each_append R (x ∷ xs) ys here there across = (all_join (R x) xs ys here.0 across.0, each_append R xs ys here.1 there across.1)
-
-each_map : {A B : Type 0} (S : A → A → Type 0) (R : B → B → Type 0) (f : A → B) → ((a b : A) → S a b → R (f a) (f b)) → (xs : List A) → EachTwo S xs → EachTwo R (map f xs)
-each_map S R f follows [] each = tt
-each_map S R f follows (x ∷ xs) each = (AllByRecursion-map (S x) (R (f x)) f (λ y. follows x y) xs each.0, each_map S R f follows xs each.1)
-
-each_with : {A : Type 0} (S : A → A → Type 0) (P : A → Type 0) (xs : List A) → EachTwo S xs → AllByRecursion P xs → EachTwo (λ a b. S a b × P a × P b) xs
-each_with S P [] each all = tt
-each_with S P (x ∷ xs) each all =
-    (AllByRecursion-weaker (λ y two. (two.0, all.0, two.1)) xs (AllByRecursion-both (S x) P xs each.0 all.1), each_with S P xs each.1 all.1)
-
--- of rows in order those that pass are in order
-each_sorted : {A : Type 0} (cmp : A → A → Ordering) (test : A → Bool) (xs : List A) → IsStrictlySortedBy cmp xs → EachTwo (λ a b. cmp a b ≡ Less) (filter test xs)
-unfolding IsStrictlySortedBy
-each_sorted cmp test [] sorted = tt
-each_sorted cmp test (x ∷ xs) sorted = by (test x) (each_sorted cmp test xs sorted.1)
-  where
-    by : (v : Bool) → EachTwo (λ a b. cmp a b ≡ Less) (filter test xs) → EachTwo (λ a b. cmp a b ≡ Less) (cond v (x ∷ filter test xs) (filter test xs))
-    by true rest = (AllByRecursion-weaker (λ y two. two.0) (filter test xs) (filter_all (λ y. cmp x y ≡ Less) test xs sorted.0), rest)
-    by false rest = rest
+use Rattle.farm_sound.proofs.Where.{AllByRecursion-both, AllByRecursion-map}
 
 -- ---- putting rows that don't tie
 
@@ -59,7 +34,8 @@ module _ {R : Type 0} (cmp : R → R → Ordering) (total : IsTotalOrder cmp) wh
   put_permutes row [] apart = IsPermutation-refl (row ∷ [])
   put_permutes row (r ∷ rows) apart = by (put_permutes row rows apart.1) (cmp row r) refl
     where
-      by : IsPermutation (row ∷ rows) (put cmp rows row) → (o : Ordering) → cmp row r ≡ o → IsPermutation (row ∷ r ∷ rows) (match_ordering o (row ∷ r ∷ rows) (row ∷ rows) (r ∷ put cmp rows row))
+      by : IsPermutation (row ∷ rows) (put cmp rows row) → (o : Ordering) → cmp row r ≡ o
+          → IsPermutation (row ∷ r ∷ rows) (match_ordering o (row ∷ r ∷ rows) (row ∷ rows) (r ∷ put cmp rows row))
       by rest Less is = IsPermutation-refl (row ∷ r ∷ rows)
       by rest Equal is = absurd (apart.0 is)
       by rest Greater is =
@@ -71,7 +47,8 @@ module _ {R : Type 0} (cmp : R → R → Ordering) (total : IsTotalOrder cmp) wh
   among_put x row [] apart at = at
   among_put x row (r ∷ rows) apart at = by (among_put x row rows apart.1) (cmp row r) refl at
     where
-      by : (Among x (row ∷ rows) → Among x (put cmp rows row)) → (o : Ordering) → cmp row r ≡ o → Among x (row ∷ r ∷ rows) → Among x (match_ordering o (row ∷ r ∷ rows) (row ∷ rows) (r ∷ put cmp rows row))
+      by : (Among x (row ∷ rows) → Among x (put cmp rows row)) → (o : Ordering) → cmp row r ≡ o → Among x (row ∷ r ∷ rows)
+          → Among x (match_ordering o (row ∷ r ∷ rows) (row ∷ rows) (r ∷ put cmp rows row))
       by rest Less is at = at
       by rest Equal is at = absurd (apart.0 is)
       by rest Greater is (inl same) = inr (rest (inl same))
@@ -130,10 +107,12 @@ module _ (F : Farm) (steady : IsSteady F) where
 
   -- what is known of a job that leads a claim
   leading : AllByRecursion (λ j. (j.number ≡ j.group) × IsNone (res_of F j.number)) (filter (leads_claim F) F.jobs)
-  leading = AllByRecursion-weaker (λ j two. ((leads F j two.1).0, two.0.apart)) (filter (leads_claim F) F.jobs) (filter_all (IsJobRow F) (leads_claim F) F.jobs steady.jobs)
+  leading = AllByRecursion-weaker (λ j two. ((leads F j two.1).0, two.0.apart)) (filter (leads_claim F) F.jobs)
+      (filter_all (IsJobRow F) (leads_claim F) F.jobs steady.jobs)
 
   group_claims : EachTwo IsOther (map (group_claim F) (filter (leads_claim F) F.jobs))
-  group_claims = each_map (λ a b. (job_cmp a b ≡ Less) × ((a.number ≡ a.group) × IsNone (res_of F a.number)) × ((b.number ≡ b.group) × IsNone (res_of F b.number)))
+  group_claims = each_map (λ a b.
+      (job_cmp a b ≡ Less) × ((a.number ≡ a.group) × IsNone (res_of F a.number)) × ((b.number ≡ b.group) × IsNone (res_of F b.number)))
       IsOther (group_claim F) (λ a b three same. number_below a.number b.number three.0 (three.1.0 ∙ same ∙ sym three.2.0))
       (filter (leads_claim F) F.jobs)
       (each_with (λ a b. job_cmp a b ≡ Less) (λ j. (j.number ≡ j.group) × IsNone (res_of F j.number)) (filter (leads_claim F) F.jobs)
@@ -146,18 +125,18 @@ module _ (F : Farm) (steady : IsSteady F) where
       true≢false (subst IsNone there lead.1)
 
   claims_differ : EachTwo IsOther (claims F)
-  claims_differ = each_append IsOther (map res_claim (filter is_waiting F.reservations)) (map (group_claim F) (filter (leads_claim F) F.jobs)) res_claims group_claims
-      (AllByRecursion-map (λ r. (res_of F r.number ≡ Some r) × (is_waiting r ≡ true)) (λ c. AllByRecursion (IsOther c) (map (group_claim F) (filter (leads_claim F) F.jobs))) res_claim
-      (λ r own. AllByRecursion-map (λ j. (j.number ≡ j.group) × IsNone (res_of F j.number)) (IsOther (res_claim r)) (group_claim F) (λ j lead. across r j own.0 lead)
+  claims_differ = each_append IsOther (map res_claim (filter is_waiting F.reservations))
+      (map (group_claim F) (filter (leads_claim F) F.jobs)) res_claims group_claims
+      (AllByRecursion-map (λ r. (res_of F r.number ≡ Some r) × (is_waiting r ≡ true))
+      (λ c. AllByRecursion (IsOther c) (map (group_claim F) (filter (leads_claim F) F.jobs))) res_claim
+      (λ r own. AllByRecursion-map (λ j. (j.number ≡ j.group) × IsNone (res_of F j.number)) (IsOther (res_claim r)) (group_claim F)
+      (λ j lead. across r j own.0 lead)
       (filter (leads_claim F) F.jobs) leading)
       (filter is_waiting F.reservations) (filter_all (λ r. res_of F r.number ≡ Some r) is_waiting F.reservations (own_res F steady)))
 
   claims_apart : EachTwo (λ c d. claim_cmp c d ≡ Equal → ⊥) (claims F)
-  claims_apart = each_weaker (claims F) claims_differ
-    where
-      each_weaker : (cs : List Claimed) → EachTwo IsOther cs → EachTwo (λ c d. claim_cmp c d ≡ Equal → ⊥) cs
-      each_weaker [] each = tt
-      each_weaker (c ∷ cs) each = (AllByRecursion-weaker (λ d other ties. other (claim_ties c d ties)) cs each.0, each_weaker cs each.1)
+  claims_apart =
+      each_weaker IsOther (λ c d. claim_cmp c d ≡ Equal → ⊥) (λ c d other ties. other (claim_ties c d ties)) (claims F) claims_differ
 
   none_before : (cs : List Claimed) → AllByRecursion (λ c. AllByRecursion (λ d. claim_cmp c d ≡ Equal → ⊥) []) cs
   none_before [] = tt
@@ -175,11 +154,13 @@ module _ (F : Farm) (steady : IsSteady F) where
   among_append x (y ∷ xs) ys (inl (inr at)) = inr (among_append x xs ys (inl at))
   among_append x (y ∷ xs) ys (inr at) = inr (among_append x xs ys (inr at))
 
-  among_filter : {A B : Type 0} (find_test test : A → Bool) (f : A → B) (x : A) (xs : List A) → find find_test xs ≡ Some x → test x ≡ true → Among (f x) (map f (filter test xs))
+  among_filter : {A B : Type 0} (find_test test : A → Bool) (f : A → B) (x : A) (xs : List A) → find find_test xs ≡ Some x → test x ≡ true
+      → Among (f x) (map f (filter test xs))
   among_filter find_test test f x [] there passes = cc
   among_filter find_test test f x (y ∷ xs) there passes = by (find_test y) there (test y) refl (λ later. among_filter find_test test f x xs later passes)
     where
-      by : (v : Bool) → cond v (Some y) (find find_test xs) ≡ Some x → (w : Bool) → test y ≡ w → (find find_test xs ≡ Some x → Among (f x) (map f (filter test xs)))
+      by : (v : Bool) → cond v (Some y) (find find_test xs) ≡ Some x → (w : Bool) → test y ≡ w
+          → (find find_test xs ≡ Some x → Among (f x) (map f (filter test xs)))
           → Among (f x) (map f (cond w (y ∷ filter test xs) (filter test xs)))
       by true is true here rest = let same : y ≡ x = cc in inl (ap f (sym same))
       by true is false here rest = let same : y ≡ x = cc in absurd (true≢false (sym passes ∙ ap test (sym same) ∙ here))

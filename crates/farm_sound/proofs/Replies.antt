@@ -1,27 +1,18 @@
 -- How large the numbers of a pass's reply are, and that a pass leaves the kept replies.
-use Rattle.std.proofs.Common.{◌≡◌, ℕ, ◌+◌, ◌≤◌, Bool, true, false, cond, List, [], ◌∷◌, length, map, Option, Some, None, refl, ◌∙◌, arith}
+use Rattle.std.proofs.Common.{◌+◌, ◌∙◌, ◌∷◌, ◌≡◌, ◌≤◌, Bool, List, None, Option, Some, arith, cond, false, length, map, refl, true, ℕ, []}
 use Rattle.std.specs.List.{filter, fold, zip}
 use Rattle.std.specs.Option.{option_map_or}
-use Rattle.std.specs.Str.{bytes_eq}
-use Rattle.std.proofs.lemmas.List.{length-map, length-append}
-use Rattle.farm_types.specs.Table.{put, put_all, job_cmp, change_where}
+use Rattle.std.proofs.lemmas.List.{length-append, length-map}
 use Rattle.farm_types.specs.Farm.{Farm, members}
-use Rattle.farm_types.specs.Pick.{Claimed, claim_cmp, claims, queue, is_waiting, res_claim, leads_claim, group_claim, least, is_free}
-use Rattle.farm_types.specs.Pass.{Served, serve, serve_all, give, give_res, give_group, give_member, checks, check_one, check_job, has_room, held, is_due}
-use Rattle.farm_types.specs.declared.rows.Holder.{Holder}
-use Rattle.farm_types.specs.declared.rows.State.{State}
+use Rattle.farm_types.specs.Pass.{Served, checks, give, give_group, give_member, give_res, is_due, serve, serve_all}
+use Rattle.farm_types.specs.Pick.{Claimed, claim_cmp, claims, group_claim, is_free, is_waiting, leads_claim, least, queue, res_claim}
+use Rattle.farm_types.specs.Table.{put, put_all}
 use Rattle.farm_types.specs.declared.rows.BoardRow.{BoardRow}
 use Rattle.farm_types.specs.declared.rows.JobRow.{JobRow}
 use Rattle.farm_types.proofs.Put.{length_put}
-use Rattle.farm_sound.proofs.Serve.{claim_total}
-
-pub length_filter : {A : Type 0} (test : A → Bool) (xs : List A) → length (filter test xs) ≤ length xs
-length_filter test [] = omega arith
-length_filter test (x ∷ xs) = by (test x) (length_filter test xs)
-  where
-    by : (v : Bool) → length (filter test xs) ≤ length xs → length (cond v (x ∷ filter test xs) (filter test xs)) ≤ length (x ∷ xs)
-    by true low = omega arith
-    by false low = omega arith
+use Rattle.farm_sound.proofs.Checks.{checks_kept}
+use Rattle.farm_sound.proofs.Claims.{claim_total}
+use Rattle.farm_sound.proofs.Lists.{length_filter}
 
 -- ---- a served claim was a claim
 
@@ -31,8 +22,10 @@ length_put_all rows (c ∷ changed) = omega (arith, length_put_all (put claim_cm
 
 few_claims : (F : Farm) → length (queue F) ≤ length F.reservations + length F.jobs
 few_claims F =
-    let of_res : length (map res_claim (filter is_waiting F.reservations)) ≡ length (filter is_waiting F.reservations) = length-map (filter is_waiting F.reservations) res_claim in
-    let of_jobs : length (map (group_claim F) (filter (leads_claim F) F.jobs)) ≡ length (filter (leads_claim F) F.jobs) = length-map (filter (leads_claim F) F.jobs) (group_claim F) in
+    let of_res : length (map res_claim (filter is_waiting F.reservations)) ≡ length (filter is_waiting F.reservations) =
+    length-map (filter is_waiting F.reservations) res_claim in
+    let of_jobs : length (map (group_claim F) (filter (leads_claim F) F.jobs)) ≡ length (filter (leads_claim F) F.jobs) =
+    length-map (filter (leads_claim F) F.jobs) (group_claim F) in
     let all : length (claims F) ≡ length (map res_claim (filter is_waiting F.reservations)) + length (map (group_claim F) (filter (leads_claim F) F.jobs)) =
     length-append (map res_claim (filter is_waiting F.reservations)) (map (group_claim F) (filter (leads_claim F) F.jobs)) in
     omega (arith, length_put_all [] (claims F), length_filter is_waiting F.reservations, length_filter (leads_claim F) F.jobs)
@@ -41,7 +34,9 @@ served_few : (t : ℕ) (cs : List Claimed) (s : Served) → (fold (serve t) s cs
 served_few t [] s = omega arith
 served_few t (c ∷ cs) s = by (λ u. served_few t cs u) (least s.farm.boards (is_free s.farm.types) c.wants)
   where
-    by : ((u : Served) → (fold (serve t) u cs).claims ≤ u.claims + length cs) → (o : Option (List BoardRow)) → (fold (serve t) (option_map_or (λ bs. record { farm = give s.farm c bs t; claims = s.claims + 1 }) o s) cs).claims ≤ s.claims + length (c ∷ cs)
+    by : ((u : Served) → (fold (serve t) u cs).claims ≤ u.claims + length cs) → (o : Option (List BoardRow))
+        → (fold (serve t) (option_map_or (λ bs. record { farm = give s.farm c bs t; claims = s.claims + 1 }) o s) cs).claims ≤ s.claims + length
+        (c ∷ cs)
     by rest None = omega (arith, rest s)
     by rest (Some bs) = omega (arith, rest (record { farm = give s.farm c bs t; claims = s.claims + 1 }))
 
@@ -69,17 +64,10 @@ served_kept : (t : ℕ) (cs : List Claimed) (s : Served) → (fold (serve t) s c
 served_kept t [] s = refl
 served_kept t (c ∷ cs) s = by (λ u. served_kept t cs u) (least s.farm.boards (is_free s.farm.types) c.wants)
   where
-    by : ((u : Served) → (fold (serve t) u cs).farm.kept ≡ u.farm.kept) → (o : Option (List BoardRow)) → (fold (serve t) (option_map_or (λ bs. record { farm = give s.farm c bs t; claims = s.claims + 1 }) o s) cs).farm.kept ≡ s.farm.kept
+    by : ((u : Served) → (fold (serve t) u cs).farm.kept ≡ u.farm.kept) → (o : Option (List BoardRow))
+        → (fold (serve t) (option_map_or (λ bs. record { farm = give s.farm c bs t; claims = s.claims + 1 }) o s) cs).farm.kept ≡ s.farm.kept
     by rest None = rest s
     by rest (Some bs) = rest (record { farm = give s.farm c bs t; claims = s.claims + 1 }) ∙ give_kept s.farm c bs t
-
-checks_kept : (bs : List BoardRow) (F : Farm) → (fold check_one F bs).kept ≡ F.kept
-checks_kept [] F = refl
-checks_kept (b ∷ bs) F = checks_kept bs (check_one F b) ∙ one (has_room F 1)
-  where
-    one : (v : Bool) → (cond v (record F { jobs = put job_cmp F.jobs (check_job F.next b); boards = change_where (λ c. bytes_eq c.name b.name) (held (Holder.Job F.next) State.Reserved) F.boards; next = F.next + 1 }) F).kept ≡ F.kept
-    one true = refl
-    one false = refl
 
 pub pass_kept : (F : Farm) (t : ℕ) → (serve_all (checks F t) t).farm.kept ≡ F.kept
 pass_kept F t = served_kept t (queue (checks F t)) (record { farm = checks F t; claims = 0 }) ∙ checks_kept (filter (is_due F t) F.boards) F

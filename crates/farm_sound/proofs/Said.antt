@@ -1,19 +1,20 @@
 -- Who holds which board: row by row, and by keys.
-use Rattle.std.proofs.Common.{◌≡◌, ℕ, ◌==◌, List, Option, Some, None, IsSome, IfSome, IsSomeAnd, sym, ap, ◌∙◌, refl, subst}
+use Rattle.std.proofs.Common.{◌==◌, ◌∙◌, ◌≡◌, IfSome, IsSome, IsSomeAnd, List, None, Option, Some, ap, refl, subst, sym, ℕ}
 use mathlib.Core.Bool.{false≢true}
 use Rattle.std.specs.List.{AllByRecursion}
 use Rattle.std.specs.Option.{option_map_or}
 use Rattle.farm_types.specs.Farm.{Farm, board_of, job_of, res_of}
-use Rattle.farm_types.specs.Sound.{IsHeldBy, IsHeldByKeys, Hold, hold, hold_of, job_hold, res_hold, job_gives, res_gives, shown, IsJobRow, IsResRow}
-use Rattle.farm_types.specs.declared.rows.Holder.{Holder}
-use Rattle.farm_types.specs.declared.rows.State.{State}
+use Rattle.farm_types.specs.Pass.{held}
+use Rattle.farm_types.specs.Sound.{Hold, IsHeldBy, IsHeldByKeys, IsJobRow, IsResRow, hold, hold_of, job_gives, job_hold, res_gives, res_hold, shown}
 use Rattle.farm_types.specs.declared.rows.BoardRow.{BoardRow}
+use Rattle.farm_types.specs.declared.rows.Holder.{Holder}
 use Rattle.farm_types.specs.declared.rows.JobRow.{JobRow}
 use Rattle.farm_types.specs.declared.rows.ResRow.{ResRow}
-use Rattle.farm_sound.specs.Told.{IsNamedBy, IsSaid, IsSaidOfJob, IsSaidOfRes}
+use Rattle.farm_types.specs.declared.rows.State.{State}
 use Rattle.farm_types.proofs.Put.{AllByRecursion-weaker, found_has, found_passes}
+use Rattle.farm_sound.specs.Told.{IsNamedBy, IsSaid, IsSaidOfJob, IsSaidOfRes}
+use Rattle.farm_sound.proofs.Tests.{same_number}
 use Rattle.farm_sound.proofs.Where.{AllByRecursion-both}
-use Rattle.farm_sound.proofs.Commands.{same_number}
 
 -- a row's hold is made of its board and of the state that it gives
 record IsHold (holder : Holder) (name : Option (List ℕ)) (given : Option State) (x : Hold) : Type 0 where
@@ -57,12 +58,14 @@ module _ (F : Farm) where
   named_from_held b Holder.Nobody held = held
   named_from_held b (Holder.Job n) held = by (job_of F n) held
     where
-      by : (o : Option JobRow) → option_map_or job_hold o None ≡ Some (shown b) → IsSomeAnd o (λ j. (j.board ≡ Some b.name) × (job_gives j.state ≡ Some b.state))
+      by : (o : Option JobRow) → option_map_or job_hold o None ≡ Some (shown b)
+          → IsSomeAnd o (λ j. (j.board ≡ Some b.name) × (job_gives j.state ≡ Some b.state))
       by None e = cc
       by (Some j) e = let is = is_hold (Holder.Job j.number) j.board (job_gives j.state) (shown b) e in (is.board, is.state)
   named_from_held b (Holder.Res n) held = by (res_of F n) held
     where
-      by : (o : Option ResRow) → option_map_or res_hold o None ≡ Some (shown b) → IsSomeAnd o (λ r. (r.board ≡ Some b.name) × (res_gives r.state ≡ Some b.state))
+      by : (o : Option ResRow) → option_map_or res_hold o None ≡ Some (shown b)
+          → IsSomeAnd o (λ r. (r.board ≡ Some b.name) × (res_gives r.state ≡ Some b.state))
       by None e = cc
       by (Some r) e = let is = is_hold (Holder.Res r.number) r.board (res_gives r.state) (shown b) e in (is.board, is.state)
 
@@ -84,16 +87,20 @@ module _ (F : Farm) where
       by None is e = cc
       by (Some j) is e =
           said_of j.board (job_gives j.state) (Holder.Job j.number) (Holder.Job n) x (found_has (IsSaidOfJob F) (λ r. r.number == n) j F.jobs jobs is)
-          (is_hold (Holder.Job j.number) j.board (job_gives j.state) x e) (ap Holder.Job (same_number j.number n (found_passes (λ r. r.number == n) j F.jobs is)))
+          (is_hold (Holder.Job j.number) j.board (job_gives j.state) x e)
+          (ap Holder.Job (same_number j.number n (found_passes (λ r. r.number == n) j F.jobs is)))
   rows_from_said jobs reservations (Holder.Res n) x e = by (res_of F n) refl e
     where
       by : (o : Option ResRow) → res_of F n ≡ o → option_map_or res_hold o None ≡ Some x → IsSomeAnd (board_of F x.board) (λ b. b.holder ≡ Holder.Res n)
       by None is e = cc
       by (Some r) is e =
-          said_of r.board (res_gives r.state) (Holder.Res r.number) (Holder.Res n) x (found_has (IsSaidOfRes F) (λ q. q.number == n) r F.reservations reservations is)
-          (is_hold (Holder.Res r.number) r.board (res_gives r.state) x e) (ap Holder.Res (same_number r.number n (found_passes (λ q. q.number == n) r F.reservations is)))
+          said_of r.board (res_gives r.state) (Holder.Res r.number) (Holder.Res n) x
+          (found_has (IsSaidOfRes F) (λ q. q.number == n) r F.reservations reservations is)
+          (is_hold (Holder.Res r.number) r.board (res_gives r.state) x e)
+          (ap Holder.Res (same_number r.number n (found_passes (λ q. q.number == n) r F.reservations is)))
 
-  pub held_from_said : AllByRecursion (λ b. IsNamedBy F b b.holder) F.boards → AllByRecursion (IsSaidOfJob F) F.jobs → AllByRecursion (IsSaidOfRes F) F.reservations
+  pub held_from_said : AllByRecursion (λ b. IsNamedBy F b b.holder) F.boards → AllByRecursion (IsSaidOfJob F) F.jobs
+      → AllByRecursion (IsSaidOfRes F) F.reservations
       → IsHeldByKeys F
   held_from_said boards jobs reservations = record {
     boards = AllByRecursion-weaker (λ b named. held_from_named b b.holder refl named) F.boards boards;
@@ -110,13 +117,16 @@ module _ (F : Farm) where
   said_by h None (Some s) held is some = absurd (false≢true (some refl))
   said_by h (Some name) (Some s) held is some = held.rows h (record { board = name; holder = h; state = s }) is
 
-  pub jobs_from_keys : IsHeldByKeys F → AllByRecursion (λ j. job_of F j.number ≡ Some j) F.jobs → AllByRecursion (IsJobRow F) F.jobs → AllByRecursion (IsSaidOfJob F) F.jobs
+  pub jobs_from_keys : IsHeldByKeys F → AllByRecursion (λ j. job_of F j.number ≡ Some j) F.jobs → AllByRecursion (IsJobRow F) F.jobs
+      → AllByRecursion (IsSaidOfJob F) F.jobs
   jobs_from_keys held own rows =
-      AllByRecursion-weaker (λ j two. said_by (Holder.Job j.number) j.board (job_gives j.state) held (ap (λ o. option_map_or job_hold o None) two.0) two.1.holds) F.jobs
+      AllByRecursion-weaker (λ j two. said_by (Holder.Job j.number) j.board (job_gives j.state) held
+      (ap (λ o. option_map_or job_hold o None) two.0) two.1.holds) F.jobs
       (AllByRecursion-both (λ j. job_of F j.number ≡ Some j) (IsJobRow F) F.jobs own rows)
 
   pub reservations_from_keys : IsHeldByKeys F → AllByRecursion (λ r. res_of F r.number ≡ Some r) F.reservations → AllByRecursion (IsResRow F) F.reservations
       → AllByRecursion (IsSaidOfRes F) F.reservations
   reservations_from_keys held own rows =
-      AllByRecursion-weaker (λ r two. said_by (Holder.Res r.number) r.board (res_gives r.state) held (ap (λ o. option_map_or res_hold o None) two.0) two.1.holds) F.reservations
+      AllByRecursion-weaker (λ r two. said_by (Holder.Res r.number) r.board (res_gives r.state) held
+      (ap (λ o. option_map_or res_hold o None) two.0) two.1.holds) F.reservations
       (AllByRecursion-both (λ r. res_of F r.number ≡ Some r) (IsResRow F) F.reservations own rows)

@@ -1,40 +1,43 @@
 -- After a pass no claim is met by free boards: each was met and served, or found none and finds none.
-use Rattle.std.proofs.Common.{◌≡◌, ℕ, ◌+◌, ◌==◌, ◌≤◌, ◌⊎◌, inl, inr, ◌&&◌, Bool, true, false, cond, List, [], ◌∷◌, length, map, Option, Some, None, refl, sym, ap, ◌∙◌, subst, arith}
+use Rattle.std.proofs.Common.{◌&&◌, ◌+◌, ◌==◌, ◌∙◌, ◌∷◌, ◌≡◌, ◌≤◌, ◌⊎◌, Bool, List, None, Option, Some, ap, arith, cond, false, inl, inr, length, map, refl, subst, sym, true, ℕ, []}
 use mathlib.Core.Bool.{false≢true, true≢false}
-use Rattle.std.specs.List.{AllByRecursion, find, filter, fold, zip, list_all}
+use Rattle.std.specs.List.{AllByRecursion, filter, find, fold, list_all, zip}
 use Rattle.std.specs.List.Sorted.{IsStrictlySortedBy}
 use Rattle.std.specs.Option.{option_map, option_map_or}
 use Rattle.std.specs.declared.cmp.Ordering.TheVariants.{Less}
 use Rattle.std.proofs.lemmas.List.{length-map}
+use Rattle.farm_types.specs.Change.{act, change, keep, moved}
 use Rattle.farm_types.specs.Codes.{same_job_state}
-use Rattle.farm_types.specs.Farm.{Farm, job_of, res_of, members}
-use Rattle.farm_types.specs.Pick.{Among, Claimed, claim_cmp, claims, queue, is_waiting, leads_claim, least, is_free}
-use Rattle.farm_types.specs.Pass.{give, give_res, give_group, allocated, Served, serve, serve_all, expire, checks, is_due}
+use Rattle.farm_types.specs.Farm.{Farm, job_of, members, put_kept, res_of}
+use Rattle.farm_types.specs.Machine.{Changed, Denied, Repeated, answer, repeated, step}
+use Rattle.farm_types.specs.Pass.{Served, allocated, checks, expire, give, give_group, give_res, is_due, serve, serve_all}
+use Rattle.farm_types.specs.Pick.{Among, Claimed, claim_cmp, claims, is_free, is_waiting, leads_claim, least, queue}
+use Rattle.farm_types.specs.Refuse.{kind_of, refusal}
 use Rattle.farm_types.specs.Sound.{IsSound}
-use Rattle.farm_types.specs.declared.rows.JobState.{JobState}
+use Rattle.farm_types.specs.declared.calls.Call.{Call}
+use Rattle.farm_types.specs.declared.calls.Cmd.{Cmd}
 use Rattle.farm_types.specs.declared.rows.BoardRow.{BoardRow}
 use Rattle.farm_types.specs.declared.rows.JobRow.{JobRow}
-use Rattle.farm_types.specs.declared.rows.ResRow.{ResRow}
-use Rattle.farm_types.specs.Farm.{put_kept}
-use Rattle.farm_types.specs.Refuse.{refusal, kind_of}
-use Rattle.farm_types.specs.Change.{act, change, moved, keep}
-use Rattle.farm_types.specs.Machine.{Changed, Repeated, Denied, answer, step, repeated}
+use Rattle.farm_types.specs.declared.rows.JobState.{JobState}
 use Rattle.farm_types.specs.declared.rows.Reply.{Reply}
-use Rattle.farm_types.specs.declared.calls.Cmd.{Cmd}
-use Rattle.farm_types.specs.declared.calls.Call.{Call}
-use Rattle.farm_sound.proofs.Answered.{answers_repeated, answers_denied, answers_changed}
-use Rattle.farm_sound.proofs.Step.{IsSound-moved_to}
-use Rattle.farm_sound.specs.Served.{IsServed}
+use Rattle.farm_types.specs.declared.rows.ResRow.{ResRow}
 use Rattle.farm_types.proofs.Put.{AllByRecursion-weaker, found_has}
-use Rattle.farm_sound.proofs.Where.{AllByRecursion-both, find_map}
-use Rattle.farm_sound.proofs.Commands.{same_number, IsSound-expire}
-use Rattle.farm_sound.proofs.Rest.{IsSound-checks}
-use Rattle.farm_sound.proofs.Own.{itself}
+use Rattle.farm_sound.specs.Served.{IsServed}
+use Rattle.farm_sound.proofs.Answered.{answers_changed, answers_denied, answers_repeated}
+use Rattle.farm_sound.proofs.Checks.{IsSound-checks, check_clock}
+use Rattle.farm_sound.proofs.Claims.{IsClaim, IsGroupClaim, IsResClaim, all_claims, leads, queue_claims, queue_sorted}
+use Rattle.farm_sound.proofs.Free.{free_boards}
 use Rattle.farm_sound.proofs.Give.{IsFreeBoard, res_at}
-use Rattle.farm_sound.proofs.Group.{free_boards, given, given_number, jobs_given, parts}
-use Rattle.farm_sound.proofs.Serve.{IsClaim, IsResClaim, IsGroupClaim, waiting_from, all_claims, leads, filter_given, res_kept, queue_claims, queue_sorted, IsClaim-give, IsSound-give, give_clock, check_clock}
-use Rattle.farm_sound.proofs.Unmet.{IsUnmet, IsUnmet-give}
+use Rattle.farm_sound.proofs.Group.{given, given_number, jobs_given, parts}
+use Rattle.farm_sound.proofs.Lists.{filter_back}
+use Rattle.farm_sound.proofs.Own.{itself}
 use Rattle.farm_sound.proofs.Queue.{among_queue}
+use Rattle.farm_sound.proofs.Reservations.{IsSound-expire}
+use Rattle.farm_sound.proofs.Serve.{IsClaim-give, IsSound-give, filter_given, give_clock, res_kept}
+use Rattle.farm_sound.proofs.Step.{IsSound-moved_to}
+use Rattle.farm_sound.proofs.Tests.{same_number, waiting_from}
+use Rattle.farm_sound.proofs.Unmet.{IsUnmet, IsUnmet-give}
+use Rattle.farm_sound.proofs.Where.{AllByRecursion-both, find_map}
 
 -- what a list of boards leaves: the claims that were there and are another's
 abbrev IsOld : Farm → Claimed → Claimed → Type 0
@@ -50,7 +53,8 @@ numbers_differ c d other same = true≢false (sym (itself d.number) ∙ ap (λ (
 -- ---- a reservation was served
 
 -- the one that waits afterwards is another
-waits_still : (r : ResRow) (name : List ℕ) (t : ℕ) (o : Option ResRow) (q : ResRow) → option_map (λ k. cond (k.number == r.number) (allocated name t k) k) o ≡ Some q → is_waiting q ≡ true
+waits_still : (r : ResRow) (name : List ℕ) (t : ℕ) (o : Option ResRow) (q : ResRow)
+    → option_map (λ k. cond (k.number == r.number) (allocated name t k) k) o ≡ Some q → is_waiting q ≡ true
     → (o ≡ Some q) × ((q.number == r.number) ≡ false)
 waits_still r name t None q is waits = cc
 waits_still r name t (Some k) q is waits = by (k.number == r.number) refl is
@@ -63,22 +67,16 @@ old_of_res : (F : Farm) (c d : Claimed) (r : ResRow) (bs : List BoardRow) (t : �
     → IsClaim (give_res F r.number bs t) d → IsOld F c d
 old_of_res F c d r [] t is free one later = absurd (omega arith)
 old_of_res F c d r (b ∷ bs) t is free one (inl (q, has)) =
-    let two = waits_still r b.name t (res_of F q.number) q (sym (res_at F r.number r b bs t is.0 (waiting_from r.state is.1) free.0 q.number) ∙ has.0) has.1 in
-    (inl (q, (two.0, has.1, has.2)), numbers_differ c d (ap (λ (e : Claimed). e.number == c.number) has.2 ∙ ap (λ (e : Claimed). q.number == e.number) is.2 ∙ two.1))
+    let two = waits_still r b.name t (res_of F q.number) q
+        (sym (res_at F r.number r b bs t is.0 (waiting_from r.state is.1) free.0 q.number) ∙ has.0) has.1 in (
+      inl (q, (two.0, has.1, has.2)),
+      numbers_differ c d
+          (ap (λ (e : Claimed). e.number == c.number) has.2 ∙ ap (λ (e : Claimed). q.number == e.number) is.2 ∙ two.1),
+    )
 old_of_res F c d r (b ∷ bs) t is free one (inr (k, has)) =
     (inr (k, has), kinds_differ c d (ap (λ (e : Claimed). e.reservation) is.2) (ap (λ (e : Claimed). e.reservation) has.2))
 
 -- ---- a group was served
-
--- what holds of those that pass
-filter_back : {A : Type 0} (P : A → Type 0) (test : A → Bool) (xs : List A) → AllByRecursion P (filter test xs) → AllByRecursion (λ x. test x ≡ true → P x) xs
-filter_back P test [] all = tt
-filter_back P test (x ∷ xs) all = by (test x) refl all (λ rest. filter_back P test xs rest)
-  where
-    by : (v : Bool) → test x ≡ v → AllByRecursion P (cond v (x ∷ filter test xs) (filter test xs)) → (AllByRecursion P (filter test xs) → AllByRecursion (λ x. test x ≡ true → P x) xs)
-        → (test x ≡ true → P x) × AllByRecursion (λ x. test x ≡ true → P x) xs
-    by true is all rest = (λ _. all.0, rest all.1)
-    by false is all rest = (λ yes. absurd (true≢false (sym yes ∙ is)), rest all)
 
 -- a job that leads a claim is Submitted
 leader_waits : (F : Farm) (k : JobRow) → job_of F k.number ≡ Some k → leads_claim F k ≡ true → k.state ≡ JobState.Submitted
@@ -108,18 +106,21 @@ module _ (F : Farm) (group : ℕ) (bs : List BoardRow) where
           cc
       by false at = let stays : m ≡ k = sym ((part m refl).1 at) ∙ same in (ap Some stays, ap (λ (x : JobRow). x.group == group) (sym stays) ∙ at)
 
-  old_of_group : (c d : Claimed) (j : JobRow) → j.group ≡ group → IsGroupClaim F c j → AllByRecursion Parted F.jobs → IsClaim (give_group F group bs) d → IsOld F c d
+  old_of_group : (c d : Claimed) (j : JobRow) → j.group ≡ group → IsGroupClaim F c j → AllByRecursion Parted F.jobs
+      → IsClaim (give_group F group bs) d → IsOld F c d
   old_of_group c d j mine is parted (inl (q, has)) = (
     inl (q, (ap (find (λ (r : ResRow). r.number == q.number)) (sym (res_kept ps F)) ∙ has.0, has.1, has.2)),
     λ same. kinds_differ d c (ap (λ (e : Claimed). e.reservation) has.2) (ap (λ (e : Claimed). e.reservation) is.2) (sym same),
   )
   old_of_group c d j mine is parted (inr (k, has)) =
       let jobs_are : job_of (give_group F group bs) k.number ≡ option_map (given ps) (job_of F k.number) =
-      ap (find (λ (r : JobRow). r.number == k.number)) (jobs_given ps F) ∙ find_map (λ (r : JobRow). r.number == k.number) (given ps) (λ m. ap (λ n. n == k.number) (given_number ps m)) F.jobs in
+      ap (find (λ (r : JobRow). r.number == k.number)) (jobs_given ps F)
+      ∙ find_map (λ (r : JobRow). r.number == k.number) (given ps) (λ m. ap (λ n. n == k.number) (given_number ps m)) F.jobs in
       let was = leader_was k (job_of F k.number) (sym jobs_are ∙ has.0) (leader_waits (give_group F group bs) k has.0 has.1)
       (λ m there. found_has Parted (λ r. r.number == k.number) m F.jobs parted there) in
       let same : members (give_group F group bs) k.group ≡ members F k.group =
-      ap (filter (λ (r : JobRow). r.group == k.group)) (jobs_given ps F) ∙ filter_given ps group k.group F.jobs was.1 (AllByRecursion-weaker (λ m two. two.1) F.jobs parted) in (
+      ap (filter (λ (r : JobRow). r.group == k.group)) (jobs_given ps F)
+      ∙ filter_given ps group k.group F.jobs was.1 (AllByRecursion-weaker (λ m two. two.1) F.jobs parted) in (
         inr (
           k,
           (
@@ -128,7 +129,8 @@ module _ (F : Farm) (group : ℕ) (bs : List BoardRow) where
             has.2 ∙ ap (λ ms. record { reservation = false; number = k.group; owner = k.owner; priority = k.priority; wants = map (λ m. m.want) ms }) same,
           ),
         ),
-        numbers_differ c d (ap (λ (e : Claimed). e.number == c.number) has.2 ∙ ap (λ (e : Claimed). k.group == e.number) is.2 ∙ ap (λ g. k.group == g) mine ∙ was.1),
+        numbers_differ c d (ap (λ (e : Claimed). e.number == c.number) has.2 ∙ ap (λ (e : Claimed). k.group == e.number) is.2
+            ∙ ap (λ g. k.group == g) mine ∙ was.1),
       )
 
 -- ---- one claim was served
@@ -154,7 +156,8 @@ left_unserved F c d cs none (inl unmet) = inl unmet
 left_unserved F c d cs none (inr (inl same)) = inl (subst (λ e. IsUnmet F e.wants) (sym same) none)
 left_unserved F c d cs none (inr (inr at)) = inr at
 
-left_served : (F : Farm) (c d : Claimed) (cs : List Claimed) (bs : List BoardRow) (t : ℕ) → IsSound (give F c bs t) → (c ≡ d → ⊥) → IsLeft F (c ∷ cs) d → IsLeft (give F c bs t) cs d
+left_served : (F : Farm) (c d : Claimed) (cs : List Claimed) (bs : List BoardRow) (t : ℕ) → IsSound (give F c bs t) → (c ≡ d → ⊥)
+    → IsLeft F (c ∷ cs) d → IsLeft (give F c bs t) cs d
 left_served F c d cs bs t sound other (inl unmet) = inl (IsUnmet-give F c bs t d.wants sound.steady.boards_sorted unmet)
 left_served F c d cs bs t sound other (inr (inl same)) = absurd (other (sym same))
 left_served F c d cs bs t sound other (inr (inr at)) = inr at
@@ -200,7 +203,8 @@ served t (c ∷ cs) s is =
   where
     by : (o : Option (List BoardRow)) → least s.farm.boards (is_free s.farm.types) c.wants ≡ o
         → (least s.farm.boards (is_free s.farm.types) c.wants ≡ None → IsAllServed (fold (serve t) s cs).farm)
-        → ((bs : List BoardRow) → least s.farm.boards (is_free s.farm.types) c.wants ≡ Some bs → IsAllServed (fold (serve t) (record { farm = give s.farm c bs t; claims = s.claims + 1 }) cs).farm)
+        → ((bs : List BoardRow) → least s.farm.boards (is_free s.farm.types) c.wants ≡ Some bs
+        → IsAllServed (fold (serve t) (record { farm = give s.farm c bs t; claims = s.claims + 1 }) cs).farm)
         → IsAllServed (fold (serve t) (option_map_or (λ bs. record { farm = give s.farm c bs t; claims = s.claims + 1 }) o s) cs).farm
     by None is unserved served = unserved is
     by (Some bs) is unserved served = served bs is
@@ -208,14 +212,21 @@ served t (c ∷ cs) s is =
 all_served : (F : Farm) (t : ℕ) → t ≤ F.clock → IsSound F → IsAllServed (serve_all F t).farm
 all_served F t low sound =
     served t (queue F) (record { farm = F; claims = 0 })
-    (record { sorted = queue_sorted F; coming = queue_claims F sound.steady; low = low; sound = sound; left = λ d claim. inr (among_queue F sound.steady d claim) })
+    (record {
+      sorted = queue_sorted F;
+      coming = queue_claims F sound.steady;
+      low = low;
+      sound = sound;
+      left = λ d claim. inr (among_queue F sound.steady d claim);
+    })
 
 -- no claim of the farm after a pass is met by boards free in it
 pub pass_serves : (F : Farm) → IsSound F → IsServed (serve_all (checks (expire F F.clock) F.clock) F.clock).farm
 pass_serves F sound =
     let expired : Farm = expire F F.clock in
     let checked : Farm = checks expired F.clock in
-    let is = all_served checked F.clock (omega (arith, check_clock (filter (is_due expired F.clock) expired.boards) expired)) (IsSound-checks expired F.clock (IsSound-expire F F.clock sound)) in
+    let is = all_served checked F.clock (omega (arith, check_clock (filter (is_due expired F.clock) expired.boards) expired))
+    (IsSound-checks expired F.clock (IsSound-expire F F.clock sound)) in
     let H : Farm = (serve_all checked F.clock).farm in
     AllByRecursion-weaker is.unmet (claims H) (all_claims H is.sound.steady)
 
@@ -224,7 +235,8 @@ IsServed-keep : (F G : Farm) (call : Call) (reply : Reply) (count : ℕ) → IsS
 IsServed-keep F G call reply count is = by call.key
   where
     by : (key : Option (List ℕ))
-        → IsServed (record (option_map_or (λ k. put_kept G (record { caller = call.caller; key = k; kind = kind_of call.cmd; reply = reply })) key G) { count = count })
+        → IsServed (record (option_map_or
+        (λ k. put_kept G (record { caller = call.caller; key = k; kind = kind_of call.cmd; reply = reply })) key G) { count = count })
     by None = is
     by (Some key) = is
 
@@ -232,7 +244,8 @@ IsServed-change : (F : Farm) (call : Call) → call.cmd ≡ Cmd.Pass → None �
 unfolding change
 IsServed-change F call pass clear sound =
     let G : Farm = moved F call in
-    let acted : IsServed (act G call.caller call.cmd).farm = subst (λ c. IsServed (act G call.caller c).farm) (sym pass) (pass_serves G (IsSound-moved_to F call clear sound)) in
+    let acted : IsServed (act G call.caller call.cmd).farm =
+    subst (λ c. IsServed (act G call.caller c).farm) (sym pass) (pass_serves G (IsSound-moved_to F call clear sound)) in
     IsServed-keep F (act G call.caller call.cmd).farm call (act G call.caller call.cmd).reply (F.count + 1) acted
 
 pub IsServed-step : (F : Farm) (call : Call) (reply : Reply) → call.cmd ≡ Cmd.Pass → answer F call ≡ Changed reply → IsSound F → IsServed (step F call)

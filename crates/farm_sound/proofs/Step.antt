@@ -1,25 +1,25 @@
 -- Every command keeps a farm sound, and so does every run.
-use Rattle.std.proofs.Common.{◌≡◌, ℕ, ◌+◌, ◌<◌, ◌≤◌, ◌&&◌, ◌||◌, not, nat_le, is_some, true, false, List, [], ◌∷◌, length, Option, Some, None, refl, sym, subst, arith}
+use Rattle.std.proofs.Common.{◌&&◌, ◌+◌, ◌<◌, ◌||◌, ◌∷◌, ◌≡◌, ◌≤◌, List, None, Option, Some, arith, false, is_some, length, nat_le, not, refl, subst, sym, true, ℕ, []}
 use Rattle.std.specs.Option.{option_map_or}
 use Rattle.std.proofs.lemmas.Bool.Decides.{nat_tests}
-use Rattle.farm_types.specs.Words.{is_word}
-use Rattle.farm_types.specs.Proper.{is_proper_cmd}
+use Rattle.farm_types.specs.Change.{Done, act, change, keep, moved}
 use Rattle.farm_types.specs.Farm.{Farm, put_kept}
-use Rattle.farm_types.specs.Refuse.{refusal, kind_of, is_full_for, own_refusal, early_refusal, moment, is_late, is_reused, may_give}
-use Rattle.farm_types.specs.Change.{act, change, moved, keep, Done}
-use Rattle.farm_types.specs.Machine.{run, step, repeated}
+use Rattle.farm_types.specs.Machine.{repeated, run, step}
+use Rattle.farm_types.specs.Proper.{is_proper_cmd}
+use Rattle.farm_types.specs.Refuse.{early_refusal, is_full_for, is_late, is_reused, kind_of, may_give, moment, own_refusal, refusal}
 use Rattle.farm_types.specs.Sound.{IsSound}
-use Rattle.farm_types.specs.declared.rows.Reply.{Reply}
-use Rattle.farm_types.specs.declared.calls.Cmd.{Cmd}
+use Rattle.farm_types.specs.Words.{is_word}
 use Rattle.farm_types.specs.declared.calls.Call.{Call}
-use Rattle.farm_sound.proofs.Commands.{both}
-use Rattle.farm_sound.proofs.Answered.{unrefused, count_has_room, answers_repeated, answers_denied, answers_changed}
-use Rattle.farm_sound.proofs.Clear.{both_false, first_clear}
-use Rattle.farm_sound.proofs.Numbers.{IsSound-moved, IsSound-put_kept, IsSound-counted}
-use Rattle.farm_sound.proofs.Accepted.{IsAccepted, Acted}
-use Rattle.farm_sound.proofs.AcceptedBoards.{acted_add_type, acted_add_board, acted_set_tags, acted_set_health}
-use Rattle.farm_sound.proofs.AcceptedJobs.{acted_submit, acted_cancel, acted_start, acted_finish}
-use Rattle.farm_sound.proofs.AcceptedRes.{acted_reserve, acted_acquire, acted_release, acted_refresh, acted_cancel_res, acted_pass}
+use Rattle.farm_types.specs.declared.calls.Cmd.{Cmd}
+use Rattle.farm_types.specs.declared.rows.Reply.{Reply}
+use Rattle.farm_sound.proofs.Accepted.{Acted, IsAccepted}
+use Rattle.farm_sound.proofs.AcceptedBoards.{acted_add_board, acted_add_type, acted_set_health, acted_set_tags}
+use Rattle.farm_sound.proofs.AcceptedJobs.{acted_cancel, acted_finish, acted_start, acted_submit}
+use Rattle.farm_sound.proofs.AcceptedRes.{acted_acquire, acted_cancel_res, acted_pass, acted_refresh, acted_release, acted_reserve}
+use Rattle.farm_sound.proofs.Answered.{answers_changed, answers_denied, answers_repeated, count_has_room, unrefused}
+use Rattle.farm_sound.proofs.Clear.{first_clear}
+use Rattle.farm_sound.proofs.Numbers.{IsSound-counted, IsSound-moved, IsSound-put_kept}
+use Rattle.farm_sound.proofs.Tests.{both, both_false}
 
 -- every accepted command, in a farm whose clock has moved
 pub acted : (F : Farm) (t : ℕ) (caller : List ℕ) (cmd : Cmd) → IsAccepted F t caller cmd → IsSound F → Acted F (act F caller cmd)
@@ -66,11 +66,13 @@ low_kind (Cmd.Refresh a) = (omega arith, omega arith)
 low_kind (Cmd.CancelRes a) = (omega arith, omega arith)
 low_kind Cmd.Pass = (omega arith, omega arith)
 
-IsSound-keep : (F : Farm) (call : Call) (d : Done) → Acted F d → (is_some call.key && nat_le 300000 (length F.kept)) ≡ false → IsSound (keep call d.reply d.farm)
+IsSound-keep : (F : Farm) (call : Call) (d : Done) → Acted F d → (is_some call.key && nat_le 300000 (length F.kept)) ≡ false
+    → IsSound (keep call d.reply d.farm)
 IsSound-keep F call d left room = by call.key words.1 room
   where
     words : (is_word 48 call.caller ≡ true) × (option_map_or (is_word 64) call.key true ≡ true)
-    words = both (is_word 48 call.caller) (option_map_or (is_word 64) call.key true) (both (is_word 48 call.caller && option_map_or (is_word 64) call.key true) (is_proper_cmd call.cmd) call.proper).0
+    words = both (is_word 48 call.caller) (option_map_or (is_word 64) call.key true)
+        (both (is_word 48 call.caller && option_map_or (is_word 64) call.key true) (is_proper_cmd call.cmd) call.proper).0
 
     by : (key : Option (List ℕ)) → option_map_or (is_word 64) key true ≡ true → (is_some key && nat_le 300000 (length F.kept)) ≡ false
         → IsSound (option_map_or (λ k. put_kept d.farm (record { caller = call.caller; key = k; kind = kind_of call.cmd; reply = d.reply })) key d.farm)
@@ -114,7 +116,8 @@ pub IsSound-change : (F : Farm) (call : Call) → None ≡ refusal F call → Is
 unfolding change
 IsSound-change F call clear sound =
     let done : Done = act (moved F call) call.caller call.cmd in
-    let full = both_false (is_full_for F call.cmd || (is_some call.key && nat_le 300000 (length F.kept))) (nat_le 9000000000000000000 F.count) (unrefused F call clear).room in
+    let full = both_false (is_full_for F call.cmd || (is_some call.key && nat_le 300000 (length F.kept))) (nat_le 9000000000000000000 F.count)
+    (unrefused F call clear).room in
     let room = both_false (is_full_for F call.cmd) (is_some call.key && nat_le 300000 (length F.kept)) full.0 in
     IsSound-counted (keep call done.reply done.farm) (F.count + 1) (omega (arith, count_has_room F call clear))
     (IsSound-keep (moved F call) call done (acted_call F call clear sound) room.1)

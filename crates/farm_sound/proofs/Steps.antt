@@ -1,26 +1,18 @@
 -- Groups: each member in the phase of the one before it, and all members in one phase.
-use Rattle.std.proofs.Common.{◌≡◌, ◌≢◌, ℕ, zero, suc, ◌+◌, ◌-◌, ◌≤◌, ◌==◌, Bool, true, false, cond, List, [], ◌∷◌, length, Option, Some, None, IsSomeAnd, sym, ◌∙◌, refl, subst, arith}
-use Rattle.std.specs.List.{AllByRecursion, find, filter}
+use Rattle.std.proofs.Common.{◌+◌, ◌-◌, ◌==◌, ◌∙◌, ◌≡◌, ◌≢◌, ◌≤◌, Bool, IsSomeAnd, List, None, Option, Some, ap, arith, false, length, refl, subst, suc, sym, true, zero, ℕ}
+use Rattle.std.specs.List.{AllByRecursion, filter, find}
 use Rattle.std.specs.Str.{bytes_eq}
 use Rattle.std.proofs.lemmas.Bool.Decides.{nat_tests}
 use Rattle.std.proofs.lemmas.Slice.Eq.{bytes_eq-Decides}
 use Rattle.farm_types.specs.Farm.{Farm, job_of}
-use Rattle.farm_types.specs.Sound.{IsWhole, IsJobRow, Follows, phase}
-use Rattle.farm_types.specs.declared.rows.JobRow.{JobRow}
+use Rattle.farm_types.specs.Sound.{Follows, IsJobRow, IsWhole, phase}
 use Rattle.farm_types.specs.declared.rows.BoardRow.{BoardRow}
-use Rattle.farm_sound.specs.Told.{IsInStep, IsOfFew}
+use Rattle.farm_types.specs.declared.rows.JobRow.{JobRow}
 use Rattle.farm_types.proofs.Put.{AllByRecursion-weaker, found_has, found_passes}
+use Rattle.farm_sound.specs.Told.{IsInStep, IsOfFew}
+use Rattle.farm_sound.proofs.Lists.{all_fail, none_pass}
+use Rattle.farm_sound.proofs.Tests.{same_number}
 use Rattle.farm_sound.proofs.Where.{AllByRecursion-both}
-use Rattle.farm_sound.proofs.Commands.{same_number}
-
-none_pass : {R : Type 0} (test : R → Bool) (rows : List R) → find test rows ≡ None → length (filter test rows) ≡ 0
-none_pass test [] is = refl
-none_pass test (r ∷ rows) is = by (test r) is (none_pass test rows)
-  where
-    by : (v : Bool) → cond v (Some r) (find test rows) ≡ None → (find test rows ≡ None → length (filter test rows) ≡ 0)
-        → length (cond v (r ∷ filter test rows) (filter test rows)) ≡ 0
-    by true is rest = cc
-    by false is rest = rest is
 
 module _ (F : Farm) where
   -- ---- a whole group is in step
@@ -84,11 +76,13 @@ module _ (F : Farm) where
       by None a b = absurd a
       by (Some first) a b = sym b ∙ a
 
-  pub whole_from_steps : AllByRecursion (λ j. job_of F j.number ≡ Some j) F.jobs → AllByRecursion (IsJobRow F) F.jobs → AllByRecursion (IsInStep F) F.jobs → IsWhole F
+  pub whole_from_steps : AllByRecursion (λ j. job_of F j.number ≡ Some j) F.jobs → AllByRecursion (IsJobRow F) F.jobs
+      → AllByRecursion (IsInStep F) F.jobs → IsWhole F
   whole_from_steps own rows steps =
       let all : AllByRecursion IsMember F.jobs =
       AllByRecursion-weaker (λ j two. record { row = two.0.0; step = two.0.1; itself = two.1 }) F.jobs
-      (AllByRecursion-both (λ j. IsJobRow F j × IsInStep F j) (λ j. job_of F j.number ≡ Some j) F.jobs (AllByRecursion-both (IsJobRow F) (IsInStep F) F.jobs rows steps) own) in
+      (AllByRecursion-both (λ j. IsJobRow F j × IsInStep F j) (λ j. job_of F j.number ≡ Some j) F.jobs
+      (AllByRecursion-both (IsJobRow F) (IsInStep F) F.jobs rows steps) own) in
       let each : AllByRecursion IsLed F.jobs = AllByRecursion-weaker (λ j is. let near = is.row.group in led all 4 j is (omega arith)) F.jobs all in
       AllByRecursion-weaker (λ j led_j. AllByRecursion-weaker (λ m led_m group. one_phase j m led_j led_m group) F.jobs each) F.jobs each
 
@@ -98,7 +92,8 @@ module _ (F : Farm) where
   few_of_kinds few kind = by (find (λ b. bytes_eq b.kind kind) F.boards) refl
     where
       by : (o : Option BoardRow) → find (λ b. bytes_eq b.kind kind) F.boards ≡ o → length (filter (λ b. bytes_eq b.kind kind) F.boards) ≤ 64
-      by None is = subst (λ n. n ≤ 64) (sym (none_pass (λ b. bytes_eq b.kind kind) F.boards is)) (omega arith)
+      by None is = subst (λ n. n ≤ 64)
+          (sym (ap length (none_pass (λ b. bytes_eq b.kind kind) F.boards (all_fail (λ b. bytes_eq b.kind kind) F.boards is)))) (omega arith)
       by (Some b) is =
           let e : b.kind ≡ kind = (bytes_eq-Decides b.kind kind).0 (found_passes (λ b. bytes_eq b.kind kind) b F.boards is) in
           subst (λ k. length (filter (λ b. bytes_eq b.kind k) F.boards) ≤ 64) e (found_has (IsOfFew F) (λ b. bytes_eq b.kind kind) b F.boards few is)

@@ -1,33 +1,38 @@
 -- A group is submitted, member by member.
-use Rattle.std.proofs.Common.{◌≡◌, ◌≢◌, ℕ, ◌+◌, ◌-◌, ◌<◌, ◌≤◌, false, cond, List, [], ◌∷◌, length, Option, Some, None, IsTrue, IsSome, IsNone, IfSome, IsSomeAnd, refl, sym, ap, ◌∙◌, subst, arith}
+use Rattle.std.proofs.Common.{◌+◌, ◌-◌, ◌<◌, ◌∙◌, ◌∷◌, ◌≡◌, ◌≢◌, ◌≤◌, IfSome, IsNone, IsSome, IsSomeAnd, IsTrue, List, None, Option, Some, ap, arith, cond, false, length, refl, subst, sym, ℕ, []}
 use mathlib.Core.Bool.{false≢true}
 use Rattle.std.specs.List.{AllByRecursion}
-use Rattle.farm_types.specs.Words.{IsName}
-use Rattle.farm_types.specs.Proper.{is_priority, is_want}
-use Rattle.farm_types.specs.Table.{put, put_all, job_cmp}
-use Rattle.farm_types.specs.Farm.{Farm, type_of, job_of, put_jobs}
 use Rattle.farm_types.specs.Change.{new_members}
-use Rattle.farm_types.specs.Sound.{IsSound, IsJobRow, phase}
-use Rattle.farm_types.specs.declared.rows.JobState.{JobState}
+use Rattle.farm_types.specs.Farm.{Farm, job_of, put_jobs, type_of}
+use Rattle.farm_types.specs.Proper.{is_priority, is_want}
+use Rattle.farm_types.specs.Sound.{IsJobRow, IsSound, phase}
+use Rattle.farm_types.specs.Table.{job_cmp, put, put_all}
+use Rattle.farm_types.proofs.WordLemmas.{no_text}
+use Rattle.farm_types.specs.Words.{IsName, IsText}
 use Rattle.farm_types.specs.declared.rows.JobRow.{JobRow}
+use Rattle.farm_types.specs.declared.rows.JobState.{JobState}
 use Rattle.farm_types.specs.declared.rows.Want.{Want}
 use Rattle.farm_types.proofs.Put.{AllByRecursion-put, AllByRecursion-weaker, length_put}
-use Rattle.farm_sound.proofs.Own.{fresh_res, itself, differs_more}
-use Rattle.farm_sound.proofs.Add.{add_job, job_of-add, job_total, IsSteady-add_job, IsHeldByKeys-add_job}
+use Rattle.farm_sound.proofs.Add.{IsHeldByKeys-add_job, IsSteady-add_job, add_job, job_of-add, job_total}
+use Rattle.farm_sound.proofs.Own.{differs_more, fresh_res, itself}
 use Rattle.farm_sound.proofs.Whole.{IsWhole-add}
 
 -- what holds before a member with the farm's next number is added
 pub record Next (F : Farm) (group : ℕ) (owner : List ℕ) (priority : ℕ) (body : List ℕ) : Type 0 where
   pub low : group ≤ F.next
   pub waits : AllByRecursion (λ m. m.group ≡ group → m.state ≡ JobState.Submitted) F.jobs
-  pub previous : F.next ≢ group → (p : JobRow) × (job_of F (F.next - 1) ≡ Some p) × (p.group ≡ group) × (p.owner ≡ owner) × (p.priority ≡ priority) × (p.checking ≡ false)
+  pub previous : F.next ≢ group → (p : JobRow) × (job_of F (F.next - 1) ≡ Some p) × (p.group ≡ group) × (p.owner ≡ owner) × (p.priority ≡ priority) ×
+      (p.checking ≡ false)
   pub text : F.next ≢ group → body ≡ []
   pub few : length body ≤ 65536
+  pub utf8 : IsText body
 
 abbrev IsMemberWant : Farm → Want → Type 0
 IsMemberWant F w = IsSomeAnd w.kind (λ kind. IsSome (type_of F kind)) × IsTrue (is_want w)
 
-module _ (F : Farm) (group : ℕ) (owner : List ℕ) (priority : ℕ) (want : Want) (role : Option (List ℕ)) (body : List ℕ) (sound : IsSound F) (next : Next F group owner priority body) (name : IsName owner) (prio : IsTrue (is_priority priority)) (wanted : IsMemberWant F want) (named : IfSome role IsName) (in_group : F.next < group + 4) where
+module _ (F : Farm) (group : ℕ) (owner : List ℕ) (priority : ℕ) (want : Want) (role : Option (List ℕ)) (body : List ℕ) (sound : IsSound F)
+    (next : Next F group owner priority body) (name : IsName owner) (prio : IsTrue (is_priority priority)) (wanted : IsMemberWant F want)
+    (named : IfSome role IsName) (in_group : F.next < group + 4) where
   abbrev row : JobRow
   row = record {
     number = F.next;
@@ -46,7 +51,8 @@ module _ (F : Farm) (group : ℕ) (owner : List ℕ) (priority : ℕ) (want : Wa
   -- the previous member is found as before
   still : (p : JobRow) → F.next ≢ group → job_of F (F.next - 1) ≡ Some p → job_of (add_job row F) (F.next - 1) ≡ Some p
   still p later is =
-      job_of-add F row (F.next - 1) ∙ ap (λ v. cond v (Some row) (job_of F (F.next - 1))) (differs_more F.next (F.next - 1) (omega (arith, sound.steady.next.0))) ∙ is
+      job_of-add F row (F.next - 1) ∙ ap (λ v. cond v (Some row) (job_of F (F.next - 1)))
+      (differs_more F.next (F.next - 1) (omega (arith, sound.steady.next.0))) ∙ is
 
   member_row : IsJobRow (add_job row F) row
   member_row = record {
@@ -58,6 +64,7 @@ module _ (F : Farm) (group : ℕ) (owner : List ℕ) (priority : ℕ) (want : Wa
     kind = wanted.0;
     role = named;
     body = next.few;
+    text = next.utf8;
     board = tt;
     outcome = (λ e. absurd (false≢true e), λ e. cc);
     waits = λ _. refl;
@@ -80,13 +87,24 @@ module _ (F : Farm) (group : ℕ) (owner : List ℕ) (priority : ℕ) (want : Wa
   member_next = record {
     low = omega (arith, next.low);
     waits = AllByRecursion-put job_cmp job_total row (λ m. m.group ≡ group → m.state ≡ JobState.Submitted) (λ _. refl) F.jobs next.waits;
-    previous = λ later. (row, (let e : F.next + 1 - 1 ≡ F.next = omega arith in ap (job_of (add_job row F)) e ∙ job_of-add F row F.next ∙ ap (λ v. cond v (Some row) (job_of F F.next)) (itself F.next)), refl, refl, refl, refl);
+    previous = λ later. (
+      row,
+      (let e : F.next + 1 - 1 ≡ F.next = omega arith in
+          ap (job_of (add_job row F)) e ∙ job_of-add F row F.next ∙ ap (λ v. cond v (Some row) (job_of F F.next)) (itself F.next)),
+      refl,
+      refl,
+      refl,
+      refl,
+    );
     text = λ later. refl;
     few = omega arith;
+    utf8 = no_text [] refl;
   }
 
-pub members_sound : (wants : List Want) (roles : List (Option (List ℕ))) (F : Farm) (group : ℕ) (owner : List ℕ) (priority : ℕ) (body : List ℕ) → IsSound F → Next F group owner priority body → IsName owner → IsTrue (is_priority priority)
-    → AllByRecursion (IsMemberWant F) wants → AllByRecursion (λ r. IfSome r IsName) roles → length roles ≡ length wants → F.next + length wants ≤ group + 4 → length F.jobs + length wants ≤ 100000 → F.next + length wants ≤ 1000000000
+pub members_sound : (wants : List Want) (roles : List (Option (List ℕ))) (F : Farm) (group : ℕ) (owner : List ℕ) (priority : ℕ) (body : List ℕ)
+    → IsSound F → Next F group owner priority body → IsName owner → IsTrue (is_priority priority)
+    → AllByRecursion (IsMemberWant F) wants → AllByRecursion (λ r. IfSome r IsName) roles → length roles ≡ length wants
+    → F.next + length wants ≤ group + 4 → length F.jobs + length wants ≤ 100000 → F.next + length wants ≤ 1000000000
     → IsSound (record (put_jobs F (new_members group F.next owner priority wants roles body)) { next = F.next + length wants })
 members_sound [] [] F group owner priority body sound next name prio wanted named long in_group room numbers =
     subst (λ n. IsSound (record F { next = n })) (omega arith) sound
@@ -107,17 +125,22 @@ members_sound (want ∷ wants) (role ∷ roles) F group owner priority body soun
       body = body;
     } in
     let more : length (put job_cmp F.jobs one) ≤ length F.jobs + 1 = length_put job_cmp job_total one F.jobs in
-    subst (λ n. IsSound (record F { jobs = put_all job_cmp (put job_cmp F.jobs one) (new_members group (F.next + 1) owner priority wants roles []); next = n })) (omega arith)
+    subst (λ n. IsSound (record F {
+      jobs = put_all job_cmp (put job_cmp F.jobs one) (new_members group (F.next + 1) owner priority wants roles []);
+      next = n;
+    })) (omega arith)
     (members_sound wants roles (add_job one F) group owner priority []
     (member_sound F group owner priority want role body sound next name prio wanted.0 named.0 (omega arith) (omega arith) (omega arith))
     (member_next F group owner priority want role body sound next name prio wanted.0 named.0 (omega arith))
     name prio wanted.1 named.1 (omega arith) (omega arith) (omega (arith, more)) (omega arith))
 
 -- a whole group: its number is its first member's
-pub IsSound-submit : (F : Farm) (owner : List ℕ) (priority : ℕ) (wants : List Want) (roles : List (Option (List ℕ))) (body : List ℕ) → IsSound F → IsName owner → IsTrue (is_priority priority) → length body ≤ 65536
-    → AllByRecursion (IsMemberWant F) wants → AllByRecursion (λ r. IfSome r IsName) roles → length roles ≡ length wants → length wants ≤ 4 → length F.jobs + length wants ≤ 100000 → F.next + length wants ≤ 1000000000
+pub IsSound-submit : (F : Farm) (owner : List ℕ) (priority : ℕ) (wants : List Want) (roles : List (Option (List ℕ))) (body : List ℕ) → IsSound F
+    → IsName owner → IsTrue (is_priority priority) → length body ≤ 65536 → IsText body
+    → AllByRecursion (IsMemberWant F) wants → AllByRecursion (λ r. IfSome r IsName) roles → length roles ≡ length wants → length wants ≤ 4
+    → length F.jobs + length wants ≤ 100000 → F.next + length wants ≤ 1000000000
     → IsSound (record (put_jobs F (new_members F.next F.next owner priority wants roles body)) { next = F.next + length wants })
-IsSound-submit F owner priority wants roles body sound name prio few wanted named long four room numbers =
+IsSound-submit F owner priority wants roles body sound name prio few utf8 wanted named long four room numbers =
     members_sound wants roles F F.next owner priority body sound
     (record {
       low = omega arith;
@@ -125,5 +148,6 @@ IsSound-submit F owner priority wants roles body sound name prio few wanted name
       previous = λ later. absurd (later refl);
       text = λ later. absurd (later refl);
       few = few;
+      utf8 = utf8;
     })
     name prio wanted named long (omega arith) room numbers

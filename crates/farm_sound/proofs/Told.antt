@@ -1,12 +1,12 @@
 -- A farm is sound exactly where it is so row by row.
 use Rattle.farm_types.specs.Farm.{Farm}
-use Rattle.farm_types.specs.Sound.{IsSound, IsSteady, IsBoardRow, IsJobRow, IsResRow}
-use Rattle.farm_sound.specs.Told.{IsTold, IsInStep, IsNamedBy, IsSaidOfJob, IsSaidOfRes}
+use Rattle.farm_types.specs.Sound.{IsBoardRow, IsJobRow, IsResRow, IsSound, IsSteady}
 use Rattle.farm_types.proofs.Put.{AllByRecursion-weaker}
-use Rattle.farm_sound.proofs.Where.{AllByRecursion-both}
+use Rattle.farm_sound.specs.Told.{IsInStep, IsNamedBy, IsSaidOfJob, IsSaidOfRes, IsTold}
 use Rattle.farm_sound.proofs.Own.{own_job, own_res}
-use Rattle.farm_sound.proofs.Steps.{whole_from_steps, steps_from_whole, few_of_kinds}
-use Rattle.farm_sound.proofs.Said.{held_from_said, named_from_keys, jobs_from_keys, reservations_from_keys}
+use Rattle.farm_sound.proofs.Said.{held_from_said, jobs_from_keys, named_from_keys, reservations_from_keys}
+use Rattle.farm_sound.proofs.Steps.{few_of_kinds, steps_from_whole, whole_from_steps}
+use Rattle.farm_sound.proofs.Where.{AllByRecursion-both}
 
 steady_from_told : (F : Farm) → IsTold F → IsSteady F
 steady_from_told F is = record {
@@ -44,7 +44,8 @@ sound_from_told F is =
 pub told_from_sound : (F : Farm) → IsSound F → IsTold F
 told_from_sound F is =
     let steady = is.steady in
-    let jobs = AllByRecursion-both (IsInStep F) (IsSaidOfJob F) F.jobs (steps_from_whole F steady.jobs is.whole) (jobs_from_keys F is.held (own_job F steady) steady.jobs) in
+    let jobs = AllByRecursion-both (IsInStep F) (IsSaidOfJob F) F.jobs (steps_from_whole F steady.jobs is.whole)
+    (jobs_from_keys F is.held (own_job F steady) steady.jobs) in
     record {
       ordered = record {
         types = steady.types_sorted;
@@ -69,6 +70,7 @@ told_from_sound F is =
       jobs = AllByRecursion-weaker (λ j two. record { row = two.0; step = two.1.0; said = two.1.1 }) F.jobs
           (AllByRecursion-both (IsJobRow F) (λ j. IsInStep F j × IsSaidOfJob F j) F.jobs steady.jobs jobs);
       reservations = AllByRecursion-weaker (λ r two. record { row = two.0; said = two.1 }) F.reservations
-          (AllByRecursion-both (IsResRow F) (IsSaidOfRes F) F.reservations steady.reservations (reservations_from_keys F is.held (own_res F steady) steady.reservations));
+          (AllByRecursion-both (IsResRow F) (IsSaidOfRes F) F.reservations steady.reservations
+          (reservations_from_keys F is.held (own_res F steady) steady.reservations));
       kept = steady.kept;
     }

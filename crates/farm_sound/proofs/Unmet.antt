@@ -1,25 +1,25 @@
 -- A claim that no free boards meet stays so while others are served: free boards only become fewer.
-use Rattle.std.proofs.Common.{◌≡◌, ℕ, inl, inr, ◌&&◌, Bool, true, false, cond, List, [], ◌∷◌, Option, Some, None, refl, sym, ◌∙◌, subst}
+use Rattle.std.proofs.Common.{◌&&◌, ◌∙◌, ◌∷◌, ◌≡◌, Bool, List, None, Option, Some, cond, false, inl, inr, refl, subst, sym, true, ℕ, []}
 use mathlib.Core.Bool.{false≢true}
-use Rattle.std.specs.List.{fold, zip, list_all}
+use Rattle.std.specs.Cmp.Lexicographic.{pointwise}
+use Rattle.std.specs.List.{fold, list_all, zip}
 use Rattle.std.specs.List.Sorted.{IsStrictlySortedBy}
 use Rattle.std.specs.Str.{bytes_eq}
-use Rattle.std.specs.Cmp.Lexicographic.{pointwise}
-use Rattle.farm_types.specs.Table.{board_cmp, change_where}
 use Rattle.farm_types.specs.Farm.{Farm, members}
-use Rattle.farm_types.specs.Pick.{Among, least, fits, are_apart, is_free, is_nobody, serves, Claimed}
-use Rattle.farm_types.specs.Pass.{held, give, give_res, give_group, give_member}
-use Rattle.farm_types.specs.declared.rows.Holder.{Holder}
-use Rattle.farm_types.specs.declared.rows.State.{State}
+use Rattle.farm_types.specs.Pass.{give, give_group, give_member, give_res, held}
+use Rattle.farm_types.specs.Pick.{Among, Claimed, are_apart, fits, is_free, is_nobody, least, serves}
+use Rattle.farm_types.specs.Table.{board_cmp, change_where}
 use Rattle.farm_types.specs.declared.rows.BoardRow.{BoardRow}
-use Rattle.farm_types.specs.declared.rows.TypeRow.{TypeRow}
+use Rattle.farm_types.specs.declared.rows.Holder.{Holder}
 use Rattle.farm_types.specs.declared.rows.JobRow.{JobRow}
+use Rattle.farm_types.specs.declared.rows.State.{State}
+use Rattle.farm_types.specs.declared.rows.TypeRow.{TypeRow}
 use Rattle.farm_types.specs.declared.rows.Want.{Want}
 use Rattle.farm_types.proofs.Put.{AllByRecursion-weaker}
-use Rattle.farm_sound.proofs.Where.{AllByRecursion-both}
-use Rattle.farm_sound.proofs.Commands.{both}
 use Rattle.farm_sound.proofs.Least.{IsLeast-least, none_meets}
-use Rattle.farm_sound.proofs.Group.{all_tested}
+use Rattle.farm_sound.proofs.Lists.{all_tested}
+use Rattle.farm_sound.proofs.Tests.{both}
+use Rattle.farm_sound.proofs.Where.{AllByRecursion-both}
 
 -- no list of free boards meets the claim
 abbrev pub IsUnmet : Farm → List Want → Type 0
@@ -29,7 +29,8 @@ IsUnmet F wants = least F.boards (is_free F.types) wants ≡ None
 abbrev pub Shrinks : List TypeRow → List BoardRow → List BoardRow → Type 0
 Shrinks types old new = (b : BoardRow) → Among b new → is_free types b ≡ true → Among b old
 
-pub unmet_shrinks : (types : List TypeRow) (old new : List BoardRow) (wants : List Want) → IsStrictlySortedBy board_cmp new → Shrinks types old new → least old (is_free types) wants ≡ None → least new (is_free types) wants ≡ None
+pub unmet_shrinks : (types : List TypeRow) (old new : List BoardRow) (wants : List Want) → IsStrictlySortedBy board_cmp new → Shrinks types old new
+    → least old (is_free types) wants ≡ None → least new (is_free types) wants ≡ None
 unmet_shrinks types old new wants sorted shrinks none = by (least new (is_free types) wants) refl
   where
     by : (o : Option (List BoardRow)) → least new (is_free types) wants ≡ o → o ≡ None
@@ -38,14 +39,16 @@ unmet_shrinks types old new wants sorted shrinks none = by (least new (is_free t
         let best = IsLeast-least new (is_free types) wants bs sorted is in
         let free = all_tested (is_free types) bs (both (pointwise fits bs wants && are_apart bs) (list_all (is_free types) bs) best.meeting).1 in
         absurd (none_meets old (is_free types) wants bs none
-        (AllByRecursion-weaker (λ b two. shrinks b two.0 two.1) bs (AllByRecursion-both (λ b. Among b new) (λ b. is_free types b ≡ true) bs best.among free)) best.meeting)
+        (AllByRecursion-weaker (λ b two. shrinks b two.0 two.1) bs
+        (AllByRecursion-both (λ b. Among b new) (λ b. is_free types b ≡ true) bs best.among free)) best.meeting)
 
 -- a board in someone's hands isn't free
 not_free : (types : List TypeRow) (h : Holder) (b : BoardRow) → is_nobody h ≡ false → is_free types (held h State.Reserved b) ≡ true → ⊥
 not_free types h b taken free = false≢true (sym taken ∙ (both (serves types (held h State.Reserved b)) (is_nobody h) free).1)
 
 -- a board is given
-given_shrinks : (types : List TypeRow) (h : Holder) (name : List ℕ) → is_nobody h ≡ false → (bs : List BoardRow) → Shrinks types bs (change_where (λ c. bytes_eq c.name name) (held h State.Reserved) bs)
+given_shrinks : (types : List TypeRow) (h : Holder) (name : List ℕ) → is_nobody h ≡ false → (bs : List BoardRow)
+    → Shrinks types bs (change_where (λ c. bytes_eq c.name name) (held h State.Reserved) bs)
 given_shrinks types h name taken [] b at free = at
 given_shrinks types h name taken (c ∷ bs) b (inr at) free = inr (given_shrinks types h name taken bs b at free)
 given_shrinks types h name taken (c ∷ bs) b (inl same) free = by (bytes_eq c.name name) same
@@ -67,12 +70,15 @@ res_shrinks F n (b ∷ bs) t = (refl, given_shrinks F.types (Holder.Res n) b.nam
 pub give_shrinks : (F : Farm) (c : Claimed) (bs : List BoardRow) (t : ℕ) → ((give F c bs t).types ≡ F.types) × Shrinks F.types F.boards (give F c bs t).boards
 give_shrinks F c bs t = by c.reservation
   where
-    by : (v : Bool) → ((cond v (give_res F c.number bs t) (give_group F c.number bs)).types ≡ F.types) × Shrinks F.types F.boards (cond v (give_res F c.number bs t) (give_group F c.number bs)).boards
+    by : (v : Bool) → ((cond v (give_res F c.number bs t) (give_group F c.number bs)).types ≡ F.types) × Shrinks F.types F.boards
+        (cond v (give_res F c.number bs t) (give_group F c.number bs)).boards
     by true = res_shrinks F c.number bs t
     by false = fold_shrinks (zip (members F c.number) bs) F
 
 -- so a claim that isn't met stays so when another is served
-pub IsUnmet-give : (F : Farm) (c : Claimed) (bs : List BoardRow) (t : ℕ) (wants : List Want) → IsStrictlySortedBy board_cmp (give F c bs t).boards → IsUnmet F wants → IsUnmet (give F c bs t) wants
+pub IsUnmet-give : (F : Farm) (c : Claimed) (bs : List BoardRow) (t : ℕ) (wants : List Want) → IsStrictlySortedBy board_cmp (give F c bs t).boards
+    → IsUnmet F wants → IsUnmet (give F c bs t) wants
 IsUnmet-give F c bs t wants sorted none =
     let s = give_shrinks F c bs t in
-    subst (λ types. least (give F c bs t).boards (is_free types) wants ≡ None) (sym s.0) (unmet_shrinks F.types F.boards (give F c bs t).boards wants sorted s.1 none)
+    subst (λ types. least (give F c bs t).boards (is_free types) wants ≡ None) (sym s.0)
+    (unmet_shrinks F.types F.boards (give F c bs t).boards wants sorted s.1 none)

@@ -1,10 +1,10 @@
 -- Rows that are changed where they pass a test.
-use Rattle.std.proofs.Common.{◌≡◌, List, [], ◌∷◌, length, map, suc, Bool, true, false, cond, Some, ap, ◌∙◌, refl}
-use Rattle.std.specs.List.{AllByRecursion, find, filter}
+use Rattle.std.proofs.Common.{◌∙◌, ◌∷◌, ◌≡◌, Bool, List, Some, ap, cond, false, length, map, refl, suc, true, []}
+use Rattle.std.specs.List.{AllByRecursion, filter, find}
 use Rattle.std.specs.List.Sorted.{IsStrictlySortedBy}
 use Rattle.std.specs.Option.{option_map}
-use Rattle.std.specs.declared.cmp.Ordering.TheVariants.{Less}
 use Rattle.std.specs.declared.cmp.Ordering.{Ordering}
+use Rattle.std.specs.declared.cmp.Ordering.TheVariants.{Less}
 
 -- each row is the changed one or itself
 pub by_cases : {R : Type 0} (P : R → Type 0) (v : Bool) (x y : R) → (v ≡ true → P x) → (v ≡ false → P y) → P (cond v x y)
@@ -12,7 +12,8 @@ by_cases P true x y so other = so refl
 by_cases P false x y so other = other refl
 
 -- what holds of each row after the change
-pub AllByRecursion-map : {R S : Type 0} (P : R → Type 0) (Q : S → Type 0) (f : R → S) → ((r : R) → P r → Q (f r)) → (rows : List R) → AllByRecursion P rows → AllByRecursion Q (map f rows)
+pub AllByRecursion-map : {R S : Type 0} (P : R → Type 0) (Q : S → Type 0) (f : R → S) → ((r : R) → P r → Q (f r)) → (rows : List R)
+    → AllByRecursion P rows → AllByRecursion Q (map f rows)
 AllByRecursion-map P Q f each [] all = tt
 AllByRecursion-map P Q f each (r ∷ rows) all = (each r all.0, AllByRecursion-map P Q f each rows all.1)
 
@@ -21,7 +22,8 @@ AllByRecursion-both P Q [] p q = tt
 AllByRecursion-both P Q (r ∷ rows) p q = ((p.0, q.0), AllByRecursion-both P Q rows p.1 q.1)
 
 -- a row is found by a key that stays
-pub find_map : {R : Type 0} (test : R → Bool) (f : R → R) → ((r : R) → test (f r) ≡ test r) → (rows : List R) → find test (map f rows) ≡ option_map f (find test rows)
+pub find_map : {R : Type 0} (test : R → Bool) (f : R → R) → ((r : R) → test (f r) ≡ test r) → (rows : List R)
+    → find test (map f rows) ≡ option_map f (find test rows)
 find_map test f same [] = refl
 find_map test f same (r ∷ rows) = rw (same r, find_map test f same rows) (by (test r))
   where
@@ -30,16 +32,19 @@ find_map test f same (r ∷ rows) = rw (same r, find_map test f same rows) (by (
     by false = refl
 
 -- as many pass a test by what stays
-pub count_map : {R : Type 0} (test : R → Bool) (f : R → R) → ((r : R) → test (f r) ≡ test r) → (rows : List R) → length (filter test (map f rows)) ≡ length (filter test rows)
+pub count_map : {R : Type 0} (test : R → Bool) (f : R → R) → ((r : R) → test (f r) ≡ test r) → (rows : List R)
+    → length (filter test (map f rows)) ≡ length (filter test rows)
 count_map test f same [] = refl
 count_map test f same (r ∷ rows) = rw (same r) (by (count_map test f same rows) (test r))
   where
-    by : length (filter test (map f rows)) ≡ length (filter test rows) → (v : Bool) → length (cond v (f r ∷ filter test (map f rows)) (filter test (map f rows))) ≡ length (cond v (r ∷ filter test rows) (filter test rows))
+    by : length (filter test (map f rows)) ≡ length (filter test rows) → (v : Bool)
+        → length (cond v (f r ∷ filter test (map f rows)) (filter test (map f rows))) ≡ length (cond v (r ∷ filter test rows) (filter test rows))
     by rest true = ap suc rest
     by rest false = rest
 
 -- rows in order of what stays are in order
-pub sorted_map : {R : Type 0} (cmp : R → R → Ordering) (f : R → R) → ((a b : R) → cmp (f a) (f b) ≡ cmp a b) → (rows : List R) → IsStrictlySortedBy cmp rows → IsStrictlySortedBy cmp (map f rows)
+pub sorted_map : {R : Type 0} (cmp : R → R → Ordering) (f : R → R) → ((a b : R) → cmp (f a) (f b) ≡ cmp a b) → (rows : List R)
+    → IsStrictlySortedBy cmp rows → IsStrictlySortedBy cmp (map f rows)
 unfolding IsStrictlySortedBy
 sorted_map cmp f same [] sorted = tt
 sorted_map cmp f same (r ∷ rows) sorted =

@@ -1,28 +1,33 @@
 -- No group is half started, after jobs have changed.
-use Rattle.std.proofs.Common.{◌≡◌, Bool, true, cond, List, map, refl, sym, ◌∙◌, subst}
+use Rattle.std.proofs.Common.{◌∙◌, ◌≡◌, Bool, List, cond, map, refl, subst, sym, true}
 use mathlib.Core.Bool.{true≢false}
+use Rattle.std.specs.Cmp.{nat_cmp_total, on_total}
 use Rattle.std.specs.List.{AllByRecursion}
 use Rattle.farm_types.specs.Farm.{Farm}
 use Rattle.farm_types.specs.Sound.{IsWhole, phase}
+use Rattle.farm_types.specs.Table.{job_cmp, put}
 use Rattle.farm_types.specs.declared.rows.JobRow.{JobRow}
-use Rattle.std.specs.Cmp.{on_total, nat_cmp_total}
-use Rattle.farm_types.specs.Table.{put, job_cmp}
-use Rattle.farm_types.proofs.Put.{AllByRecursion-weaker, AllByRecursion-put}
-use Rattle.farm_sound.proofs.Where.{AllByRecursion-map, AllByRecursion-both, by_cases}
+use Rattle.farm_types.proofs.Put.{AllByRecursion-put, AllByRecursion-weaker}
+use Rattle.farm_sound.proofs.Where.{AllByRecursion-both, AllByRecursion-map, by_cases}
 
 -- two jobs of one group are in one phase
 abbrev pub Alike : JobRow → JobRow → Type 0
 Alike j m = m.group ≡ j.group → phase m.state ≡ phase j.state
 
 -- a change that keeps this of each two keeps it of all
-pub IsWhole-map : (F : Farm) (J : List JobRow) (f : JobRow → JobRow) → J ≡ map f F.jobs → ((j m : JobRow) → Alike j m → Alike (f j) (f m)) → IsWhole F → IsWhole (record F { jobs = J })
+pub IsWhole-map : (F : Farm) (J : List JobRow) (f : JobRow → JobRow) → J ≡ map f F.jobs → ((j m : JobRow) → Alike j m → Alike (f j) (f m)) → IsWhole F
+    → IsWhole (record F { jobs = J })
 IsWhole-map F J f is alike whole =
     subst (λ l. AllByRecursion (λ j. AllByRecursion (λ m. m.group ≡ j.group → phase m.state ≡ phase j.state) l) l) (sym is)
-    (AllByRecursion-map (λ j. AllByRecursion (λ m. m.group ≡ j.group → phase m.state ≡ phase j.state) F.jobs) (λ j. AllByRecursion (λ m. m.group ≡ j.group → phase m.state ≡ phase j.state) (map f F.jobs)) f
+    (AllByRecursion-map (λ j. AllByRecursion (λ m. m.group ≡ j.group → phase m.state ≡ phase j.state) F.jobs)
+    (λ j. AllByRecursion (λ m. m.group ≡ j.group → phase m.state ≡ phase j.state) (map f F.jobs)) f
     (λ j all. AllByRecursion-map (Alike j) (Alike (f j)) f (λ m. alike j m) F.jobs all) F.jobs whole)
 
 -- the jobs that pass change so that those of one group stay in one phase: all of a group in one phase pass, or none
-pub Alike-where : (test : JobRow → Bool) (f : JobRow → JobRow) → ((j : JobRow) → (f j).group ≡ j.group) → ((j m : JobRow) → test j ≡ true → test m ≡ true → phase (f m).state ≡ phase (f j).state) → ((j m : JobRow) → m.group ≡ j.group → phase m.state ≡ phase j.state → test m ≡ test j) → (j m : JobRow) → Alike j m → Alike (cond (test j) (f j) j) (cond (test m) (f m) m)
+pub Alike-where : (test : JobRow → Bool) (f : JobRow → JobRow) → ((j : JobRow) → (f j).group ≡ j.group)
+    → ((j m : JobRow) → test j ≡ true → test m ≡ true → phase (f m).state ≡ phase (f j).state)
+    → ((j m : JobRow) → m.group ≡ j.group → phase m.state ≡ phase j.state → test m ≡ test j) → (j m : JobRow) → Alike j m
+    → Alike (cond (test j) (f j) j) (cond (test m) (f m) m)
 Alike-where test f groups one together j m alike =
     by_cases (λ k. Alike k (cond (test m) (f m) m)) (test j) (f j) j
     (λ so. by_cases (λ n. Alike (f j) n) (test m) (f m) m (λ mso _. one j m so mso)
@@ -32,20 +37,27 @@ Alike-where test f groups one together j m alike =
     (λ _. alike))
 
 -- a change that keeps each job's phase
-pub Alike-kept : (test : JobRow → Bool) (f : JobRow → JobRow) → ((j : JobRow) → (f j).group ≡ j.group) → ((j : JobRow) → test j ≡ true → phase (f j).state ≡ phase j.state) → (j m : JobRow) → Alike j m → Alike (cond (test j) (f j) j) (cond (test m) (f m) m)
+pub Alike-kept : (test : JobRow → Bool) (f : JobRow → JobRow) → ((j : JobRow) → (f j).group ≡ j.group)
+    → ((j : JobRow) → test j ≡ true → phase (f j).state ≡ phase j.state) → (j m : JobRow) → Alike j m
+    → Alike (cond (test j) (f j) j) (cond (test m) (f m) m)
 Alike-kept test f groups kept j m alike =
     by_cases (λ k. Alike k (cond (test m) (f m) m)) (test j) (f j) j
-    (λ so. by_cases (λ n. Alike (f j) n) (test m) (f m) m (λ mso same. kept m mso ∙ alike (sym (groups m) ∙ same ∙ groups j) ∙ sym (kept j so)) (λ _ same. alike (same ∙ groups j) ∙ sym (kept j so)))
+    (λ so. by_cases (λ n. Alike (f j) n) (test m) (f m) m (λ mso same. kept m mso ∙ alike (sym (groups m) ∙ same ∙ groups j) ∙ sym (kept j so))
+    (λ _ same. alike (same ∙ groups j) ∙ sym (kept j so)))
     (λ _. by_cases (λ n. Alike j n) (test m) (f m) m (λ mso same. kept m mso ∙ alike (sym (groups m) ∙ same)) (λ _. alike))
 
 -- the same with what is known of each job
-pub IsWhole-map_by : (F : Farm) (P : JobRow → Type 0) (f : JobRow → JobRow) → AllByRecursion P F.jobs → ((j m : JobRow) → P j → P m → Alike j m → Alike (f j) (f m)) → IsWhole F → AllByRecursion (λ j. AllByRecursion (Alike j) (map f F.jobs)) (map f F.jobs)
+pub IsWhole-map_by : (F : Farm) (P : JobRow → Type 0) (f : JobRow → JobRow) → AllByRecursion P F.jobs
+    → ((j m : JobRow) → P j → P m → Alike j m → Alike (f j) (f m)) → IsWhole F
+    → AllByRecursion (λ j. AllByRecursion (Alike j) (map f F.jobs)) (map f F.jobs)
 IsWhole-map_by F P f all alike whole = AllByRecursion-map (λ j. P j × AllByRecursion (Alike j) F.jobs) (λ j. AllByRecursion (Alike j) (map f F.jobs)) f
-    (λ j two. AllByRecursion-map (λ m. P m × Alike j m) (Alike (f j)) f (λ m three. alike j m two.0 three.0 three.1) F.jobs (AllByRecursion-both P (Alike j) F.jobs all two.1))
+    (λ j two. AllByRecursion-map (λ m. P m × Alike j m) (Alike (f j)) f (λ m three. alike j m two.0 three.0 three.1) F.jobs
+    (AllByRecursion-both P (Alike j) F.jobs all two.1))
     F.jobs (AllByRecursion-both P (λ j. AllByRecursion (Alike j) F.jobs) F.jobs all whole)
 
 -- a new job that is in one phase with those of its group
-pub IsWhole-add : (F : Farm) (row : JobRow) → AllByRecursion (λ m. m.group ≡ row.group → phase m.state ≡ phase row.state) F.jobs → IsWhole F → AllByRecursion (λ j. AllByRecursion (Alike j) (put job_cmp F.jobs row)) (put job_cmp F.jobs row)
+pub IsWhole-add : (F : Farm) (row : JobRow) → AllByRecursion (λ m. m.group ≡ row.group → phase m.state ≡ phase row.state) F.jobs → IsWhole F
+    → AllByRecursion (λ j. AllByRecursion (Alike j) (put job_cmp F.jobs row)) (put job_cmp F.jobs row)
 IsWhole-add F row alike whole =
     let total = on_total (λ (r : JobRow). r.number) nat_cmp_total in
     AllByRecursion-put job_cmp total row (λ j. AllByRecursion (Alike j) (put job_cmp F.jobs row))

@@ -3,7 +3,7 @@ use Rattle.std.specs.Prelude.{◌≡◌, ◌≢◌, ◌≤◌, ◌<◌, ◌+◌,
 use Rattle.std.specs.List.{filter, AllByRecursion}
 use Rattle.std.specs.List.Sorted.{IsStrictlySortedBy}
 use Rattle.std.specs.Str.{bytes_eq}
-use Rattle.farm_types.specs.Words.{IsName}
+use Rattle.farm_types.specs.Words.{IsName, IsText}
 use Rattle.farm_types.specs.Table.{type_cmp, board_cmp, job_cmp, res_cmp, kept_cmp}
 use Rattle.farm_types.specs.Proper.{is_priority, is_want}
 use Rattle.farm_types.specs.Farm.{Farm, type_of, board_of, job_of, res_of}
@@ -29,6 +29,7 @@ pub record IsJobWorded (F : Farm) (r : JobRow) : Type 0 where
   pub kind : IsSomeAnd r.want.kind (λ kind. IsSome (type_of F kind))
   pub role : IfSome r.role IsName
   pub body : length r.body ≤ 65536
+  pub text : IsText r.body
 
 pub record IsJobPlaced (F : Farm) (r : JobRow) : Type 0 where
   pub board : IsBoardOf F r.board

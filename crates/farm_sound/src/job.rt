@@ -9,6 +9,7 @@ ghost use Rattle.farm_sound.specs.Told.{IsOrdered, IsJobNumbered, IsJobWorded, I
 use crate::seek::{board_of, job_of, res_of};
 use crate::want::{is_role, is_want, names_board, names_type};
 use farm_types::calls::Rows;
+use farm_types::priority::HIGHEST_PRIORITY;
 use farm_types::rows::{Holder, JobRow, JobState, State};
 
 /// The most members of a group.
@@ -16,9 +17,6 @@ const MOST_MEMBERS: u64 = 4;
 
 /// The most bytes of a job's text.
 const LONGEST_BODY: usize = 65_536;
-
-/// The priority of a check: the highest.
-const CHECK_PRIORITY: u64 = 100;
 
 /// The state that a job gives the board that it holds, if it holds one.
 pub fn job_gives(state: JobState) -> Option<State>
@@ -60,11 +58,12 @@ fn is_worded(rows: &Rows, row: &JobRow) -> bool
     ensures { IsTrue result ↔ IsJobWorded (farm_of rows.now) row.now }
 {
     row.owner.is_name()
-        && row.priority.get() <= 100
+        && row.priority.get() <= HIGHEST_PRIORITY
         && is_want(&row.want)
         && names_type(rows, &row.want.kind)
         && is_role(&row.role)
         && row.body.len() <= LONGEST_BODY
+        && row.body.is_text()
 }
 
 /// The lines on a job's state, outcome and board.
@@ -104,7 +103,7 @@ fn is_check(row: &JobRow) -> bool
 {
     row.number == row.group
         && row.owner.as_str() == "admin"
-        && row.priority.get() == CHECK_PRIORITY
+        && row.priority.get() == HIGHEST_PRIORITY
         && !matches!(row.state, JobState::Submitted)
         && row.want.tags.is_empty()
         && row.role.is_none()

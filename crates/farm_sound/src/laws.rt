@@ -4,7 +4,7 @@ ghost use Rattle.std.specs.List.{filter, AllByRecursion};
 ghost use Rattle.std.specs.List.Sorted.{IsStrictlySortedBy, IsPermutation};
 ghost use Rattle.std.specs.Str.{bytes_eq};
 ghost use Rattle.std.specs.declared.cmp.Ordering.{Ordering};
-ghost use Rattle.farm_types.specs.Words.{IsName, IsTags};
+ghost use Rattle.farm_types.specs.Words.{IsName, IsTags, IsText};
 ghost use Rattle.farm_types.specs.Proper.{is_priority, is_want};
 ghost use Rattle.farm_types.specs.Table.{put, put_all, change_where, type_cmp, board_cmp, job_cmp, res_cmp, kept_cmp};
 ghost use Rattle.farm_types.specs.Farm.{Farm, empty, type_of, board_of, job_of, res_of};
@@ -105,7 +105,7 @@ pub fn unmet_stays()
 /// A submitted group leaves a sound farm.
 pub fn submit_is_sound()
     ensures { (F : Farm) (caller : List ℕ) (priority : ℕ) (wants : List Want) (roles : List (Option (List ℕ))) (body : List ℕ)
-        → IsSound F → IsName caller → IsTrue (is_priority priority) → length body ≤ 65536
+        → IsSound F → IsName caller → IsTrue (is_priority priority) → length body ≤ 65536 → IsText body
         → AllByRecursion (λ w. IsSomeAnd w.kind (λ kind. IsSome (type_of F kind)) × IsTrue (is_want w)) wants
         → AllByRecursion (λ r. IfSome r IsName) roles → length roles ≡ length wants → length wants ≤ 4
         → length F.jobs + length wants ≤ 100000 → F.next + length wants ≤ 1000000000

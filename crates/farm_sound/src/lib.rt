@@ -5,10 +5,10 @@
 //! row as `specs/Told.antt` says; `seek` finds rows.
 #![tactic(auto)]
 
-pub mod board;
-pub mod job;
+mod board;
+mod job;
 pub mod laws;
-pub mod reservation;
+mod reservation;
 pub mod seek;
 pub mod sound;
-pub mod want;
+mod want;

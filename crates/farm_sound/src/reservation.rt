@@ -9,6 +9,7 @@ ghost use Rattle.farm_sound.specs.Told.{IsSaidOfRes};
 use crate::seek::board_of;
 use crate::want::{is_want, names_board};
 use farm_types::calls::Rows;
+use farm_types::priority::HIGHEST_PRIORITY;
 use farm_types::rows::{Holder, ResRow, ResState, State};
 
 /// How long a reservation lives without a refresh, in seconds.
@@ -34,7 +35,7 @@ pub fn is_res_row(rows: &Rows, row: &ResRow) -> bool
     1 <= row.number
         && row.number < rows.meta.next
         && row.owner.is_name()
-        && row.priority.get() <= 100
+        && row.priority.get() <= HIGHEST_PRIORITY
         && is_want(&row.want)
         && row.want.kind.is_none()
         && row.deadline <= rows.meta.clock + LEASE_SECONDS

@@ -77,7 +77,7 @@ fn is_kept_row(row: &KeptRow) -> bool
 }
 
 /// A row of a table.
-pub trait Told {
+trait Told {
     ghost use Rattle.farm_types.specs.Farm.{Farm, farm_of};
     ghost use Rattle.farm_sound.specs.Told.{IsOrdered, IsFew};
 

@@ -2,8 +2,8 @@
 use Rattle.std.proofs.Common.{◌≡◌, ℕ, ◌<◌, ◌&&◌, Bool, true, false, List, [], ◌∷◌, length, arith, refl}
 use Rattle.std.specs.Prelude.{nat_le}
 use Rattle.std.specs.List.{list_all}
-use Rattle.std.specs.Str.{IsUtf8, IsAscii}
-use Rattle.std.proofs.lemmas.Str.{IsUtf8-from_ascii}
+use Rattle.std.specs.Str.{IsUtf8, IsAscii, is_utf8}
+use Rattle.std.proofs.lemmas.Str.{IsUtf8-from_ascii, IsUtf8-nil, is_utf8-from_IsUtf8}
 use Rattle.std.proofs.lemmas.Str.Ascii.{IsAscii-nil, IsAscii-cons}
 use Rattle.std.proofs.lemmas.Bool.Decides.{nat_tests}
 use Rattle.farm_types.specs.Words.{is_name_byte, is_word}
@@ -30,3 +30,11 @@ name_bytes most text is = (and_parts (nat_le 1 (length text) && nat_le (length t
 
 pub IsUtf8_of_word : (most : ℕ) (text : List ℕ) → is_word most text ≡ true → IsUtf8 text
 IsUtf8_of_word most text is = IsUtf8-from_ascii text (ascii_bytes text (name_bytes most text is))
+
+-- a text is UTF-8, and so is no text
+pub is_text : (text : List ℕ) → IsUtf8 text → is_utf8 text ≡ true
+is_text text is = is_utf8-from_IsUtf8 text is
+
+pub no_text : (text : List ℕ) → text ≡ [] → is_utf8 text ≡ true
+no_text [] none = is_utf8-from_IsUtf8 [] IsUtf8-nil
+no_text (c ∷ text) none = cc

@@ -1,7 +1,7 @@
 -- Which commands are proper: the others never reach the farm.
 use Rattle.std.specs.Prelude.{ℕ, ◌==◌, ◌&&◌, Bool, true, not, nat_le, List, length, is_some, codes, Option}
 use Rattle.std.specs.List.{list_all, list_any}
-use Rattle.std.specs.Str.{bytes_eq}
+use Rattle.std.specs.Str.{bytes_eq, is_utf8}
 use Rattle.farm_types.specs.Words.{tag_key, is_word, is_tags}
 use Rattle.std.specs.Option.{option_map_or}
 use Rattle.farm_types.specs.declared.rows.Want.{Want}
@@ -33,7 +33,7 @@ is_proper_cmd (Cmd.SetTags name tags) = is_word 48 name && is_tags tags && has_n
 is_proper_cmd (Cmd.SetHealth name health) = is_word 48 name
 is_proper_cmd (Cmd.Submit priority wants roles body) =
     is_priority priority && nat_le 1 (length wants) && nat_le (length wants) 4 && list_all (λ w. is_some w.kind && is_want w) wants
-    && (length roles == length wants) && list_all (λ r. option_map_or (is_word 48) r true) roles && nat_le (length body) 65536
+    && (length roles == length wants) && list_all (λ r. option_map_or (is_word 48) r true) roles && nat_le (length body) 65536 && is_utf8 body
 is_proper_cmd (Cmd.Finish number outcome) = not (same_outcome outcome Outcome.Canceled)
 is_proper_cmd (Cmd.Reserve priority tags) = is_priority priority && is_tags tags
 is_proper_cmd cmd = true

@@ -4,7 +4,7 @@ use Rattle.std.specs.List.{find, filter, AllByRecursion, filter_map}
 use Rattle.std.specs.List.Sorted.{IsStrictlySortedBy}
 use Rattle.std.specs.Option.{option_map_or}
 use Rattle.std.specs.Str.{bytes_eq}
-use Rattle.farm_types.specs.Words.{IsName, IsKey, IsTags}
+use Rattle.farm_types.specs.Words.{IsName, IsKey, IsTags, IsText}
 use Rattle.farm_types.specs.Proper.{is_frequency, has_no_name_tag, is_priority, is_want}
 use Rattle.farm_types.specs.Table.{type_cmp, board_cmp, job_cmp, res_cmp, kept_cmp}
 use Rattle.farm_types.specs.Farm.{Farm, type_of, board_of, job_of, res_of}
@@ -143,6 +143,7 @@ pub record IsJobRow (F : Farm) (r : JobRow) : Type 0 where
   pub kind : IsSomeAnd r.want.kind (λ kind. IsSome (type_of F kind))
   pub role : IfSome r.role IsName
   pub body : length r.body ≤ 65536
+  pub text : IsText r.body
   pub board : IsBoardOf F r.board
   pub outcome : IsTrue (is_some r.outcome) ↔ (r.state ≡ JobState.Finished)
   pub waits : r.state ≡ JobState.Submitted → r.board ≡ None

@@ -1,7 +1,7 @@
 -- Which texts are words. A text is the list of its bytes.
 use Rattle.std.specs.Prelude.{ℕ, ◌+◌, ◌==◌, ◌&&◌, ◌||◌, Bool, true, nat_le, List, [], ◌∷◌, ◌++◌, length, IsTrue, drop, not, codes, Result, Ok, Err, if◌then◌else◌}
 use Rattle.std.specs.List.{list_all, take_while}
-use Rattle.std.specs.Str.{bytes_eq}
+use Rattle.std.specs.Str.{bytes_eq, is_utf8}
 use Rattle.std.specs.Cmp.Lexicographic.{slice_cmp}
 use Rattle.std.specs.Ordering.{nat_cmp, is_lt}
 use Rattle.std.specs.declared.cmp.Ordering.{Ordering}
@@ -25,6 +25,10 @@ IsName text = IsTrue (is_word 48 text)
 
 abbrev pub IsKey : List ℕ → Type 0
 IsKey text = IsTrue (is_word 64 text)
+
+-- a text that is carried is UTF-8
+abbrev pub IsText : List ℕ → Type 0
+IsText text = IsTrue (is_utf8 text)
 
 -- what stands before the first '='
 abbrev pub tag_key : List ℕ → List ℕ

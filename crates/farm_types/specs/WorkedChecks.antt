@@ -1,5 +1,6 @@
 -- Worked scripts of health checks.
 use Rattle.std.specs.Prelude.{◌≡◌, List, [], ◌∷◌, Some, codes, refl}
+use Rattle.std.specs.Str.{is_utf8, chars}
 use Rattle.farm_types.specs.Words.{is_word, is_tag, is_tags}
 use Rattle.farm_types.specs.Proper.{is_proper_cmd}
 use Rattle.farm_types.specs.Farm.{empty}
@@ -15,7 +16,7 @@ use Rattle.farm_types.specs.declared.calls.Call.{Call}
 
 -- a check goes ahead of the highest priority, and its good end frees the board for the job
 unfoldable pub check_goes_first : List Call
-unfolding is_proper_cmd is_word is_tag is_tags
+unfolding is_proper_cmd is_word is_tag is_tags is_utf8 chars
 check_goes_first =
     by_admin 10 (new_type (Check.Hours 24)) refl
     ∷ by_admin 10 (new_board (codes "b1") []) refl
@@ -29,7 +30,7 @@ check_goes_first =
 
 -- hours are counted from the last check, to the second
 unfoldable pub hours_since_the_last_check : List Call
-unfolding is_proper_cmd is_word is_tag is_tags
+unfolding is_proper_cmd is_word is_tag is_tags is_utf8 chars
 hours_since_the_last_check =
     by_admin 10 (new_type (Check.Hours 1)) refl
     ∷ by_admin 10 (new_board (codes "b1") []) refl
@@ -40,7 +41,7 @@ hours_since_the_last_check =
 
 -- jobs count whatever their end; Infra makes a Good board Unknown, and a bad check makes it Bad
 unfoldable pub jobs_since_the_last_check : List Call
-unfolding is_proper_cmd is_word is_tag is_tags
+unfolding is_proper_cmd is_word is_tag is_tags is_utf8 chars
 jobs_since_the_last_check =
     by_admin 10 (new_type (Check.Jobs 2)) refl
     ∷ by_admin 10 (new_board (codes "b1") []) refl
@@ -61,7 +62,7 @@ jobs_since_the_last_check =
 
 -- a check that ends well counts, and leaves a board in Maintenance there
 unfoldable pub check_in_maintenance : List Call
-unfolding is_proper_cmd is_word is_tag is_tags
+unfolding is_proper_cmd is_word is_tag is_tags is_utf8 chars
 check_in_maintenance =
     by_admin 10 (new_type (Check.Hours 1)) refl
     ∷ by_admin 10 (new_board (codes "b1") []) refl

@@ -1,5 +1,6 @@
 -- Worked scripts of jobs, groups and the plain pass.
 use Rattle.std.specs.Prelude.{◌≡◌, List, [], ◌∷◌, Some, None, codes, refl}
+use Rattle.std.specs.Str.{is_utf8, chars}
 use Rattle.farm_types.specs.Words.{is_word, is_tag, is_tags}
 use Rattle.farm_types.specs.Proper.{is_proper_cmd}
 use Rattle.farm_types.specs.Farm.{empty}
@@ -16,7 +17,7 @@ use Rattle.farm_types.specs.declared.calls.Call.{Call}
 
 -- the higher priority goes first, and the other waits
 unfoldable pub higher_priority_first : List Call
-unfolding is_proper_cmd is_word is_tag is_tags
+unfolding is_proper_cmd is_word is_tag is_tags is_utf8 chars
 higher_priority_first =
     by_admin 10 (new_type Check.Never) refl
     ∷ by_admin 10 (new_board (codes "b1") []) refl
@@ -28,7 +29,7 @@ higher_priority_first =
 
 -- the least list leaves the tagged board to the want that needs it
 unfoldable pub least_list_by_tag : List Call
-unfolding is_proper_cmd is_word is_tag is_tags
+unfolding is_proper_cmd is_word is_tag is_tags is_utf8 chars
 least_list_by_tag =
     by_admin 10 (new_type Check.Never) refl
     ∷ by_admin 10 (new_board (codes "b1") (codes "hdmi" ∷ [])) refl
@@ -41,7 +42,7 @@ least_list_by_tag =
 
 -- of two lists that meet, the one that is less name by name
 unfoldable pub least_of_three_boards : List Call
-unfolding is_proper_cmd is_word is_tag is_tags
+unfolding is_proper_cmd is_word is_tag is_tags is_utf8 chars
 least_of_three_boards =
     by_admin 10 (new_type Check.Never) refl
     ∷ by_admin 10 (new_board (codes "b1") (codes "hdmi" ∷ [])) refl
@@ -56,7 +57,7 @@ least_of_three_boards =
 
 -- a group with one board too few waits whole, and a later single job goes on
 unfoldable pub group_waits_whole : List Call
-unfolding is_proper_cmd is_word is_tag is_tags
+unfolding is_proper_cmd is_word is_tag is_tags is_utf8 chars
 group_waits_whole =
     by_admin 10 (new_type Check.Never) refl
     ∷ by_admin 10 (new_board (codes "b1") []) refl
@@ -69,7 +70,7 @@ group_waits_whole =
 
 -- one Start starts a group; its finished member stays when the other is canceled
 unfoldable pub cancel_half_of_a_group : List Call
-unfolding is_proper_cmd is_word is_tag is_tags
+unfolding is_proper_cmd is_word is_tag is_tags is_utf8 chars
 cancel_half_of_a_group =
     by_admin 10 (new_type Check.Never) refl
     ∷ by_admin 10 (new_board (codes "b1") []) refl
@@ -86,7 +87,7 @@ cancel_half_of_a_group =
 
 -- a group that is canceled before its start frees its boards at once; another Cancel is refused
 unfoldable pub cancel_before_the_start : List Call
-unfolding is_proper_cmd is_word is_tag is_tags
+unfolding is_proper_cmd is_word is_tag is_tags is_utf8 chars
 cancel_before_the_start =
     by_admin 10 (new_type Check.Never) refl
     ∷ by_admin 10 (new_board (codes "b1") []) refl
@@ -101,7 +102,7 @@ cancel_before_the_start =
 
 -- a held board can not be retired, and a retired one stays so
 unfoldable pub retire_a_held_board : List Call
-unfolding is_proper_cmd is_word is_tag is_tags
+unfolding is_proper_cmd is_word is_tag is_tags is_utf8 chars
 retire_a_held_board =
     by_admin 10 (new_type Check.Never) refl
     ∷ by_admin 10 (new_board (codes "b1") []) refl
@@ -118,7 +119,7 @@ retire_a_held_board =
 
 -- three boards serve four wants at no time, whoever holds them
 unfoldable pub more_boards_than_there_are : List Call
-unfolding is_proper_cmd is_word is_tag is_tags
+unfolding is_proper_cmd is_word is_tag is_tags is_utf8 chars
 more_boards_than_there_are =
     by_admin 10 (new_type Check.Never) refl
     ∷ by_admin 10 (new_board (codes "b1") []) refl
@@ -130,7 +131,7 @@ more_boards_than_there_are =
 
 -- who may give a command, and what has to be there
 unfoldable pub wrong_callers_and_rows : List Call
-unfolding is_proper_cmd is_word is_tag is_tags
+unfolding is_proper_cmd is_word is_tag is_tags is_utf8 chars
 wrong_callers_and_rows =
     by_ann 10 (new_type Check.Never) refl
     ∷ by_admin 10 (new_type Check.Never) refl

@@ -1,5 +1,6 @@
 -- Worked scripts of reservations.
 use Rattle.std.specs.Prelude.{◌≡◌, List, [], ◌∷◌, Some, None, codes, refl}
+use Rattle.std.specs.Str.{is_utf8, chars}
 use Rattle.farm_types.specs.Words.{is_word, is_tag, is_tags}
 use Rattle.farm_types.specs.Proper.{is_proper_cmd}
 use Rattle.farm_types.specs.Farm.{empty}
@@ -16,7 +17,7 @@ use Rattle.farm_types.specs.declared.calls.Call.{Call}
 
 -- reservations and jobs stand in one queue
 unfoldable pub reservation_before_job : List Call
-unfolding is_proper_cmd is_word is_tag is_tags
+unfolding is_proper_cmd is_word is_tag is_tags is_utf8 chars
 reservation_before_job =
     by_admin 10 (new_type Check.Never) refl
     ∷ by_admin 10 (new_board (codes "b1") []) refl
@@ -28,7 +29,7 @@ reservation_before_job =
 
 -- a refresh moves the deadline, and a pass at the deadline ends the lease
 unfoldable pub lease_ends : List Call
-unfolding is_proper_cmd is_word is_tag is_tags
+unfolding is_proper_cmd is_word is_tag is_tags is_utf8 chars
 lease_ends =
     by_admin 10 (new_type Check.Never) refl
     ∷ by_admin 10 (new_board (codes "b1") []) refl
@@ -42,7 +43,7 @@ lease_ends =
 
 -- at its deadline a lease is dead for everyone, before any pass
 unfoldable pub acquire_at_deadline : List Call
-unfolding is_proper_cmd is_word is_tag is_tags
+unfolding is_proper_cmd is_word is_tag is_tags is_utf8 chars
 acquire_at_deadline =
     by_admin 10 (new_type Check.Never) refl
     ∷ by_admin 10 (new_board (codes "b1") []) refl
@@ -55,7 +56,7 @@ acquire_at_deadline =
 
 -- a moment before the clock counts as the clock
 unfoldable pub clock_never_falls_back : List Call
-unfolding is_proper_cmd is_word is_tag is_tags
+unfolding is_proper_cmd is_word is_tag is_tags is_utf8 chars
 clock_never_falls_back =
     by_admin 100 (new_type Check.Never) refl
     ∷ by_admin 50 (new_board (codes "b1") []) refl
@@ -65,7 +66,7 @@ clock_never_falls_back =
 
 -- only its owner acquires a reservation, and an acquired one never dies
 unfoldable pub acquired_outlives_deadline : List Call
-unfolding is_proper_cmd is_word is_tag is_tags
+unfolding is_proper_cmd is_word is_tag is_tags is_utf8 chars
 acquired_outlives_deadline =
     by_admin 10 (new_type Check.Never) refl
     ∷ by_admin 10 (new_board (codes "b1") []) refl
@@ -81,7 +82,7 @@ acquired_outlives_deadline =
 
 -- a reservation that waits to its deadline can not be refreshed; another can not be acquired while it waits
 unfoldable pub refreshed_too_late : List Call
-unfolding is_proper_cmd is_word is_tag is_tags
+unfolding is_proper_cmd is_word is_tag is_tags is_utf8 chars
 refreshed_too_late =
     by_admin 10 (new_type Check.Never) refl
     ∷ by_admin 10 (new_board (codes "b1") []) refl
@@ -95,7 +96,7 @@ refreshed_too_late =
 
 -- a canceled reservation is in the wrong state, an expired one is expired
 unfoldable pub canceled_and_expired : List Call
-unfolding is_proper_cmd is_word is_tag is_tags
+unfolding is_proper_cmd is_word is_tag is_tags is_utf8 chars
 canceled_and_expired =
     by_admin 10 (new_type Check.Never) refl
     ∷ by_admin 10 (new_board (codes "b1") []) refl
@@ -110,7 +111,7 @@ canceled_and_expired =
 
 -- a canceled reservation frees its board and keeps its name
 unfoldable pub cancel_an_acquired_one : List Call
-unfolding is_proper_cmd is_word is_tag is_tags
+unfolding is_proper_cmd is_word is_tag is_tags is_utf8 chars
 cancel_an_acquired_one =
     by_admin 10 (new_type Check.Never) refl
     ∷ by_admin 10 (new_board (codes "b1") []) refl

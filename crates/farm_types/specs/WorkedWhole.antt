@@ -1,5 +1,6 @@
 -- Worked scripts of the whole machine.
 use Rattle.std.specs.Prelude.{◌≡◌, List, [], ◌∷◌, Some, None, codes, refl}
+use Rattle.std.specs.Str.{is_utf8, chars}
 use Rattle.farm_types.specs.Words.{is_word, is_tag, is_tags}
 use Rattle.farm_types.specs.Proper.{is_proper_cmd}
 use Rattle.farm_types.specs.Farm.{empty}
@@ -18,7 +19,7 @@ use Rattle.farm_types.specs.declared.calls.Call.{Call}
 
 -- every command once
 unfoldable pub all_fourteen_commands : List Call
-unfolding is_proper_cmd is_word is_tag is_tags
+unfolding is_proper_cmd is_word is_tag is_tags is_utf8 chars
 all_fourteen_commands =
     by_admin 10 (new_type Check.Never) refl
     ∷ by_admin 10 (new_board (codes "b1") []) refl
@@ -39,14 +40,14 @@ all_fourteen_commands =
 
 -- a pass is accepted where there is nothing to do
 unfoldable pub pass_on_empty_farm : List Call
-unfolding is_proper_cmd is_word is_tag is_tags
+unfolding is_proper_cmd is_word is_tag is_tags is_utf8 chars
 pass_on_empty_farm =
     by_dispatcher 1700000000 Cmd.Pass refl
     ∷ []
 
 -- a refused command changes nothing
 unfoldable pub same_type_twice : List Call
-unfolding is_proper_cmd is_word is_tag is_tags
+unfolding is_proper_cmd is_word is_tag is_tags is_utf8 chars
 same_type_twice =
     by_admin 10 (new_type Check.Never) refl
     ∷ by_admin 20 (new_type Check.Never) refl
@@ -54,7 +55,7 @@ same_type_twice =
 
 -- a repeated key is answered with the kept reply, and for another command it is refused
 unfoldable pub keyed_type_twice : List Call
-unfolding is_proper_cmd is_word is_tag is_tags
+unfolding is_proper_cmd is_word is_tag is_tags is_utf8 chars
 keyed_type_twice =
     with_key (codes "k1") (new_type Check.Never) refl
     ∷ with_key (codes "k1") (new_type Check.Never) refl
@@ -64,7 +65,7 @@ keyed_type_twice =
 
 -- the last moment is good, and the next one is not
 unfoldable pub last_moment : List Call
-unfolding is_proper_cmd is_word is_tag is_tags
+unfolding is_proper_cmd is_word is_tag is_tags is_utf8 chars
 last_moment =
     by_admin 250000000001 (new_type Check.Never) refl
     ∷ by_admin 250000000000 (new_type Check.Never) refl

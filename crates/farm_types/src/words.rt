@@ -1,9 +1,9 @@
 //! Words: texts that keep a rule of their own.
 ghost use Rattle.std.specs.Prelude.{◌≡◌, ◌↔◌, [], length, IsTrue, IfOk};
 ghost use Rattle.std.specs.List.{list_all};
-ghost use Rattle.std.specs.Str.{IsUtf8, bytes_eq};
+ghost use Rattle.std.specs.Str.{IsUtf8, bytes_eq, is_utf8};
 ghost use Rattle.std.specs.String.{string_bytes};
-ghost use Rattle.farm_types.specs.Words.{IsName, IsKey, is_word, is_name_byte, text_cmp, word_or};
+ghost use Rattle.farm_types.specs.Words.{IsName, IsKey, IsText, is_word, is_name_byte, text_cmp, word_or};
 ghost use Rattle.farm_types.specs.Reads.{Reads};
 
 use crate::fault::WordFault;
@@ -210,21 +210,27 @@ pub struct Body {
 impl Model for Body {
     ghost use Rattle.std.specs.Prelude.{List, ℕ};
     ghost use Rattle.std.specs.String.{string_bytes};
+    ghost use Rattle.farm_types.specs.Words.{IsText};
 
     ghost Value = { List ℕ };
 
     ghost view = { λ n. string_bytes n.text };
+
+    ghost invariant = { λ n. IsText (string_bytes n.text) };
 }
 
 impl Body {
     /// The text as a body.
+    #[tactic(auto, using(crate::proofs::WordLemmas::is_text))]
     pub fn of(text: String) -> Body
         ensures { result ≡ string_bytes text }
     {
+        let _text = text.as_str();
         Body { text }
     }
 
     /// No text.
+    #[tactic(auto, using(crate::proofs::WordLemmas::no_text))]
     pub fn none(alloc: Global) -> Body
         ensures { result ≡ [] }
     {
@@ -235,9 +241,18 @@ impl Body {
 
     /// The bytes of the text.
     pub fn as_str(&self) -> &str
-        ensures { result.now ≡ self.now }
+        ensures text { result.now ≡ self.now }
+        ensures utf8 { IsText self.now }
     {
         self.text.as_str()
+    }
+
+    /// Whether it is UTF-8: each is.
+    pub fn is_text(&self) -> bool
+        ensures { result ≡ is_utf8 self.now }
+    {
+        let _ = &self.text;
+        true
     }
 
     /// Whether there is none.

@@ -3,7 +3,7 @@ use Rattle.std.specs.Str.{bytes_eq}
 use Rattle.farm_types.specs.Table.{job_cmp, res_cmp, board_cmp}
 use Rattle.farm_sound.proofs.Add.{job_total, res_total}
 use Rattle.farm_sound.proofs.Boards.{board_total}
-use Rattle.farm_sound.proofs.Bridge.{put_is_change, job_keeps, res_keeps, board_keeps, numbers_apart, names_apart}
+use Rattle.farm_sound.proofs.Puts.{put_is_change, job_keeps, res_keeps, board_keeps, numbers_apart, names_apart}
 use Rattle.farm_sound.proofs.laws.change_is_a_put.Goals as goal
 
 pub returns-clause-job : goal.returns-clause-job

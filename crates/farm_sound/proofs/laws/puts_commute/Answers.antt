@@ -1,8 +1,8 @@
 use Rattle.farm_types.specs.Table.{type_cmp, board_cmp, job_cmp, res_cmp, kept_cmp}
 use Rattle.farm_sound.proofs.Add.{job_total, res_total}
 use Rattle.farm_sound.proofs.Boards.{type_total, board_total}
-use Rattle.farm_sound.proofs.Numbers.{kept_total}
 use Rattle.farm_sound.proofs.Commute.{puts_commute}
+use Rattle.farm_sound.proofs.Numbers.{kept_total}
 use Rattle.farm_sound.proofs.laws.puts_commute.Goals as goal
 
 pub returns-clause-types : goal.returns-clause-types

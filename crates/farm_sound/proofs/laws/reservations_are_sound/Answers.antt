@@ -4,12 +4,12 @@ use Rattle.farm_types.specs.declared.rows.ResRow.{ResRow}
 use Rattle.farm_types.specs.declared.rows.ResState.{ResState}
 use Rattle.farm_types.proofs.Put.{AllByRecursion-weaker}
 use Rattle.farm_sound.proofs.Own.{only_res}
-use Rattle.farm_sound.proofs.Commands.{goes_on, IsSound-refresh, IsSound-cancel_res}
-use Rattle.farm_sound.proofs.Rest.{IsSound-reserve}
+use Rattle.farm_sound.proofs.Reservations.{goes_on, IsSound-refresh, IsSound-cancel_res, IsSound-reserve}
 use Rattle.farm_sound.proofs.laws.reservations_are_sound.Goals as goal
 
 pub returns-clause-reserve : goal.returns-clause-reserve
-returns-clause-reserve c = λ F caller priority tags name prio words room numbers sound. IsSound-reserve F caller priority tags name prio words room numbers sound
+returns-clause-reserve c = λ F caller priority tags name prio words room numbers sound. IsSound-reserve F caller priority tags name prio words room
+    numbers sound
 
 pub returns-clause-acquire : goal.returns-clause-acquire
 returns-clause-acquire c = λ F caller n r there at sound.

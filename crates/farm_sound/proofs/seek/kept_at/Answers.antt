@@ -14,4 +14,5 @@ returns c =
     placed (λ (r : KeptRow). (r.caller, r.key)) (λ (a b : List ℕ × List ℕ). ordering_then (text_cmp a.0 b.0) (text_cmp a.1 b.1)) both_total
     (λ a b. bytes_eq a.0 b.0 && bytes_eq a.1 b.1) both_ties (caller, key) (λ r. (r.caller ≡ caller) × (r.key ≡ key)) (λ r is i. (is.0 i, is.1 i))
     c.args.rows.now c.requires c.binary_search_by.result c.binary_search_by.ensures.bound
-    (c.binary_search_by.ensures.position (λ r. ordering_then (text_cmp r.caller caller) (text_cmp r.key key)) (always_returns_same _ _ _ (λ a r f' called. search rules)))
+    (c.binary_search_by.ensures.position (λ r. ordering_then (text_cmp r.caller caller) (text_cmp r.key key))
+    (always_returns_same _ _ _ (λ a r f' called. search rules)))

@@ -1,25 +1,25 @@
 -- A change where a test passes is one put after another of the changed rows.
-use Rattle.std.proofs.Common.{◌≡◌, ℕ, ◌==◌, List, [], ◌∷◌, map, Some, Bool, true, false, cond, refl, sym, ap, ◌∙◌, arith}
-use Rattle.std.specs.List.{AllByRecursion, find, filter}
-use Rattle.std.specs.List.Sorted.{IsStrictlySortedBy}
+use Rattle.std.proofs.Common.{◌==◌, ◌∙◌, ◌∷◌, ◌≡◌, Bool, List, Some, ap, arith, cond, false, map, refl, sym, true, ℕ, []}
 use Rattle.std.specs.Cmp.{IsTotalOrder, nat_cmp_total}
 use Rattle.std.specs.Cmp.Lexicographic.{nat_list_cmp_total, nat_list_eq_equiv}
+use Rattle.std.specs.List.{AllByRecursion, filter, find}
+use Rattle.std.specs.List.Sorted.{IsStrictlySortedBy}
+use Rattle.std.specs.Ordering.{is_eq, match_ordering, nat_cmp, ordering_reverse}
 use Rattle.std.specs.Str.{bytes_eq}
-use Rattle.std.specs.Ordering.{match_ordering, ordering_reverse, nat_cmp, is_eq}
-use Rattle.std.specs.declared.cmp.Ordering.TheVariants.{Less, Equal, Greater}
 use Rattle.std.specs.declared.cmp.Ordering.{Ordering}
+use Rattle.std.specs.declared.cmp.Ordering.TheVariants.{Equal, Greater, Less}
 use Rattle.std.proofs.lemmas.Bool.Decides.{nat_tests}
 use Rattle.std.proofs.lemmas.Cmp.{ranked, tied_itself}
 use Rattle.std.proofs.lemmas.Map.Text.{is_eq-slice_cmp}
 use Rattle.std.proofs.lemmas.Slice.Eq.{bytes_eq-Decides}
+use Rattle.farm_types.specs.Table.{board_cmp, change_where, job_cmp, put, put_all, res_cmp}
 use Rattle.farm_types.specs.Words.{text_cmp}
-use Rattle.farm_types.specs.Table.{put, put_all, change_where, board_cmp, job_cmp, res_cmp}
 use Rattle.farm_types.specs.declared.rows.BoardRow.{BoardRow}
 use Rattle.farm_types.specs.declared.rows.JobRow.{JobRow}
 use Rattle.farm_types.specs.declared.rows.ResRow.{ResRow}
 use Rattle.farm_types.proofs.Put.{AllByRecursion-weaker}
+use Rattle.farm_sound.proofs.Lists.{filter_all, none_pass}
 use Rattle.farm_sound.proofs.Where.{AllByRecursion-map}
-use Rattle.farm_sound.proofs.Group.{filter_all}
 
 module _ {R : Type 0} (cmp : R → R → Ordering) (total : IsTotalOrder cmp) (test : R → Bool) (f : R → R) (keeps : (r : R) → cmp (f r) r ≡ Equal) where
   -- rows above the first one leave it in its place
@@ -28,7 +28,8 @@ module _ {R : Type 0} (cmp : R → R → Ordering) (total : IsTotalOrder cmp) (t
   above r (c ∷ changed) rows all =
       ap (λ o. put_all cmp (match_ordering o (c ∷ r ∷ rows) (c ∷ rows) (r ∷ put cmp rows c)) changed) all.0 ∙ above r changed (put cmp rows c) all.1
 
-  changed_above : (r s : R) (rows : List R) → cmp s r ≡ Equal → AllByRecursion (λ y. cmp r y ≡ Less) rows → AllByRecursion (λ c. cmp c s ≡ Greater) (map f (filter test rows))
+  changed_above : (r s : R) (rows : List R) → cmp s r ≡ Equal → AllByRecursion (λ y. cmp r y ≡ Less) rows
+      → AllByRecursion (λ c. cmp c s ≡ Greater) (map f (filter test rows))
   changed_above r s rows same less =
       AllByRecursion-map (λ y. cmp r y ≡ Less) (λ c. cmp c s ≡ Greater) f
       (λ y is. total.congr (f y) y s (keeps y) ∙ total.antisymm y s ∙ ap ordering_reverse (total.congr s r y same ∙ is))
@@ -39,7 +40,8 @@ module _ {R : Type 0} (cmp : R → R → Ordering) (total : IsTotalOrder cmp) (t
   puts_are_change [] sorted = refl
   puts_are_change (r ∷ rows) sorted = by (test r) (puts_are_change rows sorted.1)
     where
-      by : (v : Bool) → put_all cmp rows (map f (filter test rows)) ≡ change_where test f rows → put_all cmp (r ∷ rows) (map f (cond v (r ∷ filter test rows) (filter test rows))) ≡ cond v (f r) r ∷ change_where test f rows
+      by : (v : Bool) → put_all cmp rows (map f (filter test rows)) ≡ change_where test f rows
+          → put_all cmp (r ∷ rows) (map f (cond v (r ∷ filter test rows) (filter test rows))) ≡ cond v (f r) r ∷ change_where test f rows
       by true rest =
           ap (λ o. put_all cmp (match_ordering o (f r ∷ r ∷ rows) (f r ∷ rows) (r ∷ put cmp rows (f r))) (map f (filter test rows))) (keeps r)
           ∙ above (f r) (map f (filter test rows)) rows (changed_above r (f r) rows (keeps r) sorted.0)
@@ -47,10 +49,6 @@ module _ {R : Type 0} (cmp : R → R → Ordering) (total : IsTotalOrder cmp) (t
       by false rest = above r (map f (filter test rows)) rows (changed_above r r rows (tied_itself total r) sorted.0) ∙ ap (λ rest. r ∷ rest) rest
 
 -- ---- one row
-
-none_pass : {R : Type 0} (test : R → Bool) (rows : List R) → AllByRecursion (λ r. test r ≡ false) rows → filter test rows ≡ []
-none_pass test [] all = refl
-none_pass test (r ∷ rows) all = rw all.0 (none_pass test rows all.1)
 
 -- of rows in order only the one that is found passes a test by the key
 filter_one : {R : Type 0} (cmp : R → R → Ordering) (test : R → Bool) → ((x y : R) → cmp x y ≡ Less → test x ≡ true → test y ≡ false) → (r : R) (rows : List R)

@@ -1,0 +1,227 @@
+-- The checks of a pass keep soundness.
+use Rattle.std.proofs.Common.{◌&&◌, ◌+◌, ◌<◌, ◌==◌, ◌||◌, ◌∙◌, ◌∷◌, ◌≡◌, ◌⊎◌, Bool, IsNone, IsSome, IsTrue, List, None, Option, Some, ap, arith, codes, cond, false, inl, inr, length, nat_le, refl, subst, sym, true, ℕ, []}
+use mathlib.Core.Bool.{false≢true}
+use Rattle.std.specs.Cmp.Lexicographic.{nat_list_eq_equiv}
+use Rattle.std.specs.List.{AllByRecursion, filter, fold}
+use Rattle.std.specs.List.Sorted.{IsStrictlySortedBy}
+use Rattle.std.specs.Option.{option_map, option_map_or}
+use Rattle.std.specs.Ordering.{is_eq}
+use Rattle.std.specs.Str.{bytes_eq}
+use Rattle.std.specs.declared.cmp.Ordering.TheVariants.{Less}
+use Rattle.std.proofs.lemmas.Bool.Decides.{nat_tests}
+use Rattle.std.proofs.lemmas.Map.Text.{is_eq-slice_cmp}
+use Rattle.std.proofs.lemmas.Slice.Eq.{bytes_eq-Decides}
+use Rattle.farm_types.specs.Codes.{same_health}
+use Rattle.farm_types.specs.Farm.{Farm, board_of, job_of, type_of}
+use Rattle.farm_types.specs.Pass.{check_job, check_one, checks, has_room, held, is_due, is_due_by, is_reached}
+use Rattle.farm_types.specs.Pick.{check_of, is_nobody}
+use Rattle.farm_types.specs.Proper.{is_want}
+use Rattle.farm_types.specs.Sound.{IsBoardRow, IsJobRow, IsSound, IsSteady, IsTypeRow, hold_of, job_hold}
+use Rattle.farm_types.specs.Table.{board_cmp, change_where, job_cmp, put}
+use Rattle.farm_types.proofs.WordLemmas.{no_text}
+use Rattle.farm_types.specs.Words.{IsName, is_tags, is_word}
+use Rattle.farm_types.specs.declared.rows.BoardRow.{BoardRow}
+use Rattle.farm_types.specs.declared.rows.Check.{Check}
+use Rattle.farm_types.specs.declared.rows.Health.{Health}
+use Rattle.farm_types.specs.declared.rows.Holder.{Holder}
+use Rattle.farm_types.specs.declared.rows.JobRow.{JobRow}
+use Rattle.farm_types.specs.declared.rows.State.{State}
+use Rattle.farm_types.specs.declared.rows.TypeRow.{TypeRow}
+use Rattle.farm_types.proofs.Put.{AllByRecursion-weaker, found_has, found_passes}
+use Rattle.farm_sound.proofs.Add.{IsSteady-add_job, add_job, job_of-add}
+use Rattle.farm_sound.proofs.Give.{IsFreeBoard, board_row_on, boards_on, on_board}
+use Rattle.farm_sound.proofs.Given.{IsHeldByKeys-given}
+use Rattle.farm_sound.proofs.Lists.{filter_all}
+use Rattle.farm_sound.proofs.Mapped.{IsSteady-mapped, same_job}
+use Rattle.farm_sound.proofs.Own.{fresh_job, fresh_res, itself, only_board, own_board}
+use Rattle.farm_sound.proofs.Tests.{both, nobody_from, same_number}
+use Rattle.farm_sound.proofs.Where.{AllByRecursion-both, all_true, by_cases, map_id}
+use Rattle.farm_sound.proofs.Whole.{IsWhole-add}
+
+-- ---- one check
+
+admin_name : IsName (codes "admin")
+unfolding is_word
+admin_name = refl
+
+want_of_kind : (kind : List ℕ) → IsName kind → IsTrue (is_want (record { kind = Some kind; tags = [] }))
+unfolding is_tags
+want_of_kind kind name = rw name refl
+
+-- a type that is there has a name
+kind_name : (F : Farm) (kind : List ℕ) → IsSteady F → IsSome (type_of F kind) → IsName kind
+kind_name F kind steady some = by (type_of F kind) refl some
+  where
+    by : (o : Option TypeRow) → type_of F kind ≡ o → IsSome o → IsName kind
+    by None is some = absurd (false≢true some)
+    by (Some t) is some = subst IsName ((bytes_eq-Decides t.name kind).0 (found_passes (λ (r : TypeRow). bytes_eq r.name kind) t F.types is))
+        (found_has IsTypeRow (λ r. bytes_eq r.name kind) t F.types steady.types is).name
+
+module _ (F : Farm) (b : BoardRow) (free : IsFreeBoard F b) (sound : IsSound F) where
+  abbrev row : JobRow
+  row = check_job F.next b
+
+  -- the board in the check's hands, and then the check
+  abbrev F1 : Farm
+  F1 = record F { boards = change_where (λ c. bytes_eq c.name b.name) (held (Holder.Job F.next) State.Reserved) F.boards }
+
+  row_b : IsBoardRow F b
+  row_b = found_has (IsBoardRow F) (λ r. bytes_eq r.name b.name) b F.boards sound.steady.boards free.there
+
+  steady1 : IsSteady F1
+  steady1 =
+      IsSteady-mapped F (on_board (Holder.Job F.next) b) (λ j. j) (λ r. r) (λ c. c.name ≡ b.name → c ≡ b) (λ j. Unit {0}) (λ r. Unit {0})
+      (record {
+        board_name = λ c. by_cases (λ (d : BoardRow). d.name ≡ c.name) (bytes_eq c.name b.name) (held (Holder.Job F.next) State.Reserved c) c
+            (λ _. refl) (λ _. refl);
+        board_kind = λ c. by_cases (λ (d : BoardRow). d.kind ≡ c.kind) (bytes_eq c.name b.name) (held (Holder.Job F.next) State.Reserved c) c
+            (λ _. refl) (λ _. refl);
+        job_same = same_job;
+        res_number = λ r. refl;
+        boards = only_board F sound.steady b free.there;
+        jobs = all_true F.jobs;
+        reservations = all_true F.reservations;
+        board_row = board_row_on F (Holder.Job F.next) b free;
+        job_row = λ j _ is. is;
+        res_row = λ r _ is. is;
+      })
+      (change_where (λ c. bytes_eq c.name b.name) (held (Holder.Job F.next) State.Reserved) F.boards) refl F.jobs (sym (map_id F.jobs)) F.reservations
+      (sym (map_id F.reservations)) sound.steady
+
+  board_there : IsSome (board_of F1 b.name)
+  board_there = subst IsSome (sym (boards_on F (Holder.Job F.next) b b.name ∙ ap (option_map (on_board (Holder.Job F.next) b)) free.there)) refl
+
+  check_row : IsJobRow (add_job row F1) row
+  check_row = record {
+    number = (sound.steady.next.0, omega arith);
+    apart = subst IsNone (sym (fresh_res F sound.steady F.next (omega arith))) refl;
+    owner = admin_name;
+    priority = refl;
+    want = want_of_kind b.kind (kind_name F b.kind sound.steady row_b.kind);
+    kind = row_b.kind;
+    role = tt;
+    body = omega arith;
+    text = no_text [] refl;
+    board = board_there;
+    outcome = (λ e. absurd (false≢true e), λ e. cc);
+    waits = λ e. cc;
+    holds = λ _. refl;
+    group = (omega arith, omega arith);
+    follows = λ later. absurd (later refl);
+    check = λ _. record { alone = refl; owner = refl; priority = refl; state = λ e. cc; tags = refl; role = refl; body = refl };
+  }
+
+  stays_check : (k : ℕ) (v : Bool) → (F.next == k) ≡ v
+      → (hold_of (add_job row F1) (Holder.Job k) ≡ hold_of F (Holder.Job k)) ⊎ (Holder.Job k ≡ Holder.Job F.next)
+  stays_check k true same = inr (ap Holder.Job (sym (same_number F.next k same)))
+  stays_check k false other = inl (ap (λ o. option_map_or job_hold o None) (job_of-add F1 row k ∙ ap (λ v. cond v (Some row) (job_of F k)) other))
+
+  stays_all : (h : Holder) → (hold_of (add_job row F1) h ≡ hold_of F h) ⊎ (h ≡ Holder.Job F.next)
+  stays_all Holder.Nobody = inl refl
+  stays_all (Holder.Job k) = stays_check k (F.next == k) refl
+  stays_all (Holder.Res k) = inl refl
+
+  checked_sound : length F.jobs < 100000 → F.next < 1000000000 → IsSound (add_job row F1)
+  checked_sound room numbers = record {
+    steady = IsSteady-add_job F1 row refl room numbers check_row steady1;
+    held = IsHeldByKeys-given F (add_job row F1) (Holder.Job F.next) b
+        (record {
+          free = free.nobody;
+          there = free.there;
+          nothing = ap (λ o. option_map_or job_hold o None) (fresh_job F sound.steady F.next (omega arith));
+          gets = ap (λ o. option_map_or job_hold o None) (job_of-add F1 row F.next ∙ ap (λ v. cond v (Some row) (job_of F F.next)) (itself F.next));
+          stays = stays_all;
+          boards = boards_on F (Holder.Job F.next) b;
+          rows = refl;
+        })
+        sound.held;
+    whole = IsWhole-add F row (AllByRecursion-weaker (λ m is same. absurd (omega (arith, is.number.1, is.group.0, same))) F.jobs sound.steady.jobs) sound.whole;
+  }
+
+  pub IsSound-check_one : IsSound (check_one F b)
+  IsSound-check_one = by_cases IsSound (has_room F 1) (add_job row F1) F
+      (λ room. let two = both (nat_le (length F.jobs + 1) 100000) (nat_le (F.next + 1) 1000000000) room in
+      checked_sound (let r = two.0 in grind (arith, nat_tests)) (let r = two.1 in grind (arith, nat_tests)))
+      (λ _. sound)
+
+  pub still_free : (c : BoardRow) → bytes_eq c.name b.name ≡ false → IsFreeBoard F c → IsFreeBoard (check_one F b) c
+  still_free c other is = by_cases (λ G. IsFreeBoard G c) (has_room F 1) (add_job row F1) F
+      (λ _. record {
+        there = boards_on F (Holder.Job F.next) b c.name ∙ ap (option_map (on_board (Holder.Job F.next) b)) is.there
+            ∙ ap (λ v. Some (cond v (held (Holder.Job F.next) State.Reserved c) c)) other;
+        nobody = is.nobody;
+        kept = is.kept;
+      })
+      (λ _. is)
+
+-- ---- the checks
+
+abbrev AreApartBoards : List BoardRow → Type 0
+AreApartBoards [] = Unit {0}
+AreApartBoards (b ∷ bs) = AllByRecursion (λ c. bytes_eq c.name b.name ≡ false) bs × AreApartBoards bs
+
+all_still_free : (F : Farm) (b : BoardRow) (free : IsFreeBoard F b) (sound : IsSound F) (bs : List BoardRow)
+    → AllByRecursion (λ c. bytes_eq c.name b.name ≡ false) bs → AllByRecursion (IsFreeBoard F) bs → AllByRecursion (IsFreeBoard (check_one F b)) bs
+all_still_free F b free sound bs apart all =
+    AllByRecursion-weaker (λ c two. still_free F b free sound c two.0 two.1) bs
+    (AllByRecursion-both (λ c. bytes_eq c.name b.name ≡ false) (IsFreeBoard F) bs apart all)
+
+check_all : (bs : List BoardRow) (F : Farm) → AllByRecursion (IsFreeBoard F) bs → AreApartBoards bs → IsSound F → IsSound (fold check_one F bs)
+check_all [] F all apart sound = sound
+check_all (b ∷ bs) F all apart sound =
+    check_all bs (check_one F b) (all_still_free F b all.0 sound bs apart.0 all.1) apart.1 (IsSound-check_one F b all.0 sound)
+
+due_kept : (check : Check) (t : ℕ) (b : BoardRow) → is_due_by check t b ≡ true → b.health ≡ Health.Retired → ⊥
+due_kept Check.Never t b due retired = false≢true due
+due_kept (Check.Hours n) t b due retired =
+    false≢true (ap (λ h. same_health h Health.Unknown || (same_health h Health.Good && is_reached t b (Check.Hours n))) (sym retired) ∙ due)
+due_kept (Check.Jobs n) t b due retired =
+    false≢true (ap (λ h. same_health h Health.Unknown || (same_health h Health.Good && is_reached t b (Check.Jobs n))) (sym retired) ∙ due)
+
+apart_filter : (test : BoardRow → Bool) (bs : List BoardRow) → IsStrictlySortedBy board_cmp bs → AreApartBoards (filter test bs)
+unfolding IsStrictlySortedBy
+apart_filter test [] sorted = tt
+apart_filter test (b ∷ bs) sorted = by (test b) (apart_filter test bs sorted.1)
+  where
+    by : (v : Bool) → AreApartBoards (filter test bs) → AreApartBoards (cond v (b ∷ filter test bs) (filter test bs))
+    by true rest = (
+      AllByRecursion-weaker (λ c two. nat_list_eq_equiv.symm c.name b.name ∙ sym (is_eq-slice_cmp b.name c.name) ∙ ap is_eq two.0) (filter test bs)
+          (filter_all (λ c. board_cmp b c ≡ Less) test bs sorted.0),
+      rest,
+    )
+    by false rest = rest
+
+pub IsSound-checks : (F : Farm) (t : ℕ) → IsSound F → IsSound (checks F t)
+IsSound-checks F t sound =
+    check_all (filter (is_due F t) F.boards) F
+    (AllByRecursion-weaker
+    (λ b two.
+    let due = both (is_nobody b.holder) (is_due_by (check_of F.types b.kind) t b) two.1 in
+    record { there = two.0; nobody = nobody_from b.holder due.0; kept = due_kept (check_of F.types b.kind) t b due.1 })
+    (filter (is_due F t) F.boards) (filter_all (λ b. board_of F b.name ≡ Some b) (is_due F t) F.boards (own_board F sound.steady)))
+    (apart_filter (is_due F t) F.boards sound.steady.boards_sorted) sound
+
+pub check_clock : (bs : List BoardRow) (F : Farm) → (fold check_one F bs).clock ≡ F.clock
+check_clock [] F = refl
+check_clock (b ∷ bs) F = check_clock bs (check_one F b) ∙ one (has_room F 1)
+  where
+    one : (v : Bool) → (cond v (record F {
+      jobs = put job_cmp F.jobs (check_job F.next b);
+      boards = change_where (λ c. bytes_eq c.name b.name) (held (Holder.Job F.next) State.Reserved) F.boards;
+      next = F.next + 1;
+    }) F).clock
+        ≡ F.clock
+    one true = refl
+    one false = refl
+
+pub checks_kept : (bs : List BoardRow) (F : Farm) → (fold check_one F bs).kept ≡ F.kept
+checks_kept [] F = refl
+checks_kept (b ∷ bs) F = checks_kept bs (check_one F b) ∙ one (has_room F 1)
+  where
+    one : (v : Bool) → (cond v (record F {
+      jobs = put job_cmp F.jobs (check_job F.next b);
+      boards = change_where (λ c. bytes_eq c.name b.name) (held (Holder.Job F.next) State.Reserved) F.boards;
+      next = F.next + 1;
+    }) F).kept ≡ F.kept
+    one true = refl
+    one false = refl

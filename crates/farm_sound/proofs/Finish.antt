@@ -1,0 +1,150 @@
+-- Finish keeps soundness.
+use Rattle.std.proofs.Common.{◌+◌, ◌==◌, ◌||◌, ◌∙◌, ◌≡◌, ◌≤◌, IsSome, IsTrue, Some, ap, arith, cond, min, refl, subst, sym, ℕ}
+use mathlib.Core.Bool.{false≢true}
+use Rattle.farm_types.specs.Change.{after_check, after_job, finish_one, graded}
+use Rattle.farm_types.specs.Codes.{same_health, same_job_state, same_outcome}
+use Rattle.farm_types.specs.Farm.{Farm, job_of, type_of}
+use Rattle.farm_types.specs.Pass.{idle}
+use Rattle.farm_types.specs.Proper.{has_no_name_tag}
+use Rattle.farm_types.specs.Sound.{IsBoardRow, IsSound, phase}
+use Rattle.farm_types.specs.Words.{IsName, IsTags}
+use Rattle.farm_types.specs.declared.rows.BoardRow.{BoardRow}
+use Rattle.farm_types.specs.declared.rows.Health.{Health}
+use Rattle.farm_types.specs.declared.rows.Holder.{Holder}
+use Rattle.farm_types.specs.declared.rows.JobRow.{JobRow}
+use Rattle.farm_types.specs.declared.rows.JobState.{JobState}
+use Rattle.farm_types.specs.declared.rows.Outcome.{Outcome}
+use Rattle.farm_types.proofs.Put.{found_passes}
+use Rattle.farm_sound.proofs.ChangeJobs.{IsSound-change_jobs}
+use Rattle.farm_sound.proofs.Own.{only_job}
+use Rattle.farm_sound.proofs.Rows.{hold_nothing, job_row_in, left_off}
+use Rattle.farm_sound.proofs.Tests.{same_number}
+use Rattle.farm_sound.proofs.Where.{all_true, by_cases}
+use Rattle.farm_sound.proofs.Whole.{Alike, IsWhole-map_by}
+
+-- ---- the board afterwards
+
+-- what a board keeps after a job
+record Used (F : Farm) (b c : BoardRow) : Type 0 where
+  pub name : c.name ≡ b.name
+  pub kind : c.kind ≡ b.kind
+  pub tags : c.tags ≡ b.tags
+  pub since : c.jobs_since ≤ 1000000
+  pub checked : c.last_check ≤ F.clock
+
+used_graded : (F : Farm) (h : Health) (b c : BoardRow) → Used F b c → Used F b (graded h c)
+used_graded F h b c is = by_cases (Used F b) (same_health c.health Health.Good || same_health c.health Health.Unknown) (record c { health = h }) c
+    (λ _. record { name = is.name; kind = is.kind; tags = is.tags; since = is.since; checked = is.checked }) (λ _. is)
+
+used_job : (F : Farm) (o : Outcome) (b : BoardRow) → IsBoardRow F b → Used F b (after_job o b)
+used_job F o b is =
+    let used : Used F b (record b { jobs_since = min (b.jobs_since + 1) 1000000 }) =
+    record { name = refl; kind = refl; tags = refl; since = omega arith; checked = is.checked } in
+    by_cases (Used F b) (same_outcome o Outcome.Infra) (graded Health.Unknown (record b { jobs_since = min (b.jobs_since + 1) 1000000 }))
+    (record b { jobs_since = min (b.jobs_since + 1) 1000000 })
+    (λ _. used_graded F Health.Unknown b (record b { jobs_since = min (b.jobs_since + 1) 1000000 }) used) (λ _. used)
+
+used_check : (F : Farm) (o : Outcome) (b : BoardRow) → IsBoardRow F b → Used F b (after_check o F.clock b)
+used_check F Outcome.Complete b is =
+    used_graded F Health.Good b (record b { jobs_since = 0; last_check = F.clock })
+    (record { name = refl; kind = refl; tags = refl; since = omega arith; checked = omega arith })
+used_check F Outcome.Incomplete b is = used_graded F Health.Bad b b (record { name = refl; kind = refl; tags = refl; since = is.since; checked = is.checked })
+used_check F Outcome.Infra b is = used_graded F Health.Bad b b (record { name = refl; kind = refl; tags = refl; since = is.since; checked = is.checked })
+used_check F Outcome.Canceled b is = record { name = refl; kind = refl; tags = refl; since = is.since; checked = is.checked }
+
+idle_row : (F : Farm) (b c : BoardRow) → Used F b c → IsBoardRow F b → IsBoardRow F (idle c)
+idle_row F b c used is = record {
+  name = subst IsName (sym used.name) is.name;
+  kind = subst (λ k. IsSome (type_of F k)) (sym used.kind) is.kind;
+  tags = subst IsTags (sym used.tags) is.tags;
+  no_name_tag = subst (λ t. IsTrue (has_no_name_tag t)) (sym used.tags) is.no_name_tag;
+  since = used.since;
+  checked = used.checked;
+  retired = λ _. refl;
+}
+
+-- ---- the job
+
+-- a job that is Running or Canceling is over, and its board is free
+module _ (F : Farm) (n : ℕ) (j : JobRow) (named : Outcome) (there : job_of F n ≡ Some j) (started : phase j.state ≡ 2)
+    (going : j.state ≡ JobState.Finished → ⊥) where
+  abbrev outcome : Outcome
+  outcome = cond (same_job_state j.state JobState.Canceling) Outcome.Canceled named
+
+  abbrev after : BoardRow → BoardRow
+  after b = cond j.checking (after_check outcome F.clock b) (after_job outcome b)
+
+  abbrev over : JobRow → JobRow
+  over m = record m { state = JobState.Finished; outcome = Some outcome }
+
+  used_after : (b : BoardRow) → IsBoardRow F b → Used F b (after b)
+  used_after b is = by_cases (Used F b) j.checking (after_check outcome F.clock b) (after_job outcome b) (λ _. used_check F outcome b is)
+      (λ _. used_job F outcome b is)
+
+  name_after : (b : BoardRow) → (after b).name ≡ b.name
+  name_after b = by_cases (λ (c : BoardRow). c.name ≡ b.name) j.checking (after_check outcome F.clock b) (after_job outcome b) (λ _. checked outcome)
+      (λ _. job_used outcome)
+    where
+      graded_name : (h : Health) (c : BoardRow) → (graded h c).name ≡ c.name
+      graded_name h c = by_cases (λ (d : BoardRow). d.name ≡ c.name) (same_health c.health Health.Good || same_health c.health Health.Unknown)
+          (record c { health = h }) c (λ _. refl) (λ _. refl)
+
+      checked : (o : Outcome) → (after_check o F.clock b).name ≡ b.name
+      checked Outcome.Complete = graded_name Health.Good (record b { jobs_since = 0; last_check = F.clock })
+      checked Outcome.Incomplete = graded_name Health.Bad b
+      checked Outcome.Infra = graded_name Health.Bad b
+      checked Outcome.Canceled = refl
+
+      job_used : (o : Outcome) → (after_job o b).name ≡ b.name
+      job_used o = by_cases (λ (d : BoardRow). d.name ≡ b.name) (same_outcome o Outcome.Infra)
+          (graded Health.Unknown (record b { jobs_since = min (b.jobs_since + 1) 1000000 }))
+          (record b { jobs_since = min (b.jobs_since + 1) 1000000 })
+          (λ _. graded_name Health.Unknown (record b { jobs_since = min (b.jobs_since + 1) 1000000 })) (λ _. refl)
+
+  kind_after : (b : BoardRow) → (after b).kind ≡ b.kind
+  kind_after b = by_cases (λ (c : BoardRow). c.kind ≡ b.kind) j.checking (after_check outcome F.clock b) (after_job outcome b) (λ _. checked outcome)
+      (λ _. job_used outcome)
+    where
+      graded_kind : (h : Health) (c : BoardRow) → (graded h c).kind ≡ c.kind
+      graded_kind h c = by_cases (λ (d : BoardRow). d.kind ≡ c.kind) (same_health c.health Health.Good || same_health c.health Health.Unknown)
+          (record c { health = h }) c (λ _. refl) (λ _. refl)
+
+      checked : (o : Outcome) → (after_check o F.clock b).kind ≡ b.kind
+      checked Outcome.Complete = graded_kind Health.Good (record b { jobs_since = 0; last_check = F.clock })
+      checked Outcome.Incomplete = graded_kind Health.Bad b
+      checked Outcome.Infra = graded_kind Health.Bad b
+      checked Outcome.Canceled = refl
+
+      job_used : (o : Outcome) → (after_job o b).kind ≡ b.kind
+      job_used o = by_cases (λ (d : BoardRow). d.kind ≡ b.kind) (same_outcome o Outcome.Infra)
+          (graded Health.Unknown (record b { jobs_since = min (b.jobs_since + 1) 1000000 }))
+          (record b { jobs_since = min (b.jobs_since + 1) 1000000 })
+          (λ _. graded_kind Health.Unknown (record b { jobs_since = min (b.jobs_since + 1) 1000000 })) (λ _. refl)
+
+  alike_over : (k m : JobRow) → (k.number ≡ j.number → k ≡ j) → (m.number ≡ j.number → m ≡ j) → Alike k m
+      → Alike (cond (k.number == j.number) (over k) k) (cond (m.number == j.number) (over m) m)
+  alike_over k m ok om alike =
+      by_cases (λ x. Alike x (cond (m.number == j.number) (over m) m)) (k.number == j.number) (over k) k
+      (λ kso. by_cases (λ y. Alike (over k) y) (m.number == j.number) (over m) m (λ _ _. refl)
+      (λ _ same. alike same ∙ ap (λ (x : JobRow). phase x.state) (ok (same_number k.number j.number kso)) ∙ started))
+      (λ _. by_cases (λ y. Alike k y) (m.number == j.number) (over m) m
+      (λ mso same. sym started ∙ sym (ap (λ (x : JobRow). phase x.state) (om (same_number m.number j.number mso))) ∙ alike same)
+      (λ _. alike))
+
+  pub IsSound-finish : IsSound F → IsSound (finish_one F.clock named F j)
+  IsSound-finish sound =
+      let at : j.number ≡ n = same_number j.number n (found_passes (λ (r : JobRow). r.number == n) j F.jobs there) in
+      let only = only_job F sound.steady j.number j (ap (job_of F) at ∙ there) in
+      IsSound-change_jobs F (λ m. m.number == j.number) over (λ b. idle (after b)) (λ m. Unit {0})
+      (record {
+        jobs = all_true F.jobs;
+        same = λ m. record { number = refl; group = refl; owner = refl; priority = refl; checking = refl };
+        row = λ m so _ is. job_row_in F m JobState.Finished (Some outcome) m.board is.board (λ _. refl, λ _. refl) (λ e. absurd (false≢true e)) (λ e. cc) is;
+        board_name = name_after;
+        board_kind = kind_after;
+        board_row = λ b so is. idle_row F b (after b) (used_after b is) is;
+        none = λ m so p is. hold_nothing (Holder.Job m.number) m.board;
+        left = λ m b so p is. left_off (Holder.Job m.number) m.board (idle (after b)) refl refl;
+      })
+      (IsWhole-map_by F (λ m. m.number ≡ j.number → m ≡ j) (λ m. cond (m.number == j.number) (over m) m) only alike_over sound.whole)
+      sound

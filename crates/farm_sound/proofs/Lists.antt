@@ -1,0 +1,112 @@
+-- Lists: what holds of each element, or of each two, and which pass a test.
+use Rattle.std.proofs.Common.{◌++◌, ◌∙◌, ◌∷◌, ◌≡◌, ◌≤◌, Bool, List, None, Some, arith, cond, false, inl, inr, length, map, refl, subst, sym, true, []}
+use mathlib.Core.Bool.{true≢false}
+use Rattle.std.specs.List.{AllByRecursion, filter, find, list_all, list_any}
+use Rattle.std.specs.List.Sorted.{IsStrictlySortedBy}
+use Rattle.std.specs.declared.cmp.Ordering.{Ordering}
+use Rattle.std.specs.declared.cmp.Ordering.TheVariants.{Less}
+use Rattle.farm_types.specs.Pick.{Among}
+use Rattle.farm_types.specs.Sound.{EachTwo}
+use Rattle.farm_types.proofs.Put.{AllByRecursion-weaker}
+use Rattle.farm_sound.proofs.Tests.{both, both_false}
+use Rattle.farm_sound.proofs.Where.{AllByRecursion-both, AllByRecursion-map}
+
+pub all_join : {A : Type 0} (P : A → Type 0) (xs ys : List A) → AllByRecursion P xs → AllByRecursion P ys → AllByRecursion P (xs ++ ys)
+all_join P [] ys all more = more
+all_join P (x ∷ xs) ys all more = (all.0, all_join P xs ys all.1 more)
+
+pub none_found : {R : Type 0} (test : R → Bool) (rows : List R) → AllByRecursion (λ r. test r ≡ false) rows → find test rows ≡ None
+none_found test [] all = refl
+none_found test (r ∷ rows) all = rw all.0 (none_found test rows all.1)
+
+pub among_has : {A : Type 0} (P : A → Type 0) (x : A) (xs : List A) → AllByRecursion P xs → Among x xs → P x
+among_has P x [] all at = absurd at
+among_has P x (y ∷ ys) all (inl same) = subst P (sym same) all.0
+among_has P x (y ∷ ys) all (inr at) = among_has P x ys all.1 at
+
+-- ---- elements that pass a test
+
+pub all_tested : {A : Type 0} (test : A → Bool) (xs : List A) → list_all test xs ≡ true → AllByRecursion (λ x. test x ≡ true) xs
+all_tested test [] is = tt
+all_tested test (x ∷ xs) is = let two = both (test x) (list_all test xs) is in (two.0, all_tested test xs two.1)
+
+pub filter_all : {A : Type 0} (P : A → Type 0) (test : A → Bool) (xs : List A) → AllByRecursion P xs
+    → AllByRecursion (λ x. P x × (test x ≡ true)) (filter test xs)
+filter_all P test [] all = tt
+filter_all P test (x ∷ xs) all = by (test x) refl (filter_all P test xs all.1)
+  where
+    by : (v : Bool) → test x ≡ v → AllByRecursion (λ x. P x × (test x ≡ true)) (filter test xs)
+        → AllByRecursion (λ x. P x × (test x ≡ true)) (cond v (x ∷ filter test xs) (filter test xs))
+    by true is rest = ((all.0, is), rest)
+    by false is rest = rest
+
+-- what holds of those that pass
+pub filter_back : {A : Type 0} (P : A → Type 0) (test : A → Bool) (xs : List A) → AllByRecursion P (filter test xs)
+    → AllByRecursion (λ x. test x ≡ true → P x) xs
+filter_back P test [] all = tt
+filter_back P test (x ∷ xs) all = by (test x) refl all (λ rest. filter_back P test xs rest)
+  where
+    by : (v : Bool) → test x ≡ v → AllByRecursion P (cond v (x ∷ filter test xs) (filter test xs))
+        → (AllByRecursion P (filter test xs) → AllByRecursion (λ x. test x ≡ true → P x) xs)
+        → (test x ≡ true → P x) × AllByRecursion (λ x. test x ≡ true → P x) xs
+    by true is all rest = (λ _. all.0, rest all.1)
+    by false is all rest = (λ yes. absurd (true≢false (sym yes ∙ is)), rest all)
+
+-- none of a list passes
+pub none_passes : {A : Type 0} (test : A → Bool) (xs : List A) → list_any test xs ≡ false → AllByRecursion (λ x. test x ≡ false) xs
+none_passes test [] is = tt
+none_passes test (x ∷ xs) is = let two = both_false (test x) (list_any test xs) is in (two.0, none_passes test xs two.1)
+
+pub none_pass : {R : Type 0} (test : R → Bool) (rows : List R) → AllByRecursion (λ r. test r ≡ false) rows → filter test rows ≡ []
+none_pass test [] all = refl
+none_pass test (r ∷ rows) all = rw all.0 (none_pass test rows all.1)
+
+-- none passes where none is found
+pub all_fail : {A : Type 0} (test : A → Bool) (xs : List A) → find test xs ≡ None → AllByRecursion (λ x. test x ≡ false) xs
+all_fail test [] is = tt
+all_fail test (x ∷ xs) is = by (test x) refl is (λ later. all_fail test xs later)
+  where
+    by : (v : Bool) → test x ≡ v → cond v (Some x) (find test xs) ≡ None → (find test xs ≡ None → AllByRecursion (λ y. test y ≡ false) xs)
+        → (test x ≡ false) × AllByRecursion (λ y. test y ≡ false) xs
+    by true at is rest = cc
+    by false at is rest = (at, rest is)
+
+pub length_filter : {A : Type 0} (test : A → Bool) (xs : List A) → length (filter test xs) ≤ length xs
+length_filter test [] = omega arith
+length_filter test (x ∷ xs) = by (test x) (length_filter test xs)
+  where
+    by : (v : Bool) → length (filter test xs) ≤ length xs → length (cond v (x ∷ filter test xs) (filter test xs)) ≤ length (x ∷ xs)
+    by true low = omega arith
+    by false low = omega arith
+
+-- ---- each two
+
+pub each_append : {A : Type 0} (R : A → A → Type 0) (xs ys : List A) → EachTwo R xs → EachTwo R ys → AllByRecursion (λ x. AllByRecursion (R x) ys) xs
+    → EachTwo R (xs ++ ys)
+each_append R [] ys here there across = there
+each_append R (x ∷ xs) ys here there across = (all_join (R x) xs ys here.0 across.0, each_append R xs ys here.1 there across.1)
+
+pub each_map : {A B : Type 0} (S : A → A → Type 0) (R : B → B → Type 0) (f : A → B) → ((a b : A) → S a b → R (f a) (f b)) → (xs : List A) → EachTwo S xs
+    → EachTwo R (map f xs)
+each_map S R f follows [] each = tt
+each_map S R f follows (x ∷ xs) each = (AllByRecursion-map (S x) (R (f x)) f (λ y. follows x y) xs each.0, each_map S R f follows xs each.1)
+
+pub each_with : {A : Type 0} (S : A → A → Type 0) (P : A → Type 0) (xs : List A) → EachTwo S xs → AllByRecursion P xs → EachTwo (λ a b. S a b × P a × P b) xs
+each_with S P [] each all = tt
+each_with S P (x ∷ xs) each all =
+    (AllByRecursion-weaker (λ y two. (two.0, all.0, two.1)) xs (AllByRecursion-both (S x) P xs each.0 all.1), each_with S P xs each.1 all.1)
+
+-- of rows in order those that pass are in order
+pub each_sorted : {A : Type 0} (cmp : A → A → Ordering) (test : A → Bool) (xs : List A) → IsStrictlySortedBy cmp xs
+    → EachTwo (λ a b. cmp a b ≡ Less) (filter test xs)
+unfolding IsStrictlySortedBy
+each_sorted cmp test [] sorted = tt
+each_sorted cmp test (x ∷ xs) sorted = by (test x) (each_sorted cmp test xs sorted.1)
+  where
+    by : (v : Bool) → EachTwo (λ a b. cmp a b ≡ Less) (filter test xs) → EachTwo (λ a b. cmp a b ≡ Less) (cond v (x ∷ filter test xs) (filter test xs))
+    by true rest = (AllByRecursion-weaker (λ y two. two.0) (filter test xs) (filter_all (λ y. cmp x y ≡ Less) test xs sorted.0), rest)
+    by false rest = rest
+
+pub each_weaker : {A : Type 0} (R S : A → A → Type 0) → ((a b : A) → R a b → S a b) → (xs : List A) → EachTwo R xs → EachTwo S xs
+each_weaker R S follows [] each = tt
+each_weaker R S follows (x ∷ xs) each = (AllByRecursion-weaker (follows x) xs each.0, each_weaker R S follows xs each.1)

@@ -1,0 +1,95 @@
+-- What the tests of numbers and states say.
+use Rattle.std.proofs.Common.{◌&&◌, ◌==◌, ◌||◌, ◌≡◌, Bool, arith, false, not, refl, subst, sym, true, ℕ}
+use mathlib.Core.Bool.{false≢true}
+use Rattle.std.proofs.lemmas.Bool.Decides.{nat_tests}
+use Rattle.farm_types.specs.Codes.{same_health, same_job_state, same_res_state}
+use Rattle.farm_types.specs.Pick.{is_nobody}
+use Rattle.farm_types.specs.Sound.{phase}
+use Rattle.farm_types.specs.declared.rows.Health.{Health}
+use Rattle.farm_types.specs.declared.rows.Holder.{Holder}
+use Rattle.farm_types.specs.declared.rows.JobState.{JobState}
+use Rattle.farm_types.specs.declared.rows.ResState.{ResState}
+
+pub both : (a b : Bool) → (a && b) ≡ true → (a ≡ true) × (b ≡ true)
+both true b is = (refl, is)
+both false b is = absurd (false≢true is)
+
+pub same_number : (a b : ℕ) → (a == b) ≡ true → a ≡ b
+same_number a b is = grind (arith, nat_tests)
+
+pub both_false : (a b : Bool) → (a || b) ≡ false → (a ≡ false) × (b ≡ false)
+both_false true b is = absurd (false≢true (sym is))
+both_false false b is = (refl, is)
+
+pub not_false : (b : Bool) → not b ≡ false → b ≡ true
+not_false true is = refl
+not_false false is = absurd (false≢true (sym is))
+
+-- ---- states
+
+pub running_from : (s : JobState) → same_job_state s JobState.Running ≡ true → s ≡ JobState.Running
+running_from JobState.Submitted is = absurd (false≢true is)
+running_from JobState.Scheduled is = absurd (false≢true is)
+running_from JobState.Running is = refl
+running_from JobState.Canceling is = absurd (false≢true is)
+running_from JobState.Finished is = absurd (false≢true is)
+
+pub submitted_from : (s : JobState) → same_job_state s JobState.Submitted ≡ true → s ≡ JobState.Submitted
+submitted_from JobState.Submitted is = refl
+submitted_from JobState.Scheduled is = absurd (false≢true is)
+submitted_from JobState.Running is = absurd (false≢true is)
+submitted_from JobState.Canceling is = absurd (false≢true is)
+submitted_from JobState.Finished is = absurd (false≢true is)
+
+pub scheduled_from : (s : JobState) → same_job_state s JobState.Scheduled ≡ true → s ≡ JobState.Scheduled
+scheduled_from JobState.Scheduled is = refl
+scheduled_from JobState.Submitted is = absurd (false≢true is)
+scheduled_from JobState.Running is = absurd (false≢true is)
+scheduled_from JobState.Canceling is = absurd (false≢true is)
+scheduled_from JobState.Finished is = absurd (false≢true is)
+
+pub started_from : (s : JobState) → (same_job_state s JobState.Running || same_job_state s JobState.Canceling) ≡ true
+    → (phase s ≡ 2) × (s ≡ JobState.Finished → ⊥)
+started_from JobState.Running is = (refl, λ e. cc)
+started_from JobState.Canceling is = (refl, λ e. cc)
+started_from JobState.Submitted is = absurd (false≢true is)
+started_from JobState.Scheduled is = absurd (false≢true is)
+started_from JobState.Finished is = absurd (false≢true is)
+
+pub waiting_from : (s : ResState) → same_res_state s ResState.Waiting ≡ true → s ≡ ResState.Waiting
+waiting_from ResState.Waiting is = refl
+waiting_from ResState.Allocated is = absurd (false≢true is)
+waiting_from ResState.Acquired is = absurd (false≢true is)
+waiting_from ResState.Expired is = absurd (false≢true is)
+waiting_from ResState.Canceled is = absurd (false≢true is)
+
+pub allocated_from : (s : ResState) → same_res_state s ResState.Allocated ≡ true → s ≡ ResState.Allocated
+allocated_from ResState.Allocated is = refl
+allocated_from ResState.Waiting is = absurd (false≢true is)
+allocated_from ResState.Acquired is = absurd (false≢true is)
+allocated_from ResState.Expired is = absurd (false≢true is)
+allocated_from ResState.Canceled is = absurd (false≢true is)
+
+pub acquired_from : (s : ResState) → same_res_state s ResState.Acquired ≡ true → s ≡ ResState.Acquired
+acquired_from ResState.Acquired is = refl
+acquired_from ResState.Waiting is = absurd (false≢true is)
+acquired_from ResState.Allocated is = absurd (false≢true is)
+acquired_from ResState.Expired is = absurd (false≢true is)
+acquired_from ResState.Canceled is = absurd (false≢true is)
+
+-- ---- holders
+
+pub nobody_from : (h : Holder) → is_nobody h ≡ true → h ≡ Holder.Nobody
+nobody_from Holder.Nobody is = refl
+nobody_from (Holder.Job n) is = absurd (false≢true is)
+nobody_from (Holder.Res n) is = absurd (false≢true is)
+
+nobody_from_not : (h : Holder) → not (is_nobody h) ≡ false → h ≡ Holder.Nobody
+nobody_from_not Holder.Nobody is = refl
+nobody_from_not (Holder.Job n) is = absurd (false≢true (sym is))
+nobody_from_not (Holder.Res n) is = absurd (false≢true (sym is))
+
+-- a Retired board has no holder
+pub retired_idle : (health : Health) (h : Holder) → (same_health health Health.Retired && not (is_nobody h)) ≡ false → health ≡ Health.Retired
+    → h ≡ Holder.Nobody
+retired_idle health h is retired = nobody_from_not h (subst (λ x. (same_health x Health.Retired && not (is_nobody h)) ≡ false) retired is)
