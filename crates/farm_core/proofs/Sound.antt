@@ -40,7 +40,7 @@ module _ (F : Farm) (sound : IsSound F) where
   small_board b is = record {
     held_by = small_holder b b.holder is.1;
     jobs_since = omega (arith, is.0.since);
-    last_check = omega (arith, is.0.checked, sound.steady.clock)
+    last_check = omega (arith, is.0.checked, sound.steady.clock);
   }
 
   pub IsOrderly-sound : IsOrderly F
@@ -54,14 +54,18 @@ module _ (F : Farm) (sound : IsSound F) where
     small_boards = AllByRecursion-weaker small_board F.boards (AllByRecursion-both (IsBoardRow F) (λ b. IsHeldBy F b b.holder) F.boards sound.steady.boards sound.held.boards);
     small_jobs = AllByRecursion-weaker (λ r is. record { number = omega (arith, is.number.1, sound.steady.next.1); group = omega (arith, is.group.0, is.number.1, sound.steady.next.1) }) F.jobs sound.steady.jobs;
     small_reservations = AllByRecursion-weaker (λ r is. record { number = omega (arith, is.number.1, sound.steady.next.1); deadline = omega (arith, is.deadline, sound.steady.clock) }) F.reservations sound.steady.reservations;
-    near = AllByRecursion-weaker (λ r is. is.group) F.jobs sound.steady.jobs
+    near = AllByRecursion-weaker (λ r is. is.group) F.jobs sound.steady.jobs;
   }
 
 -- the changed rows' numbers and the sound farm's own three are small
 pub AreSmall-sound : (c : Changes) (G : Farm) → AreSmallRows c → c.meta ≡ record { clock = G.clock; count = G.count; next = G.next } → IsSound G → AreSmall c
 AreSmall-sound c G rows meta sound = record {
-  types = rows.types; boards = rows.boards; jobs = rows.jobs; reservations = rows.reservations; kept = rows.kept;
+  types = rows.types;
+  boards = rows.boards;
+  jobs = rows.jobs;
+  reservations = rows.reservations;
+  kept = rows.kept;
   clock = rw (ap (λ (m : MetaRow). m.clock) meta) (omega (arith, sound.steady.clock));
   count = rw (ap (λ (m : MetaRow). m.count) meta) sound.steady.count;
-  next = rw (ap (λ (m : MetaRow). m.next) meta) (omega (arith, sound.steady.next.1))
+  next = rw (ap (λ (m : MetaRow). m.next) meta) (omega (arith, sound.steady.next.1));
 }

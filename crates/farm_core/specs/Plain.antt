@@ -4,6 +4,12 @@ use Rattle.farm_core.specs.declared.tables.Tables.{Tables}
 
 abbrev pub plain : Tables → Farm
 plain t = record {
-  types = t.types.items; boards = t.boards.items; jobs = t.jobs.items; reservations = t.reservations.items; kept = t.kept;
-  clock = t.clock; count = t.count; next = t.next
+  types = t.types.items;
+  boards = t.boards.items;
+  jobs = t.jobs.items;
+  reservations = t.reservations.items;
+  kept = t.kept;
+  clock = t.clock;
+  count = t.count;
+  next = t.next;
 }

@@ -8,7 +8,7 @@ ghost use Rattle.farm_core.specs.Plain.{plain};
 ghost use Rattle.farm_core.specs.Orderly.{IsOrderly};
 ghost use Rattle.farm_core.specs.Tracks.{Tracks, AreSmallRows, IsSmallReply};
 
-use crate::tables::{no_changes, Tables};
+use crate::tables::{Tables, no_changes};
 use farm_types::calls::{Call, Changes, Cmd};
 use farm_types::rows::{KeptRow, MetaRow, Reply};
 use std::alloc::AllocError;
@@ -36,12 +36,7 @@ impl Tables {
     }
 
     /// Keeps the reply under the call's key, if it has one.
-    fn keep(
-        &mut self,
-        changes: &mut Changes,
-        call: &Call,
-        reply: Reply,
-    ) -> Result<(), AllocError>
+    fn keep(&mut self, changes: &mut Changes, call: &Call, reply: Reply) -> Result<(), AllocError>
         requires orderly { IsOrderly (plain self.old) }
         requires small { IsSmallReply reply }
         ensures farm { OnOk result (plain self.new ≡ keep call.entry.now reply (plain self.old)) }

@@ -16,10 +16,15 @@ use farm_types::words::Name;
 const LAST_MOMENT: u64 = 250_000_000_000;
 /// The most rows of each table, and of boards of one type.
 const MOST_TYPES: usize = 64;
+
 const MOST_BOARDS: usize = 256;
+
 const MOST_OF_TYPE: usize = 64;
+
 const MOST_JOBS: usize = 100_000;
+
 const MOST_RESERVATIONS: usize = 100_000;
+
 const MOST_KEPT: usize = 300_000;
 /// Numbers of jobs and reservations are below this one.
 const NUMBERS_END: u64 = 1_000_000_000;

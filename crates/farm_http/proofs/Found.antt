@@ -1,5 +1,5 @@
 -- Where a head stands at the front of the input, nothing is refused for want of a head.
-use Rattle.std.proofs.Common.{◌≡◌, ℕ, ◌+◌, ◌<◌, ◌≤◌, List, [], ◌∷◌, ◌++◌, length, get_or, take, refl, sym, ap, subst, ◌∙◌, append-nil, arith, length-append, inl, inr}
+use Rattle.std.proofs.Common.{◌≡◌, ℕ, ◌+◌, ◌<◌, ◌≤◌, List, [], ◌∷◌, ◌++◌, length, get_or, take, sym, ap, ◌∙◌, append-nil, arith, length-append, inl, inr}
 use Rattle.std.proofs.lemmas.List.{take-append-le, get_or-take}
 use Rattle.std.proofs.Math.Seq.{get_or-append_seam, take-append_seam}
 use Rattle.httparse.specs.Grammar.{RequestHead, ReadsRequest, print_request}

@@ -1,9 +1,9 @@
 -- Heads end in a line feed, so the first prefix that is one ends with its last line.
-use Rattle.std.proofs.Common.{◌≡◌, ◌≢◌, ℕ, ◌+◌, ◌-◌, ◌<◌, ◌≤◌, min, List, [], ◌∷◌, ◌++◌, length, get_or, take, drop, set, map, refl, sym, ap, subst, ◌∙◌, append_assoc, append-nil, arith, suc, inl, inr, length-append, below_more}
-use Rattle.std.proofs.lemmas.List.{get_or-set_other, take-set-le, get_or-take, take-take, length-take, length-map, take-append-le, get_or-append-add}
+use Rattle.std.proofs.Common.{◌≡◌, ◌≢◌, ℕ, ◌+◌, ◌-◌, ◌<◌, ◌≤◌, min, List, [], ◌∷◌, ◌++◌, length, get_or, take, drop, set, refl, sym, ap, subst, ◌∙◌, append_assoc, append-nil, arith, suc, length-append, below_more}
+use Rattle.std.proofs.lemmas.List.{get_or-set_other, take-set-le, get_or-take, take-take, length-take, length-map}
 use Rattle.std.proofs.Math.Seq.{get_or-append_seam, take-append_seam}
-use Rattle.httparse.specs.Grammar.{RequestHead, ReadsRequest, LineEnd, crlf, lf, print_end, print_request, HasNoRequest, Field}
-use Rattle.httparse.specs.Spans.{IsRequestOf, IsRequestWithin, header_bytes, name_and_value}
+use Rattle.httparse.specs.Grammar.{RequestHead, ReadsRequest, LineEnd, crlf, lf, print_end, print_request}
+use Rattle.httparse.specs.Spans.{IsRequestOf, header_bytes, name_and_value}
 use Rattle.httparse.specs.declared.spans.HeaderSpan.{HeaderSpan}
 use Rattle.httparse.specs.declared.spans.RequestSpans.{RequestSpans}
 use Rattle.farm_http.specs.Heads.{IsHead, IsOpen, OpenBelow}

@@ -1,5 +1,5 @@
 -- A head and a body behind it.
-use Rattle.std.proofs.Common.{◌≡◌, ℕ, ◌+◌, ◌-◌, ◌<◌, ◌≤◌, List, [], ◌++◌, length, take, drop, ap, sym, subst, ◌∙◌, refl, append-nil, Ok, arith, inl, inr}
+use Rattle.std.proofs.Common.{◌≡◌, ℕ, ◌+◌, ◌≤◌, List, ◌++◌, length, take, drop, ap, sym, subst, ◌∙◌, append-nil, Ok, inr}
 use Rattle.std.specs.Prelude.{Option}
 use Rattle.std.specs.Io.KnownBytes.{Consumes}
 use Rattle.std.proofs.KnownBytes.{Consumes-trans}
@@ -11,7 +11,7 @@ use Rattle.httparse.specs.Grammar.{RequestHead, print_request}
 use Rattle.farm_http.specs.Fields.{body_length}
 use Rattle.farm_http.specs.Heads.{IsHead}
 use Rattle.farm_http.specs.Requests.{IsRequestOf}
-use Rattle.farm_http.specs.Faults.{BodyFails, Fails, IsCut}
+use Rattle.farm_http.specs.Faults.{BodyFails, Fails}
 use Rattle.farm_http.specs.declared.fault.WireFault.{WireFault}
 use Rattle.farm_http.specs.declared.fault.WireFault.TheVariants.{NoMemory, Read, Write, Refused}
 

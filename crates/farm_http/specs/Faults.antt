@@ -1,5 +1,5 @@
 -- What a fault says of the bytes that were taken and of the reader.
-use Rattle.std.specs.Prelude.{◌≡◌, ℕ, ◌<◌, Option, List, [], length, take, Result, Ok, Err, ⊤}
+use Rattle.std.specs.Prelude.{◌≡◌, ℕ, ◌<◌, Option, Some, List, [], length, take, Result, Ok, Err, ⊤}
 use Rattle.std.specs.Io.KnownBytes.{Appends, Consumes, IsAtEnd}
 use Rattle.farm_types.specs.declared.refusal.TheConstants.{BAD_REQUEST}
 use Rattle.farm_http.specs.declared.fault.WireFault.{WireFault}
@@ -28,7 +28,8 @@ BodyFails n used AtEnd Spent Read = Spent
 BodyFails n used AtEnd Spent Write = ⊥
 BodyFails n used AtEnd Spent (Refused refusal) = IsCut n used AtEnd refusal.code
 
--- reading a request fails after these bytes: for want of memory before the first, and Read only of a spent reader
+-- reading a request fails after these bytes: for want of memory before the first, and with Read
+-- only where the reader is spent
 abbrev pub Fails : List ℕ → Type 0 → Type 0 → WireFault → Type 0
 Fails used AtEnd Spent NoMemory = used ≡ []
 Fails used AtEnd Spent Read = Spent
@@ -47,6 +48,10 @@ Gives input used Spent (Err fault) = Fails used (used ≡ input) Spent fault
 -- a writer gains a part of the bytes from their front, and not all of them
 abbrev pub WritesPrefix : Option (List ℕ) → Option (List ℕ) → List ℕ → Type 0
 WritesPrefix old new bytes = (n : ℕ) × (n < length bytes) × Appends old new (take n bytes)
+
+-- a reader with this input loses the bytes that reading takes, with this result
+abbrev pub TakesFrom : List ℕ → Option (List ℕ) → Type 0 → Result Taken WireFault → Type 0
+TakesFrom input new Spent result = (used : List ℕ) × Consumes (Some input) new used × Gives input used Spent result
 
 -- that request is taken, unless memory is refused or the reader spent
 abbrev pub IsTaken : List ℕ → ℕ → Type 0 → Result Taken WireFault → Type 0

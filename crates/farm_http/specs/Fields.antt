@@ -18,7 +18,8 @@ fields_of h = map name_and_value h.fields
 
 -- the values of the fields of that name, whatever the case of its letters
 abbrev pub values_of : List ℕ → List (List ℕ × List ℕ) → List (List ℕ)
-values_of name fields = map (λ field. field.1) (filter (λ field. str_eq_ignore_ascii_case field.0 name) fields)
+values_of name fields =
+    map (λ field. field.1) (filter (λ field. str_eq_ignore_ascii_case field.0 name) fields)
 
 -- what stands under one name: nothing, one value, or several
 pub data Lookup : Type 0 where
@@ -62,7 +63,8 @@ unless_coded several found = Err BAD_CODING
 -- how long the body is by these fields, or the number of the refusal
 abbrev pub length_among : List (List ℕ × List ℕ) → Result ℕ ℕ
 length_among fields =
-    unless_coded (field_of (codes "transfer-encoding") fields) (content_length (field_of (codes "content-length") fields))
+    unless_coded (field_of (codes "transfer-encoding") fields)
+    (content_length (field_of (codes "content-length") fields))
 
 -- how long the body is that follows a head
 abbrev pub body_length : RequestHead → Result ℕ ℕ

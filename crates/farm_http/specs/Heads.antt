@@ -19,7 +19,8 @@ pub record IsOpen (front : List ℕ) : Type 0 where
 
 -- each prefix that ends in one of the first n bytes, a line feed, is open
 abbrev pub OpenBelow : ℕ → List ℕ → Type 0
-OpenBelow n bytes = (i : ℕ) → i < n → slice_index bytes i ≡ line_feed → IsOpen (take (i + 1) bytes)
+OpenBelow n bytes =
+    (i : ℕ) → i < n → slice_index bytes i ≡ line_feed → IsOpen (take (i + 1) bytes)
 
 -- the input ends before a head
 pub record EndsEarly (used : List ℕ) (AtEnd : Type 0) (code : ℕ) : Type 0 where

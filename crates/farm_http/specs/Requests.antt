@@ -17,9 +17,10 @@ pub record IsRequestOf (bytes : List ℕ) (head : ℕ) (h : RequestHead) : Type 
 abbrev pub IsRequest : List ℕ → ℕ → Type 0
 IsRequest bytes head = (h : RequestHead) × IsRequestOf bytes head h
 
--- the bytes are a head, as long as that, and its body, and they say that
+-- the same, and the bytes say that
 abbrev pub Spells : List ℕ → ℕ → Request → Type 0
-Spells bytes head request = (h : RequestHead) × IsRequestOf bytes head h × (request ≡ request_of h (drop head bytes))
+Spells bytes head request =
+    (h : RequestHead) × IsRequestOf bytes head h × (request ≡ request_of h (drop head bytes))
 
 -- the head's fields are refused
 pub record IsRefusedHead (used : List ℕ) (code : ℕ) : Type 0 where
@@ -41,4 +42,5 @@ pub record IsCutBody (used : List ℕ) (AtEnd : Type 0) (code : ℕ) : Type 0 wh
 
 -- after these bytes there is no request, and the first refusal has this number
 abbrev pub IsRefused : List ℕ → Type 0 → ℕ → Type 0
-IsRefused used AtEnd code = HasNoHead used AtEnd code ⊎ (IsRefusedHead used code ⊎ IsCutBody used AtEnd code)
+IsRefused used AtEnd code =
+    HasNoHead used AtEnd code ⊎ (IsRefusedHead used code ⊎ IsCutBody used AtEnd code)

@@ -3,20 +3,20 @@ ghost use Rattle.std.specs.Prelude.{◌≡◌};
 
 use crate::read_log::NoBytes;
 use crate::write_log::NotTaken;
-use farm_types::refusal::Refusal;
+use farm_types::refusal::{NO_MEMORY, READ, Refusal, WRITE};
 use thiserror::Error;
 
 /// Why no request was read, or no answer written.
 #[derive(Clone, Copy, Debug, PartialEq, Eq, Error)]
 pub enum WireFault {
     /// The room for a request was refused, and nothing was read.
-    #[error("no memory")]
+    #[error("{}", Refusal {code: NO_MEMORY})]
     NoMemory,
     /// The reader failed, or gave no request in 80,000 calls.
-    #[error("read fault")]
+    #[error("{}", Refusal {code: READ})]
     Read,
     /// The writer failed, took no byte or was interrupted.
-    #[error("write fault")]
+    #[error("{}", Refusal {code: WRITE})]
     Write,
     /// The bytes that came are no request that the desk reads.
     #[error("{0}")]

@@ -12,7 +12,8 @@ use crate::limits::{MAX_FIELDS, MAX_HEAD};
 
 /// Where a head stands at the front of the input, nothing is refused for want of a head.
 pub fn head_is_found()
-    ensures { (used more rest : List ℕ) (h : RequestHead) (code : ℕ) → ReadsRequest (used ++ more) h rest
+    ensures { (used more rest : List ℕ) (h : RequestHead) (code : ℕ)
+        → ReadsRequest (used ++ more) h rest
         → length h.fields ≤ MAX_FIELDS → length (print_request h) ≤ MAX_HEAD
         → HasNoHead used (used ≡ used ++ more) code → ⊥ }
 {}
@@ -20,7 +21,8 @@ pub fn head_is_found()
 /// Where a request stands at the front of the input, it is what reading takes, whatever follows:
 /// `used` left the reader, `more` is still in it.
 pub fn request_is_taken()
-    ensures { (request rest used more : List ℕ) (head : ℕ) (log : Reading) (taken : Result Taken WireFault)
+    ensures { (request rest used more : List ℕ) (head : ℕ) (log : Reading)
+        → (taken : Result Taken WireFault)
         → IsRequest request head → request ++ rest ≡ used ++ more
         → Gives (request ++ rest) used (IsSpent log) taken
         → IsTaken request head (IsSpent log) taken }

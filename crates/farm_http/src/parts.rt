@@ -61,7 +61,8 @@ pub(crate) fn spans_of(head: &[u8], headers: &mut [HeaderSpan]) -> RequestSpans
     requires head { ∥ ((h : RequestHead) × IsHead head.now h) ∥₁ }
     requires room { length headers.old ≡ MAX_FIELDS }
     ensures within { IsRequestWithin head.now headers.new result }
-    ensures parts { (h : RequestHead) → IsHead head.now h → IsRequestAt head.now headers.new result h }
+    ensures parts { (h : RequestHead) → IsHead head.now h
+        → IsRequestAt head.now headers.new result h }
 {
     match parse_request(head, headers) {
         Ok(Status::Complete(spans)) => spans,

@@ -63,7 +63,8 @@ pub(crate) fn read_some<R: Read>(
     requires turns { log.old.calls ≤ MAX_TURNS }
     requires alive { log.old.failed ≡ false }
     ensures within { IfOk result (λ n. n ≤ length buf.new) }
-    ensures ok { IfOk result (λ n. Consumes (R.remaining reader.old) (R.remaining reader.new) (take n buf.new)) }
+    ensures ok { IfOk result
+        (λ n. Consumes (R.remaining reader.old) (R.remaining reader.new) (take n buf.new)) }
     ensures end { IfOk result (λ n. n ≡ 0 → IsAtEnd (R.remaining reader.new)) }
     ensures alive { OnOk result (log.new.failed ≡ false) }
     ensures kept { OnErr result (Keeps (R.remaining reader.old) (R.remaining reader.new)) }

@@ -1,7 +1,8 @@
 //! What was taken of an input.
 ghost use Rattle.farm_http.specs.Requests.{IsRequest};
 
-/// One request as it came: a head, and the body that its fields declare. `parts::parts_of` lends its parts.
+/// One request as it came: a head, and the body that its fields declare. `parts_of` lends its
+/// parts.
 #[derive(Debug, Drop)]
 pub struct Taken {
     /// The head and the body.

@@ -1,5 +1,5 @@
 //! Writing an answer.
-ghost use Rattle.std.specs.Prelude.{◌≡◌, ℕ, ◌+◌, ◌<◌, ◌≤◌, length, take, IsTrue, IsErr, OnOk, IfErr, ◌↔◌};
+ghost use Rattle.std.specs.Prelude.{◌≡◌, ℕ, ◌+◌, ◌<◌, ◌≤◌, length, take, IsTrue, IsErr, OnOk, IfErr, OnErr, ◌↔◌};
 ghost use Rattle.std.specs.Io.KnownBytes.{Appends};
 ghost use Rattle.farm_http.specs.Logs.{unwritten};
 ghost use Rattle.farm_http.specs.Faults.{WritesPrefix};
@@ -14,7 +14,8 @@ use std::io::Write;
 pub fn write_whole<W: Write>(writer: &mut W, bytes: &[u8]) -> Result<(), WireFault>
     ensures ok { OnOk result (Appends (W.contents writer.old) (W.contents writer.new) bytes.now) }
     ensures fault { IfErr result (λ e. e ≡ WireFault.Write) }
-    ensures prefix { IfErr result (λ _. WritesPrefix (W.contents writer.old) (W.contents writer.new) bytes.now) }
+    ensures prefix { OnErr result
+        (WritesPrefix (W.contents writer.old) (W.contents writer.new) bytes.now) }
 {
     write_whole_logged(writer, bytes, &mut WriteLog::new())
 }
@@ -28,7 +29,8 @@ pub fn write_whole_logged<W: Write>(
     requires fresh { log.old ≡ unwritten }
     ensures ok { OnOk result (Appends (W.contents writer.old) (W.contents writer.new) bytes.now) }
     ensures fault { IfErr result (λ e. e ≡ WireFault.Write) }
-    ensures prefix { IfErr result (λ _. WritesPrefix (W.contents writer.old) (W.contents writer.new) bytes.now) }
+    ensures prefix { OnErr result
+        (WritesPrefix (W.contents writer.old) (W.contents writer.new) bytes.now) }
     ensures failed { IsErr result ↔ IsTrue log.new.failed }
     ensures calls { log.new.calls ≤ length bytes.now }
 {

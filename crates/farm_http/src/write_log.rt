@@ -59,7 +59,8 @@ pub(crate) fn write_some<W: Write>(
 ) -> Result<usize, NotTaken>
     requires { log.old.calls + 1 < 2 ^ 64 }
     ensures within { IfOk result (λ n. (0 < n) × (n ≤ length bytes.now)) }
-    ensures ok { IfOk result (λ n. Appends (W.contents writer.old) (W.contents writer.new) (take n bytes.now)) }
+    ensures ok { IfOk result
+        (λ n. Appends (W.contents writer.old) (W.contents writer.new) (take n bytes.now)) }
     ensures alive { IfOk result (λ _. log.new.failed ≡ log.old.failed) }
     ensures kept { OnErr result (Keeps (W.contents writer.old) (W.contents writer.new)) }
     ensures failed { OnErr result (log.new.failed ≡ true) }

@@ -1,16 +1,15 @@
 -- From short lists of places to the least list.
-use Rattle.std.proofs.Common.{◌≡◌, ◌≢◌, ℕ, zero, suc, ◌<◌, ◌≤◌, Bool, true, false, List, [], ◌∷◌, ◌++◌, ◌==◌, length, map, set, take, get_or, Bor, refl, sym, ap, ◌∙◌, inl, inr, subst, arith, Option, Some, None}
-use Rattle.std.specs.Prelude.{All, AllPairs, IfSome, IfNone, option_map, slice_get}
+use Rattle.std.proofs.Common.{◌≡◌, ◌≢◌, ℕ, zero, suc, ◌<◌, ◌≤◌, Bool, true, false, List, [], ◌∷◌, ◌==◌, length, map, set, take, get_or, Bor, refl, sym, ap, ◌∙◌, inl, inr, subst, arith, Option, Some, None}
+use Rattle.std.specs.Prelude.{All, AllPairs, IfSome, IfNone, option_map}
 use Rattle.std.specs.List.{AllZip, AllByRecursion}
-use Rattle.std.specs.Ordering.{is_lt}
 use Rattle.std.proofs.lemmas.Bool.{false≢true, eqb-false}
 use Rattle.std.proofs.lemmas.List.{take_all}
 use Rattle.std.proofs.lemmas.List.Elements.{All-nil, All-cons}
-use Rattle.std.proofs.lemmas.Option.{IfSome_then, slice_get_within}
-use Rattle.farm_types.specs.Pick.{AreAmong, meets, names_cmp, least, IsLeast}
+use Rattle.std.proofs.lemmas.Option.{IfSome_then}
+use Rattle.farm_types.specs.Pick.{least, IsLeast}
 use Rattle.farm_types.specs.declared.rows.Want.{Want}
 use Rattle.farm_types.specs.declared.rows.BoardRow.{BoardRow}
-use Rattle.farm_pick.specs.Choice.{has, Ascends, Chooses, IsLeastChoice, IsShortlist, NotAfter, candidate_at}
+use Rattle.farm_pick.specs.Choice.{has, Ascends, Chooses, IsLeastChoice, IsShortlist, candidate_at}
 use Rattle.farm_pick.specs.Least.{boards_at}
 use Rattle.farm_pick.proofs.Choices.{or_false, Found, from_lists, into_lists, length-chosen, NotAfter-trans}
 use Rattle.farm_pick.proofs.Places.{AreInNameOrder, AreAt, candidate_within}
@@ -37,15 +36,16 @@ module _ {W : Type 0} (serves : W → ℕ → Bool) where
       let here = rw e at z in
       rw (take_all (length ws) ws (omega arith)) at here
 
-  -- one short list more
-  pub one_more : (limit i : ℕ) (ws : List W) (lists : List (List ℕ)) (w : W) (l : List ℕ) → i < length ws → i < length lists → w ≡ get_or ws i w → IsShortlist (serves w) limit l → AreShortlists serves limit (take i ws) (take i lists) → AreShortlists serves limit (take (suc i) ws) (take (suc i) (set lists i l))
-  one_more limit i [] lists w l lt room is s z = absurd (omega arith)
-  one_more limit i (v ∷ ws) [] w l lt room is s z = absurd (omega arith)
-  one_more limit zero (v ∷ ws) (k ∷ lists) w l lt room is s z = (subst (λ u. IsShortlist (serves u) limit l) is s, tt)
-  one_more limit (suc i) (v ∷ ws) (k ∷ lists) w l lt room is s z =
+  -- one short list more, made with the same limit
+  pub one_more : (limit i : ℕ) (ws : List W) (lists : List (List ℕ)) (w : W) (most : ℕ) (l : List ℕ) → i < length ws → i < length lists → w ≡ get_or ws i w → IsShortlist (serves w) most l → most ≡ limit → AreShortlists serves limit (take i ws) (take i lists) → AreShortlists serves limit (take (suc i) ws) (take (suc i) (set lists i l))
+  one_more limit i [] lists w most l lt room is s same z = absurd (omega arith)
+  one_more limit i (v ∷ ws) [] w most l lt room is s same z = absurd (omega arith)
+  one_more limit zero (v ∷ ws) (k ∷ lists) w most l lt room is s same z =
+      (subst (λ u. IsShortlist (serves u) limit l) is (subst (λ m. IsShortlist (serves w) m l) same s), tt)
+  one_more limit (suc i) (v ∷ ws) (k ∷ lists) w most l lt room is s same z =
       let below : i < length ws = omega arith in
       let within : i < length lists = omega arith in
-      (z.0, one_more limit i ws lists w l below within is s z.1)
+      (z.0, one_more limit i ws lists w most l below within is s same z.1)
 
   -- a want that nothing serves
   served_at : (used : List ℕ) (ws : List W) (ps : List ℕ) (i : ℕ) (d : W) → i < length ws → Chooses serves used ws ps → (p : ℕ) × (serves (get_or ws i d) p ≡ true)
@@ -72,8 +72,8 @@ module _ {W : Type 0} (serves : W → ℕ → Bool) (ws : List W) (lists : List 
       subst (λ qs. IsLeastChoice serves [] ws qs) (sym found.1) (record {
         chooses = from_lists serves (length ws) ws lists [] ps short found.2.chooses;
         least = λ qs c.
-          let listed = into_lists serves (length ws) ws lists [] qs short (omega arith) c in
-          NotAfter-trans ps listed.0 qs (found.2.least listed.0 listed.1) listed.2;
+            let listed = into_lists serves (length ws) ws lists [] qs short (omega arith) c in
+            NotAfter-trans ps listed.0 qs (found.2.least listed.0 listed.1) listed.2;
       })
 
   pub none_from_lists : ((ps : List ℕ) → Chooses has [] lists ps → ⊥) → (ps : List ℕ) → Chooses serves [] ws ps → ⊥
@@ -153,8 +153,8 @@ module _ {V : Type 0} (f : V → Want) (boards : List BoardRow) (test : BoardRow
             among = made.1.among;
             meeting = made.1.meeting;
             least = λ cs known m.
-              let other = choice_from_boards boards test (map f vs) cs known m in
-              not_before boards ordered ps other.0 made.0 cs made.1.at other.1 (choice.least other.0 (unseen [] vs other.0 other.2));
+                let other = choice_from_boards boards test (map f vs) cs known m in
+                not_before boards ordered ps other.0 made.0 cs made.1.at other.1 (choice.least other.0 (unseen [] vs other.0 other.2));
           },
         )
 

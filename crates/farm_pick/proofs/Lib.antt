@@ -4,3 +4,4 @@ pub mod Meeting
 pub mod Unique
 pub mod Lists
 pub mod Answering
+pub mod BoardsAt

@@ -1,19 +1,19 @@
 -- Lists of boards that meet wants, and choices of their places.
-use Rattle.std.proofs.Common.{◌≡◌, ℕ, zero, suc, ◌<◌, ◌&&◌, Bool, true, false, List, [], ◌∷◌, length, refl, sym, ap, ◌∙◌, inl, inr, Some}
+use Rattle.std.proofs.Common.{◌≡◌, ℕ, suc, ◌&&◌, Bool, true, false, List, [], ◌∷◌, length, refl, sym, ap, ◌∙◌, inl, inr}
 use Rattle.std.specs.Prelude.{slice_get, not}
 use Rattle.std.specs.List.{list_all, list_any}
 use Rattle.std.specs.Option.{option_map_or}
 use Rattle.std.specs.Str.{bytes_eq}
 use Rattle.std.specs.Cmp.Lexicographic.{pointwise}
 use Rattle.std.specs.Ordering.{is_lt, ordering_then}
-use Rattle.std.specs.declared.cmp.Ordering.TheVariants.{Less, Equal, Greater}
-use Rattle.std.proofs.lemmas.Bool.{false≢true, true≢false, and_parts, and_from, not-true}
+use Rattle.std.specs.declared.cmp.Ordering.TheVariants.{Equal}
+use Rattle.std.proofs.lemmas.Bool.{false≢true, and_parts, and_from, not-true}
 use Rattle.farm_types.specs.Table.{board_cmp}
-use Rattle.farm_types.specs.Pick.{Among, AreAmong, fits, are_apart, meets, names_cmp}
+use Rattle.farm_types.specs.Pick.{AreAmong, fits, are_apart, meets, names_cmp}
 use Rattle.farm_types.specs.declared.rows.Want.{Want}
 use Rattle.farm_types.specs.declared.rows.BoardRow.{BoardRow}
 use Rattle.farm_pick.specs.Test.{is_candidate}
-use Rattle.farm_pick.specs.Choice.{has, Chooses, NotAfter, candidate_at}
+use Rattle.farm_pick.specs.Choice.{Chooses, NotAfter, candidate_at}
 use Rattle.farm_pick.proofs.Places.{AreInNameOrder, AreAt, candidate_board, among_at, place_of, apart, not_among, same_from_some, rises, board_cmp-self, board_cmp-reverse}
 
 -- ---- one board more

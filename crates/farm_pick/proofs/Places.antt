@@ -132,7 +132,7 @@ not_among boards (q ∷ ps) [] p b at e n = absurd at
 not_among boards (q ∷ ps) (c ∷ bs) p b at e n =
     let parts = or_false (bytes_eq b.name c.name) (list_any (λ d. bytes_eq b.name d.name) bs) n in
     let other : q ≢ p = λ s.
-      let one : b ≡ c = same_from_some b c (sym e ∙ (ap (slice_get boards) (sym s) ∙ at.0)) in
-      let same : bytes_eq b.name c.name ≡ true = (bytes_eq-Decides b.name c.name).1 (ap (λ (x : BoardRow). x.name) one) in
-      true≢false (sym same ∙ parts.0) in
+    let one : b ≡ c = same_from_some b c (sym e ∙ (ap (slice_get boards) (sym s) ∙ at.0)) in
+    let same : bytes_eq b.name c.name ≡ true = (bytes_eq-Decides b.name c.name).1 (ap (λ (x : BoardRow). x.name) one) in
+    true≢false (sym same ∙ parts.0) in
     or_from (q == p) (has ps p) (ne_eqb q p other) (not_among boards ps bs p b at.1 e parts.1)

@@ -28,6 +28,7 @@ impl<'a> Model for Candidates<'a> {
 }
 
 impl<'a> Candidates<'a> {
+    /// The candidates among some boards: in name order, if the boards are.
     pub fn new(
         boards: &'a [BoardRow],
         types: &'a [TypeRow],

@@ -9,7 +9,8 @@ use crate::free::Free;
 use crate::picked::Picked;
 use farm_types::rows::{BoardRow, TypeRow, Want};
 
-/// The first places of candidates for the want: all of them, or as many as the limit.
+/// The first places of candidates for the want: all of them, or as many as the limit. At most one
+/// test a board.
 pub fn shortlist(
     boards: &[BoardRow],
     types: &[TypeRow],
@@ -21,12 +22,12 @@ pub fn shortlist(
     ensures { IsShortlist (candidate_at boards.now (passes types.now free) want.now) limit result }
 {
     let mut found = Picked::new();
-    for (i, board) in boards.iter().enumerate() {
+    for place in 0..boards.len() {
         if found.len() >= limit {
             break;
         }
-        if fit::is_candidate(types, want, free, board) {
-            found = found.with(i);
+        if fit::is_candidate_at(boards, types, want, free, place) {
+            found = found.with(place);
         }
     }
     found

@@ -1,10 +1,11 @@
 //! The tests of one board.
-ghost use Rattle.std.specs.Prelude.{◌≡◌, ◌||◌, true, bytes_eq};
+ghost use Rattle.std.specs.Prelude.{◌≡◌, true, bytes_eq};
 ghost use Rattle.std.specs.List.{list_all, list_any, find};
 ghost use Rattle.std.specs.Option.{option_map_or, option_copied};
 ghost use Rattle.farm_types.specs.Words.{name_tag};
 ghost use Rattle.farm_types.specs.Pick.{fits, check_of, serves};
-ghost use Rattle.farm_pick.specs.Test.{passes, is_candidate};
+ghost use Rattle.farm_pick.specs.Test.{carries, passes, is_candidate};
+ghost use Rattle.farm_pick.specs.Choice.{candidate_at};
 
 use crate::free::Free;
 use farm_types::rows::{BoardRow, Check, Health, Holder, TypeRow, Want};
@@ -36,23 +37,23 @@ fn is_among(tags: &[Tag], wanted: &str) -> bool
     tags.iter().any(|own| wanted == own.as_str())
 }
 
-fn has_tag(board: &BoardRow, tag: &Tag) -> bool
-    ensures { result ≡ (list_any (bytes_eq tag.now) board.now.tags || bytes_eq tag.now (name_tag board.now.name)) }
+fn carries(board: &BoardRow, tag: &Tag) -> bool
+    ensures { result ≡ carries board.now tag.now }
 {
     is_among(board.tags.items(), tag.as_str()) || is_name_tag(tag.as_str(), board.name.as_str())
 }
 
-fn has_all_tags(board: &BoardRow, tags: &[Tag]) -> bool
-    ensures { result ≡ list_all (λ tag. list_any (bytes_eq tag) board.now.tags || bytes_eq tag (name_tag board.now.name)) tags.now }
+fn carries_all(board: &BoardRow, tags: &[Tag]) -> bool
+    ensures { result ≡ list_all (carries board.now) tags.now }
 {
-    tags.iter().all(|tag| has_tag(board, tag))
+    tags.iter().all(|tag| carries(board, tag))
 }
 
 /// Whether the board is of the type that the want names, if it names one, and has each of its tags.
 fn fits(board: &BoardRow, want: &Want) -> bool
     ensures { result ≡ fits board.now want.now }
 {
-    is_of_kind(board, &want.kind) && has_all_tags(board, want.tags.items())
+    is_of_kind(board, &want.kind) && carries_all(board, want.tags.items())
 }
 
 fn row_of<'a>(types: &'a [TypeRow], kind: &Name) -> Option<&'a TypeRow>
@@ -93,9 +94,26 @@ fn passes(types: &[TypeRow], free: Free, board: &BoardRow) -> bool
     }
 }
 
-/// Whether the board may be given for the want. The test that takes no look at tags comes first.
+/// Whether the board may be given for the want. The test that takes no look at tags comes first;
+/// the tags cost at most 16 * 16 comparisons of short texts.
 pub fn is_candidate(types: &[TypeRow], want: &Want, free: Free, board: &BoardRow) -> bool
     ensures { result ≡ is_candidate (passes types.now free) want.now board.now }
 {
     passes(types, free, board) && fits(board, want)
+}
+
+/// Whether there is a board at the place that may be given for the want.
+pub fn is_candidate_at(
+    boards: &[BoardRow],
+    types: &[TypeRow],
+    want: &Want,
+    free: Free,
+    place: usize,
+) -> bool
+    ensures { result ≡ candidate_at boards.now (passes types.now free) want.now place }
+{
+    match boards.get(place) {
+        Some(board) => is_candidate(types, want, free, board),
+        None => false,
+    }
 }

@@ -5,11 +5,9 @@ ghost use Rattle.farm_pick.specs.Least.{SearchGivesLeast, LeastIsOne};
 /// wants, gives the least list.
 pub fn least_is_least()
     ensures { SearchGivesLeast }
-{
-}
+{}
 
 /// Some wants have one least list at most.
 pub fn one_least()
     ensures { LeastIsOne }
-{
-}
+{}

@@ -63,12 +63,7 @@ fn meets(boards: &[BoardRow], wants: &[Want], free: Free, list: &[usize]) -> boo
 
 /// The four digits of a number to the base four: of rising numbers they rise as lists.
 fn digits(number: usize) -> [usize; 4] {
-    [
-        number / 64 % 4,
-        number / 16 % 4,
-        number / 4 % 4,
-        number % 4,
-    ]
+    [number / 64 % 4, number / 16 % 4, number / 4 % 4, number % 4]
 }
 
 /// The first list of places below four that meets the wants. The wants are four at most.

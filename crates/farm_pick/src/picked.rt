@@ -2,10 +2,12 @@ ghost use Rattle.std.specs.Prelude.{◌≡◌, ◌+◌, ◌<◌, ◌≤◌, [], 
 
 use std::marker::Model;
 
-/// Up to four places in a list, which contracts see as their list.
+/// Up to four places in a list, counted from 0. Contracts see the list of these places.
 #[derive(Drop)]
 pub struct Picked {
+    /// How many places there are.
     pub len: usize,
+    /// The places first, and then numbers that mean nothing.
     pub at: [usize; 4],
 }
 
@@ -20,12 +22,14 @@ impl Model for Picked {
 }
 
 impl Picked {
+    /// No places.
     pub fn new() -> Picked
         ensures { result ≡ [] }
     {
         Picked { len: 0, at: [0; 4] }
     }
 
+    /// How many places there are.
     pub fn len(&self) -> usize
         ensures len { result ≡ length self.now }
         ensures bound { result ≤ 4 }
@@ -33,6 +37,7 @@ impl Picked {
         self.len
     }
 
+    /// The places, in the order of the wants that they are for.
     pub fn places(&self) -> &[usize]
         ensures { result.now ≡ self.now }
     {

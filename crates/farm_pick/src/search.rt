@@ -11,9 +11,11 @@ use crate::picked::Picked;
 use farm_types::asked::Wants;
 use farm_types::rows::{BoardRow, TypeRow, Want};
 
-/// The places of the least list of boards that meets the wants, or None where no list does: the
-/// form for wants that are lent one by one, as those of a group's job rows. One want `w` is
-/// `&[&w]`.
+/// The places of the least list of boards that meets the wants, or None where no list does. This
+/// form takes wants that are lent one by one, as those of a group's job rows; one want is `&[&want]`.
+///
+/// LAVA looks at devices in a random order. Here the answer is always the first list in name order,
+/// so that a run can be repeated, and a board that fits two wants goes to the one that needs it.
 ///
 /// With k wants the least list uses for each want one of its first k candidates: of these k the
 /// other wants use k - 1 at most, so a later one could be exchanged for an earlier one. So each
@@ -27,7 +29,8 @@ pub fn least_of(
 ) -> Option<Picked>
     requires ordered { IsStrictlySortedBy board_cmp boards.now }
     requires few { length wants.now ≤ 4 }
-    ensures least { option_map (boards_at boards.now) result ≡ least boards.now (passes types.now free) (map (λ w. w.now) wants.now) }
+    ensures least { option_map (boards_at boards.now) result
+        ≡ least boards.now (passes types.now free) (map (λ w. w.now) wants.now) }
     ensures len { IfSome result (λ places. length places ≡ length wants.now) }
     ensures within { IfSome result (λ places. All (λ i. i < length boards.now) places) }
     ensures different { IfSome result (λ places. AllPairs (λ i j. i ≢ j) places) }
@@ -43,13 +46,9 @@ pub fn least_of(
     choose::choose(&lists[..wants.len()], Picked::new())
 }
 
-/// The places of the least list of boards that meets the wants, or None where no list does.
-pub fn least(
-    boards: &[BoardRow],
-    types: &[TypeRow],
-    wants: &Wants,
-    free: Free,
-) -> Option<Picked>
+/// The places of the least list of boards that meets the wants, or None where no list does, at the
+/// cost of `least_of`.
+pub fn least(boards: &[BoardRow], types: &[TypeRow], wants: &Wants, free: Free) -> Option<Picked>
     requires { IsStrictlySortedBy board_cmp boards.now }
     ensures least { option_map (boards_at boards.now) result ≡ least boards.now (passes types.now free) wants.now }
     ensures len { IfSome result (λ places. length places ≡ length wants.now) }

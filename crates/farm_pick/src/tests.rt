@@ -108,7 +108,10 @@ fn least_of_three_boards(rt: HostRuntime) -> Result<(), Fail> {
 fn three_wants_in_turn(rt: HostRuntime) -> Result<(), Fail> {
     let alloc = rt.alloc();
     let asked = wants(alloc, &[&["x"], &["y"], &["x"]])?;
-    let mut three = boards(alloc, &[("b1", &["x"]), ("b2", &["x", "y"]), ("b3", &["y"])])?;
+    let mut three = boards(
+        alloc,
+        &[("b1", &["x"]), ("b2", &["x", "y"]), ("b3", &["y"])],
+    )?;
     let found = places(alloc, three.as_slice(), &asked, Free::ServingIdle)?.ok_or("none")?;
     assert_eq!(rt; found.as_slice(), [0, 2, 1].as_slice());
     let last = three.last_mut().ok_or("no board")?;

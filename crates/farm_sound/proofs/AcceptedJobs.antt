@@ -50,15 +50,17 @@ module _ (F : Farm) (t : ℕ) (caller : List ℕ) (sound : IsSound F) where
       let kinds = λ (w : Want). option_map_or (λ kind. is_none (type_of F kind)) w.kind false in
       let full = λ (w : Want). is_some w.kind && is_want w in
       let words = λ (r : Option (List ℕ)). option_map_or (is_word 48) r true in
-      let p7 = both (is_priority priority && nat_le 1 (length wants) && nat_le
-      (length wants) 4 && list_all full wants && (length roles == length wants) && list_all words roles && nat_le (length body) 65536) (is_utf8 body) is.proper in
-      let p6 = both (is_priority priority && nat_le 1 (length wants) && nat_le
-      (length wants) 4 && list_all full wants && (length roles == length wants) && list_all words roles) (nat_le (length body) 65536) p7.0 in
-      let p5 = both (is_priority priority && nat_le 1 (length wants) && nat_le
-      (length wants) 4 && list_all full wants && (length roles == length wants)) (list_all words roles) p6.0 in
-      let p4 = both (is_priority priority && nat_le 1 (length wants) && nat_le (length wants) 4 && list_all full wants) (length roles == length wants) p5.0 in
-      let p3 = both (is_priority priority && nat_le 1 (length wants) && nat_le (length wants) 4) (list_all full wants) p4.0 in
-      let p2 = both (is_priority priority && nat_le 1 (length wants)) (nat_le (length wants) 4) p3.0 in
+      let first = is_priority priority && nat_le 1 (length wants) in
+      let second = first && nat_le (length wants) 4 in
+      let third = second && list_all full wants in
+      let fourth = third && (length roles == length wants) in
+      let fifth = fourth && list_all words roles in
+      let p7 = both (fifth && nat_le (length body) 65536) (is_utf8 body) is.proper in
+      let p6 = both fifth (nat_le (length body) 65536) p7.0 in
+      let p5 = both fourth (list_all words roles) p6.0 in
+      let p4 = both third (length roles == length wants) p5.0 in
+      let p3 = both second (list_all full wants) p4.0 in
+      let p2 = both first (nat_le (length wants) 4) p3.0 in
       let p1 = both (is_priority priority) (nat_le 1 (length wants)) p2.0 in
       let clear = first_clear (list_any kinds wants) 10 ((is_none (least F.boards not_retired wants), 22) ∷ []) is.clear in
       let room = both (nat_le (length F.jobs + length wants) 100000) (nat_le (F.next + length wants) 1000000000)

@@ -10,7 +10,7 @@ pub mod Given
 pub mod Add
 pub mod Rows
 pub mod ChangeJobs
-pub mod ChangeRes
+pub mod ChangeReservations
 pub mod Jobs
 pub mod Finish
 pub mod Submit
@@ -33,7 +33,7 @@ pub mod Replies
 pub mod Accepted
 pub mod AcceptedBoards
 pub mod AcceptedJobs
-pub mod AcceptedRes
+pub mod AcceptedReservations
 pub mod Step
 pub mod Once
 pub mod Puts

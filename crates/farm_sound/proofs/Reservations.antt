@@ -13,7 +13,7 @@ use Rattle.farm_types.specs.declared.rows.ResRow.{ResRow}
 use Rattle.farm_types.specs.declared.rows.ResState.{ResState}
 use Rattle.farm_types.specs.declared.rows.State.{State}
 use Rattle.farm_sound.proofs.Add.{IsHeldByKeys-add_res, IsSteady-add_res}
-use Rattle.farm_sound.proofs.ChangeRes.{IsSound-change_res}
+use Rattle.farm_sound.proofs.ChangeReservations.{IsSound-change_res}
 use Rattle.farm_sound.proofs.Held.{IsLeft}
 use Rattle.farm_sound.proofs.Rows.{board_row_in, hold_none, hold_nothing, left_off, left_on, left_same, res_row_in}
 use Rattle.farm_sound.proofs.Tests.{same_number}

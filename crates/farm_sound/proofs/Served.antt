@@ -68,7 +68,7 @@ old_of_res : (F : Farm) (c d : Claimed) (r : ResRow) (bs : List BoardRow) (t : �
 old_of_res F c d r [] t is free one later = absurd (omega arith)
 old_of_res F c d r (b ∷ bs) t is free one (inl (q, has)) =
     let two = waits_still r b.name t (res_of F q.number) q
-        (sym (res_at F r.number r b bs t is.0 (waiting_from r.state is.1) free.0 q.number) ∙ has.0) has.1 in (
+    (sym (res_at F r.number r b bs t is.0 (waiting_from r.state is.1) free.0 q.number) ∙ has.0) has.1 in (
       inl (q, (two.0, has.1, has.2)),
       numbers_differ c d
           (ap (λ (e : Claimed). e.number == c.number) has.2 ∙ ap (λ (e : Claimed). q.number == e.number) is.2 ∙ two.1),

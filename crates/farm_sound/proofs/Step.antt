@@ -15,7 +15,7 @@ use Rattle.farm_types.specs.declared.rows.Reply.{Reply}
 use Rattle.farm_sound.proofs.Accepted.{Acted, IsAccepted}
 use Rattle.farm_sound.proofs.AcceptedBoards.{acted_add_board, acted_add_type, acted_set_health, acted_set_tags}
 use Rattle.farm_sound.proofs.AcceptedJobs.{acted_cancel, acted_finish, acted_start, acted_submit}
-use Rattle.farm_sound.proofs.AcceptedRes.{acted_acquire, acted_cancel_res, acted_pass, acted_refresh, acted_release, acted_reserve}
+use Rattle.farm_sound.proofs.AcceptedReservations.{acted_acquire, acted_cancel_res, acted_pass, acted_refresh, acted_release, acted_reserve}
 use Rattle.farm_sound.proofs.Answered.{answers_changed, answers_denied, answers_repeated, count_has_room, unrefused}
 use Rattle.farm_sound.proofs.Clear.{first_clear}
 use Rattle.farm_sound.proofs.Numbers.{IsSound-counted, IsSound-moved, IsSound-put_kept}

@@ -32,10 +32,11 @@ pub fn step_is_sound()
     ensures { (F : Farm) (call : Call) → IsSound F → IsSound (step F call) }
 {}
 
-/// The empty farm is sound, and so is every farm that calls make of it.
+/// The empty farm is sound, and so is every farm that calls make of a sound one.
 pub fn run_is_sound()
     ensures empty { IsSound empty }
-    ensures run { (calls : List Call) → IsSound (run empty calls) }
+    ensures run { (F : Farm) (calls : List Call) → IsSound F → IsSound (run F calls) }
+    ensures from_empty { (calls : List Call) → IsSound (run empty calls) }
 {}
 
 /// After a pass, and after a call that makes one, no claim of the farm is met by boards that are

@@ -233,8 +233,10 @@ fn declared_lengths(rt: HostRuntime) -> Result<(), Fail> {
             head: &head,
             given: 0,
         };
-        let found = read_request(rt.alloc(), &mut input).map(|taken| taken.bytes.len()
-            - taken.head);
+        let found = read_request(rt.alloc(), &mut input).map(|taken| taken
+            .bytes
+            .len()
+            .saturating_sub(taken.head));
         assert_eq!(rt; found, declared, "{fields:?}");
         assert_eq!(rt; input.given, declared.unwrap_or(0), "{fields:?}");
     }

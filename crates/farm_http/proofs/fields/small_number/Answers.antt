@@ -1,5 +1,5 @@
 -- The digits that are left make no smaller number.
-use Rattle.std.proofs.Common.{◌<◌, ◌∙◌, sym, subst, arith, ℕ, rules}
+use Rattle.std.proofs.Common.{◌<◌, subst, ℕ, rules}
 use Rattle.farm_http.proofs.Digits.{digits_exceed}
 use Rattle.farm_http.proofs.fields.small_number.Goals as goal
 

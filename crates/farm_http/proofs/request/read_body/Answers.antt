@@ -1,6 +1,5 @@
 -- A read adds to the bytes before it.
 use Rattle.std.proofs.Common.{arith, rules}
-use Rattle.std.proofs.lemmas.Slice.{overwrites}
 use Rattle.farm_http.proofs.SliceReads.{read_part}
 use Rattle.farm_http.proofs.request.read_body.Goals as goal
 

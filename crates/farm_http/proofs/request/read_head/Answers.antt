@@ -1,9 +1,8 @@
 -- A line that ends a head, one that does not, and one that rules a head out.
-use Rattle.std.proofs.Common.{rules, ◌≡◌, ℕ, ◌+◌, ◌-◌, ◌<◌, ◌≤◌, length, get_or, take, List, ◌∷◌, ◌++◌, [], arith, set, refl, ap, sym, ◌∙◌, inl, inr, subst}
+use Rattle.std.proofs.Common.{◌≡◌, ◌+◌, ◌-◌, ◌<◌, length, get_or, take, ◌∷◌, ◌++◌, [], arith, set, refl, ap, ◌∙◌, inl, inr, subst}
 use Rattle.std.proofs.lemmas.List.{length-set, length-take-le, take_more_set}
-use Rattle.std.specs.Io.KnownBytes.{Consumes}
-use Rattle.httparse.specs.Spans.{IsRequestOf, RequestOverflows}
-use Rattle.farm_http.specs.Heads.{OpenBelow, IsHead, IsOpen}
+use Rattle.httparse.specs.Spans.{RequestOverflows}
+use Rattle.farm_http.specs.Heads.{OpenBelow}
 use Rattle.farm_http.proofs.HeadLemmas.{head_of, open_set, open_take, open_more, read_more}
 use Rattle.farm_http.proofs.request.read_head.Goals as goal
 

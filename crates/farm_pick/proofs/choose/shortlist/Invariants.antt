@@ -3,5 +3,6 @@ use Rattle.farm_pick.specs.Choice.{candidate_at}
 use Rattle.farm_pick.proofs.Choices.{IsShortlistBelow}
 use Rattle.farm_pick.proofs.choose.shortlist.Given as goal
 
-abbrev pub invariant-loop-i : goal.invariant-loop-i
-invariant-loop-i l = IsShortlistBelow (candidate_at l.boards (passes l.types l.free) l.want) l.limit l.i l.found
+-- the places that were looked at have their short list
+abbrev pub invariant-loop-place : goal.invariant-loop-place
+invariant-loop-place l = IsShortlistBelow (candidate_at l.boards (passes l.types l.free) l.want) l.limit l.place l.found

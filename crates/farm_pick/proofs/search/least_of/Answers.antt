@@ -1,4 +1,4 @@
-use Rattle.std.proofs.Common.{arith, ◌≡◌, ◌<◌, ◌∙◌, ℕ, List, [], length, add-one, None}
+use Rattle.std.proofs.Common.{arith, ◌<◌, ◌∙◌, ℕ, List, [], length, add-one, None}
 use Rattle.std.specs.Prelude.{IfSome, IfNone}
 use Rattle.std.proofs.lemmas.List.{length-set}
 use Rattle.std.proofs.lemmas.Option.{IfSome_then}
@@ -14,7 +14,7 @@ loop-i-preserved c =
     let room : c.loop-i.i < length c.loop-i.lists = omega (arith, c.loop-i.invariant.four) in
     record {
       four = length-set c.loop-i.lists c.loop-i.i c.shortlist-places.result ∙ c.loop-i.invariant.four;
-      short = rw add-one (one_more (candidate_by lent c.args.boards.now (passes c.args.types.now c.args.free)) (length c.args.wants.now) c.loop-i.i c.args.wants.now c.loop-i.lists c.index-wants-i.result c.shortlist-places.result below room c.index-wants-i.is c.shortlist-places.ensures c.loop-i.invariant.short);
+      short = rw add-one (one_more (candidate_by lent c.args.boards.now (passes c.args.types.now c.args.free)) (length c.args.wants.now) c.loop-i.i c.args.wants.now c.loop-i.lists c.index-wants-i.result _ c.shortlist-places.result below room c.index-wants-i.is c.shortlist-places.ensures (omega arith) c.loop-i.invariant.short);
     }
 
 pub choose-requires-clause-ascend : goal.choose-requires-clause-ascend
@@ -54,4 +54,4 @@ pub returns-then-len-eq0-clause-least : goal.returns-then-len-eq0-clause-least
 returns-then-len-eq0-clause-least c =
     let below : c.loop-i.i < length c.args.wants.now = omega arith in
     is_least lent c.args.boards.now (passes c.args.types.now c.args.free) c.requires.ordered c.args.wants.now None tt
-    (none_serves (candidate_by lent c.args.boards.now (passes c.args.types.now c.args.free)) (length c.args.wants.now) c.args.wants.now c.loop-i.i c.index-wants-i.result c.shortlist-places.result c.shortlist-places.ensures (omega arith) (omega arith) below c.index-wants-i.is)
+    (none_serves (candidate_by lent c.args.boards.now (passes c.args.types.now c.args.free)) _ c.args.wants.now c.loop-i.i c.index-wants-i.result c.shortlist-places.result c.shortlist-places.ensures (omega arith) (omega arith) below c.index-wants-i.is)

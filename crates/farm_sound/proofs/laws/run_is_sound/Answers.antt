@@ -7,4 +7,7 @@ pub returns-clause-empty : goal.returns-clause-empty
 returns-clause-empty c = IsSound-empty
 
 pub returns-clause-run : goal.returns-clause-run
-returns-clause-run c = λ calls. IsSound-run calls empty IsSound-empty
+returns-clause-run c = λ F calls sound. IsSound-run calls F sound
+
+pub returns-clause-from_empty : goal.returns-clause-from_empty
+returns-clause-from_empty c = λ calls. IsSound-run calls empty IsSound-empty

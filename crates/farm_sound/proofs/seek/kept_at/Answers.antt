@@ -9,10 +9,9 @@ use Rattle.farm_sound.proofs.seek.kept_at.Goals as goal
 
 pub returns : goal.returns
 returns c =
-    let caller : List ℕ = c.args.caller.now in
-    let key : List ℕ = c.args.key.now in
     placed (λ (r : KeptRow). (r.caller, r.key)) (λ (a b : List ℕ × List ℕ). ordering_then (text_cmp a.0 b.0) (text_cmp a.1 b.1)) both_total
-    (λ a b. bytes_eq a.0 b.0 && bytes_eq a.1 b.1) both_ties (caller, key) (λ r. (r.caller ≡ caller) × (r.key ≡ key)) (λ r is i. (is.0 i, is.1 i))
+    (λ a b. bytes_eq a.0 b.0 && bytes_eq a.1 b.1) both_ties (c.args.caller.now, c.args.key.now)
+    (λ r. (r.caller ≡ c.args.caller.now) × (r.key ≡ c.args.key.now)) (λ r is i. (is.0 i, is.1 i))
     c.args.rows.now c.requires c.binary_search_by.result c.binary_search_by.ensures.bound
-    (c.binary_search_by.ensures.position (λ r. ordering_then (text_cmp r.caller caller) (text_cmp r.key key))
+    (c.binary_search_by.ensures.position (λ r. ordering_then (text_cmp r.caller c.args.caller.now) (text_cmp r.key c.args.key.now))
     (always_returns_same _ _ _ (λ a r f' called. search rules)))

@@ -57,4 +57,4 @@ change-requires-clause-orderly c = IsOrderly-sound _ (c.self.invariant c.if-self
 pub returns-clause-small : goal.returns-clause-small
 returns-clause-small c =
     AreSmall-sound _ (plain c.change.new.self) c.in_ok-reply.ensures.small c.in_ok-reply.ensures.meta
-      (rw c.in_ok-reply.ensures.farm (IsSound-change _ c.args.call.now c.in_default-refusal.ensures (c.self.invariant c.if-self.false)))
+    (rw c.in_ok-reply.ensures.farm (IsSound-change _ c.args.call.now c.in_default-refusal.ensures (c.self.invariant c.if-self.false)))

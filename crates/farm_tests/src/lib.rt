@@ -1,0 +1,5 @@
+//! Tests of the public calls that cross crates, and of what no contract says.
+#![tactic(auto)]
+
+#[cfg(test)]
+mod readers;
