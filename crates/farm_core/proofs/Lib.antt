@@ -1,2 +1,11 @@
 pub mod Small
 pub mod Sound
+pub mod Upto
+pub mod Edited
+pub mod Windows
+pub mod Tabled
+pub mod EditLemmas
+pub mod JobLemmas
+pub mod AcceptedCalls
+pub mod Members
+pub mod OneWant

@@ -1,5 +1,5 @@
 -- What holds of each row holds of each after one is put or added.
-use Rattle.std.proofs.Common.{◌≡◌, ℕ, List, [], ◌∷◌, ◌++◌, ◌&&◌, Bool, true, false, cond, Some, IsTrue, refl, subst, arith}
+use Rattle.std.proofs.Common.{◌≡◌, ◌==◌, ℕ, length, Option, List, [], ◌∷◌, ◌++◌, ◌&&◌, Bool, true, false, cond, Some, IsTrue, refl, subst, arith}
 use Rattle.std.proofs.lemmas.Bool.Decides.{nat_tests}
 use Rattle.std.specs.declared.cmp.Ordering.{Ordering}
 use Rattle.std.specs.Str.{bytes_eq}
@@ -11,11 +11,15 @@ use Rattle.farm_types.specs.Proper.{is_frequency, is_proper_cmd}
 use Rattle.farm_types.specs.declared.calls.Cmd.{Cmd}
 use Rattle.farm_types.specs.declared.calls.Call.{Call}
 use Rattle.farm_types.specs.declared.rows.Check.{Check}
-use Rattle.farm_types.specs.Table.{put, type_cmp, board_cmp}
-use Rattle.farm_types.specs.Small.{IsSmall, every_of, IsSmallType, IsSmallBoard, IsSmallKept}
+use Rattle.farm_types.specs.Table.{put, type_cmp, board_cmp, job_cmp, res_cmp}
+use Rattle.farm_types.specs.Small.{IsSmall, every_of, IsSmallType, IsSmallBoard, IsSmallJob, IsSmallRes, IsSmallKept}
 use Rattle.farm_types.specs.declared.rows.TypeRow.{TypeRow}
 use Rattle.farm_types.specs.declared.rows.BoardRow.{BoardRow}
 use Rattle.farm_types.specs.declared.rows.KeptRow.{KeptRow}
+use Rattle.farm_types.specs.declared.rows.JobRow.{JobRow}
+use Rattle.farm_types.specs.declared.rows.Want.{Want}
+use Rattle.farm_types.specs.declared.rows.ResRow.{ResRow}
+use Rattle.farm_core.specs.Orderly.{IsNear}
 
 pub all_put : {R : Type 0} (P : R → Type 0) (cmp : R → R → Ordering) (row : R) → P row → (rows : List R) → AllByRecursion P rows → AllByRecursion P (put cmp rows row)
 all_put P cmp row here [] all = (here, tt)
@@ -39,6 +43,21 @@ small_types_push rows row here all = all_push IsSmallType row here rows all
 
 pub small_boards_push : (rows : List BoardRow) (row : BoardRow) → IsSmallBoard row → AllByRecursion IsSmallBoard rows → AllByRecursion IsSmallBoard (rows ++ (row ∷ []))
 small_boards_push rows row here all = all_push IsSmallBoard row here rows all
+
+pub small_jobs_put : (rows : List JobRow) (row : JobRow) → IsSmallJob row → AllByRecursion IsSmallJob rows → AllByRecursion IsSmallJob (put job_cmp rows row)
+small_jobs_put rows row here all = all_put IsSmallJob job_cmp row here rows all
+
+pub near_put : (rows : List JobRow) (row : JobRow) → IsNear row → AllByRecursion IsNear rows → AllByRecursion IsNear (put job_cmp rows row)
+near_put rows row here all = all_put IsNear job_cmp row here rows all
+
+pub small_jobs_push : (rows : List JobRow) (row : JobRow) → IsSmallJob row → AllByRecursion IsSmallJob rows → AllByRecursion IsSmallJob (rows ++ (row ∷ []))
+small_jobs_push rows row here all = all_push IsSmallJob row here rows all
+
+pub small_res_put : (rows : List ResRow) (row : ResRow) → IsSmallRes row → AllByRecursion IsSmallRes rows → AllByRecursion IsSmallRes (put res_cmp rows row)
+small_res_put rows row here all = all_put IsSmallRes res_cmp row here rows all
+
+pub small_res_push : (rows : List ResRow) (row : ResRow) → IsSmallRes row → AllByRecursion IsSmallRes rows → AllByRecursion IsSmallRes (rows ++ (row ∷ []))
+small_res_push rows row here all = all_push IsSmallRes row here rows all
 
 pub small_kept_push : (rows : List KeptRow) (row : KeptRow) → IsSmallKept row → AllByRecursion IsSmallKept rows → AllByRecursion IsSmallKept (rows ++ (row ∷ []))
 small_kept_push rows row here all = all_push IsSmallKept row here rows all
@@ -79,3 +98,13 @@ pub small_frequency : (check : Check) → IsTrue (is_frequency check) → IsSmal
 small_frequency Check.Never is = omega arith
 small_frequency (Check.Hours n) is = grind (arith, nat_tests)
 small_frequency (Check.Jobs n) is = grind (arith, nat_tests)
+
+-- a proper call's roles
+pub roles_of : (call : Call) (priority : ℕ) (wants : List Want) (roles : List (Option (List ℕ))) (body : List ℕ) → call.cmd ≡ Cmd.Submit priority wants roles body → length roles ≡ length wants
+unfolding is_proper_cmd
+roles_of call priority wants roles body is =
+    let proper = (both_true _ _ call.proper).1 in
+    let P : Cmd → Type 0 = λ cmd. is_proper_cmd cmd ≡ true in
+    let named = (both_true _ _ (both_true _ _ (subst P is proper)).0).0 in
+    let long : (length roles == length wants) ≡ true = (both_true _ _ (both_true _ _ named).0).1 in
+    grind (arith, nat_tests)

@@ -1,5 +1,5 @@
 -- What an answer of the program shows.
-use Rattle.std.specs.Prelude.{◌≡◌, ℕ, ⊤}
+use Rattle.std.specs.Prelude.{◌≡◌, ⊤}
 use Rattle.farm_types.specs.Farm.{Farm, put_rows}
 use Rattle.farm_types.specs.Machine.{Answered, Changed, Repeated, Denied}
 use Rattle.farm_types.specs.Small.{AreSmall}

@@ -1,5 +1,7 @@
 pub mod Plain
 pub mod Orderly
 pub mod Tracks
+pub mod Edits
+pub mod Reached
 pub mod Shown
 pub mod Answers

@@ -1,5 +1,5 @@
 -- What the commands rely on in a sound farm, and keep at each step on their way.
-use Rattle.std.specs.Prelude.{◌≤◌, ◌<◌, ◌+◌}
+use Rattle.std.specs.Prelude.{ℕ, ◌≤◌, ◌<◌, ◌+◌, List, length, get_or}
 use Rattle.std.specs.List.{AllByRecursion}
 use Rattle.std.specs.List.Sorted.{IsStrictlySortedBy}
 use Rattle.farm_types.specs.Table.{type_cmp, board_cmp, job_cmp, res_cmp, kept_cmp}
@@ -23,3 +23,8 @@ pub record IsOrderly (F : Farm) : Type 0 where
   pub small_jobs : AllByRecursion IsSmallJob F.jobs
   pub small_reservations : AllByRecursion IsSmallRes F.reservations
   pub near : AllByRecursion IsNear F.jobs
+
+-- rows before a place have smaller numbers, those from it on have not
+pub record IsPlaceOf {R : Type 0} (number_of : R → ℕ) (rows : List R) (number place : ℕ) : Type 0 where
+  pub below : (k : ℕ) (d : R) → k < place → number_of (get_or rows k d) < number
+  pub above : (k : ℕ) (d : R) → place ≤ k → k < length rows → number ≤ number_of (get_or rows k d)

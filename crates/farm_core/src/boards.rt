@@ -1,13 +1,13 @@
 //! The commands on boards.
-ghost use Rattle.std.specs.Prelude.{◌≡◌, ◌&&◌, ◌∷◌, [], Some, OnOk, not, is_some, is_none, length};
+ghost use Rattle.std.specs.Prelude.{◌≡◌, ◌&&◌, ◌∷◌, [], OnOk, IfOk, not, is_some, is_none, length};
 ghost use Rattle.std.specs.List.{filter};
 ghost use Rattle.std.specs.Str.{bytes_eq};
 ghost use Rattle.farm_types.specs.Codes.{same_health};
-ghost use Rattle.farm_types.specs.Farm.{Farm, type_of, board_of, put_board};
+ghost use Rattle.farm_types.specs.Farm.{Farm, type_of, board_of};
 ghost use Rattle.farm_types.specs.Pick.{is_nobody};
-ghost use Rattle.farm_types.specs.Pass.{with_board};
 ghost use Rattle.farm_types.specs.Refuse.{first_code, board_is, is_retired};
-ghost use Rattle.farm_types.specs.Change.{new_board};
+ghost use Rattle.farm_types.specs.Change.{act, done};
+ghost use Rattle.farm_types.specs.declared.calls.Cmd.{Cmd};
 ghost use Rattle.farm_core.specs.Plain.{plain};
 ghost use Rattle.farm_core.specs.Orderly.{IsOrderly};
 ghost use Rattle.farm_core.specs.Tracks.{Tracks};
@@ -56,9 +56,9 @@ impl Tables {
         name: &Name,
         kind: &Name,
         tags: &Tags,
-    ) -> Result<(), AllocError>
+    ) -> Result<u64, AllocError>
         requires { IsOrderly (plain self.old) }
-        ensures farm { OnOk result (plain self.new ≡ put_board (plain self.old) (new_board name.now kind.now tags.now)) }
+        ensures acts { IfOk result (λ n. act (plain self.old) [] (Cmd.AddBoard name.now kind.now tags.now) ≡ done n (plain self.new)) }
         ensures orderly { OnOk result (IsOrderly (plain self.new)) }
         ensures tracked { OnOk result ((F : Farm) → Tracks F changes.old (plain self.old)
             → Tracks F changes.new (plain self.new)) }
@@ -73,7 +73,8 @@ impl Tables {
             jobs_since: 0,
             last_check: 0,
         };
-        self.put_board(changes, row)
+        self.put_board(changes, row)?;
+        Ok(0)
     }
 
     /// Why a board's tags aren't set.
@@ -98,19 +99,20 @@ impl Tables {
         changes: &mut Changes,
         name: &Name,
         tags: &Tags,
-    ) -> Result<(), AllocError>
+    ) -> Result<u64, AllocError>
         requires { IsOrderly (plain self.old) }
-        ensures farm { OnOk result (plain self.new ≡ with_board (λ b. record b { tags = tags.now }) (plain self.old) (Some name.now)) }
+        ensures acts { IfOk result (λ n. act (plain self.old) [] (Cmd.SetTags name.now tags.now) ≡ done n (plain self.new)) }
         ensures orderly { OnOk result (IsOrderly (plain self.new)) }
         ensures tracked { OnOk result ((F : Farm) → Tracks F changes.old (plain self.old)
             → Tracks F changes.new (plain self.new)) }
     {
         let mut row = match self.find_board(name) {
-            None => return Ok(()),
+            None => return Ok(0),
             Some(row) => row.copy()?,
         };
         row.tags = tags.copy()?;
-        self.put_board(changes, row)
+        self.put_board(changes, row)?;
+        Ok(0)
     }
 
     /// Why a board's health isn't set.
@@ -140,18 +142,19 @@ impl Tables {
         changes: &mut Changes,
         name: &Name,
         health: Health,
-    ) -> Result<(), AllocError>
+    ) -> Result<u64, AllocError>
         requires { IsOrderly (plain self.old) }
-        ensures farm { OnOk result (plain self.new ≡ with_board (λ b. record b { health = health }) (plain self.old) (Some name.now)) }
+        ensures acts { IfOk result (λ n. act (plain self.old) [] (Cmd.SetHealth name.now health) ≡ done n (plain self.new)) }
         ensures orderly { OnOk result (IsOrderly (plain self.new)) }
         ensures tracked { OnOk result ((F : Farm) → Tracks F changes.old (plain self.old)
             → Tracks F changes.new (plain self.new)) }
     {
         let mut row = match self.find_board(name) {
-            None => return Ok(()),
+            None => return Ok(0),
             Some(row) => row.copy()?,
         };
         row.health = health;
-        self.put_board(changes, row)
+        self.put_board(changes, row)?;
+        Ok(0)
     }
 }

@@ -1,11 +1,12 @@
 //! A whole change: the clock moves, the command acts, its reply is kept, and it is counted.
-ghost use Rattle.std.specs.Prelude.{◌≡◌, ◌≤◌, ◌<◌, OnOk, IfOk};
+ghost use Rattle.std.specs.Prelude.{◌≡◌, ◌≤◌, None, OnOk, IfOk};
 ghost use Rattle.farm_types.specs.Farm.{Farm, put_rows};
-ghost use Rattle.farm_types.specs.Refuse.{kind_of};
+ghost use Rattle.farm_types.specs.Refuse.{refusal};
 ghost use Rattle.farm_types.specs.Change.{act, keep, change};
-ghost use Rattle.farm_types.specs.Small.{IsSmall};
+ghost use Rattle.farm_types.specs.Sound.{IsSound};
 ghost use Rattle.farm_core.specs.Plain.{plain};
 ghost use Rattle.farm_core.specs.Orderly.{IsOrderly};
+ghost use Rattle.farm_core.specs.Reached.{IsReached, IsSmallCmd};
 ghost use Rattle.farm_core.specs.Tracks.{Tracks, AreSmallRows, IsSmallReply};
 
 use crate::tables::{Tables, no_changes};
@@ -17,22 +18,37 @@ impl Tables {
     /// What the command does.
     fn act(&mut self, changes: &mut Changes, call: &Call) -> Result<Reply, AllocError>
         requires orderly { IsOrderly (plain self.old) }
-        requires kind { kind_of call.now.cmd ≤ 4 }
+        requires reached { IsReached call.now.cmd }
+        requires small { IsSmallCmd call.now.cmd }
+        requires clock { (plain self.old).clock ≤ 250000000000 }
+        requires next { (plain self.old).next ≤ 1000000000 }
         ensures farm { OnOk result (plain self.new ≡ (act (plain self.old) call.entry.now.caller call.entry.now.cmd).farm) }
         ensures reply { IfOk result (λ reply. reply ≡ (act (plain self.old) call.entry.now.caller call.entry.now.cmd).reply) }
-        ensures small { IfOk result IsSmallReply }
         ensures orderly { OnOk result (IsOrderly (plain self.new)) }
         ensures tracked { OnOk result ((F : Farm) → Tracks F changes.old (plain self.old)
             → Tracks F changes.new (plain self.new)) }
     {
-        match &call.cmd {
+        let number = match &call.cmd {
             Cmd::AddType(name, check) => self.add_type(changes, name, *check)?,
             Cmd::AddBoard(name, kind, tags) => self.add_board(changes, name, kind, tags)?,
             Cmd::SetTags(name, tags) => self.set_tags(changes, name, tags)?,
             Cmd::SetHealth(name, health) => self.set_health(changes, name, *health)?,
+            Cmd::Submit(priority, wants, roles, body) => {
+                self.submit(changes, &call.caller, *priority, wants, roles, body)?
+            }
+            Cmd::Reserve(priority, tags) => {
+                self.reserve(changes, &call.caller, *priority, tags)?
+            }
+            Cmd::Cancel(number) => self.cancel(changes, *number)?,
+            Cmd::Start(number) => self.start(changes, *number)?,
+            Cmd::Finish(number, outcome) => self.finish(changes, *number, *outcome)?,
+            Cmd::Acquire(number) => self.acquire(changes, *number)?,
+            Cmd::Release(number) => self.release(changes, *number)?,
+            Cmd::Refresh(number) => self.refresh(changes, *number)?,
+            Cmd::CancelRes(number) => self.cancel_reservation(changes, *number)?,
             _ => unreachable!(),
-        }
-        Ok(Reply(0, 0, 0))
+        };
+        Ok(Reply(number, 0, 0))
     }
 
     /// Keeps the reply under the call's key, if it has one.
@@ -61,9 +77,9 @@ impl Tables {
     /// The command is done, its reply kept, the clock moved and the command counted.
     #[tactic(auto, unfolding(farm_types::specs::Change::change))]
     pub fn change(&mut self, call: &Call) -> Result<(Reply, Changes), AllocError>
-        requires orderly { IsOrderly (plain self.old) }
-        requires kind { kind_of call.now.cmd ≤ 4 }
-        requires room { self.old.count < 9000000000000000000 }
+        requires sound { IsSound (plain self.old) }
+        requires accepted { None ≡ refusal (plain self.old) call.now }
+        requires reached { IsReached call.now.cmd }
         ensures farm { OnOk result (plain self.new ≡ (change (plain self.old) call.entry.now).farm) }
         ensures reply { IfOk result (λ r. r.0 ≡ (change (plain self.old) call.entry.now).reply) }
         ensures rows { IfOk result (λ r. put_rows (plain self.old) r.1 ≡ plain self.new) }

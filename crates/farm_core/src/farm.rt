@@ -1,9 +1,10 @@
 //! The farm.
 ghost use Rattle.std.specs.Prelude.{◌≡◌, ◌≤◌, ◌↔◌, true, false, Err, IsOk, IfOk, OnOk};
-ghost use Rattle.farm_types.specs.Farm.{empty, farm_of, status_of};
-ghost use Rattle.farm_types.specs.Refuse.{kind_of};
+ghost use Rattle.std.specs.Option.{option_copied};
+ghost use Rattle.farm_types.specs.Farm.{empty, farm_of, job_of, status_of};
 ghost use Rattle.farm_types.specs.Machine.{answer, step};
 ghost use Rattle.farm_types.specs.Sound.{IsSound};
+ghost use Rattle.farm_core.specs.Reached.{IsReached};
 ghost use Rattle.farm_core.specs.Answers.{shown, Leads, Rests, AreSmallChanges, IsChange};
 
 use crate::kept::Kept;
@@ -12,7 +13,7 @@ use farm_sound::sound::is_sound;
 use farm_types::calls::{Answer, Call, Rows};
 use farm_types::claims::Status;
 use farm_types::refusal::Refusal;
-use farm_types::rows::{BoardRow, ResRow, TypeRow};
+use farm_types::rows::{BoardRow, JobRow, ResRow, TypeRow};
 use std::alloc::{AllocError, Global};
 use std::marker::Model;
 use thiserror::Error;
@@ -140,6 +141,16 @@ impl Farm {
         self.tables.reservations.as_slice()
     }
 
+    /// The job of that number, by binary search. What a failed farm shows is open.
+    pub fn job(&self, number: u64) -> Option<&JobRow>
+        ensures { self.now.failed ≡ false → option_copied result ≡ job_of self.now.farm number }
+    {
+        if self.failed {
+            return None;
+        }
+        self.tables.find_job(number)
+    }
+
     /// How many rows there are, and the farm's three numbers.
     pub fn status(&self) -> Status
         ensures { result ≡ status_of self.now.farm }
@@ -157,7 +168,7 @@ impl Farm {
 
     /// One step of the machine: the answer, and where the command is accepted the changed rows.
     pub fn step(&mut self, call: &Call) -> Result<Answer, StepFault>
-        requires { kind_of call.now.cmd ≤ 4 }
+        requires { IsReached call.now.cmd }
 
         // The answer is the machine's, and so is the farm.
         ensures answer { IfOk result (λ a. shown a ≡ answer self.old.farm call.entry.now) }

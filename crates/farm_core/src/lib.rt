@@ -3,8 +3,19 @@
 
 mod boards;
 mod change;
+mod edit;
 pub mod farm;
+mod held;
+mod held_edits;
+mod job_edit;
+mod jobs;
 mod kept;
 mod refusal;
+mod res_edit;
+mod reservations;
+mod reserve;
+mod submit;
 mod tables;
+#[cfg(test)]
+mod tests;
 mod types;

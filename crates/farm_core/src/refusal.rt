@@ -1,10 +1,11 @@
 //! Why a call is refused: the first reason that applies.
 ghost use Rattle.std.specs.Prelude.{◌≡◌, ◌≤◌, ◌&&◌, nat_le, length};
 ghost use Rattle.farm_types.specs.Pass.{has_room};
-ghost use Rattle.farm_types.specs.Refuse.{is_admin, is_dispatcher, may_give, kind_of, is_full, is_full_for, is_reused, early_refusal, own_refusal, refusal};
+ghost use Rattle.farm_types.specs.Refuse.{is_admin, is_dispatcher, may_give, is_full, is_full_for, is_reused, early_refusal, own_refusal, refusal};
 ghost use Rattle.farm_types.specs.Machine.{repeated};
 ghost use Rattle.farm_core.specs.Plain.{plain};
 ghost use Rattle.farm_core.specs.Orderly.{IsOrderly};
+ghost use Rattle.farm_core.specs.Reached.{IsReached};
 
 use crate::tables::Tables;
 use farm_types::calls::{Call, Cmd};
@@ -31,12 +32,14 @@ const NUMBERS_END: u64 = 1_000_000_000;
 /// The most commands that a farm accepts in its life.
 const MOST_COMMANDS: u64 = 9_000_000_000_000_000_000;
 
-fn is_admin(caller: &Name) -> bool
+/// Whether the admin calls.
+pub fn is_admin(caller: &Name) -> bool
     ensures { result ≡ is_admin caller.now }
 {
     caller.as_str() == "admin"
 }
 
+/// Whether the dispatcher calls.
 fn is_dispatcher(caller: &Name) -> bool
     ensures { result ≡ is_dispatcher caller.now }
 {
@@ -157,14 +160,24 @@ impl Tables {
     #[tactic(auto, unfolding(farm_types::specs::Refuse::own_refusal))]
     fn own_refusal(&self, call: &Call) -> Option<u16>
         requires orderly { IsOrderly (plain self.now) }
-        requires kind { kind_of call.now.cmd ≤ 4 }
+        requires reached { IsReached call.now.cmd }
         ensures { result ≡ own_refusal (plain self.now) call.entry.now }
     {
+        let now = self.clock.max(call.now);
         match &call.cmd {
             Cmd::AddType(name, _) => self.refuse_add_type(name),
             Cmd::AddBoard(name, kind, _) => self.refuse_add_board(name, kind),
             Cmd::SetTags(name, _) => self.refuse_set_tags(name),
             Cmd::SetHealth(name, health) => self.refuse_set_health(name, *health),
+            Cmd::Submit(_, wants, _, _) => self.refuse_submit(wants),
+            Cmd::Reserve(_, tags) => self.refuse_reserve(tags),
+            Cmd::Cancel(number) => self.refuse_cancel(&call.caller, *number),
+            Cmd::Start(number) => self.refuse_start(*number),
+            Cmd::Finish(number, _) => self.refuse_finish(*number),
+            Cmd::Acquire(number) => self.refuse_acquire(&call.caller, now, *number),
+            Cmd::Release(number) => self.refuse_release(&call.caller, now, *number),
+            Cmd::Refresh(number) => self.refuse_alive(&call.caller, now, *number),
+            Cmd::CancelRes(number) => self.refuse_alive(&call.caller, now, *number),
             _ => unreachable!(),
         }
     }
@@ -173,7 +186,7 @@ impl Tables {
     #[tactic(auto, unfolding(farm_types::specs::Refuse::refusal))]
     pub fn refusal(&self, call: &Call) -> Option<u16>
         requires orderly { IsOrderly (plain self.now) }
-        requires kind { kind_of call.now.cmd ≤ 4 }
+        requires reached { IsReached call.now.cmd }
         ensures { result ≡ refusal (plain self.now) call.entry.now }
     {
         if let Some(code) = self.early_refusal(call) {

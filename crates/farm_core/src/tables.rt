@@ -2,11 +2,12 @@
 //! and logs the changed rows, so that the log, put into the first farm, always gives this one.
 ghost use Rattle.std.specs.Prelude.{◌≡◌, OnOk};
 ghost use Rattle.std.specs.Option.{option_copied};
-ghost use Rattle.farm_types.specs.Farm.{Farm, empty, type_of, board_of, put_type, put_board, put_kept};
-ghost use Rattle.farm_types.specs.Small.{IsSmallType, IsSmallBoard, IsSmallKept};
+ghost use Rattle.farm_types.specs.Table.{put, job_cmp};
+ghost use Rattle.farm_types.specs.Farm.{Farm, empty, type_of, board_of, put_type, put_board, put_res, put_kept};
+ghost use Rattle.farm_types.specs.Small.{IsSmallType, IsSmallBoard, IsSmallJob, IsSmallRes, IsSmallKept};
 ghost use Rattle.farm_types.specs.Refuse.{kept_for};
 ghost use Rattle.farm_core.specs.Plain.{plain};
-ghost use Rattle.farm_core.specs.Orderly.{IsOrderly};
+ghost use Rattle.farm_core.specs.Orderly.{IsOrderly, IsNear};
 ghost use Rattle.farm_core.specs.Tracks.{Tracks};
 
 use crate::kept::Kept;
@@ -119,6 +120,35 @@ impl Tables {
     {
         changes.boards.push(row.copy()?)?;
         upsert(&mut self.boards, row)
+    }
+
+    /// Puts a job. A row with the next number is added at the end, and moves none.
+    #[tactic(auto, using(crate::proofs::Small::small_jobs_put, crate::proofs::Small::near_put, crate::proofs::Small::small_jobs_push))]
+    pub fn put_job(&mut self, changes: &mut Changes, row: JobRow) -> Result<(), AllocError>
+        requires orderly { IsOrderly (plain self.old) }
+        requires small { IsSmallJob row }
+        requires near { IsNear row }
+        ensures farm { OnOk result (plain self.new ≡ record (plain self.old) { jobs = put job_cmp (plain self.old).jobs row }) }
+        ensures orderly { OnOk result (IsOrderly (plain self.new)) }
+        ensures tracked { OnOk result ((F : Farm) → Tracks F changes.old (plain self.old)
+            → Tracks F changes.new (plain self.new)) }
+    {
+        changes.jobs.push(row.copy()?)?;
+        upsert(&mut self.jobs, row)
+    }
+
+    /// Puts a reservation. A row with the next number is added at the end, and moves none.
+    #[tactic(auto, using(crate::proofs::Small::small_res_put, crate::proofs::Small::small_res_push))]
+    pub fn put_reservation(&mut self, changes: &mut Changes, row: ResRow) -> Result<(), AllocError>
+        requires orderly { IsOrderly (plain self.old) }
+        requires small { IsSmallRes row }
+        ensures farm { OnOk result (plain self.new ≡ put_res (plain self.old) row) }
+        ensures orderly { OnOk result (IsOrderly (plain self.new)) }
+        ensures tracked { OnOk result ((F : Farm) → Tracks F changes.old (plain self.old)
+            → Tracks F changes.new (plain self.new)) }
+    {
+        changes.reservations.push(row.copy()?)?;
+        upsert(&mut self.reservations, row)
     }
 
     /// Puts a kept reply.

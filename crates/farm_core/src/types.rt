@@ -1,8 +1,10 @@
 //! The command on types.
-ghost use Rattle.std.specs.Prelude.{◌≡◌, ◌∷◌, [], OnOk, IsTrue, is_some};
-ghost use Rattle.farm_types.specs.Farm.{Farm, type_of, put_type};
+ghost use Rattle.std.specs.Prelude.{◌≡◌, ◌∷◌, [], OnOk, IfOk, IsTrue, is_some};
+ghost use Rattle.farm_types.specs.Farm.{Farm, type_of};
 ghost use Rattle.farm_types.specs.Proper.{is_frequency};
 ghost use Rattle.farm_types.specs.Refuse.{first_code};
+ghost use Rattle.farm_types.specs.Change.{act, done};
+ghost use Rattle.farm_types.specs.declared.calls.Cmd.{Cmd};
 ghost use Rattle.farm_core.specs.Plain.{plain};
 ghost use Rattle.farm_core.specs.Orderly.{IsOrderly};
 ghost use Rattle.farm_core.specs.Tracks.{Tracks};
@@ -32,10 +34,10 @@ impl Tables {
         changes: &mut Changes,
         name: &Name,
         check: Check,
-    ) -> Result<(), AllocError>
+    ) -> Result<u64, AllocError>
         requires orderly { IsOrderly (plain self.old) }
         requires frequency { IsTrue (is_frequency check) }
-        ensures farm { OnOk result (plain self.new ≡ put_type (plain self.old) (record { name = name.now; check = check })) }
+        ensures acts { IfOk result (λ n. act (plain self.old) [] (Cmd.AddType name.now check) ≡ done n (plain self.new)) }
         ensures orderly { OnOk result (IsOrderly (plain self.new)) }
         ensures tracked { OnOk result ((F : Farm) → Tracks F changes.old (plain self.old)
             → Tracks F changes.new (plain self.new)) }
@@ -44,6 +46,7 @@ impl Tables {
             name: name.copy()?,
             check,
         };
-        self.put_type(changes, row)
+        self.put_type(changes, row)?;
+        Ok(0)
     }
 }

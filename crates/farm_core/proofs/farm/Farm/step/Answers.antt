@@ -1,9 +1,7 @@
-use Rattle.std.proofs.Common.{◌≡◌, ap, sym, subst, ◌∙◌, refl}
-use Rattle.farm_types.specs.Sound.{IsSound}
+use Rattle.std.proofs.Common.{ap, sym, ◌∙◌}
 use Rattle.farm_types.specs.Machine.{Changed}
 use Rattle.farm_core.specs.Plain.{plain}
-use Rattle.farm_core.specs.Answers.{IsChange}
-use Rattle.farm_sound.proofs.Answered.{answers_repeated, answers_denied, answers_changed, count_has_room}
+use Rattle.farm_sound.proofs.Answered.{answers_repeated, answers_denied, answers_changed}
 use Rattle.farm_sound.proofs.Step.{IsSound-change}
 use Rattle.farm_core.proofs.Sound.{IsOrderly-sound, AreSmall-sound}
 use Rattle.farm_core.proofs.farm.Farm.step.Goals as goal
@@ -22,8 +20,8 @@ pub returns-in-Some-refusal-clause-farm : goal.returns-in-Some-refusal-clause-fa
 returns-in-Some-refusal-clause-farm c =
     rw (← c.self.view_is) (sym (answers_denied _ c.args.call.now _ c.in_default.ensures c.in-Some-refusal.ensures).step)
 
-pub change-requires-clause-room : goal.change-requires-clause-room
-change-requires-clause-room c = count_has_room (plain c.self.inside.tables) c.args.call.now c.in_default-refusal.ensures
+pub change-requires-clause-accepted : goal.change-requires-clause-accepted
+change-requires-clause-accepted c = c.in_default-refusal.ensures
 
 pub returns-in_err-reply-clause-memory : goal.returns-in_err-reply-clause-memory
 returns-in_err-reply-clause-memory c =
@@ -51,8 +49,8 @@ kept_reply-requires c = IsOrderly-sound _ (c.self.invariant c.if-self.false)
 pub refusal-requires-clause-orderly : goal.refusal-requires-clause-orderly
 refusal-requires-clause-orderly c = IsOrderly-sound _ (c.self.invariant c.if-self.false)
 
-pub change-requires-clause-orderly : goal.change-requires-clause-orderly
-change-requires-clause-orderly c = IsOrderly-sound _ (c.self.invariant c.if-self.false)
+pub change-requires-clause-sound : goal.change-requires-clause-sound
+change-requires-clause-sound c = c.self.invariant c.if-self.false
 
 pub returns-clause-small : goal.returns-clause-small
 returns-clause-small c =

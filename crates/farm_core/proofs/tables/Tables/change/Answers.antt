@@ -1,7 +1,11 @@
-use Rattle.std.proofs.Common.{◌≡◌, ◌+◌}
-use Rattle.farm_types.specs.Farm.{Farm, put_rows}
+use Rattle.std.proofs.Common.{◌≡◌, ◌+◌, ◌∙◌, arith}
+use Rattle.farm_types.specs.Change.{act, moved}
+use Rattle.farm_types.specs.Farm.{Farm}
 use Rattle.farm_core.specs.Plain.{plain}
-use Rattle.farm_core.specs.Tracks.{Tracks, AreSmallRows}
+use Rattle.farm_core.specs.Tracks.{Tracks}
+use Rattle.farm_core.proofs.AcceptedCalls.{in_time, IsSmallCmd-accepted}
+use Rattle.farm_core.proofs.Sound.{IsOrderly-sound}
+use Rattle.farm_sound.proofs.Step.{acted_call}
 use Rattle.farm_core.proofs.tables.Tables.change.Goals as goal
 
 -- the command's rows and the kept reply's are tracked, and the numbers are no rows
@@ -21,3 +25,32 @@ pub returns-clause-small : goal.returns-clause-small
 returns-clause-small c =
     let small = (tracked c).small in
     record { types = small.types; boards = small.boards; jobs = small.jobs; reservations = small.reservations; kept = small.kept }
+
+pub act-requires-clause-orderly : goal.act-requires-clause-orderly
+act-requires-clause-orderly c =
+    let o = IsOrderly-sound (plain c.args.self.now) c.requires.sound in
+    record {
+      types = o.types;
+      boards = o.boards;
+      jobs = o.jobs;
+      reservations = o.reservations;
+      kept = o.kept;
+      near = o.near;
+      small_types = o.small_types;
+      small_boards = o.small_boards;
+      small_jobs = o.small_jobs;
+      small_reservations = o.small_reservations;
+    }
+
+pub act-requires-clause-small : goal.act-requires-clause-small
+act-requires-clause-small c = IsSmallCmd-accepted (plain c.args.self.now) c.args.call.now c.requires.accepted c.requires.sound
+
+pub act-requires-clause-clock : goal.act-requires-clause-clock
+act-requires-clause-clock c = rw c.max-self.ensures (in_time (plain c.args.self.now) c.args.call.now c.requires.accepted c.requires.sound)
+
+pub keep-requires-clause-small : goal.keep-requires-clause-small
+keep-requires-clause-small c =
+    let F : Farm = plain c.args.self.now in
+    let acted = acted_call F c.args.call.now c.requires.accepted c.requires.sound in
+    let same : c.in_ok-reply.reply ≡ (act (moved F c.args.call.now) c.args.call.now.caller c.args.call.now.cmd).reply = c.in_ok-reply.ensures.reply ∙ (λ i. (act (record F { clock = c.max-self.ensures i }) c.args.call.now.caller c.args.call.now.cmd).reply) in
+    rw same (omega (arith, acted.first), omega (arith, acted.second), omega (arith, acted.third))

@@ -1,0 +1,114 @@
+-- What the edits of jobs, reservations and boards keep.
+use Rattle.std.proofs.Common.{◌≡◌, ℕ, ◌+◌, List, [], ◌∷◌, min, Bool, true, false, cond, refl, ap, ◌∙◌, arith}
+use Rattle.farm_types.specs.Table.{change_where}
+use Rattle.farm_types.specs.Farm.{Farm}
+use Rattle.farm_types.specs.Pass.{idle, is_job_so, is_res_so, change_jobs, change_res}
+use Rattle.farm_types.specs.Change.{graded, after_job, after_check}
+use Rattle.farm_types.specs.Small.{IsSmallBoard}
+use Rattle.farm_types.specs.declared.rows.Health.{Health}
+use Rattle.farm_types.specs.declared.rows.Holder.{Holder}
+use Rattle.farm_types.specs.declared.rows.Outcome.{Outcome}
+use Rattle.farm_types.specs.declared.rows.JobRow.{JobRow}
+use Rattle.farm_types.specs.declared.rows.ResRow.{ResRow}
+use Rattle.farm_types.specs.declared.rows.BoardRow.{BoardRow}
+use Rattle.farm_core.specs.declared.job_edit.JobEdit.{JobEdit}
+use Rattle.farm_core.specs.declared.res_edit.ResEdit.{ResEdit}
+use Rattle.farm_core.specs.declared.held.Becomes.{Becomes}
+use Rattle.farm_core.specs.Edits.{IfAfterCheck, job_changed, res_changed, board_after, is_job_in, is_res_in}
+use Rattle.farm_core.proofs.Tabled.{KeepsJob}
+
+keeps_number : (e : JobEdit) (j : JobRow) → (job_changed e j).number ≡ j.number
+keeps_number (JobEdit.Start group) j = refl
+keeps_number (JobEdit.End group) j = refl
+keeps_number (JobEdit.Cancel group) j = refl
+keeps_number (JobEdit.Finish number outcome) j = refl
+
+keeps_group : (e : JobEdit) (j : JobRow) → (job_changed e j).group ≡ j.group
+keeps_group (JobEdit.Start group) j = refl
+keeps_group (JobEdit.End group) j = refl
+keeps_group (JobEdit.Cancel group) j = refl
+keeps_group (JobEdit.Finish number outcome) j = refl
+
+pub keeps_job : (e : JobEdit) → KeepsJob (job_changed e)
+keeps_job e = record { number = keeps_number e; group = keeps_group e }
+
+pub keeps_res : (e : ResEdit) (r : ResRow) → (res_changed e r).number ≡ r.number
+keeps_res (ResEdit.Acquire number) r = refl
+keeps_res (ResEdit.Release number deadline) r = refl
+keeps_res (ResEdit.Refresh number deadline) r = refl
+keeps_res (ResEdit.Cancel number) r = refl
+keeps_res (ResEdit.Expire now) r = refl
+
+graded_by : (P : BoardRow → Type 0) (h : Health) (b : BoardRow) → P b → P (record b { health = h }) → P (graded h b)
+graded_by P h b same other = by _
+  where
+    by : (v : Bool) → P (cond v (record b { health = h }) b)
+    by true = other
+    by false = same
+
+job_by : (P : BoardRow → Type 0) (outcome : Outcome) (b : BoardRow) → ((h : Health) → P (record b { jobs_since = min (b.jobs_since + 1) 1000000; health = h })) → P (after_job outcome b)
+job_by P outcome b each = by _
+  where
+    used : BoardRow
+    used = record b { jobs_since = min (b.jobs_since + 1) 1000000 }
+
+    by : (v : Bool) → P (cond v (graded Health.Unknown used) used)
+    by true = graded_by P Health.Unknown used (each b.health) (each Health.Unknown)
+    by false = each b.health
+
+check_by : (P : BoardRow → Type 0) (outcome : Outcome) (t : ℕ) (b : BoardRow) → ((h : Health) → P (record b { health = h })) → ((h : Health) → P (record b { jobs_since = 0; last_check = t; health = h })) → P (after_check outcome t b)
+check_by P Outcome.Complete t b each fresh = graded_by P Health.Good (record b { jobs_since = 0; last_check = t }) (fresh b.health) (fresh Health.Good)
+check_by P Outcome.Incomplete t b each fresh = graded_by P Health.Bad b (each b.health) (each Health.Bad)
+check_by P Outcome.Infra t b each fresh = graded_by P Health.Bad b (each b.health) (each Health.Bad)
+check_by P Outcome.Canceled t b each fresh = each b.health
+
+pub keeps_board : (e : Becomes) (b : BoardRow) → (board_after e b).name ≡ b.name
+keeps_board Becomes.Idle b = refl
+keeps_board (Becomes.State state) b = refl
+keeps_board (Becomes.AfterJob outcome) b = job_by (λ x. x.name ≡ b.name) outcome b (λ h. refl)
+keeps_board (Becomes.AfterCheck outcome t) b = check_by (λ x. x.name ≡ b.name) outcome t b (λ h. refl) (λ h. refl)
+
+-- the words of the machine
+pub of_jobs : (F : Farm) (test : JobRow → Bool) (h : Holder) → is_job_in F.jobs test h ≡ is_job_so F test h
+of_jobs F test Holder.Nobody = refl
+of_jobs F test (Holder.Job n) = refl
+of_jobs F test (Holder.Res n) = refl
+
+pub of_reservations : (F : Farm) (test : ResRow → Bool) (h : Holder) → is_res_in F.reservations test h ≡ is_res_so F test h
+of_reservations F test Holder.Nobody = refl
+of_reservations F test (Holder.Job n) = refl
+of_reservations F test (Holder.Res n) = refl
+
+-- a change that changes nothing
+same_rows : {R : Type 0} (test : R → Bool) (rows : List R) → rows ≡ change_where test (λ r. r) rows
+same_rows test [] = refl
+same_rows {R = R} test (r ∷ rows) = by (test r) (same_rows test rows)
+  where
+    by : (v : Bool) → rows ≡ change_where test (λ r. r) rows → r ∷ rows ≡ cond v r r ∷ change_where test (λ r. r) rows
+    by true rest = ap (λ rows. r ∷ rows) rest
+    by false rest = ap (λ rows. r ∷ rows) rest
+
+-- boards first and then the rows is the machine's change
+pub jobs_changed : (F : Farm) (test : JobRow → Bool) (f : JobRow → JobRow) (g : BoardRow → BoardRow) (G H : Farm) → G ≡ record F { boards = change_where (λ b. is_job_in F.jobs test b.holder) g F.boards } → H ≡ record G { jobs = change_where test f G.jobs } → H ≡ change_jobs test f g F
+jobs_changed F test f g G H first then =
+    then ∙ ap (λ (G : Farm). record G { jobs = change_where test f G.jobs }) first
+    ∙ (λ i. record F { jobs = change_where test f F.jobs; boards = change_where (λ b. of_jobs F test b.holder i) g F.boards })
+
+pub reservations_changed : (F : Farm) (test : ResRow → Bool) (f : ResRow → ResRow) (g : BoardRow → BoardRow) (G H : Farm) → G ≡ record F { boards = change_where (λ b. is_res_in F.reservations test b.holder) g F.boards } → H ≡ record G { reservations = change_where test f G.reservations } → H ≡ change_res test f g F
+reservations_changed F test f g G H first then =
+    then ∙ ap (λ (G : Farm). record G { reservations = change_where test f G.reservations }) first
+    ∙ (λ i. record F { reservations = change_where test f F.reservations; boards = change_where (λ b. of_reservations F test b.holder i) g F.boards })
+
+-- a change that leaves the boards
+pub jobs_alone : (F G : Farm) (test : JobRow → Bool) (f : JobRow → JobRow) → G ≡ record F { jobs = change_where test f F.jobs } → G ≡ change_jobs test f (λ b. b) F
+jobs_alone F G test f is = is ∙ (λ i. record F { jobs = change_where test f F.jobs; boards = same_rows (λ (b : BoardRow). is_job_so F test b.holder) F.boards i })
+
+-- each small board stays small
+pub small_board : (e : Becomes) → IfAfterCheck e → (b : BoardRow) → IsSmallBoard b → IsSmallBoard (board_after e b)
+small_board Becomes.Idle now b s = record { held_by = omega arith; jobs_since = s.jobs_since; last_check = s.last_check }
+small_board (Becomes.State state) now b s = record { held_by = s.held_by; jobs_since = s.jobs_since; last_check = s.last_check }
+small_board (Becomes.AfterJob outcome) now b s = job_by (λ x. IsSmallBoard (idle x)) outcome b (λ h. record { held_by = omega arith; jobs_since = omega arith; last_check = s.last_check })
+small_board (Becomes.AfterCheck outcome t) now b s = check_by (λ x. IsSmallBoard (idle x)) outcome t b (λ h. record { held_by = omega arith; jobs_since = s.jobs_since; last_check = s.last_check }) (λ h. record { held_by = omega arith; jobs_since = omega arith; last_check = now })
+
+pub reservations_alone : (F G : Farm) (test : ResRow → Bool) (f : ResRow → ResRow) → G ≡ record F { reservations = change_where test f F.reservations } → G ≡ change_res test f (λ b. b) F
+reservations_alone F G test f is = is ∙ (λ i. record F { reservations = change_where test f F.reservations; boards = same_rows (λ (b : BoardRow). is_res_so F test b.holder) F.boards i })

@@ -1,0 +1,68 @@
+-- The commands on jobs, from their edits.
+use Rattle.std.proofs.Common.{◌≡◌, ℕ, zero, suc, ◌+◌, ◌-◌, ◌<◌, ◌≤◌, ◌==◌, List, [], ◌∷◌, length, get_or, take, drop, Bool, true, false, cond, Some, refl, sym, ap, ◌∙◌, arith, length-drop, Bor, Option, None, IfSome}
+use Rattle.std.proofs.lemmas.List.{get_or-drop}
+use Rattle.std.specs.List.{AllByRecursion, find, filter}
+use Rattle.std.specs.Option.{option_map_or, option_copied}
+use Rattle.std.proofs.lemmas.Bool.Decides.{nat_tests}
+use Rattle.farm_types.specs.Farm.{Farm, job_of}
+use Rattle.farm_types.specs.Table.{change_where}
+use Rattle.farm_types.specs.Pass.{idle, change_jobs}
+use Rattle.farm_types.specs.Change.{act, done, cancel_group, finish_one, after_check, after_job}
+use Rattle.farm_types.specs.Small.{IsSmallJob}
+use Rattle.farm_types.specs.declared.calls.Cmd.{Cmd}
+use Rattle.farm_types.specs.declared.rows.Outcome.{Outcome}
+use Rattle.farm_types.specs.declared.rows.BoardRow.{BoardRow}
+use Rattle.farm_types.specs.declared.rows.JobRow.{JobRow}
+use Rattle.farm_types.proofs.Put.{found_has, found_passes}
+use Rattle.farm_core.specs.declared.job_edit.JobEdit.{JobEdit}
+use Rattle.farm_core.specs.Edits.{job_passes, job_changed, board_after, after, outcome_of}
+use Rattle.farm_core.proofs.EditLemmas.{jobs_alone}
+
+pub canceled : (F G H : Farm) (n : ℕ) (j : JobRow) → job_of F n ≡ Some j → G ≡ change_jobs (job_passes (JobEdit.End j.group)) (job_changed (JobEdit.End j.group)) idle F → H ≡ record G { jobs = change_where (job_passes (JobEdit.Cancel j.group)) (job_changed (JobEdit.Cancel j.group)) G.jobs } → act F [] (Cmd.Cancel n) ≡ done j.group H
+canceled F G H n j found first then =
+    ap (λ o. option_map_or (λ (j : JobRow). done j.group (cancel_group j.group F)) o (done 0 F)) found
+    ∙ ap (done j.group) (sym (jobs_alone G H (job_passes (JobEdit.Cancel j.group)) (job_changed (JobEdit.Cancel j.group)) then ∙ ap (change_jobs (job_passes (JobEdit.Cancel j.group)) (job_changed (JobEdit.Cancel j.group)) (λ b. b)) first))
+
+after_is : (checking : Bool) (o : Outcome) (t : ℕ) (b : BoardRow) → board_after (after checking o t) b ≡ idle (cond checking (after_check o t b) (after_job o b))
+after_is true o t b = refl
+after_is false o t b = refl
+
+pub finished : (F H : Farm) (n : ℕ) (j : JobRow) (named : Outcome) → job_of F n ≡ Some j → j.number ≡ n → H ≡ change_jobs (job_passes (JobEdit.Finish n (outcome_of j named))) (job_changed (JobEdit.Finish n (outcome_of j named))) (board_after (after j.checking (outcome_of j named) F.clock)) F → act F [] (Cmd.Finish n named) ≡ done n H
+finished F H n j named found same made =
+    ap (λ o. option_map_or (λ j. done n (finish_one F.clock named F j)) o (done 0 F)) found
+    ∙ ap (done n) (sym (made ∙ (λ i. change_jobs (λ m. m.number == sym same i) (job_changed (JobEdit.Finish n (outcome_of j named))) (λ b. after_is j.checking (outcome_of j named) F.clock b i) F)))
+
+-- a job that is found has the number, and small numbers
+pub job_found : (jobs : List JobRow) (n : ℕ) (j : JobRow) → AllByRecursion IsSmallJob jobs → find (λ r. r.number == n) jobs ≡ Some j → (j.number ≡ n) × IsSmallJob j
+job_found jobs n j small found =
+    let passes = found_passes (λ (r : JobRow). r.number == n) j jobs found in
+    (grind (arith, nat_tests), found_has IsSmallJob (λ r. r.number == n) j jobs small found)
+
+-- rows that fail in front and behind are not missed
+module _ {R : Type 0} (test : R → Bool) where
+  filter_none : (rows : List R) → ((k : ℕ) (d : R) → k < length rows → test (get_or rows k d) ≡ false) → filter test rows ≡ []
+  filter_none [] fails = refl
+  filter_none (r ∷ rows) fails = rw (fails 0 r (omega arith)) (filter_none rows (λ k d low. fails (suc k) d (omega arith)))
+
+  filter_drop : (n : ℕ) (rows : List R) → ((k : ℕ) (d : R) → k < n → test (get_or rows k d) ≡ false) → n ≤ length rows → filter test (drop n rows) ≡ filter test rows
+  filter_drop zero rows fails low = refl
+  filter_drop (suc n) [] fails low = refl
+  filter_drop (suc n) (r ∷ rows) fails low = rw (fails 0 r (omega arith)) (filter_drop n rows (λ k d less. fails (suc k) d (omega arith)) (omega arith))
+
+  filter_take : (n : ℕ) (rows : List R) → ((k : ℕ) (d : R) → n ≤ k → k < length rows → test (get_or rows k d) ≡ false) → filter test (take n rows) ≡ filter test rows
+  filter_take zero rows fails = sym (filter_none rows (λ k d low. fails k d (omega arith) low))
+  filter_take (suc n) [] fails = refl
+  filter_take (suc n) (r ∷ rows) fails = by (test r) (filter_take n rows (λ k d high low. fails (suc k) d (omega arith) (omega arith)))
+    where
+      by : (v : Bool) → filter test (take n rows) ≡ filter test rows → cond v (r ∷ filter test (take n rows)) (filter test (take n rows)) ≡ cond v (r ∷ filter test rows) (filter test rows)
+      by true rest = ap (λ rows. r ∷ rows) rest
+      by false rest = rest
+
+  pub filter_between : (start end : ℕ) (rows : List R) → start ≤ end → end ≤ length rows → ((k : ℕ) (d : R) → k < start → test (get_or rows k d) ≡ false) → ((k : ℕ) (d : R) → end ≤ k → k < length rows → test (get_or rows k d) ≡ false) → filter test (take (end - start) (drop start rows)) ≡ filter test rows
+  filter_between start end rows le high before behind =
+      filter_take (end - start) (drop start rows) (λ k d more low. rw (get_or-drop start rows k d) (behind (start + k) d (omega arith) (omega (arith, length-drop start rows))))
+      ∙ filter_drop start rows before (omega arith)
+
+pub small_found : (o : Option (Bor JobRow)) (jobs : List JobRow) (n : ℕ) → AllByRecursion IsSmallJob jobs → option_copied o ≡ find (λ r. r.number == n) jobs → IfSome o (λ job. (job.now.number ≡ n) × IsSmallJob job.now)
+small_found None jobs n small found = tt
+small_found (Some job) jobs n small found = job_found jobs n job.now small (sym found)

@@ -1,0 +1,22 @@
+-- One want is met where some board fits it.
+use Rattle.std.proofs.Common.{◌≡◌, List, [], ◌∷◌, ◌&&◌, ◌||◌, not, is_none, Bool, true, false, cond, Some, refl}
+use Rattle.std.specs.List.{find, flat_map, list_any}
+use Rattle.farm_types.specs.Pick.{least, meets, fits}
+use Rattle.farm_types.specs.declared.rows.Want.{Want}
+use Rattle.farm_types.specs.declared.rows.BoardRow.{BoardRow}
+
+module _ (test : BoardRow → Bool) (w : Want) where
+  one : (xs : List BoardRow) → is_none (find (meets test (w ∷ [])) (flat_map (λ b. (b ∷ []) ∷ []) xs)) ≡ not (list_any (λ b. fits b w && test b) xs)
+  one [] = refl
+  one (b ∷ xs) = by (fits b w) (test b) (one xs)
+    where
+      by : (f t : Bool) → is_none (find (meets test (w ∷ [])) (flat_map (λ b. (b ∷ []) ∷ []) xs)) ≡ not (list_any (λ b. fits b w && test b) xs)
+          → is_none (cond (((f && true) && true) && (t && true)) (Some (b ∷ [])) (find (meets test (w ∷ [])) (flat_map (λ b. (b ∷ []) ∷ []) xs))) ≡ not ((f && t) || list_any (λ b. fits b w && test b) xs)
+      by true true rest = refl
+      by true false rest = rest
+      by false true rest = rest
+      by false false rest = rest
+
+pub least_one : (boards : List BoardRow) (test : BoardRow → Bool) (w : Want) → is_none (least boards test (w ∷ [])) ≡ not (list_any (λ b. fits b w && test b) boards)
+unfolding least
+least_one boards test w = one test w boards

@@ -1,0 +1,105 @@
+-- The jobs whose numbers are near one another stand side by side.
+use Rattle.std.proofs.Common.{◌≡◌, ℕ, zero, suc, ◌+◌, ◌<◌, ◌≤◌, ◌==◌, ◌&&◌, ◌⊎◌, inl, inr, Bool, true, false, List, [], ◌∷◌, length, get_or, Result, Ok, Err, MatchResult, sym, ap, ◌∙◌, refl, subst, arith}
+use Rattle.std.specs.List.{AllByRecursion}
+use Rattle.std.specs.List.Sorted.{IsStrictlySortedBy, IsSortedBy, IsSearchInRange, IsBinarySearchResult}
+use Rattle.std.specs.Cmp.{nat_cmp_total}
+use Rattle.std.specs.Ordering.{ordering_reverse, is_lt, nat_cmp}
+use Rattle.std.specs.declared.cmp.Ordering.TheVariants.{Less, Equal, Greater}
+use Rattle.std.proofs.lemmas.Bool.Decides.{nat_tests}
+use Rattle.std.proofs.lemmas.Cmp.{ranked}
+use Rattle.std.proofs.lemmas.List.Sorted.{searchable_from_sorted}
+use Rattle.std.proofs.lemmas.Map.Keys.{Less-from_sorted}
+use Rattle.farm_types.specs.declared.rows.JobRow.{JobRow}
+use Rattle.farm_core.specs.declared.job_edit.JobEdit.{JobEdit}
+use Rattle.farm_types.specs.declared.rows.ResRow.{ResRow}
+use Rattle.farm_core.specs.declared.res_edit.ResEdit.{ResEdit}
+use Rattle.farm_core.specs.Edits.{job_passes, first_of, res_passes}
+use Rattle.farm_core.specs.Orderly.{IsNear, IsPlaceOf}
+
+same_or_less : (j k : ℕ) → j ≤ k → (j ≡ k) ⊎ (j < k)
+same_or_less j k le = grind arith
+
+less_or_more : (a b : ℕ) → (a ≤ b) ⊎ (b < a)
+less_or_more a b = grind arith
+
+module _ {R : Type 0} (key : R → ℕ) where
+  -- rows rise by their numbers
+  abbrev pub Rise : List R → Type 0
+  Rise rows = IsStrictlySortedBy (λ a b. nat_cmp (key a) (key b)) rows
+
+  rises : (rows : List R) (j k : ℕ) (d : R) → Rise rows → j < k → k < length rows → key (get_or rows j d) < key (get_or rows k d)
+  rises rows j k d sorted less in_range = ranked (key (get_or rows j d)) (key (get_or rows k d)) Less (sym (Less-from_sorted (λ a b. nat_cmp (key a) (key b)) rows j k d sorted less in_range))
+
+  -- where a binary search ends
+  pub searched : (rows : List R) (number : ℕ) → Rise rows → (found : Result ℕ ℕ) → IsSearchInRange found (length rows) → IsBinarySearchResult (λ r. nat_cmp (key r) number) rows found → MatchResult found (IsPlaceOf key rows number) (IsPlaceOf key rows number)
+  searched rows number sorted (Ok i) in_range equal = record {
+    below = λ k d less.
+        let tie : key (get_or rows i d) ≡ number = ranked (key (get_or rows i d)) number Equal (sym (equal d)) in
+        let rise = rises rows k i d sorted less in_range in omega arith;
+    above = λ k d le low.
+        let tie : key (get_or rows i d) ≡ number = ranked (key (get_or rows i d)) number Equal (sym (equal d)) in
+        elim (same_or_less i k le) [
+          | inl same ↦ let P : ℕ → Type 0 = λ k. number ≤ key (get_or rows k d) in subst P same (omega arith)
+          | inr less ↦ let rise = rises rows i k d sorted less low in omega arith
+        ];
+  }
+  searched rows number sorted (Err i) in_range parted =
+      let ascending : IsSortedBy (λ a b. is_lt (nat_cmp (key a) (key b))) rows = λ j d low high. ap is_lt (nat_cmp_total.antisymm (key (get_or rows (j + 1) d)) (key (get_or rows j d)) ∙ ap ordering_reverse (Less-from_sorted (λ a b. nat_cmp (key a) (key b)) rows j (j + 1) d sorted (omega arith) high)) in
+      let both = parted (searchable_from_sorted nat_cmp_total key rows number ascending) in
+      record {
+        below = λ k d less. ranked (key (get_or rows k d)) number Less (sym (both.0 k d (omega arith) less));
+        above = λ k d le low. let more = ranked (key (get_or rows k d)) number Greater (sym (both.1 k d le low)) in omega arith;
+      }
+
+  pub places_rise : (reach : ℕ) (rows : List R) (first start end : ℕ) → start ≤ length rows → end ≤ length rows → IsPlaceOf key rows first start → IsPlaceOf key rows (first + reach) end → start ≤ end
+  places_rise reach [] first start end low high at last = omega arith
+  places_rise reach (r ∷ rows) first start end low high at last = elim (less_or_more start end) [
+    | inl le ↦ le
+    | inr less ↦ let below = at.below end r less in let above = last.above end r (omega arith) (omega arith) in absurd (omega arith)
+  ]
+
+-- what holds of each row holds at each place
+pub all_at : {R : Type 0} (P : R → Type 0) (rows : List R) (k : ℕ) (d : R) → AllByRecursion P rows → k < length rows → P (get_or rows k d)
+all_at P [] k d all low = absurd (omega arith)
+all_at P (r ∷ rows) zero d all low = all.0
+all_at P (r ∷ rows) (suc k) d all low = all_at P rows k d all.1 (omega arith)
+
+-- a job that an edit changes has one of the edit's four numbers
+both_true : (a b : Bool) → (a && b) ≡ true → (a ≡ true) × (b ≡ true)
+both_true true b is = (refl, is)
+both_true false b is = cc
+
+same : (a b : ℕ) → (a == b) ≡ true → a ≡ b
+same a b is = grind (arith, nat_tests)
+
+pub in_reach : (edit : JobEdit) (j : JobRow) → IsNear j → job_passes edit j ≡ true → (first_of edit ≤ j.number) × (j.number < first_of edit + 4)
+in_reach (JobEdit.Start group) j near passes = let is = same j.group group passes in (omega arith, omega arith)
+in_reach (JobEdit.End group) j near passes = let is = same j.group group (both_true _ _ passes).0 in (omega arith, omega arith)
+in_reach (JobEdit.Cancel group) j near passes = let is = same j.group group (both_true _ _ passes).0 in (omega arith, omega arith)
+in_reach (JobEdit.Finish number outcome) j near passes = let is = same j.number number passes in (omega arith, omega arith)
+
+out_of_reach : (edit : JobEdit) (j : JobRow) → IsNear j → (v : Bool) → job_passes edit j ≡ v → ((first_of edit ≤ j.number) × (j.number < first_of edit + 4) → ⊥) → v ≡ false
+out_of_reach edit j near true passes out = absurd (out (in_reach edit j near passes))
+out_of_reach edit j near false passes out = refl
+
+module _ (jobs : List JobRow) (edit : JobEdit) (near : AllByRecursion IsNear jobs) where
+  pub none_before : (start : ℕ) → start ≤ length jobs → IsPlaceOf (λ (r : JobRow). r.number) jobs (first_of edit) start → (k : ℕ) (d : JobRow) → k < start → job_passes edit (get_or jobs k d) ≡ false
+  none_before start in_range place k d low = out_of_reach edit (get_or jobs k d) (all_at IsNear jobs k d near (omega arith)) _ refl (λ both. let less = place.below k d low in absurd (omega (arith, both.0)))
+
+  pub none_behind : (end : ℕ) → IsPlaceOf (λ (r : JobRow). r.number) jobs (first_of edit + 4) end → (k : ℕ) (d : JobRow) → end ≤ k → k < length jobs → job_passes edit (get_or jobs k d) ≡ false
+  none_behind end place k d high low = out_of_reach edit (get_or jobs k d) (all_at IsNear jobs k d near low) _ refl (λ both. let more = place.above k d high low in absurd (omega (arith, both.1)))
+
+res_out : (edit : ResEdit) (number : ℕ) (r : ResRow) → ((r : ResRow) → res_passes edit r ≡ (r.number == number)) → (r.number ≡ number → ⊥) → res_passes edit r ≡ false
+res_out edit number r one out = one r ∙ by (r.number == number) refl
+  where
+    by : (v : Bool) → (r.number == number) ≡ v → v ≡ false
+    by true is = absurd (out (same r.number number is))
+    by false is = refl
+
+-- an edit of one reservation
+module _ (reservations : List ResRow) (edit : ResEdit) (number : ℕ) (one : (r : ResRow) → res_passes edit r ≡ (r.number == number)) where
+  pub res_before : (start : ℕ) → IsPlaceOf (λ (r : ResRow). r.number) reservations number start → (k : ℕ) (d : ResRow) → k < start → res_passes edit (get_or reservations k d) ≡ false
+  res_before start place k d low = res_out edit number (get_or reservations k d) one (λ is. let less = place.below k d low in absurd (omega arith))
+
+  pub res_behind : (end : ℕ) → IsPlaceOf (λ (r : ResRow). r.number) reservations (number + 1) end → (k : ℕ) (d : ResRow) → end ≤ k → k < length reservations → res_passes edit (get_or reservations k d) ≡ false
+  res_behind end place k d high low = res_out edit number (get_or reservations k d) one (λ is. let more = place.above k d high low in absurd (omega arith))

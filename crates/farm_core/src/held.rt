@@ -1,0 +1,161 @@
+//! What becomes of the boards that jobs and reservations hold.
+ghost use Rattle.std.specs.Prelude.{◌≡◌, ◌≤◌, min};
+ghost use Rattle.std.specs.List.Sorted.{IsStrictlySortedBy};
+ghost use Rattle.std.proofs.Props.{props};
+ghost use Rattle.farm_types.specs.Table.{job_cmp, res_cmp};
+ghost use Rattle.farm_types.specs.Change.{graded, after_job, after_check};
+
+use crate::edit::Edit;
+use crate::job_edit::JobEdit;
+use crate::res_edit::ResEdit;
+use farm_sound::seek;
+use farm_types::rows::{BoardRow, Health, Holder, JobRow, Outcome, ResRow, State};
+use std::alloc::AllocError;
+
+/// The most jobs since a check that a board counts.
+const MOST_JOBS_SINCE: u64 = 1_000_000;
+
+/// What becomes of a board.
+#[derive(Clone, Copy, Debug, PartialEq, Eq)]
+pub enum Becomes {
+    /// It is in nobody's hands.
+    Idle,
+    /// Its holder goes on.
+    State(State),
+    /// It is free after an ordinary job.
+    AfterJob(Outcome),
+    /// It is free after a check that ended at a moment.
+    AfterCheck(Outcome, u64),
+}
+
+/// A Good or Unknown board has the health; others keep theirs.
+fn grade(row: &mut BoardRow, health: Health)
+    ensures { row.new ≡ graded health row.old }
+{
+    if matches!(row.health, Health::Good | Health::Unknown) {
+        row.health = health;
+    }
+}
+
+/// What an ordinary job leaves: one more job, and a health to be checked after trouble of the lab.
+fn finish_job(row: &mut BoardRow, outcome: Outcome)
+    ensures { row.new ≡ after_job outcome row.old }
+{
+    row.jobs_since = row.jobs_since.saturating_add(1).min(MOST_JOBS_SINCE);
+    if matches!(outcome, Outcome::Infra) {
+        grade(row, Health::Unknown);
+    }
+}
+
+/// What a check leaves: its outcome grades the board.
+fn finish_check(row: &mut BoardRow, outcome: Outcome, now: u64)
+    ensures { row.new ≡ after_check outcome now row.old }
+{
+    match outcome {
+        Outcome::Complete => {
+            row.jobs_since = 0;
+            row.last_check = now;
+            grade(row, Health::Good);
+        }
+        Outcome::Incomplete => grade(row, Health::Bad),
+        Outcome::Infra => grade(row, Health::Bad),
+        Outcome::Canceled => {}
+    }
+}
+
+impl Becomes {
+    ghost use Rattle.std.specs.Prelude.{◌≡◌};
+    ghost use Rattle.farm_core.specs.Edits.{board_after, after};
+
+    /// What becomes of a board when its job, or its check, ends at a moment.
+    pub fn after(checking: bool, outcome: Outcome, now: u64) -> Becomes
+        ensures { result ≡ after checking outcome now }
+    {
+        if checking {
+            Becomes::AfterCheck(outcome, now)
+        } else {
+            Becomes::AfterJob(outcome)
+        }
+    }
+
+    /// Changes the board.
+    fn change(&self, row: &mut BoardRow)
+        ensures { row.new ≡ board_after self.now row.old }
+    {
+        match *self {
+            Becomes::State(state) => {
+                row.state = state;
+                return;
+            }
+            Becomes::Idle => {}
+            Becomes::AfterJob(outcome) => finish_job(row, outcome),
+            Becomes::AfterCheck(outcome, now) => finish_check(row, outcome, now),
+        }
+        row.holder = Holder::Nobody;
+        row.state = State::Idle;
+    }
+}
+
+/// The boards that the jobs hold that an edit changes.
+#[derive(Drop)]
+pub struct OfJobs<'a> {
+    pub jobs: &'a [JobRow],
+    pub edit: JobEdit,
+    pub becomes: Becomes,
+    ghost sorted: { IsStrictlySortedBy job_cmp jobs.now } by { Prim.hlevel props },
+}
+
+impl Edit<BoardRow> for OfJobs<'_> {
+    ghost use Rattle.farm_core.specs.Edits.{is_job_in, job_passes, board_after};
+
+    ghost passes = { λ e b. is_job_in e.jobs.now (job_passes e.edit) b.holder };
+
+    ghost changed = { λ e b. board_after e.becomes b };
+
+    fn passes(&self, row: &BoardRow) -> bool {
+        match row.holder {
+            Holder::Job(number) => match seek::job_of(self.jobs, number) {
+                Some(job) => self.edit.passes(job),
+                None => false,
+            },
+            _ => false,
+        }
+    }
+
+    fn change(&self, row: &mut BoardRow) -> Result<(), AllocError> {
+        self.becomes.change(row);
+        Ok(())
+    }
+}
+
+/// The boards that the reservations hold that an edit changes.
+#[derive(Drop)]
+pub struct OfReservations<'a> {
+    pub reservations: &'a [ResRow],
+    pub edit: ResEdit,
+    pub becomes: Becomes,
+    ghost sorted: { IsStrictlySortedBy res_cmp reservations.now } by { Prim.hlevel props },
+}
+
+impl Edit<BoardRow> for OfReservations<'_> {
+    ghost use Rattle.farm_core.specs.Edits.{is_res_in, res_passes, board_after};
+
+    ghost passes = { λ e b. is_res_in e.reservations.now (res_passes e.edit) b.holder };
+
+    ghost changed = { λ e b. board_after e.becomes b };
+
+    fn passes(&self, row: &BoardRow) -> bool {
+        match row.holder {
+            Holder::Res(number) => match seek::res_of(self.reservations, number) {
+                Some(reservation) => self.edit.passes(reservation),
+                None => false,
+            },
+            _ => false,
+        }
+    }
+
+    fn change(&self, row: &mut BoardRow) -> Result<(), AllocError> {
+        self.becomes.change(row);
+        Ok(())
+    }
+}

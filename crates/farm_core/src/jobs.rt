@@ -1,0 +1,213 @@
+//! The commands on jobs that are there: Cancel, Start and Finish.
+ghost use Rattle.std.specs.Prelude.{◌≡◌, ◌==◌, ◌∷◌, ◌||◌, [], not, is_none, OnOk, IfOk, IfSome};
+ghost use Rattle.std.specs.List.{filter, list_any};
+ghost use Rattle.std.specs.Option.{option_copied};
+ghost use Rattle.farm_types.specs.Codes.{same_job_state};
+ghost use Rattle.farm_types.specs.Farm.{Farm, job_of, members};
+ghost use Rattle.farm_types.specs.Refuse.{first_code, job_is, owned_by, can_cancel};
+ghost use Rattle.farm_types.specs.Change.{act, done};
+ghost use Rattle.farm_types.specs.Small.{IsSmall, IsSmallJob};
+ghost use Rattle.farm_types.specs.declared.calls.Cmd.{Cmd};
+ghost use Rattle.farm_types.specs.declared.rows.JobState.{JobState};
+ghost use Rattle.farm_core.specs.Edits.{outcome_of};
+ghost use Rattle.farm_core.specs.Plain.{plain};
+ghost use Rattle.farm_core.specs.Orderly.{IsOrderly};
+ghost use Rattle.farm_core.specs.Tracks.{Tracks};
+
+use crate::held::Becomes;
+use crate::held_edits::{GROUP_REACH, place_of};
+use crate::job_edit::JobEdit;
+use crate::refusal::is_admin;
+use crate::tables::Tables;
+use farm_sound::seek;
+use farm_types::calls::Changes;
+use farm_types::refusal::{FORBIDDEN, NO_JOB, WRONG_STATE};
+use farm_types::rows::{JobRow, JobState, Outcome, State};
+use farm_types::words::Name;
+use std::alloc::AllocError;
+
+/// Whether a row's owner or the admin calls.
+pub fn owned_by(caller: &Name, owner: &Name) -> bool
+    ensures { result ≡ owned_by caller.now owner.now }
+{
+    caller.is(owner) || is_admin(caller)
+}
+
+/// Whether a job can be canceled.
+fn can_cancel(row: &JobRow) -> bool
+    ensures { result ≡ can_cancel row.now }
+{
+    matches!(
+        row.state,
+        JobState::Submitted | JobState::Scheduled | JobState::Running
+    )
+}
+
+/// Whether some member of a group, among some rows, can be canceled.
+fn some_can_cancel(rows: &[JobRow], group: u64) -> bool
+    ensures { result ≡ list_any can_cancel (filter (λ j. j.group == group) rows.now) }
+{
+    rows.iter()
+        .filter(|row| row.group == group)
+        .any(|row| can_cancel(row))
+}
+
+/// The outcome of a job: one that is being canceled ends as canceled, whatever is named.
+fn outcome_of(row: &JobRow, named: Outcome) -> Outcome
+    ensures { result ≡ outcome_of row.now named }
+{
+    if matches!(row.state, JobState::Canceling) {
+        return Outcome::Canceled;
+    }
+    named
+}
+
+impl Tables {
+    /// The job of that number, by binary search.
+    pub fn find_job(&self, number: u64) -> Option<&JobRow>
+        requires { IsOrderly (plain self.now) }
+        ensures found { option_copied result ≡ job_of (plain self.now) number }
+        ensures small { IfSome result (λ job. (job.now.number ≡ number) × IsSmallJob job.now) }
+    {
+        seek::job_of(&self.jobs, number)
+    }
+
+    /// The few rows that stand where the members of a group do: no other row is a member.
+    pub fn near(&self, group: u64) -> &[JobRow]
+        requires orderly { IsOrderly (plain self.now) }
+        requires small { IsSmall group }
+        ensures { filter (λ j. j.group == group) result.now ≡ members (plain self.now) group }
+    {
+        let start = place_of(&self.jobs, group);
+        let end = place_of(&self.jobs, group + GROUP_REACH);
+        &self.jobs[start..end]
+    }
+
+    /// Whether some member of a group can be canceled.
+    fn can_cancel_some(&self, group: u64) -> bool
+        requires orderly { IsOrderly (plain self.now) }
+        requires small { IsSmall group }
+        ensures { result ≡ list_any can_cancel (members (plain self.now) group) }
+    {
+        some_can_cancel(self.near(group), group)
+    }
+
+    /// Why a job isn't canceled.
+    pub fn refuse_cancel(&self, caller: &Name, number: u64) -> Option<u16>
+        requires { IsOrderly (plain self.now) }
+        ensures { result ≡ first_code ((is_none (job_of (plain self.now) number), 20)
+            ∷ (not (job_is (plain self.now) number (λ j. owned_by caller.now j.owner)), 3)
+            ∷ (not (job_is (plain self.now) number (λ j. list_any can_cancel (members (plain self.now) j.group))), 21) ∷ []) }
+    {
+        match self.find_job(number) {
+            None => Some(NO_JOB),
+            Some(job) => {
+                if !owned_by(caller, &job.owner) {
+                    return Some(FORBIDDEN);
+                }
+                if !self.can_cancel_some(job.group) {
+                    return Some(WRONG_STATE);
+                }
+                None
+            }
+        }
+    }
+
+    /// Cancels a job's whole group: the members that were not started end, and their boards are
+    /// free; those that run are being canceled. Gives the group's number.
+    pub fn cancel(&mut self, changes: &mut Changes, number: u64) -> Result<u64, AllocError>
+        requires { IsOrderly (plain self.old) }
+        ensures acts { IfOk result (λ group. act (plain self.old) [] (Cmd.Cancel number) ≡ done group (plain self.new)) }
+        ensures orderly { OnOk result (IsOrderly (plain self.new)) }
+        ensures tracked { OnOk result ((F : Farm) → Tracks F changes.old (plain self.old)
+            → Tracks F changes.new (plain self.new)) }
+    {
+        let group = match self.find_job(number) {
+            None => return Ok(0),
+            Some(job) => job.group,
+        };
+        self.edit_jobs_and_boards(changes, JobEdit::End(group), Becomes::Idle)?;
+        self.edit_jobs(changes, JobEdit::Cancel(group))?;
+        Ok(group)
+    }
+
+    /// Why a job's group isn't started.
+    pub fn refuse_start(&self, number: u64) -> Option<u16>
+        requires { IsOrderly (plain self.now) }
+        ensures { result ≡ first_code ((is_none (job_of (plain self.now) number), 20)
+            ∷ (not (job_is (plain self.now) number (λ j. same_job_state j.state JobState.Scheduled)), 21) ∷ []) }
+    {
+        match self.find_job(number) {
+            None => Some(NO_JOB),
+            Some(job) => {
+                if !matches!(job.state, JobState::Scheduled) {
+                    return Some(WRONG_STATE);
+                }
+                None
+            }
+        }
+    }
+
+    /// Starts a job's whole group: its members run, and so do their boards. Gives the group's number.
+    pub fn start(&mut self, changes: &mut Changes, number: u64) -> Result<u64, AllocError>
+        requires { IsOrderly (plain self.old) }
+        ensures acts { IfOk result (λ group. act (plain self.old) [] (Cmd.Start number) ≡ done group (plain self.new)) }
+        ensures orderly { OnOk result (IsOrderly (plain self.new)) }
+        ensures tracked { OnOk result ((F : Farm) → Tracks F changes.old (plain self.old)
+            → Tracks F changes.new (plain self.new)) }
+    {
+        let group = match self.find_job(number) {
+            None => return Ok(0),
+            Some(job) => job.group,
+        };
+        self.edit_jobs_and_boards(
+            changes,
+            JobEdit::Start(group),
+            Becomes::State(State::Running),
+        )?;
+        Ok(group)
+    }
+
+    /// Why a job isn't finished.
+    pub fn refuse_finish(&self, number: u64) -> Option<u16>
+        requires { IsOrderly (plain self.now) }
+        ensures { result ≡ first_code ((is_none (job_of (plain self.now) number), 20)
+            ∷ (not (job_is (plain self.now) number (λ j. same_job_state j.state JobState.Running || same_job_state j.state JobState.Canceling)), 21) ∷ []) }
+    {
+        match self.find_job(number) {
+            None => Some(NO_JOB),
+            Some(job) => {
+                if !matches!(job.state, JobState::Running | JobState::Canceling) {
+                    return Some(WRONG_STATE);
+                }
+                None
+            }
+        }
+    }
+
+    /// Finishes a job: it ends, and its board is free and has the health that the outcome of a job
+    /// or a check leaves. Gives the job's number.
+    pub fn finish(
+        &mut self,
+        changes: &mut Changes,
+        number: u64,
+        named: Outcome,
+    ) -> Result<u64, AllocError>
+        requires orderly { IsOrderly (plain self.old) }
+        requires clock { IsSmall (plain self.old).clock }
+        ensures acts { IfOk result (λ job. act (plain self.old) [] (Cmd.Finish number named) ≡ done job (plain self.new)) }
+        ensures orderly { OnOk result (IsOrderly (plain self.new)) }
+        ensures tracked { OnOk result ((F : Farm) → Tracks F changes.old (plain self.old)
+            → Tracks F changes.new (plain self.new)) }
+    {
+        let (outcome, becomes) = match self.find_job(number) {
+            None => return Ok(0),
+            Some(job) => {
+                let outcome = outcome_of(job, named);
+                (outcome, Becomes::after(job.checking, outcome, self.clock))
+            }
+        };
+        self.edit_jobs_and_boards(changes, JobEdit::Finish(number, outcome), becomes)?;
+        Ok(number)
+    }
+}

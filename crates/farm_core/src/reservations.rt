@@ -1,0 +1,180 @@
+//! The commands on reservations that are there: Acquire, Release, Refresh and CancelRes.
+ghost use Rattle.std.specs.Prelude.{◌≡◌, ◌==◌, ◌+◌, ◌≤◌, ◌||◌, ◌∷◌, [], not, is_none, OnOk, IfOk, IfSome, Bool, ℕ, List};
+ghost use Rattle.std.specs.Option.{option_copied};
+ghost use Rattle.std.specs.Str.{bytes_eq};
+ghost use Rattle.farm_types.specs.Codes.{same_res_state};
+ghost use Rattle.farm_types.specs.Farm.{Farm, res_of};
+ghost use Rattle.farm_types.specs.Pass.{is_dead};
+ghost use Rattle.farm_types.specs.Refuse.{first_code, res_reasons, owned_by, is_alive};
+ghost use Rattle.farm_types.specs.Change.{act, done};
+ghost use Rattle.farm_types.specs.Small.{IsSmall, IsSmallRes};
+ghost use Rattle.farm_types.specs.declared.calls.Cmd.{Cmd};
+ghost use Rattle.farm_types.specs.declared.rows.ResRow.{ResRow};
+ghost use Rattle.farm_types.specs.declared.rows.ResState.{ResState};
+ghost use Rattle.farm_core.specs.Plain.{plain};
+ghost use Rattle.farm_core.specs.Orderly.{IsOrderly};
+ghost use Rattle.farm_core.specs.Tracks.{Tracks};
+
+use crate::held::Becomes;
+use crate::jobs::owned_by;
+use crate::res_edit::{ResEdit, is_dead};
+use crate::tables::Tables;
+use farm_sound::seek;
+use farm_types::calls::Changes;
+use farm_types::refusal::{EXPIRED, FORBIDDEN, NO_RESERVATION, WRONG_RESERVATION_STATE};
+use farm_types::rows::{ResRow, ResState, State};
+use farm_types::words::Name;
+use std::alloc::AllocError;
+
+/// For how long a reservation lives without a refresh, in seconds.
+pub const LEASE_SECONDS: u64 = 60;
+
+/// Whether a reservation waits, or has been allocated or acquired.
+fn is_alive(row: &ResRow) -> bool
+    ensures { result ≡ is_alive row.now }
+{
+    matches!(
+        row.state,
+        ResState::Waiting | ResState::Allocated | ResState::Acquired
+    )
+}
+
+/// Why a command on a reservation is refused, where it is there: it is another's, its deadline has
+/// come, or its state is wrong.
+fn refuse_row(row: &ResRow, now: u64, mine: bool, right: bool) -> Option<u16>
+    ensures { result ≡ first_code ((not mine, 3) ∷ (same_res_state row.now.state ResState.Expired || is_dead now row.now, 31) ∷ (not right, 32) ∷ []) }
+{
+    if !mine {
+        return Some(FORBIDDEN);
+    }
+    if matches!(row.state, ResState::Expired) || is_dead(now, row) {
+        return Some(EXPIRED);
+    }
+    if !right {
+        return Some(WRONG_RESERVATION_STATE);
+    }
+    None
+}
+
+impl Tables {
+    /// The reservation of that number, by binary search.
+    pub fn find_reservation(&self, number: u64) -> Option<&ResRow>
+        requires { IsOrderly (plain self.now) }
+        ensures { option_copied result ≡ res_of (plain self.now) number }
+    {
+        seek::res_of(&self.reservations, number)
+    }
+
+    /// Why a reservation isn't acquired: its owner alone may.
+    pub fn refuse_acquire(&self, caller: &Name, now: u64, number: u64) -> Option<u16>
+        requires { IsOrderly (plain self.now) }
+        ensures { result ≡ first_code (res_reasons (plain self.now) now number (λ r. bytes_eq caller.now r.owner) (λ r. same_res_state r.state ResState.Allocated)) }
+    {
+        match self.find_reservation(number) {
+            None => Some(NO_RESERVATION),
+            Some(row) => refuse_row(
+                row,
+                now,
+                caller.is(&row.owner),
+                matches!(row.state, ResState::Allocated),
+            ),
+        }
+    }
+
+    /// Why a reservation isn't released.
+    pub fn refuse_release(&self, caller: &Name, now: u64, number: u64) -> Option<u16>
+        requires { IsOrderly (plain self.now) }
+        ensures { result ≡ first_code (res_reasons (plain self.now) now number (λ r. owned_by caller.now r.owner) (λ r. same_res_state r.state ResState.Acquired)) }
+    {
+        match self.find_reservation(number) {
+            None => Some(NO_RESERVATION),
+            Some(row) => refuse_row(
+                row,
+                now,
+                owned_by(caller, &row.owner),
+                matches!(row.state, ResState::Acquired),
+            ),
+        }
+    }
+
+    /// Why a reservation isn't refreshed, or canceled.
+    pub fn refuse_alive(&self, caller: &Name, now: u64, number: u64) -> Option<u16>
+        requires { IsOrderly (plain self.now) }
+        ensures { result ≡ first_code (res_reasons (plain self.now) now number (λ r. owned_by caller.now r.owner) is_alive) }
+    {
+        match self.find_reservation(number) {
+            None => Some(NO_RESERVATION),
+            Some(row) => refuse_row(row, now, owned_by(caller, &row.owner), is_alive(row)),
+        }
+    }
+
+    /// The reservation is acquired, and its board runs.
+    pub fn acquire(&mut self, changes: &mut Changes, number: u64) -> Result<u64, AllocError>
+        requires orderly { IsOrderly (plain self.old) }
+        requires small { IsSmall number }
+        ensures acts { IfOk result (λ n. act (plain self.old) [] (Cmd.Acquire number) ≡ done n (plain self.new)) }
+        ensures orderly { OnOk result (IsOrderly (plain self.new)) }
+        ensures tracked { OnOk result ((F : Farm) → Tracks F changes.old (plain self.old)
+            → Tracks F changes.new (plain self.new)) }
+    {
+        self.edit_reservation_and_board(
+            changes,
+            number,
+            ResEdit::Acquire(number),
+            Becomes::State(State::Running),
+        )?;
+        Ok(number)
+    }
+
+    /// The reservation is allocated again for a lease from now on, and its board reserved.
+    pub fn release(&mut self, changes: &mut Changes, number: u64) -> Result<u64, AllocError>
+        requires orderly { IsOrderly (plain self.old) }
+        requires small { IsSmall number }
+        requires clock { (plain self.old).clock ≤ 250000000000 }
+        ensures acts { IfOk result (λ n. act (plain self.old) [] (Cmd.Release number) ≡ done n (plain self.new)) }
+        ensures orderly { OnOk result (IsOrderly (plain self.new)) }
+        ensures tracked { OnOk result ((F : Farm) → Tracks F changes.old (plain self.old)
+            → Tracks F changes.new (plain self.new)) }
+    {
+        let deadline = self.clock + LEASE_SECONDS;
+        self.edit_reservation_and_board(
+            changes,
+            number,
+            ResEdit::Release(number, deadline),
+            Becomes::State(State::Reserved),
+        )?;
+        Ok(number)
+    }
+
+    /// The reservation lives for a lease from now on.
+    pub fn refresh(&mut self, changes: &mut Changes, number: u64) -> Result<u64, AllocError>
+        requires orderly { IsOrderly (plain self.old) }
+        requires small { IsSmall number }
+        requires clock { (plain self.old).clock ≤ 250000000000 }
+        ensures acts { IfOk result (λ n. act (plain self.old) [] (Cmd.Refresh number) ≡ done n (plain self.new)) }
+        ensures orderly { OnOk result (IsOrderly (plain self.new)) }
+        ensures tracked { OnOk result ((F : Farm) → Tracks F changes.old (plain self.old)
+            → Tracks F changes.new (plain self.new)) }
+    {
+        let deadline = self.clock + LEASE_SECONDS;
+        self.edit_reservation(changes, number, ResEdit::Refresh(number, deadline))?;
+        Ok(number)
+    }
+
+    /// The reservation is canceled, and its board free.
+    pub fn cancel_reservation(
+        &mut self,
+        changes: &mut Changes,
+        number: u64,
+    ) -> Result<u64, AllocError>
+        requires orderly { IsOrderly (plain self.old) }
+        requires small { IsSmall number }
+        ensures acts { IfOk result (λ n. act (plain self.old) [] (Cmd.CancelRes number) ≡ done n (plain self.new)) }
+        ensures orderly { OnOk result (IsOrderly (plain self.new)) }
+        ensures tracked { OnOk result ((F : Farm) → Tracks F changes.old (plain self.old)
+            → Tracks F changes.new (plain self.new)) }
+    {
+        self.edit_reservation_and_board(changes, number, ResEdit::Cancel(number), Becomes::Idle)?;
+        Ok(number)
+    }
+}

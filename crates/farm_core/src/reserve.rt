@@ -1,0 +1,110 @@
+//! Reserve: a new reservation of one board.
+ghost use Rattle.std.specs.Prelude.{◌≡◌, ◌≤◌, ◌&&◌, ◌||◌, ◌∷◌, [], None, is_none, not, OnOk, IfOk};
+ghost use Rattle.std.specs.List.{list_all, list_any};
+ghost use Rattle.std.specs.Str.{bytes_eq};
+ghost use Rattle.farm_types.specs.Words.{name_tag};
+ghost use Rattle.farm_types.specs.Farm.{Farm};
+ghost use Rattle.farm_types.specs.Pick.{least, not_retired, fits};
+ghost use Rattle.farm_types.specs.Refuse.{first_code};
+ghost use Rattle.farm_types.specs.Change.{act, done};
+ghost use Rattle.farm_types.specs.declared.calls.Cmd.{Cmd};
+ghost use Rattle.farm_core.specs.Plain.{plain};
+ghost use Rattle.farm_core.specs.Orderly.{IsOrderly};
+ghost use Rattle.farm_core.specs.Tracks.{Tracks};
+
+use crate::reservations::LEASE_SECONDS;
+use crate::tables::Tables;
+use farm_types::calls::Changes;
+use farm_types::refusal::NO_SUCH_BOARDS;
+use farm_types::rows::{BoardRow, Health, ResRow, ResState, Want};
+use farm_types::words::{Name, Priority, Tag, Tags};
+use std::alloc::AllocError;
+
+/// Whether a text is the tag that a board of this name carries for it.
+fn is_name_tag(text: &str, name: &str) -> bool
+    ensures { result ≡ bytes_eq text.now (name_tag name.now) }
+{
+    match text.strip_prefix("name=") {
+        Some(rest) => rest == name,
+        None => false,
+    }
+}
+
+fn is_among(tags: &[Tag], wanted: &str) -> bool
+    ensures { result ≡ list_any (bytes_eq wanted.now) tags.now }
+{
+    tags.iter().any(|own| wanted == own.as_str())
+}
+
+fn carries(board: &BoardRow, tag: &Tag) -> bool
+    ensures { result ≡ (list_any (bytes_eq tag.now) board.now.tags || bytes_eq tag.now (name_tag board.now.name)) }
+{
+    is_among(board.tags.items(), tag.as_str()) || is_name_tag(tag.as_str(), board.name.as_str())
+}
+
+fn carries_all(board: &BoardRow, tags: &[Tag]) -> bool
+    ensures { result ≡ list_all (λ tag. list_any (bytes_eq tag) board.now.tags || bytes_eq tag (name_tag board.now.name)) tags.now }
+{
+    tags.iter().all(|tag| carries(board, tag))
+}
+
+/// Whether a board that isn't retired has each of the tags.
+fn may_serve(board: &BoardRow, tags: &Tags) -> bool
+    ensures { result ≡ (fits board.now (record { kind = None; tags = tags.now }) && not_retired board.now) }
+{
+    !matches!(board.health, Health::Retired) && carries_all(board, tags.items())
+}
+
+impl Tables {
+    /// Whether some board may ever serve a reservation with these tags.
+    fn can_serve(&self, tags: &Tags) -> bool
+        ensures { result ≡ list_any (λ b. fits b (record { kind = None; tags = tags.now }) && not_retired b) (plain self.now).boards }
+    {
+        self.boards.iter().any(|board| may_serve(board, tags))
+    }
+
+    /// Why a reservation isn't made. With B boards it costs O(B), and no memory.
+    #[tactic(auto, using(crate::proofs::OneWant::least_one))]
+    pub fn refuse_reserve(&self, tags: &Tags) -> Option<u16>
+        ensures { result ≡ first_code ((is_none (least (plain self.now).boards not_retired (record { kind = None; tags = tags.now } ∷ [])), 22) ∷ []) }
+    {
+        if !self.can_serve(tags) {
+            return Some(NO_SUCH_BOARDS);
+        }
+        None
+    }
+
+    /// Makes a reservation that waits for a lease from now on. Gives its number.
+    pub fn reserve(
+        &mut self,
+        changes: &mut Changes,
+        owner: &Name,
+        priority: Priority,
+        tags: &Tags,
+    ) -> Result<u64, AllocError>
+        requires orderly { IsOrderly (plain self.old) }
+        requires next { (plain self.old).next ≤ 1000000000 }
+        requires clock { (plain self.old).clock ≤ 250000000000 }
+        ensures acts { IfOk result (λ number. act (plain self.old) owner.now (Cmd.Reserve priority tags.now) ≡ done number (plain self.new)) }
+        ensures orderly { OnOk result (IsOrderly (plain self.new)) }
+        ensures tracked { OnOk result ((F : Farm) → Tracks F changes.old (plain self.old)
+            → Tracks F changes.new (plain self.new)) }
+    {
+        let number = self.next;
+        let row = ResRow {
+            number,
+            owner: owner.copy()?,
+            priority,
+            want: Want {
+                kind: None,
+                tags: tags.copy()?,
+            },
+            state: ResState::Waiting,
+            deadline: self.clock + LEASE_SECONDS,
+            board: None,
+        };
+        self.put_reservation(changes, row)?;
+        self.next = number + 1;
+        Ok(number)
+    }
+}

@@ -1,0 +1,173 @@
+//! Submit: a new group of jobs.
+ghost use Rattle.std.specs.Prelude.{◌≡◌, ◌≤◌, ◌+◌, ◌∷◌, [], None, false, is_none, length, OnOk, IfOk};
+ghost use Rattle.std.specs.List.{list_any};
+ghost use Rattle.std.specs.Option.{option_map_or};
+ghost use Rattle.farm_types.specs.Farm.{Farm, type_of, put_jobs};
+ghost use Rattle.farm_types.specs.Pick.{least, not_retired};
+ghost use Rattle.farm_types.specs.Refuse.{first_code};
+ghost use Rattle.farm_types.specs.Change.{act, done, new_members};
+ghost use Rattle.farm_types.specs.declared.calls.Cmd.{Cmd};
+ghost use Rattle.farm_types.specs.declared.rows.JobState.{JobState};
+ghost use Rattle.farm_core.specs.Edits.{text_at};
+ghost use Rattle.farm_core.specs.Plain.{plain};
+ghost use Rattle.farm_core.specs.Orderly.{IsOrderly};
+ghost use Rattle.farm_core.specs.Tracks.{Tracks};
+
+use crate::tables::Tables;
+use farm_pick::Free;
+use farm_types::calls::{Changes, Roles, Wants};
+use farm_types::refusal::{NO_SUCH_BOARDS, NO_TYPE};
+use farm_types::rows::{JobRow, JobState, Want, copy_name};
+use farm_types::words::{Body, Name, Priority};
+use std::alloc::{AllocError, Global};
+
+/// The row of a new member.
+fn new_member(
+    number: u64,
+    group: u64,
+    owner: &Name,
+    priority: Priority,
+    want: &Want,
+    role: &Option<Name>,
+    body: Body,
+) -> Result<JobRow, AllocError>
+    ensures { IfOk result (λ row. row ≡ record {
+      number = number;
+      group = group;
+      checking = false;
+      owner = owner.now;
+      priority = priority;
+      want = want.now;
+      role = role.now;
+      state = JobState.Submitted;
+      outcome = None;
+      board = None;
+      body = body;
+    }) }
+{
+    Ok(JobRow {
+        number,
+        group,
+        checking: false,
+        owner: owner.copy()?,
+        priority,
+        want: want.copy()?,
+        role: copy_name(role)?,
+        state: JobState::Submitted,
+        outcome: None,
+        board: None,
+        body,
+    })
+}
+
+/// The text of the member at a place: the first carries it.
+fn member_text(alloc: Global, place: usize, body: &Body) -> Result<Body, AllocError>
+    ensures { IfOk result (λ text. text ≡ text_at place body.now) }
+{
+    if place == 0 {
+        return body.copy();
+    }
+    Ok(Body::none(alloc))
+}
+
+impl Tables {
+    /// Whether a type is named that isn't there.
+    fn lacks_type(&self, kind: &Option<Name>) -> bool
+        requires { IsOrderly (plain self.now) }
+        ensures { result ≡ option_map_or (λ kind. is_none (type_of (plain self.now) kind)) kind.now false }
+    {
+        match kind {
+            None => false,
+            Some(name) => self.find_type(name).is_none(),
+        }
+    }
+
+    /// Whether some want names a type that isn't there.
+    fn lacks_types(&self, wants: &[Want]) -> bool
+        requires { IsOrderly (plain self.now) }
+        ensures { result ≡ list_any (λ w. option_map_or (λ kind. is_none (type_of (plain self.now) kind)) w.kind false) wants.now }
+    {
+        wants.iter().any(
+            |want: &Want| -> bool
+                requires { IsOrderly (plain self.now) }
+                ensures { result ≡ option_map_or (λ kind. is_none (type_of (plain self.entry.now) kind)) want.now.kind false }
+            { self.lacks_type(&want.kind) },
+        )
+    }
+
+    /// Why a group isn't submitted. With B boards and at most four wants it costs O(B).
+    pub fn refuse_submit(&self, wants: &Wants) -> Option<u16>
+        requires { IsOrderly (plain self.now) }
+        ensures { result ≡ first_code ((list_any (λ w. option_map_or (λ kind. is_none (type_of (plain self.now) kind)) w.kind false) wants.now, 10)
+            ∷ (is_none (least (plain self.now).boards not_retired wants.now), 22) ∷ []) }
+    {
+        if self.lacks_types(wants.items()) {
+            return Some(NO_TYPE);
+        }
+        if farm_pick::least(&self.boards, &self.types, wants, Free::NotRetired).is_none() {
+            return Some(NO_SUCH_BOARDS);
+        }
+        None
+    }
+
+    /// Adds the members of a group, numbered from the group's number on; the first carries the text.
+    fn add_members(
+        &mut self,
+        changes: &mut Changes,
+        group: u64,
+        owner: &Name,
+        priority: Priority,
+        wants: &[Want],
+        roles: &[Option<Name>],
+        body: &Body,
+    ) -> Result<(), AllocError>
+        requires orderly { IsOrderly (plain self.old) }
+        requires few { length wants.now ≤ 4 }
+        requires roles { length roles.now ≡ length wants.now }
+        requires group { group ≤ 1000000000 }
+        ensures farm { OnOk result (plain self.new ≡ put_jobs (plain self.old) (new_members group group owner.now priority wants.now roles.now body.now)) }
+        ensures orderly { OnOk result (IsOrderly (plain self.new)) }
+        ensures tracked { OnOk result ((F : Farm) → Tracks F changes.old (plain self.old)
+            → Tracks F changes.new (plain self.new)) }
+    {
+        for at in 0..wants.len() {
+            let text = member_text(*self.jobs.allocator(), at, body)?;
+            let number = group + at as u64;
+            let row = new_member(number, group, owner, priority, &wants[at], &roles[at], text)?;
+            self.put_job(changes, row)?;
+        }
+        Ok(())
+    }
+
+    /// Submits a group of jobs, one for each want. Gives the group's number.
+    pub fn submit(
+        &mut self,
+        changes: &mut Changes,
+        owner: &Name,
+        priority: Priority,
+        wants: &Wants,
+        roles: &Roles,
+        body: &Body,
+    ) -> Result<u64, AllocError>
+        requires orderly { IsOrderly (plain self.old) }
+        requires roles { length roles.now ≡ length wants.now }
+        requires next { (plain self.old).next ≤ 1000000000 }
+        ensures acts { IfOk result (λ group. act (plain self.old) owner.now (Cmd.Submit priority wants.now roles.now body.now) ≡ done group (plain self.new)) }
+        ensures orderly { OnOk result (IsOrderly (plain self.new)) }
+        ensures tracked { OnOk result ((F : Farm) → Tracks F changes.old (plain self.old)
+            → Tracks F changes.new (plain self.new)) }
+    {
+        let group = self.next;
+        self.add_members(
+            changes,
+            group,
+            owner,
+            priority,
+            wants.items(),
+            roles.items(),
+            body,
+        )?;
+        self.next = group + wants.items().len() as u64;
+        Ok(group)
+    }
+}

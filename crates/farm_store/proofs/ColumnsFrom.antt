@@ -1,0 +1,33 @@
+-- The columns of a row from one place on.
+use Rattle.std.proofs.Common.{refl, ◌≡◌, ℕ, zero, suc, [], ◌∷◌, ap, sym, ◌∙◌, arith}
+use Rattle.sqlite.specs.Order.{Row}
+use Rattle.sqlite_value.specs.Order.{column}
+use Rattle.farm_store.specs.Stored.{IsWide, unnumbered, with_number}
+
+abbrev pub columns_from : ℕ → ℕ → Row → Row
+columns_from at zero r = []
+columns_from at (suc n) r = column r at ∷ columns_from (suc at) n r
+
+shifted : (at n : ℕ) (r : Row) → columns_from (suc at) n r ≡ columns_from at n (unnumbered r)
+shifted at zero r = refl
+shifted at (suc n) [] = ap (λ l. column [] at ∷ l) (shifted (suc at) n [])
+shifted at (suc n) (v ∷ r) = ap (λ l. column r at ∷ l) (shifted (suc at) n (v ∷ r))
+
+pub whole : (n : ℕ) (r : Row) → IsWide n r → columns_from 0 n r ≡ r
+whole zero [] wide = refl
+whole zero (v ∷ r) wide = absurd (omega (arith, wide))
+whole (suc n) [] wide = absurd (omega (arith, wide))
+whole (suc n) (v ∷ r) wide = ap (λ l. v ∷ l) (shifted 0 n (v ∷ r) ∙ whole n r (omega (arith, wide)))
+
+-- less the rowid
+pub of_unnumbered : (n : ℕ) (r : Row) → columns_from 1 n r ≡ columns_from 0 n (unnumbered r)
+of_unnumbered n r = shifted 0 n r
+
+-- the rowid, and what follows the column that stands for it
+pub of_numbered : (n : ℕ) (r : Row) → ◌≡◌ {A = Row} (column r 0 ∷ columns_from 2 n r) (columns_from 0 (suc n) (with_number r))
+of_numbered n r = ap (λ l. column r 0 ∷ l) (shifted 1 n r ∙ shifted 0 n (unnumbered r) ∙ ap (columns_from 0 n) (twice r) ∙ sym (shifted 0 n (with_number r)))
+  where
+    twice : (r : Row) → unnumbered (unnumbered r) ≡ unnumbered (with_number r)
+    twice [] = refl
+    twice (v ∷ []) = refl
+    twice (v ∷ w ∷ r) = refl

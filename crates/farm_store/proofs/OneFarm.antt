@@ -1,0 +1,226 @@
+-- Farms whose words are words are one where their tables are.
+use Rattle.std.proofs.Common.{refl, ◌≡◌, ℕ, pos, List, [], ◌∷◌, map, Bool, true, false, Option, None, Some, unwrap_or, IfSome, get_or, sym, ap, subst, ◌∙◌, arith}
+use Rattle.std.specs.Option.{option_map_or}
+use Rattle.std.specs.List.{AllByRecursion}
+use Rattle.sqlite.specs.declared.types.Value.TheVariants.{Int, Text}
+use Rattle.sqlite.specs.Order.{Row}
+use Rattle.sqlite_value.specs.Order.{column}
+use Rattle.farm_types.specs.Words.{IsName, IsTags, is_word}
+use Rattle.farm_types.specs.Small.{every_of, held_by}
+use Rattle.farm_types.specs.Tags.{tags_text}
+use Rattle.farm_types.specs.Farm.{Farm}
+use Rattle.farm_types.specs.Codes.{health_code, health_with, state_code, state_with, job_state_code, job_state_with, outcome_code, outcome_with, res_state_code, res_state_with}
+use Rattle.farm_types.specs.declared.rows.Check.{Check}
+use Rattle.farm_types.specs.declared.rows.Health.{Health}
+use Rattle.farm_types.specs.declared.rows.Holder.{Holder}
+use Rattle.farm_types.specs.declared.rows.JobState.{JobState}
+use Rattle.farm_types.specs.declared.rows.Outcome.{Outcome}
+use Rattle.farm_types.specs.declared.rows.ResState.{ResState}
+use Rattle.farm_types.specs.declared.rows.State.{State}
+use Rattle.farm_types.specs.declared.rows.TypeRow.{TypeRow}
+use Rattle.farm_types.specs.declared.rows.BoardRow.{BoardRow}
+use Rattle.farm_types.specs.declared.rows.JobRow.{JobRow}
+use Rattle.farm_types.specs.declared.rows.ResRow.{ResRow}
+use Rattle.farm_types.specs.declared.rows.KeptRow.{KeptRow}
+use Rattle.farm_types.proofs.SortedTags.{tags_read_back}
+use Rattle.farm_types.specs.Tags.{tags_read}
+use Rattle.farm_store.specs.Columns.{Tables, rows_of, unit_of, holder_of, checking_code, type_columns, board_columns, job_columns, res_columns, kept_columns}
+use Rattle.farm_store.specs.Readable.{IsReadable, IsReadableType, IsReadableBoard, IsReadableJob, IsReadableRes, IsReadableKept}
+
+same_text : (s t : List ℕ) → Text s ≡ Text t → s ≡ t
+same_text s t e = cc
+
+same_number : (m n : ℕ) → Int (pos m) ≡ Int (pos n) → m ≡ n
+same_number m n e = cc
+
+text_in : (a b : Row) (at : ℕ) (s t : List ℕ) → column a at ≡ Text s → column b at ≡ Text t → a ≡ b → s ≡ t
+text_in a b at s t p q is = same_text s t (sym p ∙ ap (λ r. column r at) is ∙ q)
+
+number_in : (a b : Row) (at : ℕ) (m n : ℕ) → column a at ≡ Int (pos m) → column b at ≡ Int (pos n) → a ≡ b → m ≡ n
+number_in a b at m n p q is = same_number m n (sym p ∙ ap (λ r. column r at) is ∙ q)
+
+same_some : {X : Type 0} (a b : X) → Some a ≡ Some b → a ≡ b
+same_some a b e = cc
+
+health_back : (x : Health) → health_with (health_code x) ≡ Some x
+health_back Health.Good = refl
+health_back Health.Bad = refl
+health_back Health.Unknown = refl
+health_back Health.Maintenance = refl
+health_back Health.Retired = refl
+
+state_back : (x : State) → state_with (state_code x) ≡ Some x
+state_back State.Idle = refl
+state_back State.Reserved = refl
+state_back State.Running = refl
+
+job_state_back : (x : JobState) → job_state_with (job_state_code x) ≡ Some x
+job_state_back JobState.Submitted = refl
+job_state_back JobState.Scheduled = refl
+job_state_back JobState.Running = refl
+job_state_back JobState.Canceling = refl
+job_state_back JobState.Finished = refl
+
+outcome_back : (x : Option Outcome) → outcome_with (option_map_or outcome_code x 0) ≡ x
+outcome_back None = refl
+outcome_back (Some Outcome.Complete) = refl
+outcome_back (Some Outcome.Incomplete) = refl
+outcome_back (Some Outcome.Infra) = refl
+outcome_back (Some Outcome.Canceled) = refl
+
+res_state_back : (x : ResState) → res_state_with (res_state_code x) ≡ Some x
+res_state_back ResState.Waiting = refl
+res_state_back ResState.Allocated = refl
+res_state_back ResState.Acquired = refl
+res_state_back ResState.Expired = refl
+res_state_back ResState.Canceled = refl
+
+-- a code that reads back is of one thing
+same_code : {X : Type 0} (code : X → ℕ) (with_code : ℕ → Option X) → ((x : X) → with_code (code x) ≡ Some x) → (a b : X) → code a ≡ code b → a ≡ b
+same_code code with_code back a b e = same_some a b (sym (back a) ∙ ap with_code e ∙ back b)
+
+same_check : (a b : Check) → unit_of a ≡ unit_of b → every_of a ≡ every_of b → a ≡ b
+same_check Check.Never Check.Never unit every = refl
+same_check (Check.Hours m) (Check.Hours n) unit every = ap (λ k. Check.Hours k) every
+same_check (Check.Jobs m) (Check.Jobs n) unit every = ap (λ k. Check.Jobs k) every
+same_check Check.Never (Check.Hours n) unit every = absurd (omega (arith, unit))
+same_check Check.Never (Check.Jobs n) unit every = absurd (omega (arith, unit))
+same_check (Check.Hours m) Check.Never unit every = absurd (omega (arith, unit))
+same_check (Check.Hours m) (Check.Jobs n) unit every = absurd (omega (arith, unit))
+same_check (Check.Jobs m) Check.Never unit every = absurd (omega (arith, unit))
+same_check (Check.Jobs m) (Check.Hours n) unit every = absurd (omega (arith, unit))
+
+same_holder : (a b : Holder) → holder_of a ≡ holder_of b → held_by a ≡ held_by b → a ≡ b
+same_holder Holder.Nobody Holder.Nobody kind number = refl
+same_holder (Holder.Job m) (Holder.Job n) kind number = ap (λ k. Holder.Job k) number
+same_holder (Holder.Res m) (Holder.Res n) kind number = ap (λ k. Holder.Res k) number
+same_holder Holder.Nobody (Holder.Job n) kind number = absurd (omega (arith, kind))
+same_holder Holder.Nobody (Holder.Res n) kind number = absurd (omega (arith, kind))
+same_holder (Holder.Job m) Holder.Nobody kind number = absurd (omega (arith, kind))
+same_holder (Holder.Job m) (Holder.Res n) kind number = absurd (omega (arith, kind))
+same_holder (Holder.Res m) Holder.Nobody kind number = absurd (omega (arith, kind))
+same_holder (Holder.Res m) (Holder.Job n) kind number = absurd (omega (arith, kind))
+
+same_checking : (a b : Bool) → checking_code a ≡ checking_code b → a ≡ b
+same_checking true true e = refl
+same_checking false false e = refl
+same_checking true false e = absurd (omega (arith, e))
+same_checking false true e = absurd (omega (arith, e))
+
+no_empty_name : IsName [] → ⊥
+unfolding is_word
+no_empty_name h = let e = h in cc
+
+same_name : (a b : Option (List ℕ)) → IfSome a IsName → IfSome b IsName → unwrap_or a [] ≡ unwrap_or b [] → a ≡ b
+same_name None None p q e = refl
+same_name None (Some t) p q e = absurd (no_empty_name (subst IsName (sym e) q))
+same_name (Some s) None p q e = absurd (no_empty_name (subst IsName e p))
+same_name (Some s) (Some t) p q e = ap (λ n. Some n) e
+
+same_tags : (a b : List (List ℕ)) → IsTags a → IsTags b → tags_text a ≡ tags_text b → a ≡ b
+same_tags a b p q e = let both = sym (tags_read_back a p) ∙ ap tags_read e ∙ tags_read_back b q in cc
+
+same_type : (x y : TypeRow) → IsReadableType x → IsReadableType y → type_columns x ≡ type_columns y → x ≡ y
+same_type x y p q is =
+    let name = text_in (type_columns x) (type_columns y) 0 x.name y.name refl refl is in
+    let unit = number_in (type_columns x) (type_columns y) 1 (unit_of x.check) (unit_of y.check) refl refl is in
+    let every = number_in (type_columns x) (type_columns y) 2 (every_of x.check) (every_of y.check) refl refl is in
+    let check = same_check x.check y.check unit every in
+    λ i. record { name = name i; check = check i }
+
+same_board : (x y : BoardRow) → IsReadableBoard x → IsReadableBoard y → board_columns x ≡ board_columns y → x ≡ y
+same_board x y p q is =
+    let text = text_in (board_columns x) (board_columns y) in
+    let number = number_in (board_columns x) (board_columns y) in
+    let name = text 0 x.name y.name refl refl is in
+    let kind = text 1 x.kind y.kind refl refl is in
+    let tags = same_tags x.tags y.tags p.tags q.tags (text 2 (tags_text x.tags) (tags_text y.tags) refl refl is) in
+    let health = same_code health_code health_with health_back x.health y.health (number 3 (health_code x.health) (health_code y.health) refl refl is) in
+    let state = same_code state_code state_with state_back x.state y.state (number 4 (state_code x.state) (state_code y.state) refl refl is) in
+    let holder = same_holder x.holder y.holder (number 5 (holder_of x.holder) (holder_of y.holder) refl refl is) (number 6 (held_by x.holder) (held_by y.holder) refl refl is) in
+    let since = number 7 x.jobs_since y.jobs_since refl refl is in
+    let checked = number 8 x.last_check y.last_check refl refl is in
+    λ i. record { name = name i; kind = kind i; tags = tags i; health = health i; state = state i; holder = holder i; jobs_since = since i; last_check = checked i }
+
+same_job : (x y : JobRow) → IsReadableJob x → IsReadableJob y → job_columns x ≡ job_columns y → x ≡ y
+same_job x y p q is =
+    let text = text_in (job_columns x) (job_columns y) in
+    let number = number_in (job_columns x) (job_columns y) in
+    let own = number 0 x.number y.number refl refl is in
+    let group = number 1 x.group y.group refl refl is in
+    let checking = same_checking x.checking y.checking (number 2 (checking_code x.checking) (checking_code y.checking) refl refl is) in
+    let owner = text 3 x.owner y.owner refl refl is in
+    let priority = number 4 x.priority y.priority refl refl is in
+    let kind = same_name x.want.kind y.want.kind p.kind q.kind (text 5 (unwrap_or x.want.kind []) (unwrap_or y.want.kind []) refl refl is) in
+    let tags = same_tags x.want.tags y.want.tags p.tags q.tags (text 6 (tags_text x.want.tags) (tags_text y.want.tags) refl refl is) in
+    let role = same_name x.role y.role p.role q.role (text 7 (unwrap_or x.role []) (unwrap_or y.role []) refl refl is) in
+    let state = same_code job_state_code job_state_with job_state_back x.state y.state (number 8 (job_state_code x.state) (job_state_code y.state) refl refl is) in
+    let code = number 9 (option_map_or outcome_code x.outcome 0) (option_map_or outcome_code y.outcome 0) refl refl is in
+    let outcome = sym (outcome_back x.outcome) ∙ ap outcome_with code ∙ outcome_back y.outcome in
+    let board = same_name x.board y.board p.board q.board (text 10 (unwrap_or x.board []) (unwrap_or y.board []) refl refl is) in
+    let body = text 11 x.body y.body refl refl is in
+    λ i. record {
+      number = own i;
+      group = group i;
+      checking = checking i;
+      owner = owner i;
+      priority = priority i;
+      want = record { kind = kind i; tags = tags i };
+      role = role i;
+      state = state i;
+      outcome = outcome i;
+      board = board i;
+      body = body i;
+    }
+
+same_res : (x y : ResRow) → IsReadableRes x → IsReadableRes y → res_columns x ≡ res_columns y → x ≡ y
+same_res x y p q is =
+    let text = text_in (res_columns x) (res_columns y) in
+    let number = number_in (res_columns x) (res_columns y) in
+    let own = number 0 x.number y.number refl refl is in
+    let owner = text 1 x.owner y.owner refl refl is in
+    let priority = number 2 x.priority y.priority refl refl is in
+    let kind = p.kind ∙ sym q.kind in
+    let tags = same_tags x.want.tags y.want.tags p.tags q.tags (text 3 (tags_text x.want.tags) (tags_text y.want.tags) refl refl is) in
+    let state = same_code res_state_code res_state_with res_state_back x.state y.state (number 4 (res_state_code x.state) (res_state_code y.state) refl refl is) in
+    let deadline = number 5 x.deadline y.deadline refl refl is in
+    let board = same_name x.board y.board p.board q.board (text 6 (unwrap_or x.board []) (unwrap_or y.board []) refl refl is) in
+    λ i. record { number = own i; owner = owner i; priority = priority i; want = record { kind = kind i; tags = tags i }; state = state i; deadline = deadline i; board = board i }
+
+same_kept : (x y : KeptRow) → IsReadableKept x → IsReadableKept y → kept_columns x ≡ kept_columns y → x ≡ y
+same_kept x y p q is =
+    let text = text_in (kept_columns x) (kept_columns y) in
+    let number = number_in (kept_columns x) (kept_columns y) in
+    let caller = text 0 x.caller y.caller refl refl is in
+    let key = text 1 x.key y.key refl refl is in
+    let kind = number 2 x.kind y.kind refl refl is in
+    let first = number 3 x.reply.0 y.reply.0 refl refl is in
+    let second = number 4 x.reply.1 y.reply.1 refl refl is in
+    let third = number 5 x.reply.2 y.reply.2 refl refl is in
+    λ i. record { caller = caller i; key = key i; kind = kind i; reply = (first i, second i, third i) }
+
+same_rows : {X : Type 0} (IsGood : X → Type 0) (columns : X → Row) → ((x y : X) → IsGood x → IsGood y → columns x ≡ columns y → x ≡ y)
+    → (xs ys : List X) → AllByRecursion IsGood xs → AllByRecursion IsGood ys → map columns xs ≡ map columns ys → xs ≡ ys
+same_rows IsGood columns one [] [] p q is = refl
+same_rows IsGood columns one [] (y ∷ ys) p q is = absurd (let e = is in cc)
+same_rows IsGood columns one (x ∷ xs) [] p q is = absurd (let e = is in cc)
+same_rows IsGood columns one (x ∷ xs) (y ∷ ys) p q is =
+    let head : columns x ≡ columns y = cc in
+    let tail : map columns xs ≡ map columns ys = cc in
+    let first = one x y p.0 q.0 head in
+    let more = same_rows IsGood columns one xs ys p.1 q.1 tail in
+    cc
+
+pub one_farm : (F G : Farm) → IsReadable F → IsReadable G → rows_of F ≡ rows_of G → F ≡ G
+unfolding rows_of
+one_farm F G p q is =
+    let types = same_rows IsReadableType type_columns same_type F.types G.types p.types q.types (ap (λ (T : Tables). T.types) is) in
+    let boards = same_rows IsReadableBoard board_columns same_board F.boards G.boards p.boards q.boards (ap (λ (T : Tables). T.boards) is) in
+    let jobs = same_rows IsReadableJob job_columns same_job F.jobs G.jobs p.jobs q.jobs (ap (λ (T : Tables). T.jobs) is) in
+    let reservations = same_rows IsReadableRes res_columns same_res F.reservations G.reservations p.reservations q.reservations (ap (λ (T : Tables). T.reservations) is) in
+    let kept = same_rows IsReadableKept kept_columns same_kept F.kept G.kept p.kept q.kept (ap (λ (T : Tables). T.kept) is) in
+    let meta = ap (λ (T : Tables). T.meta) is in
+    let clock : F.clock ≡ G.clock = number_in (get_or (rows_of F).meta 0 []) (get_or (rows_of G).meta 0 []) 1 F.clock G.clock refl refl (ap (λ rows. get_or rows 0 []) meta) in
+    let count : F.count ≡ G.count = number_in (get_or (rows_of F).meta 1 []) (get_or (rows_of G).meta 1 []) 1 F.count G.count refl refl (ap (λ rows. get_or rows 1 []) meta) in
+    let next : F.next ≡ G.next = number_in (get_or (rows_of F).meta 2 []) (get_or (rows_of G).meta 2 []) 1 F.next G.next refl refl (ap (λ rows. get_or rows 2 []) meta) in
+    λ i. record { types = types i; boards = boards i; jobs = jobs i; reservations = reservations i; kept = kept i; clock = clock i; count = count i; next = next i }

@@ -1,0 +1,59 @@
+-- Codes and priorities are small numbers.
+use Rattle.std.proofs.Common.{ℕ, ◌≤◌, IsTrue, arith}
+use Rattle.std.proofs.lemmas.Bool.Decides.{nat_tests}
+use Rattle.farm_types.specs.Codes.{health_code, state_code, job_state_code, outcome_code, res_state_code}
+use Rattle.farm_types.specs.Limits.{is_priority}
+use Rattle.farm_types.specs.Small.{IsSmall}
+use Rattle.farm_types.specs.declared.rows.Check.{Check}
+use Rattle.farm_types.specs.declared.rows.Health.{Health}
+use Rattle.farm_types.specs.declared.rows.Holder.{Holder}
+use Rattle.farm_types.specs.declared.rows.JobState.{JobState}
+use Rattle.farm_types.specs.declared.rows.Outcome.{Outcome}
+use Rattle.farm_types.specs.declared.rows.ResState.{ResState}
+use Rattle.farm_types.specs.declared.rows.State.{State}
+use Rattle.farm_store.specs.Columns.{unit_of, holder_of}
+
+pub unit_is_small : (c : Check) → IsSmall (unit_of c)
+unit_is_small Check.Never = omega arith
+unit_is_small (Check.Hours n) = omega arith
+unit_is_small (Check.Jobs n) = omega arith
+
+pub holder_is_small : (h : Holder) → IsSmall (holder_of h)
+holder_is_small Holder.Nobody = omega arith
+holder_is_small (Holder.Job n) = omega arith
+holder_is_small (Holder.Res n) = omega arith
+
+pub health_is_small : (h : Health) → IsSmall (health_code h)
+health_is_small Health.Good = omega arith
+health_is_small Health.Bad = omega arith
+health_is_small Health.Unknown = omega arith
+health_is_small Health.Maintenance = omega arith
+health_is_small Health.Retired = omega arith
+
+pub state_is_small : (s : State) → IsSmall (state_code s)
+state_is_small State.Idle = omega arith
+state_is_small State.Reserved = omega arith
+state_is_small State.Running = omega arith
+
+pub job_state_is_small : (s : JobState) → IsSmall (job_state_code s)
+job_state_is_small JobState.Submitted = omega arith
+job_state_is_small JobState.Scheduled = omega arith
+job_state_is_small JobState.Running = omega arith
+job_state_is_small JobState.Canceling = omega arith
+job_state_is_small JobState.Finished = omega arith
+
+pub outcome_is_small : (o : Outcome) → IsSmall (outcome_code o)
+outcome_is_small Outcome.Complete = omega arith
+outcome_is_small Outcome.Incomplete = omega arith
+outcome_is_small Outcome.Infra = omega arith
+outcome_is_small Outcome.Canceled = omega arith
+
+pub res_state_is_small : (s : ResState) → IsSmall (res_state_code s)
+res_state_is_small ResState.Waiting = omega arith
+res_state_is_small ResState.Allocated = omega arith
+res_state_is_small ResState.Acquired = omega arith
+res_state_is_small ResState.Expired = omega arith
+res_state_is_small ResState.Canceled = omega arith
+
+pub priority_is_small : (p : ℕ) → IsTrue (is_priority p) → IsSmall p
+priority_is_small p h = let low : p ≤ 100 = grind (arith, nat_tests) in omega arith

@@ -1,0 +1,36 @@
+-- Tags that were read from a text.
+use Rattle.std.proofs.Common.{refl, ◌≡◌, ℕ, ◌&&◌, Bool, true, false, cond, List, length, Ok, Err, sym, ap, ◌∙◌, arith}
+use Rattle.std.specs.Prelude.{nat_le, nat_lt}
+use Rattle.std.specs.List.{list_all}
+use Rattle.std.proofs.lemmas.Bool.Decides.{nat_tests}
+use Rattle.sqlite.specs.declared.types.Value.TheVariants.{Text}
+use Rattle.farm_types.specs.Words.{IsTags, is_tag, is_tags, rise}
+use Rattle.farm_types.specs.Tags.{tag_parts, tags_read, tags_text}
+use Rattle.farm_types.specs.declared.refusal.TheConstants.{BAD_TAG, BAD_COUNT}
+use Rattle.farm_types.proofs.SortedTags.{tags_read_back}
+use Rattle.farm_types.proofs.WordLemmas.{and_parts}
+
+few : (n : ℕ) → nat_lt 16 n ≡ false → nat_le n 16 ≡ true
+few n h = grind (arith, nat_tests)
+
+-- they are tags
+pub read_good : (text : List ℕ) (tags : List (List ℕ)) → tags_read text ≡ Ok tags → IsTags tags
+unfolding tags_read is_tags
+read_good text tags read = by (nat_lt 16 (length (tag_parts text))) (list_all is_tag (tag_parts text) && rise (tag_parts text)) refl refl read
+  where
+    by : (many good : Bool) → nat_lt 16 (length (tag_parts text)) ≡ many → (list_all is_tag (tag_parts text) && rise (tag_parts text)) ≡ good
+        → cond many (Err BAD_COUNT) (cond good (Ok (tag_parts text)) (Err BAD_TAG)) ≡ Ok tags → (nat_le (length tags) 16 && list_all is_tag tags && rise tags) ≡ true
+    by true good is_many is_good read = absurd (let e = read in cc)
+    by false false is_many is_good read = absurd (let e = read in cc)
+    by false true is_many is_good read =
+        let same : tag_parts text ≡ tags = cc in
+        let both = and_parts (list_all is_tag (tag_parts text)) (rise (tag_parts text)) is_good in
+        rw (sym same, few (length (tag_parts text)) is_many, both.0, both.1)
+
+pub same_text : (s t : List ℕ) → Text s ≡ Text t → s ≡ t
+same_text s t e = cc
+
+-- a text that was refused is that of no tags
+pub read_bad : (text : List ℕ) (code : ℕ) (tags : List (List ℕ)) → tags_read text ≡ Err code → IsTags tags → Text text ≡ Text (tags_text tags) → ⊥
+read_bad text code tags refused good is =
+    let e = sym refused ∙ ap tags_read (same_text text (tags_text tags) is) ∙ tags_read_back tags good in cc

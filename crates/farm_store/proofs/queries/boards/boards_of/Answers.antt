@@ -1,0 +1,28 @@
+use Rattle.std.proofs.Common.{◌≡◌, ◌+◌, ◌<◌, ◌++◌, [], ◌∷◌, length, sym, subst, ◌∙◌, arith, rules}
+use Rattle.farm_store.specs.Columns.{board_columns}
+use Rattle.farm_store.specs.Readable.{IsReadableBoard}
+use Rattle.farm_store.specs.Stored.{IsWide}
+use Rattle.farm_store.proofs.ReadRows.{SoFar, all_at, one_more, none_good, refuses}
+use Rattle.farm_store.proofs.queries.boards.boards_of.Goals as goal
+
+pub loop-row-preserved : goal.loop-row-preserved
+loop-row-preserved c = λ wide.
+    let rows = c.args.rows.now in
+    let at = c.loop-row.row-index in
+    let row = c.row-item.result in
+    let low : at < length rows = omega arith in
+    let row_wide = subst (IsWide 9) (sym c.row-item.is) (all_at (IsWide 9) rows at row wide low) in
+    let read = c.in_ok-board_of.ensures row_wide in
+    let items : c.push.new.self.items ≡ c.loop-row.boards.items ++ c.in_ok-board_of.field-0 ∷ [] = search rules in
+    subst (SoFar IsReadableBoard board_columns rows (at + 1)) (sym items) (one_more IsReadableBoard board_columns rows at row c.loop-row.boards.items c.in_ok-board_of.field-0 low c.row-item.is (c.loop-row.invariant wide) read.0 read.1)
+
+pub returns-in_err-board_of : goal.returns-in_err-board_of
+returns-in_err-board_of c = λ wide.
+    let rows = c.args.rows.now in
+    let at = c.loop-row.row-index in
+    let row = c.row-item.result in
+    let low : at < length rows = omega arith in
+    let row_wide = subst (IsWide 9) (sym c.row-item.is) (all_at (IsWide 9) rows at row wide low) in
+    let refused = c.in_err-board_of.ensures row_wide in
+    refuses c.from_residual.result (λ boards. boards.items) IsReadableBoard board_columns rows c.in_err-board_of.field-0.0 c.from_residual.ensures.1 refused.0
+    (λ bad. none_good IsReadableBoard board_columns rows at row low (λ x good is. refused.1 bad x good (c.row-item.is ∙ is)))

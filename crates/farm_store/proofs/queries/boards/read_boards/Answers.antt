@@ -1,0 +1,17 @@
+use Rattle.std.proofs.Common.{sym, subst, ◌∙◌}
+use Rattle.std.specs.List.{AllByRecursion}
+use Rattle.farm_store.specs.Columns.{board_columns}
+use Rattle.farm_store.specs.Readable.{IsReadableBoard}
+use Rattle.farm_store.specs.Reading.{ReadsAll}
+use Rattle.farm_store.specs.Stored.{IsWide}
+use Rattle.farm_store.proofs.ReadRows.{on_ok}
+use Rattle.farm_store.proofs.queries.boards.read_boards.Goals as goal
+
+pub returns-clause-read : goal.returns-clause-read
+returns-clause-read g c clean T at =
+    let got = c.in_ok-rows.ensures.rows clean T at in
+    let is = c.deref.ensures.value in
+    subst (ReadsAll c.boards_of.result (λ boards. boards.items) IsReadableBoard board_columns) (is ∙ got.0) (c.boards_of.ensures (subst (AllByRecursion (IsWide 9)) (sym is) got.1))
+
+pub returns-clause-inside : goal.returns-clause-inside
+returns-clause-inside g c clean = on_ok c.boards_of.result _ (λ T at. (c.in_ok-rows.ensures.rows clean T at).2)

@@ -1,0 +1,21 @@
+-- What a call does inside a transaction.
+use Rattle.std.specs.Prelude.{IsTrue, ℕ, List, [], Ok, OnOk, Result}
+use Rattle.sqlite.specs.State.{State, HasCleanDisk, Survives, Executes}
+use Rattle.farm_store.specs.Columns.{Tables}
+use Rattle.farm_store.specs.Holds.{IsInside}
+
+-- where it answers Ok, the tables are changed so
+abbrev pub ChangesTables : {A E : Type 0} → Result A E → State → State → (Tables → Tables) → Type 0
+ChangesTables result old new change = HasCleanDisk new → OnOk result ((T : Tables) → IsInside old T → IsInside new (change T))
+
+-- where it answers Ok, the transaction goes on, and the connection is open
+abbrev pub StaysOpen : {A E : Type 0} → Result A E → State → State → Type 0
+StaysOpen result old new = HasCleanDisk new → OnOk result (IsTrue old.in_transaction → IsTrue new.in_transaction × IsTrue new.is_open)
+
+-- it commits nothing
+abbrev pub CommitsNothing : State → State → Type 0
+CommitsNothing old new = Survives old new (λ _. ⊥)
+
+-- the text ran in a transaction
+abbrev pub Ran : List ℕ → State → State → Type 0
+Ran sql old new = (count : ℕ) × Executes sql [] old new (Ok count) × IsTrue old.is_open × IsTrue new.is_open × IsTrue new.in_transaction

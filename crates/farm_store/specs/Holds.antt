@@ -1,0 +1,50 @@
+-- What a store holds, and what a stop may leave of it.
+use Rattle.std.specs.Prelude.{◌≡◌, ◌⊎◌, false, IsTrue}
+use Rattle.sqlite.specs.Effect.{Database}
+use Rattle.sqlite.specs.Tree.{Trees}
+use Rattle.sqlite.specs.State.{State, HasCleanDisk}
+use Rattle.sqlite_catalog.specs.Listing.{AreListed}
+use Rattle.sqlite_trees.specs.Objects.{catalog_tree}
+use Rattle.farm_store.specs.Schema.{farm_schema}
+use Rattle.farm_store.specs.Stored.{Lists, unnumbered, with_number}
+use Rattle.farm_store.specs.Columns.{Tables, rows_of, by_first, by_two}
+use Rattle.farm_types.specs.Farm.{Farm}
+
+-- the trees list the farm's schema, and its tables have these rows
+pub record Holds (db : Trees) (T : Tables) : Type 0 where
+  pub listed : AreListed (db catalog_tree) farm_schema
+  pub types : Lists by_first unnumbered 3 (db 0) T.types
+  pub boards : Lists by_first unnumbered 9 (db 2) T.boards
+  pub jobs : Lists by_first with_number 12 (db 4) T.jobs
+  pub reservations : Lists by_first with_number 7 (db 5) T.reservations
+  pub kept : Lists by_two unnumbered 6 (db 6) T.kept
+  pub meta : Lists by_first unnumbered 2 (db 8) T.meta
+
+-- a database that is the farm's, with these tables
+pub record ShowsTables (db : Database) (T : Tables) : Type 0 where
+  pub schema : db.schema ≡ farm_schema
+  pub holds : Holds db.trees T
+
+-- no transaction is begun, the connection, while it is open, shows these tables as they were committed, and a stop now leaves these alone
+pub record Stands (s : State) (T : Tables) : Type 0 where
+  pub autocommit : s.in_transaction ≡ false
+  pub same : IsTrue s.is_open → s.now ≡ s.committed
+  pub shown : IsTrue s.is_open → ShowsTables s.now T
+  pub left : (db : Trees) → s.may_leave db → Holds db T
+
+-- a transaction sees these tables, while it is open
+pub record IsInside (s : State) (T : Tables) : Type 0 where
+  pub inside : IsTrue s.in_transaction
+  pub shown : IsTrue s.is_open → ShowsTables s.now T
+
+-- a stop now leaves the one or the other
+abbrev pub LeavesEither : State → Tables → Tables → Type 0
+LeavesEither s R T = (db : Trees) → s.may_leave db → Holds db R ⊎ Holds db T
+
+-- a stop now leaves no more than a stop then
+abbrev pub LeavesNoMore : State → State → Type 0
+LeavesNoMore old new = (db : Trees) → new.may_leave db → old.may_leave db
+
+-- the connection stands for the farm, where its disk has returned what was written
+abbrev pub StandsFor : State → Farm → Type 0
+StandsFor s F = HasCleanDisk s → Stands s (rows_of F)

@@ -1,0 +1,10 @@
+pub mod Columns
+pub mod Edits
+pub mod Faults
+pub mod Holds
+pub mod Readable
+pub mod Reading
+pub mod Replaces
+pub mod Schema
+pub mod Stored
+pub mod Texts

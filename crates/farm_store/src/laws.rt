@@ -1,0 +1,30 @@
+//! Laws over the tables.
+ghost use Rattle.std.specs.Prelude.{◌≡◌};
+ghost use Rattle.sqlite.specs.Held.{state};
+ghost use Rattle.sqlite.specs.State.{IsLive, Opens};
+ghost use Rattle.farm_types.specs.Farm.{Farm};
+ghost use Rattle.farm_store.specs.Columns.{Tables, rows_of};
+ghost use Rattle.farm_store.specs.Holds.{Holds, Stands};
+ghost use Rattle.farm_store.specs.Readable.{IsReadable};
+ghost use Rattle.farm_types.specs.Sound.{IsSound};
+
+use sqlite::{Alter, Connection};
+
+/// A connection that was just opened on the farm's tables stands for them: they have the farm's schema, nothing is
+/// uncommitted, and a stop now leaves them alone.
+pub fn opened_stands<S: Alter>(conn: &Connection<S>)
+    ensures { Opens (state S.Store conn.now) → IsLive (state S.Store conn.now) → (T : Tables) → Holds (state S.Store conn.now).committed.trees T
+        → Stands (state S.Store conn.now) T }
+{
+    let _ = conn.is_autocommit();
+}
+
+/// Farms whose words are words have the same tables only where they are the same farm.
+pub fn tables_lose_nothing()
+    ensures { (F G : Farm) → IsReadable F → IsReadable G → rows_of F ≡ rows_of G → F ≡ G }
+{}
+
+/// The words of a sound farm are words, so its tables can be read.
+pub fn sound_is_readable()
+    ensures { (F : Farm) → IsSound F → IsReadable F }
+{}

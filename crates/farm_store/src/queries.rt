@@ -1,0 +1,70 @@
+//! The rows of the tables, read.
+mod boards;
+mod cells;
+mod jobs;
+mod kept;
+mod meta;
+mod reservations;
+mod types;
+
+ghost use Rattle.std.specs.Prelude.{◌≡◌, ◌≤◌, false, Err, IfOk};
+ghost use Rattle.sqlite.specs.Held.{state};
+ghost use Rattle.sqlite.specs.State.{HasCleanDisk};
+ghost use Rattle.sqlite_trees.specs.View.{doubt};
+ghost use Rattle.farm_types.specs.Farm.{Farm, farm_of};
+ghost use Rattle.farm_store.specs.Columns.{Tables, rows_of};
+ghost use Rattle.farm_store.specs.Edits.{CommitsNothing};
+ghost use Rattle.farm_store.specs.Holds.{IsInside, Stands, LeavesNoMore};
+ghost use Rattle.farm_store.specs.Readable.{IsReadable};
+ghost use Rattle.farm_store.specs.Reading.{CommitShows, ReadsFarm};
+
+use crate::fault::StoreFault;
+use crate::queries::boards::read_boards;
+use crate::queries::jobs::read_jobs;
+use crate::queries::kept::read_replies;
+use crate::queries::meta::read_numbers;
+use crate::queries::reservations::read_reservations;
+use crate::queries::types::read_types;
+use farm_types::calls::Rows;
+use sqlite::{Alter, Connection, Transaction};
+use std::alloc::Global;
+
+/// Each table by its query.
+fn read_all<S: Alter>(alloc: Global, tx: &mut Transaction<'_, S>) -> Result<Rows, StoreFault>
+    ensures same_reference { tx.new.conn.ghost_name ≡ tx.old.conn.ghost_name }
+    ensures read { HasCleanDisk (state S.Store tx.new.conn.now) → (T : Tables) → IsInside (state S.Store tx.old.conn.now) T → ReadsFarm result T }
+    ensures kept { HasCleanDisk (state S.Store tx.new.conn.now) → (T : Tables) → IsInside (state S.Store tx.old.conn.now) T
+        → CommitShows (state S.Store tx.old.conn.now) T → CommitShows (state S.Store tx.new.conn.now) T }
+    ensures survives { CommitsNothing (state S.Store tx.old.conn.now) (state S.Store tx.new.conn.now) }
+{
+    Ok(Rows {
+        types: read_types(alloc, tx)?,
+        boards: read_boards(alloc, tx)?,
+        jobs: read_jobs(alloc, tx)?,
+        reservations: read_reservations(alloc, tx)?,
+        kept: read_replies(alloc, tx)?,
+        meta: read_numbers(tx)?,
+    })
+}
+
+/// Reads the rows of all tables, in order of their keys, in one transaction that is rolled back. Refused as bad where a
+/// column can't be read: where its word is none, its code is of nothing, its tags are in no canonical text, its number is
+/// below 0; and where the farm's numbers are not exactly its clock, count and next number, with schema 1.
+///
+/// It reads each row once, and keeps the raw rows of one table at a time.
+pub fn load<S: Alter>(alloc: Global, conn: &mut Connection<S>) -> Result<Rows, StoreFault>
+    requires autocommit { conn.old.in_transaction ≡ false }
+    ensures autocommit { conn.new.in_transaction ≡ false }
+    ensures clean { doubt (state S.Store conn.old).is_clean ≤ doubt (state S.Store conn.new).is_clean }
+    ensures left { HasCleanDisk (state S.Store conn.new) → LeavesNoMore (state S.Store conn.old) (state S.Store conn.new) }
+    ensures stands { HasCleanDisk (state S.Store conn.new) → (T : Tables) → Stands (state S.Store conn.old) T → Stands (state S.Store conn.new) T }
+    ensures rows { HasCleanDisk (state S.Store conn.new) → IfOk result (λ rows. (T : Tables) → Stands (state S.Store conn.old) T → rows_of (farm_of rows) ≡ T) }
+    ensures farm { HasCleanDisk (state S.Store conn.new) → IfOk result (λ rows. (F : Farm) → IsReadable F → Stands (state S.Store conn.old) (rows_of F) → farm_of rows ≡ F) }
+    ensures bad { HasCleanDisk (state S.Store conn.new) → result ≡ Err StoreFault.BadStore → (F : Farm) → IsReadable F → ¬ Stands (state S.Store conn.old) (rows_of F) }
+    ensures old { HasCleanDisk (state S.Store conn.new) → result ≡ Err StoreFault.OldSchema → (T : Tables) → ¬ Stands (state S.Store conn.old) T }
+{
+    let mut tx = conn.transaction();
+    let rows = read_all(alloc, &mut tx);
+    tx.rollback();
+    rows
+}

@@ -1,0 +1,97 @@
+//! The tables of the empty farm.
+ghost use Rattle.std.specs.Prelude.{◌≡◌, ◌≤◌, ◌⊎◌, false, IsTrue, IfErr, OnOk};
+ghost use Rattle.sqlite.specs.Held.{state};
+ghost use Rattle.sqlite.specs.State.{HasCleanDisk};
+ghost use Rattle.sqlite_trees.specs.View.{doubt};
+ghost use Rattle.farm_types.specs.Farm.{empty};
+ghost use Rattle.farm_store.specs.Columns.{no_rows, rows_of};
+ghost use Rattle.farm_store.specs.Edits.{CommitsNothing, Ran, StaysOpen};
+ghost use Rattle.farm_store.specs.Holds.{Holds, IsInside, Stands};
+ghost use Rattle.farm_store.specs.Schema.{no_schema};
+
+use crate::fault::StoreFault;
+use crate::upserts::{put_number, put_numbers};
+use farm_types::rows::MetaRow;
+use sqlite::{Alter, Connection, Error, Transaction};
+
+/// The version of the tables, which one of their numbers tells.
+pub(crate) const SCHEMA: u64 = 1;
+
+fn make<S: Alter>(tx: &mut Transaction<'_, S>, sql: &str) -> Result<(), Error>
+    ensures same_reference { tx.new.conn.ghost_name ≡ tx.old.conn.ghost_name }
+    ensures ran { HasCleanDisk (state S.Store tx.new.conn.now) → OnOk result (IsTrue (state S.Store tx.old.conn.now).in_transaction
+        → Ran sql.now (state S.Store tx.old.conn.now) (state S.Store tx.new.conn.now)) }
+    ensures survives { CommitsNothing (state S.Store tx.old.conn.now) (state S.Store tx.new.conn.now) }
+{
+    tx.execute(sql, &[])?;
+    Ok(())
+}
+
+fn make_all<S: Alter>(tx: &mut Transaction<'_, S>) -> Result<(), Error>
+    ensures same_reference { tx.new.conn.ghost_name ≡ tx.old.conn.ghost_name }
+    ensures made { HasCleanDisk (state S.Store tx.new.conn.now) → OnOk result (IsTrue (state S.Store tx.old.conn.now).in_transaction
+        → (state S.Store tx.old.conn.now).now.schema ≡ no_schema → IsInside (state S.Store tx.new.conn.now) no_rows) }
+    ensures survives { CommitsNothing (state S.Store tx.old.conn.now) (state S.Store tx.new.conn.now) }
+{
+    make(
+        tx,
+        "CREATE TABLE types(name TEXT PRIMARY KEY NOT NULL, unit INTEGER NOT NULL, every INTEGER NOT NULL) STRICT",
+    )?;
+    make(
+        tx,
+        "CREATE TABLE boards(name TEXT PRIMARY KEY NOT NULL, kind TEXT NOT NULL, tags TEXT NOT NULL, health INTEGER NOT NULL, state INTEGER NOT NULL, holder INTEGER NOT NULL, held_by INTEGER NOT NULL, jobs_since INTEGER NOT NULL, last_check INTEGER NOT NULL) STRICT",
+    )?;
+    make(
+        tx,
+        "CREATE TABLE jobs(number INTEGER PRIMARY KEY NOT NULL, grp INTEGER NOT NULL, checking INTEGER NOT NULL, owner TEXT NOT NULL, priority INTEGER NOT NULL, kind TEXT NOT NULL, tags TEXT NOT NULL, role TEXT NOT NULL, state INTEGER NOT NULL, outcome INTEGER NOT NULL, board TEXT NOT NULL, body TEXT NOT NULL) STRICT",
+    )?;
+    make(
+        tx,
+        "CREATE TABLE reservations(number INTEGER PRIMARY KEY NOT NULL, owner TEXT NOT NULL, priority INTEGER NOT NULL, tags TEXT NOT NULL, state INTEGER NOT NULL, deadline INTEGER NOT NULL, board TEXT NOT NULL) STRICT",
+    )?;
+    make(
+        tx,
+        "CREATE TABLE kept(caller TEXT NOT NULL, ckey TEXT NOT NULL, kind INTEGER NOT NULL, a INTEGER NOT NULL, b INTEGER NOT NULL, c INTEGER NOT NULL, PRIMARY KEY(caller, ckey)) STRICT",
+    )?;
+    make(
+        tx,
+        "CREATE TABLE meta(name TEXT PRIMARY KEY NOT NULL, value INTEGER NOT NULL) STRICT",
+    )?;
+    Ok(())
+}
+
+/// No command was accepted at moment 0, and the first number is 1.
+fn put_first_numbers<S: Alter>(tx: &mut Transaction<'_, S>) -> Result<(), Error>
+    ensures same_reference { tx.new.conn.ghost_name ≡ tx.old.conn.ghost_name }
+    ensures put { HasCleanDisk (state S.Store tx.new.conn.now) → OnOk result (IsInside (state S.Store tx.old.conn.now) no_rows
+        → IsInside (state S.Store tx.new.conn.now) (rows_of empty)) }
+    ensures stays_open { StaysOpen result (state S.Store tx.old.conn.now) (state S.Store tx.new.conn.now) }
+    ensures survives { CommitsNothing (state S.Store tx.old.conn.now) (state S.Store tx.new.conn.now) }
+{
+    let first = MetaRow {
+        clock: 0,
+        count: 0,
+        next: 1,
+    };
+    put_numbers(tx, first)?;
+    put_number(tx, "schema", SCHEMA)?;
+    Ok(())
+}
+
+/// Makes the six tables of the empty farm in one transaction. Where the store failed, there are none of them or all.
+pub fn create<S: Alter>(conn: &mut Connection<S>) -> Result<(), StoreFault>
+    requires autocommit { conn.old.in_transaction ≡ false }
+    ensures autocommit { conn.new.in_transaction ≡ false }
+    ensures clean { doubt (state S.Store conn.old).is_clean ≤ doubt (state S.Store conn.new).is_clean }
+    ensures ok { HasCleanDisk (state S.Store conn.new) → OnOk result ((state S.Store conn.old).now.schema ≡ no_schema
+        → Stands (state S.Store conn.new) (rows_of empty)) }
+    ensures stop { HasCleanDisk (state S.Store conn.new) → (state S.Store conn.old).now.schema ≡ no_schema
+        → (db : _) → (state S.Store conn.new).may_leave db → (state S.Store conn.old).may_leave db ⊎ Holds db (rows_of empty) }
+    ensures fault { IfErr result (λ fault. fault ≡ StoreFault.Store) }
+{
+    let mut tx = conn.transaction();
+    make_all(&mut tx)?;
+    put_first_numbers(&mut tx)?;
+    tx.commit()?;
+    Ok(())
+}

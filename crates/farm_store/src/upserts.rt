@@ -1,0 +1,83 @@
+//! Rows put into the tables.
+mod boards;
+mod jobs;
+mod kept;
+mod meta;
+mod reservations;
+mod texts;
+mod types;
+
+ghost use Rattle.std.specs.Prelude.{◌≡◌, ◌≤◌, ◌⊎◌, false, IsTrue, Err, IfErr, OnOk};
+ghost use Rattle.sqlite.specs.Held.{state};
+ghost use Rattle.sqlite.specs.State.{HasCleanDisk};
+ghost use Rattle.sqlite_trees.specs.View.{doubt};
+ghost use Rattle.farm_types.specs.Farm.{Farm, put_rows};
+ghost use Rattle.farm_types.specs.Small.{AreSmall};
+ghost use Rattle.farm_store.specs.Columns.{rows_of};
+ghost use Rattle.farm_store.specs.Edits.{CommitsNothing};
+ghost use Rattle.farm_store.specs.Holds.{IsInside, Stands, LeavesEither};
+ghost use Rattle.farm_store.specs.Texts.{AreBoardTexts, AreJobTexts, AreResTexts};
+
+use crate::fault::StoreFault;
+use crate::upserts::boards::put_boards;
+use crate::upserts::jobs::put_jobs;
+use crate::upserts::kept::put_kept;
+use crate::upserts::reservations::put_reservations;
+use crate::upserts::texts::Texts;
+use crate::upserts::types::put_types;
+use farm_types::calls::Changes;
+pub(crate) use meta::{put_number, put_numbers};
+use sqlite::{Alter, Connection, Error, Transaction};
+use std::alloc::Global;
+
+/// Each changed row by its table's upsert, and the three numbers.
+fn put_all<S: Alter>(
+    tx: &mut Transaction<'_, S>,
+    changes: &Changes,
+    texts: &Texts,
+) -> Result<(), Error>
+    requires small { AreSmall changes.now }
+    requires boards { AreBoardTexts texts.now.boards.items changes.now.boards.items }
+    requires jobs { AreJobTexts texts.now.jobs.items changes.now.jobs.items }
+    requires reservations { AreResTexts texts.now.reservations.items changes.now.reservations.items }
+    ensures same_reference { tx.new.conn.ghost_name ≡ tx.old.conn.ghost_name }
+    ensures put { HasCleanDisk (state S.Store tx.new.conn.now) → OnOk result ((F : Farm) → IsInside (state S.Store tx.old.conn.now) (rows_of F)
+        → IsInside (state S.Store tx.new.conn.now) (rows_of (put_rows F changes.now)) × IsTrue (state S.Store tx.new.conn.now).is_open) }
+    ensures survives { CommitsNothing (state S.Store tx.old.conn.now) (state S.Store tx.new.conn.now) }
+{
+    put_types(tx, &changes.types)?;
+    put_boards(tx, &changes.boards, &texts.boards)?;
+    put_jobs(tx, &changes.jobs, &texts.jobs)?;
+    put_reservations(tx, &changes.reservations, &texts.reservations)?;
+    put_kept(tx, &changes.kept)?;
+    put_numbers(tx, changes.meta)?;
+    Ok(())
+}
+
+/// Puts the changed rows, each by its key, and the farm's three numbers in one transaction, whose commit is the last
+/// call of the store. The texts of tags are made before the first call of the store, so where memory is refused nothing
+/// has changed; where the store failed, a stop leaves the tables as they were or with all the changes put.
+///
+/// It writes the rows of the changes and three more, whatever the tables hold.
+pub fn put<S: Alter>(
+    alloc: Global,
+    conn: &mut Connection<S>,
+    changes: &Changes,
+) -> Result<(), StoreFault>
+    requires autocommit { conn.old.in_transaction ≡ false }
+    requires small { AreSmall changes.now }
+    ensures autocommit { conn.new.in_transaction ≡ false }
+    ensures clean { doubt (state S.Store conn.old).is_clean ≤ doubt (state S.Store conn.new).is_clean }
+    ensures ok { HasCleanDisk (state S.Store conn.new) → OnOk result ((F : Farm) → Stands (state S.Store conn.old) (rows_of F)
+        → Stands (state S.Store conn.new) (rows_of (put_rows F changes.now))) }
+    ensures stop { HasCleanDisk (state S.Store conn.new) → (F : Farm) → Stands (state S.Store conn.old) (rows_of F)
+        → LeavesEither (state S.Store conn.new) (rows_of F) (rows_of (put_rows F changes.now)) }
+    ensures memory { result ≡ Err StoreFault.NoMemory → conn.new ≡ conn.old }
+    ensures fault { IfErr result (λ fault. (fault ≡ StoreFault.NoMemory) ⊎ (fault ≡ StoreFault.Store)) }
+{
+    let texts = Texts::of(alloc, changes)?;
+    let mut tx = conn.transaction();
+    put_all(&mut tx, changes, &texts)?;
+    tx.commit()?;
+    Ok(())
+}

@@ -1,0 +1,45 @@
+//! The upsert of the farm's numbers.
+ghost use Rattle.std.specs.Prelude.{◌≡◌, [], ◌∷◌};
+ghost use Rattle.sqlite.specs.Held.{state};
+ghost use Rattle.farm_store.specs.Columns.{meta_row, number_rows, with_meta};
+ghost use Rattle.farm_store.specs.Edits.{ChangesTables, CommitsNothing, StaysOpen};
+ghost use Rattle.farm_types.specs.Small.{IsSmall};
+
+use crate::columns::meta_columns;
+use farm_types::rows::MetaRow;
+use sqlite::{Alter, Error, Transaction};
+
+pub(crate) fn put_number<S: Alter>(
+    tx: &mut Transaction<'_, S>,
+    name: &str,
+    value: u64,
+) -> Result<(), Error>
+    requires small { IsSmall value }
+    ensures same_reference { tx.new.conn.ghost_name ≡ tx.old.conn.ghost_name }
+    ensures put { ChangesTables result (state S.Store tx.old.conn.now) (state S.Store tx.new.conn.now) (λ T. with_meta T (meta_row name.now value ∷ [])) }
+    ensures stays_open { StaysOpen result (state S.Store tx.old.conn.now) (state S.Store tx.new.conn.now) }
+    ensures survives { CommitsNothing (state S.Store tx.old.conn.now) (state S.Store tx.new.conn.now) }
+{
+    let columns = meta_columns(name, value);
+    tx.execute("INSERT OR REPLACE INTO meta VALUES (?1, ?2)", &columns)?;
+    Ok(())
+}
+
+pub(crate) fn put_numbers<S: Alter>(
+    tx: &mut Transaction<'_, S>,
+    numbers: MetaRow,
+) -> Result<(), Error>
+    requires clock { IsSmall numbers.clock }
+    requires count { IsSmall numbers.count }
+    requires next { IsSmall numbers.next }
+    ensures same_reference { tx.new.conn.ghost_name ≡ tx.old.conn.ghost_name }
+    ensures put { ChangesTables result (state S.Store tx.old.conn.now) (state S.Store tx.new.conn.now)
+        (λ T. with_meta T (number_rows numbers.clock numbers.count numbers.next)) }
+    ensures stays_open { StaysOpen result (state S.Store tx.old.conn.now) (state S.Store tx.new.conn.now) }
+    ensures survives { CommitsNothing (state S.Store tx.old.conn.now) (state S.Store tx.new.conn.now) }
+{
+    put_number(tx, "clock", numbers.clock)?;
+    put_number(tx, "count", numbers.count)?;
+    put_number(tx, "next", numbers.next)?;
+    Ok(())
+}

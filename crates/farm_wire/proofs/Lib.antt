@@ -1,0 +1,6 @@
+pub mod Digits
+pub mod ObjectLemmas
+pub mod ParameterLemmas
+pub mod PathLaws
+pub mod PathLemmas
+pub mod RouteLemmas

@@ -1,0 +1,65 @@
+-- The members of a JSON body (RFC 8259): each has its kind, and then its word.
+use Rattle.std.specs.Prelude.{ℕ, List, [], ◌∷◌, length, nat_lt, Option, Some, None, is_some, option_and_then, Result, Ok, Err, codes, if◌then◌else◌}
+use Rattle.std.specs.Str.{is_utf8}
+use Rattle.serde_json.specs.Data.{Data, Items, no_items, item}
+use Rattle.serde_json.specs.Read.{read}
+use Rattle.serde_json.specs.Find.{get, as_str, as_array, as_object}
+use Rattle.farm_types.specs.Words.{is_word, word_or}
+use Rattle.farm_types.specs.Tags.{tags_of, list_of_tags}
+use Rattle.farm_types.specs.Proper.{has_no_name_tag}
+use Rattle.farm_types.specs.declared.refusal.TheConstants.{BAD_REQUEST, BAD_NAME, BAD_COUNT, BAD_TAG}
+use Rattle.farm_wire.specs.Reading.{◌>>=◌}
+
+-- an object, or nothing that can be read
+abbrev pub object_or : Option Data → Result Data ℕ
+object_or None = Err BAD_REQUEST
+object_or (Some d) = if is_some (as_object d) then Ok d else Err BAD_REQUEST
+
+-- the object that a body spells
+unfoldable pub object_in : List ℕ → Result Data ℕ
+object_in body = object_or (if is_utf8 body then read body else None)
+
+-- what must be there and of its kind
+abbrev pub there_or : {A : Type 0} → Option A → Result A ℕ
+there_or None = Err BAD_REQUEST
+there_or (Some x) = Ok x
+
+-- the text under a key
+unfoldable pub text_in : List ℕ → Data → Result (List ℕ) ℕ
+text_in key d = there_or (option_and_then as_str (get key d))
+
+-- a name, or a bad one
+abbrev pub name_or : List ℕ → Result (List ℕ) ℕ
+name_or text = word_or (is_word 48 text) text BAD_NAME
+
+-- the name under a key
+unfoldable pub name_in : List ℕ → Data → Result (List ℕ) ℕ
+name_in key d = do
+  text ← text_in key d
+  name_or text
+
+-- the texts of an array's items, each of them a text
+abbrev pub texts_in : Items → Result (List (List ℕ)) ℕ
+texts_in no_items = Ok []
+texts_in (item d ds) = there_or (as_str d) >>= λ text. texts_in ds >>= λ texts. Ok (text ∷ texts)
+
+-- at most sixteen tags, put in order
+unfoldable pub tags_among : List (List ℕ) → Result (List (List ℕ)) ℕ
+tags_among texts = if nat_lt 16 (length texts) then Err BAD_COUNT else list_of_tags texts >>= tags_of
+
+-- the tags that a value spells: its kinds are looked at first, then the count, then each tag
+unfoldable pub tags_from : Data → Result (List (List ℕ)) ℕ
+tags_from d = do
+  items ← there_or (as_array d)
+  texts ← texts_in items
+  tags_among texts
+
+-- the tags under the key `tags`
+unfoldable pub tags_in : Data → Result (List (List ℕ)) ℕ
+tags_in d = do
+  field ← there_or (get (codes "tags") d)
+  tags_from field
+
+-- tags for a board: none has the key `name`
+abbrev pub board_tags : List (List ℕ) → Result (List (List ℕ)) ℕ
+board_tags tags = if has_no_name_tag tags then Ok tags else Err BAD_TAG

@@ -1,0 +1,11 @@
+pub mod Reading
+pub mod Places
+pub mod Sender
+pub mod Fields
+pub mod Parameters
+pub mod Commands
+pub mod Asked
+pub mod Shown
+pub mod Replies
+pub mod Whole
+pub mod JobWords

@@ -1,0 +1,31 @@
+-- What reading a request gives: a value, or why it asks nothing.
+use Rattle.std.specs.Prelude.{◌≡◌, ℕ, Result, Ok, Err}
+use Rattle.farm_wire.specs.declared.allowed.Allowed.{Allowed}
+use Rattle.farm_wire.specs.declared.fault.AskFault.{AskFault}
+
+-- one reading after another: the first refusal stands
+infixl 10 ◌>>=◌
+abbrev pub ◌>>=◌ : {A B E : Type 0} → Result A E → (A → Result B E) → Result B E
+(Ok x) >>= f = f x
+(Err e) >>= f = Err e
+
+-- the number of a refusal, or the methods that the path has in place of the one asked
+pub data Denial : Type 0 where
+  refused : ℕ → Denial
+  other_methods : Allowed → Denial
+
+-- a refusal by its number alone
+abbrev pub or_refused : {A : Type 0} → Result A ℕ → Result A Denial
+or_refused (Ok x) = Ok x
+or_refused (Err code) = Err (refused code)
+
+-- the fault is that denial, unless memory ran out
+abbrev pub Denies : {Y : Type 0} → AskFault → Result Y Denial → Type 0
+Denies AskFault.NoMemory asked = Unit {0}
+Denies (AskFault.Refused refusal) asked = asked ≡ Err (refused refusal.code)
+Denies (AskFault.Method allowed) asked = asked ≡ Err (other_methods allowed)
+
+-- what a call returned, seen by `view`, is what the request asks, or why it asks nothing
+abbrev pub Meets : {X Y : Type 0} → (X → Y) → Result X AskFault → Result Y Denial → Type 0
+Meets view (Ok x) asked = asked ≡ Ok (view x)
+Meets view (Err fault) asked = Denies fault asked

@@ -1,0 +1,46 @@
+-- The bytes of an answer (RFC 9112): a status line, fields, and JSON.
+use Rattle.std.specs.Prelude.{ℕ, List, [], ◌∷◌, ◌++◌, length, map, codes, decimal, unwrap_or}
+use Rattle.serde_json.specs.Data.{Data}
+use Rattle.serde_json.specs.Written.{compact_text}
+use Rattle.farm_types.specs.Refusals.{status_of, reason_of}
+use Rattle.farm_types.specs.declared.refusal.TheConstants.{WRONG_METHOD}
+use Rattle.farm_wire.specs.Places.{allow_text}
+use Rattle.farm_wire.specs.Shown.{listing, reply_data, refusal_data, type_data, board_data, claim_data, res_data, job_data, status_data}
+use Rattle.farm_wire.specs.declared.allowed.Allowed.{Allowed}
+use Rattle.farm_wire.specs.declared.out.Out.{Out}
+
+-- the head of an answer, with further fields and the length of its body
+abbrev pub head_text : ℕ → List ℕ → ℕ → List ℕ
+head_text status more len =
+    codes "HTTP/1.1 " ++ (decimal status ++ (codes " " ++ (reason_of status
+    ++ (codes "\r\ncontent-type: application/json\r\ncontent-length: " ++ (decimal len
+    ++ (codes "\r\nconnection: close\r\n" ++ (more ++ codes "\r\n")))))))
+
+-- a head, and the body that it declares
+abbrev pub answer_text : ℕ → List ℕ → List ℕ → List ℕ
+answer_text status more body = head_text status more (length body) ++ body
+
+-- an answer without further fields
+abbrev pub plain : ℕ → Data → List ℕ
+plain status json = answer_text status [] (compact_text json)
+
+-- the status of a refusal; a fault that is never answered over HTTP would be 503
+abbrev pub status_or : ℕ → ℕ
+status_or code = unwrap_or (status_of code) 503
+
+-- a wrong method, with a field that names the right ones
+abbrev pub method_text : Allowed → List ℕ
+method_text allowed =
+    answer_text 405 (codes "allow: " ++ (allow_text allowed ++ codes "\r\n")) (compact_text (refusal_data WRONG_METHOD))
+
+-- the bytes of an answer
+unfoldable pub reply_bytes : Out → List ℕ
+reply_bytes (Out.Reply kind reply) = plain 200 (reply_data kind reply)
+reply_bytes (Out.Refused refusal) = plain (status_or refusal.code) (refusal_data refusal.code)
+reply_bytes (Out.Method allowed) = method_text allowed
+reply_bytes (Out.Types rows) = plain 200 (listing (codes "types") (map type_data rows.now))
+reply_bytes (Out.Boards rows) = plain 200 (listing (codes "boards") (map board_data rows.now))
+reply_bytes (Out.Queue claims) = plain 200 (listing (codes "queue") (map claim_data claims.now))
+reply_bytes (Out.Reservations rows) = plain 200 (listing (codes "reservations") (map res_data rows.now))
+reply_bytes (Out.Job row) = plain 200 (job_data row.now)
+reply_bytes (Out.Status status) = plain 200 (status_data status)

@@ -1,0 +1,202 @@
+//! Reading what requests ask.
+ghost use Rattle.std.specs.Prelude.{◌≡◌, ◌==◌, IsTrue, IfOk, IsOk};
+ghost use Rattle.std.specs.List.{before_first};
+ghost use Rattle.farm_types.specs.Proper.{is_proper_cmd};
+ghost use Rattle.farm_types.specs.Reads.{Reads};
+ghost use Rattle.farm_http.specs.Request.{Request};
+ghost use Rattle.farm_http.specs.Requests.{Spells};
+ghost use Rattle.farm_wire.specs.Asked.{ask, asked, asked_by, call_in, view_in, method_in};
+ghost use Rattle.farm_wire.specs.Commands.{command_in};
+ghost use Rattle.farm_wire.specs.Places.{rows, path_in, place_in};
+ghost use Rattle.farm_wire.specs.Reading.{Meets, or_refused};
+
+use crate::allowed::{Allowed, Method};
+use crate::ask::Ask;
+use crate::board_body::{add_board_of, set_health_of, set_tags_of};
+use crate::fault::AskFault;
+use crate::job_body::finish_of;
+use crate::parameter::{job_of, reservation_of};
+use crate::place::Place;
+use crate::reserve_body::reserve_of;
+use crate::router::all_paths;
+use crate::sender::{caller_of, key_of};
+use crate::type_body::add_type_of;
+use farm_http::parts::{Parts, parts_of};
+use farm_http::taken::Taken;
+use farm_types::calls::{Call, Cmd};
+use farm_types::fault::WordFault;
+use farm_types::refusal::{BAD_REQUEST, NO_ROUTE, Refusal};
+use matchit::Router;
+use std::alloc::{AllocError, Global};
+
+/// The router of the paths, built once and lent to each request.
+#[derive(Drop)]
+pub struct Asks {
+    router: Router<Place>,
+    ghost table: { ∥ router ≡ rows ∥₁ },
+}
+
+impl Asks {
+    /// Builds the router of the paths: seventeen routes, each compared with those before it.
+    pub fn new(alloc: Global) -> Result<Asks, AllocError> {
+        let router = all_paths(alloc)?;
+        Ok(Asks { router })
+    }
+
+    /// What a request asks at a moment, or the first refusal. A POST costs what its body is long, a
+    /// GET what its path is; memory is taken for the words and for the body's JSON.
+    pub fn ask(&self, alloc: Global, taken: &Taken, now: u64) -> Result<Ask, AskFault>
+        ensures { (request : Request) → Spells taken.now.bytes.items taken.now.head request
+            → Meets asked result (ask request now) }
+    {
+        self.meaning(alloc, &parts_of(taken), now)
+    }
+
+    /// What the parts of a request ask.
+    #[tactic(auto, unfolding(crate::specs::Asked::ask))]
+    fn meaning(&self, alloc: Global, parts: &Parts<'_>, now: u64) -> Result<Ask, AskFault>
+        ensures { Meets asked result (ask parts.now now) }
+    {
+        let path = path_of(parts.target())?;
+        let place = self.place(path)?;
+        let method = method_of(place.allowed(), parts.method())?;
+        match asked_by(alloc, method, place, path, parts, now) {
+            Ok(ask) => Ok(ask),
+            Err(WordFault::Refused(refusal)) => Err(AskFault::Refused(refusal)),
+            Err(WordFault::NoMemory) => Err(AskFault::NoMemory),
+        }
+    }
+
+    /// Where a path leads.
+    #[tactic(auto, unfolding(crate::specs::Places::place_in))]
+    fn place(&self, path: &str) -> Result<Place, AskFault>
+        ensures { Meets (λ place. place) result (or_refused (place_in path.now)) }
+    {
+        match self.router.at(path) {
+            Ok(found) => Ok(*found.value),
+            Err(_) => Err(AskFault::Refused(Refusal { code: NO_ROUTE })),
+        }
+    }
+}
+
+impl Ask {
+    /// What one request asks, by a router of its own. A server builds `Asks` once instead.
+    pub fn of(alloc: Global, taken: &Taken, now: u64) -> Result<Ask, AskFault>
+        ensures { (request : Request) → Spells taken.now.bytes.items taken.now.head request
+            → Meets asked result (ask request now) }
+    {
+        match Asks::new(alloc) {
+            Ok(asks) => asks.ask(alloc, taken, now),
+            Err(_) => Err(AskFault::NoMemory),
+        }
+    }
+}
+
+/// The path of a target: what stands before the first `?`.
+fn path_of(target: &[u8]) -> Result<&str, AskFault>
+    ensures { Meets (λ path. path.now) result (or_refused (path_in target.now)) }
+{
+    match std::str::from_utf8(target) {
+        Ok(text) => Ok(before_query(text)),
+        Err(_) => Err(AskFault::Refused(Refusal { code: BAD_REQUEST })),
+    }
+}
+
+/// What stands before the first `?`.
+fn before_query(target: &str) -> &str
+    ensures { result.now ≡ before_first (λ b. b == 63) target.now }
+{
+    match target.split_once('?') {
+        Some((path, _)) => path,
+        None => target,
+    }
+}
+
+/// The method, where the path has it.
+#[tactic(auto, unfolding(crate::specs::Asked::method_in))]
+fn method_of(allowed: Allowed, bytes: &[u8]) -> Result<Method, AskFault>
+    ensures method { Meets (λ method. method) result (method_in allowed bytes.now) }
+{
+    match allowed.method(bytes) {
+        Some(method) => Ok(method),
+        None => Err(AskFault::Method(allowed)),
+    }
+}
+
+/// What a request with that method asks of a path.
+#[tactic(auto, unfolding(crate::specs::Asked::asked_by))]
+fn asked_by(
+    alloc: Global,
+    method: Method,
+    place: Place,
+    path: &str,
+    parts: &Parts<'_>,
+    now: u64,
+) -> Result<Ask, WordFault>
+    ensures { Reads asked result (asked_by method place path.now parts.now now) }
+{
+    match method {
+        Method::Get => view_of(place, path),
+        Method::Post => call_of(alloc, place, path, parts, now),
+    }
+}
+
+/// The view at a path.
+#[tactic(auto, unfolding(crate::specs::Asked::view_in))]
+fn view_of(place: Place, path: &str) -> Result<Ask, WordFault>
+    ensures { Reads asked result (view_in place path.now) }
+{
+    match place {
+        Place::Types => Ok(Ask::Types),
+        Place::Boards => Ok(Ask::Boards),
+        Place::Queue => Ok(Ask::Queue),
+        Place::Reservations => Ok(Ask::Reservations),
+        Place::Status => Ok(Ask::Status),
+        Place::Job => Ok(Ask::Job(job_of(path)?)),
+        _ => Err(WordFault::Refused(Refusal { code: NO_ROUTE })),
+    }
+}
+
+/// The call of a request, its caller looked at first and its body last.
+#[tactic(auto, unfolding(crate::specs::Asked::call_in))]
+fn call_of(
+    alloc: Global,
+    place: Place,
+    path: &str,
+    parts: &Parts<'_>,
+    now: u64,
+) -> Result<Ask, WordFault>
+    ensures { Reads asked result (call_in place path.now parts.now now) }
+{
+    let caller = caller_of(alloc, parts)?;
+    let key = key_of(alloc, parts)?;
+    let cmd = command_of(alloc, place, path, parts.body())?;
+    Ok(Ask::Call(Call::new(caller, key, now, cmd)))
+}
+
+/// The command that a path and a body spell.
+#[tactic(auto, unfolding(crate::specs::Commands::command_in, farm_types::specs::Proper::is_proper_cmd))]
+fn command_of(alloc: Global, place: Place, path: &str, body: &[u8]) -> Result<Cmd, WordFault>
+    ensures meaning { Reads (λ cmd. cmd) result (command_in place path.now body.now) }
+    ensures proper { IfOk result (λ cmd. IsTrue (is_proper_cmd cmd)) }
+{
+    match place {
+        Place::Types => add_type_of(alloc, body),
+        Place::Boards => add_board_of(alloc, body),
+        Place::BoardTags => set_tags_of(alloc, path, body),
+        Place::BoardHealth => set_health_of(alloc, path, body),
+        Place::JobCancel => Ok(Cmd::Cancel(job_of(path)?)),
+        Place::JobStart => Ok(Cmd::Start(job_of(path)?)),
+        Place::JobFinish => finish_of(alloc, path, body),
+        Place::Reservations => reserve_of(alloc, body),
+        Place::ReservationAcquire => Ok(Cmd::Acquire(reservation_of(path)?)),
+        Place::ReservationRelease => Ok(Cmd::Release(reservation_of(path)?)),
+        Place::ReservationRefresh => Ok(Cmd::Refresh(reservation_of(path)?)),
+        Place::ReservationCancel => Ok(Cmd::CancelRes(reservation_of(path)?)),
+        Place::Pass => Ok(Cmd::Pass),
+        _ => Err(WordFault::Refused(Refusal { code: NO_ROUTE })),
+    }
+}
+
+#[cfg(test)]
+mod tests;

@@ -1,0 +1,42 @@
+//! The bodies of the paths of jobs.
+ghost use Rattle.std.specs.Prelude.{◌≡◌, IsTrue, IfOk, false};
+ghost use Rattle.serde_json.specs.View.{view};
+ghost use Rattle.farm_types.specs.Codes.{same_outcome};
+ghost use Rattle.farm_types.specs.Proper.{is_proper_cmd};
+ghost use Rattle.farm_types.specs.Reads.{Reads};
+ghost use Rattle.farm_wire.specs.Commands.{outcome_or, finish};
+ghost use Rattle.farm_types.specs.declared.rows.Outcome.{Outcome};
+
+use crate::fields::text_of;
+use crate::object::object_of;
+use crate::parameter::job_of;
+use farm_types::calls::Cmd;
+use farm_types::fault::WordFault;
+use farm_types::refusal::{BAD_REQUEST, Refusal};
+use farm_types::rows::Outcome;
+use std::alloc::Global;
+
+/// The outcome that a word names. A job is canceled by a command of its own, not by its end.
+fn outcome_of(text: &str) -> Result<Outcome, WordFault>
+    ensures outcome { Reads (λ outcome. outcome) result (outcome_or text.now) }
+    ensures ended { IfOk result (λ outcome. same_outcome outcome Outcome.Canceled ≡ false) }
+{
+    match text {
+        "Complete" => Ok(Outcome::Complete),
+        "Incomplete" => Ok(Outcome::Incomplete),
+        "Infra" => Ok(Outcome::Infra),
+        _ => Err(WordFault::Refused(Refusal { code: BAD_REQUEST })),
+    }
+}
+
+/// The end of the job that a path names.
+#[tactic(auto, unfolding(crate::specs::Commands::finish, farm_types::specs::Proper::is_proper_cmd))]
+pub(crate) fn finish_of(alloc: Global, path: &str, body: &[u8]) -> Result<Cmd, WordFault>
+    ensures meaning { Reads (λ cmd. cmd) result (finish path.now body.now) }
+    ensures proper { IfOk result (λ cmd. IsTrue (is_proper_cmd cmd)) }
+{
+    let number = job_of(path)?;
+    let value = object_of(alloc, body)?;
+    let outcome = outcome_of(text_of(&value, "outcome")?)?;
+    Ok(Cmd::Finish(number, outcome))
+}

@@ -1,0 +1,40 @@
+//! What HTTP requests ask of the farm, and the bytes of its answers.
+//!
+//! A request becomes a call of the farm or a view (`ask`), an answer becomes a status line, fields
+//! and JSON text (`out`). Reading requests and writing answers whole is `farm_http`'s; its public
+//! names stand here again, so that a server needs this crate alone.
+//!
+//! Read `specs/` in the order Reading, Places, Sender, Fields, Parameters, Commands, Asked; then Shown, Replies.
+#![tactic(auto)]
+
+pub mod allowed;
+pub mod ask;
+pub mod asks;
+pub mod board_body;
+pub mod board_shown;
+pub mod claim_shown;
+pub mod constant;
+pub mod fault;
+pub mod fields;
+pub mod head;
+pub mod job_body;
+pub mod job_shown;
+pub mod laws;
+pub mod object;
+pub mod out;
+pub mod parameter;
+pub mod place;
+pub mod reserve_body;
+pub mod router;
+pub mod sender;
+pub mod shown;
+pub mod type_body;
+pub mod type_shown;
+
+pub use farm_http::fault::WireFault;
+pub use farm_http::limits::{MAX_BODY, MAX_FIELDS, MAX_HEAD, MAX_TURNS};
+pub use farm_http::read_log::ReadLog;
+pub use farm_http::request::{read_request, read_request_logged};
+pub use farm_http::taken::Taken;
+pub use farm_http::write::{write_whole, write_whole_logged};
+pub use farm_http::write_log::WriteLog;

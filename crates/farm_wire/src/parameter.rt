@@ -1,0 +1,137 @@
+//! The parameter of a path: its first segment behind what each path of a group begins with.
+ghost use Rattle.std.specs.Prelude.{◌≡◌, ◌==◌, ◌&&◌, ◌<◌, ◌≤◌, length, drop, MatchOption, not, nat_lt, position};
+ghost use Rattle.std.specs.Char.{is_ascii_digit, digit_value};
+ghost use Rattle.std.specs.List.{before_first, list_all};
+ghost use Rattle.std.specs.Str.Parse.{digits_value};
+ghost use Rattle.farm_types.specs.Reads.{Reads};
+ghost use Rattle.farm_wire.specs.Parameters.{parameter, begins_with_zero, is_number, number_in, board_in, job_in, reservation_in};
+
+use farm_types::fault::WordFault;
+use farm_types::refusal::{BAD_REQUEST, Refusal};
+use farm_types::words::Name;
+use std::alloc::Global;
+
+/// The largest number of a job or a reservation.
+pub const LARGEST_NUMBER: u64 = 999_999_999;
+
+/// What stands behind the first bytes.
+fn behind(path: &[u8], count: usize) -> &[u8]
+    ensures { result.now ≡ drop count path.now }
+{
+    if count <= path.len() {
+        &path[count..]
+    } else {
+        &[]
+    }
+}
+
+/// Where the first slash is.
+fn slash_in(rest: &[u8]) -> Option<usize>
+    ensures { result ≡ position (λ b. b == 47) rest.now }
+{
+    rest.iter().position(|byte| *byte == b'/')
+}
+
+/// What stands before the first slash.
+fn first_segment(rest: &[u8]) -> &[u8]
+    ensures { result.now ≡ before_first (λ b. b == 47) rest.now }
+{
+    match slash_in(rest) {
+        Some(end) => &rest[..end],
+        None => rest,
+    }
+}
+
+/// The first segment behind the front of a path.
+fn parameter<'p>(front: &str, path: &'p str) -> &'p [u8]
+    ensures { result.now ≡ parameter front.now path.now }
+{
+    first_segment(behind(path.as_bytes(), front.len()))
+}
+
+/// Whether the first byte is a zero.
+fn begins_with_zero(text: &[u8]) -> bool
+    ensures { result ≡ begins_with_zero text.now }
+{
+    match text.first() {
+        Some(byte) => *byte == b'0',
+        None => false,
+    }
+}
+
+/// Whether each byte is a digit.
+fn is_digits(text: &[u8]) -> bool
+    ensures { result ≡ list_all is_ascii_digit text.now }
+{
+    text.iter().all(|byte| byte.is_ascii_digit())
+}
+
+/// Whether a text is digits that begin with 1 to 9.
+fn is_number(text: &[u8]) -> bool
+    ensures { result ≡ is_number text.now }
+{
+    !text.is_empty() && !begins_with_zero(text) && is_digits(text)
+}
+
+/// What a digit stands for.
+fn value_of(digit: u8) -> u64
+    ensures { result ≡ digit_value digit }
+{
+    match (digit as char).to_digit(36) {
+        Some(value) => value as u64,
+        None => 36,
+    }
+}
+
+/// The number that digits write, if it is none too large.
+fn small_number(text: &[u8]) -> Option<u64>
+    ensures { MatchOption result (LARGEST_NUMBER < digits_value 10 text.now)
+        (λ n. (n ≤ LARGEST_NUMBER) × (n ≡ digits_value 10 text.now)) }
+{
+    let mut number = 0u64;
+    for digit in text {
+        number = number * 10 + value_of(*digit);
+        if number > LARGEST_NUMBER {
+            return None;
+        }
+    }
+    Some(number)
+}
+
+/// The number that a segment writes: one to nine digits that begin with 1 to 9.
+#[tactic(auto, unfolding(crate::specs::Parameters::number_in))]
+fn number_of(text: &[u8]) -> Result<u64, WordFault>
+    ensures { Reads (λ n. n) result (number_in text.now) }
+{
+    if !is_number(text) {
+        return Err(WordFault::Refused(Refusal { code: BAD_REQUEST }));
+    }
+    match small_number(text) {
+        Some(number) => Ok(number),
+        None => Err(WordFault::Refused(Refusal { code: BAD_REQUEST })),
+    }
+}
+
+/// The board that a path names.
+#[tactic(auto, unfolding(crate::specs::Parameters::board_in))]
+pub(crate) fn board_of(alloc: Global, path: &str) -> Result<Name, WordFault>
+    ensures { Reads (λ name. name) result (board_in path.now) }
+{
+    Name::parse(alloc, parameter("/boards/", path))
+}
+
+/// The job that a path names.
+#[tactic(auto, unfolding(crate::specs::Parameters::job_in))]
+pub(crate) fn job_of(path: &str) -> Result<u64, WordFault>
+    ensures { Reads (λ n. n) result (job_in path.now) }
+{
+    number_of(parameter("/jobs/", path))
+}
+
+/// The reservation that a path names.
+#[tactic(auto, unfolding(crate::specs::Parameters::reservation_in))]
+pub(crate) fn reservation_of(path: &str) -> Result<u64, WordFault>
+    ensures { Reads (λ n. n) result (reservation_in path.now) }
+{
+    number_of(parameter("/reservations/", path))
+}

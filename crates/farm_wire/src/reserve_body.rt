@@ -1,0 +1,84 @@
+//! The body that reserves a board.
+ghost use Rattle.std.specs.Prelude.{IsTrue, IfOk, Option, ℕ};
+ghost use Rattle.serde_json.specs.View.{view};
+ghost use Rattle.farm_types.specs.Proper.{is_proper_cmd};
+ghost use Rattle.farm_types.specs.Reads.{Reads};
+ghost use Rattle.farm_wire.specs.Commands.{priority_word, priority_number, priority_from, priority_in, reserve};
+
+use crate::fields::tags_of;
+use crate::object::object_of;
+use farm_types::calls::Cmd;
+use farm_types::fault::WordFault;
+use farm_types::refusal::{BAD_PRIORITY, BAD_REQUEST, Refusal};
+use farm_types::words::Priority;
+use serde_json::Value;
+use std::alloc::Global;
+
+/// The priorities that LAVA calls low, medium and high. Medium is also what an absent one means.
+const LOW: u64 = 0;
+
+const MEDIUM: u64 = 50;
+
+const HIGH: u64 = 100;
+
+/// The priority of that number.
+fn priority_of(number: u64) -> Result<Priority, WordFault>
+    ensures { Reads (λ priority. priority) result (priority_number (Some number)) }
+{
+    match Priority::of(number) {
+        Ok(priority) => Ok(priority),
+        Err(refusal) => Err(WordFault::Refused(refusal)),
+    }
+}
+
+/// The priority that a word names.
+fn named_priority(text: &str) -> Result<Priority, WordFault>
+    ensures { Reads (λ priority. priority) result (priority_word text.now) }
+{
+    match text {
+        "low" => priority_of(LOW),
+        "medium" => priority_of(MEDIUM),
+        "high" => priority_of(HIGH),
+        _ => Err(WordFault::Refused(Refusal { code: BAD_PRIORITY })),
+    }
+}
+
+/// The priority that a value spells: a word, or a whole number.
+#[tactic(auto, unfolding(crate::specs::Commands::priority_from))]
+fn priority_from(field: &Value) -> Result<Priority, WordFault>
+    ensures { Reads (λ priority. priority) result (priority_from (view field.now)) }
+{
+    if let Some(text) = field.as_str() {
+        return named_priority(text);
+    }
+    if !field.is_number() {
+        return Err(WordFault::Refused(Refusal { code: BAD_REQUEST }));
+    }
+    match field.as_u64() {
+        Some(number) => priority_of(number),
+        None => Err(WordFault::Refused(Refusal { code: BAD_PRIORITY })),
+    }
+}
+
+/// The priority under the key `priority`; absent means medium.
+#[tactic(auto, unfolding(crate::specs::Commands::priority_in))]
+fn priority_in(value: &Value) -> Result<Priority, WordFault>
+    ensures { Reads (λ priority. priority) result (priority_in (view value.now)) }
+{
+    match value.get("priority") {
+        Some(field) => priority_from(field),
+        None => priority_of(MEDIUM),
+    }
+}
+
+/// The reservation that a body asks for.
+#[tactic(auto, unfolding(crate::specs::Commands::reserve))]
+pub(crate) fn reserve_of(alloc: Global, body: &[u8]) -> Result<Cmd, WordFault>
+    ensures meaning { Reads (λ cmd. cmd) result (reserve body.now) }
+    ensures proper { IfOk result (λ cmd. IsTrue (is_proper_cmd cmd)) }
+{
+    let value = object_of(alloc, body)?;
+    let tags = tags_of(alloc, &value)?;
+    let priority = priority_in(&value)?;
+    Ok(Cmd::reserve(priority, tags))
+}

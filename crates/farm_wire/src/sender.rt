@@ -1,0 +1,32 @@
+//! Who sends a request, and under which key its reply is kept.
+ghost use Rattle.farm_types.specs.Reads.{Reads};
+ghost use Rattle.farm_wire.specs.Sender.{caller_in, key_in};
+
+use farm_http::parts::Parts;
+use farm_types::fault::WordFault;
+use farm_types::refusal::{BAD_REQUEST, Refusal};
+use farm_types::words::{Key, Name};
+use std::alloc::Global;
+
+/// The name in the field `x-user`, which must stand there once.
+#[tactic(auto, unfolding(crate::specs::Sender::caller_in))]
+pub(crate) fn caller_of(alloc: Global, parts: &Parts<'_>) -> Result<Name, WordFault>
+    ensures { Reads (λ name. name) result (caller_in parts.now.fields) }
+{
+    match parts.field(b"x-user") {
+        Ok(Some(value)) => Name::parse(alloc, value),
+        _ => Err(WordFault::Refused(Refusal { code: BAD_REQUEST })),
+    }
+}
+
+/// The key in the field `x-key`, which may stand there once.
+#[tactic(auto, unfolding(crate::specs::Sender::key_in))]
+pub(crate) fn key_of(alloc: Global, parts: &Parts<'_>) -> Result<Option<Key>, WordFault>
+    ensures { Reads (λ key. key) result (key_in parts.now.fields) }
+{
+    match parts.field(b"x-key") {
+        Ok(None) => Ok(None),
+        Ok(Some(value)) => Ok(Some(Key::parse(alloc, value)?)),
+        Err(_) => Err(WordFault::Refused(Refusal { code: BAD_REQUEST })),
+    }
+}

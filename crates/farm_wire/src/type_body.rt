@@ -1,0 +1,79 @@
+//! The body that adds a type.
+ghost use Rattle.std.specs.Prelude.{IsTrue, IfOk, nat_le, ◌&&◌};
+ghost use Rattle.serde_json.specs.View.{view};
+ghost use Rattle.farm_types.specs.Proper.{is_frequency, is_proper_cmd};
+ghost use Rattle.farm_types.specs.Reads.{Reads};
+ghost use Rattle.farm_wire.specs.Commands.{unit_in, every_in, check_in, add_type};
+
+use crate::fields::name_of;
+use crate::object::object_of;
+use farm_types::calls::Cmd;
+use farm_types::fault::WordFault;
+use farm_types::refusal::{BAD_REQUEST, Refusal};
+use farm_types::rows::Check;
+use serde_json::Value;
+use std::alloc::Global;
+
+/// The most hours or jobs between two checks.
+pub const LONGEST_EVERY: u64 = 10_000;
+
+/// What a check's frequency counts.
+#[derive(Clone, Copy, Debug, PartialEq, Eq)]
+pub enum CheckUnit {
+    None,
+    Hours,
+    Jobs,
+}
+
+/// The unit under the key `check`.
+#[tactic(auto, unfolding(crate::specs::Commands::unit_in))]
+fn unit_of(value: &Value) -> Result<CheckUnit, WordFault>
+    ensures { Reads (λ unit. unit) result (unit_in (view value.now)) }
+{
+    let Some(field) = value.get("check") else {
+        return Ok(CheckUnit::None);
+    };
+    match field.as_str() {
+        Some("none") => Ok(CheckUnit::None),
+        Some("hours") => Ok(CheckUnit::Hours),
+        Some("jobs") => Ok(CheckUnit::Jobs),
+        _ => Err(WordFault::Refused(Refusal { code: BAD_REQUEST })),
+    }
+}
+
+/// The frequency under the key `every`.
+#[tactic(auto, unfolding(crate::specs::Commands::every_in))]
+fn every_of(value: &Value) -> Result<u64, WordFault>
+    ensures every { Reads (λ every. every) result (every_in (view value.now)) }
+    ensures range { IfOk result (λ every. IsTrue (nat_le 1 every && nat_le every 10000)) }
+{
+    match value.get("every").and_then(Value::as_u64) {
+        Some(every) if every >= 1 && every <= LONGEST_EVERY => Ok(every),
+        _ => Err(WordFault::Refused(Refusal { code: BAD_REQUEST })),
+    }
+}
+
+/// The check that the keys `check` and `every` spell.
+#[tactic(auto, unfolding(crate::specs::Commands::check_in))]
+fn check_of(value: &Value) -> Result<Check, WordFault>
+    ensures check { Reads (λ check. check) result (check_in (view value.now)) }
+    ensures frequency { IfOk result (λ check. IsTrue (is_frequency check)) }
+{
+    match unit_of(value)? {
+        CheckUnit::None => Ok(Check::Never),
+        CheckUnit::Hours => Ok(Check::Hours(every_of(value)?)),
+        CheckUnit::Jobs => Ok(Check::Jobs(every_of(value)?)),
+    }
+}
+
+/// The type that a body adds.
+#[tactic(auto, unfolding(crate::specs::Commands::add_type))]
+pub(crate) fn add_type_of(alloc: Global, body: &[u8]) -> Result<Cmd, WordFault>
+    ensures meaning { Reads (λ cmd. cmd) result (add_type body.now) }
+    ensures proper { IfOk result (λ cmd. IsTrue (is_proper_cmd cmd)) }
+{
+    let value = object_of(alloc, body)?;
+    let name = name_of(alloc, &value, "name")?;
+    let check = check_of(&value)?;
+    Ok(Cmd::add_type(name, check))
+}
