@@ -1,9 +1,9 @@
 -- Where each path with a parameter leads, whatever the parameter.
 use Rattle.std.proofs.Common.{◌≡◌, ℕ, ◌<◌, List, [], ◌∷◌, ◌++◌, true, false, refl, ap, ◌∙◌, arith, codes, nat_eq}
-use Rattle.std.specs.Prelude.{Some, Option, option_map}
+use Rattle.std.specs.Prelude.{Some, option_map}
 use Rattle.matchit.specs.Rows.{RowsOf}
 use Rattle.matchit.specs.Router.{RouteOf}
-use Rattle.matchit.specs.Seek.{seek, step, own, segment, has_slash, cuts, longest_suffix, with_suffix}
+use Rattle.matchit.specs.Seek.{step, own, has_slash, cuts, longest_suffix, with_suffix}
 use Rattle.matchit.specs.Route.{scan}
 use Rattle.std.proofs.lemmas.Bool.Decides.{nat_tests}
 use Rattle.farm_wire.specs.Places.{rows, place_at}

@@ -1,6 +1,6 @@
 -- The path of a target that is a text, and of one that isn't.
 use Rattle.std.proofs.Common.{◌≡◌, ℕ, List, Bool, true, false, refl, ap, ◌==◌, Ok, Err}
-use Rattle.std.specs.Prelude.{IsUtf8, Result, if◌then◌else◌}
+use Rattle.std.specs.Prelude.{IsUtf8, if◌then◌else◌}
 use Rattle.std.specs.List.{before_first}
 use Rattle.std.specs.Str.{is_utf8}
 use Rattle.std.proofs.lemmas.Str.{IsUtf8-from_is_utf8, is_utf8-from_IsUtf8}

@@ -1,6 +1,6 @@
 -- How a router's rows find a path with a parameter, last or in the middle.
-use Rattle.std.proofs.Common.{◌≡◌, ℕ, ◌+◌, ◌-◌, ◌<◌, List, [], ◌∷◌, ◌++◌, length, drop, Bool, true, false, cond, refl, sym, ap, ◌∙◌, arith, suc, zero, codes, nat_eq, nat_lt, ◌&&◌}
-use Rattle.std.specs.Prelude.{Option, Some, None, option_map}
+use Rattle.std.proofs.Common.{◌≡◌, ℕ, ◌-◌, List, [], ◌∷◌, ◌++◌, length, drop, Bool, true, false, cond, refl, sym, ap, ◌∙◌, arith, suc, zero, nat_eq, nat_lt, ◌&&◌}
+use Rattle.std.specs.Prelude.{Some, None}
 use Rattle.std.specs.Cmp.Lexicographic.{bytes_decides}
 use Rattle.matchit.specs.Rows.{RowsOf}
 use Rattle.std.specs.List.{ends_with}

@@ -10,7 +10,7 @@ use Rattle.farm_types.specs.declared.rows.Health.{Health}
 use Rattle.farm_types.specs.declared.rows.Outcome.{Outcome}
 use Rattle.farm_types.specs.declared.refusal.TheConstants.{BAD_REQUEST, BAD_PRIORITY, NO_ROUTE}
 use Rattle.farm_wire.specs.Reading.{◌>>=◌}
-use Rattle.farm_wire.specs.Fields.{object_in, there_or, text_in, name_in, tags_from, tags_in, board_tags}
+use Rattle.farm_wire.specs.Fields.{object_in, text_in, name_in, tags_from, tags_in, board_tags}
 use Rattle.farm_wire.specs.Parameters.{board_in, job_in, reservation_in}
 use Rattle.farm_wire.specs.declared.place.Place.{Place}
 use Rattle.farm_wire.specs.declared.type_body.CheckUnit.{CheckUnit}

@@ -1,5 +1,5 @@
 -- The bytes of an answer (RFC 9112): a status line, fields, and JSON.
-use Rattle.std.specs.Prelude.{ℕ, List, [], ◌∷◌, ◌++◌, length, map, codes, decimal, unwrap_or}
+use Rattle.std.specs.Prelude.{ℕ, List, [], ◌++◌, length, map, codes, decimal, unwrap_or}
 use Rattle.serde_json.specs.Data.{Data}
 use Rattle.serde_json.specs.Written.{compact_text}
 use Rattle.farm_types.specs.Refusals.{status_of, reason_of}

@@ -1,4 +1,4 @@
-use Rattle.std.proofs.Common.{ap, ◌∙◌, sym}
+use Rattle.std.proofs.Common.{ap, ◌∙◌}
 use Rattle.farm_wire.specs.Reading.{or_refused}
 use Rattle.farm_wire.proofs.PathLemmas.{path_of_text, path_of_bytes}
 use Rattle.farm_wire.proofs.asks.path_of.Goals as goal

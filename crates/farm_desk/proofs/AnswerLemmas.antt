@@ -1,0 +1,148 @@
+-- The answers that are due: to a view, to what is denied, to a call.
+use Rattle.std.proofs.Common.{◌≡◌, ◌≢◌, ◌≤◌, arith, ◌↔◌, ℕ, List, Bool, true, false, refl, sym, ap, ◌∙◌, subst, Ok, Err, inl, inr}
+use Rattle.std.specs.Prelude.{Result}
+use Rattle.sqlite_trees.specs.declared.store.Store.{Ghosts}
+use Rattle.farm_types.specs.Farm.{Farm}
+use Rattle.farm_types.specs.Machine.{Answered, answer, step}
+use Rattle.farm_types.specs.Refuse.{kind_of}
+use Rattle.farm_types.specs.declared.calls.Answer.{Answer}
+use Rattle.farm_types.specs.declared.calls.Call.{Call}
+use Rattle.farm_types.specs.declared.calls.Cmd.{Cmd}
+use Rattle.farm_types.specs.declared.refusal.TheConstants.{NO_ROUTE}
+use Rattle.farm_core.specs.Answers.{IsChange}
+use Rattle.farm_core.specs.Reached.{IsReached}
+use Rattle.farm_keep.specs.Faults.{fault_code}
+use Rattle.farm_keep.specs.Kept.{Kept, Keeps, KeepsEither}
+use Rattle.farm_keep.specs.declared.fault.KeepFault.{KeepFault}
+use Rattle.farm_wire.specs.Reading.{Denial}
+use Rattle.farm_wire.specs.Replies.{reply_bytes}
+use Rattle.farm_wire.specs.declared.ask.Ask.{Ask}
+use Rattle.farm_desk.specs.Answers.{IsView, IsLook, Says, Does, DoesIfKnown, denied, is_known, refusal, replied}
+use Rattle.farm_desk.specs.Due.{Closes, IsDueTo, RunsOut}
+use Rattle.farm_desk.specs.Made.{IsMadeOf, IsMadeOfOne}
+use Rattle.farm_desk.specs.declared.fault.DeskFault.{DeskFault}
+
+due_when_short : {S : Type 0} (g : Ghosts S) (old new : Kept S) (what : Result Ask Denial) (bytes : List ℕ) (end : DeskFault)
+    → end ≡ DeskFault.NoMemory → RunsOut g old new what bytes → IsDueTo g old new what bytes (Err end)
+due_when_short g old new what bytes DeskFault.NoMemory e out = out
+due_when_short g old new what bytes DeskFault.Read e out = absurd (cc)
+due_when_short g old new what bytes DeskFault.Write e out = absurd (cc)
+due_when_short g old new what bytes (DeskFault.Keep fault) e out = absurd (cc)
+
+-- a view that was shown, or for which there was no memory
+pub view_is_due : {S : Type 0} (g : Ghosts S) (k : Kept S) (view : Ask) (bytes : List ℕ) (end : Result ℕ DeskFault)
+    → IsLook view → k.is_open ≡ true → IsMadeOfOne (IsView view k.farm.farm) bytes end → IsDueTo g k k (Ok view) bytes end
+view_is_due g k (Ask.Call call) bytes end look opened made = absurd look
+view_is_due g k Ask.Types bytes (Ok status) look opened made = record { was_open = opened; out = made.0; shows = made.1; says = made.2; rests = refl }
+view_is_due g k Ask.Boards bytes (Ok status) look opened made = record { was_open = opened; out = made.0; shows = made.1; says = made.2; rests = refl }
+view_is_due g k Ask.Queue bytes (Ok status) look opened made = record { was_open = opened; out = made.0; shows = made.1; says = made.2; rests = refl }
+view_is_due g k Ask.Reservations bytes (Ok status) look opened made = record { was_open = opened; out = made.0; shows = made.1; says = made.2; rests = refl }
+view_is_due g k Ask.Status bytes (Ok status) look opened made = record { was_open = opened; out = made.0; shows = made.1; says = made.2; rests = refl }
+view_is_due g k (Ask.Job number) bytes (Ok status) look opened made = record { was_open = opened; out = made.0; shows = made.1; says = made.2; rests = refl }
+view_is_due g k Ask.Types bytes (Err fault) look opened made = due_when_short g k k (Ok Ask.Types) bytes fault made.2.fault_is (record { says = made.2.bytes_are; stays_open = refl; farm = refl })
+view_is_due g k Ask.Boards bytes (Err fault) look opened made = due_when_short g k k (Ok Ask.Boards) bytes fault made.2.fault_is (record { says = made.2.bytes_are; stays_open = refl; farm = refl })
+view_is_due g k Ask.Queue bytes (Err fault) look opened made = due_when_short g k k (Ok Ask.Queue) bytes fault made.2.fault_is (record { says = made.2.bytes_are; stays_open = refl; farm = refl })
+view_is_due g k Ask.Reservations bytes (Err fault) look opened made = due_when_short g k k (Ok Ask.Reservations) bytes fault made.2.fault_is (record { says = made.2.bytes_are; stays_open = refl; farm = refl })
+view_is_due g k Ask.Status bytes (Err fault) look opened made = due_when_short g k k (Ok Ask.Status) bytes fault made.2.fault_is (record { says = made.2.bytes_are; stays_open = refl; farm = refl })
+view_is_due g k (Ask.Job number) bytes (Err fault) look opened made = due_when_short g k k (Ok (Ask.Job number)) bytes fault made.2.fault_is (record { says = made.2.bytes_are; stays_open = refl; farm = refl })
+
+-- a denial that was made, or for which there was no memory
+pub denial_is_due : {S : Type 0} (g : Ghosts S) (k : Kept S) (why : Denial) (bytes : List ℕ) (end : Result ℕ DeskFault)
+    → IsMadeOf (denied why) bytes end → IsDueTo g k k (Err why) bytes end
+denial_is_due g k why bytes (Ok status) made = record { says = made; rests = refl }
+denial_is_due g k why bytes (Err fault) made =
+    due_when_short g k k (Err why) bytes fault made.fault_is (record { says = made.bytes_are; stays_open = refl; farm = refl })
+
+-- a view of no rows that are there yet
+pub is_other_view : (view : Ask) (F : Farm) → (view ≡ Ask.Types → ⊥) → (view ≡ Ask.Boards → ⊥) → (view ≡ Ask.Status → ⊥) → (view ≡ Ask.Reservations → ⊥) → IsView view F (refusal NO_ROUTE)
+is_other_view Ask.Types F types boards status reservations = absurd (types refl)
+is_other_view Ask.Boards F types boards status reservations = absurd (boards refl)
+is_other_view Ask.Status F types boards status reservations = absurd (status refl)
+is_other_view Ask.Queue F types boards status reservations = refl
+is_other_view Ask.Reservations F types boards status reservations = absurd (reservations refl)
+is_other_view (Ask.Job number) F types boards status reservations = refl
+is_other_view (Ask.Call call) F types boards status reservations = refl
+
+-- ---- calls
+
+-- a call that the machine answered, or for whose answer there was no memory
+pub call_is_due : {S : Type 0} (g : Ghosts S) (old new : Kept S) (call : Call) (told : Answered) (bytes : List ℕ) (end : Result ℕ DeskFault)
+    → is_known call ≡ true → told ≡ answer old.farm.farm call → new.farm.farm ≡ step old.farm.farm call
+    → (old.is_open ≡ true) × (new.is_open ≡ true) → (Keeps g old → Keeps g new)
+    → IsMadeOf (replied (kind_of call.cmd) told) bytes end
+    → IsDueTo g old new (Ok (Ask.Call call)) bytes end
+call_is_due g old new call told bytes (Ok status) known same farm opened stands made =
+    let done : Does g old new call bytes status = record {
+      was_open = opened.0;
+      stays_open = opened.1;
+      says = subst (λ a. Says (replied (kind_of call.cmd) a) bytes status) same made;
+      farm = farm;
+      stands = stands;
+    } in
+    subst (λ b. DoesIfKnown g old new b call bytes status) (sym known) done
+call_is_due g old new call told bytes (Err fault) known same farm opened stands made =
+    due_when_short g old new (Ok (Ask.Call call)) bytes fault made.fault_is
+    (record { says = made.bytes_are; stays_open = opened.1 ∙ sym opened.0; farm = inr (record { farm = farm; stands = stands }) })
+
+open_unless : (b : Bool) → (b ≡ false → ⊥) → b ≡ true
+open_unless true h = refl
+open_unless false h = absurd (h refl)
+
+-- what the keeper gave then
+abbrev acted : KeepFault → Result Answer KeepFault
+acted fault = Err fault
+
+-- a call at which the keeper gave a fault
+pub fault_is_due : {S : Type 0} (g : Ghosts S) (old new : Kept S) (call : Call) (fault : KeepFault) (bytes : List ℕ) (end : Result ℕ DeskFault)
+    → (acted fault ≡ Err KeepFault.NoMemory → (new.is_open ≡ false) × (new.conn ≡ old.conn) × IsChange (answer old.farm.farm call))
+    → (acted fault ≡ Err KeepFault.Store → (new.is_open ≡ false) × IsChange (answer old.farm.farm call)
+    × (Keeps g old → KeepsEither g new old.farm.farm (step old.farm.farm call)))
+    → (acted fault ≡ Err KeepFault.Closed ↔ old.is_open ≡ false)
+    → (acted fault ≡ Err KeepFault.Closed → new ≡ old)
+    → (acted fault ≢ Err KeepFault.BadStore) × (acted fault ≢ Err KeepFault.OldSchema)
+    → bytes ≡ reply_bytes (refusal (fault_code fault)) → end ≡ Err (DeskFault.Keep fault)
+    → IsDueTo g old new (Ok (Ask.Call call)) bytes end
+fault_is_due g old new call KeepFault.NoMemory bytes end memory store closed still other says ends =
+    let lacks = memory refl in
+    let closes : Closes g old new (Ask.Call call) KeepFault.NoMemory bytes = record {
+      says = says;
+      is_closed = lacks.0;
+      cause = record { was_open = open_unless old.is_open (λ shut. let e = closed.1 shut in absurd (cc)); change = lacks.2; store = lacks.1 };
+    } in
+    subst (λ e. IsDueTo g old new (Ok (Ask.Call call)) bytes e) (sym ends) closes
+fault_is_due g old new call KeepFault.Store bytes end memory store closed still other says ends =
+    let loses = store refl in
+    let closes : Closes g old new (Ask.Call call) KeepFault.Store bytes = record {
+      says = says;
+      is_closed = loses.0;
+      cause = record { was_open = open_unless old.is_open (λ shut. let e = closed.1 shut in absurd (cc)); change = loses.1; leaves = loses.2 };
+    } in
+    subst (λ e. IsDueTo g old new (Ok (Ask.Call call)) bytes e) (sym ends) closes
+fault_is_due g old new call KeepFault.Closed bytes end memory store closed still other says ends =
+    let same = still refl in
+    let shut = closed.0 refl in
+    let closes : Closes g old new (Ask.Call call) KeepFault.Closed bytes = record {
+      says = says;
+      is_closed = ap (λ (k : Kept _). k.is_open) same ∙ shut;
+      cause = record { was_closed = shut; rests = same };
+    } in
+    subst (λ e. IsDueTo g old new (Ok (Ask.Call call)) bytes e) (sym ends) closes
+fault_is_due g old new call KeepFault.BadStore bytes end memory store closed still other says ends = absurd (other.0 refl)
+fault_is_due g old new call KeepFault.OldSchema bytes end memory store closed still other says ends = absurd (other.1 refl)
+
+-- the farm knows every command but the last
+pub reached : (cmd : Cmd) → kind_of cmd ≤ 13 → IsReached cmd
+reached Cmd.Pass low = absurd (omega arith)
+reached (Cmd.AddType name check) low = tt
+reached (Cmd.AddBoard name kind tags) low = tt
+reached (Cmd.SetTags name tags) low = tt
+reached (Cmd.SetHealth name health) low = tt
+reached (Cmd.Submit priority wants roles body) low = tt
+reached (Cmd.Cancel number) low = tt
+reached (Cmd.Start number) low = tt
+reached (Cmd.Finish number outcome) low = tt
+reached (Cmd.Reserve priority tags) low = tt
+reached (Cmd.Acquire number) low = tt
+reached (Cmd.Release number) low = tt
+reached (Cmd.Refresh number) low = tt
+reached (Cmd.CancelRes number) low = tt

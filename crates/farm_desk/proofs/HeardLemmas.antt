@@ -1,0 +1,67 @@
+-- What was read and what it means, joined.
+use Rattle.std.proofs.Common.{◌≡◌, ℕ, List, [], drop, refl, Ok, Err, inl, inr, subst, sym}
+use Rattle.std.specs.Prelude.{Option, Some, None, Result, IfSome}
+use Rattle.farm_types.specs.declared.refusal.Refusal.{Refusal}
+use Rattle.farm_http.specs.Request.{Request, request_of}
+use Rattle.farm_http.specs.Requests.{IsRequest, Spells}
+use Rattle.farm_http.specs.Faults.{TakesFrom}
+use Rattle.farm_http.specs.declared.taken.Taken.{Taken}
+use Rattle.farm_http.specs.declared.fault.WireFault.{WireFault}
+use Rattle.farm_http.specs.declared.fault.WireFault.TheVariants.{NoMemory, Refused}
+use Rattle.farm_wire.specs.Asked.{ask}
+use Rattle.farm_wire.specs.Reading.{Denial, refused, other_methods}
+use Rattle.farm_wire.specs.declared.ask.Ask.{Ask}
+use Rattle.farm_desk.specs.Heard.{told, IsMeant, Asks, Hears, HearsWhole}
+
+-- what the reader says of an input that it tells
+abbrev pub Known : Option (List ℕ) → Option (List ℕ) → Type 0 → Result Taken WireFault → Type 0
+Known input rest Spent taken = IfSome input (λ bytes. TakesFrom bytes rest Spent taken)
+
+-- what a request means is asked by its bytes
+pub asks_meant : (used : List ℕ) (AtEnd : Type 0) (now : ℕ) (what : Result Ask Denial) → IsMeant used now what → Asks used AtEnd now what
+asks_meant used AtEnd now (Ok what) meant = meant
+asks_meant used AtEnd now (Err (refused code)) meant = inr meant
+asks_meant used AtEnd now (Err (other_methods allowed)) meant = meant
+
+-- the bytes of a request mean what it means
+pub meant_of : (used : List ℕ) (taken : Taken) (now : ℕ) (what : Result Ask Denial)
+    → used ≡ taken.bytes.items → IsRequest used taken.head
+    → ((request : Request) → Spells taken.bytes.items taken.head request → ask request now ≡ told what)
+    → IsMeant used now what
+meant_of used taken now what same whole means =
+    let request : Request = request_of whole.0 (drop taken.head used) in
+    let spells : Spells used taken.head request = (whole.0, whole.1, refl) in
+    record {
+      head = taken.head;
+      request = request;
+      spells = spells;
+      means = means request (subst (λ bytes. Spells bytes taken.head request) same spells);
+    }
+
+pub hears_meant : (input rest : Option (List ℕ)) (now : ℕ) (Spent : Type 0) (taken : Taken) (what : Result Ask Denial)
+    → Known input rest Spent (Ok taken)
+    → ((request : Request) → Spells taken.bytes.items taken.head request → ask request now ≡ told what)
+    → Hears input rest now what
+hears_meant None rest now Spent taken what known means = tt
+hears_meant (Some bytes) rest now Spent taken what known means =
+    record {
+      used = known.0;
+      taken = known.1;
+      asks = asks_meant known.0 (known.0 ≡ bytes) now what (meant_of known.0 taken now what known.2.0 known.2.1 means);
+    }
+
+pub hears_refused : (input rest : Option (List ℕ)) (now : ℕ) (Spent : Type 0) (refusal : Refusal)
+    → Known input rest Spent (Err (Refused refusal)) → Hears input rest now (Err (refused refusal.code))
+hears_refused None rest now Spent refusal known = tt
+hears_refused (Some bytes) rest now Spent refusal known = record { used = known.0; taken = known.1; asks = inl known.2 }
+
+pub hears_whole : (input rest : Option (List ℕ)) (Spent : Type 0) (taken : Taken)
+    → Known input rest Spent (Ok taken) → HearsWhole input rest
+hears_whole None rest Spent taken known = tt
+hears_whole (Some bytes) rest Spent taken known =
+    record { used = known.0; taken = known.1; whole = inr (taken.head, known.2.1) }
+
+pub hears_nothing : (input rest : Option (List ℕ)) (Spent : Type 0)
+    → Known input rest Spent (Err NoMemory) → HearsWhole input rest
+hears_nothing None rest Spent known = tt
+hears_nothing (Some bytes) rest Spent known = record { used = known.0; taken = known.1; whole = inl known.2 }

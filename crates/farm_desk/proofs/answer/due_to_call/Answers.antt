@@ -1,0 +1,20 @@
+-- The keeper's answer and its faults, as what is due.
+use Rattle.std.proofs.Common.{◌≡◌, ◌≤◌, true, rules, subst, arith}
+use Rattle.farm_desk.specs.Answers.{is_known}
+use Rattle.farm_desk.specs.Made.{IsMadeOf, bytes_in}
+use Rattle.farm_desk.proofs.AnswerLemmas.{call_is_due, fault_is_due, reached}
+use Rattle.farm_desk.proofs.answer.due_to_call.Goals as goal
+
+pub act-requires : goal.act-requires
+act-requires g c = reached c.args.call.now.cmd (search rules)
+
+pub returns-in-Ok-clause-due : goal.returns-in-Ok-clause-due
+returns-in-Ok-clause-due g c =
+    let known : is_known c.args.call.now ≡ true = search rules in
+    call_is_due g.S.Store c.args.keeper.now c.act.new.self c.args.call.now _ _ _ known c.in-Ok.ensures.answer c.in-Ok.ensures.farm
+    c.in-Ok.ensures.opened c.in-Ok.ensures.stands (subst (λ out. IsMadeOf out (bytes_in c.of-in-Ok.result.bytes) c.of-in-Ok.result.end) c.reply_of.ensures c.of-in-Ok.ensures)
+
+pub returns-in-Err-clause-due : goal.returns-in-Err-clause-due
+returns-in-Err-clause-due g c =
+    fault_is_due g.S.Store c.args.keeper.now c.act.new.self c.args.call.now c.in-Err.fault _ _ c.in-Err.ensures.memory c.in-Err.ensures.store
+    c.in-Err.ensures.closed c.in-Err.ensures.still c.in-Err.ensures.fault c.closing.ensures.bytes c.closing.ensures.end

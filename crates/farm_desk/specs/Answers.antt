@@ -1,0 +1,108 @@
+-- What is answered to what was asked, and what becomes of the keeper.
+use Rattle.std.specs.Prelude.{◌≡◌, ℕ, Bool, true, false, nat_le, List, Result, Ok, Err}
+use Rattle.sqlite_trees.specs.declared.store.Store.{Ghosts}
+use Rattle.farm_types.specs.Farm.{Farm, status_of}
+use Rattle.farm_types.specs.Machine.{Answered, Changed, Repeated, Denied, answer, step}
+use Rattle.farm_types.specs.Refuse.{kind_of}
+use Rattle.farm_types.specs.declared.calls.Call.{Call}
+use Rattle.farm_types.specs.declared.rows.TypeRow.{TypeRow}
+use Rattle.farm_types.specs.declared.rows.BoardRow.{BoardRow}
+use Rattle.farm_types.specs.declared.rows.ResRow.{ResRow}
+use Rattle.farm_types.specs.declared.refusal.TheConstants.{NO_ROUTE}
+use Rattle.farm_keep.specs.Kept.{Kept, Keeps}
+use Rattle.farm_wire.specs.Reading.{Denial, refused, other_methods}
+use Rattle.farm_wire.specs.Replies.{reply_bytes, status_or}
+use Rattle.farm_wire.specs.declared.ask.Ask.{Ask}
+use Rattle.farm_wire.specs.declared.out.Out.{Out}
+use Rattle.farm_desk.specs.declared.answer.TheConstants.{LAST_COMMAND}
+
+-- ---- which answer it is
+
+abbrev pub refusal : ℕ → Out
+refusal code = Out.Refused (record { code = code })
+
+-- what a denied request is told
+abbrev pub denied : Denial → Out
+denied (refused code) = refusal code
+denied (other_methods allowed) = Out.Method allowed
+
+-- what a caller is told of the machine's answer to a command of that kind
+abbrev pub replied : ℕ → Answered → Out
+replied kind (Changed reply) = Out.Reply kind reply
+replied kind (Repeated reply) = Out.Reply kind reply
+replied kind (Denied code) = refusal code
+
+-- no call, but a view
+abbrev pub IsLook : Ask → Type 0
+IsLook (Ask.Call call) = ⊥
+IsLook view = Unit {0}
+
+-- the answer lists these rows
+abbrev pub ListsTypes : List TypeRow → Out → Type 0
+ListsTypes rows (Out.Types lent) = lent.now ≡ rows
+ListsTypes rows out = ⊥
+
+abbrev pub ListsBoards : List BoardRow → Out → Type 0
+ListsBoards rows (Out.Boards lent) = lent.now ≡ rows
+ListsBoards rows out = ⊥
+
+abbrev pub ListsReservations : List ResRow → Out → Type 0
+ListsReservations rows (Out.Reservations lent) = lent.now ≡ rows
+ListsReservations rows out = ⊥
+
+-- the answer shows what the view asks for, of that farm
+abbrev pub IsView : Ask → Farm → Out → Type 0
+IsView Ask.Types F out = ListsTypes F.types out
+IsView Ask.Boards F out = ListsBoards F.boards out
+IsView Ask.Reservations F out = ListsReservations F.reservations out
+IsView Ask.Status F out = out ≡ Out.Status (status_of F)
+IsView view F out = out ≡ refusal NO_ROUTE
+
+-- its HTTP status
+abbrev pub http_status : Out → ℕ
+http_status (Out.Refused r) = status_or r.code
+http_status (Out.Method allowed) = 405
+http_status out = 200
+
+-- ---- in bytes
+
+-- these are the bytes of the answer, under this status
+pub record Says (out : Out) (bytes : List ℕ) (status : ℕ) : Type 0 where
+  pub bytes_are : bytes ≡ reply_bytes out
+  pub status_is : status ≡ http_status out
+
+-- the request is denied, and the keeper stays as it was
+pub record Refuses {S : Type 0} (old new : Kept S) (why : Denial) (bytes : List ℕ) (status : ℕ) : Type 0 where
+  pub says : Says (denied why) bytes status
+  pub rests : new ≡ old
+
+-- the call is done: the answer is the machine's, the farm is the machine's, and the store stands for it
+pub record Does {S : Type 0} (g : Ghosts S) (old new : Kept S) (call : Call) (bytes : List ℕ) (status : ℕ) : Type 0 where
+  pub was_open : old.is_open ≡ true
+  pub stays_open : new.is_open ≡ true
+  pub says : Says (replied (kind_of call.cmd) (answer old.farm.farm call)) bytes status
+  pub farm : new.farm.farm ≡ step old.farm.farm call
+  pub stands : Keeps g old → Keeps g new
+
+-- the view is shown, and the keeper stays as it was
+pub record Shows {S : Type 0} (old new : Kept S) (view : Ask) (bytes : List ℕ) (status : ℕ) : Type 0 where
+  pub was_open : old.is_open ≡ true
+  pub out : Out
+  pub shows : IsView view old.farm.farm out
+  pub says : Says out bytes status
+  pub rests : new ≡ old
+
+-- the farm has the command by now
+abbrev pub is_known : Call → Bool
+is_known call = nat_le (kind_of call.cmd) LAST_COMMAND
+
+-- a command is done, and one that the farm lacks leads nowhere
+abbrev pub DoesIfKnown : {S : Type 0} → Ghosts S → Kept S → Kept S → Bool → Call → List ℕ → ℕ → Type 0
+DoesIfKnown g old new true call bytes status = Does g old new call bytes status
+DoesIfKnown g old new false call bytes status = Refuses old new (refused NO_ROUTE) bytes status
+
+-- what was asked is answered
+abbrev pub Answers : {S : Type 0} → Ghosts S → Kept S → Kept S → Result Ask Denial → List ℕ → ℕ → Type 0
+Answers g old new (Err why) bytes status = Refuses old new why bytes status
+Answers g old new (Ok (Ask.Call call)) bytes status = DoesIfKnown g old new (is_known call) call bytes status
+Answers g old new (Ok view) bytes status = Shows old new view bytes status

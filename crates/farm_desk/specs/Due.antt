@@ -1,0 +1,98 @@
+-- Which answer is due, and how the conversation ends once it is written.
+use Rattle.std.specs.Prelude.{◌≡◌, ℕ, ◌⊎◌, true, false, List, Option, Result, Ok, Err, ⊤}
+use Rattle.sqlite_trees.specs.declared.store.Store.{Ghosts}
+use Rattle.farm_types.specs.Machine.{answer, step}
+use Rattle.farm_types.specs.declared.calls.Call.{Call}
+use Rattle.farm_types.specs.declared.refusal.TheConstants.{NO_MEMORY}
+use Rattle.farm_core.specs.Answers.{IsChange}
+use Rattle.farm_keep.specs.Faults.{fault_code}
+use Rattle.farm_keep.specs.Kept.{Kept, Keeps, KeepsEither}
+use Rattle.farm_keep.specs.declared.fault.KeepFault.{KeepFault}
+use Rattle.farm_wire.specs.Reading.{Denial}
+use Rattle.farm_wire.specs.Replies.{reply_bytes}
+use Rattle.farm_wire.specs.declared.ask.Ask.{Ask}
+use Rattle.farm_desk.specs.declared.fault.DeskFault.{DeskFault}
+use Rattle.farm_desk.specs.Answers.{Answers, refusal}
+use Rattle.farm_desk.specs.Heard.{Hears, HearsWhole}
+
+-- ---- no memory for the answer
+
+-- the call was done, though nobody is told
+pub record IsDone {S : Type 0} (g : Ghosts S) (old new : Kept S) (call : Call) : Type 0 where
+  pub farm : new.farm.farm ≡ step old.farm.farm call
+  pub stands : Keeps g old → Keeps g new
+
+-- the keeper stayed as it was, or a call was done
+abbrev pub RestsOrIsDone : {S : Type 0} → Ghosts S → Kept S → Kept S → Result Ask Denial → Type 0
+RestsOrIsDone g old new (Ok (Ask.Call call)) = (new ≡ old) ⊎ IsDone g old new call
+RestsOrIsDone g old new what = new ≡ old
+
+-- there was no memory for the answer: the constant one is due, and an open keeper stays open
+pub record RunsOut {S : Type 0} (g : Ghosts S) (old new : Kept S) (what : Result Ask Denial) (bytes : List ℕ) : Type 0 where
+  pub says : bytes ≡ reply_bytes (refusal NO_MEMORY)
+  pub stays_open : new.is_open ≡ old.is_open
+  pub farm : RestsOrIsDone g old new what
+
+-- ---- a fault of the keeper
+
+-- there was no memory for the change: the store is as it was
+pub record LacksMemory {S : Type 0} (old new : Kept S) (call : Call) : Type 0 where
+  pub was_open : old.is_open ≡ true
+  pub change : IsChange (answer old.farm.farm call)
+  pub store : new.conn ≡ old.conn
+
+-- a call of the store was refused: a stop now leaves the old farm or the one after the call
+pub record LosesStore {S : Type 0} (g : Ghosts S) (old new : Kept S) (call : Call) : Type 0 where
+  pub was_open : old.is_open ≡ true
+  pub change : IsChange (answer old.farm.farm call)
+  pub leaves : Keeps g old → KeepsEither g new old.farm.farm (step old.farm.farm call)
+
+-- the keeper was closed before, whatever is asked
+pub record WasClosed {S : Type 0} (old new : Kept S) : Type 0 where
+  pub was_closed : old.is_open ≡ false
+  pub rests : new ≡ old
+
+-- why the keeper is closed: 61 for calls and views alike, 1 and 60 only where a call changes the farm
+abbrev pub Cause : {S : Type 0} → Ghosts S → Kept S → Kept S → Ask → KeepFault → Type 0
+Cause g old new what KeepFault.Closed = WasClosed old new
+Cause g old new (Ask.Call call) KeepFault.NoMemory = LacksMemory old new call
+Cause g old new (Ask.Call call) KeepFault.Store = LosesStore g old new call
+Cause g old new what fault = ⊥
+
+-- the keeper gave this fault: the constant answer of its number is due, and the keeper is closed
+pub record Closes {S : Type 0} (g : Ghosts S) (old new : Kept S) (what : Ask) (fault : KeepFault) (bytes : List ℕ) : Type 0 where
+  pub says : bytes ≡ reply_bytes (refusal (fault_code fault))
+  pub is_closed : new.is_open ≡ false
+  pub cause : Cause g old new what fault
+
+abbrev pub ClosesIfAsked : {S : Type 0} → Ghosts S → Kept S → Kept S → Result Ask Denial → KeepFault → List ℕ → Type 0
+ClosesIfAsked g old new (Ok what) fault bytes = Closes g old new what fault bytes
+ClosesIfAsked g old new (Err why) fault bytes = ⊥
+
+-- ---- all
+
+-- these bytes are due to what was asked, and the conversation then ends so
+abbrev pub IsDueTo : {S : Type 0} → Ghosts S → Kept S → Kept S → Result Ask Denial → List ℕ → Result ℕ DeskFault → Type 0
+IsDueTo g old new what bytes (Ok status) = Answers g old new what bytes status
+IsDueTo g old new what bytes (Err DeskFault.NoMemory) = RunsOut g old new what bytes
+IsDueTo g old new what bytes (Err (DeskFault.Keep fault)) = ClosesIfAsked g old new what fault bytes
+IsDueTo g old new what bytes (Err DeskFault.Read) = ⊥
+IsDueTo g old new what bytes (Err DeskFault.Write) = ⊥
+
+-- what was asked was understood, and the answer is due to it
+pub record IsDueToAsked {S : Type 0} (g : Ghosts S) (old new : Kept S) (input rest : Option (List ℕ)) (now : ℕ) (bytes : List ℕ) (end : Result ℕ DeskFault) : Type 0 where
+  pub what : Result Ask Denial
+  pub hears : Hears input rest now what
+  pub due : IsDueTo g old new what bytes end
+
+-- there was no memory to read the request or to understand it
+pub record IsNotUnderstood {S : Type 0} (old new : Kept S) (input rest : Option (List ℕ)) (bytes : List ℕ) (end : Result ℕ DeskFault) : Type 0 where
+  pub fault : end ≡ Err DeskFault.NoMemory
+  pub hears : HearsWhole input rest
+  pub says : bytes ≡ reply_bytes (refusal NO_MEMORY)
+  pub rests : new ≡ old
+
+-- these bytes are the answer that is due, and the conversation ends so once they are written
+abbrev pub IsDue : {S : Type 0} → Ghosts S → Kept S → Kept S → Option (List ℕ) → Option (List ℕ) → ℕ → List ℕ → Result ℕ DeskFault → Type 0
+IsDue g old new input rest now bytes end =
+    IsDueToAsked g old new input rest now bytes end ⊎ IsNotUnderstood old new input rest bytes end

@@ -1,0 +1,30 @@
+-- How a conversation ends.
+use Rattle.std.specs.Prelude.{◌≡◌, ℕ, List, Option, Result, Ok, Err}
+use Rattle.std.specs.Io.KnownBytes.{Appends, Keeps}
+use Rattle.farm_http.specs.Faults.{WritesPrefix}
+use Rattle.farm_keep.specs.Kept.{Kept}
+use Rattle.farm_desk.specs.declared.fault.DeskFault.{DeskFault}
+
+-- the writer gained the whole answer that was due
+pub record IsAnswered (Due : List ℕ → Result ℕ DeskFault → Type 0) (held holds : Option (List ℕ)) (end : Result ℕ DeskFault) : Type 0 where
+  pub bytes : List ℕ
+  pub due : Due bytes end
+  pub written : Appends held holds bytes
+
+-- the writer gained a part of the answer that was due; all else is as if it had gained all
+pub record IsUnwritten (Due : List ℕ → Result ℕ DeskFault → Type 0) (held holds : Option (List ℕ)) : Type 0 where
+  pub bytes : List ℕ
+  pub end : Result ℕ DeskFault
+  pub due : Due bytes end
+  pub part : WritesPrefix held holds bytes
+
+-- the reader gave no request: nothing is written, and the keeper stays as it was
+pub record IsUnread {S : Type 0} (old new : Kept S) (held holds : Option (List ℕ)) : Type 0 where
+  pub silent : Keeps held holds
+  pub rests : new ≡ old
+
+-- with this end the answer was written
+abbrev pub IsToldBy : Result ℕ DeskFault → Type 0
+IsToldBy (Err DeskFault.Read) = ⊥
+IsToldBy (Err DeskFault.Write) = ⊥
+IsToldBy end = Unit {0}

@@ -1,0 +1,57 @@
+-- What a conversation hears: the bytes that leave the reader, and what they ask.
+use Rattle.std.specs.Prelude.{◌≡◌, ℕ, ◌⊎◌, List, [], Option, Some, None, Result, Ok, Err, ⊤}
+use Rattle.std.specs.Io.KnownBytes.{Consumes}
+use Rattle.farm_http.specs.Request.{Request}
+use Rattle.farm_http.specs.Requests.{IsRefused, IsRequest, Spells}
+use Rattle.farm_wire.specs.Asked.{Asked, ask, asked}
+use Rattle.farm_wire.specs.Reading.{Denial, refused, other_methods}
+use Rattle.farm_wire.specs.declared.ask.Ask.{Ask}
+use Rattle.farm_desk.specs.declared.hear.Unheard.{Unheard}
+
+-- what is asked, or why nothing is, in the words of the definitions
+abbrev pub told : Result Ask Denial → Result Asked Denial
+told (Ok what) = Ok (asked what)
+told (Err denial) = Err denial
+
+-- the bytes are a request, and this is its meaning at that moment
+pub record IsMeant (used : List ℕ) (now : ℕ) (what : Result Ask Denial) : Type 0 where
+  pub head : ℕ
+  pub request : Request
+  pub spells : Spells used head request
+  pub means : ask request now ≡ told what
+
+-- the bytes ask this at that moment: they are refused as no request, or they are a request that means it
+abbrev pub Asks : List ℕ → Type 0 → ℕ → Result Ask Denial → Type 0
+Asks used AtEnd now (Ok what) = IsMeant used now (Ok what)
+Asks used AtEnd now (Err (refused code)) = IsRefused used AtEnd code ⊎ IsMeant used now (Err (refused code))
+Asks used AtEnd now (Err (other_methods allowed)) = IsMeant used now (Err (other_methods allowed))
+
+-- of this input the bytes that ask this are taken, and no others
+pub record IsTakenFor (input : List ℕ) (rest : Option (List ℕ)) (now : ℕ) (what : Result Ask Denial) : Type 0 where
+  pub used : List ℕ
+  pub taken : Consumes (Some input) rest used
+  pub asks : Asks used (used ≡ input) now what
+
+-- of this input a whole request is taken, or nothing
+pub record IsTakenWhole (input : List ℕ) (rest : Option (List ℕ)) : Type 0 where
+  pub used : List ℕ
+  pub taken : Consumes (Some input) rest used
+  pub whole : (used ≡ []) ⊎ ((head : ℕ) × IsRequest used head)
+
+-- a reader that tells its bytes gave those that ask this
+abbrev pub Hears : Option (List ℕ) → Option (List ℕ) → ℕ → Result Ask Denial → Type 0
+Hears None rest now what = ⊤
+Hears (Some input) rest now what = IsTakenFor input rest now what
+
+-- a reader that tells its bytes gave a whole request, or nothing
+abbrev pub HearsWhole : Option (List ℕ) → Option (List ℕ) → Type 0
+HearsWhole None rest = ⊤
+HearsWhole (Some input) rest = IsTakenWhole input rest
+
+-- what hearing a request gives
+abbrev pub Gives : Option (List ℕ) → Option (List ℕ) → ℕ → Type 0 → Result Ask Unheard → Type 0
+Gives input rest now Spent (Ok what) = Hears input rest now (Ok what)
+Gives input rest now Spent (Err Unheard.NoMemory) = HearsWhole input rest
+Gives input rest now Spent (Err Unheard.Read) = Spent
+Gives input rest now Spent (Err (Unheard.Refused refusal)) = Hears input rest now (Err (refused refusal.code))
+Gives input rest now Spent (Err (Unheard.Method allowed)) = Hears input rest now (Err (other_methods allowed))

@@ -1,0 +1,26 @@
+-- The bytes of an answer, made or constant.
+use Rattle.std.specs.Prelude.{◌≡◌, ℕ, List, Result, Ok, Err}
+use Rattle.farm_types.specs.declared.refusal.TheConstants.{NO_MEMORY}
+use Rattle.farm_wire.specs.Replies.{reply_bytes}
+use Rattle.farm_wire.specs.declared.out.Out.{Out}
+use Rattle.farm_desk.specs.Answers.{Says, refusal}
+use Rattle.farm_desk.specs.declared.due.Bytes.{Bytes}
+use Rattle.farm_desk.specs.declared.fault.DeskFault.{DeskFault}
+
+abbrev pub bytes_in : Bytes → List ℕ
+bytes_in (Bytes.Made bytes) = bytes.items
+bytes_in (Bytes.Constant bytes) = bytes.now
+
+-- there is no memory for the answer, and the bytes say so
+pub record IsShort (bytes : List ℕ) (fault : DeskFault) : Type 0 where
+  pub fault_is : fault ≡ DeskFault.NoMemory
+  pub bytes_are : bytes ≡ reply_bytes (refusal NO_MEMORY)
+
+-- the bytes say it, or that there is no memory to say it
+abbrev pub IsMadeOf : Out → List ℕ → Result ℕ DeskFault → Type 0
+IsMadeOf out bytes (Ok status) = Says out bytes status
+IsMadeOf out bytes (Err fault) = IsShort bytes fault
+
+-- the same of an answer that is one of some
+abbrev pub IsMadeOfOne : (Out → Type 0) → List ℕ → Result ℕ DeskFault → Type 0
+IsMadeOfOne P bytes end = (out : Out) × P out × IsMadeOf out bytes end

@@ -1,0 +1,82 @@
+//! Answering what was asked.
+ghost use Rattle.std.specs.Prelude.{◌≡◌, ◌≤◌, Ok};
+ghost use Rattle.sqlite.specs.Held.{state};
+ghost use Rattle.sqlite_trees.specs.View.{doubt};
+ghost use Rattle.farm_core.specs.Answers.{shown as told};
+ghost use Rattle.farm_types.specs.Refuse.{kind_of};
+ghost use Rattle.farm_desk.specs.Answers.{replied, IsView, IsLook};
+ghost use Rattle.farm_desk.specs.Due.{IsDueTo};
+ghost use Rattle.farm_desk.specs.Made.{IsMadeOfOne, bytes_in};
+ghost use Rattle.farm_wire.specs.declared.ask.Ask.{Ask as Asking};
+
+use crate::due::Due;
+use farm_core::farm::Farm;
+use farm_keep::{KeepFault, Keeper};
+use farm_types::calls::{Answer, Call};
+use farm_types::refusal::{NO_ROUTE, Refusal};
+use farm_wire::ask::Ask;
+use farm_wire::out::Out;
+use sqlite::Alter;
+use std::alloc::Global;
+
+/// The answer due to what was asked: a call is done, a view is shown.
+pub(crate) fn due_to<S: Alter>(alloc: Global, keeper: &mut Keeper<S>, ask: &Ask) -> Due
+    ensures due { IsDueTo S.Store keeper.old keeper.new (Ok ask.now) (bytes_in result.bytes) result.end }
+    ensures clean { doubt (state S.Store keeper.old.conn).is_clean ≤ doubt (state S.Store keeper.new.conn).is_clean }
+{
+    match ask {
+        Ask::Call(call) => due_to_call(alloc, keeper, call),
+        _ => due_to_view(alloc, keeper, ask),
+    }
+}
+
+/// The answer due to a call, which is done if the farm has its command.
+fn due_to_call<S: Alter>(alloc: Global, keeper: &mut Keeper<S>, call: &Call) -> Due
+    ensures due { IsDueTo S.Store keeper.old keeper.new (Ok (Asking.Call call.entry.now)) (bytes_in result.bytes) result.end }
+    ensures clean { doubt (state S.Store keeper.old.conn).is_clean ≤ doubt (state S.Store keeper.new.conn).is_clean }
+{
+    if call.cmd.kind() > LAST_COMMAND {
+        return Due::of(alloc, &Out::Refused(Refusal { code: NO_ROUTE }));
+    }
+    match keeper.act(call) {
+        Ok(answer) => Due::of(alloc, &reply_of(call, &answer)),
+        Err(fault) => Due::closing(fault),
+    }
+}
+
+/// The number of the last command that the farm has by now; the routes of the others lead nowhere.
+const LAST_COMMAND: u64 = 13;
+
+/// What a caller is told of the machine's answer.
+fn reply_of(call: &Call, answer: &Answer) -> Out<'static>
+    ensures { result ≡ replied (kind_of call.entry.now.cmd) (told answer.now) }
+{
+    match answer {
+        Answer::Did(reply, _) | Answer::Kept(reply) => Out::Reply(call.cmd.kind(), *reply),
+        Answer::Refused(refusal) => Out::Refused(*refusal),
+    }
+}
+
+/// The answer due to a view of an open keeper's farm.
+fn due_to_view<S: Alter>(alloc: Global, keeper: &Keeper<S>, view: &Ask) -> Due
+    requires { IsLook view.now }
+    ensures { IsDueTo S.Store keeper.now keeper.now (Ok view.now) (bytes_in result.bytes) result.end }
+{
+    match keeper.farm() {
+        Some(farm) => show(alloc, farm, view),
+        None => Due::closing(KeepFault::Closed),
+    }
+}
+
+/// What a view shows of a farm.
+fn show(alloc: Global, farm: &Farm, view: &Ask) -> Due
+    ensures { IsMadeOfOne (IsView view.now farm.now.farm) (bytes_in result.bytes) result.end }
+{
+    match view {
+        Ask::Types => Due::of(alloc, &Out::Types(farm.types())),
+        Ask::Boards => Due::of(alloc, &Out::Boards(farm.boards())),
+        Ask::Status => Due::of(alloc, &Out::Status(farm.status())),
+        Ask::Reservations => Due::of(alloc, &Out::Reservations(farm.reservations())),
+        _ => Due::of(alloc, &Out::Refused(Refusal { code: NO_ROUTE })),
+    }
+}

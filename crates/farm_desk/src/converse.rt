@@ -1,0 +1,117 @@
+//! One request, one answer.
+ghost use Rattle.std.specs.Prelude.{◌≡◌, ◌≤◌, ◌↔◌, Err, IfOk, IfErr, IsTrue};
+ghost use Rattle.sqlite.specs.Held.{state};
+ghost use Rattle.sqlite_trees.specs.View.{doubt};
+ghost use Rattle.farm_http.specs.Logs.{unread, unwritten, IsSpent};
+ghost use Rattle.farm_desk.specs.Due.{IsDue};
+ghost use Rattle.farm_desk.specs.Ends.{IsAnswered, IsUnwritten, IsUnread, IsToldBy};
+ghost use Rattle.farm_desk.specs.Made.{bytes_in};
+
+use crate::answer::due_to;
+use crate::due::Due;
+use crate::fault::DeskFault;
+use crate::hear::{Unheard, hear};
+use crate::log::Log;
+use farm_keep::Keeper;
+use farm_wire::out::Out;
+use farm_wire::{ReadLog, write_whole_logged};
+use sqlite::Alter;
+use std::alloc::Global;
+use std::io::{Read, Write};
+
+/// Reads one request, acts on the farm or looks at it, and writes one answer; gives the HTTP status
+/// that was written.
+///
+/// A refused request is answered with its refusal. Where memory is wanted outside the keeper's own
+/// work, the constant answer of code 1 is written and the keeper stays open; where the keeper gives
+/// a fault, that of 1, 60 or 61, and the keeper is closed. An answer of 1 or 60 doesn't tell whether
+/// the command was done: the client repeats it with its key.
+///
+/// Costs what its parts cost: one read of the request, one command or view, and one write where the
+/// writer takes the answer whole.
+pub fn converse<R: Read, W: Write, S: Alter>(
+    alloc: Global,
+    keeper: &mut Keeper<S>,
+    reader: &mut R,
+    writer: &mut W,
+    now: u64,
+) -> Result<u16, DeskFault>
+    // The answer that is due was written whole.
+    ensures answered { IsToldBy result → IsAnswered
+        (IsDue S.Store keeper.old keeper.new (R.remaining reader.old) (R.remaining reader.new) now)
+        (W.contents writer.old) (W.contents writer.new) result }
+
+    // The writer failed in the middle of it.
+    ensures unwritten { result ≡ Err DeskFault.Write → IsUnwritten
+        (IsDue S.Store keeper.old keeper.new (R.remaining reader.old) (R.remaining reader.new) now)
+        (W.contents writer.old) (W.contents writer.new) }
+
+    // The reader gave no request.
+    ensures unread { result ≡ Err DeskFault.Read → IsUnread keeper.old keeper.new
+        (W.contents writer.old) (W.contents writer.new) }
+    ensures clean { doubt (state S.Store keeper.old.conn).is_clean ≤ doubt (state S.Store keeper.new.conn).is_clean }
+{
+    converse_logged(alloc, keeper, reader, writer, now, &mut Log::new())
+}
+
+/// Converses as `converse` does, and tells how often the reader and the writer were called and
+/// whether they failed.
+pub fn converse_logged<R: Read, W: Write, S: Alter>(
+    alloc: Global,
+    keeper: &mut Keeper<S>,
+    reader: &mut R,
+    writer: &mut W,
+    now: u64,
+    log: &mut Log,
+) -> Result<u16, DeskFault>
+    requires unread { log.old.reading ≡ unread }
+    requires unwritten { log.old.writing ≡ unwritten }
+
+    // The answer that is due was written whole.
+    ensures answered { IsToldBy result → IsAnswered
+        (IsDue S.Store keeper.old keeper.new (R.remaining reader.old) (R.remaining reader.new) now)
+        (W.contents writer.old) (W.contents writer.new) result }
+
+    // The writer failed in the middle of it.
+    ensures unwritten { result ≡ Err DeskFault.Write → IsUnwritten
+        (IsDue S.Store keeper.old keeper.new (R.remaining reader.old) (R.remaining reader.new) now)
+        (W.contents writer.old) (W.contents writer.new) }
+
+    // The reader gave no request.
+    ensures unread { result ≡ Err DeskFault.Read → IsUnread keeper.old keeper.new
+        (W.contents writer.old) (W.contents writer.new) }
+
+    // The faults Write and Read come only of a writer that failed, and of a reader that failed or took all its turns.
+    ensures failed { (result ≡ Err DeskFault.Write) ↔ IsTrue log.new.writing.failed }
+    ensures spent { result ≡ Err DeskFault.Read → IsSpent log.new.reading }
+    ensures clean { doubt (state S.Store keeper.old.conn).is_clean ≤ doubt (state S.Store keeper.new.conn).is_clean }
+{
+    let due = due(alloc, keeper, reader, now, &mut log.reading)?;
+    match write_whole_logged(writer, due.bytes(), &mut log.writing) {
+        Ok(()) => due.end,
+        Err(_) => Err(DeskFault::Write),
+    }
+}
+
+/// The answer that is due, unless the reader gave no request.
+fn due<R: Read, S: Alter>(
+    alloc: Global,
+    keeper: &mut Keeper<S>,
+    reader: &mut R,
+    now: u64,
+    log: &mut ReadLog,
+) -> Result<Due, DeskFault>
+    requires { log.old ≡ unread }
+    ensures due { IfOk result (λ due. IsDue S.Store keeper.old keeper.new
+        (R.remaining reader.old) (R.remaining reader.new) now (bytes_in due.bytes) due.end) }
+    ensures unread { IfErr result (λ fault. (fault ≡ DeskFault.Read) × IsSpent log.new × (keeper.new ≡ keeper.old)) }
+    ensures clean { doubt (state S.Store keeper.old.conn).is_clean ≤ doubt (state S.Store keeper.new.conn).is_clean }
+{
+    match hear(alloc, reader, now, log) {
+        Ok(ask) => Ok(due_to(alloc, keeper, &ask)),
+        Err(Unheard::Refused(refusal)) => Ok(Due::of(alloc, &Out::Refused(refusal))),
+        Err(Unheard::Method(allowed)) => Ok(Due::of(alloc, &Out::Method(allowed))),
+        Err(Unheard::NoMemory) => Ok(Due::no_memory()),
+        Err(Unheard::Read) => Err(DeskFault::Read),
+    }
+}

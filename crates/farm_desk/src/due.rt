@@ -1,0 +1,99 @@
+//! The answer that is due.
+ghost use Rattle.std.specs.Prelude.{◌≡◌, ◌≢◌, Err};
+ghost use Rattle.farm_types.specs.declared.refusal.TheConstants.{NO_MEMORY as no_memory};
+ghost use Rattle.farm_keep.specs.Faults.{fault_code};
+ghost use Rattle.farm_wire.specs.Replies.{reply_bytes};
+ghost use Rattle.farm_desk.specs.Answers.{refusal, http_status};
+ghost use Rattle.farm_desk.specs.Made.{IsMadeOf, bytes_in};
+
+use crate::fault::DeskFault;
+use farm_keep::KeepFault;
+use farm_wire::constant::{closed_answer, no_memory_answer, store_answer};
+use farm_wire::out::{Out, answer_bytes};
+use std::alloc::Global;
+
+/// The bytes of an answer.
+#[derive(Debug, Drop)]
+pub(crate) enum Bytes {
+    Made(Vec<u8>),
+    Constant(&'static [u8]),
+}
+
+/// The answer that is due, and how the conversation ends once it is written.
+#[derive(Debug, Drop)]
+pub(crate) struct Due {
+    pub(crate) bytes: Bytes,
+    pub(crate) end: Result<u16, DeskFault>,
+}
+
+impl Due {
+    /// An answer, or the constant one where there is no memory for it.
+    pub(crate) fn of(alloc: Global, out: &Out<'_>) -> Due
+        ensures { IsMadeOf out.now (bytes_in result.bytes) result.end }
+    {
+        match answer_bytes(alloc, out) {
+            Ok(bytes) => Due {
+                bytes: Bytes::Made(bytes),
+                end: Ok(http_status(out)),
+            },
+            Err(_) => Due::no_memory(),
+        }
+    }
+
+    /// The constant answer where there is no memory for another.
+    pub(crate) fn no_memory() -> Due
+        ensures bytes { bytes_in result.bytes ≡ reply_bytes (refusal no_memory) }
+        ensures end { result.end ≡ Err DeskFault.NoMemory }
+    {
+        Due {
+            bytes: Bytes::Constant(no_memory_answer()),
+            end: Err(DeskFault::NoMemory),
+        }
+    }
+
+    /// The constant answer of a keeper's fault.
+    pub(crate) fn closing(fault: KeepFault) -> Due
+        requires { (fault ≢ KeepFault.BadStore) × (fault ≢ KeepFault.OldSchema) }
+        ensures bytes { bytes_in result.bytes ≡ reply_bytes (refusal (fault_code fault)) }
+        ensures end { result.end ≡ Err (DeskFault.Keep fault) }
+    {
+        let bytes = match fault {
+            KeepFault::NoMemory => no_memory_answer(),
+            KeepFault::Store => store_answer(),
+            KeepFault::Closed => closed_answer(),
+            KeepFault::BadStore | KeepFault::OldSchema => unreachable!(),
+        };
+        Due {
+            bytes: Bytes::Constant(bytes),
+            end: Err(DeskFault::Keep(fault)),
+        }
+    }
+
+    /// The bytes of the answer.
+    pub(crate) fn bytes(&self) -> &[u8]
+        ensures { result.now ≡ bytes_in self.now.bytes }
+    {
+        match &self.bytes {
+            Bytes::Made(bytes) => bytes.as_slice(),
+            Bytes::Constant(bytes) => bytes,
+        }
+    }
+}
+
+/// The status of a wrong method.
+const METHOD_NOT_ALLOWED: u16 = 405;
+/// The status of a fault that the table gives none.
+const UNAVAILABLE: u16 = 503;
+/// The status of an answer that is no refusal.
+pub(crate) const OK: u16 = 200;
+
+/// The HTTP status of an answer.
+fn http_status(out: &Out<'_>) -> u16
+    ensures { result ≡ http_status out.now }
+{
+    match out {
+        Out::Refused(refusal) => refusal.status().unwrap_or(UNAVAILABLE),
+        Out::Method(_) => METHOD_NOT_ALLOWED,
+        _ => OK,
+    }
+}

@@ -1,0 +1,39 @@
+//! Why a conversation ended without an answer of the farm.
+ghost use Rattle.std.specs.Prelude.{◌≡◌};
+ghost use Rattle.farm_desk.specs.Faults.{fault_number};
+
+use farm_keep::KeepFault;
+use farm_types::refusal::{NO_MEMORY, READ, WRITE};
+use thiserror::Error;
+
+/// Why a conversation ended without an answer of the farm. The texts are those of the table of
+/// refusals.
+#[derive(Clone, Copy, Debug, PartialEq, Eq, Error)]
+pub enum DeskFault {
+    /// There was no memory to read the request, to understand it or to answer it.
+    #[error("no memory")]
+    NoMemory,
+    /// The reader failed, or gave no request in 80,000 calls.
+    #[error("read fault")]
+    Read,
+    /// The writer failed, took no byte or was interrupted.
+    #[error("write fault")]
+    Write,
+    /// The keeper answered a fault, and is closed.
+    #[error("{0}")]
+    Keep(KeepFault),
+}
+
+impl DeskFault {
+    /// Its number in the table of refusals.
+    pub fn code(self) -> u16
+        ensures { result ≡ fault_number self }
+    {
+        match self {
+            DeskFault::NoMemory => NO_MEMORY,
+            DeskFault::Read => READ,
+            DeskFault::Write => WRITE,
+            DeskFault::Keep(fault) => fault.code(),
+        }
+    }
+}

@@ -1,0 +1,44 @@
+//! Hearing a request: its bytes, and what they ask.
+ghost use Rattle.std.specs.Prelude.{◌≡◌};
+ghost use Rattle.farm_http.specs.Logs.{unread, IsSpent};
+ghost use Rattle.farm_desk.specs.Heard.{Gives};
+
+use farm_types::refusal::Refusal;
+use farm_wire::allowed::Allowed;
+use farm_wire::ask::Ask;
+use farm_wire::fault::AskFault;
+use farm_wire::{ReadLog, WireFault, read_request_logged};
+use std::alloc::Global;
+use std::io::Read;
+
+/// Why nothing is asked.
+#[derive(Clone, Copy, Debug, PartialEq, Eq)]
+pub(crate) enum Unheard {
+    NoMemory,
+    Read,
+    Refused(Refusal),
+    Method(Allowed),
+}
+
+/// Reads one request and says what it asks at a moment.
+pub(crate) fn hear<R: Read>(
+    alloc: Global,
+    reader: &mut R,
+    now: u64,
+    log: &mut ReadLog,
+) -> Result<Ask, Unheard>
+    requires { log.old ≡ unread }
+    ensures { Gives (R.remaining reader.old) (R.remaining reader.new) now (IsSpent log.new) result }
+{
+    match read_request_logged(alloc, reader, log) {
+        Ok(taken) => match Ask::of(alloc, &taken, now) {
+            Ok(ask) => Ok(ask),
+            Err(AskFault::NoMemory) => Err(Unheard::NoMemory),
+            Err(AskFault::Refused(refusal)) => Err(Unheard::Refused(refusal)),
+            Err(AskFault::Method(allowed)) => Err(Unheard::Method(allowed)),
+        },
+        Err(WireFault::NoMemory) => Err(Unheard::NoMemory),
+        Err(WireFault::Refused(refusal)) => Err(Unheard::Refused(refusal)),
+        Err(_) => Err(Unheard::Read),
+    }
+}

@@ -1,0 +1,213 @@
+-- Kept replies never leave the farm, and are given again.
+use Rattle.std.proofs.Common.{◌≡◌, ℕ, ◌==◌, ◌&&◌, Bool, true, false, cond, List, [], ◌∷◌, ◌++◌, Option, Some, None, refl, sym, ap, ◌∙◌, subst, Ordering, Less, Equal, Greater}
+use Rattle.std.specs.Prelude.{if◌then◌else◌, not, is_some}
+use Rattle.std.specs.Bool.{then_some}
+use Rattle.std.specs.List.{find, filter}
+use Rattle.std.specs.Option.{option_map_or, option_map, option_or}
+use Rattle.std.specs.Ordering.{ordering_then}
+use Rattle.std.specs.Str.{bytes_eq}
+use Rattle.std.proofs.lemmas.Cmp.{tied_itself}
+use Rattle.std.proofs.lemmas.List.Sums.{fold-append}
+use Rattle.std.proofs.lemmas.Slice.Eq.{bytes_eq-Decides}
+use Rattle.farm_types.specs.Words.{text_cmp}
+use Rattle.farm_types.specs.Table.{kept_cmp}
+use Rattle.farm_types.specs.Farm.{Farm, board_of, job_of, kept_of, put_board, put_kept}
+use Rattle.farm_types.specs.Pass.{with_board, expire}
+use Rattle.farm_types.specs.Refuse.{kind_of, is_late, kept_for, keeps_kind, is_full, may_give, first_code, refusal, early_refusal, own_refusal}
+use Rattle.farm_types.specs.Change.{Done, done, act, change, moved}
+use Rattle.farm_types.specs.Machine.{Answered, Changed, Repeated, Denied, answer, answer_by, repeated, step, step_by, run}
+use Rattle.farm_types.specs.declared.rows.BoardRow.{BoardRow}
+use Rattle.farm_types.specs.declared.rows.KeptRow.{KeptRow}
+use Rattle.farm_types.specs.declared.rows.Reply.{Reply}
+use Rattle.farm_types.specs.declared.calls.Cmd.{Cmd}
+use Rattle.farm_types.specs.declared.calls.Call.{Call}
+use Rattle.farm_types.proofs.Put.{find_put_is}
+use Rattle.farm_sound.proofs.Grow.{same_texts}
+use Rattle.farm_sound.proofs.Numbers.{kept_total}
+use Rattle.farm_sound.proofs.Replies.{pass_kept}
+use Rattle.farm_keep.specs.Restarts.{again}
+
+-- ---- no command changes the kept replies
+
+with_board_kept : (f : BoardRow → BoardRow) (F : Farm) (name : List ℕ) → (with_board f F (Some name)).kept ≡ F.kept
+with_board_kept f F name = by (board_of F name)
+  where
+    by : (o : Option BoardRow) → (option_map_or (λ b. put_board F (f b)) o F).kept ≡ F.kept
+    by None = refl
+    by (Some b) = refl
+
+done_kept : {X : Type 0} (F : Farm) (f : X → Done) → ((x : X) → (f x).farm.kept ≡ F.kept) → (o : Option X) → (option_map_or f o (done 0 F)).farm.kept ≡ F.kept
+done_kept F f same None = refl
+done_kept F f same (Some x) = same x
+
+act_kept : (F : Farm) (caller : List ℕ) (cmd : Cmd) → (act F caller cmd).farm.kept ≡ F.kept
+act_kept F caller (Cmd.AddType name check) = refl
+act_kept F caller (Cmd.AddBoard name kind tags) = refl
+act_kept F caller (Cmd.SetTags name tags) = with_board_kept _ F name
+act_kept F caller (Cmd.SetHealth name health) = with_board_kept _ F name
+act_kept F caller (Cmd.Submit priority wants roles body) = refl
+act_kept F caller (Cmd.Cancel number) = done_kept F _ (λ j. refl) (job_of F number)
+act_kept F caller (Cmd.Start number) = done_kept F _ (λ j. refl) (job_of F number)
+act_kept F caller (Cmd.Finish number outcome) = done_kept F _ (λ j. refl) (job_of F number)
+act_kept F caller (Cmd.Reserve priority tags) = refl
+act_kept F caller (Cmd.Acquire number) = refl
+act_kept F caller (Cmd.Release number) = refl
+act_kept F caller (Cmd.Refresh number) = refl
+act_kept F caller (Cmd.CancelRes number) = refl
+act_kept F caller Cmd.Pass = pass_kept (expire F F.clock) F.clock
+
+-- ---- the table of kept replies
+
+abbrev is_for : List ℕ → List ℕ → KeptRow → Bool
+is_for caller key r = bytes_eq r.caller caller && bytes_eq r.key key
+
+both : (x y : Bool) → (x && y) ≡ true → (x ≡ true) × (y ≡ true)
+both true y e = (refl, e)
+both false y e = absurd (let no : false ≡ true = e in cc)
+
+then_equal : (x y : Ordering) → ordering_then x y ≡ Equal → (x ≡ Equal) × (y ≡ Equal)
+then_equal Less y e = absurd (let no : Less ≡ Equal = e in cc)
+then_equal Equal y e = (refl, e)
+then_equal Greater y e = absurd (let no : Greater ≡ Equal = e in cc)
+
+names_equal : (a b : List ℕ) → bytes_eq a b ≡ true → a ≡ b
+names_equal a b h = (bytes_eq-Decides a b).0 h
+
+own_name : (a : List ℕ) → bytes_eq a a ≡ true
+own_name a = (bytes_eq-Decides a a).1 refl
+
+tied_alike : (caller key : List ℕ) (row r : KeptRow) → kept_cmp row r ≡ Equal → is_for caller key row ≡ is_for caller key r
+tied_alike caller key row r tie =
+    let parts = then_equal (text_cmp row.caller r.caller) (text_cmp row.key r.key) tie in
+    let callers = same_texts row.caller r.caller parts.0 in
+    let keys = same_texts row.key r.key parts.1 in
+    rw (callers, keys) refl
+
+alike_tied : (caller key : List ℕ) (row r : KeptRow) → is_for caller key row ≡ true → is_for caller key r ≡ true → kept_cmp row r ≡ Equal
+alike_tied caller key row r p q =
+    let ps = both (bytes_eq row.caller caller) (bytes_eq row.key key) p in
+    let qs = both (bytes_eq r.caller caller) (bytes_eq r.key key) q in
+    let callers : row.caller ≡ r.caller = names_equal row.caller caller ps.0 ∙ sym (names_equal r.caller caller qs.0) in
+    let keys : row.key ≡ r.key = names_equal row.key key ps.1 ∙ sym (names_equal r.key key qs.1) in
+    subst (λ c. ordering_then (text_cmp row.caller c) (text_cmp row.key r.key) ≡ Equal) callers
+    (subst (λ k. ordering_then (text_cmp row.caller row.caller) (text_cmp row.key k) ≡ Equal) keys (tied_itself kept_total row))
+
+kept_put : (F : Farm) (row : KeptRow) (caller key : List ℕ) → kept_of (put_kept F row) caller key ≡ cond (is_for caller key row) (Some row) (kept_of F caller key)
+kept_put F row caller key = find_put_is kept_cmp kept_total row (is_for caller key) (tied_alike caller key row) (alike_tied caller key row) F.kept
+
+-- ---- a kept reply is answered again
+
+abbrev says : KeptRow → Call → Answered
+says row call = if is_late call then Denied 2 else (if row.kind == kind_of call.cmd then Repeated row.reply else Denied 40)
+
+kept_is : (F : Farm) (call : Call) (key : List ℕ) (row : KeptRow) → call.key ≡ Some key → kept_of F call.caller key ≡ Some row → kept_for F call ≡ Some row
+kept_is F call key row keyed is = ap (λ k. option_map_or (λ key. kept_of F call.caller key) k None) keyed ∙ is
+
+answers_kept : (F : Farm) (call : Call) (row : KeptRow) → kept_for F call ≡ Some row → answer F call ≡ says row call
+unfolding answer refusal early_refusal
+answers_kept F call row is =
+    let by_kept = λ (o : Option KeptRow). answer_by (cond (is_late call) None (cond (option_map_or (λ r. r.kind == kind_of call.cmd) o false) (option_map (λ r. r.reply) o) None))
+    (option_or (first_code ((is_late call, 2) ∷ (is_some o && not (option_map_or (λ r. r.kind == kind_of call.cmd) o false), 40) ∷ (not (may_give call.caller call.cmd), 3) ∷ []))
+    (option_or (own_refusal F call) (then_some (is_full F call) 4)))
+    (change F call).reply in
+    ap by_kept is ∙ by (is_late call) (row.kind == kind_of call.cmd)
+  where
+    by : (late same : Bool) → answer_by (cond late None (cond same (Some row.reply) None))
+        (option_or (first_code ((late, 2) ∷ (not same, 40) ∷ (not (may_give call.caller call.cmd), 3) ∷ []))
+        (option_or (own_refusal F call) (then_some (is_full F call) 4)))
+        (change F call).reply ≡ cond late (Denied 2) (cond same (Repeated row.reply) (Denied 40))
+    by true same = refl
+    by false true = refl
+    by false false = refl
+
+says_no_change : (row : KeptRow) (call : Call) (r : Reply) → says row call ≡ Changed r → ⊥
+says_no_change row call r = by (is_late call) (row.kind == kind_of call.cmd)
+  where
+    by : (late same : Bool) → cond late (Denied 2) (cond same (Repeated row.reply) (Denied 40)) ≡ Changed r → ⊥
+    by true same e = cc
+    by false true e = cc
+    by false false e = cc
+
+-- ---- what is kept after one call
+
+abbrev kept_row : Call → List ℕ → Reply → KeptRow
+kept_row call key reply = record { caller = call.caller; key = key; kind = kind_of call.cmd; reply = reply }
+
+kept_changed : (F : Farm) (d : Call) (caller key : List ℕ) → kept_of (change F d).farm caller key
+    ≡ option_map_or (λ k. cond (is_for caller key (kept_row d k (change F d).reply)) (Some (kept_row d k (change F d).reply)) (kept_of F caller key)) d.key (kept_of F caller key)
+unfolding change
+kept_changed F d caller key = by d.key
+  where
+    by : (o : Option (List ℕ)) → find (is_for caller key) (option_map_or (λ k. put_kept (act (moved F d) d.caller d.cmd).farm (kept_row d k (act (moved F d) d.caller d.cmd).reply)) o (act (moved F d) d.caller d.cmd).farm).kept
+        ≡ option_map_or (λ k. cond (is_for caller key (kept_row d k (act (moved F d) d.caller d.cmd).reply)) (Some (kept_row d k (act (moved F d) d.caller d.cmd).reply)) (kept_of F caller key)) o (kept_of F caller key)
+    by None = ap (find (is_for caller key)) (act_kept (moved F d) d.caller d.cmd)
+    by (Some k) = kept_put (act (moved F d) d.caller d.cmd).farm (kept_row d k (act (moved F d) d.caller d.cmd).reply) caller key
+        ∙ ap (λ rows. cond (is_for caller key (kept_row d k (act (moved F d) d.caller d.cmd).reply)) (Some (kept_row d k (act (moved F d) d.caller d.cmd).reply)) (find (is_for caller key) rows)) (act_kept (moved F d) d.caller d.cmd)
+
+step_changed : (F : Farm) (d : Call) (r : Reply) → answer F d ≡ Changed r → step F d ≡ (change F d).farm
+unfolding step
+step_changed F d r e = ap (λ a. step_by a F (change F d).farm) e
+
+step_repeated : (F : Farm) (d : Call) (r : Reply) → answer F d ≡ Repeated r → step F d ≡ F
+unfolding step
+step_repeated F d r e = ap (λ a. step_by a F (change F d).farm) e
+
+step_denied : (F : Farm) (d : Call) (code : ℕ) → answer F d ≡ Denied code → step F d ≡ F
+unfolding step
+step_denied F d code e = ap (λ a. step_by a F (change F d).farm) e
+
+changed_reply : (F : Farm) (d : Call) (r : Reply) → answer F d ≡ Changed r → (change F d).reply ≡ r
+unfolding answer
+changed_reply F d r = by (repeated F d) (refusal F d)
+  where
+    by : (o : Option Reply) (p : Option ℕ) → answer_by o p (change F d).reply ≡ Changed r → (change F d).reply ≡ r
+    by (Some k) p e = absurd (let no : Repeated k ≡ Changed r = e in cc)
+    by None (Some code) e = absurd (let no : Denied code ≡ Changed r = e in cc)
+    by None None e = let same : Changed (change F d).reply ≡ Changed r = e in cc
+
+kept_stays_changed : (F : Farm) (d : Call) (r : Reply) (caller key : List ℕ) (row : KeptRow) → answer F d ≡ Changed r → kept_of F caller key ≡ Some row → kept_of (change F d).farm caller key ≡ Some row
+kept_stays_changed F d r caller key row changed is = kept_changed F d caller key ∙ by d.key refl
+  where
+    other : (k : List ℕ) → d.key ≡ Some k → (b : Bool) → is_for caller key (kept_row d k (change F d).reply) ≡ b → cond b (Some (kept_row d k (change F d).reply)) (kept_of F caller key) ≡ Some row
+    other k keyed true mine =
+        let parts = both (bytes_eq d.caller caller) (bytes_eq k key) mine in
+        let callers = names_equal d.caller caller parts.0 in
+        let keys = names_equal k key parts.1 in
+        let kept : kept_of F d.caller k ≡ Some row = subst (λ c. kept_of F c k ≡ Some row) (sym callers) (subst (λ x. kept_of F caller x ≡ Some row) (sym keys) is) in
+        absurd (says_no_change row d r (sym (answers_kept F d row (kept_is F d k row keyed kept)) ∙ changed))
+    other k keyed false mine = is
+
+    by : (o : Option (List ℕ)) → d.key ≡ o → option_map_or (λ k. cond (is_for caller key (kept_row d k (change F d).reply)) (Some (kept_row d k (change F d).reply)) (kept_of F caller key)) o (kept_of F caller key) ≡ Some row
+    by None keyed = is
+    by (Some k) keyed = other k keyed (is_for caller key (kept_row d k (change F d).reply)) refl
+
+kept_stays : (F : Farm) (d : Call) (caller key : List ℕ) (row : KeptRow) → kept_of F caller key ≡ Some row → kept_of (step F d) caller key ≡ Some row
+kept_stays F d caller key row is = by (answer F d) refl
+  where
+    by : (a : Answered) → answer F d ≡ a → kept_of (step F d) caller key ≡ Some row
+    by (Changed r) e = subst (λ G. kept_of G caller key ≡ Some row) (sym (step_changed F d r e)) (kept_stays_changed F d r caller key row e is)
+    by (Repeated r) e = subst (λ G. kept_of G caller key ≡ Some row) (sym (step_repeated F d r e)) is
+    by (Denied code) e = subst (λ G. kept_of G caller key ≡ Some row) (sym (step_denied F d code e)) is
+
+kept_after : (F : Farm) (d : Call) (key : List ℕ) (r : Reply) → d.key ≡ Some key → answer F d ≡ Changed r → kept_of (step F d) d.caller key ≡ Some (kept_row d key r)
+kept_after F d key r keyed changed =
+    let mine : is_for d.caller key (kept_row d key (change F d).reply) ≡ true = rw (own_name d.caller, own_name key) refl in
+    ap (λ G. kept_of G d.caller key) (step_changed F d r changed)
+    ∙ kept_changed F d d.caller key
+    ∙ ap (λ o. option_map_or (λ k. cond (is_for d.caller key (kept_row d k (change F d).reply)) (Some (kept_row d k (change F d).reply)) (kept_of F d.caller key)) o (kept_of F d.caller key)) keyed
+    ∙ ap (λ b. cond b (Some (kept_row d key (change F d).reply)) (kept_of F d.caller key)) mine
+    ∙ ap (λ reply. Some (kept_row d key reply)) (changed_reply F d r changed)
+
+run_keeps : (F : Farm) (calls : List Call) (caller key : List ℕ) (row : KeptRow) → kept_of F caller key ≡ Some row → kept_of (run F calls) caller key ≡ Some row
+run_keeps F [] caller key row is = is
+run_keeps F (d ∷ calls) caller key row is = run_keeps (step F d) calls caller key row (kept_stays F d caller key row is)
+
+pub again_kept : (F : Farm) (before between : List Call) (first call : Call) (key : List ℕ) (reply : Reply) → first.key ≡ Some key → call.key ≡ Some key → call.caller ≡ first.caller
+    → answer (run F before) first ≡ Changed reply → answer (run F (before ++ first ∷ between)) call ≡ again first reply call
+again_kept F before between first call key reply keyed keyed_too same changed =
+    let G = run F before in
+    let H = run (step G first) between in
+    let row = kept_row first key reply in
+    let kept : kept_of H first.caller key ≡ Some row = run_keeps (step G first) between first.caller key row (kept_after G first key reply keyed changed) in
+    let there : kept_of H call.caller key ≡ Some row = subst (λ c. kept_of H c key ≡ Some row) (sym same) kept in
+    ap (λ K. answer K call) (fold-append step F before (first ∷ between)) ∙ answers_kept H call row (kept_is H call key row keyed_too there)

@@ -1,0 +1,17 @@
+-- The numbers of a keeper's faults, and its words for the store's.
+use Rattle.std.specs.Prelude.{ℕ}
+use Rattle.farm_store.specs.declared.fault.StoreFault.{StoreFault}
+use Rattle.farm_keep.specs.declared.fault.KeepFault.{KeepFault}
+
+abbrev pub fault_code : KeepFault → ℕ
+fault_code KeepFault.NoMemory = 1
+fault_code KeepFault.Store = 60
+fault_code KeepFault.Closed = 61
+fault_code KeepFault.BadStore = 62
+fault_code KeepFault.OldSchema = 63
+
+abbrev pub store_fault : StoreFault → KeepFault
+store_fault StoreFault.NoMemory = KeepFault.NoMemory
+store_fault StoreFault.Store = KeepFault.Store
+store_fault StoreFault.BadStore = KeepFault.BadStore
+store_fault StoreFault.OldSchema = KeepFault.OldSchema

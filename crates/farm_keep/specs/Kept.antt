@@ -1,0 +1,47 @@
+-- What callers see of a keeper, and what an open one keeps true.
+use Rattle.std.specs.Prelude.{◌≡◌, ⊤, Bool, true, false, refl}
+use Rattle.std.specs.Coded.{Coded, code_by, coded×, coded_bool}
+use Rattle.sqlite_trees.specs.declared.store.Store.{Ghosts}
+use Rattle.sqlite.specs.Held.{Held, held_code, state}
+use Rattle.farm_core.specs.Shown.{Shown}
+use Rattle.farm_core.specs.contracts.farm.Farm as farm
+use Rattle.sqlite.specs.State.{HasCleanDisk}
+use Rattle.farm_types.specs.Farm.{Farm}
+use Rattle.farm_types.specs.Sound.{IsSound}
+use Rattle.farm_types.specs.declared.calls.Answer.{Answer}
+use Rattle.farm_store.specs.Columns.{rows_of}
+use Rattle.farm_store.specs.Holds.{StandsFor, LeavesEither}
+
+pub record Kept (S : Type 0) : Type 0 where
+  pub conn : Held S
+  pub farm : Shown
+  pub is_open : Bool
+
+abbrev pub kept_code : {S : Type 0} → Coded S → Coded (Kept S)
+kept_code {S} store =
+    code_by (Held S × (Shown × Bool)) (coded× (held_code store) (coded× farm.the_row.coded coded_bool))
+    (λ k. (k.conn, (k.farm, k.is_open))) (λ p. record { conn = p.0; farm = p.1.0; is_open = p.1.1 }) (λ _. refl)
+
+-- no transaction is begun, and an open keeper's farm works and is sound
+pub record IsKept {S : Type 0} (conn : Held S) (farm : Shown) (is_open : Bool) : Type 0 where
+  pub autocommit : conn.in_transaction ≡ false
+  pub working : is_open ≡ true → farm.failed ≡ false
+  pub sound : is_open ≡ true → IsSound farm.farm
+
+-- the keeper's store stands for this farm, where its disk has returned what was written
+abbrev pub KeepsFarm : {S : Type 0} → Ghosts S → Kept S → Farm → Type 0
+KeepsFarm g k F = StandsFor (state g k.conn) F
+
+-- and for its own
+abbrev pub Keeps : {S : Type 0} → Ghosts S → Kept S → Type 0
+Keeps g k = KeepsFarm g k k.farm.farm
+
+-- a stop now leaves no more than the rows of these two
+abbrev pub KeepsEither : {S : Type 0} → Ghosts S → Kept S → Farm → Farm → Type 0
+KeepsEither g k F G = HasCleanDisk (state g k.conn) → LeavesEither (state g k.conn) (rows_of F) (rows_of G)
+
+-- a fact for an answer that is no change's
+abbrev pub OnNoChange : Answer → Type 0 → Type 0
+OnNoChange (Answer.Did reply changes) P = ⊤
+OnNoChange (Answer.Kept reply) P = P
+OnNoChange (Answer.Refused refusal) P = P

@@ -1,0 +1,81 @@
+//! Why a keeper gave no answer.
+ghost use Rattle.std.specs.Prelude.{◌≡◌};
+ghost use Rattle.farm_keep.specs.Faults.{fault_code};
+
+use farm_core::farm::{BadRows, StepFault};
+use farm_store::StoreFault;
+use farm_types::refusal::{BAD_STORE, CLOSED, NO_MEMORY, OLD_SCHEMA, STORE};
+use thiserror::Error;
+
+/// Why a keeper gave no answer. The texts are those of the table of refusals.
+#[derive(Clone, Copy, Debug, PartialEq, Eq, Error)]
+pub enum KeepFault {
+    /// There was no memory, and nothing was stored.
+    #[error("no memory")]
+    NoMemory,
+    /// A call of the store was refused: the command is stored, or it isn't.
+    #[error("store fault")]
+    Store,
+    /// An earlier fault closed the keeper.
+    #[error("closed")]
+    Closed,
+    /// The tables are those of no sound farm.
+    #[error("bad store")]
+    BadStore,
+    /// The tables are those of an earlier edition.
+    #[error("old schema")]
+    OldSchema,
+}
+
+impl KeepFault {
+    /// The number that callers are told.
+    pub fn code(self) -> u16
+        ensures { result ≡ fault_code self }
+    {
+        match self {
+            KeepFault::NoMemory => NO_MEMORY,
+            KeepFault::Store => STORE,
+            KeepFault::Closed => CLOSED,
+            KeepFault::BadStore => BAD_STORE,
+            KeepFault::OldSchema => OLD_SCHEMA,
+        }
+    }
+}
+
+impl From<StepFault> for KeepFault {
+    ghost use Rattle.std.specs.Prelude.{◌≡◌};
+    ghost use Rattle.farm_keep.specs.declared.fault.KeepFault.TheVariants.{NoMemory};
+
+    ghost from_gives = { λ _ fault. fault ≡ NoMemory };
+
+    fn from(_: StepFault) -> KeepFault {
+        KeepFault::NoMemory
+    }
+}
+
+impl From<BadRows> for KeepFault {
+    ghost use Rattle.std.specs.Prelude.{◌≡◌};
+    ghost use Rattle.farm_keep.specs.declared.fault.KeepFault.TheVariants.{BadStore};
+
+    ghost from_gives = { λ _ fault. fault ≡ BadStore };
+
+    fn from(_: BadRows) -> KeepFault {
+        KeepFault::BadStore
+    }
+}
+
+impl From<StoreFault> for KeepFault {
+    ghost use Rattle.std.specs.Prelude.{◌≡◌};
+    ghost use Rattle.farm_keep.specs.Faults.{store_fault};
+
+    ghost from_gives = { λ cause fault. fault ≡ store_fault cause };
+
+    fn from(cause: StoreFault) -> KeepFault {
+        match cause {
+            StoreFault::NoMemory => KeepFault::NoMemory,
+            StoreFault::Store => KeepFault::Store,
+            StoreFault::BadStore => KeepFault::BadStore,
+            StoreFault::OldSchema => KeepFault::OldSchema,
+        }
+    }
+}

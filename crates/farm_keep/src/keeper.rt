@@ -1,0 +1,143 @@
+//! A farm and the store that keeps it.
+ghost use Rattle.std.specs.Prelude.{◌≡◌, ◌≢◌, ◌≤◌, ◌↔◌, true, false, Err, OnOk, IfOk, IfErr, MatchOption};
+ghost use Rattle.sqlite.specs.Held.{state};
+ghost use Rattle.sqlite_trees.specs.View.{doubt};
+ghost use Rattle.farm_types.specs.Farm.{empty};
+ghost use Rattle.farm_core.specs.Reached.{IsReached};
+ghost use Rattle.farm_types.specs.Machine.{answer, step};
+ghost use Rattle.farm_types.specs.Sound.{IsSound};
+ghost use Rattle.farm_core.specs.Answers.{shown, IsChange};
+ghost use Rattle.farm_store.specs.Schema.{no_schema};
+ghost use Rattle.farm_keep.specs.Kept.{Keeps, KeepsEither, OnNoChange};
+ghost use Rattle.farm_keep.specs.Headline.{Adopts};
+
+mod run;
+
+use crate::fault::KeepFault;
+use crate::reading::found;
+use farm_core::farm::Farm;
+use farm_store::{create, put};
+use farm_types::calls::{Answer, Call};
+pub use run::RunEnd;
+use sqlite::{Alter, Connection};
+use std::alloc::Global;
+use std::marker::Model;
+
+/// A farm and the store that keeps it. A fault closes the keeper: it keeps its connection, and the
+/// store has to be opened and adopted anew.
+#[derive(Drop)]
+pub struct Keeper<S: Alter> {
+    conn: Connection<S>,
+    farm: Farm,
+    alloc: Global,
+    is_open: bool,
+}
+
+impl<S: Alter> Model for Keeper<S> {
+    ghost use Rattle.farm_keep.specs.Kept.{Kept, kept_code, IsKept};
+
+    ghost Value = { Kept S };
+
+    ghost coded = { kept_code S.code };
+
+    ghost view = { λ k. record { conn = k.conn; farm = k.farm; is_open = k.is_open } };
+
+    ghost invariant = { λ k. IsKept k.conn k.farm k.is_open };
+}
+
+impl<S: Alter + Drop> Keeper<S> {
+    /// A keeper of the empty farm, in a store without tables. What a fault leaves is said of
+    /// `farm_store::create`, which is lent the connection.
+    pub fn fresh(alloc: Global, mut conn: Connection<S>) -> Result<Keeper<S>, KeepFault>
+        requires { conn.in_transaction ≡ false }
+        ensures opened { IfOk result (λ k. (k.is_open ≡ true) × (k.farm.farm ≡ empty)) }
+        ensures keeps { IfOk result (λ k. (state S.Store conn).now.schema ≡ no_schema → Keeps S.Store k) }
+        ensures clean { IfOk result (λ k. doubt (state S.Store conn).is_clean ≤ doubt (state S.Store k.conn).is_clean) }
+        ensures fault { IfErr result (λ fault. fault ≡ KeepFault.Store) }
+    {
+        create(&mut conn)?;
+        Ok(Keeper {
+            conn,
+            farm: Farm::empty(alloc),
+            alloc,
+            is_open: true,
+        })
+    }
+
+    /// A keeper of the farm whose tables the store holds. What a fault leaves, and when it comes, is
+    /// said of `found`, which is lent the connection.
+    pub fn adopt(alloc: Global, mut conn: Connection<S>) -> Result<Keeper<S>, KeepFault>
+        requires { conn.in_transaction ≡ false }
+        ensures adopted { IfOk result (λ k. Adopts S.Store conn k) }
+        ensures fault { result ≢ Err KeepFault.Closed }
+    {
+        let farm = found(alloc, &mut conn)?;
+        Ok(Keeper {
+            conn,
+            farm,
+            alloc,
+            is_open: true,
+        })
+    }
+}
+
+impl<S: Alter> Keeper<S> {
+    /// The farm of an open keeper.
+    pub fn farm(&self) -> Option<&Farm>
+        ensures { MatchOption result (self.now.is_open ≡ false)
+            (λ f. (self.now.is_open ≡ true) × (f.now ≡ self.now.farm) × IsSound self.now.farm.farm) }
+    {
+        if self.is_open { Some(&self.farm) } else { None }
+    }
+
+    /// The connection, as the keeper had it, open or closed.
+    pub fn into_connection(self) -> Connection<S>
+        ensures conn { result ≡ self.conn }
+        ensures autocommit { result.in_transaction ≡ false }
+    {
+        self.conn
+    }
+
+    /// One command, made durable before it is answered. A change costs one transaction over the
+    /// rows that it changed; a kept reply and a refusal ask nothing of the store.
+    pub fn act(&mut self, call: &Call) -> Result<Answer, KeepFault>
+        requires { IsReached call.now.cmd }
+
+        // The answer is the machine's, and so is the farm, which the store then keeps.
+        ensures answer { IfOk result (λ a. shown a ≡ answer self.old.farm.farm call.entry.now) }
+        ensures farm { OnOk result (self.new.farm.farm ≡ step self.old.farm.farm call.entry.now) }
+        ensures opened { OnOk result ((self.old.is_open ≡ true) × (self.new.is_open ≡ true)) }
+        ensures stands { OnOk result (Keeps S.Store self.old → Keeps S.Store self.new) }
+
+        // A kept reply and a refusal leave the very keeper.
+        ensures rests { IfOk result (λ a. OnNoChange a (self.new ≡ self.old)) }
+
+        // Without memory for a change the keeper is closed, and its store is as it was.
+        ensures memory { result ≡ Err KeepFault.NoMemory → (self.new.is_open ≡ false)
+            × (self.new.conn ≡ self.old.conn) × IsChange (answer self.old.farm.farm call.entry.now) }
+
+        // After a fault of the store the keeper is closed, and a stop leaves the old farm or the new one.
+        ensures store { result ≡ Err KeepFault.Store → (self.new.is_open ≡ false)
+            × IsChange (answer self.old.farm.farm call.entry.now)
+            × (Keeps S.Store self.old → KeepsEither S.Store self.new self.old.farm.farm
+            (step self.old.farm.farm call.entry.now)) }
+
+        // A closed keeper stays as it is.
+        ensures closed { (result ≡ Err KeepFault.Closed) ↔ (self.old.is_open ≡ false) }
+        ensures still { result ≡ Err KeepFault.Closed → self.new ≡ self.old }
+        ensures fault { (result ≢ Err KeepFault.BadStore) × (result ≢ Err KeepFault.OldSchema) }
+        ensures clean { doubt (state S.Store self.old.conn).is_clean ≤ doubt (state S.Store self.new.conn).is_clean }
+    {
+        if !self.is_open {
+            return Err(KeepFault::Closed);
+        }
+        // A `?` from here on leaves a closed keeper.
+        self.is_open = false;
+        let answer = self.farm.step(call)?;
+        if let Answer::Did(_, changes) = &answer {
+            put(self.alloc, &mut self.conn, changes)?;
+        }
+        self.is_open = true;
+        Ok(answer)
+    }
+}

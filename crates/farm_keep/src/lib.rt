@@ -1,0 +1,15 @@
+//! The keeper of the board farm: one command, one commit.
+//!
+//! A `Keeper` has a farm and the store that keeps it. A command is answered only after the store
+//! has committed what it changed, so a keeper that is made again from the store finds every command
+//! that was answered. `specs/` says what that means, in the order Kept, Runs, Headline, Restarts.
+#![tactic(auto)]
+
+mod fault;
+mod keeper;
+pub mod laws;
+mod reading;
+
+pub use fault::KeepFault;
+pub use keeper::{Keeper, RunEnd};
+pub use reading::found;

@@ -1,0 +1,50 @@
+//! The farm that a store's tables hold.
+ghost use Rattle.std.specs.Prelude.{◌≡◌, ◌≢◌, ◌≤◌, false, Err, IfOk};
+ghost use Rattle.sqlite.specs.State.{HasCleanDisk};
+ghost use Rattle.sqlite.specs.Held.{state};
+ghost use Rattle.sqlite_trees.specs.View.{doubt};
+ghost use Rattle.farm_types.specs.Farm.{Farm as Plain};
+ghost use Rattle.farm_types.specs.Sound.{IsSound};
+ghost use Rattle.farm_store.specs.Columns.{Tables, rows_of};
+ghost use Rattle.farm_store.specs.Holds.{Stands, LeavesNoMore};
+
+use crate::fault::KeepFault;
+use farm_core::farm::Farm;
+use farm_store::load;
+use sqlite::{Alter, Connection};
+use std::alloc::Global;
+
+/// The farm whose tables the connection shows; `BadStore` where they are those of no sound farm. It
+/// changes nothing. `Keeper::adopt` is this call and a keeper of what it gives: this one lends the
+/// connection, so that its clauses can say what a fault leaves. Each table is read once, in order
+/// of its key, and n rows are tested in O(n log n).
+#[tactic(auto, using(farm_store::proofs::SoundReadable::sound_is_readable))]
+pub fn found<S: Alter>(alloc: Global, conn: &mut Connection<S>) -> Result<Farm, KeepFault>
+    requires { conn.old.in_transaction ≡ false }
+
+    // Whatever comes of it, the tables stay, and a stop leaves no more than before.
+    ensures autocommit { conn.new.in_transaction ≡ false }
+    ensures clean { doubt (state S.Store conn.old).is_clean ≤ doubt (state S.Store conn.new).is_clean }
+    ensures left { HasCleanDisk (state S.Store conn.new)
+        → LeavesNoMore (state S.Store conn.old) (state S.Store conn.new) }
+    ensures stands { HasCleanDisk (state S.Store conn.new) → (T : Tables)
+        → Stands (state S.Store conn.old) T → Stands (state S.Store conn.new) T }
+
+    // The farm works and is sound, and its tables are those that stood there.
+    ensures working { IfOk result (λ f. (f.failed ≡ false) × IsSound f.farm) }
+    ensures rows { HasCleanDisk (state S.Store conn.new) → IfOk result (λ f. (T : Tables)
+        → Stands (state S.Store conn.old) T → rows_of f.farm ≡ T) }
+
+    // Where the tables are those of a sound farm, it is exactly that farm.
+    ensures exact { HasCleanDisk (state S.Store conn.new) → IfOk result (λ f. (F : Plain)
+        → IsSound F → Stands (state S.Store conn.old) (rows_of F) → f.farm ≡ F) }
+    ensures bad { HasCleanDisk (state S.Store conn.new) → result ≡ Err KeepFault.BadStore
+        → (F : Plain) → IsSound F → ¬ Stands (state S.Store conn.old) (rows_of F) }
+    ensures old { HasCleanDisk (state S.Store conn.new) → result ≡ Err KeepFault.OldSchema
+        → (T : Tables) → ¬ Stands (state S.Store conn.old) T }
+    ensures fault { result ≢ Err KeepFault.Closed }
+{
+    let rows = load(alloc, conn)?;
+    let farm = Farm::from_rows(rows)?;
+    Ok(farm)
+}

@@ -1,0 +1,41 @@
+//! Why words give no order.
+use clap::Error as ClapError;
+use clap::error::ErrorKind;
+use std::alloc::{AllocError, Global};
+use thiserror::Error;
+
+/// Why words give no order.
+#[derive(Debug, Drop, Error)]
+pub enum OrderFault {
+    /// Help was asked for: the text to print on the output.
+    #[error("help")]
+    Help(String),
+    /// The words are refused: the text to print beside the output.
+    #[error("words")]
+    Words(String),
+    #[error("no memory")]
+    NoMemory,
+}
+
+impl From<AllocError> for OrderFault {
+    ghost use Rattle.std.specs.Prelude.{◌≡◌};
+    ghost use Rattle.farm_order.specs.declared.fault.OrderFault.TheVariants.{NoMemory};
+
+    ghost from_gives = { λ _ e. e ≡ NoMemory };
+
+    fn from(_e: AllocError) -> OrderFault {
+        OrderFault::NoMemory
+    }
+}
+
+/// The fault that the reader of words found, with its text.
+pub(crate) fn fault_of(alloc: Global, error: &ClapError) -> OrderFault {
+    if error.kind() == ErrorKind::OutOfMemory {
+        return OrderFault::NoMemory;
+    }
+    match error.to_string(alloc) {
+        Ok(text) if error.use_stderr() => OrderFault::Words(text),
+        Ok(text) => OrderFault::Help(text),
+        Err(_) => OrderFault::NoMemory,
+    }
+}

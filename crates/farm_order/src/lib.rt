@@ -1,0 +1,8 @@
+//! The words of the program `farm`, read by `clap`, and the order that they give.
+//!
+//! A crate of its own, since the reader of words is dear to check and its words rarely change.
+#![tactic(auto)]
+
+pub mod fault;
+pub mod order;
+pub mod words;
