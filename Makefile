@@ -10,4 +10,4 @@ test:
 	rt ci
 
 bin:
-	cd crates/farm && rt run < /dev/null > /dev/null 2>&1; mkdir -p ../../bin && cp out/farm ../../bin/farm
+	cd crates/farm && rt run -- --help > /dev/null && mkdir -p ../../bin && cp out/farm ../../bin/farm

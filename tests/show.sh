@@ -4,7 +4,7 @@ set -eu
 farm=$1
 
 show() {
-    echo "$ printf '$1' | farm once --memory --at $2"
+    printf '%s\n' "\$ printf '$1' | farm once --memory --at $2"
     status=0
     printf "$1" | "$farm" once --memory --at "$2" || status=$?
     printf '\n(status %s)\n\n' "$status"
