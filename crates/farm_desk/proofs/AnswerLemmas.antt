@@ -54,14 +54,14 @@ denial_is_due g k why bytes (Err fault) made =
     due_when_short g k k (Err why) bytes fault made.fault_is (record { says = made.bytes_are; stays_open = refl; farm = refl })
 
 -- a view of no rows that are there yet
-pub is_other_view : (view : Ask) (F : Farm) → (view ≡ Ask.Types → ⊥) → (view ≡ Ask.Boards → ⊥) → (view ≡ Ask.Status → ⊥) → (view ≡ Ask.Reservations → ⊥) → IsView view F (refusal NO_ROUTE)
-is_other_view Ask.Types F types boards status reservations = absurd (types refl)
-is_other_view Ask.Boards F types boards status reservations = absurd (boards refl)
-is_other_view Ask.Status F types boards status reservations = absurd (status refl)
-is_other_view Ask.Queue F types boards status reservations = refl
-is_other_view Ask.Reservations F types boards status reservations = absurd (reservations refl)
-is_other_view (Ask.Job number) F types boards status reservations = refl
-is_other_view (Ask.Call call) F types boards status reservations = refl
+pub is_other_view : (view : Ask) (F : Farm) → (view ≡ Ask.Types → ⊥) → (view ≡ Ask.Boards → ⊥) → (view ≡ Ask.Status → ⊥) → (view ≡ Ask.Reservations → ⊥) → ((number : ℕ) → view ≡ Ask.Job number → ⊥) → IsView view F (refusal NO_ROUTE)
+is_other_view Ask.Types F types boards status reservations jobs = absurd (types refl)
+is_other_view Ask.Boards F types boards status reservations jobs = absurd (boards refl)
+is_other_view Ask.Status F types boards status reservations jobs = absurd (status refl)
+is_other_view Ask.Queue F types boards status reservations jobs = refl
+is_other_view Ask.Reservations F types boards status reservations jobs = absurd (reservations refl)
+is_other_view (Ask.Job number) F types boards status reservations jobs = absurd (jobs number refl)
+is_other_view (Ask.Call call) F types boards status reservations jobs = refl
 
 -- ---- calls
 

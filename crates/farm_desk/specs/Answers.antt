@@ -1,14 +1,15 @@
 -- What is answered to what was asked, and what becomes of the keeper.
-use Rattle.std.specs.Prelude.{◌≡◌, ℕ, Bool, true, false, nat_le, List, Result, Ok, Err}
+use Rattle.std.specs.Prelude.{◌≡◌, ℕ, Bool, true, false, nat_le, List, Option, Some, None, Result, Ok, Err}
 use Rattle.sqlite_trees.specs.declared.store.Store.{Ghosts}
-use Rattle.farm_types.specs.Farm.{Farm, status_of}
+use Rattle.farm_types.specs.Farm.{Farm, job_of, status_of}
 use Rattle.farm_types.specs.Machine.{Answered, Changed, Repeated, Denied, answer, step}
 use Rattle.farm_types.specs.Refuse.{kind_of}
 use Rattle.farm_types.specs.declared.calls.Call.{Call}
 use Rattle.farm_types.specs.declared.rows.TypeRow.{TypeRow}
 use Rattle.farm_types.specs.declared.rows.BoardRow.{BoardRow}
 use Rattle.farm_types.specs.declared.rows.ResRow.{ResRow}
-use Rattle.farm_types.specs.declared.refusal.TheConstants.{NO_ROUTE}
+use Rattle.farm_types.specs.declared.rows.JobRow.{JobRow}
+use Rattle.farm_types.specs.declared.refusal.TheConstants.{NO_JOB, NO_ROUTE}
 use Rattle.farm_keep.specs.Kept.{Kept, Keeps}
 use Rattle.farm_wire.specs.Reading.{Denial, refused, other_methods}
 use Rattle.farm_wire.specs.Replies.{reply_bytes, status_or}
@@ -50,12 +51,19 @@ abbrev pub ListsReservations : List ResRow → Out → Type 0
 ListsReservations rows (Out.Reservations lent) = lent.now ≡ rows
 ListsReservations rows out = ⊥
 
+-- the answer shows the job, or says that there is none
+abbrev pub ShowsJob : Option JobRow → Out → Type 0
+ShowsJob (Some job) (Out.Job lent) = lent.now ≡ job
+ShowsJob (Some job) out = ⊥
+ShowsJob None out = out ≡ refusal NO_JOB
+
 -- the answer shows what the view asks for, of that farm
 abbrev pub IsView : Ask → Farm → Out → Type 0
 IsView Ask.Types F out = ListsTypes F.types out
 IsView Ask.Boards F out = ListsBoards F.boards out
 IsView Ask.Reservations F out = ListsReservations F.reservations out
 IsView Ask.Status F out = out ≡ Out.Status (status_of F)
+IsView (Ask.Job number) F out = ShowsJob (job_of F number) out
 IsView view F out = out ≡ refusal NO_ROUTE
 
 -- its HTTP status

@@ -1,10 +1,11 @@
 //! Answering what was asked.
-ghost use Rattle.std.specs.Prelude.{◌≡◌, ◌≤◌, Ok};
+ghost use Rattle.std.specs.Prelude.{◌≡◌, ◌≤◌, false, Ok};
 ghost use Rattle.sqlite.specs.Held.{state};
 ghost use Rattle.sqlite_trees.specs.View.{doubt};
 ghost use Rattle.farm_core.specs.Answers.{shown as told};
+ghost use Rattle.farm_types.specs.Farm.{job_of};
 ghost use Rattle.farm_types.specs.Refuse.{kind_of};
-ghost use Rattle.farm_desk.specs.Answers.{replied, IsView, IsLook};
+ghost use Rattle.farm_desk.specs.Answers.{replied, IsView, IsLook, ShowsJob};
 ghost use Rattle.farm_desk.specs.Due.{IsDueTo};
 ghost use Rattle.farm_desk.specs.Made.{IsMadeOfOne, bytes_in};
 ghost use Rattle.farm_wire.specs.declared.ask.Ask.{Ask as Asking};
@@ -13,7 +14,7 @@ use crate::due::Due;
 use farm_core::farm::Farm;
 use farm_keep::{KeepFault, Keeper};
 use farm_types::calls::{Answer, Call};
-use farm_types::refusal::{NO_ROUTE, Refusal};
+use farm_types::refusal::{NO_JOB, NO_ROUTE, Refusal};
 use farm_wire::ask::Ask;
 use farm_wire::out::Out;
 use sqlite::Alter;
@@ -70,6 +71,7 @@ fn due_to_view<S: Alter>(alloc: Global, keeper: &Keeper<S>, view: &Ask) -> Due
 
 /// What a view shows of a farm.
 fn show(alloc: Global, farm: &Farm, view: &Ask) -> Due
+    requires { farm.now.failed ≡ false }
     ensures { IsMadeOfOne (IsView view.now farm.now.farm) (bytes_in result.bytes) result.end }
 {
     match view {
@@ -77,6 +79,18 @@ fn show(alloc: Global, farm: &Farm, view: &Ask) -> Due
         Ask::Boards => Due::of(alloc, &Out::Boards(farm.boards())),
         Ask::Status => Due::of(alloc, &Out::Status(farm.status())),
         Ask::Reservations => Due::of(alloc, &Out::Reservations(farm.reservations())),
+        Ask::Job(number) => show_job(alloc, farm, *number),
         _ => Due::of(alloc, &Out::Refused(Refusal { code: NO_ROUTE })),
+    }
+}
+
+/// What the view of one job shows.
+fn show_job(alloc: Global, farm: &Farm, number: u64) -> Due
+    requires { farm.now.failed ≡ false }
+    ensures { IsMadeOfOne (ShowsJob (job_of farm.now.farm number)) (bytes_in result.bytes) result.end }
+{
+    match farm.job(number) {
+        Some(row) => Due::of(alloc, &Out::Job(row)),
+        None => Due::of(alloc, &Out::Refused(Refusal { code: NO_JOB })),
     }
 }

@@ -85,7 +85,7 @@ impl<S: Alter> Keeper<S> {
     /// The farm of an open keeper.
     pub fn farm(&self) -> Option<&Farm>
         ensures { MatchOption result (self.now.is_open ≡ false)
-            (λ f. (self.now.is_open ≡ true) × (f.now ≡ self.now.farm) × IsSound self.now.farm.farm) }
+            (λ f. (self.now.is_open ≡ true) × (f.now ≡ self.now.farm) × (f.now.failed ≡ false) × IsSound self.now.farm.farm) }
     {
         if self.is_open { Some(&self.farm) } else { None }
     }

@@ -1,5 +1,5 @@
 -- Each view's answer, with the rows that it lends.
-use Rattle.std.proofs.Common.{◌≡◌, refl}
+use Rattle.std.proofs.Common.{◌≡◌, refl, sym, subst}
 use Rattle.farm_types.specs.Farm.{Farm}
 use Rattle.farm_types.specs.declared.refusal.TheConstants.{NO_ROUTE}
 use Rattle.farm_wire.specs.declared.ask.Ask.{Ask}
@@ -22,4 +22,8 @@ returns-in-Reservations c = (Out.Reservations c.reservations.result, rw c.in-Res
 
 pub returns-in_default : goal.returns-in_default
 returns-in_default c =
-    (refusal NO_ROUTE, is_other_view c.args.view.now c.args.farm.now.farm c.in_default.not-Types c.in_default.not-Boards c.in_default.not-Status c.in_default.not-Reservations, c.of-in_default.ensures)
+    (refusal NO_ROUTE, is_other_view c.args.view.now c.args.farm.now.farm c.in_default.not-Types c.in_default.not-Boards c.in_default.not-Status c.in_default.not-Reservations c.in_default.not-Job, c.of-in_default.ensures)
+
+pub returns-in-Job : goal.returns-in-Job
+returns-in-Job c =
+    (c.show_job.ensures.0, subst (λ view. IsView view c.args.farm.now.farm c.show_job.ensures.0) (sym c.in-Job.is) c.show_job.ensures.1, c.show_job.ensures.2)
