@@ -9,3 +9,6 @@ pub mod JobLemmas
 pub mod AcceptedCalls
 pub mod Members
 pub mod OneWant
+pub mod Serving
+pub mod Passing
+pub mod Checking

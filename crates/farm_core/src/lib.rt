@@ -3,8 +3,11 @@
 
 mod boards;
 mod change;
+mod checks;
 mod edit;
+mod expire;
 pub mod farm;
+mod give;
 mod held;
 mod held_edits;
 mod job_edit;
@@ -14,6 +17,7 @@ mod refusal;
 mod res_edit;
 mod reservations;
 mod reserve;
+mod serve;
 mod submit;
 mod tables;
 #[cfg(test)]
