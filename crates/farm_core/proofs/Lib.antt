@@ -12,3 +12,4 @@ pub mod OneWant
 pub mod Serving
 pub mod Passing
 pub mod Checking
+pub mod Whole

@@ -13,6 +13,7 @@ mod held_edits;
 mod job_edit;
 mod jobs;
 mod kept;
+mod pass;
 mod refusal;
 mod res_edit;
 mod reservations;

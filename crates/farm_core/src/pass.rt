@@ -18,10 +18,10 @@ use std::alloc::AllocError;
 impl Tables {
     /// The claims that wait, in the order in which they are served.
     pub fn queue(&self) -> Result<Vec<Claim>, AllocError>
-        requires { IsSound (plain self.now) }
-        ensures { IfOk result (λ claims. claims.items ≡ map shown_claim (queue (plain self.now))) }
+        ensures { IfOk result (λ claims. IsSound (plain self.now) → claims.items ≡ map shown_claim (queue (plain self.now))) }
     {
-        farm_pick::queue_of(*self.jobs.allocator(), &self.jobs, &self.reservations)
+        let claims = farm_pick::queue_of(*self.jobs.allocator(), &self.jobs, &self.reservations)?;
+        Ok(claims)
     }
 
     /// A pass: leases that have come to their ends are over, each due board is checked while there
