@@ -13,3 +13,4 @@ pub mod Serving
 pub mod Passing
 pub mod Checking
 pub mod Whole
+pub mod BoardWindow

@@ -1,14 +1,15 @@
 //! Boards are given to jobs and reservations.
 ghost use Rattle.std.specs.Prelude.{◌≡◌, ◌≤◌, OnOk};
 ghost use Rattle.std.specs.List.{AllByRecursion, fold, zip};
+ghost use Rattle.std.specs.List.Sorted.{IsStrictlySortedBy};
 ghost use Rattle.std.specs.Str.{bytes_eq};
-ghost use Rattle.farm_types.specs.Table.{change_where};
+ghost use Rattle.farm_types.specs.Table.{board_cmp, change_where};
 ghost use Rattle.farm_types.specs.Farm.{Farm};
 ghost use Rattle.farm_types.specs.Pass.{held};
 ghost use Rattle.farm_types.specs.Small.{IsSmall, held_by};
 ghost use Rattle.farm_types.specs.declared.rows.State.{State};
 ghost use Rattle.farm_core.specs.Plain.{plain};
-ghost use Rattle.farm_core.specs.Orderly.{IsOrderly};
+ghost use Rattle.farm_core.specs.Orderly.{IsOrderly, IsWindow};
 ghost use Rattle.farm_core.specs.Serving.{give_named, give_first};
 ghost use Rattle.farm_core.specs.Tracks.{Tracks};
 
@@ -18,13 +19,25 @@ use crate::job_edit::JobEdit;
 use crate::res_edit::ResEdit;
 use crate::reservations::LEASE_SECONDS;
 use crate::tables::Tables;
+use farm_sound::seek;
 use farm_types::calls::Changes;
-use farm_types::rows::Holder;
+use farm_types::rows::{BoardRow, Holder};
 use farm_types::words::Name;
 use std::alloc::AllocError;
 
+/// From where to where the board of a name stands, by binary search: one place, or none.
+fn window_of(boards: &[BoardRow], name: &Name) -> (usize, usize)
+    requires { IsStrictlySortedBy board_cmp boards.now }
+    ensures { IsWindow (λ b. bytes_eq b.name name.now) boards.now result.0 result.1 }
+{
+    match seek::board_at(boards, name) {
+        Ok(at) => (at, at + 1),
+        Err(_) => (0, 0),
+    }
+}
+
 impl Tables {
-    /// The board of that name is reserved for a holder.
+    /// The board of that name is reserved for a holder. With B boards it costs O(log B).
     pub fn hold_board(
         &mut self,
         changes: &mut Changes,
@@ -38,9 +51,9 @@ impl Tables {
         ensures tracked { OnOk result ((F : Farm) → Tracks F changes.old (plain self.old)
             → Tracks F changes.new (plain self.new)) }
     {
-        let end = self.boards.len();
+        let (start, end) = window_of(&self.boards, name);
         let hold = Hold { name, holder };
-        change_rows(&mut self.boards, &mut changes.boards, 0, end, &hold)?;
+        change_rows(&mut self.boards, &mut changes.boards, start, end, &hold)?;
         Ok(())
     }
 
