@@ -22,12 +22,14 @@ keeps_number (JobEdit.Start group) j = refl
 keeps_number (JobEdit.End group) j = refl
 keeps_number (JobEdit.Cancel group) j = refl
 keeps_number (JobEdit.Finish number outcome) j = refl
+keeps_number (JobEdit.Schedule number board) j = refl
 
 keeps_group : (e : JobEdit) (j : JobRow) → (job_changed e j).group ≡ j.group
 keeps_group (JobEdit.Start group) j = refl
 keeps_group (JobEdit.End group) j = refl
 keeps_group (JobEdit.Cancel group) j = refl
 keeps_group (JobEdit.Finish number outcome) j = refl
+keeps_group (JobEdit.Schedule number board) j = refl
 
 pub keeps_job : (e : JobEdit) → KeepsJob (job_changed e)
 keeps_job e = record { number = keeps_number e; group = keeps_group e }
@@ -38,6 +40,7 @@ keeps_res (ResEdit.Release number deadline) r = refl
 keeps_res (ResEdit.Refresh number deadline) r = refl
 keeps_res (ResEdit.Cancel number) r = refl
 keeps_res (ResEdit.Expire now) r = refl
+keeps_res (ResEdit.Allocate number board deadline) r = refl
 
 graded_by : (P : BoardRow → Type 0) (h : Health) (b : BoardRow) → P b → P (record b { health = h }) → P (graded h b)
 graded_by P h b same other = by _

@@ -9,3 +9,8 @@ pub mod JobLemmas
 pub mod AcceptedCalls
 pub mod Members
 pub mod OneWant
+pub mod Serving
+pub mod Passing
+pub mod Checking
+pub mod Whole
+pub mod BoardWindow

@@ -2,7 +2,7 @@
 use Rattle.std.specs.Prelude.{ℕ, ◌==◌, ◌&&◌, Bool, true, false, List, [], Some, if◌then◌else◌}
 use Rattle.std.specs.Option.{option_map_or}
 use Rattle.farm_types.specs.Codes.{same_job_state}
-use Rattle.farm_types.specs.Pass.{idle, is_dead}
+use Rattle.farm_types.specs.Pass.{idle, is_dead, scheduled}
 use Rattle.farm_types.specs.Change.{in_state, is_unstarted, after_check, after_job}
 use Rattle.farm_types.specs.Small.{IsSmall}
 use Rattle.farm_sound.specs.Place.{job_in, res_in}
@@ -23,12 +23,14 @@ job_passes (JobEdit.Start group) j = j.group == group
 job_passes (JobEdit.End group) j = (j.group == group) && is_unstarted j
 job_passes (JobEdit.Cancel group) j = (j.group == group) && same_job_state j.state JobState.Running
 job_passes (JobEdit.Finish number outcome) j = j.number == number
+job_passes (JobEdit.Schedule number board) j = j.number == number
 
 abbrev pub job_changed : JobEdit → JobRow → JobRow
 job_changed (JobEdit.Start group) j = record j { state = JobState.Running }
 job_changed (JobEdit.End group) j = record j { state = JobState.Finished; outcome = Some Outcome.Canceled }
 job_changed (JobEdit.Cancel group) j = record j { state = JobState.Canceling }
 job_changed (JobEdit.Finish number outcome) j = record j { state = JobState.Finished; outcome = Some outcome }
+job_changed (JobEdit.Schedule number board) j = scheduled board.now j
 
 -- the least number of a job that passes; the others are among the next three
 abbrev pub first_of : JobEdit → ℕ
@@ -36,6 +38,7 @@ first_of (JobEdit.Start group) = group
 first_of (JobEdit.End group) = group
 first_of (JobEdit.Cancel group) = group
 first_of (JobEdit.Finish number outcome) = number
+first_of (JobEdit.Schedule number board) = number
 
 -- which reservations change, and to what
 abbrev pub res_passes : ResEdit → ResRow → Bool
@@ -44,6 +47,7 @@ res_passes (ResEdit.Release number deadline) r = r.number == number
 res_passes (ResEdit.Refresh number deadline) r = r.number == number
 res_passes (ResEdit.Cancel number) r = r.number == number
 res_passes (ResEdit.Expire now) r = is_dead now r
+res_passes (ResEdit.Allocate number board deadline) r = r.number == number
 
 abbrev pub res_changed : ResEdit → ResRow → ResRow
 res_changed (ResEdit.Acquire number) r = record r { state = ResState.Acquired }
@@ -51,6 +55,7 @@ res_changed (ResEdit.Release number deadline) r = record r { state = ResState.Al
 res_changed (ResEdit.Refresh number deadline) r = record r { deadline = deadline }
 res_changed (ResEdit.Cancel number) r = record r { state = ResState.Canceled }
 res_changed (ResEdit.Expire now) r = record r { state = ResState.Expired }
+res_changed (ResEdit.Allocate number board deadline) r = record r { state = ResState.Allocated; board = Some board.now; deadline = deadline }
 
 -- what becomes of a board
 abbrev pub board_after : Becomes → BoardRow → BoardRow

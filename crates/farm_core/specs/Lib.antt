@@ -3,5 +3,6 @@ pub mod Orderly
 pub mod Tracks
 pub mod Edits
 pub mod Reached
+pub mod Serving
 pub mod Shown
 pub mod Answers

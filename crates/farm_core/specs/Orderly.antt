@@ -1,5 +1,5 @@
 -- What the commands rely on in a sound farm, and keep at each step on their way.
-use Rattle.std.specs.Prelude.{ℕ, ◌≤◌, ◌<◌, ◌+◌, List, length, get_or}
+use Rattle.std.specs.Prelude.{◌≡◌, ℕ, ◌≤◌, ◌<◌, ◌+◌, Bool, false, List, length, get_or}
 use Rattle.std.specs.List.{AllByRecursion}
 use Rattle.std.specs.List.Sorted.{IsStrictlySortedBy}
 use Rattle.farm_types.specs.Table.{type_cmp, board_cmp, job_cmp, res_cmp, kept_cmp}
@@ -28,3 +28,10 @@ pub record IsOrderly (F : Farm) : Type 0 where
 pub record IsPlaceOf {R : Type 0} (number_of : R → ℕ) (rows : List R) (number place : ℕ) : Type 0 where
   pub below : (k : ℕ) (d : R) → k < place → number_of (get_or rows k d) < number
   pub above : (k : ℕ) (d : R) → place ≤ k → k < length rows → number ≤ number_of (get_or rows k d)
+
+-- no row before the first place, and none from the second on, passes a test
+pub record IsWindow {R : Type 0} (test : R → Bool) (rows : List R) (start end : ℕ) : Type 0 where
+  pub rises : start ≤ end
+  pub within : end ≤ length rows
+  pub before : (k : ℕ) (d : R) → k < start → test (get_or rows k d) ≡ false
+  pub behind : (k : ℕ) (d : R) → end ≤ k → k < length rows → test (get_or rows k d) ≡ false

@@ -6,7 +6,7 @@ ghost use Rattle.farm_types.specs.Change.{act, keep, change};
 ghost use Rattle.farm_types.specs.Sound.{IsSound};
 ghost use Rattle.farm_core.specs.Plain.{plain};
 ghost use Rattle.farm_core.specs.Orderly.{IsOrderly};
-ghost use Rattle.farm_core.specs.Reached.{IsReached, IsSmallCmd};
+ghost use Rattle.farm_core.specs.Reached.{IsSmallCmd};
 ghost use Rattle.farm_core.specs.Tracks.{Tracks, AreSmallRows, IsSmallReply};
 
 use crate::tables::{Tables, no_changes};
@@ -17,8 +17,8 @@ use std::alloc::AllocError;
 impl Tables {
     /// What the command does.
     fn act(&mut self, changes: &mut Changes, call: &Call) -> Result<Reply, AllocError>
+        requires sound { IsSound (plain self.old) }
         requires orderly { IsOrderly (plain self.old) }
-        requires reached { IsReached call.now.cmd }
         requires small { IsSmallCmd call.now.cmd }
         requires clock { (plain self.old).clock ≤ 250000000000 }
         requires next { (plain self.old).next ≤ 1000000000 }
@@ -46,7 +46,7 @@ impl Tables {
             Cmd::Release(number) => self.release(changes, *number)?,
             Cmd::Refresh(number) => self.refresh(changes, *number)?,
             Cmd::CancelRes(number) => self.cancel_reservation(changes, *number)?,
-            _ => unreachable!(),
+            Cmd::Pass => return Ok(self.pass(changes)?),
         };
         Ok(Reply(number, 0, 0))
     }
@@ -79,18 +79,18 @@ impl Tables {
     pub fn change(&mut self, call: &Call) -> Result<(Reply, Changes), AllocError>
         requires sound { IsSound (plain self.old) }
         requires accepted { None ≡ refusal (plain self.old) call.now }
-        requires reached { IsReached call.now.cmd }
         ensures farm { OnOk result (plain self.new ≡ (change (plain self.old) call.entry.now).farm) }
         ensures reply { IfOk result (λ r. r.0 ≡ (change (plain self.old) call.entry.now).reply) }
         ensures rows { IfOk result (λ r. put_rows (plain self.old) r.1 ≡ plain self.new) }
         ensures small { IfOk result (λ r. AreSmallRows r.1) }
         ensures meta { IfOk result (λ r. r.1.meta ≡ record { clock = self.new.clock; count = self.new.count; next = self.new.next }) }
     {
+        let count = self.count + 1;
         self.clock = self.clock.max(call.now);
         let mut changes = no_changes(*self.types.allocator());
         let reply = self.act(&mut changes, call)?;
         self.keep(&mut changes, call, reply)?;
-        self.count += 1;
+        self.count = count;
         changes.meta = MetaRow {
             clock: self.clock,
             count: self.count,

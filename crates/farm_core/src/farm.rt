@@ -1,17 +1,17 @@
 //! The farm.
-ghost use Rattle.std.specs.Prelude.{◌≡◌, ◌≤◌, ◌↔◌, true, false, Err, IsOk, IfOk, OnOk};
+ghost use Rattle.std.specs.Prelude.{◌≡◌, ◌≤◌, ◌↔◌, true, false, map, Err, IsOk, IfOk, OnOk};
 ghost use Rattle.std.specs.Option.{option_copied};
 ghost use Rattle.farm_types.specs.Farm.{empty, farm_of, job_of, status_of};
 ghost use Rattle.farm_types.specs.Machine.{answer, step};
+ghost use Rattle.farm_types.specs.Pick.{queue, shown_claim};
 ghost use Rattle.farm_types.specs.Sound.{IsSound};
-ghost use Rattle.farm_core.specs.Reached.{IsReached};
 ghost use Rattle.farm_core.specs.Answers.{shown, Leads, Rests, AreSmallChanges, IsChange};
 
 use crate::kept::Kept;
 use crate::tables::Tables;
 use farm_sound::sound::is_sound;
 use farm_types::calls::{Answer, Call, Rows};
-use farm_types::claims::Status;
+use farm_types::claims::{Claim, Status};
 use farm_types::refusal::Refusal;
 use farm_types::rows::{BoardRow, JobRow, ResRow, TypeRow};
 use std::alloc::{AllocError, Global};
@@ -166,10 +166,17 @@ impl Farm {
         }
     }
 
+    /// The claims that wait, in the order in which they are served. What a failed farm shows is open.
+    /// With J jobs, R reservations and C claims it costs O(J + R + C log C).
+    pub fn queue(&self) -> Result<Vec<Claim>, AllocError>
+        ensures { IfOk result (λ claims. self.now.failed ≡ false → claims.items ≡ map shown_claim (queue self.now.farm)) }
+    {
+        let claims = self.tables.queue()?;
+        Ok(claims)
+    }
+
     /// One step of the machine: the answer, and where the command is accepted the changed rows.
     pub fn step(&mut self, call: &Call) -> Result<Answer, StepFault>
-        requires { IsReached call.now.cmd }
-
         // The answer is the machine's, and so is the farm.
         ensures answer { IfOk result (λ a. shown a ≡ answer self.old.farm call.entry.now) }
         ensures farm { OnOk result (self.new.farm ≡ step self.old.farm call.entry.now) }

@@ -10,6 +10,7 @@ use crate::job_edit::JobEdit;
 use crate::res_edit::ResEdit;
 use farm_sound::seek;
 use farm_types::rows::{BoardRow, Health, Holder, JobRow, Outcome, ResRow, State};
+use farm_types::words::Name;
 use std::alloc::AllocError;
 
 /// The most jobs since a check that a board counts.
@@ -100,7 +101,7 @@ impl Becomes {
 #[derive(Drop)]
 pub struct OfJobs<'a> {
     pub jobs: &'a [JobRow],
-    pub edit: JobEdit,
+    pub edit: JobEdit<'a>,
     pub becomes: Becomes,
     ghost sorted: { IsStrictlySortedBy job_cmp jobs.now } by { Prim.hlevel props },
 }
@@ -132,7 +133,7 @@ impl Edit<BoardRow> for OfJobs<'_> {
 #[derive(Drop)]
 pub struct OfReservations<'a> {
     pub reservations: &'a [ResRow],
-    pub edit: ResEdit,
+    pub edit: ResEdit<'a>,
     pub becomes: Becomes,
     ghost sorted: { IsStrictlySortedBy res_cmp reservations.now } by { Prim.hlevel props },
 }
@@ -156,6 +157,33 @@ impl Edit<BoardRow> for OfReservations<'_> {
 
     fn change(&self, row: &mut BoardRow) -> Result<(), AllocError> {
         self.becomes.change(row);
+        Ok(())
+    }
+}
+
+/// The board of a name is reserved for a holder.
+#[derive(Drop)]
+pub struct Hold<'a> {
+    pub name: &'a Name,
+    pub holder: Holder,
+}
+
+impl Edit<BoardRow> for Hold<'_> {
+    ghost use Rattle.std.specs.Str.{bytes_eq};
+    ghost use Rattle.farm_types.specs.Pass.{held};
+    ghost use Rattle.farm_types.specs.declared.rows.State.{State};
+
+    ghost passes = { λ e b. bytes_eq b.name e.name.now };
+
+    ghost changed = { λ e. held e.holder State.Reserved };
+
+    fn passes(&self, row: &BoardRow) -> bool {
+        row.name.is(self.name)
+    }
+
+    fn change(&self, row: &mut BoardRow) -> Result<(), AllocError> {
+        row.holder = self.holder;
+        row.state = State::Reserved;
         Ok(())
     }
 }

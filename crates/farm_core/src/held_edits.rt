@@ -50,10 +50,10 @@ fn res_place_of(reservations: &[ResRow], number: u64) -> usize
 
 impl Tables {
     /// Changes the jobs that pass. Only the rows of the edit's four numbers are looked at.
-    pub fn edit_jobs(&mut self, changes: &mut Changes, edit: JobEdit) -> Result<(), AllocError>
+    pub fn edit_jobs(&mut self, changes: &mut Changes, edit: JobEdit<'_>) -> Result<(), AllocError>
         requires orderly { IsOrderly (plain self.old) }
         requires small { IsSmall (first_of edit) }
-        ensures farm { OnOk result (plain self.new ≡ record (plain self.old) { jobs = change_where (job_passes edit) (job_changed edit) (plain self.old).jobs }) }
+        ensures farm { OnOk result (plain self.new ≡ record (plain self.old) { jobs = change_where (job_passes edit.entry) (job_changed edit.entry) (plain self.old).jobs }) }
         ensures orderly { OnOk result (IsOrderly (plain self.new)) }
         ensures tracked { OnOk result ((F : Farm) → Tracks F changes.old (plain self.old)
             → Tracks F changes.new (plain self.new)) }
@@ -68,12 +68,12 @@ impl Tables {
     fn edit_boards_of_jobs(
         &mut self,
         changes: &mut Changes,
-        edit: JobEdit,
+        edit: JobEdit<'_>,
         becomes: Becomes,
     ) -> Result<(), AllocError>
         requires orderly { IsOrderly (plain self.old) }
         requires small { IfAfterCheck becomes }
-        ensures farm { OnOk result (plain self.new ≡ record (plain self.old) { boards = change_where (λ b. is_job_in (plain self.old).jobs (job_passes edit) b.holder) (board_after becomes) (plain self.old).boards }) }
+        ensures farm { OnOk result (plain self.new ≡ record (plain self.old) { boards = change_where (λ b. is_job_in (plain self.old).jobs (job_passes edit.entry) b.holder) (board_after becomes) (plain self.old).boards }) }
         ensures orderly { OnOk result (IsOrderly (plain self.new)) }
         ensures tracked { OnOk result ((F : Farm) → Tracks F changes.old (plain self.old)
             → Tracks F changes.new (plain self.new)) }
@@ -92,13 +92,13 @@ impl Tables {
     pub fn edit_jobs_and_boards(
         &mut self,
         changes: &mut Changes,
-        edit: JobEdit,
+        edit: JobEdit<'_>,
         becomes: Becomes,
     ) -> Result<(), AllocError>
         requires orderly { IsOrderly (plain self.old) }
         requires first { IsSmall (first_of edit) }
         requires small { IfAfterCheck becomes }
-        ensures farm { OnOk result (plain self.new ≡ change_jobs (job_passes edit) (job_changed edit) (board_after becomes) (plain self.old)) }
+        ensures farm { OnOk result (plain self.new ≡ change_jobs (job_passes edit.entry) (job_changed edit.entry) (board_after becomes) (plain self.old)) }
         ensures orderly { OnOk result (IsOrderly (plain self.new)) }
         ensures tracked { OnOk result ((F : Farm) → Tracks F changes.old (plain self.old)
             → Tracks F changes.new (plain self.new)) }
@@ -110,10 +110,10 @@ impl Tables {
     }
 
     /// Changes the reservations that pass, all from `start` to `end`.
-    fn edit_reservations(
+    pub fn edit_reservations(
         &mut self,
         changes: &mut Changes,
-        edit: ResEdit,
+        edit: ResEdit<'_>,
         start: usize,
         end: usize,
     ) -> Result<(), AllocError>
@@ -123,7 +123,7 @@ impl Tables {
         requires end { end ≤ length (plain self.old).reservations }
         requires before { (k : ℕ) (d : ResRow) → k < start → res_passes edit (get_or (plain self.old).reservations k d) ≡ false }
         requires behind { (k : ℕ) (d : ResRow) → end ≤ k → k < length (plain self.old).reservations → res_passes edit (get_or (plain self.old).reservations k d) ≡ false }
-        ensures farm { OnOk result (plain self.new ≡ record (plain self.old) { reservations = change_where (res_passes edit) (res_changed edit) (plain self.old).reservations }) }
+        ensures farm { OnOk result (plain self.new ≡ record (plain self.old) { reservations = change_where (res_passes edit.entry) (res_changed edit.entry) (plain self.old).reservations }) }
         ensures orderly { OnOk result (IsOrderly (plain self.new)) }
         ensures tracked { OnOk result ((F : Farm) → Tracks F changes.old (plain self.old)
             → Tracks F changes.new (plain self.new)) }
@@ -139,15 +139,15 @@ impl Tables {
     }
 
     /// Changes the boards that the reservations hold that pass. Each board is looked at, in name order.
-    fn edit_boards_of_reservations(
+    pub fn edit_boards_of_reservations(
         &mut self,
         changes: &mut Changes,
-        edit: ResEdit,
+        edit: ResEdit<'_>,
         becomes: Becomes,
     ) -> Result<(), AllocError>
         requires orderly { IsOrderly (plain self.old) }
         requires small { IfAfterCheck becomes }
-        ensures farm { OnOk result (plain self.new ≡ record (plain self.old) { boards = change_where (λ b. is_res_in (plain self.old).reservations (res_passes edit) b.holder) (board_after becomes) (plain self.old).boards }) }
+        ensures farm { OnOk result (plain self.new ≡ record (plain self.old) { boards = change_where (λ b. is_res_in (plain self.old).reservations (res_passes edit.entry) b.holder) (board_after becomes) (plain self.old).boards }) }
         ensures orderly { OnOk result (IsOrderly (plain self.new)) }
         ensures tracked { OnOk result ((F : Farm) → Tracks F changes.old (plain self.old)
             → Tracks F changes.new (plain self.new)) }
@@ -167,13 +167,13 @@ impl Tables {
         &mut self,
         changes: &mut Changes,
         number: u64,
-        edit: ResEdit,
+        edit: ResEdit<'_>,
     ) -> Result<(), AllocError>
         requires orderly { IsOrderly (plain self.old) }
         requires number { IsSmall number }
         requires one { (r : ResRow) → res_passes edit r ≡ (r.number == number) }
         requires small { (r : ResRow) → IsSmallRes r → IsSmallRes (res_changed edit r) }
-        ensures farm { OnOk result (plain self.new ≡ record (plain self.old) { reservations = change_where (res_passes edit) (res_changed edit) (plain self.old).reservations }) }
+        ensures farm { OnOk result (plain self.new ≡ record (plain self.old) { reservations = change_where (res_passes edit.entry) (res_changed edit.entry) (plain self.old).reservations }) }
         ensures orderly { OnOk result (IsOrderly (plain self.new)) }
         ensures tracked { OnOk result ((F : Farm) → Tracks F changes.old (plain self.old)
             → Tracks F changes.new (plain self.new)) }
@@ -188,7 +188,7 @@ impl Tables {
         &mut self,
         changes: &mut Changes,
         number: u64,
-        edit: ResEdit,
+        edit: ResEdit<'_>,
         becomes: Becomes,
     ) -> Result<(), AllocError>
         requires orderly { IsOrderly (plain self.old) }
@@ -196,7 +196,7 @@ impl Tables {
         requires one { (r : ResRow) → res_passes edit r ≡ (r.number == number) }
         requires small { (r : ResRow) → IsSmallRes r → IsSmallRes (res_changed edit r) }
         requires board { IfAfterCheck becomes }
-        ensures farm { OnOk result (plain self.new ≡ change_res (res_passes edit) (res_changed edit) (board_after becomes) (plain self.old)) }
+        ensures farm { OnOk result (plain self.new ≡ change_res (res_passes edit.entry) (res_changed edit.entry) (board_after becomes) (plain self.old)) }
         ensures orderly { OnOk result (IsOrderly (plain self.new)) }
         ensures tracked { OnOk result ((F : Farm) → Tracks F changes.old (plain self.old)
             → Tracks F changes.new (plain self.new)) }

@@ -4,11 +4,12 @@ ghost use Rattle.farm_types.specs.Change.{is_unstarted};
 
 use crate::edit::Edit;
 use farm_types::rows::{JobRow, JobState, Outcome};
+use farm_types::words::Name;
 use std::alloc::AllocError;
 
 /// A change of jobs: of members of a group, or of one job by its number.
-#[derive(Clone, Copy, Debug, PartialEq, Eq)]
-pub enum JobEdit {
+#[derive(Clone, Copy, Debug)]
+pub enum JobEdit<'a> {
     /// The members of the group run.
     Start(u64),
     /// The Submitted and Scheduled members of the group end as canceled.
@@ -17,9 +18,11 @@ pub enum JobEdit {
     Cancel(u64),
     /// The job ends.
     Finish(u64, Outcome),
+    /// The job is given the board of that name.
+    Schedule(u64, &'a Name),
 }
 
-impl JobEdit {
+impl JobEdit<'_> {
     ghost use Rattle.std.specs.Prelude.{◌≡◌};
     ghost use Rattle.farm_core.specs.Edits.{first_of};
 
@@ -32,6 +35,7 @@ impl JobEdit {
             JobEdit::End(group) => group,
             JobEdit::Cancel(group) => group,
             JobEdit::Finish(number, _) => number,
+            JobEdit::Schedule(number, _) => number,
         }
     }
 }
@@ -43,7 +47,7 @@ fn is_unstarted(row: &JobRow) -> bool
     matches!(row.state, JobState::Submitted | JobState::Scheduled)
 }
 
-impl Edit<JobRow> for JobEdit {
+impl Edit<JobRow> for JobEdit<'_> {
     ghost use Rattle.farm_core.specs.Edits.{job_passes, job_changed};
 
     ghost passes = { job_passes };
@@ -56,6 +60,7 @@ impl Edit<JobRow> for JobEdit {
             JobEdit::End(group) => row.group == group && is_unstarted(row),
             JobEdit::Cancel(group) => row.group == group && matches!(row.state, JobState::Running),
             JobEdit::Finish(number, _) => row.number == number,
+            JobEdit::Schedule(number, _) => row.number == number,
         }
     }
 
@@ -70,6 +75,10 @@ impl Edit<JobRow> for JobEdit {
             JobEdit::Finish(_, outcome) => {
                 row.state = JobState::Finished;
                 row.outcome = Some(outcome);
+            }
+            JobEdit::Schedule(_, board) => {
+                row.state = JobState::Scheduled;
+                row.board = Some(board.copy()?);
             }
         }
         Ok(())

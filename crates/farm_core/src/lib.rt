@@ -3,17 +3,22 @@
 
 mod boards;
 mod change;
+mod checks;
 mod edit;
+mod expire;
 pub mod farm;
+mod give;
 mod held;
 mod held_edits;
 mod job_edit;
 mod jobs;
 mod kept;
+mod pass;
 mod refusal;
 mod res_edit;
 mod reservations;
 mod reserve;
+mod serve;
 mod submit;
 mod tables;
 #[cfg(test)]

@@ -5,7 +5,6 @@ ghost use Rattle.farm_types.specs.Refuse.{is_admin, is_dispatcher, may_give, is_
 ghost use Rattle.farm_types.specs.Machine.{repeated};
 ghost use Rattle.farm_core.specs.Plain.{plain};
 ghost use Rattle.farm_core.specs.Orderly.{IsOrderly};
-ghost use Rattle.farm_core.specs.Reached.{IsReached};
 
 use crate::tables::Tables;
 use farm_types::calls::{Call, Cmd};
@@ -159,8 +158,7 @@ impl Tables {
     /// The command's own reasons.
     #[tactic(auto, unfolding(farm_types::specs::Refuse::own_refusal))]
     fn own_refusal(&self, call: &Call) -> Option<u16>
-        requires orderly { IsOrderly (plain self.now) }
-        requires reached { IsReached call.now.cmd }
+        requires { IsOrderly (plain self.now) }
         ensures { result ≡ own_refusal (plain self.now) call.entry.now }
     {
         let now = self.clock.max(call.now);
@@ -178,15 +176,14 @@ impl Tables {
             Cmd::Release(number) => self.refuse_release(&call.caller, now, *number),
             Cmd::Refresh(number) => self.refuse_alive(&call.caller, now, *number),
             Cmd::CancelRes(number) => self.refuse_alive(&call.caller, now, *number),
-            _ => unreachable!(),
+            Cmd::Pass => None,
         }
     }
 
     /// The first code that applies.
     #[tactic(auto, unfolding(farm_types::specs::Refuse::refusal))]
     pub fn refusal(&self, call: &Call) -> Option<u16>
-        requires orderly { IsOrderly (plain self.now) }
-        requires reached { IsReached call.now.cmd }
+        requires { IsOrderly (plain self.now) }
         ensures { result ≡ refusal (plain self.now) call.entry.now }
     {
         if let Some(code) = self.early_refusal(call) {

@@ -4,11 +4,12 @@ ghost use Rattle.farm_types.specs.Pass.{is_dead};
 
 use crate::edit::Edit;
 use farm_types::rows::{ResRow, ResState};
+use farm_types::words::Name;
 use std::alloc::AllocError;
 
 /// A change of reservations: of one by its number, or of those that are dead.
-#[derive(Clone, Copy, Debug, PartialEq, Eq)]
-pub enum ResEdit {
+#[derive(Clone, Copy, Debug)]
+pub enum ResEdit<'a> {
     /// The reservation is acquired.
     Acquire(u64),
     /// The reservation is allocated again, until a new deadline.
@@ -19,6 +20,8 @@ pub enum ResEdit {
     Cancel(u64),
     /// The reservations that are dead at the moment are expired.
     Expire(u64),
+    /// The reservation is given the board of that name, until a deadline.
+    Allocate(u64, &'a Name, u64),
 }
 
 /// Whether a reservation waits or has been allocated, and its deadline has come.
@@ -28,7 +31,7 @@ pub fn is_dead(now: u64, row: &ResRow) -> bool
     matches!(row.state, ResState::Waiting | ResState::Allocated) && row.deadline <= now
 }
 
-impl Edit<ResRow> for ResEdit {
+impl Edit<ResRow> for ResEdit<'_> {
     ghost use Rattle.farm_core.specs.Edits.{res_passes, res_changed};
 
     ghost passes = { res_passes };
@@ -42,6 +45,7 @@ impl Edit<ResRow> for ResEdit {
             ResEdit::Refresh(number, _) => row.number == number,
             ResEdit::Cancel(number) => row.number == number,
             ResEdit::Expire(now) => is_dead(now, row),
+            ResEdit::Allocate(number, _, _) => row.number == number,
         }
     }
 
@@ -55,6 +59,11 @@ impl Edit<ResRow> for ResEdit {
             ResEdit::Refresh(_, deadline) => row.deadline = deadline,
             ResEdit::Cancel(_) => row.state = ResState::Canceled,
             ResEdit::Expire(_) => row.state = ResState::Expired,
+            ResEdit::Allocate(_, board, deadline) => {
+                row.state = ResState::Allocated;
+                row.board = Some(board.copy()?);
+                row.deadline = deadline;
+            }
         }
         Ok(())
     }

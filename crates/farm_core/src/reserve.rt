@@ -1,8 +1,6 @@
 //! Reserve: a new reservation of one board.
-ghost use Rattle.std.specs.Prelude.{◌≡◌, ◌≤◌, ◌&&◌, ◌||◌, ◌∷◌, [], None, is_none, not, OnOk, IfOk};
-ghost use Rattle.std.specs.List.{list_all, list_any};
-ghost use Rattle.std.specs.Str.{bytes_eq};
-ghost use Rattle.farm_types.specs.Words.{name_tag};
+ghost use Rattle.std.specs.Prelude.{◌≡◌, ◌≤◌, ◌&&◌, ◌∷◌, [], None, is_none, not, OnOk, IfOk};
+ghost use Rattle.std.specs.List.{list_any};
 ghost use Rattle.farm_types.specs.Farm.{Farm};
 ghost use Rattle.farm_types.specs.Pick.{least, not_retired, fits};
 ghost use Rattle.farm_types.specs.Refuse.{first_code};
@@ -17,42 +15,14 @@ use crate::tables::Tables;
 use farm_types::calls::Changes;
 use farm_types::refusal::NO_SUCH_BOARDS;
 use farm_types::rows::{BoardRow, Health, ResRow, ResState, Want};
-use farm_types::words::{Name, Priority, Tag, Tags};
+use farm_types::words::{Name, Priority, Tags};
 use std::alloc::AllocError;
-
-/// Whether a text is the tag that a board of this name carries for it.
-fn is_name_tag(text: &str, name: &str) -> bool
-    ensures { result ≡ bytes_eq text.now (name_tag name.now) }
-{
-    match text.strip_prefix("name=") {
-        Some(rest) => rest == name,
-        None => false,
-    }
-}
-
-fn is_among(tags: &[Tag], wanted: &str) -> bool
-    ensures { result ≡ list_any (bytes_eq wanted.now) tags.now }
-{
-    tags.iter().any(|own| wanted == own.as_str())
-}
-
-fn carries(board: &BoardRow, tag: &Tag) -> bool
-    ensures { result ≡ (list_any (bytes_eq tag.now) board.now.tags || bytes_eq tag.now (name_tag board.now.name)) }
-{
-    is_among(board.tags.items(), tag.as_str()) || is_name_tag(tag.as_str(), board.name.as_str())
-}
-
-fn carries_all(board: &BoardRow, tags: &[Tag]) -> bool
-    ensures { result ≡ list_all (λ tag. list_any (bytes_eq tag) board.now.tags || bytes_eq tag (name_tag board.now.name)) tags.now }
-{
-    tags.iter().all(|tag| carries(board, tag))
-}
 
 /// Whether a board that isn't retired has each of the tags.
 fn may_serve(board: &BoardRow, tags: &Tags) -> bool
     ensures { result ≡ (fits board.now (record { kind = None; tags = tags.now }) && not_retired board.now) }
 {
-    !matches!(board.health, Health::Retired) && carries_all(board, tags.items())
+    !matches!(board.health, Health::Retired) && farm_pick::carries_all(board, tags.items())
 }
 
 impl Tables {

@@ -1,7 +1,6 @@
 //! Worked rows.
 ghost use Rattle.std.specs.Prelude.{◌≡◌, IfOk, IsTrue};
 ghost use Rattle.farm_types.specs.Proper.{is_proper_cmd};
-ghost use Rattle.farm_core.specs.Reached.{IsReached};
 
 use crate::farm::{Farm, StepFault};
 use farm_types::calls::{Answer, Call, Cmd};
@@ -28,8 +27,7 @@ fn code_of(answer: Result<Answer, StepFault>) -> u16 {
 
 /// Gives a command at a moment, and the code of its answer.
 fn give(farm: &mut Farm, alloc: Global, caller: &str, now: u64, cmd: Cmd) -> Result<u16, WordFault>
-    requires proper { IsTrue (is_proper_cmd cmd) }
-    requires reached { IsReached cmd }
+    requires { IsTrue (is_proper_cmd cmd) }
 {
     let call = Call::new(name(alloc, caller)?, None, now, cmd);
     Ok(code_of(farm.step(&call)))

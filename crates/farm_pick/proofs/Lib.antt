@@ -5,3 +5,5 @@ pub mod Unique
 pub mod Lists
 pub mod Answering
 pub mod BoardsAt
+pub mod Ordered
+pub mod Queued

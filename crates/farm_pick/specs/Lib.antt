@@ -1,3 +1,4 @@
 pub mod Test
 pub mod Choice
 pub mod Least
+pub mod Queue

@@ -43,7 +43,9 @@ fn carries(board: &BoardRow, tag: &Tag) -> bool
     is_among(board.tags.items(), tag.as_str()) || is_name_tag(tag.as_str(), board.name.as_str())
 }
 
-fn carries_all(board: &BoardRow, tags: &[Tag]) -> bool
+/// Whether the board has each of the tags, or carries it for its name. At most 16 * 16 comparisons
+/// of short texts.
+pub fn carries_all(board: &BoardRow, tags: &[Tag]) -> bool
     ensures { result ≡ list_all (carries board.now) tags.now }
 {
     tags.iter().all(|tag| carries(board, tag))

@@ -1,4 +1,4 @@
-//! Which boards are given to a claim, and which claim goes first. Nothing here takes memory.
+//! Which boards are given to a claim, and which claim goes first. Only the queue takes memory.
 #![tactic(auto)]
 
 mod candidates;
@@ -10,13 +10,16 @@ mod laws;
 mod made;
 mod order;
 mod picked;
+mod queue;
 mod search;
 #[cfg(test)]
 mod tests;
 
 pub use candidates::Candidates;
+pub use fit::carries_all;
 pub use free::Free;
 pub use laws::{least_is_least, one_least};
-pub use order::before;
+pub use order::{before, queue_order};
 pub use picked::Picked;
+pub use queue::queue_of;
 pub use search::{least, least_of};

@@ -3,15 +3,20 @@ ghost use Rattle.std.specs.Ordering.{is_lt};
 ghost use Rattle.farm_types.specs.Pick.{shown_cmp};
 
 use farm_types::claims::Claim;
+use std::cmp::Ordering;
 
-/// Whether `first` is served before `second`: the higher priority goes first, and of equal ones
-/// the smaller number, which was asked for earlier.
+/// Compares the places of two claims in the queue: as in LAVA the higher priority goes first, and
+/// of equal ones the smaller number, which was asked for earlier.
+pub fn queue_order(first: &Claim, second: &Claim) -> Ordering
+    ensures { result ≡ shown_cmp first.now second.now }
+{
+    let by_priority = second.priority.get().cmp(&first.priority.get());
+    by_priority.then(first.number.cmp(&second.number))
+}
+
+/// Whether `first` is served before `second`.
 pub fn before(first: &Claim, second: &Claim) -> bool
     ensures { result ≡ is_lt (shown_cmp first.now second.now) }
 {
-    if first.priority.get() == second.priority.get() {
-        first.number < second.number
-    } else {
-        first.priority.get() > second.priority.get()
-    }
+    queue_order(first, second).is_lt()
 }

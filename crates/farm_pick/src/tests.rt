@@ -4,10 +4,12 @@ use farm_types::asked::Wants;
 use farm_types::claims::{Claim, ClaimKind};
 use farm_types::fault::WordFault;
 use farm_types::priority::Priority;
-use farm_types::rows::{BoardRow, Check, Health, Holder, State, TypeRow, Want};
+use farm_types::rows::{
+    BoardRow, Check, Health, Holder, JobRow, JobState, ResRow, ResState, State, TypeRow, Want,
+};
 use farm_types::table::is_sorted;
 use farm_types::tags::{Tag, Tags};
-use farm_types::words::Name;
+use farm_types::words::{Body, Name};
 use std::alloc::{AllocError, Global};
 use std::test::Fail;
 
@@ -159,5 +161,143 @@ fn orders_claims(rt: HostRuntime) -> Result<(), Fail> {
     assert!(rt; before(&urgent, &early) && !before(&early, &urgent));
     assert!(rt; before(&early, &late) && !before(&late, &early));
     assert!(rt; !before(&early, &early));
+    Ok(())
+}
+
+/// An ordinary job of ann's with one want.
+fn job(
+    alloc: Global,
+    number: u64,
+    group: u64,
+    priority: u64,
+    state: JobState,
+) -> Result<JobRow, Fail> {
+    Ok(JobRow {
+        number,
+        group,
+        checking: false,
+        owner: name(alloc, "ann")?,
+        priority: Priority::of(priority)?,
+        want: want(alloc, &[])?,
+        role: None,
+        state,
+        outcome: None,
+        board: None,
+        body: Body::none(alloc),
+    })
+}
+
+/// Jobs by number, group, priority and state.
+fn jobs(alloc: Global, rows: &[(u64, u64, u64, JobState)]) -> Result<Vec<JobRow>, Fail> {
+    let mut jobs = Vec::new(alloc);
+    for (number, group, priority, state) in rows {
+        jobs.push(job(alloc, *number, *group, *priority, *state)?)?;
+    }
+    Ok(jobs)
+}
+
+fn reservation(alloc: Global, number: u64, priority: u64, state: ResState) -> Result<ResRow, Fail> {
+    Ok(ResRow {
+        number,
+        owner: name(alloc, "bob")?,
+        priority: Priority::of(priority)?,
+        want: Want {
+            kind: None,
+            tags: Tags::none(alloc),
+        },
+        state,
+        deadline: 60,
+        board: None,
+    })
+}
+
+/// The numbers in the queue of some jobs and of reservations by number, priority and state.
+fn queued(alloc: Global, jobs: &[JobRow], rows: &[(u64, u64, ResState)]) -> Result<Vec<u64>, Fail> {
+    let mut reservations = Vec::new(alloc);
+    for (number, priority, state) in rows {
+        reservations.push(reservation(alloc, *number, *priority, *state)?)?;
+    }
+    let claims = queue_of(alloc, jobs, reservations.as_slice())?;
+    Ok(claims.iter().map(|claim| claim.number).collect(alloc)?)
+}
+
+#[test]
+fn queue_of_nothing(rt: HostRuntime) -> Result<(), Fail> {
+    let claims = queue_of(rt.alloc(), &[], &[])?;
+    assert!(rt; claims.is_empty());
+    Ok(())
+}
+
+#[test]
+fn higher_priority_first(rt: HostRuntime) -> Result<(), Fail> {
+    let alloc = rt.alloc();
+    let rows = jobs(
+        alloc,
+        &[
+            (1, 1, 10, JobState::Submitted),
+            (2, 2, 90, JobState::Submitted),
+            (3, 3, 50, JobState::Submitted),
+        ],
+    )?;
+    let found = queued(alloc, rows.as_slice(), &[(4, 91, ResState::Waiting)])?;
+    assert_eq!(rt; found.as_slice(), [4, 2, 3, 1].as_slice());
+    Ok(())
+}
+
+/// Of equal priority the earlier goes first, whether it is a job or a reservation.
+#[test]
+fn a_reservation_between_two_groups(rt: HostRuntime) -> Result<(), Fail> {
+    let alloc = rt.alloc();
+    let rows = jobs(
+        alloc,
+        &[
+            (1, 1, 50, JobState::Submitted),
+            (2, 1, 50, JobState::Submitted),
+            (4, 4, 50, JobState::Submitted),
+        ],
+    )?;
+    let waiting = [(3, 50, ResState::Waiting), (5, 50, ResState::Acquired)];
+    let found = queued(alloc, rows.as_slice(), &waiting)?;
+    assert_eq!(rt; found.as_slice(), [1, 3, 4].as_slice());
+    Ok(())
+}
+
+#[test]
+fn a_group_waits_whole(rt: HostRuntime) -> Result<(), Fail> {
+    let alloc = rt.alloc();
+    let rows = jobs(
+        alloc,
+        &[
+            (1, 1, 50, JobState::Submitted),
+            (2, 1, 50, JobState::Scheduled),
+            (3, 3, 50, JobState::Submitted),
+            (4, 3, 50, JobState::Submitted),
+            (5, 5, 50, JobState::Running),
+        ],
+    )?;
+    let claims = queue_of(alloc, rows.as_slice(), &[])?;
+    assert_eq!(rt; claims.len(), 1);
+    let first = claims.first().ok_or("no claim")?;
+    assert_eq!(rt; first.number, 3);
+    assert_eq!(rt; first.boards, 2);
+    assert_eq!(rt; first.owner.as_str(), "ann");
+    assert!(rt; first.kind == ClaimKind::Group);
+    Ok(())
+}
+
+/// Where memory is refused there is no queue, and never a shorter one.
+#[test]
+fn refused_memory(rt: HostRuntime) -> Result<(), Fail> {
+    let alloc = rt.alloc();
+    let rows = jobs(
+        alloc,
+        &[
+            (1, 1, 50, JobState::Submitted),
+            (2, 2, 50, JobState::Submitted),
+        ],
+    )?;
+    if let Ok(claims) = queue_of(alloc, rows.as_slice(), &[]) {
+        assert_eq!(rt; claims.len(), 2);
+    }
     Ok(())
 }

@@ -46,8 +46,8 @@ returns-clause-sound c =
 pub kept_reply-requires : goal.kept_reply-requires
 kept_reply-requires c = IsOrderly-sound _ (c.self.invariant c.if-self.false)
 
-pub refusal-requires-clause-orderly : goal.refusal-requires-clause-orderly
-refusal-requires-clause-orderly c = IsOrderly-sound _ (c.self.invariant c.if-self.false)
+pub refusal-requires : goal.refusal-requires
+refusal-requires c = IsOrderly-sound _ (c.self.invariant c.if-self.false)
 
 pub change-requires-clause-sound : goal.change-requires-clause-sound
 change-requires-clause-sound c = c.self.invariant c.if-self.false

@@ -5,7 +5,7 @@ use Rattle.farm_core.specs.Plain.{plain}
 use Rattle.farm_core.specs.Tracks.{Tracks}
 use Rattle.farm_core.proofs.AcceptedCalls.{in_time, IsSmallCmd-accepted}
 use Rattle.farm_core.proofs.Sound.{IsOrderly-sound}
-use Rattle.farm_sound.proofs.Step.{acted_call}
+use Rattle.farm_sound.proofs.Step.{acted_call, IsSound-moved_to}
 use Rattle.farm_core.proofs.tables.Tables.change.Goals as goal
 
 -- the command's rows and the kept reply's are tracked, and the numbers are no rows
@@ -19,12 +19,15 @@ tracked c =
 pub returns-clause-rows : goal.returns-clause-rows
 returns-clause-rows c =
     let t = tracked c in
-    λ i. record { types = t.types i; boards = t.boards i; jobs = t.jobs i; reservations = t.reservations i; kept = t.kept i; clock = c.keep.new.self.clock; count = c.keep.new.self.count + 1; next = c.keep.new.self.next }
+    λ i. record { types = t.types i; boards = t.boards i; jobs = t.jobs i; reservations = t.reservations i; kept = t.kept i; clock = c.keep.new.self.clock; count = c.args.self.now.count + 1; next = c.keep.new.self.next }
 
 pub returns-clause-small : goal.returns-clause-small
 returns-clause-small c =
     let small = (tracked c).small in
     record { types = small.types; boards = small.boards; jobs = small.jobs; reservations = small.reservations; kept = small.kept }
+
+pub act-requires-clause-sound : goal.act-requires-clause-sound
+act-requires-clause-sound c = rw c.max-self.ensures (IsSound-moved_to (plain c.args.self.now) c.args.call.now c.requires.accepted c.requires.sound)
 
 pub act-requires-clause-orderly : goal.act-requires-clause-orderly
 act-requires-clause-orderly c =

@@ -1,0 +1,114 @@
+-- The due boards are checked in their places.
+use Rattle.std.proofs.Common.{◌≡◌, ℕ, zero, suc, ◌+◌, ◌<◌, ◌≤◌, List, [], ◌∷◌, length, map, drop, get_or, Bool, true, false, cond, refl, sym, ap, ◌∙◌, arith, add-one}
+use Rattle.std.specs.List.{AllByRecursion, filter, fold}
+use Rattle.std.specs.List.Sorted.{IsStrictlySortedBy}
+use Rattle.std.specs.Str.{bytes_eq}
+use Rattle.std.specs.Cmp.Lexicographic.{nat_list_eq_equiv}
+use Rattle.std.specs.Ordering.{is_eq}
+use Rattle.std.specs.declared.cmp.Ordering.TheVariants.{Less}
+use Rattle.std.proofs.lemmas.Map.Text.{is_eq-slice_cmp}
+use Rattle.farm_types.specs.Farm.{Farm}
+use Rattle.farm_types.specs.Table.{board_cmp, change_where, job_cmp, put}
+use Rattle.farm_types.specs.Pass.{check_job, check_one, checks, has_room, held, is_due}
+use Rattle.farm_types.specs.declared.rows.BoardRow.{BoardRow}
+use Rattle.farm_types.specs.declared.rows.Holder.{Holder}
+use Rattle.farm_types.specs.declared.rows.State.{State}
+
+-- the boards from a place on are still to be checked
+abbrev pub checks_from : ℕ → ℕ → Farm → Farm
+checks_from t at F = fold check_one F (filter (is_due F t) (drop at F.boards))
+
+others_same : (b : BoardRow) (f : BoardRow → BoardRow) (rows : List BoardRow) → AllByRecursion (λ c. board_cmp b c ≡ Less) rows
+    → change_where (λ c. bytes_eq c.name b.name) f rows ≡ rows
+others_same b f [] all = refl
+others_same b f (c ∷ rows) all =
+    let other : bytes_eq c.name b.name ≡ false = nat_list_eq_equiv.symm c.name b.name ∙ sym (is_eq-slice_cmp b.name c.name) ∙ ap is_eq all.0 in
+    rw other (ap (λ rows. c ∷ rows) (others_same b f rows all.1))
+
+-- the boards behind one that is changed stay
+behind_same : (rows : List BoardRow) (at : ℕ) (b : BoardRow) (f : BoardRow → BoardRow) → IsStrictlySortedBy board_cmp rows → at < length rows → b ≡ get_or rows at b
+    → drop (suc at) (change_where (λ c. bytes_eq c.name b.name) f rows) ≡ drop (suc at) rows
+unfolding IsStrictlySortedBy
+behind_same [] at b f sorted low is = absurd (omega arith)
+behind_same (r ∷ rows) zero b f sorted low is =
+    ap (λ (k : BoardRow). change_where (λ c. bytes_eq c.name k.name) f rows) is ∙ others_same r f rows sorted.0
+behind_same (r ∷ rows) (suc at) b f sorted low is = behind_same rows at b f sorted.1 (omega arith) is
+
+drop_at : (rows : List BoardRow) (at : ℕ) (b : BoardRow) → at < length rows → b ≡ get_or rows at b → drop at rows ≡ b ∷ drop (suc at) rows
+drop_at [] at b low is = absurd (omega arith)
+drop_at (r ∷ rows) zero b low is = ap (λ k. k ∷ rows) (sym is)
+drop_at (r ∷ rows) (suc at) b low is = drop_at rows at b (omega arith) is
+
+change_long : (test : BoardRow → Bool) (f : BoardRow → BoardRow) (rows : List BoardRow) → length (change_where test f rows) ≡ length rows
+change_long test f [] = refl
+change_long test f (r ∷ rows) = ap suc (change_long test f rows)
+
+module _ (t : ℕ) (F : Farm) (at : ℕ) (b : BoardRow) (sorted : IsStrictlySortedBy board_cmp F.boards) (low : at < length F.boards) (is : b ≡ get_or F.boards at b) where
+  abbrev checked : Farm
+  checked = record F {
+    jobs = put job_cmp F.jobs (check_job F.next b);
+    boards = change_where (λ c. bytes_eq c.name b.name) (held (Holder.Job F.next) State.Reserved) F.boards;
+    next = F.next + 1;
+  }
+
+  -- one that is not due is passed over
+  pub not_due : is_due F t b ≡ false → checks_from t (at + 1) F ≡ checks_from t at F
+  not_due due =
+      rw (add-one at) (sym (ap (λ rows. fold check_one F (filter (is_due F t) rows)) (drop_at F.boards at b low is)
+      ∙ ap (λ v. fold check_one F (cond v (b ∷ filter (is_due F t) (drop (suc at) F.boards)) (filter (is_due F t) (drop (suc at) F.boards)))) due))
+
+  -- one that is due is checked
+  behind : (v : Bool) → fold check_one (cond v checked F) (filter (is_due F t) (drop (suc at) F.boards))
+      ≡ fold check_one (cond v checked F) (filter (is_due (cond v checked F) t) (drop (suc at) (cond v checked F).boards))
+  behind true = ap (λ rows. fold check_one checked (filter (is_due F t) rows)) (sym (behind_same F.boards at b (held (Holder.Job F.next) State.Reserved) sorted low is))
+  behind false = refl
+
+  pub is_checked : is_due F t b ≡ true → checks_from t (at + 1) (check_one F b) ≡ checks_from t at F
+  is_checked due =
+      rw (add-one at) (sym (ap (λ rows. fold check_one F (filter (is_due F t) rows)) (drop_at F.boards at b low is)
+      ∙ ap (λ v. fold check_one F (cond v (b ∷ filter (is_due F t) (drop (suc at) F.boards)) (filter (is_due F t) (drop (suc at) F.boards)))) due
+      ∙ behind (has_room F 1)))
+
+-- what a check keeps
+pub checked_long : (F : Farm) (b : BoardRow) → length (check_one F b).boards ≡ length F.boards
+checked_long F b = by (has_room F 1)
+  where
+    by : (v : Bool) → length (cond v (record F {
+      jobs = put job_cmp F.jobs (check_job F.next b);
+      boards = change_where (λ c. bytes_eq c.name b.name) (held (Holder.Job F.next) State.Reserved) F.boards;
+      next = F.next + 1;
+    }) F).boards ≡ length F.boards
+    by true = change_long (λ c. bytes_eq c.name b.name) (held (Holder.Job F.next) State.Reserved) F.boards
+    by false = refl
+
+pub checked_next : (F : Farm) (b : BoardRow) → F.next ≤ (check_one F b).next
+checked_next F b = by (has_room F 1)
+  where
+    by : (v : Bool) → F.next ≤ (cond v (record F {
+      jobs = put job_cmp F.jobs (check_job F.next b);
+      boards = change_where (λ c. bytes_eq c.name b.name) (held (Holder.Job F.next) State.Reserved) F.boards;
+      next = F.next + 1;
+    }) F).next
+    by true = omega arith
+    by false = omega arith
+
+pub checked_clock : (F : Farm) (b : BoardRow) → (check_one F b).clock ≡ F.clock
+checked_clock F b = by (has_room F 1)
+  where
+    by : (v : Bool) → (cond v (record F {
+      jobs = put job_cmp F.jobs (check_job F.next b);
+      boards = change_where (λ c. bytes_eq c.name b.name) (held (Holder.Job F.next) State.Reserved) F.boards;
+      next = F.next + 1;
+    }) F).clock ≡ F.clock
+    by true = refl
+    by false = refl
+
+-- where no board is left, all is done
+pub checks_end : (t at : ℕ) (F : Farm) → length F.boards ≤ at → checks_from t at F ≡ F
+checks_end t at F high = ap (λ rows. fold check_one F (filter (is_due F t) rows)) (none_left F.boards at high)
+  where
+    none_left : (rows : List BoardRow) (at : ℕ) → length rows ≤ at → drop at rows ≡ []
+    none_left [] zero high = refl
+    none_left [] (suc at) high = refl
+    none_left (r ∷ rows) zero high = absurd (omega arith)
+    none_left (r ∷ rows) (suc at) high = none_left rows at (omega arith)

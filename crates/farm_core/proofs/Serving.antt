@@ -1,0 +1,214 @@
+-- What the program does for one claim is what the machine does.
+use Rattle.std.proofs.Common.{◌≡◌, ℕ, zero, suc, ◌+◌, ◌<◌, ◌≤◌, ◌==◌, ◌++◌, List, [], ◌∷◌, length, map, take, drop, get_or, Bool, true, false, cond, Option, Some, None, IsSomeAnd, refl, sym, ap, ◌∙◌, subst, arith, add-one, append-nil}
+use Rattle.std.specs.List.{AllByRecursion, filter, fold, zip, filter_map}
+use Rattle.std.specs.Prelude.{slice_get}
+use Rattle.std.specs.Option.{option_map, option_map_or}
+use Rattle.std.specs.List.Sorted.{IsStrictlySortedBy}
+use Rattle.std.specs.declared.cmp.Ordering.TheVariants.{Less}
+use Rattle.std.proofs.lemmas.Cmp.{ranked}
+use Rattle.std.proofs.lemmas.List.{take_more, map-append, length-map}
+use Rattle.std.proofs.lemmas.List.Elements.{filter_map-append}
+use Rattle.farm_types.specs.Farm.{Farm, members, res_of}
+use Rattle.farm_types.specs.Table.{job_cmp}
+use Rattle.farm_types.specs.Pass.{Served, give, give_res, give_group, give_member, serve}
+use Rattle.farm_types.specs.Pick.{Claimed, least, is_free}
+use Rattle.farm_types.specs.Small.{IsSmall, IsSmallJob}
+use Rattle.farm_types.specs.declared.claims.ClaimKind.{ClaimKind}
+use Rattle.farm_types.specs.declared.rows.BoardRow.{BoardRow}
+use Rattle.farm_types.specs.declared.rows.JobRow.{JobRow}
+use Rattle.farm_types.specs.declared.rows.ResRow.{ResRow}
+use Rattle.farm_types.specs.declared.rows.Want.{Want}
+use Rattle.farm_types.proofs.Put.{AllByRecursion-weaker}
+use Rattle.farm_pick.specs.Least.{boards_at}
+use Rattle.farm_sound.proofs.Lists.{filter_all}
+use Rattle.farm_sound.proofs.Tests.{same_number}
+use Rattle.farm_sound.proofs.Where.{AllByRecursion-both, AllByRecursion-map}
+use Rattle.farm_core.specs.Orderly.{IsOrderly, IsNear}
+use Rattle.farm_core.specs.Serving.{Asks, counted, give_first, give_named}
+
+-- ---- the numbers of members, and the names of boards
+
+abbrev pub names_of : List BoardRow → List (List ℕ)
+names_of bs = map (λ (b : BoardRow). b.name) bs
+
+abbrev pub numbers_of : List JobRow → List ℕ
+numbers_of ms = map (λ (m : JobRow). m.number) ms
+
+abbrev pub wants_of : List JobRow → List Want
+wants_of ms = map (λ (m : JobRow). m.want) ms
+
+-- one more board is named
+
+pub names_more : (boards : List BoardRow) (places : List ℕ) (i place : ℕ) (names : List (List ℕ)) → i < length places → get_or places i 0 ≡ place
+    → names ≡ names_of (boards_at boards (take i places)) → (o : Option BoardRow) → slice_get boards place ≡ o
+    → option_map_or (λ (b : BoardRow). names ++ (b.name ∷ [])) o names ≡ names_of (boards_at boards (take (i + 1) places))
+names_more boards places i place names low at is o found =
+    by o found
+    ∙ sym (ap (λ ps. names_of (boards_at boards ps)) (take_more places i 0 low ∙ ap (λ p. take i places ++ (p ∷ [])) at)
+    ∙ ap names_of (filter_map-append (slice_get boards) (take i places) (place ∷ []))
+    ∙ map-append (λ (b : BoardRow). b.name) (boards_at boards (take i places)) (boards_at boards (place ∷ []))
+    ∙ ap (λ ns. ns ++ names_of (boards_at boards (place ∷ []))) (sym is))
+  where
+    by : (o : Option BoardRow) → slice_get boards place ≡ o
+        → option_map_or (λ (b : BoardRow). names ++ (b.name ∷ [])) o names ≡ names ++ names_of (boards_at boards (place ∷ []))
+    by None found = sym (rw found (append-nil names))
+    by (Some b) found = sym (rw found refl)
+
+-- one more pair of a number and a name
+by_suc : (ns : List ℕ) (ms : List (List ℕ)) (k n : ℕ) (m : List ℕ) → k < length ns → k < length ms → get_or ns k 0 ≡ n → m ≡ get_or ms k m
+    → drop k (zip ns ms) ≡ (n, m) ∷ drop (suc k) (zip ns ms)
+by_suc [] ms k n m low less at is = absurd (omega arith)
+by_suc (x ∷ ns) [] k n m low less at is = absurd (omega arith)
+by_suc (x ∷ ns) (y ∷ ms) zero n m low less at is = λ i. (at i, sym is i) ∷ zip ns ms
+by_suc (x ∷ ns) (y ∷ ms) (suc k) n m low less at is = by_suc ns ms k n m (omega arith) (omega arith) at is
+
+pub pairs_more : (ns : List ℕ) (ms : List (List ℕ)) (k n : ℕ) (m : List ℕ) → k < length ns → k < length ms → get_or ns k 0 ≡ n → m ≡ get_or ms k m
+    → drop k (zip ns ms) ≡ (n, m) ∷ drop (k + 1) (zip ns ms)
+pairs_more ns ms k n m low less at is = rw (add-one k) (by_suc ns ms k n m low less at is)
+
+no_pairs : (k : ℕ) (ps : List (ℕ × List ℕ)) → ps ≡ [] → drop k ps ≡ []
+no_pairs zero ps none = none
+no_pairs (suc k) [] none = refl
+no_pairs (suc k) (p ∷ ps) none = cc
+
+pub pairs_end : (ns : List ℕ) (ms : List (List ℕ)) (k : ℕ) → (k < length ns → k < length ms → ⊥) → drop k (zip ns ms) ≡ []
+pairs_end [] ms k high = no_pairs k [] refl
+pairs_end (n ∷ ns) [] k high = no_pairs k [] refl
+pairs_end (n ∷ ns) (m ∷ ms) zero high = absurd (high (omega arith) (omega arith))
+pairs_end (n ∷ ns) (m ∷ ms) (suc k) high = pairs_end ns ms k (λ a b. high (omega arith) (omega arith))
+
+pub small_at : (ns : List ℕ) (k : ℕ) → AllByRecursion IsSmall ns → k < length ns → IsSmall (get_or ns k 0)
+small_at [] k all low = absurd (omega arith)
+small_at (n ∷ ns) zero all low = all.0
+small_at (n ∷ ns) (suc k) all low = small_at ns k all.1 (omega arith)
+
+-- members are given boards by their numbers and names
+pub given_named : (ms : List JobRow) (bs : List BoardRow) (F : Farm) → fold give_member F (zip ms bs) ≡ fold give_named F (zip (numbers_of ms) (names_of bs))
+given_named [] bs F = refl
+given_named (m ∷ ms) [] F = refl
+given_named (m ∷ ms) (b ∷ bs) F = given_named ms bs (give_member F (m, b))
+
+-- ---- a group is small
+
+rising : (rows : List JobRow) (low high : ℕ) → low ≤ high → IsStrictlySortedBy job_cmp rows → AllByRecursion (λ m. (low ≤ m.number) × (m.number < high)) rows
+    → low + length rows ≤ high
+unfolding IsStrictlySortedBy
+rising [] low high le sorted all = omega arith
+rising (m ∷ rows) low high le sorted all =
+    let rest = rising rows (m.number + 1) high (omega (arith, all.0.1)) sorted.1
+    (AllByRecursion-weaker (λ k two. (let less = ranked m.number k.number Less (sym two.0) in omega arith, two.1.1)) rows
+    (AllByRecursion-both (λ k. job_cmp m k ≡ Less) (λ k. (low ≤ k.number) × (k.number < high)) rows sorted.0 all.1)) in
+    omega (arith, rest, all.0.0)
+
+filter_sorted : (test : JobRow → Bool) (xs : List JobRow) → IsStrictlySortedBy job_cmp xs → IsStrictlySortedBy job_cmp (filter test xs)
+unfolding IsStrictlySortedBy
+filter_sorted test [] sorted = tt
+filter_sorted test (x ∷ xs) sorted = by (test x) (filter_sorted test xs sorted.1)
+  where
+    by : (v : Bool) → IsStrictlySortedBy job_cmp (filter test xs) → IsStrictlySortedBy job_cmp (cond v (x ∷ filter test xs) (filter test xs))
+    by true rest = (AllByRecursion-weaker (λ y two. two.0) (filter test xs) (filter_all (λ y. job_cmp x y ≡ Less) test xs sorted.0), rest)
+    by false rest = rest
+
+pub members_few : (F : Farm) (group : ℕ) → IsOrderly F → length (members F group) ≤ 4
+members_few F group orderly =
+    let near = filter_all IsNear (λ (j : JobRow). j.group == group) F.jobs orderly.near in
+    let long = rising (members F group) group (group + 4) (omega arith) (filter_sorted (λ (j : JobRow). j.group == group) F.jobs orderly.jobs)
+    (AllByRecursion-weaker (λ m two. let is = same_number m.group group two.1 in (omega (arith, two.0.0), omega (arith, two.0.1))) (members F group) near) in
+    omega (arith, long)
+
+pub wants_few : (F : Farm) (group : ℕ) (wants : List Want) → wants ≡ wants_of (members F group) → IsOrderly F → length wants ≤ 4
+wants_few F group wants is orderly = let few = members_few F group orderly in rw is (rw length-map few)
+
+pub numbers_small : (F : Farm) (group : ℕ) (numbers : List ℕ) → numbers ≡ numbers_of (members F group) → IsOrderly F → AllByRecursion IsSmall numbers
+numbers_small F group numbers is orderly =
+    rw is (AllByRecursion-map (λ m. IsSmallJob m × ((m.group == group) ≡ true)) IsSmall (λ (m : JobRow). m.number) (λ m two. two.0.number) (members F group)
+    (filter_all IsSmallJob (λ (j : JobRow). j.group == group) F.jobs orderly.small_jobs))
+
+-- ---- a claim is served, or not
+
+module _ (F : Farm) (c : Claimed) (n : ℕ) (wants : List Want) (asks : c.wants ≡ wants) where
+  abbrev start : Served
+  start = record { farm = F; claims = n }
+
+  abbrev found : (o : Option (List BoardRow)) → Served
+  found o = option_map_or (λ bs. record { farm = give F c bs F.clock; claims = n + 1 }) o start
+
+  serves : serve F.clock start c ≡ found (least F.boards (is_free F.types) wants)
+  serves = ap (λ w. found (least F.boards (is_free F.types) w)) asks
+
+  pub not_served : None ≡ option_map names_of (least F.boards (is_free F.types) wants) → serve F.clock (record { farm = F; claims = n }) c ≡ record { farm = F; claims = n }
+  not_served none = serves ∙ by (least F.boards (is_free F.types) wants) none
+    where
+      by : (o : Option (List BoardRow)) → None ≡ option_map names_of o → found o ≡ start
+      by None is = refl
+      by (Some bs) is = cc
+
+  pub is_served : (G : Farm) (names : List (List ℕ)) → Some names ≡ option_map names_of (least F.boards (is_free F.types) wants)
+      → ((bs : List BoardRow) → names ≡ names_of bs → give F c bs F.clock ≡ G) → serve F.clock (record { farm = F; claims = n }) c ≡ record { farm = G; claims = n + 1 }
+  is_served G names picked gives = serves ∙ by (least F.boards (is_free F.types) wants) picked
+    where
+      by : (o : Option (List BoardRow)) → Some names ≡ option_map names_of o → found o ≡ record { farm = G; claims = n + 1 }
+      by None is = cc
+      by (Some bs) is = let same : names ≡ names_of bs = cc in ap (λ (H : Farm). record { farm = H; claims = n + 1 }) (gives bs same)
+
+-- a group
+pub group_not_served : (F : Farm) (group : ℕ) (c : Claimed) (n : ℕ) → c.number ≡ group → Asks false F c
+    → None ≡ option_map names_of (least F.boards (is_free F.types) (wants_of (members F group)))
+    → serve F.clock (record { farm = F; claims = n }) c ≡ record { farm = F; claims = n }
+group_not_served F group c n same asks none =
+    not_served F c n (wants_of (members F group)) (asks ∙ ap (λ g. wants_of (members F g)) same) none
+
+pub group_served : (F G : Farm) (group : ℕ) (c : Claimed) (n : ℕ) (names : List (List ℕ)) (numbers : List ℕ) → c.reservation ≡ false → c.number ≡ group → Asks false F c
+    → Some names ≡ option_map names_of (least F.boards (is_free F.types) (wants_of (members F group))) → numbers ≡ numbers_of (members F group)
+    → G ≡ fold give_named F (zip numbers names) → serve F.clock (record { farm = F; claims = n }) c ≡ record { farm = G; claims = n + 1 }
+group_served F G group c n names numbers of_group same asks picked are made =
+    is_served F c n (wants_of (members F group)) (asks ∙ ap (λ g. wants_of (members F g)) same) G names picked
+    (λ bs called.
+    ap (λ v. cond v (give_res F c.number bs F.clock) (give_group F c.number bs)) of_group
+    ∙ ap (λ g. give_group F g bs) same
+    ∙ given_named (members F group) bs F
+    ∙ (λ i. fold give_named F (zip (sym are i) (sym called i)))
+    ∙ sym made)
+
+-- a reservation
+asked : (F : Farm) (c : Claimed) → Asks true F c → (r : ResRow) × (res_of F c.number ≡ Some r) × (c.wants ≡ r.want ∷ [])
+asked F c asks = by (res_of F c.number) refl asks
+  where
+    by : (o : Option ResRow) → res_of F c.number ≡ o → IsSomeAnd o (λ r. c.wants ≡ r.want ∷ [])
+        → (r : ResRow) × (res_of F c.number ≡ Some r) × (c.wants ≡ r.want ∷ [])
+    by None is asks = absurd asks
+    by (Some r) is asks = (r, is, asks)
+
+abbrev pub Picks : Farm → ℕ → Option (List (List ℕ)) → Type 0
+Picks F number picked = (r : ResRow) → res_of F number ≡ Some r → picked ≡ option_map names_of (least F.boards (is_free F.types) (r.want ∷ []))
+
+pub res_not_served : (F : Farm) (number : ℕ) (c : Claimed) (n : ℕ) → c.number ≡ number → Asks true F c → Picks F number None
+    → serve F.clock (record { farm = F; claims = n }) c ≡ record { farm = F; claims = n }
+res_not_served F number c n same asks none =
+    let it = asked F c asks in
+    not_served F c n (it.0.want ∷ []) it.2 (none it.0 (ap (res_of F) (sym same) ∙ it.1))
+
+first_given : (F : Farm) (number : ℕ) (bs : List BoardRow) → give_res F number bs F.clock ≡ give_first F number (names_of bs)
+first_given F number [] = refl
+first_given F number (b ∷ bs) = refl
+
+pub res_served : (F G : Farm) (number : ℕ) (c : Claimed) (n : ℕ) (names : List (List ℕ)) → c.reservation ≡ true → c.number ≡ number → Asks true F c → Picks F number (Some names)
+    → G ≡ give_first F number names → serve F.clock (record { farm = F; claims = n }) c ≡ record { farm = G; claims = n + 1 }
+res_served F G number c n names of_res same asks picked made =
+    let it = asked F c asks in
+    is_served F c n (it.0.want ∷ []) it.2 G names (picked it.0 (ap (res_of F) (sym same) ∙ it.1))
+    (λ bs called.
+    ap (λ v. cond v (give_res F c.number bs F.clock) (give_group F c.number bs)) of_res
+    ∙ ap (λ k. give_res F k bs F.clock) same
+    ∙ first_given F number bs
+    ∙ ap (give_first F number) (sym called)
+    ∙ sym made)
+
+-- the kind that is shown
+pub shown_res : (v : Bool) → cond v ClaimKind.Reservation ClaimKind.Group ≡ ClaimKind.Reservation → v ≡ true
+shown_res true is = refl
+shown_res false is = cc
+
+pub shown_group : (v : Bool) → cond v ClaimKind.Reservation ClaimKind.Group ≡ ClaimKind.Group → v ≡ false
+shown_group true is = cc
+shown_group false is = refl

@@ -1,0 +1,28 @@
+-- The three parts of a pass make the whole.
+use Rattle.std.proofs.Common.{◌≡◌, ℕ, ◌-◌, List, [], length, refl, ap, ◌∙◌, sym, subst}
+use Rattle.std.specs.List.{filter}
+use Rattle.farm_types.specs.Farm.{Farm}
+use Rattle.farm_types.specs.Pass.{Served, checks, expire, is_dead, is_due, serve_all}
+use Rattle.farm_types.specs.Change.{act, replied}
+use Rattle.farm_types.specs.Sound.{IsSound}
+use Rattle.farm_types.specs.declared.calls.Cmd.{Cmd}
+use Rattle.farm_types.specs.declared.rows.Reply.{Reply}
+use Rattle.farm_sound.proofs.Checks.{IsSound-checks, check_clock}
+use Rattle.farm_sound.proofs.Reservations.{IsSound-expire}
+
+-- the farm before the claims are served
+abbrev pub prepared : Farm → Farm
+prepared F = checks (expire F F.clock) F.clock
+
+pub prepared_clock : (F : Farm) → (prepared F).clock ≡ F.clock
+prepared_clock F = check_clock (filter (is_due (expire F F.clock) F.clock) (expire F F.clock).boards) (expire F F.clock)
+
+pub prepared_sound : (F : Farm) → IsSound F → IsSound (prepared F)
+prepared_sound F sound = IsSound-checks (expire F F.clock) F.clock (IsSound-expire F F.clock sound)
+
+module _ (F G H : Farm) (ended : G ≡ expire F F.clock) (checked : H ≡ checks G G.clock) where
+  pub is_prepared : H ≡ prepared F
+  is_prepared = checked ∙ (λ i. checks (ended i) (ended i).clock)
+
+  pub served_is : serve_all H H.clock ≡ serve_all (prepared F) F.clock
+  served_is = (λ i. serve_all (is_prepared i) (is_prepared i).clock) ∙ ap (serve_all (prepared F)) (prepared_clock F)

@@ -1,0 +1,15 @@
+use Rattle.std.proofs.Common.{◌≡◌, ◌≤◌, map, length, ap, sym, ◌∙◌}
+use Rattle.std.proofs.lemmas.List.{length-map}
+use Rattle.farm_types.specs.Farm.{members}
+use Rattle.farm_types.specs.declared.rows.JobRow.{JobRow}
+use Rattle.farm_types.specs.declared.rows.Want.{Want}
+use Rattle.farm_core.specs.Plain.{plain}
+use Rattle.farm_core.proofs.Serving.{wants_few, wants_of}
+use Rattle.farm_core.proofs.tables.Tables.pick_for_group.Goals as goal
+
+pub pick-requires-clause-few : goal.pick-requires-clause-few
+pick-requires-clause-few c =
+    let wants = c.in_ok-wants.ensures in
+    let few = wants_few (plain c.args.self.now) c.args.group _ (wants ∙ ap wants_of c.near.ensures) c.requires.orderly in
+    let long = length-map c.in_ok-wants.wants.items (λ w. w.now) in
+    rw c.deref.ensures.value (rw long at few)

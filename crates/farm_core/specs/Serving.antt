@@ -1,0 +1,33 @@
+-- What the program does for one claim of a pass.
+use Rattle.std.specs.Prelude.{◌≡◌, ◌==◌, ◌+◌, ℕ, Bool, true, false, List, [], ◌∷◌, map, IsSomeAnd, if◌then◌else◌}
+use Rattle.std.specs.Str.{bytes_eq}
+use Rattle.farm_types.specs.Table.{change_where}
+use Rattle.farm_types.specs.Farm.{Farm, members, res_of}
+use Rattle.farm_types.specs.Pass.{allocated, held, scheduled}
+use Rattle.farm_types.specs.Pick.{Claimed}
+use Rattle.farm_types.specs.declared.rows.Holder.{Holder}
+use Rattle.farm_types.specs.declared.rows.State.{State}
+
+-- a job, told by its number, is given the board of a name
+abbrev pub give_named : Farm → ℕ × List ℕ → Farm
+give_named F (number, name) = record F {
+  jobs = change_where (λ m. m.number == number) (scheduled name) F.jobs;
+  boards = change_where (λ c. bytes_eq c.name name) (held (Holder.Job number) State.Reserved) F.boards;
+}
+
+-- a reservation is given the first board of some names, for a lease from now on
+abbrev pub give_first : Farm → ℕ → List (List ℕ) → Farm
+give_first F number [] = F
+give_first F number (name ∷ names) = record F {
+  reservations = change_where (λ r. r.number == number) (allocated name F.clock) F.reservations;
+  boards = change_where (λ c. bytes_eq c.name name) (held (Holder.Res number) State.Reserved) F.boards;
+}
+
+-- a claim asks for what the rows of its reservation or its group want
+abbrev pub Asks : Bool → Farm → Claimed → Type 0
+Asks true F c = IsSomeAnd (res_of F c.number) (λ r. c.wants ≡ r.want ∷ [])
+Asks false F c = c.wants ≡ map (λ m. m.want) (members F c.number)
+
+-- one more, if a claim was served
+abbrev pub counted : ℕ → Bool → ℕ
+counted n served = if served then n + 1 else n

@@ -1,0 +1,157 @@
+//! The checks of a pass: a job of the program's own for each due board.
+ghost use Rattle.std.specs.Prelude.{◌≡◌, ◌-◌, ◌<◌, codes, length, get_or, OnOk, IfOk};
+ghost use Rattle.farm_types.specs.Farm.{Farm};
+ghost use Rattle.farm_types.specs.Pass.{check_job, check_one, checks, is_due, is_due_by, is_reached};
+ghost use Rattle.farm_types.specs.Pick.{check_of, is_nobody};
+ghost use Rattle.farm_types.specs.declared.rows.BoardRow.{BoardRow};
+ghost use Rattle.farm_core.specs.Plain.{plain};
+ghost use Rattle.farm_core.specs.Orderly.{IsOrderly};
+ghost use Rattle.farm_core.specs.Tracks.{Tracks};
+
+use crate::tables::Tables;
+use farm_types::calls::Changes;
+use farm_types::fault::WordFault;
+use farm_types::priority::HIGHEST_PRIORITY;
+use farm_types::rows::{BoardRow, Check, Health, Holder, JobRow, JobState, Want};
+use farm_types::tags::Tags;
+use farm_types::words::{Body, Name, Priority};
+use std::alloc::{AllocError, Global};
+
+/// The seconds of an hour.
+const HOUR: u64 = 3600;
+
+/// Whether a board has stood for so long, or been used so often, since its last check that its type
+/// wants another.
+fn is_reached(now: u64, board: &BoardRow, check: Check) -> bool
+    ensures { result ≡ is_reached now board.now check }
+{
+    match check {
+        Check::Never => false,
+        Check::Hours(hours) => match hours.checked_mul(HOUR) {
+            Some(seconds) => seconds <= now.saturating_sub(board.last_check),
+            None => false,
+        },
+        Check::Jobs(jobs) => jobs <= board.jobs_since,
+    }
+}
+
+/// Whether a free board is to be checked: one of unknown health is, and a good one when the time
+/// has come.
+fn is_due_by(check: Check, now: u64, board: &BoardRow) -> bool
+    ensures { result ≡ is_due_by check now board.now }
+{
+    if matches!(check, Check::Never) {
+        return false;
+    }
+    match board.health {
+        Health::Unknown => true,
+        Health::Good => is_reached(now, board, check),
+        Health::Bad | Health::Maintenance | Health::Retired => false,
+    }
+}
+
+/// The name of the admin, who owns the checks.
+#[tactic(auto, unfolding(farm_types::specs::Words::is_word))]
+fn admin_name(alloc: Global) -> Result<Name, AllocError>
+    ensures { IfOk result (λ name. name ≡ codes "admin") }
+{
+    match Name::parse(alloc, b"admin") {
+        Ok(name) => Ok(name),
+        Err(WordFault::NoMemory) => Err(AllocError),
+        Err(WordFault::Refused(_)) => unreachable!(),
+    }
+}
+
+/// The priority of checks.
+fn highest_priority() -> Priority
+    ensures { result ≡ 100 }
+{
+    match Priority::of(HIGHEST_PRIORITY) {
+        Ok(priority) => priority,
+        Err(_) => unreachable!(),
+    }
+}
+
+/// The row of the job that checks a board.
+fn check_job(alloc: Global, number: u64, board: &BoardRow) -> Result<JobRow, AllocError>
+    ensures { IfOk result (λ row. row ≡ check_job number board.now) }
+{
+    Ok(JobRow {
+        number,
+        group: number,
+        checking: true,
+        owner: admin_name(alloc)?,
+        priority: highest_priority(),
+        want: Want {
+            kind: Some(board.kind.copy()?),
+            tags: Tags::none(alloc),
+        },
+        role: None,
+        state: JobState::Scheduled,
+        outcome: None,
+        board: Some(board.name.copy()?),
+        body: Body::none(alloc),
+    })
+}
+
+impl Tables {
+    /// How often boards of a type are checked.
+    fn check_of(&self, kind: &Name) -> Check
+        requires { IsOrderly (plain self.now) }
+        ensures { result ≡ check_of (plain self.now).types kind.now }
+    {
+        match self.find_type(kind) {
+            None => Check::Never,
+            Some(row) => row.check,
+        }
+    }
+
+    /// Whether a board is to be checked now.
+    fn is_due(&self, board: &BoardRow) -> bool
+        requires { IsOrderly (plain self.now) }
+        ensures { result ≡ is_due (plain self.now) (plain self.now).clock board.now }
+    {
+        matches!(board.holder, Holder::Nobody)
+            && is_due_by(self.check_of(&board.kind), self.clock, board)
+    }
+
+    /// Checks the board at a place, where there is room for one more job.
+    fn check_board(&mut self, changes: &mut Changes, at: usize) -> Result<(), AllocError>
+        requires orderly { IsOrderly (plain self.old) }
+        requires within { at < length (plain self.old).boards }
+        ensures farm { OnOk result ((b : BoardRow) → b ≡ get_or (plain self.old).boards at b → plain self.new ≡ check_one (plain self.old) b) }
+        ensures orderly { OnOk result (IsOrderly (plain self.new)) }
+        ensures tracked { OnOk result ((F : Farm) → Tracks F changes.old (plain self.old)
+            → Tracks F changes.new (plain self.new)) }
+    {
+        if !self.has_room(1) {
+            return Ok(());
+        }
+        let number = self.next;
+        let row = check_job(*self.jobs.allocator(), number, &self.boards[at])?;
+        let name = self.boards[at].name.copy()?;
+        self.put_job(changes, row)?;
+        self.hold_board(changes, &name, Holder::Job(number))?;
+        self.next = number + 1;
+        Ok(())
+    }
+
+    /// Checks each due board in name order, while there is room. Gives how many. With B boards it
+    /// looks at each once, and a check adds its row at the end of the jobs.
+    pub fn checks(&mut self, changes: &mut Changes) -> Result<u64, AllocError>
+        requires { IsOrderly (plain self.old) }
+        ensures farm { OnOk result (plain self.new ≡ checks (plain self.old) (plain self.old).clock) }
+        ensures count { IfOk result (λ n. n ≡ (checks (plain self.old) (plain self.old).clock).next - (plain self.old).next) }
+        ensures orderly { OnOk result (IsOrderly (plain self.new)) }
+        ensures tracked { OnOk result ((F : Farm) → Tracks F changes.old (plain self.old)
+            → Tracks F changes.new (plain self.new)) }
+    {
+        let first = self.next;
+        for at in 0..self.boards.len() {
+            if self.is_due(&self.boards[at]) {
+                self.check_board(changes, at)?;
+            }
+        }
+        Ok(self.next - first)
+    }
+}

@@ -1,0 +1,32 @@
+-- The queue's claims as the rows show them: a reservation by itself, a group by its first member and the rows behind it.
+use Rattle.std.specs.Prelude.{ℕ, ◌==◌, ◌&&◌, Bool, List, [], ◌∷◌, length, take, filter, if◌then◌else◌}
+use Rattle.std.specs.List.{list_all}
+use Rattle.farm_types.specs.Codes.{same_job_state}
+use Rattle.farm_types.specs.Pick.{res_claim, shown_claim}
+use Rattle.farm_types.specs.declared.rows.JobState.{JobState}
+use Rattle.farm_types.specs.declared.rows.JobRow.{JobRow}
+use Rattle.farm_types.specs.declared.rows.ResRow.{ResRow}
+use Rattle.farm_types.specs.declared.claims.Claim.{Claim}
+use Rattle.farm_types.specs.declared.claims.ClaimKind.{ClaimKind}
+
+abbrev pub shown_reservation : ResRow → Claim
+shown_reservation r = shown_claim (res_claim r)
+
+abbrev pub is_submitted : JobRow → Bool
+is_submitted j = same_job_state j.state JobState.Submitted
+
+-- the members of a job's group among the rows near it
+abbrev pub mates : JobRow → List JobRow → List JobRow
+mates j near = filter (λ m. m.group == j.group) near
+
+-- whether a job is the first of a group whose members are all Submitted
+abbrev pub leads : JobRow → List JobRow → Bool
+leads j near = (j.number == j.group) && (is_submitted j && list_all is_submitted (mates j near))
+
+abbrev pub shown_group : JobRow → List JobRow → Claim
+shown_group j near = record { kind = ClaimKind.Group; number = j.group; owner = j.owner; priority = j.priority; boards = length (j ∷ mates j near) }
+
+-- a group's members have four numbers at most, so of rows in order only the next three can be members too
+abbrev pub shown_groups : List JobRow → List Claim
+shown_groups [] = []
+shown_groups (j ∷ jobs) = if leads j (take 3 jobs) then shown_group j (take 3 jobs) ∷ shown_groups jobs else shown_groups jobs

@@ -1,0 +1,142 @@
+//! The queue: the claims that wait, in the order in which they are taken.
+ghost use Rattle.std.specs.Prelude.{◌≡◌, ◌++◌, ◌==◌, ◌≤◌, length, take, filter, map, IfOk, OnOk};
+ghost use Rattle.std.specs.List.{list_all};
+ghost use Rattle.farm_types.specs.Farm.{Farm};
+ghost use Rattle.farm_types.specs.Sound.{IsSteady};
+ghost use Rattle.farm_types.specs.Pick.{is_waiting, queue, shown_claim, shown_cmp};
+ghost use Rattle.farm_pick.specs.Queue.{shown_reservation, is_submitted, mates, leads, shown_group, shown_groups};
+
+use crate::order::queue_order;
+use farm_types::claims::{Claim, ClaimKind};
+use farm_types::rows::{JobRow, JobState, ResRow, ResState};
+use std::alloc::{AllocError, Global};
+use std::cmp::Ordering;
+
+/// How many rows behind the first member of a group may be members of it.
+const MOST_MATES: usize = 3;
+
+fn is_waiting(reservation: &ResRow) -> bool
+    ensures { result ≡ is_waiting reservation.now }
+{
+    reservation.state == ResState::Waiting
+}
+
+fn shown_reservation(reservation: &ResRow) -> Result<Claim, AllocError>
+    ensures { IfOk result (λ claim. claim ≡ shown_reservation reservation.now) }
+{
+    Ok(Claim {
+        kind: ClaimKind::Reservation,
+        number: reservation.number,
+        owner: reservation.owner.copy()?,
+        priority: reservation.priority,
+        boards: 1,
+    })
+}
+
+/// Adds a claim for each waiting reservation.
+fn add_reservations(claims: &mut Vec<Claim>, reservations: &[ResRow]) -> Result<(), AllocError>
+    ensures { OnOk result (claims.new.items
+        ≡ claims.old.items ++ map shown_reservation (filter is_waiting reservations.now)) }
+{
+    for reservation in reservations {
+        if is_waiting(reservation) {
+            claims.push(shown_reservation(reservation)?)?;
+        }
+    }
+    Ok(())
+}
+
+fn is_submitted(job: &JobRow) -> bool
+    ensures { result ≡ is_submitted job.now }
+{
+    job.state == JobState::Submitted
+}
+
+/// The rows that may be members of a group whose first one stands before them.
+fn nearby(behind: &[JobRow]) -> &[JobRow]
+    ensures near { result.now ≡ take 3 behind.now }
+    ensures few { length result.now ≤ 3 }
+{
+    &behind[..behind.len().min(MOST_MATES)]
+}
+
+/// Whether the job is the first of a group whose members are all Submitted. Of most jobs it reads
+/// two numbers alone.
+fn leads(job: &JobRow, near: &[JobRow]) -> bool
+    ensures { result ≡ leads job.now near.now }
+{
+    job.number == job.group && is_submitted(job) && are_submitted(job.group, near)
+}
+
+/// Whether all members of the group among these rows are Submitted.
+fn are_submitted(group: u64, near: &[JobRow]) -> bool
+    ensures { result ≡ list_all is_submitted (filter (λ m. m.group == group) near.now) }
+{
+    near.iter()
+        .filter(|job| job.group == group)
+        .all(|job| is_submitted(job))
+}
+
+fn count_mates(group: u64, near: &[JobRow]) -> u64
+    requires { length near.now ≤ 3 }
+    ensures count { result ≡ length (filter (λ m. m.group == group) near.now) }
+    ensures few { result ≤ 3 }
+{
+    near.iter().filter(|job| job.group == group).count() as u64
+}
+
+fn shown_group(job: &JobRow, near: &[JobRow]) -> Result<Claim, AllocError>
+    requires { length near.now ≤ 3 }
+    ensures { IfOk result (λ claim. claim ≡ shown_group job.now near.now) }
+{
+    Ok(Claim {
+        kind: ClaimKind::Group,
+        number: job.group,
+        owner: job.owner.copy()?,
+        priority: job.priority,
+        boards: 1 + count_mates(job.group, near),
+    })
+}
+
+/// Adds a claim for each group whose members are all Submitted.
+fn add_groups(claims: &mut Vec<Claim>, jobs: &[JobRow]) -> Result<(), AllocError>
+    ensures { OnOk result (claims.new.items ≡ claims.old.items ++ shown_groups jobs.now) }
+{
+    let mut rest = jobs;
+    while let Some((job, behind)) = rest.split_first() {
+        let near = nearby(behind);
+        if leads(job, near) {
+            claims.push(shown_group(job, near)?)?;
+        }
+        rest = behind;
+    }
+    Ok(())
+}
+
+/// The claims that wait, in the order in which they are taken: a waiting reservation, or a group
+/// whose members are all Submitted. As in LAVA the higher priority goes first, and of equal ones
+/// the earlier job; jobs and reservations share their numbers, so no two claims tie.
+///
+/// The rows are those of a sound farm. Each claim has a copy of its owner's name, and `boards` is
+/// the number of its wants. With J jobs, R reservations and C claims it costs O(J + R + C log C):
+/// members of a group stand side by side in order of number, so only three rows behind a first
+/// member are looked at, and the claims are sorted once, in their place.
+pub fn queue_of(
+    alloc: Global,
+    jobs: &[JobRow],
+    reservations: &[ResRow],
+) -> Result<Vec<Claim>, AllocError>
+    ensures { IfOk result (λ claims. (F : Farm) → IsSteady F
+        → F.jobs ≡ jobs.now → F.reservations ≡ reservations.now
+        → claims.items ≡ map shown_claim (queue F)) }
+{
+    let mut claims = Vec::new(alloc);
+    add_reservations(&mut claims, reservations)?;
+    add_groups(&mut claims, jobs)?;
+    claims.sort_unstable_by(
+        |first, second| -> Ordering
+            ensures { result ≡ shown_cmp first.now second.now }
+        { queue_order(first, second) },
+    );
+    Ok(claims)
+}
