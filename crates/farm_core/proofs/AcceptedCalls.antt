@@ -14,7 +14,7 @@ use Rattle.farm_types.specs.declared.calls.Call.{Call}
 use Rattle.farm_types.specs.declared.rows.ResRow.{ResRow}
 use Rattle.farm_sound.proofs.Answered.{unrefused}
 use Rattle.farm_sound.proofs.Accepted.{low_res}
-use Rattle.farm_core.specs.Reached.{IsSmallCmd}
+use Rattle.farm_core.specs.Calls.{IsSmallCmd}
 
 clear_first : (test : Bool) (code : ℕ) (rest : List Reason) → first_code ((test, code) ∷ rest) ≡ None → test ≡ false
 clear_first true code rest is = cc

@@ -2,7 +2,7 @@ pub mod Plain
 pub mod Orderly
 pub mod Tracks
 pub mod Edits
-pub mod Reached
+pub mod Calls
 pub mod Serving
 pub mod Shown
 pub mod Answers

@@ -6,7 +6,7 @@ ghost use Rattle.farm_types.specs.Change.{act, keep, change};
 ghost use Rattle.farm_types.specs.Sound.{IsSound};
 ghost use Rattle.farm_core.specs.Plain.{plain};
 ghost use Rattle.farm_core.specs.Orderly.{IsOrderly};
-ghost use Rattle.farm_core.specs.Reached.{IsSmallCmd};
+ghost use Rattle.farm_core.specs.Calls.{IsSmallCmd};
 ghost use Rattle.farm_core.specs.Tracks.{Tracks, AreSmallRows, IsSmallReply};
 
 use crate::tables::{Tables, no_changes};

@@ -2,22 +2,18 @@
 use Rattle.std.proofs.Common.{◌≡◌, ◌≢◌, ◌≤◌, arith, ◌↔◌, ℕ, List, Bool, true, false, refl, sym, ap, ◌∙◌, subst, Ok, Err, inl, inr}
 use Rattle.std.specs.Prelude.{Result}
 use Rattle.sqlite_trees.specs.declared.store.Store.{Ghosts}
-use Rattle.farm_types.specs.Farm.{Farm}
 use Rattle.farm_types.specs.Machine.{Answered, answer, step}
 use Rattle.farm_types.specs.Refuse.{kind_of}
 use Rattle.farm_types.specs.declared.calls.Answer.{Answer}
 use Rattle.farm_types.specs.declared.calls.Call.{Call}
-use Rattle.farm_types.specs.declared.calls.Cmd.{Cmd}
-use Rattle.farm_types.specs.declared.refusal.TheConstants.{NO_ROUTE}
 use Rattle.farm_core.specs.Answers.{IsChange}
-use Rattle.farm_core.specs.Reached.{IsReached}
 use Rattle.farm_keep.specs.Faults.{fault_code}
 use Rattle.farm_keep.specs.Kept.{Kept, Keeps, KeepsEither}
 use Rattle.farm_keep.specs.declared.fault.KeepFault.{KeepFault}
 use Rattle.farm_wire.specs.Reading.{Denial}
 use Rattle.farm_wire.specs.Replies.{reply_bytes}
 use Rattle.farm_wire.specs.declared.ask.Ask.{Ask}
-use Rattle.farm_desk.specs.Answers.{IsView, IsLook, Says, Does, DoesIfKnown, denied, is_known, refusal, replied}
+use Rattle.farm_desk.specs.Answers.{IsView, IsLook, Says, Does, denied, refusal, replied}
 use Rattle.farm_desk.specs.Due.{Closes, IsDueTo, RunsOut}
 use Rattle.farm_desk.specs.Made.{IsMadeOf, IsMadeOfOne}
 use Rattle.farm_desk.specs.declared.fault.DeskFault.{DeskFault}
@@ -53,34 +49,23 @@ denial_is_due g k why bytes (Ok status) made = record { says = made; rests = ref
 denial_is_due g k why bytes (Err fault) made =
     due_when_short g k k (Err why) bytes fault made.fault_is (record { says = made.bytes_are; stays_open = refl; farm = refl })
 
--- a view of no rows that are there yet
-pub is_other_view : (view : Ask) (F : Farm) → (view ≡ Ask.Types → ⊥) → (view ≡ Ask.Boards → ⊥) → (view ≡ Ask.Status → ⊥) → (view ≡ Ask.Reservations → ⊥) → ((number : ℕ) → view ≡ Ask.Job number → ⊥) → IsView view F (refusal NO_ROUTE)
-is_other_view Ask.Types F types boards status reservations jobs = absurd (types refl)
-is_other_view Ask.Boards F types boards status reservations jobs = absurd (boards refl)
-is_other_view Ask.Status F types boards status reservations jobs = absurd (status refl)
-is_other_view Ask.Queue F types boards status reservations jobs = refl
-is_other_view Ask.Reservations F types boards status reservations jobs = absurd (reservations refl)
-is_other_view (Ask.Job number) F types boards status reservations jobs = absurd (jobs number refl)
-is_other_view (Ask.Call call) F types boards status reservations jobs = refl
-
 -- ---- calls
 
 -- a call that the machine answered, or for whose answer there was no memory
 pub call_is_due : {S : Type 0} (g : Ghosts S) (old new : Kept S) (call : Call) (told : Answered) (bytes : List ℕ) (end : Result ℕ DeskFault)
-    → is_known call ≡ true → told ≡ answer old.farm.farm call → new.farm.farm ≡ step old.farm.farm call
+    → told ≡ answer old.farm.farm call → new.farm.farm ≡ step old.farm.farm call
     → (old.is_open ≡ true) × (new.is_open ≡ true) → (Keeps g old → Keeps g new)
     → IsMadeOf (replied (kind_of call.cmd) told) bytes end
     → IsDueTo g old new (Ok (Ask.Call call)) bytes end
-call_is_due g old new call told bytes (Ok status) known same farm opened stands made =
-    let done : Does g old new call bytes status = record {
+call_is_due g old new call told bytes (Ok status) same farm opened stands made =
+    record {
       was_open = opened.0;
       stays_open = opened.1;
       says = subst (λ a. Says (replied (kind_of call.cmd) a) bytes status) same made;
       farm = farm;
       stands = stands;
-    } in
-    subst (λ b. DoesIfKnown g old new b call bytes status) (sym known) done
-call_is_due g old new call told bytes (Err fault) known same farm opened stands made =
+    }
+call_is_due g old new call told bytes (Err fault) same farm opened stands made =
     due_when_short g old new (Ok (Ask.Call call)) bytes fault made.fault_is
     (record { says = made.bytes_are; stays_open = opened.1 ∙ sym opened.0; farm = inr (record { farm = farm; stands = stands }) })
 
@@ -129,20 +114,3 @@ fault_is_due g old new call KeepFault.Closed bytes end memory store closed still
     subst (λ e. IsDueTo g old new (Ok (Ask.Call call)) bytes e) (sym ends) closes
 fault_is_due g old new call KeepFault.BadStore bytes end memory store closed still other says ends = absurd (other.0 refl)
 fault_is_due g old new call KeepFault.OldSchema bytes end memory store closed still other says ends = absurd (other.1 refl)
-
--- the farm knows every command but the last
-pub reached : (cmd : Cmd) → kind_of cmd ≤ 13 → IsReached cmd
-reached Cmd.Pass low = absurd (omega arith)
-reached (Cmd.AddType name check) low = tt
-reached (Cmd.AddBoard name kind tags) low = tt
-reached (Cmd.SetTags name tags) low = tt
-reached (Cmd.SetHealth name health) low = tt
-reached (Cmd.Submit priority wants roles body) low = tt
-reached (Cmd.Cancel number) low = tt
-reached (Cmd.Start number) low = tt
-reached (Cmd.Finish number outcome) low = tt
-reached (Cmd.Reserve priority tags) low = tt
-reached (Cmd.Acquire number) low = tt
-reached (Cmd.Release number) low = tt
-reached (Cmd.Refresh number) low = tt
-reached (Cmd.CancelRes number) low = tt

@@ -1,21 +1,22 @@
 -- What is answered to what was asked, and what becomes of the keeper.
-use Rattle.std.specs.Prelude.{◌≡◌, ℕ, Bool, true, false, nat_le, List, Option, Some, None, Result, Ok, Err}
+use Rattle.std.specs.Prelude.{◌≡◌, ℕ, true, List, map, Option, Some, None, Result, Ok, Err}
 use Rattle.sqlite_trees.specs.declared.store.Store.{Ghosts}
 use Rattle.farm_types.specs.Farm.{Farm, job_of, status_of}
 use Rattle.farm_types.specs.Machine.{Answered, Changed, Repeated, Denied, answer, step}
+use Rattle.farm_types.specs.Pick.{queue, shown_claim}
 use Rattle.farm_types.specs.Refuse.{kind_of}
 use Rattle.farm_types.specs.declared.calls.Call.{Call}
+use Rattle.farm_types.specs.declared.claims.Claim.{Claim}
 use Rattle.farm_types.specs.declared.rows.TypeRow.{TypeRow}
 use Rattle.farm_types.specs.declared.rows.BoardRow.{BoardRow}
 use Rattle.farm_types.specs.declared.rows.ResRow.{ResRow}
 use Rattle.farm_types.specs.declared.rows.JobRow.{JobRow}
-use Rattle.farm_types.specs.declared.refusal.TheConstants.{NO_JOB, NO_ROUTE}
+use Rattle.farm_types.specs.declared.refusal.TheConstants.{NO_JOB}
 use Rattle.farm_keep.specs.Kept.{Kept, Keeps}
 use Rattle.farm_wire.specs.Reading.{Denial, refused, other_methods}
 use Rattle.farm_wire.specs.Replies.{reply_bytes, status_or}
 use Rattle.farm_wire.specs.declared.ask.Ask.{Ask}
 use Rattle.farm_wire.specs.declared.out.Out.{Out}
-use Rattle.farm_desk.specs.declared.answer.TheConstants.{LAST_COMMAND}
 
 -- ---- which answer it is
 
@@ -51,6 +52,10 @@ abbrev pub ListsReservations : List ResRow → Out → Type 0
 ListsReservations rows (Out.Reservations lent) = lent.now ≡ rows
 ListsReservations rows out = ⊥
 
+abbrev pub ListsClaims : List Claim → Out → Type 0
+ListsClaims claims (Out.Queue lent) = lent.now ≡ claims
+ListsClaims claims out = ⊥
+
 -- the answer shows the job, or says that there is none
 abbrev pub ShowsJob : Option JobRow → Out → Type 0
 ShowsJob (Some job) (Out.Job lent) = lent.now ≡ job
@@ -62,9 +67,10 @@ abbrev pub IsView : Ask → Farm → Out → Type 0
 IsView Ask.Types F out = ListsTypes F.types out
 IsView Ask.Boards F out = ListsBoards F.boards out
 IsView Ask.Reservations F out = ListsReservations F.reservations out
+IsView Ask.Queue F out = ListsClaims (map shown_claim (queue F)) out
 IsView Ask.Status F out = out ≡ Out.Status (status_of F)
 IsView (Ask.Job number) F out = ShowsJob (job_of F number) out
-IsView view F out = out ≡ refusal NO_ROUTE
+IsView (Ask.Call call) F out = ⊥
 
 -- its HTTP status
 abbrev pub http_status : Out → ℕ
@@ -100,17 +106,8 @@ pub record Shows {S : Type 0} (old new : Kept S) (view : Ask) (bytes : List ℕ)
   pub says : Says out bytes status
   pub rests : new ≡ old
 
--- the farm has the command by now
-abbrev pub is_known : Call → Bool
-is_known call = nat_le (kind_of call.cmd) LAST_COMMAND
-
--- a command is done, and one that the farm lacks leads nowhere
-abbrev pub DoesIfKnown : {S : Type 0} → Ghosts S → Kept S → Kept S → Bool → Call → List ℕ → ℕ → Type 0
-DoesIfKnown g old new true call bytes status = Does g old new call bytes status
-DoesIfKnown g old new false call bytes status = Refuses old new (refused NO_ROUTE) bytes status
-
 -- what was asked is answered
 abbrev pub Answers : {S : Type 0} → Ghosts S → Kept S → Kept S → Result Ask Denial → List ℕ → ℕ → Type 0
 Answers g old new (Err why) bytes status = Refuses old new why bytes status
-Answers g old new (Ok (Ask.Call call)) bytes status = DoesIfKnown g old new (is_known call) call bytes status
+Answers g old new (Ok (Ask.Call call)) bytes status = Does g old new call bytes status
 Answers g old new (Ok view) bytes status = Shows old new view bytes status

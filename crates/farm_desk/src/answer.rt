@@ -1,11 +1,12 @@
 //! Answering what was asked.
-ghost use Rattle.std.specs.Prelude.{◌≡◌, ◌≤◌, false, Ok};
+ghost use Rattle.std.specs.Prelude.{◌≡◌, ◌≤◌, false, map, Ok};
 ghost use Rattle.sqlite.specs.Held.{state};
 ghost use Rattle.sqlite_trees.specs.View.{doubt};
 ghost use Rattle.farm_core.specs.Answers.{shown as told};
 ghost use Rattle.farm_types.specs.Farm.{job_of};
+ghost use Rattle.farm_types.specs.Pick.{queue, shown_claim};
 ghost use Rattle.farm_types.specs.Refuse.{kind_of};
-ghost use Rattle.farm_desk.specs.Answers.{replied, IsView, IsLook, ShowsJob};
+ghost use Rattle.farm_desk.specs.Answers.{replied, IsView, IsLook, ListsClaims, ShowsJob};
 ghost use Rattle.farm_desk.specs.Due.{IsDueTo};
 ghost use Rattle.farm_desk.specs.Made.{IsMadeOfOne, bytes_in};
 ghost use Rattle.farm_wire.specs.declared.ask.Ask.{Ask as Asking};
@@ -14,7 +15,7 @@ use crate::due::Due;
 use farm_core::farm::Farm;
 use farm_keep::{KeepFault, Keeper};
 use farm_types::calls::{Answer, Call};
-use farm_types::refusal::{NO_JOB, NO_ROUTE, Refusal};
+use farm_types::refusal::{NO_JOB, Refusal};
 use farm_wire::ask::Ask;
 use farm_wire::out::Out;
 use sqlite::Alter;
@@ -31,22 +32,16 @@ pub(crate) fn due_to<S: Alter>(alloc: Global, keeper: &mut Keeper<S>, ask: &Ask)
     }
 }
 
-/// The answer due to a call, which is done if the farm has its command.
+/// The answer due to a call.
 fn due_to_call<S: Alter>(alloc: Global, keeper: &mut Keeper<S>, call: &Call) -> Due
     ensures due { IsDueTo S.Store keeper.old keeper.new (Ok (Asking.Call call.entry.now)) (bytes_in result.bytes) result.end }
     ensures clean { doubt (state S.Store keeper.old.conn).is_clean ≤ doubt (state S.Store keeper.new.conn).is_clean }
 {
-    if call.cmd.kind() > LAST_COMMAND {
-        return Due::of(alloc, &Out::Refused(Refusal { code: NO_ROUTE }));
-    }
     match keeper.act(call) {
         Ok(answer) => Due::of(alloc, &reply_of(call, &answer)),
         Err(fault) => Due::closing(fault),
     }
 }
-
-/// The number of the last command that the farm has by now; the routes of the others lead nowhere.
-const LAST_COMMAND: u64 = 13;
 
 /// What a caller is told of the machine's answer.
 fn reply_of(call: &Call, answer: &Answer) -> Out<'static>
@@ -71,7 +66,8 @@ fn due_to_view<S: Alter>(alloc: Global, keeper: &Keeper<S>, view: &Ask) -> Due
 
 /// What a view shows of a farm.
 fn show(alloc: Global, farm: &Farm, view: &Ask) -> Due
-    requires { farm.now.failed ≡ false }
+    requires working { farm.now.failed ≡ false }
+    requires look { IsLook view.now }
     ensures { IsMadeOfOne (IsView view.now farm.now.farm) (bytes_in result.bytes) result.end }
 {
     match view {
@@ -80,7 +76,19 @@ fn show(alloc: Global, farm: &Farm, view: &Ask) -> Due
         Ask::Status => Due::of(alloc, &Out::Status(farm.status())),
         Ask::Reservations => Due::of(alloc, &Out::Reservations(farm.reservations())),
         Ask::Job(number) => show_job(alloc, farm, *number),
-        _ => Due::of(alloc, &Out::Refused(Refusal { code: NO_ROUTE })),
+        Ask::Queue => show_queue(alloc, farm),
+        Ask::Call(_) => unreachable!(),
+    }
+}
+
+/// What the view of the queue shows.
+fn show_queue(alloc: Global, farm: &Farm) -> Due
+    requires { farm.now.failed ≡ false }
+    ensures { IsMadeOfOne (ListsClaims (map shown_claim (queue farm.now.farm))) (bytes_in result.bytes) result.end }
+{
+    match farm.queue() {
+        Ok(claims) => Due::of(alloc, &Out::Queue(claims.as_slice())),
+        Err(_) => Due::no_memory(),
     }
 }
 

@@ -3,7 +3,6 @@ ghost use Rattle.std.specs.Prelude.{◌≡◌, ◌≢◌, ◌≤◌, ◌↔◌, 
 ghost use Rattle.sqlite.specs.Held.{state};
 ghost use Rattle.sqlite_trees.specs.View.{doubt};
 ghost use Rattle.farm_types.specs.Farm.{empty};
-ghost use Rattle.farm_core.specs.Reached.{IsReached};
 ghost use Rattle.farm_types.specs.Machine.{answer, step};
 ghost use Rattle.farm_types.specs.Sound.{IsSound};
 ghost use Rattle.farm_core.specs.Answers.{shown, IsChange};
@@ -101,8 +100,6 @@ impl<S: Alter> Keeper<S> {
     /// One command, made durable before it is answered. A change costs one transaction over the
     /// rows that it changed; a kept reply and a refusal ask nothing of the store.
     pub fn act(&mut self, call: &Call) -> Result<Answer, KeepFault>
-        requires { IsReached call.now.cmd }
-
         // The answer is the machine's, and so is the farm, which the store then keeps.
         ensures answer { IfOk result (λ a. shown a ≡ answer self.old.farm.farm call.entry.now) }
         ensures farm { OnOk result (self.new.farm.farm ≡ step self.old.farm.farm call.entry.now) }

@@ -2,8 +2,6 @@
 mod calls;
 mod stops;
 
-ghost use Rattle.farm_core.specs.Reached.{IsReached};
-
 use super::*;
 use calls::{add_board, add_type, set_health, set_tags};
 use farm_types::calls::{Answer, Call};
@@ -28,9 +26,7 @@ fn word_of(answer: &Answer) -> (&'static str, u64) {
 }
 
 /// What the keeper answered to a call, in a word, and its number or its code.
-fn told<S: Alter>(keeper: &mut Keeper<S>, call: &Call) -> Result<(&'static str, u64), Fail>
-    requires { IsReached call.now.cmd }
-{
+fn told<S: Alter>(keeper: &mut Keeper<S>, call: &Call) -> Result<(&'static str, u64), Fail> {
     Ok(word_of(&keeper.act(call)?))
 }
 

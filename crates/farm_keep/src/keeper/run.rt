@@ -1,9 +1,8 @@
 //! One call after another.
-ghost use Rattle.std.specs.Prelude.{◌≡◌, ◌≢◌, ◌≤◌, ◌<◌, ◌+◌, ℕ, true, false, Err, Some, IfOk, IfNone, All, map, take, length};
+ghost use Rattle.std.specs.Prelude.{◌≡◌, ◌≢◌, ◌≤◌, ◌<◌, ◌+◌, ℕ, true, false, Err, Some, IfOk, IfNone, map, take, length};
 ghost use Rattle.sqlite.specs.Held.{state};
 ghost use Rattle.sqlite_trees.specs.View.{doubt};
 ghost use Rattle.farm_types.specs.Farm.{Farm as Plain};
-ghost use Rattle.farm_core.specs.Reached.{IsReached};
 ghost use Rattle.farm_types.specs.Machine.{run};
 ghost use Rattle.farm_types.specs.Sound.{IsSound};
 ghost use Rattle.farm_core.specs.Answers.{shown};
@@ -35,7 +34,6 @@ impl<S: Alter + Drop> Keeper<S> {
         calls: &[Call],
     ) -> Result<(Keeper<S>, RunEnd), KeepFault>
         requires autocommit { conn.in_transaction ≡ false }
-        requires reached { All (λ call. IsReached call.cmd) calls.now }
         ensures headline { IfOk result (λ r. (F : Plain) → IsSound F
             → Stands (state S.Store conn) (rows_of F) → ResumesAs S.Store r.0 r.1 F calls.now) }
         ensures fault { result ≢ Err KeepFault.Closed }
@@ -50,8 +48,6 @@ impl<S: Alter> Keeper<S> {
     /// One call after another, up to the first fault. Room for all answers is made first: where
     /// there is no memory for it, nothing is done and the keeper is closed.
     pub fn run(&mut self, alloc: Global, calls: &[Call]) -> RunEnd
-        requires { All (λ call. IsReached call.cmd) calls.now }
-
         // The answers are the machine's, one for each call that was done.
         ensures counted { length result.answers.items ≡ result.done }
         ensures within { result.done ≤ length calls.now }

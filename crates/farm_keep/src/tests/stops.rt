@@ -1,6 +1,5 @@
 //! One command, stopped at each call of the store in turn.
 ghost use Rattle.std.specs.Prelude.{◌≡◌, false, IfSome};
-ghost use Rattle.farm_core.specs.Reached.{IsReached};
 
 use super::calls::add_type;
 use super::count_of;
@@ -72,9 +71,7 @@ fn counted(alloc: Global, files: Files<Fuse<Memory>>) -> Result<u64, Fail> {
     Ok(count)
 }
 
-fn is_done<S: Alter>(keeper: &mut Keeper<S>, call: &Call) -> bool
-    requires { IsReached call.now.cmd }
-{
+fn is_done<S: Alter>(keeper: &mut Keeper<S>, call: &Call) -> bool {
     keeper.act(call).is_ok()
 }
 

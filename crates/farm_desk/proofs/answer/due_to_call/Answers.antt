@@ -1,17 +1,12 @@
 -- The keeper's answer and its faults, as what is due.
-use Rattle.std.proofs.Common.{◌≡◌, ◌≤◌, true, rules, subst, arith}
-use Rattle.farm_desk.specs.Answers.{is_known}
+use Rattle.std.proofs.Common.{◌≡◌, subst}
 use Rattle.farm_desk.specs.Made.{IsMadeOf, bytes_in}
-use Rattle.farm_desk.proofs.AnswerLemmas.{call_is_due, fault_is_due, reached}
+use Rattle.farm_desk.proofs.AnswerLemmas.{call_is_due, fault_is_due}
 use Rattle.farm_desk.proofs.answer.due_to_call.Goals as goal
-
-pub act-requires : goal.act-requires
-act-requires g c = reached c.args.call.now.cmd (search rules)
 
 pub returns-in-Ok-clause-due : goal.returns-in-Ok-clause-due
 returns-in-Ok-clause-due g c =
-    let known : is_known c.args.call.now ≡ true = search rules in
-    call_is_due g.S.Store c.args.keeper.now c.act.new.self c.args.call.now _ _ _ known c.in-Ok.ensures.answer c.in-Ok.ensures.farm
+    call_is_due g.S.Store c.args.keeper.now c.act.new.self c.args.call.now _ _ _ c.in-Ok.ensures.answer c.in-Ok.ensures.farm
     c.in-Ok.ensures.opened c.in-Ok.ensures.stands (subst (λ out. IsMadeOf out (bytes_in c.of-in-Ok.result.bytes) c.of-in-Ok.result.end) c.reply_of.ensures c.of-in-Ok.ensures)
 
 pub returns-in-Err-clause-due : goal.returns-in-Err-clause-due

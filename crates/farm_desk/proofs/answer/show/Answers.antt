@@ -1,11 +1,7 @@
 -- Each view's answer, with the rows that it lends.
 use Rattle.std.proofs.Common.{◌≡◌, refl, sym, subst}
-use Rattle.farm_types.specs.Farm.{Farm}
-use Rattle.farm_types.specs.declared.refusal.TheConstants.{NO_ROUTE}
-use Rattle.farm_wire.specs.declared.ask.Ask.{Ask}
 use Rattle.farm_wire.specs.declared.out.Out.{Out}
-use Rattle.farm_desk.specs.Answers.{IsView, refusal}
-use Rattle.farm_desk.proofs.AnswerLemmas.{is_other_view}
+use Rattle.farm_desk.specs.Answers.{IsView}
 use Rattle.farm_desk.proofs.answer.show.Goals as goal
 
 pub returns-in-Types : goal.returns-in-Types
@@ -20,9 +16,9 @@ returns-in-Status c = (Out.Status c.status.result, rw (c.in-Status.is, c.status.
 pub returns-in-Reservations : goal.returns-in-Reservations
 returns-in-Reservations c = (Out.Reservations c.reservations.result, rw c.in-Reservations.is c.reservations.ensures, c.of-in-Reservations.ensures)
 
-pub returns-in_default : goal.returns-in_default
-returns-in_default c =
-    (refusal NO_ROUTE, is_other_view c.args.view.now c.args.farm.now.farm c.in_default.not-Types c.in_default.not-Boards c.in_default.not-Status c.in_default.not-Reservations c.in_default.not-Job, c.of-in_default.ensures)
+pub returns-in-Queue : goal.returns-in-Queue
+returns-in-Queue c =
+    (c.show_queue.ensures.0, subst (λ view. IsView view c.args.farm.now.farm c.show_queue.ensures.0) (sym c.in-Queue.is) c.show_queue.ensures.1, c.show_queue.ensures.2)
 
 pub returns-in-Job : goal.returns-in-Job
 returns-in-Job c =

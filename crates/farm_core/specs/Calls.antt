@@ -2,11 +2,6 @@
 use Rattle.farm_types.specs.Small.{IsSmall}
 use Rattle.farm_types.specs.declared.calls.Cmd.{Cmd}
 
--- the commands that the program knows so far: all but the pass
-abbrev pub IsReached : Cmd → Type 0
-IsReached Cmd.Pass = ⊥
-IsReached cmd = Unit {0}
-
 -- the number of a reservation is small
 abbrev pub IsSmallCmd : Cmd → Type 0
 IsSmallCmd (Cmd.Acquire number) = IsSmall number
