@@ -60,8 +60,8 @@ fn nearby(behind: &[JobRow]) -> &[JobRow]
     &behind[..behind.len().min(MOST_MATES)]
 }
 
-/// Whether the job is the first of a group whose members are all Submitted. Of most jobs it reads
-/// two numbers alone.
+/// Whether the job is the first of a group whose members are all Submitted. The rows near it are
+/// looked at only where it is Submitted itself.
 fn leads(job: &JobRow, near: &[JobRow]) -> bool
     ensures { result ≡ leads job.now near.now }
 {
