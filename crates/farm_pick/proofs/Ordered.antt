@@ -1,5 +1,5 @@
 -- A list in strict order is the only sorted list of its elements.
-use Rattle.std.proofs.Common.{◌≡◌, ◌⊎◌, inl, inr, ◌+◌, List, [], ◌∷◌, get_or, Bool, true, false, sym, ap, ◌∙◌, refl, subst, arith}
+use Rattle.std.proofs.Common.{◌≡◌, ◌⊎◌, inl, inr, ◌+◌, List, [], ◌∷◌, get_or, Bool, false, sym, ap, ◌∙◌, refl, subst, arith}
 use mathlib.Core.Bool.{true≢false}
 use denote.Ref.{Bor}
 use denote.Param.Members.{Mut}

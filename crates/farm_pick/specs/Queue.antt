@@ -1,5 +1,5 @@
 -- The queue's claims as the rows show them: a reservation by itself, a group by its first member and the rows behind it.
-use Rattle.std.specs.Prelude.{ℕ, ◌==◌, ◌&&◌, Bool, List, [], ◌∷◌, length, take, filter, if◌then◌else◌}
+use Rattle.std.specs.Prelude.{◌==◌, ◌&&◌, Bool, List, [], ◌∷◌, length, take, filter, if◌then◌else◌}
 use Rattle.std.specs.List.{list_all}
 use Rattle.farm_types.specs.Codes.{same_job_state}
 use Rattle.farm_types.specs.Pick.{res_claim, shown_claim}

@@ -4,7 +4,7 @@ ghost use Rattle.std.specs.List.{list_all};
 ghost use Rattle.farm_types.specs.Farm.{Farm};
 ghost use Rattle.farm_types.specs.Sound.{IsSteady};
 ghost use Rattle.farm_types.specs.Pick.{is_waiting, queue, shown_claim, shown_cmp};
-ghost use Rattle.farm_pick.specs.Queue.{shown_reservation, is_submitted, mates, leads, shown_group, shown_groups};
+ghost use Rattle.farm_pick.specs.Queue.{shown_reservation, is_submitted, leads, shown_group, shown_groups};
 
 use crate::order::queue_order;
 use farm_types::claims::{Claim, ClaimKind};
@@ -60,8 +60,8 @@ fn nearby(behind: &[JobRow]) -> &[JobRow]
     &behind[..behind.len().min(MOST_MATES)]
 }
 
-/// Whether the job is the first of a group whose members are all Submitted. Of most jobs it reads
-/// two numbers alone.
+/// Whether the job is the first of a group whose members are all Submitted. The rows near it are
+/// looked at only where it is Submitted itself.
 fn leads(job: &JobRow, near: &[JobRow]) -> bool
     ensures { result ≡ leads job.now near.now }
 {

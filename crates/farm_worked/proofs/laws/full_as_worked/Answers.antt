@@ -1,0 +1,58 @@
+use Rattle.std.proofs.Common.{◌≡◌, ◌∷◌, [], length, refl}
+use Rattle.farm_types.specs.Words.{is_word, is_tag, is_tags}
+use Rattle.farm_types.specs.Pick.{least}
+use Rattle.farm_types.specs.Refuse.{refusal, early_refusal, own_refusal}
+use Rattle.farm_types.specs.Change.{change, replied}
+use Rattle.farm_types.specs.Machine.{Denied, Repeated, run, answer, step}
+use Rattle.farm_types.specs.Worked.{answers, did}
+use Rattle.farm_worked.specs.Full.{with_jobs, with_reservations, with_kept, one_more_group, one_more_reservation, one_more_key, first_key, without_a_key}
+use Rattle.farm_worked.proofs.laws.full_as_worked.Goals as goal
+
+jobs_beyond : answers (with_jobs 99999) one_more_group ≡ Denied 4 ∷ []
+unfolding one_more_group is_word is_tag is_tags least refusal early_refusal own_refusal change answer step
+jobs_beyond = refl
+
+jobs_full : answers (with_jobs 99998) one_more_group ≡ did 99999 ∷ []
+unfolding one_more_group is_word is_tag is_tags least refusal early_refusal own_refusal change answer step
+jobs_full = refl
+
+jobs_full_length : length (run (with_jobs 99998) one_more_group).jobs ≡ 100000
+unfolding one_more_group is_word is_tag is_tags least refusal early_refusal own_refusal change answer step
+jobs_full_length = refl
+
+reservations_beyond : answers (with_reservations 100000) one_more_reservation ≡ Denied 4 ∷ []
+unfolding one_more_reservation is_word is_tag is_tags least refusal early_refusal own_refusal change answer step
+reservations_beyond = refl
+
+reservations_full : answers (with_reservations 99999) one_more_reservation ≡ did 100000 ∷ []
+unfolding one_more_reservation is_word is_tag is_tags least refusal early_refusal own_refusal change answer step
+reservations_full = refl
+
+reservations_full_length : length (run (with_reservations 99999) one_more_reservation).reservations ≡ 100000
+unfolding one_more_reservation is_word is_tag is_tags least refusal early_refusal own_refusal change answer step
+reservations_full_length = refl
+
+kept_beyond : answers (with_kept 300000) one_more_key ≡ Denied 4 ∷ []
+unfolding one_more_key is_word is_tag is_tags least refusal early_refusal own_refusal change answer step
+kept_beyond = refl
+
+kept_repeated : answers (with_kept 300000) first_key ≡ Repeated (replied 0 0 0) ∷ []
+unfolding first_key is_word is_tag is_tags least refusal early_refusal own_refusal change answer step
+kept_repeated = refl
+
+kept_passed_by : answers (with_kept 300000) without_a_key ≡ did 0 ∷ []
+unfolding without_a_key is_word is_tag is_tags least refusal early_refusal own_refusal change answer step
+kept_passed_by = refl
+
+pub returns : goal.returns
+returns c = record {
+  jobs_beyond = jobs_beyond;
+  jobs_full = jobs_full;
+  jobs_full_length = jobs_full_length;
+  reservations_beyond = reservations_beyond;
+  reservations_full = reservations_full;
+  reservations_full_length = reservations_full_length;
+  kept_beyond = kept_beyond;
+  kept_repeated = kept_repeated;
+  kept_passed_by = kept_passed_by;
+}

@@ -1,0 +1,25 @@
+use Rattle.std.proofs.Common.{refl}
+use Rattle.farm_types.specs.Words.{is_word, is_tag, is_tags}
+use Rattle.farm_types.specs.Pick.{least}
+use Rattle.farm_types.specs.Refuse.{refusal, early_refusal, own_refusal}
+use Rattle.farm_types.specs.Change.{change}
+use Rattle.farm_types.specs.Machine.{answer, step}
+use Rattle.farm_worked.specs.Groups.{group_asks, group_is_served, group_starts, one_member_ends, the_other_ends, canceled_while_it_waits}
+use Rattle.farm_worked.proofs.laws.groups_as_worked.Goals as goal
+
+pub returns : goal.returns
+unfolding group_asks group_is_served group_starts one_member_ends the_other_ends canceled_while_it_waits is_word is_tag is_tags least refusal early_refusal own_refusal change answer step
+returns c = record {
+  group_asks_answers = refl;
+  group_asks_leaves = refl;
+  group_is_served_answers = refl;
+  group_is_served_leaves = refl;
+  group_starts_answers = refl;
+  group_starts_leaves = refl;
+  one_member_ends_answers = refl;
+  one_member_ends_leaves = refl;
+  the_other_ends_answers = refl;
+  the_other_ends_leaves = refl;
+  canceled_while_it_waits_answers = refl;
+  canceled_while_it_waits_leaves = refl;
+}

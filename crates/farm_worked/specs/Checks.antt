@@ -1,0 +1,129 @@
+-- Worked scripts of checks, and of the board that they check, up to its retirement.
+use Rattle.std.specs.Prelude.{◌≡◌, List, [], ◌∷◌, Some, None, codes, refl, true, false}
+use Rattle.std.specs.Char.{encode_utf8}
+use Rattle.std.specs.Str.{is_utf8, chars}
+use Rattle.farm_types.specs.Words.{is_word, is_tag, is_tags}
+use Rattle.farm_types.specs.Proper.{is_proper_cmd}
+use Rattle.farm_types.specs.Farm.{Farm, empty}
+use Rattle.farm_types.specs.Machine.{Denied, run}
+use Rattle.farm_types.specs.Worked.{answers, did, passed, by_admin, by_dispatcher, by_ann, new_type, new_board, set, a_board}
+use Rattle.farm_types.specs.declared.rows.Check.{Check}
+use Rattle.farm_types.specs.declared.rows.Health.{Health}
+use Rattle.farm_types.specs.declared.rows.State.{State}
+use Rattle.farm_types.specs.declared.rows.Holder.{Holder}
+use Rattle.farm_types.specs.declared.rows.JobState.{JobState}
+use Rattle.farm_types.specs.declared.rows.Outcome.{Outcome}
+use Rattle.farm_types.specs.declared.calls.Cmd.{Cmd}
+use Rattle.farm_types.specs.declared.calls.Call.{Call}
+
+-- a board with a tag is Unknown, ann's job waits for it, and a pass makes a check
+unfoldable pub check_is_made : List Call
+unfolding is_proper_cmd is_word is_tag is_tags is_utf8 chars encode_utf8
+check_is_made =
+    by_admin 10 (new_type (Check.Hours 1)) refl
+    ∷ by_admin 10 (new_board (codes "b1") (codes "hdmi" ∷ [])) refl
+    ∷ by_admin 10 (set (codes "b1") Health.Unknown) refl
+    ∷ by_ann 20 (Cmd.Submit 100 (a_board [] ∷ []) (None ∷ []) (codes "one board")) refl
+    ∷ by_dispatcher 30 Cmd.Pass refl
+    ∷ []
+
+-- the check is a group of one, of the admin, with priority 100, the board's type alone as want, no role and no text
+abbrev pub after_check_is_made : Farm
+after_check_is_made = record {
+  types = record { name = codes "bbb"; check = Check.Hours 1 } ∷ [];
+  boards =
+      record { name = codes "b1"; kind = codes "bbb"; tags = codes "hdmi" ∷ []; health = Health.Unknown; state = State.Reserved; holder = Holder.Job 2; jobs_since = 0; last_check = 0 }
+      ∷ [];
+  jobs =
+      record { number = 1; group = 1; checking = false; owner = codes "ann"; priority = 100; want = a_board []; role = None; state = JobState.Submitted; outcome = None; board = None; body = codes "one board" }
+      ∷ record { number = 2; group = 2; checking = true; owner = codes "admin"; priority = 100; want = a_board []; role = None; state = JobState.Scheduled; outcome = None; board = Some (codes "b1"); body = [] }
+      ∷ [];
+  reservations = [];
+  kept = [];
+  clock = 30;
+  count = 5;
+  next = 3;
+}
+
+-- it ends well: the board is Good since that moment, and an hour is not over in the next pass
+unfoldable pub check_ends_well : List Call
+unfolding is_proper_cmd is_word is_tag is_tags is_utf8 chars encode_utf8
+check_ends_well =
+    by_dispatcher 31 (Cmd.Start 2) refl
+    ∷ by_dispatcher 90 (Cmd.Finish 2 Outcome.Complete) refl
+    ∷ by_dispatcher 100 Cmd.Pass refl
+    ∷ []
+
+abbrev pub after_check_ends_well : Farm
+after_check_ends_well = record after_check_is_made {
+  boards =
+      record { name = codes "b1"; kind = codes "bbb"; tags = codes "hdmi" ∷ []; health = Health.Good; state = State.Reserved; holder = Holder.Job 1; jobs_since = 0; last_check = 90 }
+      ∷ [];
+  jobs =
+      record { number = 1; group = 1; checking = false; owner = codes "ann"; priority = 100; want = a_board []; role = None; state = JobState.Scheduled; outcome = None; board = Some (codes "b1"); body = codes "one board" }
+      ∷ record { number = 2; group = 2; checking = true; owner = codes "admin"; priority = 100; want = a_board []; role = None; state = JobState.Finished; outcome = Some Outcome.Complete; board = Some (codes "b1"); body = [] }
+      ∷ [];
+  clock = 100;
+  count = 8;
+}
+
+-- the job ends by a fault of the lab: the board is Unknown, and the next check has the next number
+unfoldable pub lab_fault : List Call
+unfolding is_proper_cmd is_word is_tag is_tags is_utf8 chars encode_utf8
+lab_fault =
+    by_dispatcher 110 (Cmd.Start 1) refl
+    ∷ by_dispatcher 120 (Cmd.Finish 1 Outcome.Infra) refl
+    ∷ by_dispatcher 130 Cmd.Pass refl
+    ∷ by_dispatcher 131 (Cmd.Start 3) refl
+    ∷ []
+
+abbrev pub after_lab_fault : Farm
+after_lab_fault = record after_check_is_made {
+  boards =
+      record { name = codes "b1"; kind = codes "bbb"; tags = codes "hdmi" ∷ []; health = Health.Unknown; state = State.Running; holder = Holder.Job 3; jobs_since = 1; last_check = 90 }
+      ∷ [];
+  jobs =
+      record { number = 1; group = 1; checking = false; owner = codes "ann"; priority = 100; want = a_board []; role = None; state = JobState.Finished; outcome = Some Outcome.Infra; board = Some (codes "b1"); body = codes "one board" }
+      ∷ record { number = 2; group = 2; checking = true; owner = codes "admin"; priority = 100; want = a_board []; role = None; state = JobState.Finished; outcome = Some Outcome.Complete; board = Some (codes "b1"); body = [] }
+      ∷ record { number = 3; group = 3; checking = true; owner = codes "admin"; priority = 100; want = a_board []; role = None; state = JobState.Running; outcome = None; board = Some (codes "b1"); body = [] }
+      ∷ [];
+  clock = 131;
+  count = 12;
+  next = 4;
+}
+
+-- a held board can't be retired; the bad end frees it, and nobody holds it when it is
+unfoldable pub board_is_retired : List Call
+unfolding is_proper_cmd is_word is_tag is_tags is_utf8 chars encode_utf8
+board_is_retired =
+    by_admin 132 (set (codes "b1") Health.Retired) refl
+    ∷ by_dispatcher 140 (Cmd.Finish 3 Outcome.Incomplete) refl
+    ∷ by_admin 150 (set (codes "b1") Health.Retired) refl
+    ∷ by_dispatcher 160 Cmd.Pass refl
+    ∷ []
+
+abbrev pub after_board_is_retired : Farm
+after_board_is_retired = record after_check_is_made {
+  boards =
+      record { name = codes "b1"; kind = codes "bbb"; tags = codes "hdmi" ∷ []; health = Health.Retired; state = State.Idle; holder = Holder.Nobody; jobs_since = 1; last_check = 90 }
+      ∷ [];
+  jobs =
+      record { number = 1; group = 1; checking = false; owner = codes "ann"; priority = 100; want = a_board []; role = None; state = JobState.Finished; outcome = Some Outcome.Infra; board = Some (codes "b1"); body = codes "one board" }
+      ∷ record { number = 2; group = 2; checking = true; owner = codes "admin"; priority = 100; want = a_board []; role = None; state = JobState.Finished; outcome = Some Outcome.Complete; board = Some (codes "b1"); body = [] }
+      ∷ record { number = 3; group = 3; checking = true; owner = codes "admin"; priority = 100; want = a_board []; role = None; state = JobState.Finished; outcome = Some Outcome.Incomplete; board = Some (codes "b1"); body = [] }
+      ∷ [];
+  clock = 160;
+  count = 15;
+  next = 4;
+}
+
+-- what each script answers and leaves
+pub record ChecksAsWorked : Type 0 where
+  pub check_is_made_answers : answers empty check_is_made ≡ did 0 ∷ did 0 ∷ did 0 ∷ did 1 ∷ passed 1 0 0 ∷ []
+  pub check_is_made_leaves : run empty check_is_made ≡ after_check_is_made
+  pub check_ends_well_answers : answers after_check_is_made check_ends_well ≡ did 2 ∷ did 2 ∷ passed 0 0 1 ∷ []
+  pub check_ends_well_leaves : run after_check_is_made check_ends_well ≡ after_check_ends_well
+  pub lab_fault_answers : answers after_check_ends_well lab_fault ≡ did 1 ∷ did 1 ∷ passed 1 0 0 ∷ did 3 ∷ []
+  pub lab_fault_leaves : run after_check_ends_well lab_fault ≡ after_lab_fault
+  pub board_is_retired_answers : answers after_lab_fault board_is_retired ≡ Denied 14 ∷ did 3 ∷ did 0 ∷ passed 0 0 0 ∷ []
+  pub board_is_retired_leaves : run after_lab_fault board_is_retired ≡ after_board_is_retired

@@ -1,0 +1,166 @@
+-- Worked scripts of a group's rows, from its submission to its end.
+use Rattle.std.specs.Prelude.{◌≡◌, List, [], ◌∷◌, Some, None, codes, refl, false}
+use Rattle.std.specs.Char.{encode_utf8}
+use Rattle.std.specs.Str.{is_utf8, chars}
+use Rattle.farm_types.specs.Words.{is_word, is_tag, is_tags}
+use Rattle.farm_types.specs.Proper.{is_proper_cmd}
+use Rattle.farm_types.specs.Farm.{Farm, empty}
+use Rattle.farm_types.specs.Machine.{run}
+use Rattle.farm_types.specs.Worked.{answers, did, passed, by_admin, by_dispatcher, by_ann, new_type, new_board, set, a_board}
+use Rattle.farm_types.specs.declared.rows.Check.{Check}
+use Rattle.farm_types.specs.declared.rows.Health.{Health}
+use Rattle.farm_types.specs.declared.rows.State.{State}
+use Rattle.farm_types.specs.declared.rows.Holder.{Holder}
+use Rattle.farm_types.specs.declared.rows.JobState.{JobState}
+use Rattle.farm_types.specs.declared.rows.Outcome.{Outcome}
+use Rattle.farm_types.specs.declared.calls.Cmd.{Cmd}
+use Rattle.farm_types.specs.declared.calls.Call.{Call}
+
+-- boards are added out of order, and ann asks for two with a role each and one text
+unfoldable pub group_asks : List Call
+unfolding is_proper_cmd is_word is_tag is_tags is_utf8 chars encode_utf8
+group_asks =
+    by_admin 10 (new_type Check.Never) refl
+    ∷ by_admin 10 (new_board (codes "b2") []) refl
+    ∷ by_admin 10 (set (codes "b2") Health.Good) refl
+    ∷ by_admin 10 (new_board (codes "b1") (codes "hdmi" ∷ [])) refl
+    ∷ by_admin 10 (set (codes "b1") Health.Good) refl
+    ∷ by_ann 20 (Cmd.Submit 70 (a_board [] ∷ a_board (codes "hdmi" ∷ []) ∷ []) (Some (codes "client") ∷ Some (codes "server") ∷ []) (codes "two boards")) refl
+    ∷ []
+
+-- only the first member carries the text
+abbrev pub after_group_asks : Farm
+after_group_asks = record {
+  types = record { name = codes "bbb"; check = Check.Never } ∷ [];
+  boards =
+      record { name = codes "b1"; kind = codes "bbb"; tags = codes "hdmi" ∷ []; health = Health.Good; state = State.Idle; holder = Holder.Nobody; jobs_since = 0; last_check = 0 }
+      ∷ record { name = codes "b2"; kind = codes "bbb"; tags = []; health = Health.Good; state = State.Idle; holder = Holder.Nobody; jobs_since = 0; last_check = 0 }
+      ∷ [];
+  jobs =
+      record { number = 1; group = 1; checking = false; owner = codes "ann"; priority = 70; want = a_board []; role = Some (codes "client"); state = JobState.Submitted; outcome = None; board = None; body = codes "two boards" }
+      ∷ record { number = 2; group = 1; checking = false; owner = codes "ann"; priority = 70; want = a_board (codes "hdmi" ∷ []); role = Some (codes "server"); state = JobState.Submitted; outcome = None; board = None; body = [] }
+      ∷ [];
+  reservations = [];
+  kept = [];
+  clock = 20;
+  count = 6;
+  next = 3;
+}
+
+-- a pass gives each member the board of the least list
+unfoldable pub group_is_served : List Call
+unfolding is_proper_cmd is_word is_tag is_tags is_utf8 chars encode_utf8
+group_is_served =
+    by_dispatcher 30 Cmd.Pass refl
+    ∷ []
+
+abbrev pub after_group_is_served : Farm
+after_group_is_served = record after_group_asks {
+  boards =
+      record { name = codes "b1"; kind = codes "bbb"; tags = codes "hdmi" ∷ []; health = Health.Good; state = State.Reserved; holder = Holder.Job 2; jobs_since = 0; last_check = 0 }
+      ∷ record { name = codes "b2"; kind = codes "bbb"; tags = []; health = Health.Good; state = State.Reserved; holder = Holder.Job 1; jobs_since = 0; last_check = 0 }
+      ∷ [];
+  jobs =
+      record { number = 1; group = 1; checking = false; owner = codes "ann"; priority = 70; want = a_board []; role = Some (codes "client"); state = JobState.Scheduled; outcome = None; board = Some (codes "b2"); body = codes "two boards" }
+      ∷ record { number = 2; group = 1; checking = false; owner = codes "ann"; priority = 70; want = a_board (codes "hdmi" ∷ []); role = Some (codes "server"); state = JobState.Scheduled; outcome = None; board = Some (codes "b1"); body = [] }
+      ∷ [];
+  clock = 30;
+  count = 7;
+}
+
+-- one Start starts both
+unfoldable pub group_starts : List Call
+unfolding is_proper_cmd is_word is_tag is_tags is_utf8 chars encode_utf8
+group_starts =
+    by_dispatcher 31 (Cmd.Start 2) refl
+    ∷ []
+
+abbrev pub after_group_starts : Farm
+after_group_starts = record after_group_asks {
+  boards =
+      record { name = codes "b1"; kind = codes "bbb"; tags = codes "hdmi" ∷ []; health = Health.Good; state = State.Running; holder = Holder.Job 2; jobs_since = 0; last_check = 0 }
+      ∷ record { name = codes "b2"; kind = codes "bbb"; tags = []; health = Health.Good; state = State.Running; holder = Holder.Job 1; jobs_since = 0; last_check = 0 }
+      ∷ [];
+  jobs =
+      record { number = 1; group = 1; checking = false; owner = codes "ann"; priority = 70; want = a_board []; role = Some (codes "client"); state = JobState.Running; outcome = None; board = Some (codes "b2"); body = codes "two boards" }
+      ∷ record { number = 2; group = 1; checking = false; owner = codes "ann"; priority = 70; want = a_board (codes "hdmi" ∷ []); role = Some (codes "server"); state = JobState.Running; outcome = None; board = Some (codes "b1"); body = [] }
+      ∷ [];
+  clock = 31;
+  count = 8;
+}
+
+-- one member ends, and ann cancels the rest
+unfoldable pub one_member_ends : List Call
+unfolding is_proper_cmd is_word is_tag is_tags is_utf8 chars encode_utf8
+one_member_ends =
+    by_dispatcher 40 (Cmd.Finish 1 Outcome.Incomplete) refl
+    ∷ by_ann 41 (Cmd.Cancel 1) refl
+    ∷ []
+
+-- the Finished one keeps its board's name and its outcome; the Canceling one holds its board yet
+abbrev pub after_one_member_ends : Farm
+after_one_member_ends = record after_group_asks {
+  boards =
+      record { name = codes "b1"; kind = codes "bbb"; tags = codes "hdmi" ∷ []; health = Health.Good; state = State.Running; holder = Holder.Job 2; jobs_since = 0; last_check = 0 }
+      ∷ record { name = codes "b2"; kind = codes "bbb"; tags = []; health = Health.Good; state = State.Idle; holder = Holder.Nobody; jobs_since = 1; last_check = 0 }
+      ∷ [];
+  jobs =
+      record { number = 1; group = 1; checking = false; owner = codes "ann"; priority = 70; want = a_board []; role = Some (codes "client"); state = JobState.Finished; outcome = Some Outcome.Incomplete; board = Some (codes "b2"); body = codes "two boards" }
+      ∷ record { number = 2; group = 1; checking = false; owner = codes "ann"; priority = 70; want = a_board (codes "hdmi" ∷ []); role = Some (codes "server"); state = JobState.Canceling; outcome = None; board = Some (codes "b1"); body = [] }
+      ∷ [];
+  clock = 41;
+  count = 10;
+}
+
+-- the other one ends as canceled, whatever is named
+unfoldable pub the_other_ends : List Call
+unfolding is_proper_cmd is_word is_tag is_tags is_utf8 chars encode_utf8
+the_other_ends =
+    by_dispatcher 42 (Cmd.Finish 2 Outcome.Complete) refl
+    ∷ []
+
+abbrev pub after_the_other_ends : Farm
+after_the_other_ends = record after_group_asks {
+  boards =
+      record { name = codes "b1"; kind = codes "bbb"; tags = codes "hdmi" ∷ []; health = Health.Good; state = State.Idle; holder = Holder.Nobody; jobs_since = 1; last_check = 0 }
+      ∷ record { name = codes "b2"; kind = codes "bbb"; tags = []; health = Health.Good; state = State.Idle; holder = Holder.Nobody; jobs_since = 1; last_check = 0 }
+      ∷ [];
+  jobs =
+      record { number = 1; group = 1; checking = false; owner = codes "ann"; priority = 70; want = a_board []; role = Some (codes "client"); state = JobState.Finished; outcome = Some Outcome.Incomplete; board = Some (codes "b2"); body = codes "two boards" }
+      ∷ record { number = 2; group = 1; checking = false; owner = codes "ann"; priority = 70; want = a_board (codes "hdmi" ∷ []); role = Some (codes "server"); state = JobState.Finished; outcome = Some Outcome.Canceled; board = Some (codes "b1"); body = [] }
+      ∷ [];
+  clock = 42;
+  count = 11;
+}
+
+-- a group that is canceled while it waits had no boards
+unfoldable pub canceled_while_it_waits : List Call
+unfolding is_proper_cmd is_word is_tag is_tags is_utf8 chars encode_utf8
+canceled_while_it_waits =
+    by_admin 25 (Cmd.Cancel 2) refl
+    ∷ []
+
+abbrev pub after_canceled_while_it_waits : Farm
+after_canceled_while_it_waits = record after_group_asks {
+  jobs =
+      record { number = 1; group = 1; checking = false; owner = codes "ann"; priority = 70; want = a_board []; role = Some (codes "client"); state = JobState.Finished; outcome = Some Outcome.Canceled; board = None; body = codes "two boards" }
+      ∷ record { number = 2; group = 1; checking = false; owner = codes "ann"; priority = 70; want = a_board (codes "hdmi" ∷ []); role = Some (codes "server"); state = JobState.Finished; outcome = Some Outcome.Canceled; board = None; body = [] }
+      ∷ [];
+  clock = 25;
+  count = 7;
+}
+
+-- what each script answers and leaves
+pub record GroupsAsWorked : Type 0 where
+  pub group_asks_answers : answers empty group_asks ≡ did 0 ∷ did 0 ∷ did 0 ∷ did 0 ∷ did 0 ∷ did 1 ∷ []
+  pub group_asks_leaves : run empty group_asks ≡ after_group_asks
+  pub group_is_served_answers : answers after_group_asks group_is_served ≡ passed 0 0 1 ∷ []
+  pub group_is_served_leaves : run after_group_asks group_is_served ≡ after_group_is_served
+  pub group_starts_answers : answers after_group_is_served group_starts ≡ did 1 ∷ []
+  pub group_starts_leaves : run after_group_is_served group_starts ≡ after_group_starts
+  pub one_member_ends_answers : answers after_group_starts one_member_ends ≡ did 1 ∷ did 1 ∷ []
+  pub one_member_ends_leaves : run after_group_starts one_member_ends ≡ after_one_member_ends
+  pub the_other_ends_answers : answers after_one_member_ends the_other_ends ≡ did 2 ∷ []
+  pub the_other_ends_leaves : run after_one_member_ends the_other_ends ≡ after_the_other_ends
+  pub canceled_while_it_waits_answers : answers after_group_asks canceled_while_it_waits ≡ did 1 ∷ []
+  pub canceled_while_it_waits_leaves : run after_group_asks canceled_while_it_waits ≡ after_canceled_while_it_waits

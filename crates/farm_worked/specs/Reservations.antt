@@ -1,0 +1,161 @@
+-- Worked scripts of reservations beside jobs: one counter of numbers, and deadlines.
+use Rattle.std.specs.Prelude.{◌≡◌, List, [], ◌∷◌, Some, None, codes, refl, false}
+use Rattle.std.specs.Str.{is_utf8, chars}
+use Rattle.farm_types.specs.Words.{is_word, is_tag, is_tags}
+use Rattle.farm_types.specs.Proper.{is_proper_cmd}
+use Rattle.farm_types.specs.Farm.{Farm, empty}
+use Rattle.farm_types.specs.Machine.{run}
+use Rattle.farm_types.specs.Worked.{answers, did, passed, by_admin, by_dispatcher, by_ann, by_bob, new_type, new_board, set, a_board, single, pair, any_board}
+use Rattle.farm_types.specs.declared.rows.Check.{Check}
+use Rattle.farm_types.specs.declared.rows.Health.{Health}
+use Rattle.farm_types.specs.declared.rows.State.{State}
+use Rattle.farm_types.specs.declared.rows.Holder.{Holder}
+use Rattle.farm_types.specs.declared.rows.JobState.{JobState}
+use Rattle.farm_types.specs.declared.rows.ResState.{ResState}
+use Rattle.farm_types.specs.declared.calls.Cmd.{Cmd}
+use Rattle.farm_types.specs.declared.calls.Call.{Call}
+
+-- jobs and reservations draw their numbers from one counter
+unfoldable pub one_counter : List Call
+unfolding is_proper_cmd is_word is_tag is_tags is_utf8 chars
+one_counter =
+    by_admin 10 (new_type Check.Never) refl
+    ∷ by_admin 10 (new_board (codes "b1") []) refl
+    ∷ by_admin 10 (new_board (codes "b2") []) refl
+    ∷ by_ann 20 any_board refl
+    ∷ by_bob 21 (pair []) refl
+    ∷ by_bob 22 (Cmd.Reserve 60 (codes "name=b1" ∷ [])) refl
+    ∷ by_ann 23 (single 0) refl
+    ∷ []
+
+-- a new board is in Maintenance; a reservation's deadline is 60 seconds behind its moment
+abbrev pub after_one_counter : Farm
+after_one_counter = record {
+  types = record { name = codes "bbb"; check = Check.Never } ∷ [];
+  boards =
+      record { name = codes "b1"; kind = codes "bbb"; tags = []; health = Health.Maintenance; state = State.Idle; holder = Holder.Nobody; jobs_since = 0; last_check = 0 }
+      ∷ record { name = codes "b2"; kind = codes "bbb"; tags = []; health = Health.Maintenance; state = State.Idle; holder = Holder.Nobody; jobs_since = 0; last_check = 0 }
+      ∷ [];
+  jobs =
+      record { number = 2; group = 2; checking = false; owner = codes "bob"; priority = 50; want = a_board []; role = None; state = JobState.Submitted; outcome = None; board = None; body = [] }
+      ∷ record { number = 3; group = 2; checking = false; owner = codes "bob"; priority = 50; want = a_board []; role = None; state = JobState.Submitted; outcome = None; board = None; body = [] }
+      ∷ record { number = 5; group = 5; checking = false; owner = codes "ann"; priority = 0; want = a_board []; role = None; state = JobState.Submitted; outcome = None; board = None; body = [] }
+      ∷ [];
+  reservations =
+      record { number = 1; owner = codes "ann"; priority = 50; want = record { kind = None; tags = [] }; state = ResState.Waiting; deadline = 80; board = None }
+      ∷ record { number = 4; owner = codes "bob"; priority = 60; want = record { kind = None; tags = codes "name=b1" ∷ [] }; state = ResState.Waiting; deadline = 82; board = None }
+      ∷ [];
+  kept = [];
+  clock = 23;
+  count = 7;
+  next = 6;
+}
+
+-- the one that goes first is given the board that it names, for 60 seconds
+unfoldable pub lease_begins : List Call
+unfolding is_proper_cmd is_word is_tag is_tags is_utf8 chars
+lease_begins =
+    by_admin 30 (set (codes "b1") Health.Good) refl
+    ∷ by_dispatcher 40 Cmd.Pass refl
+    ∷ []
+
+abbrev pub after_lease_begins : Farm
+after_lease_begins = record after_one_counter {
+  boards =
+      record { name = codes "b1"; kind = codes "bbb"; tags = []; health = Health.Good; state = State.Reserved; holder = Holder.Res 4; jobs_since = 0; last_check = 0 }
+      ∷ record { name = codes "b2"; kind = codes "bbb"; tags = []; health = Health.Maintenance; state = State.Idle; holder = Holder.Nobody; jobs_since = 0; last_check = 0 }
+      ∷ [];
+  reservations =
+      record { number = 1; owner = codes "ann"; priority = 50; want = record { kind = None; tags = [] }; state = ResState.Waiting; deadline = 80; board = None }
+      ∷ record { number = 4; owner = codes "bob"; priority = 60; want = record { kind = None; tags = codes "name=b1" ∷ [] }; state = ResState.Allocated; deadline = 100; board = Some (codes "b1") }
+      ∷ [];
+  clock = 40;
+  count = 9;
+}
+
+-- bob acquires his, and ann's waits past its deadline: it never had a board
+unfoldable pub one_is_acquired : List Call
+unfolding is_proper_cmd is_word is_tag is_tags is_utf8 chars
+one_is_acquired =
+    by_bob 50 (Cmd.Acquire 4) refl
+    ∷ by_dispatcher 101 Cmd.Pass refl
+    ∷ []
+
+abbrev pub after_one_is_acquired : Farm
+after_one_is_acquired = record after_one_counter {
+  boards =
+      record { name = codes "b1"; kind = codes "bbb"; tags = []; health = Health.Good; state = State.Running; holder = Holder.Res 4; jobs_since = 0; last_check = 0 }
+      ∷ record { name = codes "b2"; kind = codes "bbb"; tags = []; health = Health.Maintenance; state = State.Idle; holder = Holder.Nobody; jobs_since = 0; last_check = 0 }
+      ∷ [];
+  reservations =
+      record { number = 1; owner = codes "ann"; priority = 50; want = record { kind = None; tags = [] }; state = ResState.Expired; deadline = 80; board = None }
+      ∷ record { number = 4; owner = codes "bob"; priority = 60; want = record { kind = None; tags = codes "name=b1" ∷ [] }; state = ResState.Acquired; deadline = 100; board = Some (codes "b1") }
+      ∷ [];
+  clock = 101;
+  count = 11;
+}
+
+-- a released one has 60 seconds again, a refreshed one too
+unfoldable pub lease_goes_on : List Call
+unfolding is_proper_cmd is_word is_tag is_tags is_utf8 chars
+lease_goes_on =
+    by_bob 200 (Cmd.Release 4) refl
+    ∷ by_bob 210 (Cmd.Refresh 4) refl
+    ∷ []
+
+abbrev pub after_lease_goes_on : Farm
+after_lease_goes_on = record after_one_counter {
+  boards =
+      record { name = codes "b1"; kind = codes "bbb"; tags = []; health = Health.Good; state = State.Reserved; holder = Holder.Res 4; jobs_since = 0; last_check = 0 }
+      ∷ record { name = codes "b2"; kind = codes "bbb"; tags = []; health = Health.Maintenance; state = State.Idle; holder = Holder.Nobody; jobs_since = 0; last_check = 0 }
+      ∷ [];
+  reservations =
+      record { number = 1; owner = codes "ann"; priority = 50; want = record { kind = None; tags = [] }; state = ResState.Expired; deadline = 80; board = None }
+      ∷ record { number = 4; owner = codes "bob"; priority = 60; want = record { kind = None; tags = codes "name=b1" ∷ [] }; state = ResState.Allocated; deadline = 270; board = Some (codes "b1") }
+      ∷ [];
+  clock = 210;
+  count = 13;
+}
+
+-- at its deadline it expires and keeps its board's name, and the same pass gives the board to the job that fits
+unfoldable pub lease_is_over : List Call
+unfolding is_proper_cmd is_word is_tag is_tags is_utf8 chars
+lease_is_over =
+    by_dispatcher 270 Cmd.Pass refl
+    ∷ by_ann 281 (Cmd.Reserve 100 []) refl
+    ∷ by_ann 282 (Cmd.CancelRes 6) refl
+    ∷ []
+
+abbrev pub after_lease_is_over : Farm
+after_lease_is_over = record after_one_counter {
+  boards =
+      record { name = codes "b1"; kind = codes "bbb"; tags = []; health = Health.Good; state = State.Reserved; holder = Holder.Job 5; jobs_since = 0; last_check = 0 }
+      ∷ record { name = codes "b2"; kind = codes "bbb"; tags = []; health = Health.Maintenance; state = State.Idle; holder = Holder.Nobody; jobs_since = 0; last_check = 0 }
+      ∷ [];
+  jobs =
+      record { number = 2; group = 2; checking = false; owner = codes "bob"; priority = 50; want = a_board []; role = None; state = JobState.Submitted; outcome = None; board = None; body = [] }
+      ∷ record { number = 3; group = 2; checking = false; owner = codes "bob"; priority = 50; want = a_board []; role = None; state = JobState.Submitted; outcome = None; board = None; body = [] }
+      ∷ record { number = 5; group = 5; checking = false; owner = codes "ann"; priority = 0; want = a_board []; role = None; state = JobState.Scheduled; outcome = None; board = Some (codes "b1"); body = [] }
+      ∷ [];
+  reservations =
+      record { number = 1; owner = codes "ann"; priority = 50; want = record { kind = None; tags = [] }; state = ResState.Expired; deadline = 80; board = None }
+      ∷ record { number = 4; owner = codes "bob"; priority = 60; want = record { kind = None; tags = codes "name=b1" ∷ [] }; state = ResState.Expired; deadline = 270; board = Some (codes "b1") }
+      ∷ record { number = 6; owner = codes "ann"; priority = 100; want = record { kind = None; tags = [] }; state = ResState.Canceled; deadline = 341; board = None }
+      ∷ [];
+  clock = 282;
+  count = 16;
+  next = 7;
+}
+
+-- what each script answers and leaves
+pub record ReservationsAsWorked : Type 0 where
+  pub one_counter_answers : answers empty one_counter ≡ did 0 ∷ did 0 ∷ did 0 ∷ did 1 ∷ did 2 ∷ did 4 ∷ did 5 ∷ []
+  pub one_counter_leaves : run empty one_counter ≡ after_one_counter
+  pub lease_begins_answers : answers after_one_counter lease_begins ≡ did 0 ∷ passed 0 0 1 ∷ []
+  pub lease_begins_leaves : run after_one_counter lease_begins ≡ after_lease_begins
+  pub one_is_acquired_answers : answers after_lease_begins one_is_acquired ≡ did 4 ∷ passed 0 1 0 ∷ []
+  pub one_is_acquired_leaves : run after_lease_begins one_is_acquired ≡ after_one_is_acquired
+  pub lease_goes_on_answers : answers after_one_is_acquired lease_goes_on ≡ did 4 ∷ did 4 ∷ []
+  pub lease_goes_on_leaves : run after_one_is_acquired lease_goes_on ≡ after_lease_goes_on
+  pub lease_is_over_answers : answers after_lease_goes_on lease_is_over ≡ passed 0 1 1 ∷ did 6 ∷ did 6 ∷ []
+  pub lease_is_over_leaves : run after_lease_goes_on lease_is_over ≡ after_lease_is_over

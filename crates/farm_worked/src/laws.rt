@@ -1,0 +1,48 @@
+ghost use Rattle.farm_worked.specs.Order.{OrderAsWorked};
+ghost use Rattle.farm_worked.specs.Groups.{GroupsAsWorked};
+ghost use Rattle.farm_worked.specs.Checks.{ChecksAsWorked};
+ghost use Rattle.farm_worked.specs.Reservations.{ReservationsAsWorked};
+ghost use Rattle.farm_worked.specs.Kept.{KeptAsWorked};
+ghost use Rattle.farm_worked.specs.Limits.{LimitsAsWorked};
+ghost use Rattle.farm_worked.specs.Full.{FullAsWorked};
+ghost use Rattle.farm_worked.specs.Words.{WordsAsWorked};
+
+/// Rows that are added out of order, and the numbers of a group of four.
+pub fn order_as_worked()
+    ensures { OrderAsWorked }
+{}
+
+/// The rows of a group, from its submission to its end.
+pub fn groups_as_worked()
+    ensures { GroupsAsWorked }
+{}
+
+/// The rows of checks, and of the board that they check.
+pub fn checks_as_worked()
+    ensures { ChecksAsWorked }
+{}
+
+/// The rows of reservations beside jobs, and their deadlines.
+pub fn reservations_as_worked()
+    ensures { ReservationsAsWorked }
+{}
+
+/// The kept replies of all fourteen commands.
+pub fn kept_as_worked()
+    ensures { KeptAsWorked }
+{}
+
+/// The last row or number that a farm takes, and the first that it refuses.
+pub fn limits_as_worked()
+    ensures { LimitsAsWorked }
+{}
+
+/// The same at the greatest tables.
+pub fn full_as_worked()
+    ensures { FullAsWorked }
+{}
+
+/// The commands that are proper at a limit, and those beyond it.
+pub fn words_as_worked()
+    ensures { WordsAsWorked }
+{}

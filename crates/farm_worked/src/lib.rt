@@ -1,0 +1,14 @@
+//! Worked scripts of whole rows: calls whose farms are written out row by row, as they were worked
+//! out by hand, and which the checker computes from the machine's definitions. No code runs them.
+//!
+//! `specs/Order` has rows that are added out of order; `specs/Groups`, `Checks`, `Reservations` and
+//! `Kept` follow rows from their making to their end; `specs/Limits`, `Full` and `Words` have the
+//! last number, row and word that is taken, and the first that isn't.
+#![tactic(auto)]
+
+mod laws;
+
+pub use laws::{
+    checks_as_worked, full_as_worked, groups_as_worked, kept_as_worked, limits_as_worked,
+    order_as_worked, reservations_as_worked, words_as_worked,
+};
