@@ -1,10 +1,10 @@
 -- The claims are served in turn, and all that are left stay claims.
-use Rattle.std.proofs.Common.{◌≡◌, ℕ, zero, suc, ◌+◌, ◌<◌, ◌≤◌, List, [], ◌∷◌, length, map, drop, get_or, Bool, true, false, Option, Some, None, inl, inr, refl, sym, ap, ◌∙◌, subst, arith, add-one}
+use Rattle.std.proofs.Common.{◌≡◌, ℕ, zero, suc, ◌+◌, ◌<◌, ◌≤◌, List, [], ◌∷◌, length, map, drop, get_or, Option, Some, None, inl, inr, refl, sym, ap, ◌∙◌, subst, arith, add-one}
 use Rattle.std.specs.List.{AllByRecursion, fold}
 use Rattle.std.specs.List.Sorted.{IsStrictlySortedBy}
 use Rattle.std.specs.Option.{option_map_or}
 use Rattle.std.specs.declared.cmp.Ordering.TheVariants.{Less}
-use Rattle.farm_types.specs.Farm.{Farm, job_of, members, res_of}
+use Rattle.farm_types.specs.Farm.{Farm}
 use Rattle.farm_types.specs.Pass.{Served, give, serve, serve_all}
 use Rattle.farm_types.specs.Pick.{Claimed, claim_cmp, is_free, least, queue, shown_claim}
 use Rattle.farm_types.specs.Small.{IsSmall}
@@ -13,7 +13,7 @@ use Rattle.farm_types.specs.declared.claims.Claim.{Claim}
 use Rattle.farm_types.specs.declared.rows.BoardRow.{BoardRow}
 use Rattle.farm_types.proofs.Put.{AllByRecursion-weaker}
 use Rattle.farm_sound.proofs.Accepted.{low_job, low_res}
-use Rattle.farm_sound.proofs.Claims.{IsClaim, leads, queue_claims, queue_sorted}
+use Rattle.farm_sound.proofs.Claims.{IsClaim, queue_claims, queue_sorted}
 use Rattle.farm_sound.proofs.Serve.{IsClaim-give, IsSound-give, give_clock}
 use Rattle.farm_sound.proofs.Where.{AllByRecursion-both}
 use Rattle.farm_core.specs.Serving.{Asks}

@@ -1,6 +1,6 @@
 -- What the program does for one claim is what the machine does.
-use Rattle.std.proofs.Common.{◌≡◌, ℕ, zero, suc, ◌+◌, ◌<◌, ◌≤◌, ◌==◌, ◌++◌, List, [], ◌∷◌, length, map, take, drop, get_or, Bool, true, false, cond, Option, Some, None, IsSomeAnd, refl, sym, ap, ◌∙◌, subst, arith, add-one, append-nil}
-use Rattle.std.specs.List.{AllByRecursion, filter, fold, zip, filter_map}
+use Rattle.std.proofs.Common.{◌≡◌, ℕ, zero, suc, ◌+◌, ◌<◌, ◌≤◌, ◌==◌, ◌++◌, List, [], ◌∷◌, length, map, take, drop, get_or, Bool, true, false, cond, Option, Some, None, IsSomeAnd, refl, sym, ap, ◌∙◌, arith, add-one, append-nil}
+use Rattle.std.specs.List.{AllByRecursion, filter, fold, zip}
 use Rattle.std.specs.Prelude.{slice_get}
 use Rattle.std.specs.Option.{option_map, option_map_or}
 use Rattle.std.specs.List.Sorted.{IsStrictlySortedBy}
@@ -24,7 +24,7 @@ use Rattle.farm_sound.proofs.Lists.{filter_all}
 use Rattle.farm_sound.proofs.Tests.{same_number}
 use Rattle.farm_sound.proofs.Where.{AllByRecursion-both, AllByRecursion-map}
 use Rattle.farm_core.specs.Orderly.{IsOrderly, IsNear}
-use Rattle.farm_core.specs.Serving.{Asks, counted, give_first, give_named}
+use Rattle.farm_core.specs.Serving.{Asks, give_first, give_named}
 
 -- ---- the numbers of members, and the names of boards
 

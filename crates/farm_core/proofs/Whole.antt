@@ -1,12 +1,9 @@
 -- The three parts of a pass make the whole.
-use Rattle.std.proofs.Common.{◌≡◌, ℕ, ◌-◌, List, [], length, refl, ap, ◌∙◌, sym, subst}
+use Rattle.std.proofs.Common.{◌≡◌, ap, ◌∙◌}
 use Rattle.std.specs.List.{filter}
 use Rattle.farm_types.specs.Farm.{Farm}
-use Rattle.farm_types.specs.Pass.{Served, checks, expire, is_dead, is_due, serve_all}
-use Rattle.farm_types.specs.Change.{act, replied}
+use Rattle.farm_types.specs.Pass.{checks, expire, is_due, serve_all}
 use Rattle.farm_types.specs.Sound.{IsSound}
-use Rattle.farm_types.specs.declared.calls.Cmd.{Cmd}
-use Rattle.farm_types.specs.declared.rows.Reply.{Reply}
 use Rattle.farm_sound.proofs.Checks.{IsSound-checks, check_clock}
 use Rattle.farm_sound.proofs.Reservations.{IsSound-expire}
 

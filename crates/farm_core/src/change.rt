@@ -46,7 +46,7 @@ impl Tables {
             Cmd::Release(number) => self.release(changes, *number)?,
             Cmd::Refresh(number) => self.refresh(changes, *number)?,
             Cmd::CancelRes(number) => self.cancel_reservation(changes, *number)?,
-            Cmd::Pass => return Ok(self.pass(changes)?),
+            Cmd::Pass => return self.pass(changes),
         };
         Ok(Reply(number, 0, 0))
     }

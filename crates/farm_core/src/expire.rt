@@ -8,18 +8,10 @@ ghost use Rattle.farm_core.specs.Orderly.{IsOrderly};
 ghost use Rattle.farm_core.specs.Tracks.{Tracks};
 
 use crate::held::Becomes;
-use crate::res_edit::{ResEdit, is_dead};
+use crate::res_edit::ResEdit;
 use crate::tables::Tables;
 use farm_types::calls::Changes;
-use farm_types::rows::ResRow;
 use std::alloc::AllocError;
-
-/// How many reservations are dead at the moment.
-fn count_dead(rows: &[ResRow], now: u64) -> usize
-    ensures { result ≡ length (filter (is_dead now) rows.now) }
-{
-    rows.iter().filter(|row| is_dead(now, row)).count()
-}
 
 impl Tables {
     /// Ends each reservation that waits or has been allocated and whose deadline has come, and frees
@@ -33,12 +25,12 @@ impl Tables {
         ensures tracked { OnOk result ((F : Farm) → Tracks F changes.old (plain self.old)
             → Tracks F changes.new (plain self.new)) }
     {
-        let dead = count_dead(&self.reservations, self.clock);
         let edit = ResEdit::Expire(self.clock);
         // The boards first: the reservations as they were tell which are freed.
         self.edit_boards_of_reservations(changes, edit, Becomes::Idle)?;
         let end = self.reservations.len();
+        let before = changes.reservations.len();
         self.edit_reservations(changes, edit, 0, end)?;
-        Ok(dead as u64)
+        Ok((changes.reservations.len() - before) as u64)
     }
 }

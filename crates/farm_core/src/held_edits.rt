@@ -1,5 +1,6 @@
 //! The edits of the tables: rows are changed in their places, and logged.
-ghost use Rattle.std.specs.Prelude.{◌≡◌, ◌≤◌, ◌<◌, ◌==◌, ℕ, false, length, get_or, OnOk};
+ghost use Rattle.std.specs.Prelude.{◌≡◌, ◌++◌, ◌≤◌, ◌<◌, ◌==◌, ℕ, false, map, length, get_or, OnOk};
+ghost use Rattle.std.specs.List.{filter};
 ghost use Rattle.std.specs.List.Sorted.{IsStrictlySortedBy};
 ghost use Rattle.farm_types.specs.Table.{job_cmp, res_cmp, change_where};
 ghost use Rattle.farm_types.specs.Farm.{Farm};
@@ -124,6 +125,7 @@ impl Tables {
         requires before { (k : ℕ) (d : ResRow) → k < start → res_passes edit (get_or (plain self.old).reservations k d) ≡ false }
         requires behind { (k : ℕ) (d : ResRow) → end ≤ k → k < length (plain self.old).reservations → res_passes edit (get_or (plain self.old).reservations k d) ≡ false }
         ensures farm { OnOk result (plain self.new ≡ record (plain self.old) { reservations = change_where (res_passes edit.entry) (res_changed edit.entry) (plain self.old).reservations }) }
+        ensures logged { OnOk result (changes.new.reservations.items ≡ changes.old.reservations.items ++ map (res_changed edit.entry) (filter (res_passes edit.entry) (plain self.old).reservations)) }
         ensures orderly { OnOk result (IsOrderly (plain self.new)) }
         ensures tracked { OnOk result ((F : Farm) → Tracks F changes.old (plain self.old)
             → Tracks F changes.new (plain self.new)) }

@@ -2,6 +2,8 @@
 ghost use Rattle.std.specs.Prelude.{◌≡◌, IfOk, IsTrue};
 ghost use Rattle.farm_types.specs.Proper.{is_proper_cmd};
 
+mod passes;
+
 use crate::farm::{Farm, StepFault};
 use farm_types::calls::{Answer, Call, Cmd};
 use farm_types::fault::WordFault;

@@ -1,4 +1,4 @@
-use Rattle.std.proofs.Common.{◌≡◌, ◌+◌, ◌∷◌, drop, refl, ap, sym, ◌∙◌, arith}
+use Rattle.std.proofs.Common.{◌+◌, drop, refl, ap, sym, ◌∙◌, arith}
 use Rattle.std.specs.List.{fold, zip}
 use Rattle.farm_types.specs.Farm.{Farm}
 use Rattle.farm_core.specs.Plain.{plain}

@@ -1,4 +1,4 @@
-use Rattle.std.proofs.Common.{◌≡◌, ◌-◌, refl, ap, sym, ◌∙◌, subst}
+use Rattle.std.proofs.Common.{◌≡◌, ◌-◌, ap, sym, ◌∙◌, subst}
 use Rattle.farm_types.specs.Farm.{Farm}
 use Rattle.farm_types.specs.Pass.{Served, checks, expire, serve_all}
 use Rattle.farm_types.specs.Sound.{IsSound}

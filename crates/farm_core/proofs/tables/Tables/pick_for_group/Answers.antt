@@ -1,8 +1,5 @@
-use Rattle.std.proofs.Common.{◌≡◌, ◌≤◌, map, length, ap, sym, ◌∙◌}
+use Rattle.std.proofs.Common.{ap, ◌∙◌}
 use Rattle.std.proofs.lemmas.List.{length-map}
-use Rattle.farm_types.specs.Farm.{members}
-use Rattle.farm_types.specs.declared.rows.JobRow.{JobRow}
-use Rattle.farm_types.specs.declared.rows.Want.{Want}
 use Rattle.farm_core.specs.Plain.{plain}
 use Rattle.farm_core.proofs.Serving.{wants_few, wants_of}
 use Rattle.farm_core.proofs.tables.Tables.pick_for_group.Goals as goal

@@ -1,7 +1,6 @@
-use Rattle.std.proofs.Common.{◌≡◌, map, ap, sym, ◌∙◌, refl}
-use Rattle.farm_types.specs.Farm.{members}
+use Rattle.std.proofs.Common.{ap, ◌∙◌}
 use Rattle.farm_core.specs.Plain.{plain}
-use Rattle.farm_core.proofs.Serving.{group_served, group_not_served, numbers_of, numbers_small}
+use Rattle.farm_core.proofs.Serving.{group_served, numbers_of, numbers_small}
 use Rattle.farm_core.proofs.tables.Tables.serve_group.Goals as goal
 
 pub give_jobs-requires-clause-small : goal.give_jobs-requires-clause-small
