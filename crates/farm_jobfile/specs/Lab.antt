@@ -104,11 +104,22 @@ abbrev pub section : (List ℕ → Data → Result Entry Fault) → Option Data 
 section read None = Ok []
 section read (Some d) = kind_or LabFile (as_table d) >>= each read
 
--- the calls that a lab file spells at a moment: each type is added, then each board
+-- the calls that a tree spells at a moment: each type is added, then each board
+unfoldable pub calls_in : ℕ → Data → Result (List Entry) Fault
+calls_in now d = do
+  types ← section (type_in now) (get (codes "types") d)
+  boards ← section (board_in now) (get (codes "boards") d)
+  Ok (types ++ boards)
+
+-- the calls that a lab file spells at a moment
 unfoldable pub lab : List ℕ → ℕ → Result (List Entry) Fault
 lab bytes now = do
   text ← text_in LabFile 1048576 bytes
   d ← tree_in LabFile text
-  types ← section (type_in now) (get (codes "types") d)
-  boards ← section (board_in now) (get (codes "boards") d)
-  Ok (types ++ boards)
+  calls_in now d
+
+-- the command adds a type or a board
+abbrev pub IsAddition : Cmd → Type 0
+IsAddition (Cmd.AddType name check) = Unit {0}
+IsAddition (Cmd.AddBoard name kind tags) = Unit {0}
+IsAddition cmd = ⊥

@@ -1,9 +1,9 @@
 //! The calls that a lab file asks for.
-ghost use Rattle.std.specs.Prelude.{map, codes};
+ghost use Rattle.std.specs.Prelude.{map, codes, All, IfOk};
 ghost use Rattle.toml.specs.Data.{get};
 ghost use Rattle.toml.specs.View.{view};
 ghost use Rattle.farm_jobfile.specs.Reading.{Spells};
-ghost use Rattle.farm_jobfile.specs.Lab.{entry_of, type_in, board_in, section, lab};
+ghost use Rattle.farm_jobfile.specs.Lab.{entry_of, type_in, board_in, section, calls_in, lab, IsAddition};
 
 use crate::boards::boards_of;
 use crate::document::{text_of, tree_of};
@@ -37,6 +37,17 @@ fn boards_at(alloc: Global, tree: &Value, now: u64) -> Result<Vec<Call>, FileFau
     }
 }
 
+/// The calls that add the types, then those that add the boards.
+#[tactic(auto, unfolding(crate::specs::Lab::calls_in))]
+fn calls_of(alloc: Global, tree: &Value, now: u64) -> Result<Vec<Call>, FileFault>
+    ensures { Spells (λ calls. map entry_of calls.items) result (calls_in now (view tree.now)) }
+{
+    let mut calls = types_at(alloc, tree, now)?;
+    let mut boards = boards_at(alloc, tree, now)?;
+    calls.append(&mut boards)?;
+    Ok(calls)
+}
+
 /// The calls that a lab file asks for at a moment, in seconds since 1970-01-01 00:00:00 UTC.
 ///
 /// A lab file is TOML 1.1 of at most 1,048,576 bytes, with the tables `types` and `boards`, each of
@@ -48,12 +59,10 @@ fn boards_at(alloc: Global, tree: &Value, now: u64) -> Result<Vec<Call>, FileFau
 /// given by `admin` with a key made of its name, so that a second reading of the file adds nothing.
 #[tactic(auto, unfolding(crate::specs::Lab::lab))]
 pub fn lab_of(alloc: Global, text: &[u8], now: u64) -> Result<Vec<Call>, FileFault>
-    ensures { Spells (λ calls. map entry_of calls.items) result (lab text.now now) }
+    ensures meaning { Spells (λ calls. map entry_of calls.items) result (lab text.now now) }
+    ensures additions { IfOk result (λ calls. All (λ call. IsAddition call.cmd) calls.items) }
 {
     let text = text_of(FileKind::LabFile, LONGEST_LAB_FILE, text)?;
     let tree = tree_of(alloc, FileKind::LabFile, text)?;
-    let mut calls = types_at(alloc, &tree, now)?;
-    let mut boards = boards_at(alloc, &tree, now)?;
-    calls.append(&mut boards)?;
-    Ok(calls)
+    calls_of(alloc, &tree, now)
 }
