@@ -3,7 +3,7 @@ use Rattle.std.proofs.Common.{◌≡◌, refl}
 use Rattle.farm_types.specs.Farm.{Farm}
 use Rattle.farm_types.specs.declared.refusal.TheConstants.{NO_ROUTE}
 use Rattle.farm_wire.specs.declared.ask.Ask.{Ask}
-use Rattle.farm_wire.specs.declared.out.Out.{Out}
+use Rattle.farm_wire.specs.declared.answers.Out.{Out}
 use Rattle.farm_desk.specs.Answers.{IsView, refusal}
 use Rattle.farm_desk.proofs.AnswerLemmas.{is_other_view}
 use Rattle.farm_desk.proofs.answer.show.Goals as goal
