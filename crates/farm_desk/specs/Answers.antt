@@ -16,7 +16,7 @@ use Rattle.farm_keep.specs.Kept.{Kept, Keeps}
 use Rattle.farm_wire.specs.Reading.{Denial, refused, other_methods}
 use Rattle.farm_wire.specs.Replies.{reply_bytes, status_or}
 use Rattle.farm_wire.specs.declared.ask.Ask.{Ask}
-use Rattle.farm_wire.specs.declared.out.Out.{Out}
+use Rattle.farm_wire.specs.declared.answers.Out.{Out}
 
 -- ---- which answer it is
 

@@ -2,7 +2,7 @@
 use Rattle.std.specs.Prelude.{◌≡◌, ℕ, List, Result, Ok, Err}
 use Rattle.farm_types.specs.declared.refusal.TheConstants.{NO_MEMORY}
 use Rattle.farm_wire.specs.Replies.{reply_bytes}
-use Rattle.farm_wire.specs.declared.out.Out.{Out}
+use Rattle.farm_wire.specs.declared.answers.Out.{Out}
 use Rattle.farm_desk.specs.Answers.{Says, refusal}
 use Rattle.farm_desk.specs.declared.due.Bytes.{Bytes}
 use Rattle.farm_desk.specs.declared.fault.DeskFault.{DeskFault}

@@ -17,7 +17,7 @@ use farm_keep::{KeepFault, Keeper};
 use farm_types::calls::{Answer, Call};
 use farm_types::refusal::{NO_JOB, Refusal};
 use farm_wire::ask::Ask;
-use farm_wire::out::Out;
+use farm_wire::answers::Out;
 use sqlite::Alter;
 use std::alloc::Global;
 

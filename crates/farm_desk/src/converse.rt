@@ -13,7 +13,7 @@ use crate::fault::DeskFault;
 use crate::hear::{Unheard, hear};
 use crate::log::Log;
 use farm_keep::Keeper;
-use farm_wire::out::Out;
+use farm_wire::answers::Out;
 use farm_wire::{ReadLog, write_whole_logged};
 use sqlite::Alter;
 use std::alloc::Global;

@@ -8,8 +8,8 @@ ghost use Rattle.farm_desk.specs.Made.{IsMadeOf, bytes_in};
 
 use crate::fault::DeskFault;
 use farm_keep::KeepFault;
+use farm_wire::answers::{Out, answer_bytes};
 use farm_wire::constant::{closed_answer, no_memory_answer, store_answer};
-use farm_wire::out::{Out, answer_bytes};
 use std::alloc::Global;
 
 /// The bytes of an answer.

@@ -9,7 +9,8 @@ use Rattle.farm_types.specs.declared.calls.Cmd.{Cmd}
 use Rattle.farm_types.specs.declared.rows.Health.{Health}
 use Rattle.farm_types.specs.declared.rows.Outcome.{Outcome}
 use Rattle.farm_types.specs.declared.refusal.TheConstants.{BAD_REQUEST, BAD_PRIORITY, NO_ROUTE}
-use Rattle.farm_wire.specs.Reading.{◌>>=◌}
+use Rattle.farm_jobfile.specs.Job.{job}
+use Rattle.farm_wire.specs.Reading.{◌>>=◌, by_number}
 use Rattle.farm_wire.specs.Fields.{object_in, text_in, name_in, tags_from, tags_in, board_tags}
 use Rattle.farm_wire.specs.Parameters.{board_in, job_in, reservation_in}
 use Rattle.farm_wire.specs.declared.place.Place.{Place}
@@ -108,6 +109,10 @@ set_health path body = do
 
 -- ---- jobs
 
+-- the jobs that a body submits, which is a job file
+unfoldable pub submit : List ℕ → Result Cmd ℕ
+submit body = by_number (job body)
+
 -- one of three words
 abbrev pub outcome_or : List ℕ → Result Outcome ℕ
 outcome_or text =
@@ -174,6 +179,7 @@ command_in Place.Types path body = add_type body
 command_in Place.Boards path body = add_board body
 command_in Place.BoardTags path body = set_tags path body
 command_in Place.BoardHealth path body = set_health path body
+command_in Place.Jobs path body = submit body
 command_in Place.JobCancel path body = job_in path >>= λ n. Ok (Cmd.Cancel n)
 command_in Place.JobStart path body = job_in path >>= λ n. Ok (Cmd.Start n)
 command_in Place.JobFinish path body = finish path body

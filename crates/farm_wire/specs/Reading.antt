@@ -1,5 +1,6 @@
 -- What reading a request gives: a value, or why it asks nothing.
 use Rattle.std.specs.Prelude.{◌≡◌, ℕ, Result, Ok, Err}
+use Rattle.farm_jobfile.specs.Reading.{Fault, number_of}
 use Rattle.farm_wire.specs.declared.allowed.Allowed.{Allowed}
 use Rattle.farm_wire.specs.declared.fault.AskFault.{AskFault}
 
@@ -8,6 +9,11 @@ infixl 10 ◌>>=◌
 abbrev pub ◌>>=◌ : {A B E : Type 0} → Result A E → (A → Result B E) → Result B E
 (Ok x) >>= f = f x
 (Err e) >>= f = Err e
+
+-- a fault of a file by its number alone
+abbrev pub by_number : {A : Type 0} → Result A Fault → Result A ℕ
+by_number (Ok x) = Ok x
+by_number (Err fault) = Err (number_of fault)
 
 -- the number of a refusal, or the methods that the path has in place of the one asked
 pub data Denial : Type 0 where

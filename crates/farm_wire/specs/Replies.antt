@@ -7,7 +7,7 @@ use Rattle.farm_types.specs.declared.refusal.TheConstants.{WRONG_METHOD}
 use Rattle.farm_wire.specs.Places.{allow_text}
 use Rattle.farm_wire.specs.Shown.{listing, reply_data, refusal_data, type_data, board_data, claim_data, res_data, job_data, status_data}
 use Rattle.farm_wire.specs.declared.allowed.Allowed.{Allowed}
-use Rattle.farm_wire.specs.declared.out.Out.{Out}
+use Rattle.farm_wire.specs.declared.answers.Out.{Out}
 
 -- the head of an answer, with further fields and the length of its body
 abbrev pub head_text : ℕ → List ℕ → ℕ → List ℕ

@@ -14,7 +14,7 @@ use crate::allowed::{Allowed, Method};
 use crate::ask::Ask;
 use crate::board_body::{add_board_of, set_health_of, set_tags_of};
 use crate::fault::AskFault;
-use crate::job_body::finish_of;
+use crate::job_body::{finish_of, submit_of};
 use crate::parameter::{job_of, reservation_of};
 use crate::place::Place;
 use crate::reserve_body::reserve_of;
@@ -185,6 +185,7 @@ fn command_of(alloc: Global, place: Place, path: &str, body: &[u8]) -> Result<Cm
         Place::Boards => add_board_of(alloc, body),
         Place::BoardTags => set_tags_of(alloc, path, body),
         Place::BoardHealth => set_health_of(alloc, path, body),
+        Place::Jobs => submit_of(alloc, body),
         Place::JobCancel => Ok(Cmd::Cancel(job_of(path)?)),
         Place::JobStart => Ok(Cmd::Start(job_of(path)?)),
         Place::JobFinish => finish_of(alloc, path, body),

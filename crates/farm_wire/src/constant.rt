@@ -2,7 +2,7 @@
 ghost use Rattle.std.specs.Prelude.{◌≡◌};
 ghost use Rattle.farm_types.specs.declared.refusal.TheConstants.{NO_MEMORY, STORE, CLOSED};
 ghost use Rattle.farm_wire.specs.Replies.{reply_bytes};
-ghost use Rattle.farm_wire.specs.declared.out.Out.{Out};
+ghost use Rattle.farm_wire.specs.declared.answers.Out.{Out};
 
 /// The answer where memory ran out.
 pub fn no_memory_answer() -> &'static [u8]

@@ -4,12 +4,13 @@ ghost use Rattle.serde_json.specs.View.{view};
 ghost use Rattle.farm_types.specs.Codes.{same_outcome};
 ghost use Rattle.farm_types.specs.Proper.{is_proper_cmd};
 ghost use Rattle.farm_types.specs.Reads.{Reads};
-ghost use Rattle.farm_wire.specs.Commands.{outcome_or, finish};
+ghost use Rattle.farm_wire.specs.Commands.{outcome_or, finish, submit};
 ghost use Rattle.farm_types.specs.declared.rows.Outcome.{Outcome};
 
 use crate::fields::text_of;
 use crate::object::object_of;
 use crate::parameter::job_of;
+use farm_jobfile::FileFault;
 use farm_types::calls::Cmd;
 use farm_types::fault::WordFault;
 use farm_types::refusal::{BAD_REQUEST, Refusal};
@@ -26,6 +27,23 @@ fn outcome_of(text: &str) -> Result<Outcome, WordFault>
         "Incomplete" => Ok(Outcome::Incomplete),
         "Infra" => Ok(Outcome::Infra),
         _ => Err(WordFault::Refused(Refusal { code: BAD_REQUEST })),
+    }
+}
+
+/// The command of the job file that a body is. A bad file is refused as one, a bad word in it as
+/// that word.
+#[tactic(auto, unfolding(crate::specs::Commands::submit))]
+pub(crate) fn submit_of(alloc: Global, body: &[u8]) -> Result<Cmd, WordFault>
+    ensures meaning { Reads (λ cmd. cmd) result (submit body.now) }
+    ensures proper { IfOk result (λ cmd. IsTrue (is_proper_cmd cmd)) }
+{
+    match farm_jobfile::job_of(alloc, body) {
+        Ok(cmd) => Ok(cmd),
+        Err(FileFault::Bad { kind, .. }) => {
+            Err(WordFault::Refused(Refusal { code: kind.code() }))
+        }
+        Err(FileFault::Word(refusal)) => Err(WordFault::Refused(refusal)),
+        Err(FileFault::NoMemory) => Err(WordFault::NoMemory),
     }
 }
 

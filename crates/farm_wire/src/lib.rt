@@ -1,13 +1,14 @@
 //! What HTTP requests ask of the farm, and the bytes of its answers.
 //!
 //! A request becomes a call of the farm or a view (`ask`), an answer becomes a status line, fields
-//! and JSON text (`out`). Reading requests and writing answers whole is `farm_http`'s; its public
+//! and JSON text (`answers`). Reading requests and writing answers whole is `farm_http`'s; its public
 //! names stand here again, so that a server needs this crate alone.
 //!
 //! Read `specs/` in the order Reading, Places, Sender, Fields, Parameters, Commands, Asked; then Shown, Replies.
 #![tactic(auto)]
 
 pub mod allowed;
+pub mod answers;
 pub mod ask;
 pub mod asks;
 pub mod board_body;
@@ -21,7 +22,6 @@ pub mod job_body;
 pub mod job_shown;
 pub mod laws;
 pub mod object;
-pub mod out;
 pub mod parameter;
 pub mod place;
 pub mod reserve_body;

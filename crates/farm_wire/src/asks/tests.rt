@@ -118,6 +118,62 @@ fn callers_and_keys(rt: HostRuntime) -> Result<(), Fail> {
     )
 }
 
+/// Whether a call submits one job at that priority, for any board of that type, with that text.
+fn submits(call: &Call, priority: u64, kind: &str, text: &str) -> bool {
+    let Cmd::Submit(found, wants, roles, body) = &call.cmd else {
+        return false;
+    };
+    let typed = wants.items().iter().all(|want| match &want.kind {
+        Some(name) => name.as_str() == kind && want.tags.is_empty(),
+        None => false,
+    });
+    found.get() == priority
+        && typed
+        && wants.items().len() == 1
+        && roles.items().iter().all(|role| role.is_none())
+        && body.as_str() == text
+}
+
+#[test]
+fn first_job(rt: HostRuntime) -> Result<(), Fail> {
+    let request =
+        b"POST /jobs HTTP/1.1\r\nx-user: ann\r\ncontent-length: 38\r\n\r\njob_name = \"boot\"\ndevice_type = \"bbb\"\n";
+    let taken = read_request(rt.alloc(), &mut request.as_slice())?;
+    match Ask::of(rt.alloc(), &taken, 7) {
+        Ok(Ask::Call(call)) => {
+            let text = "job_name = \"boot\"\ndevice_type = \"bbb\"\n";
+            assert!(rt; submits(&call, 50, "bbb", text));
+            assert_eq!(rt; call.caller.as_str(), "ann");
+            Ok(())
+        }
+        _ => Err(Fail::new("no call")),
+    }
+}
+
+#[test]
+fn job_files(rt: HostRuntime) -> Result<(), Fail> {
+    check(
+        &rt,
+        &[
+            ("POST /jobs", ADMIN, "{\"name\":\"boot\"}", 70),
+            ("POST /jobs", ADMIN, "job_name = \"boot\"\n", 70),
+            (
+                "POST /jobs",
+                ADMIN,
+                "job_name = \"boot\"\ndevice_type = \"b b\"\n",
+                5,
+            ),
+            (
+                "POST /jobs",
+                ADMIN,
+                "job_name = \"boot\"\npriority = \"urgent\"\n",
+                23,
+            ),
+            ("POST /jobs", "", "job_name boot", 50),
+        ],
+    )
+}
+
 #[test]
 fn fields_in_order(rt: HostRuntime) -> Result<(), Fail> {
     let many =

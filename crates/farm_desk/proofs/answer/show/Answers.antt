@@ -1,6 +1,6 @@
 -- Each view's answer, with the rows that it lends.
 use Rattle.std.proofs.Common.{◌≡◌, refl, sym, subst}
-use Rattle.farm_wire.specs.declared.out.Out.{Out}
+use Rattle.farm_wire.specs.declared.answers.Out.{Out}
 use Rattle.farm_desk.specs.Answers.{IsView}
 use Rattle.farm_desk.proofs.answer.show.Goals as goal
 

@@ -1,0 +1,3 @@
+pub mod DocumentLemmas
+pub mod CallLemmas
+pub mod LabLemmas

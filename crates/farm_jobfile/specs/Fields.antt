@@ -1,0 +1,54 @@
+-- The words of a file: each value has its kind, and then its word.
+use Rattle.std.specs.Prelude.{ℕ, ℤ, pos, negsuc, List, [], ◌∷◌, length, nat_lt, Option, Some, None, Result, Ok, Err, codes, if◌then◌else◌}
+use Rattle.toml.specs.Data.{Data, Items, no_items, item, get, as_str, as_array}
+use Rattle.farm_types.specs.Words.{is_word, word_or}
+use Rattle.farm_types.specs.Tags.{tags_of, list_of_tags}
+use Rattle.farm_types.specs.declared.refusal.TheConstants.{BAD_NAME, BAD_COUNT}
+use Rattle.farm_jobfile.specs.Reading.{◌>>=◌, Fault, or_word, there_or, kind_or}
+use Rattle.farm_jobfile.specs.declared.fault.FileKind.{FileKind}
+
+-- a number that is not below zero
+abbrev pub natural : ℤ → Option ℕ
+natural (pos n) = Some n
+natural (negsuc n) = None
+
+-- a name, or a bad one
+abbrev pub name_or : List ℕ → Result (List ℕ) Fault
+name_or text = or_word (word_or (is_word 48 text) text BAD_NAME)
+
+-- the name that a value spells, a text
+unfoldable pub name_from : FileKind → Data → Result (List ℕ) Fault
+name_from file d = do
+  text ← kind_or file (as_str d)
+  name_or text
+
+-- the name under a key, which must be there
+unfoldable pub name_in : FileKind → List ℕ → Data → Result (List ℕ) Fault
+name_in file key d = do
+  field ← there_or file (get key d)
+  name_from file field
+
+-- the texts of an array's items, each of them a text
+abbrev pub texts_in : FileKind → Items → Result (List (List ℕ)) Fault
+texts_in file no_items = Ok []
+texts_in file (item d rest) = kind_or file (as_str d) >>= λ text. texts_in file rest >>= λ texts. Ok (text ∷ texts)
+
+-- at most sixteen tags, put in order
+unfoldable pub tags_among : List (List ℕ) → Result (List (List ℕ)) ℕ
+tags_among texts = if nat_lt 16 (length texts) then Err BAD_COUNT else list_of_tags texts >>= tags_of
+
+-- the tags that a value spells: its kinds are looked at first, then the count, then each tag
+unfoldable pub tags_from : FileKind → Data → Result (List (List ℕ)) Fault
+tags_from file d = do
+  items ← kind_or file (as_array d)
+  texts ← texts_in file items
+  or_word (tags_among texts)
+
+-- absent tags are none
+abbrev pub tags_or_none : FileKind → Option Data → Result (List (List ℕ)) Fault
+tags_or_none file None = Ok []
+tags_or_none file (Some d) = tags_from file d
+
+-- the tags under the key `tags`
+unfoldable pub tags_in : FileKind → Data → Result (List (List ℕ)) Fault
+tags_in file d = tags_or_none file (get (codes "tags") d)

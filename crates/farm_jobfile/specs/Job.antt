@@ -1,0 +1,148 @@
+-- The command that a job file spells.
+use Rattle.std.specs.Prelude.{ℕ, ℤ, List, [], ◌∷◌, ◌++◌, ◌&&◌, Bool, true, map, replicate, nat_le, Option, Some, None, is_some, Result, Ok, Err, codes, if◌then◌else◌}
+use Rattle.std.specs.Str.{bytes_eq}
+use Rattle.toml.specs.Data.{Data, Members, no_members, member, get, as_str, as_integer, as_float, as_table}
+use Rattle.std.specs.Option.{option_map_or}
+use Rattle.farm_types.specs.Words.{is_word}
+use Rattle.farm_types.specs.Limits.{is_priority, are_few_wants}
+use Rattle.farm_types.specs.Proper.{is_want}
+use Rattle.farm_types.specs.declared.rows.Want.{Want}
+use Rattle.farm_types.specs.declared.calls.Cmd.{Cmd}
+use Rattle.farm_types.specs.declared.refusal.TheConstants.{BAD_COUNT, BAD_PRIORITY}
+use Rattle.farm_jobfile.specs.Reading.{◌>>=◌, Fault, bad, word, there_or, kind_or}
+use Rattle.farm_jobfile.specs.Document.{text_in, tree_in}
+use Rattle.farm_jobfile.specs.Fields.{natural, name_or, name_from, name_in, tags_in}
+use Rattle.farm_jobfile.specs.declared.fault.FileKind.TheVariants.{JobFile}
+use Rattle.farm_jobfile.specs.declared.fault.Reason.{Reason}
+use Rattle.farm_jobfile.specs.declared.member.Member.{Member}
+
+-- ---- the name
+
+-- a job's name is not empty
+abbrev pub title_or : List ℕ → Result (List ℕ) Fault
+title_or [] = Err (bad JobFile Reason.Missing)
+title_or (byte ∷ text) = Ok (byte ∷ text)
+
+-- the text under the key `job_name`
+unfoldable pub title_in : Data → Result (List ℕ) Fault
+title_in d = do
+  field ← there_or JobFile (get (codes "job_name") d)
+  text ← kind_or JobFile (as_str field)
+  title_or text
+
+-- ---- the priority
+
+-- a whole number from 0 to 100
+abbrev pub priority_or : Option ℕ → Result ℕ Fault
+priority_or None = Err (word BAD_PRIORITY)
+priority_or (Some n) = if is_priority n then Ok n else Err (word BAD_PRIORITY)
+
+-- one of three words
+abbrev pub priority_word : List ℕ → Result ℕ Fault
+priority_word text =
+    if bytes_eq text (codes "low") then Ok 0
+    else (if bytes_eq text (codes "medium") then Ok 50 else (if bytes_eq text (codes "high") then Ok 100 else Err (word BAD_PRIORITY)))
+
+-- a text, a whole number, another number, or another kind
+abbrev pub priority_by : Option (List ℕ) → Option ℤ → Bool → Result ℕ Fault
+priority_by (Some text) number is_float = priority_word text
+priority_by None (Some number) is_float = priority_or (natural number)
+priority_by None None is_float = if is_float then Err (word BAD_PRIORITY) else Err (bad JobFile Reason.WrongKind)
+
+unfoldable pub priority_from : Data → Result ℕ Fault
+priority_from d = priority_by (as_str d) (as_integer d) (is_some (as_float d))
+
+-- absent means 50
+abbrev pub priority_at : Option Data → Result ℕ Fault
+priority_at None = Ok 50
+priority_at (Some d) = priority_from d
+
+-- the priority under the key `priority`
+unfoldable pub priority_in : Data → Result ℕ Fault
+priority_in d = priority_at (get (codes "priority") d)
+
+-- ---- one board
+
+-- one member without a role, which wants a board of a type with tags
+unfoldable pub single_in : Data → Data → Result (List Member) Fault
+single_in kind d = do
+  name ← name_from JobFile kind
+  tags ← tags_in JobFile d
+  Ok (record { role = None; kind = name; tags = tags } ∷ [])
+
+-- ---- roles
+
+-- 1 to 4
+abbrev pub count_or : Option ℕ → Result ℕ Fault
+count_or None = Err (word BAD_COUNT)
+count_or (Some n) = if nat_le 1 n && nat_le n 4 then Ok n else Err (word BAD_COUNT)
+
+-- the whole number under the key `count`
+unfoldable pub count_in : Data → Result ℕ Fault
+count_in d = do
+  field ← there_or JobFile (get (codes "count") d)
+  number ← kind_or JobFile (as_integer field)
+  count_or (natural number)
+
+-- the members that play one role
+unfoldable pub role_in : List ℕ → Data → Result (List Member) Fault
+role_in name d = do
+  role ← name_or name
+  table ← kind_or JobFile (as_table d)
+  kind ← name_in JobFile (codes "device_type") d
+  count ← count_in d
+  tags ← tags_in JobFile d
+  Ok (replicate count (record { role = Some role; kind = kind; tags = tags }))
+
+-- the members of all roles, in the order of the tree, which is the byte order of the roles' names
+abbrev pub roles_in : Members → Result (List Member) Fault
+roles_in no_members = Ok []
+roles_in (member name d rest) = role_in name d >>= λ here. roles_in rest >>= λ more. Ok (here ++ more)
+
+unfoldable pub roles_from : Data → Result (List Member) Fault
+roles_from d = do
+  roles ← kind_or JobFile (as_table d)
+  roles_in roles
+
+-- ---- the job
+
+-- exactly one of `device_type` and `roles`; tags stand in each role, and not beside them
+abbrev pub members_by : Data → Option Data → Option Data → Option Data → Result (List Member) Fault
+members_by d (Some kind) (Some roles) tags = Err (bad JobFile Reason.Both)
+members_by d None (Some roles) (Some tags) = Err (bad JobFile Reason.Both)
+members_by d None (Some roles) None = roles_from roles
+members_by d (Some kind) None tags = single_in kind d
+members_by d None None tags = Err (bad JobFile Reason.Missing)
+
+unfoldable pub members_in : Data → Result (List Member) Fault
+members_in d = members_by d (get (codes "device_type") d) (get (codes "roles") d) (get (codes "tags") d)
+
+-- what a member wants, and its role
+abbrev pub want_of : Member → Want
+want_of m = record { kind = Some m.kind; tags = m.tags }
+
+abbrev pub role_of : Member → Option (List ℕ)
+role_of m = m.role
+
+-- a want that names a type, and a role that is a name, if it is one
+abbrev pub is_full_want : Want → Bool
+is_full_want w = is_some w.kind && is_want w
+
+abbrev pub is_role : Option (List ℕ) → Bool
+is_role r = option_map_or (is_word 48) r true
+
+-- one up to four members are a group
+abbrev pub group_of : ℕ → List Member → List ℕ → Result Cmd Fault
+group_of priority members text =
+    if are_few_wants (map want_of members) then Ok (Cmd.Submit priority (map want_of members) (map role_of members) text)
+    else Err (word BAD_COUNT)
+
+-- the command that a job file spells; it carries the text as it came
+unfoldable pub job : List ℕ → Result Cmd Fault
+job bytes = do
+  text ← text_in JobFile 65536 bytes
+  d ← tree_in JobFile text
+  title ← title_in d
+  priority ← priority_in d
+  members ← members_in d
+  group_of priority members text

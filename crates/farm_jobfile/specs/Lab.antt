@@ -1,0 +1,125 @@
+-- The calls that a lab file spells.
+use Rattle.std.specs.Prelude.{ℕ, List, [], ◌∷◌, ◌++◌, ◌&&◌, nat_le, Option, Some, None, Result, Ok, Err, codes, if◌then◌else◌}
+use Rattle.std.specs.Str.{bytes_eq}
+use Rattle.toml.specs.Data.{Data, Members, no_members, member, get, as_str, as_integer, as_table}
+use Rattle.farm_types.specs.Proper.{has_no_name_tag}
+use Rattle.farm_types.specs.declared.rows.Check.{Check}
+use Rattle.farm_types.specs.declared.calls.Cmd.{Cmd}
+use Rattle.farm_types.specs.declared.calls.Call.{Call}
+use Rattle.farm_types.specs.declared.refusal.TheConstants.{BAD_TAG}
+use Rattle.farm_jobfile.specs.Reading.{◌>>=◌, Fault, bad, word, there_or, kind_or}
+use Rattle.farm_jobfile.specs.Document.{text_in, tree_in}
+use Rattle.farm_jobfile.specs.Fields.{natural, name_or, name_in, tags_in}
+use Rattle.farm_jobfile.specs.declared.fault.FileKind.TheVariants.{LabFile}
+use Rattle.farm_jobfile.specs.declared.fault.Reason.{Reason}
+use Rattle.farm_jobfile.specs.declared.types.CheckUnit.{CheckUnit}
+
+-- who gives a command, at what moment, and the key under which its reply is kept
+pub record Entry : Type 0 where
+  pub caller : List ℕ
+  pub key : Option (List ℕ)
+  pub now : ℕ
+  pub cmd : Cmd
+
+-- what a call says
+abbrev pub entry_of : Call → Entry
+entry_of call = record { caller = call.caller; key = call.key; now = call.now; cmd = call.cmd }
+
+-- the call of a lab file's command: an admin gives it, under a key of its own
+abbrev pub asks : List ℕ → List ℕ → ℕ → Cmd → Entry
+asks prefix name now cmd = record { caller = codes "admin"; key = Some (prefix ++ name); now = now; cmd = cmd }
+
+-- ---- types
+
+-- one of three words
+abbrev pub unit_or : List ℕ → Result CheckUnit Fault
+unit_or text =
+    if bytes_eq text (codes "none") then Ok CheckUnit.None
+    else (if bytes_eq text (codes "hours") then Ok CheckUnit.Hours
+    else (if bytes_eq text (codes "jobs") then Ok CheckUnit.Jobs else Err (bad LabFile Reason.WrongKind)))
+
+-- absent means none
+abbrev pub unit_at : Option Data → Result CheckUnit Fault
+unit_at None = Ok CheckUnit.None
+unit_at (Some d) = kind_or LabFile (as_str d) >>= unit_or
+
+-- the unit under the key `check`
+unfoldable pub unit_in : Data → Result CheckUnit Fault
+unit_in d = unit_at (get (codes "check") d)
+
+-- 1 to 10,000
+abbrev pub every_or : Option ℕ → Result ℕ Fault
+every_or None = Err (bad LabFile Reason.WrongKind)
+every_or (Some n) = if nat_le 1 n && nat_le n 10000 then Ok n else Err (bad LabFile Reason.WrongKind)
+
+-- the frequency under the key `every`
+unfoldable pub every_in : Data → Result ℕ Fault
+every_in d = do
+  field ← there_or LabFile (get (codes "every") d)
+  number ← kind_or LabFile (as_integer field)
+  every_or (natural number)
+
+-- the frequency counts where there is a unit
+abbrev pub check_by : CheckUnit → Result ℕ Fault → Result Check Fault
+check_by CheckUnit.None every = Ok Check.Never
+check_by CheckUnit.Hours every = every >>= λ n. Ok (Check.Hours n)
+check_by CheckUnit.Jobs every = every >>= λ n. Ok (Check.Jobs n)
+
+unfoldable pub check_in : Data → Result Check Fault
+check_in d = unit_in d >>= λ unit. check_by unit (every_in d)
+
+-- the type of a name
+unfoldable pub type_in : ℕ → List ℕ → Data → Result Entry Fault
+type_in now name d = do
+  kind ← name_or name
+  table ← kind_or LabFile (as_table d)
+  check ← check_in d
+  Ok (asks (codes "type.") kind now (Cmd.AddType kind check))
+
+-- ---- boards
+
+-- tags for a board: none has the key `name`
+abbrev pub own_tags : List (List ℕ) → Result (List (List ℕ)) Fault
+own_tags tags = if has_no_name_tag tags then Ok tags else Err (word BAD_TAG)
+
+-- the board of a name
+unfoldable pub board_in : ℕ → List ℕ → Data → Result Entry Fault
+board_in now name d = do
+  board ← name_or name
+  table ← kind_or LabFile (as_table d)
+  kind ← name_in LabFile (codes "type") d
+  tags ← tags_in LabFile d
+  own ← own_tags tags
+  Ok (asks (codes "board.") board now (Cmd.AddBoard board kind own))
+
+-- ---- the lab
+
+-- what each member of a table spells, in the order of the tree, which is the byte order of the names
+abbrev pub each : (List ℕ → Data → Result Entry Fault) → Members → Result (List Entry) Fault
+each read no_members = Ok []
+each read (member name d rest) = read name d >>= λ entry. each read rest >>= λ entries. Ok (entry ∷ entries)
+
+-- an absent table has no members
+abbrev pub section : (List ℕ → Data → Result Entry Fault) → Option Data → Result (List Entry) Fault
+section read None = Ok []
+section read (Some d) = kind_or LabFile (as_table d) >>= each read
+
+-- the calls that a tree spells at a moment: each type is added, then each board
+unfoldable pub calls_in : ℕ → Data → Result (List Entry) Fault
+calls_in now d = do
+  types ← section (type_in now) (get (codes "types") d)
+  boards ← section (board_in now) (get (codes "boards") d)
+  Ok (types ++ boards)
+
+-- the calls that a lab file spells at a moment
+unfoldable pub lab : List ℕ → ℕ → Result (List Entry) Fault
+lab bytes now = do
+  text ← text_in LabFile 1048576 bytes
+  d ← tree_in LabFile text
+  calls_in now d
+
+-- the command adds a type or a board
+abbrev pub IsAddition : Cmd → Type 0
+IsAddition (Cmd.AddType name check) = Unit {0}
+IsAddition (Cmd.AddBoard name kind tags) = Unit {0}
+IsAddition cmd = ⊥

@@ -1,0 +1,5 @@
+pub mod Reading
+pub mod Document
+pub mod Fields
+pub mod Job
+pub mod Lab

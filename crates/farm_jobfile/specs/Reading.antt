@@ -1,0 +1,64 @@
+-- What reading a file gives: a value, or the first fault.
+use Rattle.std.specs.Prelude.{◌≡◌, ℕ, Option, Some, None, Result, Ok, Err}
+use Rattle.farm_types.specs.declared.fault.WordFault.{WordFault}
+use Rattle.farm_types.specs.declared.refusal.TheConstants.{BAD_JOB_FILE, BAD_LAB_FILE, NO_MEMORY}
+use Rattle.farm_jobfile.specs.declared.fault.FileKind.{FileKind}
+use Rattle.farm_jobfile.specs.declared.fault.Reason.{Reason}
+use Rattle.farm_jobfile.specs.declared.fault.FileFault.{FileFault}
+
+-- the number of a fault in the table of refusals
+abbrev pub code_of_kind : FileKind → ℕ
+code_of_kind FileKind.JobFile = BAD_JOB_FILE
+code_of_kind FileKind.LabFile = BAD_LAB_FILE
+
+abbrev pub code_of : FileFault → ℕ
+code_of (FileFault.Bad kind reason) = code_of_kind kind
+code_of (FileFault.Word refusal) = refusal.code
+code_of FileFault.NoMemory = NO_MEMORY
+
+-- a fault of a word as a fault of the file that has it
+abbrev pub of_word : WordFault → FileFault
+of_word (WordFault.Refused refusal) = FileFault.Word refusal
+of_word WordFault.NoMemory = FileFault.NoMemory
+
+-- one reading after another: the first fault stands
+infixl 10 ◌>>=◌
+abbrev pub ◌>>=◌ : {A B E : Type 0} → Result A E → (A → Result B E) → Result B E
+(Ok x) >>= f = f x
+(Err e) >>= f = Err e
+
+-- a fault that a text has: the file is bad, or one of its words is refused with a number
+pub data Fault : Type 0 where
+  bad : FileKind → Reason → Fault
+  word : ℕ → Fault
+
+-- its number in the table of refusals
+abbrev pub number_of : Fault → ℕ
+number_of (bad file reason) = code_of_kind file
+number_of (word code) = code
+
+-- the refusal of a word, or of a count, is a fault of the file
+abbrev pub or_word : {A : Type 0} → Result A ℕ → Result A Fault
+or_word (Ok x) = Ok x
+or_word (Err code) = Err (word code)
+
+-- what must be there
+abbrev pub there_or : {A : Type 0} → FileKind → Option A → Result A Fault
+there_or file None = Err (bad file Reason.Missing)
+there_or file (Some x) = Ok x
+
+-- what must be of its kind
+abbrev pub kind_or : {A : Type 0} → FileKind → Option A → Result A Fault
+kind_or file None = Err (bad file Reason.WrongKind)
+kind_or file (Some x) = Ok x
+
+-- the fault is the text's, unless memory ran out
+abbrev pub Faults : {Y : Type 0} → FileFault → Result Y Fault → Type 0
+Faults FileFault.NoMemory spelled = Unit {0}
+Faults (FileFault.Word refusal) spelled = spelled ≡ Err (word refusal.code)
+Faults (FileFault.Bad kind reason) spelled = spelled ≡ Err (bad kind reason)
+
+-- what a reader returned, seen by `view`, is what the text spells: a value, or its first fault
+abbrev pub Spells : {X Y : Type 0} → (X → Y) → Result X FileFault → Result Y Fault → Type 0
+Spells view (Ok x) spelled = spelled ≡ Ok (view x)
+Spells view (Err fault) spelled = Faults fault spelled

@@ -1,0 +1,130 @@
+//! The words of a file.
+ghost use Rattle.std.specs.Prelude.{map};
+ghost use Rattle.toml.specs.Data.{as_table};
+ghost use Rattle.toml.specs.View.{view, items_view, table_view};
+ghost use Rattle.farm_types.specs.Reads.{Reads};
+ghost use Rattle.farm_types.specs.Tags.{list_of_tags};
+ghost use Rattle.farm_jobfile.specs.Reading.{Spells, kind_or};
+ghost use Rattle.farm_jobfile.specs.Fields.{name_or, name_from, name_in, texts_in, tags_among, tags_from, tags_in};
+
+use crate::fault::{FileFault, FileKind, Reason};
+use farm_types::fault::WordFault;
+use farm_types::refusal::{BAD_COUNT, Refusal};
+use farm_types::tags::MOST_TAGS;
+use farm_types::words::{Name, Tag, Tags};
+use std::alloc::Global;
+use toml::{Table, Value};
+
+/// The table that a value is.
+pub(crate) fn table_of<'v>(file: FileKind, value: &'v Value) -> Result<&'v Table, FileFault>
+    ensures { Spells (λ table. table_view table.now) result (kind_or file (as_table (view value.now))) }
+{
+    match value.as_table() {
+        Some(table) => Ok(table),
+        None => Err(file.bad(Reason::WrongKind)),
+    }
+}
+
+/// The name that a text spells.
+pub(crate) fn name_of(alloc: Global, text: &str) -> Result<Name, FileFault>
+    ensures { Spells (λ name. name) result (name_or text.now) }
+{
+    match Name::parse(alloc, text.as_bytes()) {
+        Ok(name) => Ok(name),
+        Err(WordFault::Refused(refusal)) => Err(FileFault::Word(refusal)),
+        Err(WordFault::NoMemory) => Err(FileFault::NoMemory),
+    }
+}
+
+/// The name that a value spells, a text.
+#[tactic(auto, unfolding(crate::specs::Fields::name_from))]
+pub(crate) fn name_from(alloc: Global, file: FileKind, value: &Value) -> Result<Name, FileFault>
+    ensures { Spells (λ name. name) result (name_from file (view value.now)) }
+{
+    match value.as_str() {
+        Some(text) => name_of(alloc, text),
+        None => Err(file.bad(Reason::WrongKind)),
+    }
+}
+
+/// The name under a key, which must be there.
+#[tactic(auto, unfolding(crate::specs::Fields::name_in))]
+pub(crate) fn name_at(
+    alloc: Global,
+    file: FileKind,
+    value: &Value,
+    key: &str,
+) -> Result<Name, FileFault>
+    ensures { Spells (λ name. name) result (name_in file key.now (view value.now)) }
+{
+    match value.get(key) {
+        Some(field) => name_from(alloc, file, field),
+        None => Err(file.bad(Reason::Missing)),
+    }
+}
+
+/// The texts of an array's items.
+fn texts_of(alloc: Global, file: FileKind, items: &[Value]) -> Result<Vec<&str>, FileFault>
+    ensures { Spells (λ texts. map (λ text. text.now) texts.items) result (texts_in file (items_view items.now)) }
+{
+    let mut texts = Vec::new(alloc);
+    for item in items {
+        let Some(text) = item.as_str() else {
+            return Err(file.bad(Reason::WrongKind));
+        };
+        texts.push(text)?;
+    }
+    Ok(texts)
+}
+
+/// The tag that each text spells.
+fn list_of(alloc: Global, texts: &[&str]) -> Result<Vec<Tag>, WordFault>
+    ensures { Reads (λ tags. tags.items) result (list_of_tags (map (λ text. text.now) texts.now)) }
+{
+    let mut items = Vec::new(alloc);
+    for text in texts {
+        match Tag::parse(alloc, text.as_bytes()) {
+            Ok(tag) => items.push(tag)?,
+            Err(fault) => return Err(fault),
+        }
+    }
+    Ok(items)
+}
+
+/// The tags that texts spell: more than sixteen are too many, whatever they are.
+#[tactic(auto, unfolding(crate::specs::Fields::tags_among))]
+fn tags_among(alloc: Global, texts: &[&str]) -> Result<Tags, WordFault>
+    ensures { Reads (λ tags. tags) result (tags_among (map (λ text. text.now) texts.now)) }
+{
+    if texts.len() > MOST_TAGS {
+        return Err(WordFault::Refused(Refusal { code: BAD_COUNT }));
+    }
+    Tags::of(alloc, list_of(alloc, texts)?.as_slice())
+}
+
+/// The tags that a value spells, an array of texts.
+#[tactic(auto, unfolding(crate::specs::Fields::tags_from))]
+pub(crate) fn tags_from(alloc: Global, file: FileKind, value: &Value) -> Result<Tags, FileFault>
+    ensures { Spells (λ tags. tags) result (tags_from file (view value.now)) }
+{
+    let Some(items) = value.as_array() else {
+        return Err(file.bad(Reason::WrongKind));
+    };
+    let texts = texts_of(alloc, file, items.as_slice())?;
+    match tags_among(alloc, texts.as_slice()) {
+        Ok(tags) => Ok(tags),
+        Err(WordFault::Refused(refusal)) => Err(FileFault::Word(refusal)),
+        Err(WordFault::NoMemory) => Err(FileFault::NoMemory),
+    }
+}
+
+/// The tags under the key `tags`; absent means none.
+#[tactic(auto, unfolding(crate::specs::Fields::tags_in))]
+pub(crate) fn tags_at(alloc: Global, file: FileKind, value: &Value) -> Result<Tags, FileFault>
+    ensures { Spells (λ tags. tags) result (tags_in file (view value.now)) }
+{
+    match value.get("tags") {
+        Some(field) => tags_from(alloc, file, field),
+        None => Ok(Tags::none(alloc)),
+    }
+}

@@ -1,0 +1,71 @@
+//! The priority of a job file.
+ghost use Rattle.std.specs.Prelude.{Some};
+ghost use Rattle.toml.specs.View.{view};
+ghost use Rattle.farm_jobfile.specs.Reading.{Spells};
+ghost use Rattle.farm_jobfile.specs.Job.{priority_or, priority_word, priority_from, priority_in};
+
+use crate::fault::{FileFault, FileKind, Reason};
+use crate::whole::natural;
+use farm_types::refusal::{BAD_PRIORITY, Refusal};
+use farm_types::words::Priority;
+use toml::Value;
+
+/// The priorities that LAVA calls low, medium and high. Medium is also what an absent one means.
+const LOW: u64 = 0;
+
+const MEDIUM: u64 = 50;
+
+const HIGH: u64 = 100;
+
+/// The priority of that number.
+fn priority_of(number: u64) -> Result<Priority, FileFault>
+    ensures { Spells (λ priority. priority) result (priority_or (Some number)) }
+{
+    match Priority::of(number) {
+        Ok(priority) => Ok(priority),
+        Err(refusal) => Err(FileFault::Word(refusal)),
+    }
+}
+
+/// The priority that a word names.
+fn named_priority(text: &str) -> Result<Priority, FileFault>
+    ensures { Spells (λ priority. priority) result (priority_word text.now) }
+{
+    match text {
+        "low" => priority_of(LOW),
+        "medium" => priority_of(MEDIUM),
+        "high" => priority_of(HIGH),
+        _ => Err(FileFault::Word(Refusal { code: BAD_PRIORITY })),
+    }
+}
+
+/// The priority that a value spells: a word, or a whole number.
+#[tactic(auto, unfolding(crate::specs::Job::priority_from))]
+fn priority_from(field: &Value) -> Result<Priority, FileFault>
+    ensures { Spells (λ priority. priority) result (priority_from (view field.now)) }
+{
+    if let Some(text) = field.as_str() {
+        return named_priority(text);
+    }
+    if let Some(number) = field.as_integer() {
+        return match natural(number) {
+            Some(number) => priority_of(number),
+            None => Err(FileFault::Word(Refusal { code: BAD_PRIORITY })),
+        };
+    }
+    if field.is_float() {
+        return Err(FileFault::Word(Refusal { code: BAD_PRIORITY }));
+    }
+    Err(FileKind::JobFile.bad(Reason::WrongKind))
+}
+
+/// The priority under the key `priority`; absent means medium.
+#[tactic(auto, unfolding(crate::specs::Job::priority_in))]
+pub(crate) fn priority_at(value: &Value) -> Result<Priority, FileFault>
+    ensures { Spells (λ priority. priority) result (priority_in (view value.now)) }
+{
+    match value.get("priority") {
+        Some(field) => priority_from(field),
+        None => priority_of(MEDIUM),
+    }
+}

@@ -1,0 +1,105 @@
+//! The types of a lab file.
+ghost use Rattle.std.specs.Prelude.{◌≡◌, map, nat_le, ◌&&◌, IsTrue, IfOk};
+ghost use Rattle.toml.specs.View.{view, table_view};
+ghost use Rattle.farm_types.specs.Proper.{is_frequency};
+ghost use Rattle.farm_jobfile.specs.Reading.{Spells};
+ghost use Rattle.farm_jobfile.specs.Lab.{entry_of, unit_or, unit_in, every_in, check_in, type_in, each};
+
+use crate::call::call_of;
+use crate::fault::{FileFault, FileKind, Reason};
+use crate::fields::{name_of, table_of};
+use crate::whole::natural;
+use farm_types::calls::{Call, Cmd};
+use farm_types::rows::Check;
+use std::alloc::Global;
+use toml::{Table, Value};
+
+/// The most hours or jobs between two checks.
+pub const LONGEST_EVERY: u64 = 10_000;
+
+/// What a check's frequency counts.
+#[derive(Clone, Copy, Debug, PartialEq, Eq)]
+pub enum CheckUnit {
+    None,
+    Hours,
+    Jobs,
+}
+
+/// The unit that a word names.
+fn named_unit(text: &str) -> Result<CheckUnit, FileFault>
+    ensures { Spells (λ unit. unit) result (unit_or text.now) }
+{
+    match text {
+        "none" => Ok(CheckUnit::None),
+        "hours" => Ok(CheckUnit::Hours),
+        "jobs" => Ok(CheckUnit::Jobs),
+        _ => Err(FileKind::LabFile.bad(Reason::WrongKind)),
+    }
+}
+
+/// The unit under the key `check`; absent means none.
+#[tactic(auto, unfolding(crate::specs::Lab::unit_in))]
+fn unit_of(value: &Value) -> Result<CheckUnit, FileFault>
+    ensures { Spells (λ unit. unit) result (unit_in (view value.now)) }
+{
+    let Some(field) = value.get("check") else {
+        return Ok(CheckUnit::None);
+    };
+    match field.as_str() {
+        Some(text) => named_unit(text),
+        None => Err(FileKind::LabFile.bad(Reason::WrongKind)),
+    }
+}
+
+/// The frequency under the key `every`.
+#[tactic(auto, unfolding(crate::specs::Lab::every_in))]
+fn every_of(value: &Value) -> Result<u64, FileFault>
+    ensures every { Spells (λ every. every) result (every_in (view value.now)) }
+    ensures range { IfOk result (λ every. IsTrue (nat_le 1 every && nat_le every 10000)) }
+{
+    let Some(field) = value.get("every") else {
+        return Err(FileKind::LabFile.bad(Reason::Missing));
+    };
+    let Some(number) = field.as_integer() else {
+        return Err(FileKind::LabFile.bad(Reason::WrongKind));
+    };
+    match natural(number) {
+        Some(every) if every >= 1 && every <= LONGEST_EVERY => Ok(every),
+        _ => Err(FileKind::LabFile.bad(Reason::WrongKind)),
+    }
+}
+
+/// The check that the keys `check` and `every` spell.
+#[tactic(auto, unfolding(crate::specs::Lab::check_in))]
+fn check_of(value: &Value) -> Result<Check, FileFault>
+    ensures check { Spells (λ check. check) result (check_in (view value.now)) }
+    ensures frequency { IfOk result (λ check. IsTrue (is_frequency check)) }
+{
+    match unit_of(value)? {
+        CheckUnit::None => Ok(Check::Never),
+        CheckUnit::Hours => Ok(Check::Hours(every_of(value)?)),
+        CheckUnit::Jobs => Ok(Check::Jobs(every_of(value)?)),
+    }
+}
+
+/// The call that adds one type.
+#[tactic(auto, unfolding(crate::specs::Lab::type_in))]
+fn type_of(alloc: Global, name: &str, value: &Value, now: u64) -> Result<Call, FileFault>
+    ensures { Spells (λ call. entry_of call) result (type_in now name.now (view value.now)) }
+{
+    let kind = name_of(alloc, name)?;
+    let _table = table_of(FileKind::LabFile, value)?;
+    let check = check_of(value)?;
+    call_of(alloc, "type.", name, now, Cmd::add_type(kind, check))
+}
+
+/// The calls that add the types of a table, which has them in byte order.
+pub(crate) fn types_of(alloc: Global, table: &Table, now: u64) -> Result<Vec<Call>, FileFault>
+    ensures { Spells (λ calls. map entry_of calls.items) result (each (type_in now) (table_view table.now)) }
+{
+    let mut calls = Vec::new(alloc);
+    for (name, value) in table.iter() {
+        calls.push(type_of(alloc, name.as_str(), value, now)?)?;
+    }
+    Ok(calls)
+}
