@@ -6,6 +6,7 @@ use Rattle.farm_types.specs.Machine.{Answered, answer, step}
 use Rattle.farm_types.specs.Refuse.{kind_of}
 use Rattle.farm_types.specs.declared.calls.Answer.{Answer}
 use Rattle.farm_types.specs.declared.calls.Call.{Call}
+use Rattle.farm_types.specs.declared.refusal.TheConstants.{NO_MEMORY}
 use Rattle.farm_core.specs.Answers.{IsChange}
 use Rattle.farm_keep.specs.Faults.{fault_code}
 use Rattle.farm_keep.specs.Kept.{Kept, Keeps, KeepsEither}
@@ -13,6 +14,7 @@ use Rattle.farm_keep.specs.declared.fault.KeepFault.{KeepFault}
 use Rattle.farm_wire.specs.Reading.{Denial}
 use Rattle.farm_wire.specs.Replies.{reply_bytes}
 use Rattle.farm_wire.specs.declared.ask.Ask.{Ask}
+use Rattle.farm_wire.specs.declared.answers.Out.{Out}
 use Rattle.farm_desk.specs.Answers.{IsView, IsLook, Says, Does, denied, refusal, replied}
 use Rattle.farm_desk.specs.Due.{Closes, IsDueTo, RunsOut}
 use Rattle.farm_desk.specs.Made.{IsMadeOf, IsMadeOfOne}
@@ -25,6 +27,15 @@ due_when_short g old new what bytes DeskFault.Read e out = absurd (cc)
 due_when_short g old new what bytes DeskFault.Write e out = absurd (cc)
 due_when_short g old new what bytes (DeskFault.Keep fault) e out = absurd (cc)
 
+-- an answer that is one of some
+pub made_of_one : (P : Out → Type 0) (out : Out) (bytes : List ℕ) (end : Result ℕ DeskFault) → P out → IsMadeOf out bytes end → IsMadeOfOne P bytes end
+made_of_one P out bytes (Ok status) is made = (out, is, made)
+made_of_one P out bytes (Err fault) is made = made
+
+-- there was no memory for any of them
+pub short_of_all : (P : Out → Type 0) (bytes : List ℕ) (end : Result ℕ DeskFault) → bytes ≡ reply_bytes (refusal NO_MEMORY) → end ≡ Err DeskFault.NoMemory → IsMadeOfOne P bytes end
+short_of_all P bytes end says ends = subst (IsMadeOfOne P bytes) (sym ends) (record { fault_is = refl; bytes_are = says })
+
 -- a view that was shown, or for which there was no memory
 pub view_is_due : {S : Type 0} (g : Ghosts S) (k : Kept S) (view : Ask) (bytes : List ℕ) (end : Result ℕ DeskFault)
     → IsLook view → k.is_open ≡ true → IsMadeOfOne (IsView view k.farm.farm) bytes end → IsDueTo g k k (Ok view) bytes end
@@ -35,12 +46,12 @@ view_is_due g k Ask.Queue bytes (Ok status) look opened made = record { was_open
 view_is_due g k Ask.Reservations bytes (Ok status) look opened made = record { was_open = opened; out = made.0; shows = made.1; says = made.2; rests = refl }
 view_is_due g k Ask.Status bytes (Ok status) look opened made = record { was_open = opened; out = made.0; shows = made.1; says = made.2; rests = refl }
 view_is_due g k (Ask.Job number) bytes (Ok status) look opened made = record { was_open = opened; out = made.0; shows = made.1; says = made.2; rests = refl }
-view_is_due g k Ask.Types bytes (Err fault) look opened made = due_when_short g k k (Ok Ask.Types) bytes fault made.2.fault_is (record { says = made.2.bytes_are; stays_open = refl; farm = refl })
-view_is_due g k Ask.Boards bytes (Err fault) look opened made = due_when_short g k k (Ok Ask.Boards) bytes fault made.2.fault_is (record { says = made.2.bytes_are; stays_open = refl; farm = refl })
-view_is_due g k Ask.Queue bytes (Err fault) look opened made = due_when_short g k k (Ok Ask.Queue) bytes fault made.2.fault_is (record { says = made.2.bytes_are; stays_open = refl; farm = refl })
-view_is_due g k Ask.Reservations bytes (Err fault) look opened made = due_when_short g k k (Ok Ask.Reservations) bytes fault made.2.fault_is (record { says = made.2.bytes_are; stays_open = refl; farm = refl })
-view_is_due g k Ask.Status bytes (Err fault) look opened made = due_when_short g k k (Ok Ask.Status) bytes fault made.2.fault_is (record { says = made.2.bytes_are; stays_open = refl; farm = refl })
-view_is_due g k (Ask.Job number) bytes (Err fault) look opened made = due_when_short g k k (Ok (Ask.Job number)) bytes fault made.2.fault_is (record { says = made.2.bytes_are; stays_open = refl; farm = refl })
+view_is_due g k Ask.Types bytes (Err fault) look opened made = due_when_short g k k (Ok Ask.Types) bytes fault made.fault_is (record { says = made.bytes_are; stays_open = refl; farm = refl })
+view_is_due g k Ask.Boards bytes (Err fault) look opened made = due_when_short g k k (Ok Ask.Boards) bytes fault made.fault_is (record { says = made.bytes_are; stays_open = refl; farm = refl })
+view_is_due g k Ask.Queue bytes (Err fault) look opened made = due_when_short g k k (Ok Ask.Queue) bytes fault made.fault_is (record { says = made.bytes_are; stays_open = refl; farm = refl })
+view_is_due g k Ask.Reservations bytes (Err fault) look opened made = due_when_short g k k (Ok Ask.Reservations) bytes fault made.fault_is (record { says = made.bytes_are; stays_open = refl; farm = refl })
+view_is_due g k Ask.Status bytes (Err fault) look opened made = due_when_short g k k (Ok Ask.Status) bytes fault made.fault_is (record { says = made.bytes_are; stays_open = refl; farm = refl })
+view_is_due g k (Ask.Job number) bytes (Err fault) look opened made = due_when_short g k k (Ok (Ask.Job number)) bytes fault made.fault_is (record { says = made.bytes_are; stays_open = refl; farm = refl })
 
 -- a denial that was made, or for which there was no memory
 pub denial_is_due : {S : Type 0} (g : Ghosts S) (k : Kept S) (why : Denial) (bytes : List ℕ) (end : Result ℕ DeskFault)

@@ -21,6 +21,7 @@ abbrev pub IsMadeOf : Out → List ℕ → Result ℕ DeskFault → Type 0
 IsMadeOf out bytes (Ok status) = Says out bytes status
 IsMadeOf out bytes (Err fault) = IsShort bytes fault
 
--- the same of an answer that is one of some
+-- the bytes say one of some answers, or that there is no memory to say it
 abbrev pub IsMadeOfOne : (Out → Type 0) → List ℕ → Result ℕ DeskFault → Type 0
-IsMadeOfOne P bytes end = (out : Out) × P out × IsMadeOf out bytes end
+IsMadeOfOne P bytes (Ok status) = (out : Out) × P out × Says out bytes status
+IsMadeOfOne P bytes (Err fault) = IsShort bytes fault

@@ -7,7 +7,7 @@ use Rattle.farm_desk.proofs.answer.due_to_call.Goals as goal
 pub returns-in-Ok-clause-due : goal.returns-in-Ok-clause-due
 returns-in-Ok-clause-due g c =
     call_is_due g.S.Store c.args.keeper.now c.act.new.self c.args.call.now _ _ _ c.in-Ok.ensures.answer c.in-Ok.ensures.farm
-    c.in-Ok.ensures.opened c.in-Ok.ensures.stands (subst (λ out. IsMadeOf out (bytes_in c.of-in-Ok.result.bytes) c.of-in-Ok.result.end) c.reply_of.ensures c.of-in-Ok.ensures)
+    c.in-Ok.ensures.opened c.in-Ok.ensures.stands (subst (λ out. IsMadeOf out (bytes_in c.of.result.bytes) c.of.result.end) c.reply_of.ensures c.of.ensures)
 
 pub returns-in-Err-clause-due : goal.returns-in-Err-clause-due
 returns-in-Err-clause-due g c =

@@ -1,0 +1,15 @@
+-- One job, or that there is none.
+use Rattle.std.proofs.Common.{◌≡◌, refl, subst}
+use Rattle.farm_types.specs.declared.refusal.TheConstants.{NO_JOB}
+use Rattle.farm_wire.specs.declared.answers.Out.{Out}
+use Rattle.farm_desk.specs.Answers.{ShowsJob, refusal}
+use Rattle.farm_desk.proofs.AnswerLemmas.{made_of_one}
+use Rattle.farm_desk.proofs.answer.show_job.Goals as goal
+
+pub returns-in-Some : goal.returns-in-Some
+returns-in-Some c =
+    made_of_one _ (Out.Job c.in-Some.row) _ _ (subst (λ job. ShowsJob job (Out.Job c.in-Some.row)) (c.in-Some.ensures c.requires) refl) c.of.ensures
+
+pub returns-in-None : goal.returns-in-None
+returns-in-None c =
+    made_of_one _ (refusal NO_JOB) _ _ (subst (λ job. ShowsJob job (refusal NO_JOB)) (c.in-None.ensures c.requires) refl) c.of-in-None.ensures
