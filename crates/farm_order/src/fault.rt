@@ -1,4 +1,7 @@
 //! Why words give no order.
+ghost use Rattle.clap.specs.Words.{kind_of};
+ghost use Rattle.farm_order.specs.Faults.{IsOfKind};
+
 use clap::Error as ClapError;
 use clap::error::ErrorKind;
 use std::alloc::{AllocError, Global};
@@ -29,13 +32,15 @@ impl From<AllocError> for OrderFault {
 }
 
 /// The fault that the reader of words found, with its text.
-pub(crate) fn fault_of(alloc: Global, error: &ClapError) -> OrderFault {
-    if error.kind() == ErrorKind::OutOfMemory {
+pub(crate) fn fault_of(alloc: Global, error: &ClapError) -> OrderFault
+    ensures { IsOfKind (kind_of error.now) result }
+{
+    let Ok(text) = error.to_string(alloc) else {
         return OrderFault::NoMemory;
-    }
-    match error.to_string(alloc) {
-        Ok(text) if error.use_stderr() => OrderFault::Words(text),
-        Ok(text) => OrderFault::Help(text),
-        Err(_) => OrderFault::NoMemory,
+    };
+    match error.kind() {
+        ErrorKind::OutOfMemory => OrderFault::NoMemory,
+        ErrorKind::DisplayHelp => OrderFault::Help(text),
+        _ => OrderFault::Words(text),
     }
 }

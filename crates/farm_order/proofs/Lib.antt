@@ -1,0 +1,5 @@
+mod Readings
+mod RowLemmas
+mod WalkedOnce
+mod WalkedFarm
+mod Outcomes

@@ -1,0 +1,3 @@
+pub mod App
+pub mod Orders
+pub mod Faults
