@@ -209,8 +209,7 @@ fn tables_that_are_not_there(rt: HostRuntime) -> Result<(), Fail> {
     Ok(())
 }
 
-/// Where `put` has no memory, the tables are as they were; where the store has none, they are as they were or
-/// have all the changes.
+/// Where memory is refused to `put` or to the store, the tables are as they were.
 #[test]
 fn refused_memory(rt: HostRuntime) -> Result<(), Fail> {
     let alloc = rt.alloc();
@@ -222,8 +221,7 @@ fn refused_memory(rt: HostRuntime) -> Result<(), Fail> {
     let after = found(alloc, &mut conn)?;
     match put {
         Ok(()) => assert_ne!(rt; after.as_str(), before.as_str()),
-        Err(StoreFault::NoMemory) => assert_eq!(rt; after.as_str(), before.as_str()),
-        Err(_) => {}
+        Err(_) => assert_eq!(rt; after.as_str(), before.as_str()),
     }
     Ok(())
 }
