@@ -114,6 +114,6 @@ put_tables T c =
     with_meta (with_kept (with_reservations (with_jobs (with_boards (with_types T c.types.items) c.boards.items) c.jobs.items) c.reservations.items) c.kept.items)
     (number_rows c.meta.clock c.meta.count c.meta.next)
 
--- before the first table is made, and when all six are
+-- six tables without a row
 abbrev pub no_rows : Tables
 no_rows = record { types = []; boards = []; jobs = []; reservations = []; kept = []; meta = [] }

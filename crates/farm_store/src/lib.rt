@@ -6,6 +6,8 @@ mod fault;
 pub mod laws;
 mod queries;
 mod schema;
+#[cfg(test)]
+mod tests;
 mod upserts;
 
 pub use fault::StoreFault;

@@ -48,8 +48,10 @@ fn read_all<S: Alter>(alloc: Global, tx: &mut Transaction<'_, S>) -> Result<Rows
 }
 
 /// Reads the rows of all tables, in order of their keys, in one transaction that is rolled back. Refused as bad where a
-/// column can't be read: where its word is none, its code is of nothing, its tags are in no canonical text, its number is
-/// below 0; and where the farm's numbers are not exactly its clock, count and next number, with schema 1.
+/// column can't be read: where it is of another kind, a name or a key is no word, tags are in no canonical text, a code
+/// stands for nothing, a number is below 0; and where the farm's numbers are not exactly its clock, count and next number,
+/// with schema 1. Where a table is not there, a call of the store was refused. Whether the rows are those of a sound farm
+/// is not looked at.
 ///
 /// It reads each row once, and keeps the raw rows of one table at a time.
 pub fn load<S: Alter>(alloc: Global, conn: &mut Connection<S>) -> Result<Rows, StoreFault>

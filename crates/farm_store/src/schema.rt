@@ -78,7 +78,10 @@ fn put_first_numbers<S: Alter>(tx: &mut Transaction<'_, S>) -> Result<(), Error>
     Ok(())
 }
 
-/// Makes the six tables of the empty farm in one transaction. Where the store failed, there are none of them or all.
+/// Makes the six tables of the empty farm in one transaction, whose commit is the last call of the store. Where a call of
+/// the store was refused, as where one of the tables is there already, a stop leaves none of what it makes or all.
+///
+/// It runs ten statements, whatever else the store holds.
 pub fn create<S: Alter>(conn: &mut Connection<S>) -> Result<(), StoreFault>
     requires autocommit { conn.old.in_transaction ≡ false }
     ensures autocommit { conn.new.in_transaction ≡ false }

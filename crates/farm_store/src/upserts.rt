@@ -58,7 +58,7 @@ fn put_all<S: Alter>(
 /// call of the store. The texts of tags are made before the first call of the store, so where memory is refused nothing
 /// has changed; where the store failed, a stop leaves the tables as they were or with all the changes put.
 ///
-/// It writes the rows of the changes and three more, whatever the tables hold.
+/// It writes the rows of the changes and three more, each by its key, and reads no other row.
 pub fn put<S: Alter>(
     alloc: Global,
     conn: &mut Connection<S>,

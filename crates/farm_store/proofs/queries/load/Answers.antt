@@ -12,7 +12,9 @@ use Rattle.farm_store.proofs.queries.load.Goals as goal
 pub returns-clause-stands : goal.returns-clause-stands
 returns-clause-stands g c clean T at =
     let end = c.rollback.new.self.0 in
-    let same : end ≡ c.conn-1.given.0 = search rules in
+    -- the connection, as the transaction gives it back
+    let back = c.conn-1.given.0 in
+    let same : end ≡ back = search rules in
     let late : HasCleanDisk (state g.S.Store end) = search rules in
     let read = state g.S.Store c.read_all-rows.new.tx.conn.now in
     let begin = state g.S.Store c.transaction-tx.result.conn.now in

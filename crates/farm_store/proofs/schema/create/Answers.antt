@@ -11,7 +11,9 @@ use Rattle.farm_store.proofs.schema.create.Goals as goal
 pub returns-in_err-commit-clause-stop : goal.returns-in_err-commit-clause-stop
 returns-in_err-commit-clause-stop g c clean has db may =
     let end = c.commit.new.self.0 in
-    let same : end ≡ c.conn-2-1.given.0 = search rules in
+    -- the connection, as the transaction gives it back
+    let back = c.conn-2-1.given.0 in
+    let same : end ≡ back = search rules in
     let late : HasCleanDisk (state g.S.Store end) = search rules in
     let filled = state g.S.Store c.put_first_numbers.new.tx.conn.now in
     let made = state g.S.Store c.make_all.new.tx.conn.now in
@@ -33,7 +35,9 @@ returns-in_err-commit-clause-stop g c clean has db may =
 pub returns-clause-ok : goal.returns-clause-ok
 returns-clause-ok g c clean has =
     let end = c.commit.new.self.0 in
-    let same : end ≡ c.conn-2-1.given.0 = search rules in
+    -- the connection, as the transaction gives it back
+    let back = c.conn-2-1.given.0 in
+    let same : end ≡ back = search rules in
     let late : HasCleanDisk (state g.S.Store end) = search rules in
     let filled = state g.S.Store c.put_first_numbers.new.tx.conn.now in
     let made = state g.S.Store c.make_all.new.tx.conn.now in

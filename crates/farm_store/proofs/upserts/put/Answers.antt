@@ -10,7 +10,9 @@ use Rattle.farm_store.proofs.upserts.put.Goals as goal
 pub returns-clause-ok : goal.returns-clause-ok
 returns-clause-ok g c clean F at =
     let end = c.commit.new.self.0 in
-    let same : end ≡ c.conn-2-1.given.0 = search rules in
+    -- the connection, as the transaction gives it back
+    let back = c.conn-2-1.given.0 in
+    let same : end ≡ back = search rules in
     let late : HasCleanDisk (state g.S.Store end) = search rules in
     let wrote = state g.S.Store c.put_all.new.tx.conn.now in
     let early : HasCleanDisk wrote = omega (arith, c.commit.ensures.survives.clean) in
