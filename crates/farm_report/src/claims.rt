@@ -1,0 +1,31 @@
+//! The report of the queue.
+ghost use Rattle.std.specs.Prelude.{◌≡◌, IfOk, string_bytes};
+ghost use Rattle.farm_report.specs.Lines.{claim_line, claims_text};
+
+use crate::columns::{claim_word, left, push_line, right};
+use farm_types::claims::Claim;
+use std::alloc::{AllocError, Global};
+
+/// The claims in the order given, each on its line: priority, number, kind, number of wants and
+/// owner. It costs one pass over them.
+pub fn claims_text(alloc: Global, claims: &[Claim]) -> Result<String, AllocError>
+    ensures { IfOk result (λ text. string_bytes text ≡ claims_text claims.now) }
+{
+    let mut text = String::new(alloc);
+    for claim in claims {
+        let line = claim_line(alloc, claim)?;
+        push_line(&mut text, line.as_str())?;
+    }
+    Ok(text)
+}
+
+fn claim_line(alloc: Global, claim: &Claim) -> Result<String, AllocError>
+    ensures { IfOk result (λ line. string_bytes line ≡ claim_line claim.now) }
+{
+    let priority = right(alloc, claim.priority.get(), 3)?;
+    let number = right(alloc, claim.number, 9)?;
+    let kind = left(alloc, claim_word(claim.kind), 11)?;
+    let boards = claim.boards;
+    let owner = claim.owner.as_str();
+    format!(in alloc; "{priority} {number} {kind} {boards} {owner}")
+}

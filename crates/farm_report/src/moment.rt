@@ -1,0 +1,57 @@
+//! Moments as text.
+ghost use Rattle.std.specs.Prelude.{◌≡◌, ◌↔◌, ◌<◌, ◌*ℤ◌, neg_ℤ, pos, Err, IfOk, IfSome, IsSome};
+ghost use Rattle.std.specs.Prelude.{string_bytes};
+ghost use Rattle.jiff.specs.Words.{IsBetween};
+ghost use Rattle.farm_report.specs.Moments.{ShowsCheck, ShowsMoment};
+ghost use Rattle.farm_report.specs.declared.fault.ReportFault.TheVariants.{BadMoment};
+ghost use Rattle.farm_report.specs.declared.moment.TheConstants.{LAST_SECOND};
+
+use crate::fault::ReportFault;
+use jiff::Timestamp;
+use jiff::tz::Offset;
+use std::alloc::Global;
+
+/// How far a report's clock may be from UTC, in minutes.
+const MOST_MINUTES: i64 = 840;
+
+/// The last second that the calendar has at every offset, shortly before the year 10000.
+pub const LAST_SECOND: u64 = 253_402_207_200;
+
+/// The offset that is so many minutes east of UTC, or west of it where the number is negative; it
+/// is at most 840 minutes either side.
+pub fn zone_of(minutes: i64) -> Option<Offset>
+    ensures taken { IsSome result ↔ IsBetween (neg_ℤ (pos 840)) (pos 840) minutes }
+    ensures value { IfSome result (λ zone. zone.seconds ≡ minutes *ℤ pos 60) }
+{
+    if minutes < -MOST_MINUTES || minutes > MOST_MINUTES {
+        return None;
+    }
+    Offset::from_seconds(minutes as i32 * 60).ok()
+}
+
+/// The civil date and time of a moment at an offset, as `2023-11-14 22:13:20`.
+pub(crate) fn moment_text(alloc: Global, moment: u64, zone: Offset) -> Result<String, ReportFault>
+    ensures text { IfOk result (λ text. ShowsMoment zone.seconds moment (string_bytes text)) }
+    ensures fault { result ≡ Err BadMoment → LAST_SECOND < moment }
+{
+    if moment > LAST_SECOND {
+        return Err(ReportFault::BadMoment);
+    }
+    let Ok(instant) = Timestamp::from_second(moment as i64) else {
+        return Err(ReportFault::BadMoment);
+    };
+    let civil = zone.to_datetime(instant);
+    let (date, time) = (civil.date(), civil.time());
+    Ok(format!(in alloc; "{date} {time}")?)
+}
+
+/// The moment of a board's last check, or `never`.
+pub(crate) fn check_text(alloc: Global, moment: u64, zone: Offset) -> Result<String, ReportFault>
+    ensures text { IfOk result (λ text. ShowsCheck zone.seconds moment (string_bytes text)) }
+    ensures fault { result ≡ Err BadMoment → LAST_SECOND < moment }
+{
+    if moment == 0 {
+        return Ok(String::from_str(alloc, "never")?);
+    }
+    moment_text(alloc, moment, zone)
+}
