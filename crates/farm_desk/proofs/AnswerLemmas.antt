@@ -28,6 +28,7 @@ due_when_short g old new what bytes DeskFault.NoMemory e out = out
 due_when_short g old new what bytes DeskFault.Read e out = absurd (cc)
 due_when_short g old new what bytes DeskFault.Write e out = absurd (cc)
 due_when_short g old new what bytes (DeskFault.Keep fault) e out = absurd (cc)
+due_when_short g old new what bytes (DeskFault.File fault) e out = absurd (cc)
 
 -- a view that was shown, or for which there was no memory
 pub view_is_due : {S : Type 0} (g : Ghosts S) (k : Kept S) (view : Ask) (bytes : List ℕ) (end : Result ℕ DeskFault)
