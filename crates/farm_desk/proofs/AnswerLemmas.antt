@@ -26,6 +26,7 @@ due_when_short g old new what bytes DeskFault.NoMemory e out = out
 due_when_short g old new what bytes DeskFault.Read e out = absurd (cc)
 due_when_short g old new what bytes DeskFault.Write e out = absurd (cc)
 due_when_short g old new what bytes (DeskFault.Keep fault) e out = absurd (cc)
+due_when_short g old new what bytes (DeskFault.File fault) e out = absurd (cc)
 
 -- an answer that is one of some
 pub made_of_one : (P : Out → Type 0) (out : Out) (bytes : List ℕ) (end : Result ℕ DeskFault) → P out → IsMadeOf out bytes end → IsMadeOfOne P bytes end

@@ -78,6 +78,7 @@ IsDueTo g old new what bytes (Err DeskFault.NoMemory) = RunsOut g old new what b
 IsDueTo g old new what bytes (Err (DeskFault.Keep fault)) = ClosesIfAsked g old new what fault bytes
 IsDueTo g old new what bytes (Err DeskFault.Read) = ⊥
 IsDueTo g old new what bytes (Err DeskFault.Write) = ⊥
+IsDueTo g old new what bytes (Err (DeskFault.File fault)) = ⊥
 
 -- what was asked was understood, and the answer is due to it
 pub record IsDueToAsked {S : Type 0} (g : Ghosts S) (old new : Kept S) (input rest : Option (List ℕ)) (now : ℕ) (bytes : List ℕ) (end : Result ℕ DeskFault) : Type 0 where

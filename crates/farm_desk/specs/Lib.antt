@@ -4,3 +4,4 @@ pub mod Answers
 pub mod Due
 pub mod Ends
 pub mod Made
+pub mod Imports

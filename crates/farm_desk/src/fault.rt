@@ -1,12 +1,13 @@
-//! Why a conversation ended without an answer of the farm.
+//! Why a conversation or an import ended without an answer of the farm.
 ghost use Rattle.std.specs.Prelude.{◌≡◌};
 ghost use Rattle.farm_desk.specs.Faults.{fault_number};
 
+use farm_jobfile::FileFault;
 use farm_keep::KeepFault;
 use farm_types::refusal::{NO_MEMORY, READ, WRITE};
 use thiserror::Error;
 
-/// Why a conversation ended without an answer of the farm. The texts are those of the table of
+/// Why a conversation or an import ended without an answer of the farm. The texts are those of the table of
 /// refusals.
 #[derive(Clone, Copy, Debug, PartialEq, Eq, Error)]
 pub enum DeskFault {
@@ -22,6 +23,9 @@ pub enum DeskFault {
     /// The keeper answered a fault, and is closed.
     #[error("{0}")]
     Keep(KeepFault),
+    /// The file of an import is bad, or there was no memory to read it.
+    #[error("{0}")]
+    File(FileFault),
 }
 
 impl DeskFault {
@@ -34,6 +38,7 @@ impl DeskFault {
             DeskFault::Read => READ,
             DeskFault::Write => WRITE,
             DeskFault::Keep(fault) => fault.code(),
+            DeskFault::File(fault) => fault.code(),
         }
     }
 }

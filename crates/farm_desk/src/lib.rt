@@ -1,8 +1,8 @@
 //! The desk of the board farm: bytes in, bytes out, over a store.
 //!
-//! `converse` reads one request, acts on the farm or looks at it, and writes one answer; `program`
-//! is the program `farm`. `specs/` says what a conversation is, in the order Heard, Answers, Due,
-//! Ends.
+//! `converse` reads one request, acts on the farm or looks at it, and writes one answer; `import`
+//! adds what a lab file lists; `program` is the program `farm`. `specs/` says what a conversation
+//! is, in the order Heard, Answers, Due, Ends, and what an import is in Imports.
 #![tactic(auto)]
 
 mod answer;
@@ -10,6 +10,7 @@ pub mod converse;
 mod due;
 pub mod fault;
 mod hear;
+pub mod import;
 pub mod log;
 pub mod program;
 

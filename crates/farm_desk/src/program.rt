@@ -5,6 +5,7 @@ ghost use Rattle.farm_desk.specs.Faults.{exit_status};
 use crate::converse::converse;
 use crate::due::OK;
 use crate::fault::DeskFault;
+use farm_jobfile::FileFault;
 use farm_keep::{KeepFault, Keeper};
 use farm_order::fault::OrderFault;
 use farm_order::order::{Order, Place};
@@ -19,7 +20,7 @@ use std::io::{Read, Write};
 pub const DONE: u8 = 0;
 /// The words give no order.
 pub const WRONG_WORDS: u8 = 2;
-/// The request was refused, as its answer tells.
+/// The request was refused, as its answer tells, or the file of an import.
 pub const REFUSED: u8 = 3;
 /// The store, the input or the output failed.
 pub const FAILED: u8 = 4;
@@ -69,7 +70,10 @@ pub fn tell<E: Write>(errors: &mut E, fault: DeskFault) -> u8
     let text = Refusal { code }.text();
     let _ = writeln!(errors, "farm: {code} {text}");
     match fault {
-        DeskFault::NoMemory | DeskFault::Keep(KeepFault::NoMemory) => NO_ROOM,
+        DeskFault::NoMemory
+        | DeskFault::Keep(KeepFault::NoMemory)
+        | DeskFault::File(FileFault::NoMemory) => NO_ROOM,
+        DeskFault::File(_) => REFUSED,
         _ => FAILED,
     }
 }

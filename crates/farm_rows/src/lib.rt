@@ -10,6 +10,8 @@ mod fakes;
 #[cfg(test)]
 mod faults;
 #[cfg(test)]
+mod imports;
+#[cfg(test)]
 mod program;
 #[cfg(test)]
 mod refusals;

@@ -1,0 +1,99 @@
+//! Importing a lab file.
+ghost use Rattle.std.specs.Prelude.{◌≤◌};
+ghost use Rattle.sqlite.specs.Held.{state};
+ghost use Rattle.sqlite_trees.specs.View.{doubt};
+ghost use Rattle.farm_desk.specs.Imports.{IsImport, DoesCalls};
+
+use crate::fault::DeskFault;
+use farm_jobfile::lab_of;
+use farm_keep::Keeper;
+use farm_types::calls::{Answer, Call};
+use farm_types::refusal::Refusal;
+use sqlite::Alter;
+use std::alloc::Global;
+
+/// How far an import went.
+#[derive(Debug, Drop)]
+pub struct ImportEnd {
+    /// The number of commands that were accepted.
+    pub accepted: usize,
+    /// The number of those that had been accepted before: they were answered by kept replies.
+    pub kept: usize,
+    /// The place of the command that was refused, counted from 1, and its refusal.
+    pub stopped: Option<(usize, Refusal)>,
+    /// The fault that ended it.
+    pub fault: Option<DeskFault>,
+}
+
+impl ImportEnd {
+    ghost use Rattle.std.specs.Prelude.{◌+◌, ◌^◌, ◌<◌};
+    ghost use Rattle.farm_core.specs.Answers.{shown};
+    ghost use Rattle.farm_desk.specs.Imports.{Counts};
+
+    /// Counts an answer, or gives the refusal that it is.
+    fn count(&mut self, answer: &Answer) -> Option<Refusal>
+        requires accepted { self.old.accepted + 1 < 2 ^ 64 }
+        requires kept { self.old.kept + 1 < 2 ^ 64 }
+        ensures { Counts (shown answer.now) self.old self.new result }
+    {
+        match answer {
+            Answer::Did(_, _) => {
+                self.accepted += 1;
+                None
+            }
+            Answer::Kept(_) => {
+                self.kept += 1;
+                None
+            }
+            Answer::Refused(refusal) => Some(*refusal),
+        }
+    }
+}
+
+/// Adds the types and the boards of a lab file at a moment, in seconds since 1970-01-01 00:00:00
+/// UTC, up to the first refusal or fault; the commands before it stay done.
+///
+/// A file that is bad, or that there is no memory to read, is the fault `File`, and nothing is done.
+/// Costs one reading of the file and one transaction for each type and board that is new.
+pub fn import<S: Alter>(alloc: Global, keeper: &mut Keeper<S>, text: &[u8], now: u64) -> ImportEnd
+    ensures import { IsImport S.Store keeper.old keeper.new text.now now result }
+    ensures clean { doubt (state S.Store keeper.old.conn).is_clean ≤ doubt (state S.Store keeper.new.conn).is_clean }
+{
+    match lab_of(alloc, text, now) {
+        Ok(calls) => do_calls(keeper, calls.as_slice()),
+        Err(fault) => ImportEnd {
+            accepted: 0,
+            kept: 0,
+            stopped: None,
+            fault: Some(DeskFault::File(fault)),
+        },
+    }
+}
+
+/// Does one call after another, up to the first refusal or fault.
+fn do_calls<S: Alter>(keeper: &mut Keeper<S>, calls: &[Call]) -> ImportEnd
+    ensures does { DoesCalls S.Store keeper.old keeper.new calls.now result }
+    ensures clean { doubt (state S.Store keeper.old.conn).is_clean ≤ doubt (state S.Store keeper.new.conn).is_clean }
+{
+    let mut end = ImportEnd {
+        accepted: 0,
+        kept: 0,
+        stopped: None,
+        fault: None,
+    };
+    for call in calls {
+        match keeper.act(call) {
+            Ok(answer) => {
+                if let Some(refusal) = end.count(&answer) {
+                    end.stopped = Some((end.accepted + end.kept + 1, refusal));
+                    return end;
+                }
+            }
+            Err(fault) => {
+                end.fault = Some(DeskFault::Keep(fault));
+                return end;
+            }
+        }
+    }
+    end
+}
