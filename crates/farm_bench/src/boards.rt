@@ -42,13 +42,13 @@ pub fn kind_at(place: u64) -> &'static str {
     }
 }
 
-/// The types of a farm. None is checked.
-pub fn types(alloc: Global) -> anyhow::Result<Vec<TypeRow>> {
+/// The types of a farm, whose boards are checked so often.
+pub fn types(alloc: Global, check: Check) -> anyhow::Result<Vec<TypeRow>> {
     let mut rows = Vec::new(alloc);
     for text in ["aaa", "bbb", "ccc", "ddd"] {
         rows.push(TypeRow {
             name: name(alloc, text)?,
-            check: Check::Never,
+            check,
         })?;
     }
     Ok(rows)

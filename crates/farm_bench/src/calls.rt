@@ -7,7 +7,7 @@ use anyhow::bail;
 use farm_types::asked::{Roles, Wants};
 use farm_types::calls::{Call, Cmd};
 use farm_types::rows::{Outcome, Want};
-use farm_types::words::{Body, Name, Priority, Tags};
+use farm_types::words::{Body, Key, Name, Priority, Tags};
 use std::alloc::Global;
 
 /// How many calls of a command are given.
@@ -127,16 +127,22 @@ fn command(alloc: Global, step: Step, first: u64, place: u64) -> anyhow::Result<
     }
 }
 
-fn call(alloc: Global, caller: &str, now: u64, cmd: Cmd) -> anyhow::Result<Call>
+fn call(alloc: Global, caller: &str, key: Option<Key>, now: u64, cmd: Cmd) -> anyhow::Result<Call>
     requires { IsTrue (is_proper_cmd cmd) }
 {
-    Ok(Call::new(boards::name(alloc, caller)?, None, now, cmd))
+    Ok(Call::new(boards::name(alloc, caller)?, key, now, cmd))
+}
+
+/// A key that stands before all that are kept, and behind those of smaller places.
+fn first_key(alloc: Global, place: u64) -> anyhow::Result<Key> {
+    let key = format!(in alloc; "a-{place:06}")?;
+    Ok(Key::parse(alloc, key.as_bytes())?)
 }
 
 /// A pass at a moment.
 #[tactic(auto, unfolding(farm_types::specs::Proper::is_proper_cmd))]
 pub fn pass(alloc: Global, now: u64) -> anyhow::Result<Call> {
-    call(alloc, "dispatcher", now, Cmd::Pass)
+    call(alloc, "dispatcher", None, now, Cmd::Pass)
 }
 
 /// Calls of one command on 256 rows, numbered from `first` on.
@@ -144,7 +150,18 @@ pub fn calls(alloc: Global, step: Step, first: u64) -> anyhow::Result<Vec<Call>>
     let mut calls = Vec::new(alloc);
     for place in 0..CALLS {
         let cmd = command(alloc, step, first, place)?;
-        calls.push(call(alloc, step.caller(), shape::NOW, cmd)?)?;
+        calls.push(call(alloc, step.caller(), None, shape::NOW, cmd)?)?;
+    }
+    Ok(calls)
+}
+
+/// Calls that submit a job each, with keys that stand before all that are kept.
+pub fn keyed_calls(alloc: Global) -> anyhow::Result<Vec<Call>> {
+    let mut calls = Vec::new(alloc);
+    for place in 0..CALLS {
+        let cmd = submit(alloc, place)?;
+        let key = first_key(alloc, place)?;
+        calls.push(call(alloc, "ann", Some(key), shape::NOW, cmd)?)?;
     }
     Ok(calls)
 }

@@ -17,8 +17,10 @@ use watch::Watch;
 fn run_short(watch: &Watch<'_>) -> anyhow::Result<()> {
     lists::run(watch)?;
     steps::run(watch, 1_000)?;
+    steps::run_keyed(watch, 1_000)?;
     passes::run_rows(watch, 400)?;
     passes::run_passes(watch, 400, 100)?;
+    passes::run_full_passes(watch, 400)?;
     passes::run_queue(watch, 400, 10)
 }
 
@@ -27,8 +29,12 @@ fn run_whole(watch: &Watch<'_>) -> anyhow::Result<()> {
     for rows in [1_000, 10_000, 100_000] {
         steps::run(watch, rows)?;
     }
+    for kept in [1_000, 10_000, 100_000, 300_000] {
+        steps::run_keyed(watch, kept)?;
+    }
     passes::run_rows(watch, 100_000)?;
     passes::run_passes(watch, 100_000, 1_000)?;
+    passes::run_full_passes(watch, 100_000)?;
     passes::run_queue(watch, 100_000, 1_000)
 }
 

@@ -46,7 +46,14 @@ pub fn run_rows(watch: &Watch<'_>, rows: u64) -> anyhow::Result<()> {
         canceled: rows,
         ..IDLE
     };
-    open(watch, "both", &both)
+    open(watch, "both", &both)?;
+    let kept = Shape {
+        finished: rows,
+        canceled: rows,
+        kept: rows.saturating_mul(3),
+        ..IDLE
+    };
+    open(watch, "both, and three times as many kept replies", &kept)
 }
 
 fn pass(watch: &Watch<'_>, name: &str, shape: &Shape, now: u64) -> anyhow::Result<()> {
@@ -92,21 +99,37 @@ fn run_reservations(watch: &Watch<'_>, claims: u64) -> anyhow::Result<()> {
     pass(watch, "reservations that no free board fits", &none, NOW)
 }
 
-/// Passes over claims, and passes that have little to do.
-pub fn run_passes(watch: &Watch<'_>, rows: u64, claims: u64) -> anyhow::Result<()> {
-    println!(watch.rt; "passes")?;
-    run_groups(watch, claims)?;
-    run_reservations(watch, claims)?;
+/// Passes with much to do but serving, and one with nothing to do.
+fn run_rest(watch: &Watch<'_>, rows: u64) -> anyhow::Result<()> {
     let dead = Shape {
         waiting: rows / 10,
         ..IDLE
     };
     pass(watch, "reservations that end", &dead, NOW + LEASE)?;
+    let due = Shape { due: true, ..IDLE };
+    pass(watch, "boards that are due", &due, NOW)?;
     let finished = Shape {
         finished: rows,
         ..IDLE
     };
     pass(watch, "finished jobs", &finished, NOW)
+}
+
+/// Passes over so many claims, and over so many rows of other kinds.
+pub fn run_passes(watch: &Watch<'_>, rows: u64, claims: u64) -> anyhow::Result<()> {
+    println!(watch.rt; "passes over {claims} claims")?;
+    run_groups(watch, claims)?;
+    run_reservations(watch, claims)?;
+    println!(watch.rt; "passes over {rows} rows")?;
+    run_rest(watch, rows)
+}
+
+/// Passes over the most claims that there can be.
+pub fn run_full_passes(watch: &Watch<'_>, rows: u64) -> anyhow::Result<()> {
+    let groups = rows / 4;
+    println!(watch.rt; "passes over {groups} groups, and over {rows} reservations")?;
+    run_groups(watch, groups)?;
+    run_reservations(watch, rows)
 }
 
 fn queue(watch: &Watch<'_>, name: &str, shape: &Shape) -> anyhow::Result<()> {

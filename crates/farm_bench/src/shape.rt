@@ -2,8 +2,10 @@
 use crate::boards;
 use farm_types::calls::Rows;
 use farm_types::fault::WordFault;
-use farm_types::rows::{JobRow, JobState, MetaRow, Outcome, ResRow, ResState, Want};
-use farm_types::words::{Body, Name, Priority};
+use farm_types::rows::{
+    Check, JobRow, JobState, KeptRow, MetaRow, Outcome, Reply, ResRow, ResState, Want,
+};
+use farm_types::words::{Body, Key, Name, Priority};
 use std::alloc::Global;
 
 /// The clock of a farm, in seconds since 1970.
@@ -27,6 +29,10 @@ pub struct Shape {
     pub rare: bool,
     /// How many of the last boards are in maintenance.
     pub away: u64,
+    /// Whether each board is due for a check.
+    pub due: bool,
+    /// Replies that are kept.
+    pub kept: u64,
 }
 
 /// The boards alone.
@@ -37,6 +43,8 @@ pub const IDLE: Shape = Shape {
     waiting: 0,
     rare: false,
     away: 0,
+    due: false,
+    kept: 0,
 };
 
 /// What a job file may look like, about 300 bytes.
@@ -143,10 +151,27 @@ fn add_canceled(alloc: Global, rows: &mut Rows) -> anyhow::Result<()> {
     Ok(())
 }
 
-fn idle_rows(alloc: Global, away: u64) -> anyhow::Result<Rows> {
+fn add_kept(alloc: Global, rows: &mut Rows, place: u64) -> anyhow::Result<()> {
+    let key = format!(in alloc; "key-{place:06}")?;
+    rows.kept.push(KeptRow {
+        caller: owner(alloc)?,
+        key: Key::parse(alloc, key.as_bytes())?,
+        kind: 5,
+        reply: Reply(1, 0, 0),
+    })?;
+    Ok(())
+}
+
+/// The boards alone: none was ever checked.
+fn idle_rows(alloc: Global, shape: &Shape) -> anyhow::Result<Rows> {
+    let check = if shape.due {
+        Check::Hours(1)
+    } else {
+        Check::Never
+    };
     Ok(Rows {
-        types: boards::types(alloc)?,
-        boards: boards::lab(alloc, away)?,
+        types: boards::types(alloc, check)?,
+        boards: boards::lab(alloc, shape.away)?,
         jobs: Vec::new(alloc),
         reservations: Vec::new(alloc),
         kept: Vec::new(alloc),
@@ -160,7 +185,10 @@ fn idle_rows(alloc: Global, away: u64) -> anyhow::Result<Rows> {
 
 /// The rows of a farm of this shape: first what ended, then what waits.
 pub fn rows(alloc: Global, shape: &Shape) -> anyhow::Result<Rows> {
-    let mut rows = idle_rows(alloc, shape.away)?;
+    let mut rows = idle_rows(alloc, shape)?;
+    for place in 0..shape.kept {
+        add_kept(alloc, &mut rows, place)?;
+    }
     for _ in 0..shape.finished {
         add_finished(alloc, &mut rows)?;
     }

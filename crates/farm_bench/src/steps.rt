@@ -22,15 +22,24 @@ fn give(farm: &mut Farm, calls: &[Call]) -> anyhow::Result<u64> {
     Ok(accepted)
 }
 
+/// Gives 256 calls, and shows the time of one.
+fn measure_calls(
+    watch: &Watch<'_>,
+    farm: &mut Farm,
+    name: &str,
+    calls: &[Call],
+) -> anyhow::Result<()> {
+    let start = watch.start()?;
+    let accepted = give(farm, calls)?;
+    let nanos = watch.stop(start)?;
+    let what = format!(in watch.alloc(); "  {name}, {accepted} of {CALLS} accepted")?;
+    watch.show_each(what.as_str(), nanos, CALLS)
+}
+
 /// Gives a command 256 times, and shows the time of one.
 fn measure(watch: &Watch<'_>, farm: &mut Farm, step: Step, first: u64) -> anyhow::Result<()> {
     let calls = calls::calls(watch.alloc(), step, first)?;
-    let start = watch.start()?;
-    let accepted = give(farm, calls.as_slice())?;
-    let nanos = watch.stop(start)?;
-    let name = step.name();
-    let what = format!(in watch.alloc(); "  {name}, {accepted} of {CALLS} accepted")?;
-    watch.show_each(what.as_str(), nanos, CALLS)
+    measure_calls(watch, farm, step.name(), calls.as_slice())
 }
 
 fn reply_of(answer: Answer) -> Option<Reply> {
@@ -60,17 +69,23 @@ pub fn measure_pass(
     watch.show(what.as_str(), nanos)
 }
 
-/// Jobs are submitted and canceled; as many are submitted, served, started and finished.
+/// Submits jobs and serves them, with nothing shown. Gives the first of their numbers.
+fn serve_jobs(watch: &Watch<'_>, farm: &mut Farm) -> anyhow::Result<u64> {
+    let first = farm.status().next;
+    let calls = calls::calls(watch.alloc(), Step::Submit, first)?;
+    give(farm, calls.as_slice())?;
+    farm.step(&calls::pass(watch.alloc(), shape::NOW)?)?;
+    Ok(first)
+}
+
+/// Jobs are submitted, served and canceled; as many are served, started and finished. So each board
+/// is held where jobs are canceled or started, and until they are finished.
 fn measure_jobs(watch: &Watch<'_>, farm: &mut Farm) -> anyhow::Result<()> {
     let first = farm.status().next;
     measure(watch, farm, Step::Submit, first)?;
-    measure(watch, farm, Step::Cancel, first)?;
-    let first = farm.status().next;
-    give(
-        farm,
-        calls::calls(watch.alloc(), Step::Submit, first)?.as_slice(),
-    )?;
     measure_pass(watch, farm, "Pass", shape::NOW)?;
+    measure(watch, farm, Step::Cancel, first)?;
+    let first = serve_jobs(watch, farm)?;
     measure(watch, farm, Step::Start, first)?;
     measure(watch, farm, Step::Finish, first)
 }
@@ -97,4 +112,17 @@ pub fn run(watch: &Watch<'_>, rows: u64) -> anyhow::Result<()> {
     println!(watch.rt; "{rows} jobs and {rows} reservations")?;
     measure_jobs(watch, &mut farm)?;
     measure_reservations(watch, &mut farm)
+}
+
+/// Jobs are submitted with keys, where so many replies are kept in the end. Each key stands before
+/// those of most replies, which are moved.
+pub fn run_keyed(watch: &Watch<'_>, kept: u64) -> anyhow::Result<()> {
+    let shape = Shape {
+        kept: kept.saturating_sub(CALLS),
+        ..IDLE
+    };
+    let mut farm = farm(watch, &shape)?;
+    println!(watch.rt; "{kept} kept replies")?;
+    let calls = calls::keyed_calls(watch.alloc())?;
+    measure_calls(watch, &mut farm, "Submit with a key", calls.as_slice())
 }
