@@ -153,9 +153,9 @@ impl Tables {
         Ok(served)
     }
 
-    /// Serves the claims of the queue in turn, each where free boards meet it. Gives how many were
-    /// served. With B boards and C claims it costs O(B * C), and for each board that is given a
-    /// look-up of its row.
+    /// Serves the claims of the queue in turn, each where free boards meet it: one that waits holds
+    /// up none behind it. Gives how many were served. With J jobs, B boards and C claims it costs
+    /// O(C * (B + log J)).
     pub fn serve(&mut self, changes: &mut Changes, claims: &[Claim]) -> Result<u64, AllocError>
         requires sound { IsSound (plain self.old) }
         requires queue { claims.now ≡ map shown_claim (queue (plain self.old)) }
