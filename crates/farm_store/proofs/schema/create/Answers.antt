@@ -1,4 +1,4 @@
-use Rattle.std.proofs.Common.{refl, ◌≡◌, inl, inr, sym, subst, arith, rules}
+use Rattle.std.proofs.Common.{true, refl, inl, inr, sym, subst, arith, rules}
 use Rattle.sqlite.specs.Held.{state}
 use Rattle.sqlite.specs.State.{HasCleanDisk}
 use Rattle.sqlite.specs.Tree.{Trees}
@@ -23,7 +23,7 @@ returns-in_err-commit-clause-stop g c clean has db may =
     elim (c.commit.ensures.survives.crash late db leaves) [
       | inl earlier ↦
           let before = left_before begun made c.make_all.ensures.survives made_clean db (left_before made filled c.put_first_numbers.ensures.survives filled_clean db earlier) in
-          inl (subst (λ h. g.S.Store.recovers h.store db) is before)
+          inl (subst (λ h. g.S.Store.recovers h.store db) {y = record c.args.conn.now { in_transaction = true }} is before)
       | inr now ↦
           let inside = c.in_ok-put_first_numbers.ensures.put filled_clean there in
           let still = c.in_ok-put_first_numbers.ensures.stays_open filled_clean there.inside in
