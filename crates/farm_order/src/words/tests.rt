@@ -40,12 +40,12 @@ fn once_in_memory(rt: HostRuntime) -> Result<(), AllocError> {
                 assert_eq!(rt; place, Place::Memory, "{line}");
                 assert_eq!(rt; at, 1700000000, "{line}");
             }
-            Err(_) => assert!(rt; false, "{line}"),
+            _ => assert!(rt; false, "{line}"),
         }
     }
     match read(&rt, "farm once --memory --at 18446744073709551615")? {
         Ok(Order::Once { at, .. }) => assert_eq!(rt; at, u64::MAX),
-        Err(_) => assert!(rt; false),
+        _ => assert!(rt; false),
     }
     Ok(())
 }
