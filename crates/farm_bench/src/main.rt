@@ -1,83 +1,51 @@
-//! What the least list costs: 256 boards of eight tags, four wants of three tags each, and a
-//! number of boards that fit. Without a word the program looks once in each farm and prints what it
-//! found; with a word (`time`) it looks a thousand times and prints the time of a call.
+//! What the desk's decisions cost: the least list, taking the rows of a farm, each command, passes
+//! and the queue. Without a word the program does each on a small scale and prints what came of it;
+//! with a word (`time`) it does each on the scale of a full farm and prints the times as well.
 #![tactic(auto)]
 
-mod farm;
+mod boards;
+mod calls;
+mod lists;
+mod passes;
+mod shape;
+mod steps;
+mod watch;
 
-use farm_pick::{Free, Picked, least};
-use farm_types::asked::Wants;
-use farm_types::rows::BoardRow;
-use farm_types::table::is_sorted;
-use std::alloc::Global;
 use std::env;
-use std::rt::Clock;
-use std::time::Instant;
+use watch::Watch;
 
-/// Boards that fit: none, too few for four wants, just enough and behind all others, all.
-const FITTING: [usize; 5] = [0, 1, 3, 4, farm::BOARDS];
-
-const CALLS: u32 = 1000;
-
-fn print_found(rt: &impl Print, fitting: usize, found: Option<Picked>) -> anyhow::Result<()> {
-    match found {
-        None => println!(rt; "{fitting} boards fit: none")?,
-        Some(picked) => println!(rt; "{fitting} boards fit: {:?}", picked.places())?,
-    }
-    Ok(())
+fn run_short(watch: &Watch<'_>) -> anyhow::Result<()> {
+    lists::run(watch)?;
+    steps::run(watch, 1_000)?;
+    steps::run_keyed(watch, 1_000)?;
+    passes::run_rows(watch, 400)?;
+    passes::run_passes(watch, 400, 100)?;
+    passes::run_full_passes(watch, 400)?;
+    passes::run_queue(watch, 400, 10)
 }
 
-/// Prints the time of a call, of a thousand calls.
-fn print_time(
-    rt: &(impl Print + Clock),
-    fitting: usize,
-    boards: &[BoardRow],
-    wants: &Wants,
-) -> anyhow::Result<()> {
-    if !is_sorted(boards) {
-        return Ok(());
+fn run_whole(watch: &Watch<'_>) -> anyhow::Result<()> {
+    lists::run(watch)?;
+    for rows in [1_000, 10_000, 100_000] {
+        steps::run(watch, rows)?;
     }
-    let start = Instant::now(rt)?;
-    let mut met = 0u32;
-    for _ in 0..CALLS {
-        if least(boards, &[], wants, Free::ServingIdle).is_some() {
-            met = met.wrapping_add(1);
-        }
+    for kept in [1_000, 10_000, 100_000, 300_000] {
+        steps::run_keyed(watch, kept)?;
     }
-    let nanos = start.elapsed(rt)?.as_nanos() / 1000;
-    println!(rt; "{fitting} boards fit: {met} of {CALLS} met, {nanos} ns a call")?;
-    Ok(())
-}
-
-/// Looks once, and prints the places.
-fn look(rt: &impl Print, fitting: usize, boards: &[BoardRow], wants: &Wants) -> anyhow::Result<()> {
-    if !is_sorted(boards) {
-        return Ok(());
-    }
-    print_found(rt, fitting, least(boards, &[], wants, Free::ServingIdle))
-}
-
-fn measure(
-    rt: &(impl Print + Clock),
-    alloc: Global,
-    fitting: usize,
-    timed: bool,
-) -> anyhow::Result<()> {
-    let boards = farm::boards(alloc, fitting)?;
-    let wants = farm::wants(alloc)?;
-    if timed {
-        print_time(rt, fitting, boards.as_slice(), &wants)
-    } else {
-        look(rt, fitting, boards.as_slice(), &wants)
-    }
+    passes::run_rows(watch, 100_000)?;
+    passes::run_passes(watch, 100_000, 1_000)?;
+    passes::run_full_passes(watch, 100_000)?;
+    passes::run_queue(watch, 100_000, 1_000)
 }
 
 fn main(rt: HostRuntime) -> anyhow::Result<()> {
     let mut words = env::args(&rt)?;
     let _program = words.next();
     let timed = words.next().is_some();
-    for fitting in FITTING {
-        measure(&rt, rt.alloc(), fitting, timed)?;
+    let watch = Watch { rt: &rt, timed };
+    if timed {
+        run_whole(&watch)
+    } else {
+        run_short(&watch)
     }
-    Ok(())
 }

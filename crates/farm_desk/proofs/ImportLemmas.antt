@@ -17,7 +17,7 @@ use Rattle.farm_keep.specs.declared.fault.KeepFault.{KeepFault}
 use Rattle.farm_keep.proofs.RunLemmas.{answers_more, run_more}
 use Rattle.farm_desk.specs.declared.fault.DeskFault.{DeskFault}
 use Rattle.farm_desk.specs.declared.import.ImportEnd.{ImportEnd}
-use Rattle.farm_desk.specs.Imports.{Counts, EndsBy, IsCounted, IsStopped, IsWhole, Reaches, is_accepted, is_kept}
+use Rattle.farm_desk.specs.Imports.{Counts, EndsBy, IsCounted, IsNextChange, IsStopped, IsWhole, Reaches, is_accepted, is_kept}
 
 -- ---- one more call
 
@@ -162,6 +162,14 @@ rests_when_denied (Answer.Refused refusal) code P denied rests = rests
 abbrev acted : KeepFault → Result Answer KeepFault
 acted fault = Err fault
 
+next_change : (F G : Farm) (calls : List Call) (i : ℕ) (call : Call) → i < length calls → call ≡ get_or calls i call → G ≡ run F (take i calls)
+    → IsChange (answer G call) → IsNextChange F calls i
+next_change F G calls i call low here before change = record {
+  told = answer G call;
+  next = answers_with F G calls i call (answer G call) (record { low = low; here = here; before = before; told_is = refl });
+  change = change;
+}
+
 -- the keeper gave a fault at a call
 pub faulted_at : {S : Type 0} (g : Ghosts S) (old mid new : Kept S) (calls : List Call) (i done : ℕ) (call : Call) (fault : KeepFault)
     → i < length calls → call ≡ get_or calls i call → mid.farm.farm ≡ run old.farm.farm (take i calls) → done ≡ i
@@ -177,6 +185,7 @@ faulted_at g old mid new calls i done call KeepFault.NoMemory low here before sa
     let lacks = memory refl in
     subst (λ n. EndsBy g old new calls n None (Some (DeskFault.Keep KeepFault.NoMemory))) (sym same) (record {
       within = low;
+      change = next_change old.farm.farm mid.farm.farm calls i call low here before lacks.2;
       is_closed = lacks.0;
       stands = λ keeps. subst (KeepsFarm g new) before (subst (λ c. KeepsFarm g (record { conn = c; farm = mid.farm; is_open = mid.is_open }) mid.farm.farm) (sym lacks.1) (stands keeps));
     })
@@ -184,6 +193,7 @@ faulted_at g old mid new calls i done call KeepFault.Store low here before same 
     let loses = store refl in
     subst (λ n. EndsBy g old new calls n None (Some (DeskFault.Keep KeepFault.Store))) (sym same) (record {
       within = low;
+      change = next_change old.farm.farm mid.farm.farm calls i call low here before loses.1;
       is_closed = loses.0;
       leaves = λ keeps. subst (λ H. KeepsEither g new (run old.farm.farm (take i calls)) H) (farm_after old.farm.farm mid.farm.farm calls i call low here before)
           (subst (λ H. KeepsEither g new H (step mid.farm.farm call)) before (loses.2 (stands keeps)));

@@ -6,6 +6,7 @@ use Rattle.farm_types.specs.Farm.{Farm}
 use Rattle.farm_types.specs.Machine.{Answered, Changed, Repeated, Denied, run}
 use Rattle.farm_types.specs.declared.calls.Call.{Call}
 use Rattle.farm_types.specs.declared.refusal.Refusal.{Refusal}
+use Rattle.farm_core.specs.Answers.{IsChange}
 use Rattle.farm_keep.specs.Kept.{Kept, Keeps, KeepsFarm, KeepsEither}
 use Rattle.farm_keep.specs.Runs.{answers_of}
 use Rattle.farm_keep.specs.declared.fault.KeepFault.{KeepFault}
@@ -65,15 +66,23 @@ pub record IsStopped {S : Type 0} (g : Ghosts S) (old new : Kept S) (calls : Lis
   pub refused : answers_of old.farm.farm (take place calls) ≡ answers_of old.farm.farm (take done calls) ++ Denied code ∷ []
   pub reaches : Reaches g old new (take done calls)
 
+-- the next call's answer is a change's
+pub record IsNextChange (F : Farm) (calls : List Call) (done : ℕ) : Type 0 where
+  pub told : Answered
+  pub next : answers_of F (take (done + 1) calls) ≡ answers_of F (take done calls) ++ told ∷ []
+  pub change : IsChange told
+
 -- there was no memory for the change of the next call: the keeper is closed, and its store keeps the farm before it
 pub record LacksMemoryFor {S : Type 0} (g : Ghosts S) (old new : Kept S) (calls : List Call) (done : ℕ) : Type 0 where
   pub within : done < length calls
+  pub change : IsNextChange old.farm.farm calls done
   pub is_closed : new.is_open ≡ false
   pub stands : Keeps g old → KeepsFarm g new (run old.farm.farm (take done calls))
 
 -- the store refused the next call's change: the keeper is closed, and a stop leaves the farm before it or after it
 pub record LosesStoreAt {S : Type 0} (g : Ghosts S) (old new : Kept S) (calls : List Call) (done : ℕ) : Type 0 where
   pub within : done < length calls
+  pub change : IsNextChange old.farm.farm calls done
   pub is_closed : new.is_open ≡ false
   pub leaves : Keeps g old → KeepsEither g new (run old.farm.farm (take done calls)) (run old.farm.farm (take (done + 1) calls))
 

@@ -1,10 +1,21 @@
 //! The report of the queue.
-ghost use Rattle.std.specs.Prelude.{◌≡◌, IfOk, string_bytes};
+ghost use Rattle.std.specs.Prelude.{◌≡◌, IfOk, false, map, string_bytes};
+ghost use Rattle.farm_types.specs.Pick.{queue, shown_claim};
 ghost use Rattle.farm_report.specs.Lines.{claim_line, claims_text};
 
 use crate::columns::{claim_word, left, push_line, right};
+use farm_core::farm::Farm;
 use farm_types::claims::Claim;
 use std::alloc::{AllocError, Global};
+
+/// The farm's queue, in the order in which its claims are served. What a failed farm shows is open.
+pub fn queue_text(alloc: Global, farm: &Farm) -> Result<String, AllocError>
+    ensures { IfOk result (λ text. farm.now.failed ≡ false
+        → string_bytes text ≡ claims_text (map shown_claim (queue farm.now.farm))) }
+{
+    let claims = farm.queue()?;
+    claims_text(alloc, &claims)
+}
 
 /// The claims in the order given, each on its line: priority, number, kind, number of wants and
 /// owner. It costs one pass over them.

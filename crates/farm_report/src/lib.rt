@@ -15,7 +15,7 @@ pub mod moment;
 pub mod reservations;
 
 pub use boards::boards_text;
-pub use claims::claims_text;
+pub use claims::{claims_text, queue_text};
 pub use fault::ReportFault;
 pub use jiff::tz::Offset;
 pub use moment::zone_of;

@@ -12,9 +12,6 @@ use Rattle.farm_store.proofs.queries.load.Goals as goal
 pub returns-clause-stands : goal.returns-clause-stands
 returns-clause-stands g c clean T at =
     let end = c.rollback.new.self.0 in
-    -- the connection, as the transaction gives it back
-    let back = c.conn-1.given.0 in
-    let same : end ≡ back = search rules in
     let late : HasCleanDisk (state g.S.Store end) = search rules in
     let read = state g.S.Store c.read_all-rows.new.tx.conn.now in
     let begin = state g.S.Store c.transaction-tx.result.conn.now in
@@ -22,8 +19,9 @@ returns-clause-stands g c clean T at =
     let is = c.transaction-tx.ensures.begun in
     let inside = begun g.S.Store c.args.conn.now c.transaction-tx.result.conn.now is T at in
     let shows = c.read_all-rows.ensures.kept early T inside (begun_commit g.S.Store c.args.conn.now c.transaction-tx.result.conn.now is T at) in
-    subst (λ h. Stands (state g.S.Store h) T) same (rolled_back read (state g.S.Store end) T shows (c.rollback.ensures.undone late) (λ db may.
-    at.left db (subst (λ h. g.S.Store.recovers h.store db) is (left_before begin read c.read_all-rows.ensures.survives early db (left_before read (state g.S.Store end) c.rollback.ensures.survives late db may)))))
+    let stands : Stands (state g.S.Store end) T = rolled_back read (state g.S.Store end) T shows (c.rollback.ensures.undone late) (λ db may.
+    at.left db (subst (λ h. g.S.Store.recovers h.store db) is (left_before begin read c.read_all-rows.ensures.survives early db (left_before read (state g.S.Store end) c.rollback.ensures.survives late db may)))) in
+    search rules
 
 pub returns-clause-rows : goal.returns-clause-rows
 returns-clause-rows g c clean =

@@ -11,9 +11,6 @@ use Rattle.farm_store.proofs.schema.create.Goals as goal
 pub returns-in_err-commit-clause-stop : goal.returns-in_err-commit-clause-stop
 returns-in_err-commit-clause-stop g c clean has db may =
     let end = c.commit.new.self.0 in
-    -- the connection, as the transaction gives it back
-    let back = c.conn-2-1.given.0 in
-    let same : end ≡ back = search rules in
     let late : HasCleanDisk (state g.S.Store end) = search rules in
     let filled = state g.S.Store c.put_first_numbers.new.tx.conn.now in
     let made = state g.S.Store c.make_all.new.tx.conn.now in
@@ -22,7 +19,8 @@ returns-in_err-commit-clause-stop g c clean has db may =
     let made_clean : HasCleanDisk made = omega (arith, c.put_first_numbers.ensures.survives.clean) in
     let is = c.transaction-tx.ensures.begun in
     let there : IsInside made no_rows = c.in_ok-make_all.ensures.made made_clean (rw is refl) (rw is has) in
-    elim (c.commit.ensures.survives.crash late db (subst (λ h. g.S.Store.recovers h.store db) (sym same) may)) [
+    let leaves : g.S.Store.recovers end.store db = search rules in
+    elim (c.commit.ensures.survives.crash late db leaves) [
       | inl earlier ↦
           let before = left_before begun made c.make_all.ensures.survives made_clean db (left_before made filled c.put_first_numbers.ensures.survives filled_clean db earlier) in
           inl (subst (λ h. g.S.Store.recovers h.store db) is before)
@@ -35,9 +33,6 @@ returns-in_err-commit-clause-stop g c clean has db may =
 pub returns-clause-ok : goal.returns-clause-ok
 returns-clause-ok g c clean has =
     let end = c.commit.new.self.0 in
-    -- the connection, as the transaction gives it back
-    let back = c.conn-2-1.given.0 in
-    let same : end ≡ back = search rules in
     let late : HasCleanDisk (state g.S.Store end) = search rules in
     let filled = state g.S.Store c.put_first_numbers.new.tx.conn.now in
     let made = state g.S.Store c.make_all.new.tx.conn.now in
@@ -46,4 +41,5 @@ returns-clause-ok g c clean has =
     let is = c.transaction-tx.ensures.begun in
     let inside = c.in_ok-put_first_numbers.ensures.put filled_clean (c.in_ok-make_all.ensures.made made_clean (rw is refl) (rw is has)) in
     let ok = c.in_ok-commit.ensures.ok late in
-    subst (λ h. Stands (state g.S.Store h) (rows_of empty)) same (committed filled (state g.S.Store end) (rows_of empty) inside ok.1 (λ db may. g.met.S.Store.settled end.store db ok.1.is_open may))
+    let stands : Stands (state g.S.Store end) (rows_of empty) = committed filled (state g.S.Store end) (rows_of empty) inside ok.1 (λ db may. g.met.S.Store.settled end.store db ok.1.is_open may) in
+    search rules

@@ -10,9 +10,6 @@ use Rattle.farm_store.proofs.upserts.put.Goals as goal
 pub returns-clause-ok : goal.returns-clause-ok
 returns-clause-ok g c clean F at =
     let end = c.commit.new.self.0 in
-    -- the connection, as the transaction gives it back
-    let back = c.conn-2-1.given.0 in
-    let same : end ≡ back = search rules in
     let late : HasCleanDisk (state g.S.Store end) = search rules in
     let wrote = state g.S.Store c.put_all.new.tx.conn.now in
     let early : HasCleanDisk wrote = omega (arith, c.commit.ensures.survives.clean) in
@@ -20,4 +17,5 @@ returns-clause-ok g c clean F at =
     let put = c.in_ok-put_all.ensures.put early F inside in
     let ok = c.in_ok-commit.ensures.ok late in
     let after = rows_of (put_rows F c.args.changes.now) in
-    subst (λ h. Stands (state g.S.Store h) after) same (committed wrote (state g.S.Store end) after put.0 ok.1 (λ db may. g.met.S.Store.settled end.store db ok.1.is_open may))
+    let stands : Stands (state g.S.Store end) after = committed wrote (state g.S.Store end) after put.0 ok.1 (λ db may. g.met.S.Store.settled end.store db ok.1.is_open may) in
+    search rules

@@ -1,0 +1,132 @@
+//! The boards that are measured: 256 of them, with eight tags each.
+use farm_types::asked::Wants;
+use farm_types::fault::WordFault;
+use farm_types::rows::{BoardRow, Check, Health, Holder, State, TypeRow, Want};
+use farm_types::tags::{Tag, Tags};
+use farm_types::words::Name;
+use std::alloc::Global;
+
+/// How many boards there are.
+pub const BOARDS: u64 = 256;
+
+/// How many boards a farm has of a type, and how many of its boards have the rare tag.
+const OF_KIND: u64 = 64;
+
+const RARE: u64 = 4;
+
+pub fn name(alloc: Global, text: &str) -> anyhow::Result<Name> {
+    Ok(Name::parse(alloc, text.as_bytes())?)
+}
+
+pub fn tags(alloc: Global, texts: &[&str]) -> anyhow::Result<Tags> {
+    let mut items = Vec::new(alloc);
+    for text in texts {
+        items.push(Tag::parse(alloc, text.as_bytes())?)?;
+    }
+    Ok(Tags::of(alloc, items.as_slice())?)
+}
+
+/// The name of the board at a place.
+pub fn board_name(alloc: Global, place: u64) -> anyhow::Result<Name> {
+    let text = format!(in alloc; "board-{place:04}")?;
+    name(alloc, text.as_str())
+}
+
+/// The type of a farm's board at a place.
+pub fn kind_at(place: u64) -> &'static str {
+    match place / OF_KIND {
+        0 => "aaa",
+        1 => "bbb",
+        2 => "ccc",
+        _ => "ddd",
+    }
+}
+
+/// The types of a farm, whose boards are checked so often.
+pub fn types(alloc: Global, check: Check) -> anyhow::Result<Vec<TypeRow>> {
+    let mut rows = Vec::new(alloc);
+    for text in ["aaa", "bbb", "ccc", "ddd"] {
+        rows.push(TypeRow {
+            name: name(alloc, text)?,
+            check,
+        })?;
+    }
+    Ok(rows)
+}
+
+/// A free board of eight tags; `last` is the greatest of them.
+fn board(alloc: Global, place: u64, kind: &str, last: &str) -> anyhow::Result<BoardRow> {
+    let texts = ["k01", "k02", "k03", "k04", "k05", "k06", "k07", last];
+    Ok(BoardRow {
+        name: board_name(alloc, place)?,
+        kind: name(alloc, kind)?,
+        tags: tags(alloc, &texts)?,
+        health: Health::Good,
+        state: State::Idle,
+        holder: Holder::Nobody,
+        jobs_since: 0,
+        last_check: 0,
+    })
+}
+
+/// The greatest tag of a board where the last `rare` boards have the rare one.
+fn last_tag(place: u64, rare: u64) -> &'static str {
+    if place < BOARDS.saturating_sub(rare) {
+        "k16"
+    } else {
+        "k15"
+    }
+}
+
+/// Boards of one type, in name order; the last `fitting` of them have the rare tag.
+pub fn boards(alloc: Global, fitting: u64) -> anyhow::Result<Vec<BoardRow>> {
+    let mut rows = Vec::new(alloc);
+    for place in 0..BOARDS {
+        rows.push(board(alloc, place, "bbb", last_tag(place, fitting))?)?;
+    }
+    Ok(rows)
+}
+
+/// A farm's board, which is in maintenance where it is one of the last `away`.
+fn lab_board(alloc: Global, place: u64, away: u64) -> anyhow::Result<BoardRow> {
+    let mut row = board(alloc, place, kind_at(place), last_tag(place, RARE))?;
+    if place >= BOARDS.saturating_sub(away) {
+        row.health = Health::Maintenance;
+    }
+    Ok(row)
+}
+
+/// The boards of a farm, 64 of each of four types, in name order. The last four have the rare tag,
+/// and the last `away` are in maintenance.
+pub fn lab(alloc: Global, away: u64) -> anyhow::Result<Vec<BoardRow>> {
+    let mut rows = Vec::new(alloc);
+    for place in 0..BOARDS {
+        rows.push(lab_board(alloc, place, away)?)?;
+    }
+    Ok(rows)
+}
+
+/// The tags of a claim: two that each board has, and where it is so told the rare one.
+pub fn asked_tags(alloc: Global, rare: bool) -> anyhow::Result<Tags> {
+    if rare {
+        tags(alloc, &["k01", "k07", "k15"])
+    } else {
+        tags(alloc, &["k01", "k07"])
+    }
+}
+
+fn want(alloc: Global) -> anyhow::Result<Want> {
+    Ok(Want {
+        kind: Some(name(alloc, "bbb")?),
+        tags: asked_tags(alloc, true)?,
+    })
+}
+
+/// Four wants of three tags.
+pub fn wants(alloc: Global) -> anyhow::Result<Wants> {
+    let mut items = Vec::new(alloc);
+    for _ in 0..4 {
+        items.push(want(alloc)?)?;
+    }
+    Ok(Wants::of(items).map_err(WordFault::Refused)?)
+}
