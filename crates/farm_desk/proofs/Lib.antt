@@ -1,3 +1,4 @@
 mod AnswerLemmas
 mod HeardLemmas
 mod ImportLemmas
+mod FileLemmas

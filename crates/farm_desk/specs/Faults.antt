@@ -1,12 +1,13 @@
 -- The numbers of the desk's faults, and the program's exit statuses after them.
-use Rattle.std.specs.Prelude.{ℕ}
+use Rattle.std.specs.Prelude.{◌==◌, ℕ, Result, Ok, Err, if◌then◌else◌}
 use Rattle.farm_types.specs.declared.refusal.TheConstants.{NO_MEMORY, READ, WRITE}
 use Rattle.farm_jobfile.specs.Reading.{code_of}
 use Rattle.farm_jobfile.specs.declared.fault.FileFault.{FileFault}
 use Rattle.farm_keep.specs.Faults.{fault_code}
 use Rattle.farm_keep.specs.declared.fault.KeepFault.{KeepFault}
 use Rattle.farm_desk.specs.declared.fault.DeskFault.{DeskFault}
-use Rattle.farm_desk.specs.declared.program.TheConstants.{FAILED, NO_ROOM, REFUSED}
+use Rattle.farm_desk.specs.declared.orders.End.{End}
+use Rattle.farm_desk.specs.declared.program.TheConstants.{DONE, FAILED, NO_ROOM, REFUSED, WRONG_WORDS}
 
 abbrev pub fault_number : DeskFault → ℕ
 fault_number DeskFault.NoMemory = NO_MEMORY
@@ -22,3 +23,15 @@ exit_status (DeskFault.Keep KeepFault.NoMemory) = NO_ROOM
 exit_status (DeskFault.File FileFault.NoMemory) = NO_ROOM
 exit_status (DeskFault.File fault) = REFUSED
 exit_status fault = FAILED
+
+-- a request that was answered with this HTTP status
+abbrev pub end_of : ℕ → End
+end_of status = if status == 200 then End.Done else End.Refused
+
+-- the exit status of an order
+abbrev pub order_status : Result End DeskFault → ℕ
+order_status (Ok End.Done) = DONE
+order_status (Ok End.Refused) = REFUSED
+order_status (Ok (End.RefusedAt place refusal)) = REFUSED
+order_status (Ok End.NotYet) = WRONG_WORDS
+order_status (Err fault) = exit_status fault

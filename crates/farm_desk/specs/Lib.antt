@@ -5,3 +5,5 @@ pub mod Due
 pub mod Ends
 pub mod Made
 pub mod Imports
+pub mod InFiles
+pub mod Reports

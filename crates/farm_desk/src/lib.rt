@@ -9,11 +9,14 @@ mod answer;
 pub mod converse;
 mod due;
 pub mod fault;
+pub mod files;
 mod hear;
 pub mod import;
 pub mod log;
+pub mod orders;
 pub mod program;
+mod report;
 
 pub use farm_order::fault::OrderFault;
-pub use farm_order::order::{Order, Place};
+pub use farm_order::order::{Order, Place, Report};
 pub use farm_order::words::order_of;

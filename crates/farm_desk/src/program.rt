@@ -1,18 +1,16 @@
 //! The program: its words, its faults and its exit status.
 ghost use Rattle.std.specs.Prelude.{◌≡◌};
-ghost use Rattle.farm_desk.specs.Faults.{exit_status};
+ghost use Rattle.farm_desk.specs.Faults.{exit_status, order_status};
 
-use crate::converse::converse;
-use crate::due::OK;
 use crate::fault::DeskFault;
+use crate::orders::{End, carry_out};
 use farm_jobfile::FileFault;
-use farm_keep::{KeepFault, Keeper};
+use farm_keep::KeepFault;
 use farm_order::fault::OrderFault;
-use farm_order::order::{Order, Place};
+use farm_order::order::Order;
 use farm_order::words::order_of;
 use farm_types::refusal::Refusal;
 use farm_wire::write_whole;
-use sqlite::{Connection, MemStore};
 use std::alloc::Global;
 use std::io::{Read, Write};
 
@@ -28,10 +26,11 @@ pub const FAILED: u8 = 4;
 pub const NO_ROOM: u8 = 5;
 
 /// Carries out the order that the words give, and gives the exit status. Help goes to the output;
-/// the text of refused words and the line of a fault, `farm: CODE TEXT`, go to `errors`. The runtime
-/// is for the orders that open files, sockets and the clock.
-pub fn program<H, R: Read, W: Write, E: Write>(
-    _rt: &H,
+/// the text of refused words, the line of a fault, `farm: CODE TEXT`, and that of a lab file's
+/// refused command, `farm: CODE TEXT at N`, go to `errors`. The runtime is for the orders that open
+/// files, sockets and the clock.
+pub fn program<R: Read, W: Write, E: Write>(
+    rt: &HostRuntime,
     alloc: Global,
     words: &[String],
     input: &mut R,
@@ -39,16 +38,7 @@ pub fn program<H, R: Read, W: Write, E: Write>(
     errors: &mut E,
 ) -> u8 {
     match order_of(alloc, words) {
-        Ok(
-            Order::Once {
-                place: Place::Memory,
-                at,
-            },
-        ) => match once_in_memory(alloc, input, output, at) {
-            Ok(OK) => DONE,
-            Ok(_) => REFUSED,
-            Err(fault) => tell(errors, fault),
-        },
+        Ok(order) => perform(rt, alloc, order, input, output, errors),
         Err(OrderFault::Help(text)) => match write_whole(output, text.as_bytes()) {
             Ok(()) => DONE,
             Err(_) => tell(errors, DeskFault::Write),
@@ -58,6 +48,39 @@ pub fn program<H, R: Read, W: Write, E: Write>(
             WRONG_WORDS
         }
         Err(OrderFault::NoMemory) => tell(errors, DeskFault::NoMemory),
+    }
+}
+
+/// Carries out an order, and gives the exit status.
+pub fn perform<R: Read, W: Write, E: Write>(
+    rt: &HostRuntime,
+    alloc: Global,
+    order: Order,
+    input: &mut R,
+    output: &mut W,
+    errors: &mut E,
+) -> u8 {
+    let ended = carry_out(rt, alloc, order, input, output);
+    status_of(errors, ended)
+}
+
+/// The exit status of an order that ended so; what no answer tells is told to `errors`.
+fn status_of<E: Write>(errors: &mut E, ended: Result<End, DeskFault>) -> u8
+    ensures { result ≡ order_status ended }
+{
+    match ended {
+        Ok(End::Done) => DONE,
+        Ok(End::Refused) => REFUSED,
+        Ok(End::RefusedAt(place, refusal)) => {
+            let (code, text) = (refusal.code, refusal.text());
+            let _ = writeln!(errors, "farm: {code} {text} at {place}");
+            REFUSED
+        }
+        Ok(End::NotYet) => {
+            let _ = write_whole(errors, b"farm: the program doesn't serve yet\n");
+            WRONG_WORDS
+        }
+        Err(fault) => tell(errors, fault),
     }
 }
 
@@ -75,27 +98,5 @@ pub fn tell<E: Write>(errors: &mut E, fault: DeskFault) -> u8
         | DeskFault::File(FileFault::NoMemory) => NO_ROOM,
         DeskFault::File(_) => REFUSED,
         _ => FAILED,
-    }
-}
-
-/// Answers one request over an empty farm in memory, and gives the HTTP status written.
-fn once_in_memory<R: Read, W: Write>(
-    alloc: Global,
-    input: &mut R,
-    output: &mut W,
-    at: u64,
-) -> Result<u16, DeskFault> {
-    let mut keeper = memory_keeper(alloc)?;
-    converse(alloc, &mut keeper, input, output, at)
-}
-
-/// The keeper of an empty farm in memory.
-fn memory_keeper(alloc: Global) -> Result<Keeper<MemStore>, DeskFault> {
-    let Ok(conn) = Connection::open_in_memory(alloc) else {
-        return Err(DeskFault::NoMemory);
-    };
-    match Keeper::fresh(alloc, conn) {
-        Ok(keeper) => Ok(keeper),
-        Err(fault) => Err(DeskFault::Keep(fault)),
     }
 }

@@ -1,5 +1,7 @@
 mod Readings
-mod RowLemmas
-mod WalkedOnce
+mod Kept
+mod Walked
+mod Values
 mod WalkedFarm
 mod Outcomes
+mod Commands

@@ -1,4 +1,4 @@
--- Words without a fault enter `once`, and name an order.
+-- Words without a fault enter a subcommand, and name an order or leave a choice open.
 use Rattle.std.proofs.Common.{ℕ, Bool, true, false, not, cond, List, [], ◌∷◌, Option, Some, None, codes, is_some, option_map, drop, fold, ◌≡◌, ◌&&◌, refl, sym, subst}
 use Rattle.std.specs.Prelude.{if◌then◌else◌, ⊤}
 use Rattle.std.specs.List.{list_any}
@@ -9,12 +9,13 @@ use Rattle.clap.specs.Faults.{check_fault, defaults_fault, entered_fault, fault_
 use Rattle.clap.specs.Facts.{explicit_source}
 use Rattle.clap.specs.Takes.{is_given}
 use Rattle.clap.specs.Kinds.{check_kinds, or_else}
-use Rattle.clap.specs.Walk.{Held, Names, Outcome, Step, Text, Waiting, Walk, after_flag, after_step, answers_to, arg_by_long, done, finished, idle, long_met, long_or_other, next, nothing_held, option, plain, plain_word, positional, refused, settled, short_or_plain, bundle, subcommand, subcommand_or_other, trailing, value, waits, walk, walk_from, walked, walked_from, word_met}
+use Rattle.clap.specs.Walk.{Held, Names, Outcome, Step, Text, Waiting, Walk, after_flag, after_step, answers_to, arg_by_long, done, finished, idle, long_met, long_or_other, next, nothing_held, rows_after, Row, option, plain, plain_word, positional, refused, settled, short_or_plain, bundle, subcommand, subcommand_or_other, trailing, value, waits, walk, walk_from, walked, walked_from, word_met}
 use Rattle.clap.specs.Words.{subcommand_of}
 use Rattle.farm_order.specs.App.{farm_app}
-use Rattle.farm_order.specs.Orders.{order_in}
-use Rattle.farm_order.proofs.RowLemmas.{neither, no_fault}
-use Rattle.farm_order.proofs.WalkedOnce.{once_taken}
+use Rattle.farm_order.specs.Orders.{leaves_choice, order_in}
+use Rattle.farm_order.proofs.Kept.{neither, no_fault}
+use Rattle.farm_order.proofs.Values.{IsSettled, import_keep, import_rules, import_settles, init_keep, init_rules, init_settles, once_keep, once_rules, once_settles, report_keep, report_rules, report_settles, serve_keep, serve_rules, serve_settles}
+use Rattle.farm_order.proofs.Walked.{leaf_taken}
 
 abbrev top : Shape
 top = (built farm_app).top
@@ -22,75 +23,100 @@ top = (built farm_app).top
 abbrev names : Names
 names = names_of (built farm_app)
 
--- ---- the subcommand is `once`
+-- ---- the subcommand is one of the program's
 
-abbrev IsOnceStep : Step → Type 0
-IsOnceStep (subcommand name) = name ≡ codes "once"
-IsOnceStep _ = ⊤
+-- one for each subcommand of the program
+data Known : Type 0 where
+  once : Known
+  init : Known
+  import : Known
+  serve : Known
+  report : Known
 
-abbrev IsOnceStop : Option (Text × List Text) → Type 0
-IsOnceStop None = ⊤
-IsOnceStop (Some p) = p.0 ≡ codes "once"
+abbrev name_of : Known → Text
+name_of once = codes "once"
+name_of init = codes "init"
+name_of import = codes "import"
+name_of serve = codes "serve"
+name_of report = codes "report"
 
-plain_step : (waiting : Waiting) (word : Text) (h : Held) → IsOnceStep (plain_word top.rules waiting word h).1
+abbrev IsKnown : Text → Type 0
+IsKnown name = (k : Known) × (name ≡ name_of k)
+
+abbrev IsKnownStep : Step → Type 0
+IsKnownStep (subcommand name) = IsKnown name
+IsKnownStep _ = ⊤
+
+abbrev IsKnownStop : Option (Text × List Text) → Type 0
+IsKnownStop None = ⊤
+IsKnownStop (Some p) = IsKnown p.0
+
+plain_step : (waiting : Waiting) (word : Text) (h : Held) → IsKnownStep (plain_word top.rules waiting word h).1
 plain_step idle word h = tt
 plain_step (option id) word h = tt
 plain_step positional word h = tt
 
-flag_step : (waiting : Waiting) (word : Text) (h : Held) (o : Outcome) → IsOnceStep (after_flag top.rules waiting word h o).1
+flag_step : (waiting : Waiting) (word : Text) (h : Held) (o : Outcome) → IsKnownStep (after_flag top.rules waiting word h o).1
 flag_step waiting word h done = tt
 flag_step waiting word h (waits id) = tt
 flag_step waiting word h plain = plain_step waiting word h
 flag_step waiting word h refused = plain_step waiting word h
 
-short_step : (waiting : Waiting) (word : Text) (o : Option Text) (h : Held) → IsOnceStep (short_or_plain top.rules waiting word o h).1
+short_step : (waiting : Waiting) (word : Text) (o : Option Text) (h : Held) → IsKnownStep (short_or_plain top.rules waiting word o h).1
 short_step waiting word None h = plain_step waiting word h
 short_step waiting word (Some flags) h = flag_step waiting word (bundle top.rules flags h).0 (bundle top.rules flags h).1
 
-long_step : (waiting : Waiting) (word : Text) (o : Option (Text × Option Text)) (h : Held) → IsOnceStep (long_or_other top.rules waiting word o h).1
+long_step : (waiting : Waiting) (word : Text) (o : Option (Text × Option Text)) (h : Held) → IsKnownStep (long_or_other top.rules waiting word o h).1
 long_step waiting word None h = short_step waiting word (short_of word) h
 long_step waiting word (Some q) h =
     flag_step waiting word (long_met top.rules (arg_by_long top.rules q.0) q.1 h).0 (long_met top.rules (arg_by_long top.rules q.0) q.1 h).1
 
-other_step : (waiting : Waiting) (position : ℕ) (word : Text) (h : Held) → IsOnceStep (subcommand_or_other top.rules None waiting position word h).1
+other_step : (waiting : Waiting) (position : ℕ) (word : Text) (h : Held) → IsKnownStep (subcommand_or_other top.rules None waiting position word h).1
 other_step waiting position word h = go (bytes_eq word (45 ∷ 45 ∷ []))
   where
-    go : (b : Bool) → IsOnceStep (cond b (h, trailing position) (long_or_other top.rules waiting word (long_of word) h)).1
+    go : (b : Bool) → IsKnownStep (cond b (h, trailing position) (long_or_other top.rules waiting word (long_of word) h)).1
     go true = tt
     go false = long_step waiting word (long_of word) h
 
--- the name that a word answers to, by whether it is `once` and whether it is `help`
-abbrev name_met : Bool → Bool → Option Text
-name_met a b = option_map (λ (s : Text × List Text). s.0) (cond a (Some (codes "once", [])) (cond b (Some (codes "help", [])) None))
+-- the name that a word answers to, by which of the names it is
+abbrev name_met : Bool → Bool → Bool → Bool → Bool → Bool → Option Text
+name_met o i m s r h = option_map (λ (p : Text × List Text). p.0) (cond o (Some (codes "once", []))
+    (cond i (Some (codes "init", [])) (cond m (Some (codes "import", [])) (cond s (Some (codes "serve", []))
+    (cond r (Some (codes "report", [])) (cond h (Some (codes "help", [])) None))))))
 
-named_step : (a b : Bool) (position : ℕ) (word : Text) (h : Held) → other_fault top (name_met a b) word h ≡ []
-    → IsOnceStep (subcommand_or_other top.rules (name_met a b) idle position word h).1
-named_step true b position word h p = refl
-named_step false true position word h p = absurd (no_fault p)
-named_step false false position word h p = other_step idle position word h
+named_step : (o i m s r help : Bool) (position : ℕ) (word : Text) (h : Held) → other_fault top (name_met o i m s r help) word h ≡ []
+    → IsKnownStep (subcommand_or_other top.rules (name_met o i m s r help) idle position word h).1
+named_step true i m s r help position word h p = (once, refl)
+named_step false true m s r help position word h p = (init, refl)
+named_step false false true s r help position word h p = (import, refl)
+named_step false false false true r help position word h p = (serve, refl)
+named_step false false false false true help position word h p = (report, refl)
+named_step false false false false false true position word h p = absurd (no_fault p)
+named_step false false false false false false position word h p = other_step idle position word h
 
 word_step : (is_trailing : Bool) (waiting : Waiting) (position : ℕ) (word : Text) (h : Held) → word_fault top names is_trailing waiting word h ≡ []
-    → IsOnceStep (word_met top.rules names is_trailing waiting position word h).1
+    → IsKnownStep (word_met top.rules names is_trailing waiting position word h).1
 word_step true waiting position word h p = tt
 word_step false idle position word h p =
-    named_step (answers_to word (codes "once", [])) (answers_to word (codes "help", [])) position word h p
+    named_step (answers_to word (codes "once", [])) (answers_to word (codes "init", [])) (answers_to word (codes "import", []))
+    (answers_to word (codes "serve", [])) (answers_to word (codes "report", [])) (answers_to word (codes "help", [])) position word h p
 word_step false (option id) position word h p = other_step (option id) position word h
 word_step false positional position word h p = other_step positional position word h
 
-step_stop : (word : Text) (w : Walk) (h : Held) (step : Step) → IsOnceStep step → IsOnceStop w.stopped → IsOnceStop (after_step top.rules word w h step).stopped
+step_stop : (word : Text) (w : Walk) (h : Held) (step : Step) → IsKnownStep step → IsKnownStop w.stopped → IsKnownStop (after_step top.rules word w h step).stopped
 step_stop word w h (next waiting) is stop = stop
 step_stop word w h (trailing position) is stop = stop
 step_stop word w h (subcommand name) is stop = is
 step_stop word w h value is stop = stop
 
-turn_stop : (w : Walk) (word : Text) → turn_fault top names w word ≡ [] → IsOnceStop w.stopped
-    → IsOnceStop (walked_from top.rules names w.stopped w word).stopped
+turn_stop : (w : Walk) (word : Text) → turn_fault top names w word ≡ [] → IsKnownStop w.stopped
+    → IsKnownStop (walked_from top.rules names w.stopped w word).stopped
 turn_stop w word p stop = go w.stopped p stop
   where
     go : (o : Option (Text × List Text)) → (if is_some o then [] else or_else (word_fault top names w.is_trailing w.waiting word w.held)
         (step_fault top w.position (word_met top.rules names w.is_trailing w.waiting w.position word w.held).0
-        (word_met top.rules names w.is_trailing w.waiting w.position word w.held).1)) ≡ [] → IsOnceStop o
-        → IsOnceStop (walked_from top.rules names o w word).stopped
+        (word_met top.rules names w.is_trailing w.waiting w.position word w.held).1)) ≡ [] → IsKnownStop o
+        → IsKnownStop (walked_from top.rules names o w word).stopped
     go None q k =
         let m = word_met top.rules names w.is_trailing w.waiting w.position word w.held in
         step_stop word w m.0 m.1
@@ -98,8 +124,8 @@ turn_stop w word p stop = go w.stopped p stop
         (neither (word_fault top names w.is_trailing w.waiting word w.held) (step_fault top w.position m.0 m.1) q).0) stop
     go (Some s) q k = k
 
-walk_stop : (w : Walk) (words : List Text) → walk_fault top names w words ≡ [] → IsOnceStop w.stopped
-    → IsOnceStop (fold (walked top.rules names) w words).stopped
+walk_stop : (w : Walk) (words : List Text) → walk_fault top names w words ≡ [] → IsKnownStop w.stopped
+    → IsKnownStop (fold (walked top.rules names) w words).stopped
 unfolding walk_fault walked
 walk_stop w [] p stop = stop
 walk_stop w (word ∷ rest) p stop =
@@ -108,20 +134,32 @@ walk_stop w (word ∷ rest) p stop =
 
 -- ---- the order
 
--- where the walk over the words stopped, the subcommand names an order
-stopped_order : (stop : Option (Text × List Text)) → IsOnceStop stop → is_some (entered (built farm_app) stop) ≡ true
-    → entered_fault (built farm_app) stop ≡ [] → is_some (order_in (entered (built farm_app) stop)) ≡ true
-stopped_order None is some faultless = some
+abbrev pub IsSettledIn : Option (Text × List Row) → Type 0
+IsSettledIn named = IsSettled (order_in named) (leaves_choice named)
+
+-- the words after the name of a subcommand
+known_order : (k : Known) (words : List Text) → entered_fault (built farm_app) (Some (name_of k, words)) ≡ []
+    → IsSettledIn (entered (built farm_app) (Some (name_of k, words)))
+known_order once words p = once_settles (rows_after once_rules [] words) (leaf_taken (codes "once") once_rules once_keep words p)
+known_order init words p = init_settles (rows_after init_rules [] words) (leaf_taken (codes "init") init_rules init_keep words p)
+known_order import words p = import_settles (rows_after import_rules [] words) (leaf_taken (codes "import") import_rules import_keep words p)
+known_order serve words p = serve_settles (rows_after serve_rules [] words) (leaf_taken (codes "serve") serve_rules serve_keep words p)
+known_order report words p = report_settles (rows_after report_rules [] words) (leaf_taken (codes "report") report_rules report_keep words p)
+
+-- where the walk over the words stopped
+stopped_order : (stop : Option (Text × List Text)) → IsKnownStop stop → is_some (entered (built farm_app) stop) ≡ true
+    → entered_fault (built farm_app) stop ≡ [] → IsSettledIn (entered (built farm_app) stop)
+stopped_order None is some faultless = cc
 stopped_order (Some (name, words)) is some faultless =
-    let once : entered_fault (built farm_app) (Some (codes "once", words)) ≡ [] =
-    subst (λ (n : Text). entered_fault (built farm_app) (Some (n, words)) ≡ []) is faultless in
-    subst (λ (n : Text). is_some (order_in (entered (built farm_app) (Some (n, words)))) ≡ true) (sym is) (once_taken words once)
+    let known : entered_fault (built farm_app) (Some (name_of is.0, words)) ≡ [] =
+    subst (λ (n : Text). entered_fault (built farm_app) (Some (n, words)) ≡ []) is.1 faultless in
+    subst (λ (n : Text). IsSettledIn (entered (built farm_app) (Some (n, words)))) (sym is.1) (known_order is.0 words known)
 
 needs_subcommand : (has x y : Bool) → check_kinds (not has && (false && x)) (not has && true) y ≡ [] → has ≡ true
 needs_subcommand true x y h = refl
 needs_subcommand false x y h = absurd (no_fault h)
 
-pub faultless_order : (words : List Text) → fault_of farm_app words ≡ [] → is_some (order_in (subcommand_of farm_app words)) ≡ true
+pub faultless_order : (words : List Text) → fault_of farm_app words ≡ [] → IsSettledIn (subcommand_of farm_app words)
 faultless_order words p =
     let rest = drop 1 words in
     let stop = (walk top.rules names nothing_held rest).stopped in

@@ -1,8 +1,9 @@
 -- What a fault says of the words.
-use Rattle.std.specs.Prelude.{◌≡◌, ◌≢◌, ⊤}
-use Rattle.clap.specs.Words.{IsAmong, Kinds}
+use Rattle.std.specs.Prelude.{◌≡◌, ◌≢◌, ◌⊎◌, [], List, Option, true, ⊤}
+use Rattle.clap.specs.Words.{IsAmong, Kinds, Row, Text}
 use Rattle.clap.specs.declared.error.kind.ErrorKind.{ErrorKind}
 use Rattle.clap.specs.declared.error.kind.ErrorKind.TheVariants.{DisplayHelp, OutOfMemory}
+use Rattle.farm_order.specs.Orders.{leaves_choice}
 use Rattle.farm_order.specs.declared.fault.OrderFault.{OrderFault}
 use Rattle.farm_order.specs.declared.fault.OrderFault.TheVariants.{Help, Words, NoMemory}
 
@@ -12,9 +13,14 @@ IsOfKind kind (Help text) = kind ≡ DisplayHelp
 IsOfKind kind (Words text) = (kind ≢ OutOfMemory) × (kind ≢ DisplayHelp)
 IsOfKind kind NoMemory = ⊤
 
--- a fault of words that may give errors of these kinds: help where help is asked for, and else what
--- is wrong with them
-abbrev pub IsFaultAmong : Kinds → OrderFault → Type 0
-IsFaultAmong kinds (Help text) = IsAmong DisplayHelp kinds
-IsFaultAmong kinds (Words text) = (kind : ErrorKind) × IsAmong kind kinds × (kind ≢ DisplayHelp)
-IsFaultAmong kinds NoMemory = ⊤
+-- an error of one of these kinds, other than help, may come
+abbrev pub IsWrongAmong : Kinds → Type 0
+IsWrongAmong kinds = (kind : ErrorKind) × IsAmong kind kinds × (kind ≢ DisplayHelp)
+
+-- a fault of words that may give errors of these kinds and name this subcommand: help where help is
+-- asked for, and else what is wrong with them, be it a choice that they leave open
+abbrev pub IsFaultAmong : Kinds → Option (Text × List Row) → OrderFault → Type 0
+IsFaultAmong kinds named (Help text) = IsAmong DisplayHelp kinds
+IsFaultAmong kinds named (Words text) = IsWrongAmong kinds
+    ⊎ ((kinds ≡ []) × (leaves_choice named ≡ true))
+IsFaultAmong kinds named NoMemory = ⊤

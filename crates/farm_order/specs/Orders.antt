@@ -1,18 +1,64 @@
 -- The order that a subcommand and its values name.
-use Rattle.std.specs.Prelude.{ℕ, Bool, List, Option, Some, None, false, codes, if◌then◌else◌, option_map}
-use Rattle.std.specs.Prelude.{option_and_then}
+use Rattle.std.specs.Prelude.{◌≤◌, ◌&&◌, ◌||◌, ℕ, Bool, not, List, Option, Some, None, false, ⊤}
+use Rattle.std.specs.Prelude.{codes, if◌then◌else◌, is_some, nat_lt, option_and_then, option_map}
+use Rattle.std.specs.Prelude.{string_bytes, unwrap_or}
 use Rattle.std.specs.Option.{option_map_or}
 use Rattle.std.specs.Str.{bytes_eq}
 use Rattle.std.specs.Str.Parse.{digits_value, without_leading_plus}
 use Rattle.clap.specs.ValueTests.{is_unsigned_in}
-use Rattle.clap.specs.Words.{Row, Text, one_of}
+use Rattle.clap.specs.Words.{Row, Text, first_of, one_of}
 use Rattle.farm_order.specs.declared.order.Order.{Order}
-use Rattle.farm_order.specs.declared.order.Order.TheVariants.{Once}
-use Rattle.farm_order.specs.declared.order.Place.TheVariants.{Memory}
+use Rattle.farm_order.specs.declared.order.Order.TheVariants.{Once, Init, Import, Serve}
+use Rattle.farm_order.specs.declared.order.Order.TheVariants as order
+use Rattle.farm_order.specs.declared.order.Place.{Place}
+use Rattle.farm_order.specs.declared.order.Place.TheVariants.{Memory, File}
+use Rattle.farm_order.specs.declared.order.Report.{Report}
+use Rattle.farm_order.specs.declared.order.Report.TheVariants.{Queue, Boards, Reservations}
+
+-- ---- an order, with its texts as bytes
+
+-- a file, or none: memory
+abbrev pub PlaceForm : Type 0
+PlaceForm = Option Text
+
+pub data Form : Type 0 where
+  -- the place and the moment
+  once : PlaceForm → ℕ → Form
+  -- the file
+  init : Text → Form
+  -- the file, the moment and the lab file
+  import : Text → ℕ → Text → Form
+  -- the file, the port and the number of connections
+  serve : Text → ℕ → ℕ → Form
+  -- the file, the minutes east and west, and the report
+  report : Text → ℕ → ℕ → Report → Form
+
+abbrev pub place_form : Place → PlaceForm
+place_form Memory = None
+place_form (File file) = Some (string_bytes file)
+
+abbrev pub form_of : Order → Form
+form_of (Once place at) = once (place_form place) at
+form_of (Init file) = init (string_bytes file)
+form_of (Import file at lab) = import (string_bytes file) at (string_bytes lab)
+form_of (Serve file port max) = serve (string_bytes file) port max
+form_of (order.Report file east west which) = report (string_bytes file) east west which
+
+-- a port that can be listened on, and offsets of at most fourteen hours
+abbrev pub IsInBounds : Form → Type 0
+IsInBounds (serve file port max) = (1 ≤ port) × (port ≤ 65535)
+IsInBounds (report file east west which) = (east ≤ 840) × (west ≤ 840)
+IsInBounds _ = ⊤
+
+-- ---- the values of a subcommand
 
 -- a flag was given
 abbrev pub has_flag : Text → List Row → Bool
 has_flag id rows = option_map_or (λ text. bytes_eq text (codes "true")) (one_of id rows) false
+
+-- the text that an argument has
+abbrev pub text_of : Text → List Row → Option Text
+text_of = first_of
 
 -- the `u64` that a text writes in decimal digits
 abbrev pub u64_in : Text → Option ℕ
@@ -23,15 +69,71 @@ u64_in text = if is_unsigned_in 0 18446744073709551615 text
 abbrev pub number_of : Text → List Row → Option ℕ
 number_of id rows = option_and_then u64_in (one_of id rows)
 
--- `once`: an empty farm in memory, at the moment that is given
-abbrev pub once_in : List Row → Option Order
-once_in rows = if has_flag (codes "memory") rows
-    then option_map (λ at. Once Memory at) (number_of (codes "at") rows) else None
+-- just one of `--memory` and `--db FILE`
+abbrev pub place_in : List Row → Option PlaceForm
+place_in rows = if has_flag (codes "memory") rows
+    then (if is_some (text_of (codes "db") rows) then None else Some None)
+    else option_map (λ file. Some file) (text_of (codes "db") rows)
+
+abbrev pub u16_of : ℕ → Option ℕ
+u16_of n = if nat_lt n 65536 then Some n else None
+
+abbrev pub port_in : List Row → Option ℕ
+port_in rows = option_and_then u16_of (number_of (codes "port") rows)
+
+-- the report of this name
+abbrev pub report_of : Text → Option Report
+report_of name = if bytes_eq name (codes "queue") then Some Queue
+    else (if bytes_eq name (codes "boards") then Some Boards
+    else (if bytes_eq name (codes "reservations") then Some Reservations else None))
+
+abbrev pub which_in : List Row → Option Report
+which_in rows = option_and_then report_of (text_of (codes "which") rows)
+
+-- the minutes of an offset, 0 where it wasn't given
+abbrev pub minutes_of : Text → List Row → ℕ
+minutes_of id rows = unwrap_or (number_of id rows) 0
+
+-- ---- the order of each subcommand
+
+abbrev pub once_in : List Row → Option Form
+once_in rows = option_and_then (λ place. option_map (λ at. once place at)
+    (number_of (codes "at") rows)) (place_in rows)
+
+abbrev pub init_in : List Row → Option Form
+init_in rows = option_map (λ file. init file) (text_of (codes "db") rows)
+
+abbrev pub import_in : List Row → Option Form
+import_in rows = option_and_then (λ file. option_and_then (λ at. option_map (λ lab.
+    import file at lab) (text_of (codes "lab") rows)) (number_of (codes "at") rows))
+    (text_of (codes "db") rows)
+
+abbrev pub serve_in : List Row → Option Form
+serve_in rows = option_and_then (λ file. option_and_then (λ port. option_map (λ max.
+    serve file port max) (number_of (codes "max") rows)) (port_in rows))
+    (text_of (codes "db") rows)
+
+abbrev pub report_in : List Row → Option Form
+report_in rows = option_and_then (λ file. option_map (λ which.
+    report file (minutes_of (codes "east") rows) (minutes_of (codes "west") rows) which)
+    (which_in rows)) (text_of (codes "db") rows)
 
 -- the order of a subcommand with its values
-abbrev pub order_named : Text → List Row → Option Order
-order_named name rows = if bytes_eq name (codes "once") then once_in rows else None
+abbrev pub order_named : Text → List Row → Option Form
+order_named name rows = if bytes_eq name (codes "once") then once_in rows
+    else (if bytes_eq name (codes "init") then init_in rows
+    else (if bytes_eq name (codes "import") then import_in rows
+    else (if bytes_eq name (codes "serve") then serve_in rows
+    else (if bytes_eq name (codes "report") then report_in rows else None))))
 
 -- the same where there is a subcommand at all
-abbrev pub order_in : Option (Text × List Row) → Option Order
+abbrev pub order_in : Option (Text × List Row) → Option Form
 order_in = option_and_then (λ p. order_named p.0 p.1)
+
+-- ---- words that `clap` takes and that name no order
+
+-- `once` with neither or both of `--memory` and `--db`, or `report` of something that is no report
+abbrev pub leaves_choice : Option (Text × List Row) → Bool
+leaves_choice named = option_map_or (λ p.
+    (bytes_eq p.0 (codes "once") && not (is_some (place_in p.1)))
+    || (bytes_eq p.0 (codes "report") && not (is_some (which_in p.1)))) named false

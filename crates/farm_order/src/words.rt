@@ -1,67 +1,178 @@
 //! Reading the words.
-ghost use Rattle.std.specs.Prelude.{◌≡◌, [], IfErr, IfOk, Some, false, map, string_bytes, true};
+ghost use Rattle.std.specs.Prelude.{◌≡◌, ◌⊎◌, [], IfErr, IfOk, Some, false, map, option_map, true};
+ghost use Rattle.std.specs.Prelude.{string_bytes};
 ghost use Rattle.clap.specs.Words.{app_of, fault_of as kinds_of, found_of, rows_of};
 ghost use Rattle.clap.specs.Words.{rule_of, subcommand_of, subcommand_rows_of, takes};
-ghost use Rattle.farm_order.specs.App.{AddsShape, at_rule, farm_app, memory_rule, once_app};
+ghost use Rattle.farm_order.specs.App.{AddsShape, at_rule, db_rule, farm_app, import_app, init_app};
+ghost use Rattle.farm_order.specs.App.{max_rule, memory_rule, offset_rule, once_app, port_rule};
+ghost use Rattle.farm_order.specs.App.{positional_rule, report_app, serve_app};
 ghost use Rattle.farm_order.specs.Faults.{IsFaultAmong};
-ghost use Rattle.farm_order.specs.Orders.{has_flag, number_of, once_in, order_in};
+ghost use Rattle.farm_order.specs.Orders.{IsInBounds, form_of, has_flag, import_in, init_in};
+ghost use Rattle.farm_order.specs.Orders.{leaves_choice, number_of, once_in, order_in, place_form};
+ghost use Rattle.farm_order.specs.Orders.{place_in, port_in, report_in};
+ghost use Rattle.farm_order.specs.Orders.{report_of, serve_in, text_of, which_in};
 ghost use Rattle.farm_order.specs.declared.fault.OrderFault.TheVariants.{NoMemory};
 
 use crate::fault::{OrderFault, fault_of};
-use crate::order::{Order, Place};
+use crate::order::{Order, Place, Report};
 use clap::{Arg, ArgAction, ArgMatches, Command};
 use std::alloc::{AllocError, Global};
 
 /// The order that the words give; the first word is the program's name.
 pub fn order_of(alloc: Global, words: &[String]) -> Result<Order, OrderFault>
     // The order is the one that the subcommand and its values name, and the words have no fault.
-    ensures order { IfOk result (λ order. Some order
+    ensures order { IfOk result (λ order. Some (form_of order)
         ≡ order_in (subcommand_of farm_app (map string_bytes words.now))) }
     ensures faultless { IfOk result (λ order.
         kinds_of farm_app (map string_bytes words.now) ≡ []) }
+    ensures bounds { IfOk result (λ order. IsInBounds (form_of order)) }
 
     // Help comes where the words ask for it, and Words where something else is wrong with them.
     ensures fault { IfErr result (IsFaultAmong
-        (kinds_of farm_app (map string_bytes words.now))) }
+        (kinds_of farm_app (map string_bytes words.now))
+        (subcommand_of farm_app (map string_bytes words.now))) }
 
-    // Words that `clap` takes are refused for want of memory alone.
-    ensures taken { takes farm_app (map string_bytes words.now) ≡ true
-        → IfErr result (λ fault. fault ≡ NoMemory) }
+    // Words that `clap` takes are refused for want of memory, or where they leave a choice open.
+    ensures taken { takes farm_app (map string_bytes words.now) ≡ true → IfErr result (λ fault.
+        (fault ≡ NoMemory)
+        ⊎ (leaves_choice (subcommand_of farm_app (map string_bytes words.now)) ≡ true)) }
 {
     match farm_command(alloc)?.try_get_matches_from(words) {
-        Ok(matches) => match named(&matches) {
+        Ok(matches) => match named(alloc, &matches)? {
             Some(order) => Ok(order),
-            None => Err(OrderFault::Words(String::from_str(alloc, NO_ORDER)?)),
+            None => Err(OrderFault::Words(String::from_str(alloc, open_choice(&matches))?)),
         },
         Err(error) => Err(fault_of(alloc, &error)),
     }
 }
 
-/// Said of words that `clap` takes and that name no order: the commands below leave none.
-const NO_ORDER: &str = "error: these words name no order\n\nFor more information, try '--help'.\n";
-
-/// The order that the matches name.
-fn named(matches: &ArgMatches<'_>) -> Option<Order>
-    ensures { result ≡ order_in (subcommand_rows_of matches.now) }
-{
-    let (name, given) = matches.subcommand()?;
-    if name == "once" {
-        return once_named(given);
+/// What is wrong with words that `clap` takes and that name no order.
+fn open_choice(matches: &ArgMatches<'_>) -> &'static str {
+    if matches.subcommand_name() == Some("once") {
+        NO_PLACE
+    } else {
+        NO_REPORT
     }
-    None
 }
 
-fn once_named(given: &ArgMatches<'_>) -> Option<Order>
-    ensures { result ≡ once_in (rows_of (found_of given.now)) }
+const NO_PLACE: &str = "\
+error: exactly one of '--memory' and '--db <FILE>' has to be provided
+
+Usage: farm once <--memory|--db <FILE>> --at <SECONDS>
+
+For more information, try '--help'.
+";
+
+const NO_REPORT: &str = "\
+error: invalid value for '<WHICH>'
+  [possible values: queue, boards, reservations]
+
+For more information, try '--help'.
+";
+
+/// The order that the matches name.
+fn named(alloc: Global, matches: &ArgMatches<'_>) -> Result<Option<Order>, AllocError>
+    ensures { IfOk result (λ order.
+        option_map form_of order ≡ order_in (subcommand_rows_of matches.now)) }
 {
-    let at = number(given, "at")?;
-    if !flag(given, "memory") {
-        return None;
+    let Some((name, given)) = matches.subcommand() else {
+        return Ok(None);
+    };
+    if name == "once" {
+        once_named(alloc, given)
+    } else if name == "init" {
+        init_named(alloc, given)
+    } else if name == "import" {
+        import_named(alloc, given)
+    } else if name == "serve" {
+        serve_named(alloc, given)
+    } else if name == "report" {
+        report_named(alloc, given)
+    } else {
+        Ok(None)
     }
-    Some(Order::Once {
-        place: Place::Memory,
-        at,
+}
+
+fn once_named(alloc: Global, given: &ArgMatches<'_>) -> Result<Option<Order>, AllocError>
+    ensures { IfOk result (λ order.
+        option_map form_of order ≡ once_in (rows_of (found_of given.now))) }
+{
+    let (Some(place), Some(at)) = (place(alloc, given)?, number(given, "at")) else {
+        return Ok(None);
+    };
+    Ok(Some(Order::Once { place, at }))
+}
+
+/// Memory or a file, where just one of them was given.
+fn place(alloc: Global, given: &ArgMatches<'_>) -> Result<Option<Place>, AllocError>
+    ensures { IfOk result (λ place.
+        option_map place_form place ≡ place_in (rows_of (found_of given.now))) }
+{
+    Ok(match (flag(given, "memory"), text(alloc, given, "db")?) {
+        (true, None) => Some(Place::Memory),
+        (false, Some(file)) => Some(Place::File(file)),
+        (true, Some(_)) | (false, None) => None,
     })
+}
+
+fn init_named(alloc: Global, given: &ArgMatches<'_>) -> Result<Option<Order>, AllocError>
+    ensures { IfOk result (λ order.
+        option_map form_of order ≡ init_in (rows_of (found_of given.now))) }
+{
+    let Some(file) = text(alloc, given, "db")? else {
+        return Ok(None);
+    };
+    Ok(Some(Order::Init { file }))
+}
+
+fn import_named(alloc: Global, given: &ArgMatches<'_>) -> Result<Option<Order>, AllocError>
+    ensures { IfOk result (λ order.
+        option_map form_of order ≡ import_in (rows_of (found_of given.now))) }
+{
+    let Some(file) = text(alloc, given, "db")? else {
+        return Ok(None);
+    };
+    let Some(at) = number(given, "at") else {
+        return Ok(None);
+    };
+    let Some(lab) = text(alloc, given, "lab")? else {
+        return Ok(None);
+    };
+    Ok(Some(Order::Import { file, at, lab }))
+}
+
+fn serve_named(alloc: Global, given: &ArgMatches<'_>) -> Result<Option<Order>, AllocError>
+    ensures { IfOk result (λ order.
+        option_map form_of order ≡ serve_in (rows_of (found_of given.now))) }
+{
+    let Some(file) = text(alloc, given, "db")? else {
+        return Ok(None);
+    };
+    let Some(port) = port(given) else {
+        return Ok(None);
+    };
+    let Some(max) = number(given, "max") else {
+        return Ok(None);
+    };
+    Ok(Some(Order::Serve { file, port, max }))
+}
+
+fn report_named(alloc: Global, given: &ArgMatches<'_>) -> Result<Option<Order>, AllocError>
+    ensures { IfOk result (λ order.
+        option_map form_of order ≡ report_in (rows_of (found_of given.now))) }
+{
+    let Some(file) = text(alloc, given, "db")? else {
+        return Ok(None);
+    };
+    let Some(which) = which(given) else {
+        return Ok(None);
+    };
+    Ok(Some(Order::Report {
+        file,
+        east: number(given, "east").unwrap_or(0),
+        west: number(given, "west").unwrap_or(0),
+        which,
+    }))
 }
 
 /// Whether a flag was given.
@@ -78,6 +189,45 @@ fn number(given: &ArgMatches<'_>, id: &str) -> Option<u64>
     given.get_one::<u64>(id)
 }
 
+fn port(given: &ArgMatches<'_>) -> Option<u16>
+    ensures { result ≡ port_in (rows_of (found_of given.now)) }
+{
+    u16::try_from(number(given, "port")?).ok()
+}
+
+/// The text that an argument has.
+fn text(alloc: Global, given: &ArgMatches<'_>, id: &str) -> Result<Option<String>, AllocError>
+    ensures { IfOk result (λ text.
+        option_map string_bytes text ≡ text_of id.now (rows_of (found_of given.now))) }
+{
+    match given.get_str(id) {
+        Some(text) => Ok(Some(String::from_str(alloc, text)?)),
+        None => Ok(None),
+    }
+}
+
+/// The report that is asked for.
+fn which(given: &ArgMatches<'_>) -> Option<Report>
+    ensures { result ≡ which_in (rows_of (found_of given.now)) }
+{
+    report_called(given.get_str("which")?)
+}
+
+/// The report of a name.
+fn report_called(name: &str) -> Option<Report>
+    ensures { result ≡ report_of name.now }
+{
+    if name == "queue" {
+        Some(Report::Queue)
+    } else if name == "boards" {
+        Some(Report::Boards)
+    } else if name == "reservations" {
+        Some(Report::Reservations)
+    } else {
+        None
+    }
+}
+
 /// The program, with a subcommand for each order.
 fn farm_command<'a>(alloc: Global) -> Result<Command<'a>, AllocError>
     ensures { IfOk result (λ command. app_of command ≡ farm_app) }
@@ -85,16 +235,73 @@ fn farm_command<'a>(alloc: Global) -> Result<Command<'a>, AllocError>
     Command::new(alloc, "farm")
         .about("The desk of a board farm: people and queued test jobs share the boards of a lab")
         .subcommand_required(true)
-        .subcommand(once_command(alloc)?)
+        .subcommand(once_command(alloc)?)?
+        .subcommand(init_command(alloc)?)?
+        .subcommand(import_command(alloc)?)?
+        .subcommand(serve_command(alloc)?)?
+        .subcommand(report_command(alloc)?)
 }
 
 fn once_command<'a>(alloc: Global) -> Result<Command<'a>, AllocError>
     ensures { IfOk result (AddsShape once_app.top) }
 {
     Command::new(alloc, "once")
-        .about("Answers one HTTP request from the input")
+        .about("Answers one HTTP request from the input: give just one of --memory and --db")
         .arg(memory_flag(alloc))?
+        .arg(file(alloc, false))?
         .arg(moment(alloc))
+}
+
+fn init_command<'a>(alloc: Global) -> Result<Command<'a>, AllocError>
+    ensures { IfOk result (AddsShape init_app.top) }
+{
+    Command::new(alloc, "init")
+        .about("Makes an empty farm in a file that has none")
+        .arg(file(alloc, true))
+}
+
+fn import_command<'a>(alloc: Global) -> Result<Command<'a>, AllocError>
+    ensures { IfOk result (AddsShape import_app.top) }
+{
+    Command::new(alloc, "import")
+        .about("Brings the boards, jobs and reservations of a lab file into a farm")
+        .arg(file(alloc, true))?
+        .arg(moment(alloc))?
+        .arg(positional(alloc, "lab", "LAB", "The lab file, in TOML"))
+}
+
+fn serve_command<'a>(alloc: Global) -> Result<Command<'a>, AllocError>
+    ensures { IfOk result (AddsShape serve_app.top) }
+{
+    Command::new(alloc, "serve")
+        .about("Answers HTTP requests on a port of 127.0.0.1, one connection after another")
+        .arg(file(alloc, true))?
+        .arg(port_option(alloc))?
+        .arg(max_option(alloc))
+}
+
+fn report_command<'a>(alloc: Global) -> Result<Command<'a>, AllocError>
+    ensures { IfOk result (AddsShape report_app.top) }
+{
+    Command::new(alloc, "report")
+        .about("Prints the queue, the boards or the reservations of a farm")
+        .arg(file(alloc, true))?
+        .arg(offset(
+            alloc,
+            "east",
+            "How many minutes the zone lies east of UTC, up to 840",
+        ))?
+        .arg(offset(
+            alloc,
+            "west",
+            "How many minutes the zone lies west of UTC, up to 840",
+        ))?
+        .arg(positional(
+            alloc,
+            "which",
+            "WHICH",
+            "What to print: queue, boards or reservations",
+        ))
 }
 
 fn memory_flag<'a>(alloc: Global) -> Arg<'a>
@@ -104,8 +311,19 @@ fn memory_flag<'a>(alloc: Global) -> Arg<'a>
     Arg::new(alloc, "memory")
         .long("memory")
         .help("Begin with an empty farm, kept in memory alone")
-        .required(true)
         .action(ArgAction::SetTrue)
+}
+
+fn file<'a>(alloc: Global, required: bool) -> Arg<'a>
+    ensures rule { rule_of result ≡ db_rule required }
+    ensures local { result.global ≡ false }
+{
+    Arg::new(alloc, "db")
+        .long("db")
+        .value_name("FILE")
+        .help("The file that keeps the farm")
+        .required(required)
+        .action(ArgAction::Set)
 }
 
 fn moment<'a>(alloc: Global) -> Arg<'a>
@@ -115,10 +333,59 @@ fn moment<'a>(alloc: Global) -> Arg<'a>
     Arg::new(alloc, "at")
         .long("at")
         .value_name("SECONDS")
-        .help("The moment of the request, in seconds since 1970-01-01 00:00:00 UTC")
+        .help("The moment of the call, in seconds since 1970-01-01 00:00:00 UTC")
         .required(true)
         .action(ArgAction::Set)
         .value_parser(clap::value_parser!(u64))
+}
+
+fn port_option<'a>(alloc: Global) -> Arg<'a>
+    ensures rule { rule_of result ≡ port_rule }
+    ensures local { result.global ≡ false }
+{
+    Arg::new(alloc, "port")
+        .long("port")
+        .value_name("PORT")
+        .help("The port to listen on, from 1 to 65535")
+        .required(true)
+        .action(ArgAction::Set)
+        .value_parser(clap::value_parser!(u64).range(1..=65535))
+}
+
+fn max_option<'a>(alloc: Global) -> Arg<'a>
+    ensures rule { rule_of result ≡ max_rule }
+    ensures local { result.global ≡ false }
+{
+    Arg::new(alloc, "max")
+        .long("max")
+        .value_name("CONNECTIONS")
+        .help("How many connections to serve before the program ends")
+        .required(true)
+        .action(ArgAction::Set)
+        .value_parser(clap::value_parser!(u64))
+}
+
+fn offset<'a>(alloc: Global, name: &'a str, help: &'a str) -> Arg<'a>
+    ensures rule { rule_of result ≡ offset_rule name.now }
+    ensures local { result.global ≡ false }
+{
+    Arg::new(alloc, name)
+        .long(name)
+        .value_name("MINUTES")
+        .help(help)
+        .action(ArgAction::Set)
+        .value_parser(clap::value_parser!(u64).range(0..=840))
+}
+
+fn positional<'a>(alloc: Global, id: &'a str, name: &'a str, help: &'a str) -> Arg<'a>
+    ensures rule { rule_of result ≡ positional_rule id.now }
+    ensures local { result.global ≡ false }
+{
+    Arg::new(alloc, id)
+        .value_name(name)
+        .help(help)
+        .required(true)
+        .action(ArgAction::Set)
 }
 
 #[cfg(test)]

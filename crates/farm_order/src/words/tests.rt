@@ -28,24 +28,125 @@ fn help_text(given: Result<Order, OrderFault>) -> Option<String> {
     }
 }
 
+fn named(alloc: Global, text: &str) -> Result<String, AllocError> {
+    String::from_str(alloc, text)
+}
+
+/// Each of the lines gives the order.
+fn gives(rt: &HostRuntime, lines: &[&str], order: &Order) -> Result<bool, AllocError> {
+    for line in lines {
+        match read(rt, line)? {
+            Ok(given) => {
+                if given != *order {
+                    return Ok(false);
+                }
+            }
+            Err(_fault) => return Ok(false),
+        }
+    }
+    Ok(true)
+}
+
 #[test]
-fn once_in_memory(rt: HostRuntime) -> Result<(), AllocError> {
-    for line in [
+fn once(rt: HostRuntime) -> Result<(), AllocError> {
+    let in_memory = Order::Once {
+        place: Place::Memory,
+        at: 1700000000,
+    };
+    let lines = [
         "farm once --memory --at 1700000000",
         "farm once --at 1700000000 --memory",
         "farm once --memory --at=1700000000",
+    ];
+    assert!(rt; gives(&rt, lines.as_slice(), &in_memory)?);
+    let latest = Order::Once {
+        place: Place::Memory,
+        at: u64::MAX,
+    };
+    let lines = ["farm once --memory --at 18446744073709551615"];
+    assert!(rt; gives(&rt, lines.as_slice(), &latest)?);
+    let in_file = Order::Once {
+        place: Place::File(named(rt.alloc(), "lab.db")?),
+        at: 0,
+    };
+    let lines = [
+        "farm once --db lab.db --at 0",
+        "farm once --at 0 --db=lab.db",
+    ];
+    assert!(rt; gives(&rt, lines.as_slice(), &in_file)?);
+    Ok(())
+}
+
+#[test]
+fn init_and_import(rt: HostRuntime) -> Result<(), AllocError> {
+    let init = Order::Init {
+        file: named(rt.alloc(), "lab.db")?,
+    };
+    assert!(rt; gives(&rt, ["farm init --db lab.db"].as_slice(), &init)?);
+    let import = Order::Import {
+        file: named(rt.alloc(), "lab.db")?,
+        at: 10,
+        lab: named(rt.alloc(), "lab.toml")?,
+    };
+    let lines = [
+        "farm import --db lab.db --at 10 lab.toml",
+        "farm import lab.toml --at 10 --db lab.db",
+    ];
+    assert!(rt; gives(&rt, lines.as_slice(), &import)?);
+    Ok(())
+}
+
+#[test]
+fn serve(rt: HostRuntime) -> Result<(), AllocError> {
+    for (line, port, max) in [
+        ("farm serve --db f --port 1 --max 0", 1, 0),
+        ("farm serve --db f --port 8080 --max 3", 8080, 3),
+        (
+            "farm serve --max 18446744073709551615 --port 65535 --db f",
+            65535,
+            u64::MAX,
+        ),
     ] {
-        match read(&rt, line)? {
-            Ok(Order::Once { place, at }) => {
-                assert_eq!(rt; place, Place::Memory, "{line}");
-                assert_eq!(rt; at, 1700000000, "{line}");
-            }
-            Err(_) => assert!(rt; false, "{line}"),
-        }
+        let order = Order::Serve {
+            file: named(rt.alloc(), "f")?,
+            port,
+            max,
+        };
+        assert!(rt; gives(&rt, [line].as_slice(), &order)?, "{line}");
     }
-    match read(&rt, "farm once --memory --at 18446744073709551615")? {
-        Ok(Order::Once { at, .. }) => assert_eq!(rt; at, u64::MAX),
-        Err(_) => assert!(rt; false),
+    Ok(())
+}
+
+#[test]
+fn report(rt: HostRuntime) -> Result<(), AllocError> {
+    for (line, east, west, which) in [
+        ("farm report --db f queue", 0, 0, Report::Queue),
+        (
+            "farm report --db f --east 840 boards",
+            840,
+            0,
+            Report::Boards,
+        ),
+        (
+            "farm report --db f --west 60 reservations",
+            0,
+            60,
+            Report::Reservations,
+        ),
+        (
+            "farm report queue --west 840 --east 1 --db f",
+            1,
+            840,
+            Report::Queue,
+        ),
+    ] {
+        let order = Order::Report {
+            file: named(rt.alloc(), "f")?,
+            east,
+            west,
+            which,
+        };
+        assert!(rt; gives(&rt, [line].as_slice(), &order)?, "{line}");
     }
     Ok(())
 }
@@ -57,7 +158,34 @@ fn refused_words(rt: HostRuntime) -> Result<(), AllocError> {
         ("farm twice", "unrecognized subcommand 'twice'"),
         ("farm --memory", "unexpected argument '--memory'"),
         ("farm once", "required arguments were not provided"),
-        ("farm once --at 1", "--memory"),
+        (
+            "farm once --at 1",
+            "exactly one of '--memory' and '--db <FILE>'",
+        ),
+        (
+            "farm once --memory --db f --at 1",
+            "exactly one of '--memory' and '--db <FILE>'",
+        ),
+        ("farm init", "--db <FILE>"),
+        ("farm import --db f --at 1", "<LAB>"),
+        (
+            "farm serve --db f --port 0 --max 1",
+            "invalid value '0' for '--port <PORT>'",
+        ),
+        (
+            "farm serve --db f --port 65536 --max 1",
+            "invalid value '65536' for '--port <PORT>'",
+        ),
+        (
+            "farm report --db f --east 841 queue",
+            "invalid value '841' for '--east <MINUTES>'",
+        ),
+        (
+            "farm report --db f --west 841 queue",
+            "invalid value '841' for '--west <MINUTES>'",
+        ),
+        ("farm report --db f nothing", "[possible values: queue"),
+        ("farm report --db f", "<WHICH>"),
         ("farm once --memory", "--at <SECONDS>"),
         (
             "farm once --memory --at",
@@ -104,9 +232,25 @@ fn help(rt: HostRuntime) -> Result<(), AllocError> {
         ("farm help", "Usage: farm <COMMAND>"),
         (
             "farm once --help",
-            "Usage: farm once --memory --at <SECONDS>",
+            "Usage: farm once [OPTIONS] --at <SECONDS>",
         ),
-        ("farm help once", "Usage: farm once --memory --at <SECONDS>"),
+        (
+            "farm help once",
+            "Usage: farm once [OPTIONS] --at <SECONDS>",
+        ),
+        ("farm init --help", "Usage: farm init --db <FILE>"),
+        (
+            "farm import --help",
+            "Usage: farm import --db <FILE> --at <SECONDS> <LAB>",
+        ),
+        (
+            "farm serve --help",
+            "Usage: farm serve --db <FILE> --port <PORT> --max <CONNECTIONS>",
+        ),
+        (
+            "farm report --help",
+            "Usage: farm report [OPTIONS] --db <FILE> <WHICH>",
+        ),
     ] {
         match help_text(read(&rt, line)?) {
             Some(text) => assert!(rt; text.as_str().contains(usage), "{line}: {text}"),

@@ -1,26 +1,45 @@
-use Rattle.std.proofs.Common.{◌≡◌, ◌∙◌, map, rules, string_bytes, sym, subst, true}
-use Rattle.clap.specs.Words.{App, app_of, kind_of, takes}
+use Rattle.std.proofs.Common.{None, Some, ◌≡◌, ◌∙◌, ap, inl, inr, map, rules, string_bytes, sym, subst, true}
+use Rattle.clap.specs.Words.{App, app_of, kind_of, subcommand_rows_of, takes}
 use Rattle.clap.specs.declared.error.kind.ErrorKind.TheVariants.{OutOfMemory}
 use Rattle.farm_order.specs.App.{farm_app}
-use Rattle.farm_order.proofs.Outcomes.{memory_fault, never_unnamed, parse_fault, parse_faultless}
+use Rattle.farm_order.specs.Orders.{form_of, order_in}
+use Rattle.farm_order.proofs.Outcomes.{memory_fault, named_bounds, parse_fault, parse_faultless, parse_named, unnamed}
 use Rattle.farm_order.proofs.words.order_of.Goals as goal
+
+pub returns-in-Some-clause-order : goal.returns-in-Some-clause-order
+returns-in-Some-clause-order c =
+    let is : app_of c.in_ok-farm_command.field-0 ≡ farm_app = search rules in
+    let some : Some (form_of c.in-Some.order) ≡ order_in (subcommand_rows_of c.in-Ok.matches) = search rules in
+    some ∙ ap order_in (parse_named (app_of c.in_ok-farm_command.field-0) (map string_bytes c.args.words.now) c.in-Ok.matches is c.in-Ok.ensures.matches)
 
 pub returns-in-Some-clause-faultless : goal.returns-in-Some-clause-faultless
 returns-in-Some-clause-faultless c =
     let is : app_of c.in_ok-farm_command.field-0 ≡ farm_app = search rules in
     parse_faultless (app_of c.in_ok-farm_command.field-0) (map string_bytes c.args.words.now) is c.in-Ok.ensures.kinds
 
+pub returns-in-Some-clause-bounds : goal.returns-in-Some-clause-bounds
+returns-in-Some-clause-bounds c =
+    let is : app_of c.in_ok-farm_command.field-0 ≡ farm_app = search rules in
+    let some : Some (form_of c.in-Some.order) ≡ order_in (subcommand_rows_of c.in-Ok.matches) = search rules in
+    named_bounds (app_of c.in_ok-farm_command.field-0) (map string_bytes c.args.words.now) c.in-Ok.matches (form_of c.in-Some.order) is
+    c.in-Ok.ensures.matches c.in-Ok.ensures.kinds (sym some)
+
 pub returns-in-Ok-clause-fault : goal.returns-in-Ok-clause-fault
 returns-in-Ok-clause-fault c =
     let is : app_of c.in_ok-farm_command.field-0 ≡ farm_app = search rules in
-    absurd (never_unnamed (app_of c.in_ok-farm_command.field-0) (map string_bytes c.args.words.now) c.in-Ok.matches is
-    c.in-Ok.ensures.matches c.in-Ok.ensures.kinds (sym c.named.ensures ∙ c.in-None.is))
+    let none : order_in (subcommand_rows_of c.in-Ok.matches) ≡ None = search rules in
+    inr (
+      parse_faultless (app_of c.in_ok-farm_command.field-0) (map string_bytes c.args.words.now) is c.in-Ok.ensures.kinds,
+      unnamed (app_of c.in_ok-farm_command.field-0) (map string_bytes c.args.words.now) c.in-Ok.matches is
+          c.in-Ok.ensures.matches c.in-Ok.ensures.kinds none,
+    )
 
 pub returns-in-Ok-clause-taken : goal.returns-in-Ok-clause-taken
 returns-in-Ok-clause-taken c =
     let is : app_of c.in_ok-farm_command.field-0 ≡ farm_app = search rules in
-    λ taken. absurd (never_unnamed (app_of c.in_ok-farm_command.field-0) (map string_bytes c.args.words.now) c.in-Ok.matches is
-    c.in-Ok.ensures.matches c.in-Ok.ensures.kinds (sym c.named.ensures ∙ c.in-None.is))
+    let none : order_in (subcommand_rows_of c.in-Ok.matches) ≡ None = search rules in
+    λ taken. inr (unnamed (app_of c.in_ok-farm_command.field-0) (map string_bytes c.args.words.now) c.in-Ok.matches is
+    c.in-Ok.ensures.matches c.in-Ok.ensures.kinds none)
 
 pub returns-clause-fault : goal.returns-clause-fault
 returns-clause-fault c =
@@ -31,6 +50,6 @@ returns-clause-fault c =
 pub returns-clause-taken : goal.returns-clause-taken
 returns-clause-taken c =
     let is : app_of c.in_ok-farm_command.field-0 ≡ farm_app = search rules in
-    λ taken. memory_fault c.in-Err.error c.fault_of.result
+    λ taken. inl (memory_fault c.in-Err.error c.fault_of.result
     (subst (λ (a : App). takes a (map string_bytes c.args.words.now) ≡ true → kind_of c.in-Err.error ≡ OutOfMemory) is c.in-Err.ensures.passes taken)
-    c.fault_of.ensures
+    c.fault_of.ensures)

@@ -1,0 +1,16 @@
+-- What a report tells of a farm.
+use Rattle.std.specs.Prelude.{◌≡◌, ◌*ℤ◌, ◌+ℤ◌, neg_ℤ, pos, ℕ, ℤ, List, map}
+use Rattle.farm_types.specs.Farm.{Farm}
+use Rattle.farm_types.specs.Pick.{queue, shown_claim}
+use Rattle.farm_order.specs.declared.order.Report.{Report}
+use Rattle.farm_report.specs.Lines.{AreLines, IsBoardLine, IsReservationLine, claims_text}
+
+-- the lines of the report, with moments so many seconds ahead of UTC
+abbrev pub Reports : Report → ℤ → Farm → List ℕ → Type 0
+Reports Report.Queue ahead F text = text ≡ claims_text (map shown_claim (queue F))
+Reports Report.Boards ahead F text = AreLines (IsBoardLine ahead) F.boards text
+Reports Report.Reservations ahead F text = AreLines (IsReservationLine ahead) F.reservations text
+
+-- so many minutes east of UTC and so many west, in seconds ahead of it
+abbrev pub seconds_ahead : ℕ → ℕ → ℤ
+seconds_ahead east west = (pos east +ℤ neg_ℤ (pos west)) *ℤ pos 60

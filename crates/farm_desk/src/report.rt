@@ -1,0 +1,56 @@
+//! Reports of a farm.
+ghost use Rattle.std.specs.Prelude.{◌≡◌, ◌≢◌, ◌≤◌, false, Ok, Err, IfOk, IfErr, string_bytes};
+ghost use Rattle.farm_desk.specs.Reports.{Reports, seconds_ahead};
+
+use crate::fault::DeskFault;
+use farm_core::farm::Farm;
+use farm_order::order::Report;
+use farm_report::{Offset, ReportFault, boards_text, queue_text, reservations_text, zone_of};
+use std::alloc::Global;
+
+/// The most minutes that the words give on either side of UTC.
+const MOST_MINUTES: u64 = 840;
+
+/// The offset that lies so many minutes east of UTC, less so many west; each counts as 840 where it
+/// is more.
+pub(crate) fn zone_between(east: u64, west: u64) -> Offset
+    ensures { east ≤ 840 → west ≤ 840 → result.seconds ≡ seconds_ahead east west }
+{
+    let minutes = east.min(MOST_MINUTES) as i64 - west.min(MOST_MINUTES) as i64;
+    match zone_of(minutes) {
+        Some(zone) => zone,
+        None => unreachable!(),
+    }
+}
+
+/// What a report tells of a farm that works, with moments at an offset. Costs one pass over the rows
+/// that it tells of, and for the queue what serving it costs.
+pub(crate) fn report_text(
+    alloc: Global,
+    farm: &Farm,
+    which: Report,
+    zone: Offset,
+) -> Result<String, DeskFault>
+    requires { farm.now.failed ≡ false }
+    ensures text { IfOk result (λ text. Reports which zone.seconds farm.now.farm (string_bytes text)) }
+    ensures fault { IfErr result (λ fault. fault ≡ DeskFault.NoMemory) }
+{
+    match which {
+        Report::Queue => queue_text(alloc, farm).map_err(|_| DeskFault::NoMemory),
+        Report::Boards => in_calendar(boards_text(alloc, farm, zone)),
+        Report::Reservations => in_calendar(reservations_text(alloc, farm, zone)),
+    }
+}
+
+/// A report whose moments lie in the calendar lacks nothing but memory.
+fn in_calendar(made: Result<String, ReportFault>) -> Result<String, DeskFault>
+    requires { made ≢ Err ReportFault.BadMoment }
+    ensures text { IfOk result (λ text. made ≡ Ok text) }
+    ensures fault { IfErr result (λ fault. fault ≡ DeskFault.NoMemory) }
+{
+    match made {
+        Ok(text) => Ok(text),
+        Err(ReportFault::NoMemory) => Err(DeskFault::NoMemory),
+        Err(ReportFault::BadMoment) => unreachable!(),
+    }
+}
