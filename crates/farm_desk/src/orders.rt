@@ -1,8 +1,6 @@
 //! Carrying out an order.
-ghost use Rattle.std.specs.Prelude.{◌≡◌, ◌≢◌, ◌≤◌, ℕ, true, Ok, IfOk, IfErr, OnOk};
+ghost use Rattle.std.specs.Prelude.{◌≡◌, ◌≤◌, ℕ, Ok, IfOk};
 ghost use Rattle.std.specs.Io.KnownBytes.{Appends};
-ghost use Rattle.sqlite.specs.Held.{state};
-ghost use Rattle.sqlite_trees.specs.View.{doubt};
 ghost use Rattle.farm_desk.specs.Due.{IsDue};
 ghost use Rattle.farm_desk.specs.Ends.{IsAnswered};
 ghost use Rattle.farm_desk.specs.Faults.{end_of};
