@@ -16,8 +16,8 @@ use farm_core::farm::Farm;
 use farm_keep::{KeepFault, Keeper};
 use farm_types::calls::{Answer, Call};
 use farm_types::refusal::{NO_JOB, Refusal};
-use farm_wire::ask::Ask;
 use farm_wire::answers::Out;
+use farm_wire::ask::Ask;
 use sqlite::Alter;
 use std::alloc::Global;
 

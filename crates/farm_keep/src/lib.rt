@@ -13,3 +13,6 @@ mod reading;
 pub use fault::KeepFault;
 pub use keeper::{Keeper, RunEnd};
 pub use reading::found;
+
+#[cfg(test)]
+mod tests;

@@ -27,9 +27,23 @@ fn lab_file_twice(rt: HostRuntime) -> Result<(), Fail> {
 fn board_without_a_type(rt: HostRuntime) -> Result<(), Fail> {
     let mut desk = empty_desk(rt.alloc())?;
     let lone = b"[boards.b1]\ntype = \"bbb\"\n".as_slice();
-    assert!(rt; ends(&import(rt.alloc(), &mut desk, lone, 10), 0, 0, Some((1, 10))));
+    assert!(rt;
+        ends(
+            &import(rt.alloc(), &mut desk, lone, 10),
+            0,
+            0,
+            Some((1, 10))
+        )
+    );
     let second = b"[types.a]\n[boards.b1]\ntype = \"bbb\"\n[boards.b2]\ntype = \"a\"\n".as_slice();
-    assert!(rt; ends(&import(rt.alloc(), &mut desk, second, 10), 1, 0, Some((2, 10))));
+    assert!(rt;
+        ends(
+            &import(rt.alloc(), &mut desk, second, 10),
+            1,
+            0,
+            Some((2, 10))
+        )
+    );
     assert_eq!(rt; count(&desk), Some(1));
     Ok(())
 }

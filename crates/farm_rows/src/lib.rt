@@ -4,17 +4,27 @@
 #[cfg(test)]
 mod boards;
 #[cfg(test)]
+mod checks;
+#[cfg(test)]
 mod desk;
 #[cfg(test)]
 mod fakes;
 #[cfg(test)]
 mod faults;
 #[cfg(test)]
+mod files;
+#[cfg(test)]
 mod imports;
+#[cfg(test)]
+mod leases;
+#[cfg(test)]
+mod machine;
 #[cfg(test)]
 mod program;
 #[cfg(test)]
 mod refusals;
+#[cfg(test)]
+mod script;
 #[cfg(test)]
 mod stops;
 #[cfg(test)]

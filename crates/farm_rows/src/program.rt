@@ -16,7 +16,11 @@ fn words(alloc: Global, given: &[&str]) -> Result<Vec<String>, AllocError> {
 }
 
 /// What the program did: its status, its output, and what it told beside it.
-fn run(rt: &HostRuntime, given: &[&str], mut input: &[u8]) -> Result<(u8, Vec<u8>, Vec<u8>), Fail> {
+pub(crate) fn run(
+    rt: &HostRuntime,
+    given: &[&str],
+    mut input: &[u8],
+) -> Result<(u8, Vec<u8>, Vec<u8>), Fail> {
     let alloc = rt.alloc();
     let words = words(alloc, given)?;
     let (mut output, mut errors) = (Vec::new(alloc), Vec::new(alloc));
@@ -48,13 +52,15 @@ fn once(rt: HostRuntime) -> Result<(), Fail> {
 
 #[test]
 fn wrong_words(rt: HostRuntime) -> Result<(), Fail> {
-    let rows: [&[&str]; 6] = [
+    let rows: [&[&str]; 8] = [
         &[],
         &["twice"],
         &["once", "--at", "1"],
         &["once", "--memory"],
         &["once", "--memory", "--at", "soon"],
         &["once", "--memory", "--at", "1", "more"],
+        &["once", "--memory", "--db", "F", "--at", "1"],
+        &["report", "--db", "F", "--east", "841", "queue"],
     ];
     for given in rows {
         let (status, output, errors) = run(&rt, given, FIRST_TYPE)?;

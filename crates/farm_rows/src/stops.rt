@@ -43,7 +43,12 @@ fn desk(alloc: Global, calls: u64) -> Option<Keeper<FileStore<Fuse<Memory>>>> {
 fn store_that_fails(rt: HostRuntime) -> Result<(), Fail> {
     let alloc = rt.alloc();
     let unavailable = "503 Service Unavailable";
-    let fault = answer(alloc, unavailable, "", "{\"code\":60,\"text\":\"store fault\"}")?;
+    let fault = answer(
+        alloc,
+        unavailable,
+        "",
+        "{\"code\":60,\"text\":\"store fault\"}",
+    )?;
     let closed = answer(alloc, unavailable, "", "{\"code\":61,\"text\":\"closed\"}")?;
     for calls in 0..MANY {
         let Some(mut keeper) = desk(alloc, calls) else {
