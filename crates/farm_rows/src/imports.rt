@@ -52,7 +52,7 @@ fn board_without_a_type(rt: HostRuntime) -> Result<(), Fail> {
 fn bad_lab_file(rt: HostRuntime) -> Result<(), Fail> {
     let mut desk = empty_desk(rt.alloc())?;
     let end = import(rt.alloc(), &mut desk, b"[types.a]\nboards = 1\ntypes", 10);
-    assert_eq!(rt; end.accepted + end.kept, 0);
+    assert_eq!(rt; (end.accepted, end.kept), (0, 0));
     assert_eq!(rt; end.fault.map_or(0, |fault| fault.code()), 71);
     let end = import(rt.alloc(), &mut desk, b"[types.\"a b\"]\n", 10);
     assert_eq!(rt; end.fault.map_or(0, |fault| fault.code()), 5);
