@@ -20,9 +20,13 @@ mod leases;
 #[cfg(test)]
 mod machine;
 #[cfg(test)]
+mod malformed;
+#[cfg(test)]
 mod program;
 #[cfg(test)]
 mod refusals;
+#[cfg(test)]
+mod routes;
 #[cfg(test)]
 mod script;
 #[cfg(test)]

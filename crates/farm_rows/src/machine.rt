@@ -1,6 +1,6 @@
 //! Jobs and groups, from bytes to bytes.
 use crate::desk::count;
-use crate::script::{HIGH_JOB, JOB, PAIR, done, passes, play, refused, shows};
+use crate::script::{HIGH_JOB, JOB, PAIR, Told, asked, done, passes, play, refused, shows};
 use std::test::Fail;
 
 #[test]
@@ -253,5 +253,145 @@ fn more_boards_than_there_are(rt: HostRuntime) -> Result<(), Fail> {
         ],
     )?;
     assert_eq!(rt; count(&desk), Some(5));
+    Ok(())
+}
+
+/// A group of two of different types.
+const OF_TWO_TYPES: &str = r#"
+job_name = "net"
+priority = 60
+[roles.one]
+device_type = "aaa"
+count = 1
+[roles.two]
+device_type = "bbb"
+count = 1
+"#;
+
+#[test]
+fn group_of_two_types(rt: HostRuntime) -> Result<(), Fail> {
+    play(
+        &rt,
+        rt.alloc(),
+        &[("b1", "[]")],
+        &[
+            done(10, "admin", "POST /types", r#"{"name":"aaa"}"#, 0),
+            done(
+                10,
+                "admin",
+                "POST /boards",
+                r#"{"name":"a1","type":"aaa"}"#,
+                0,
+            ),
+            done(20, "ann", "POST /jobs", OF_TWO_TYPES, 1),
+            done(20, "ann", "POST /jobs", JOB, 3),
+            done(
+                20,
+                "ann",
+                "POST /reservations",
+                r#"{"tags":[],"priority":40}"#,
+                4,
+            ),
+            passes(30, 0, 0, 1),
+            shows(
+                "GET /queue",
+                r#"{"queue":[{"boards":2,"kind":"group","number":1,"owner":"ann","priority":60},{"boards":1,"kind":"reservation","number":4,"owner":"ann","priority":40}]}"#,
+            ),
+            done(
+                35,
+                "admin",
+                "POST /boards/a1/health",
+                r#"{"health":"Good"}"#,
+                0,
+            ),
+            passes(40, 0, 0, 1),
+            shows(
+                "GET /reservations",
+                r#"{"reservations":[{"board":"a1","deadline":100,"number":4,"owner":"ann","priority":40,"state":"allocated","tags":[]}]}"#,
+            ),
+            done(45, "dispatcher", "POST /jobs/3/start", "", 3),
+            done(
+                45,
+                "dispatcher",
+                "POST /jobs/3/finish",
+                r#"{"outcome":"Complete"}"#,
+                3,
+            ),
+            done(50, "ann", "POST /reservations/4/cancel", "", 4),
+            passes(60, 0, 0, 1),
+            shows(
+                "GET /boards",
+                r#"{"boards":[{"health":"Good","holder":"job 1","jobs_since":0,"last_check":0,"name":"a1","state":"Reserved","tags":[],"type":"aaa"},{"health":"Good","holder":"job 2","jobs_since":1,"last_check":0,"name":"b1","state":"Reserved","tags":[],"type":"bbb"}]}"#,
+            ),
+        ],
+    )?;
+    Ok(())
+}
+
+#[test]
+fn all_fourteen_commands(rt: HostRuntime) -> Result<(), Fail> {
+    let with_hdmi = "job_name = \"boot\"\ndevice_type = \"bbb\"\ntags = [\"hdmi\"]\n";
+    play(
+        &rt,
+        rt.alloc(),
+        &[],
+        &[
+            done(10, "admin", "POST /types", r#"{"name":"bbb"}"#, 0),
+            done(
+                10,
+                "admin",
+                "POST /boards",
+                r#"{"name":"b1","type":"bbb"}"#,
+                0,
+            ),
+            done(
+                10,
+                "admin",
+                "POST /boards/b1/tags",
+                r#"{"tags":["hdmi"]}"#,
+                0,
+            ),
+            done(
+                10,
+                "admin",
+                "POST /boards/b1/health",
+                r#"{"health":"Good"}"#,
+                0,
+            ),
+            done(20, "ann", "POST /jobs", with_hdmi, 1),
+            done(20, "ann", "POST /reservations", r#"{"tags":[]}"#, 2),
+            asked(30, "admin", "POST /pass", "", Told::Pass(0, 0, 1)),
+            done(35, "admin", "POST /jobs/1/start", "", 1),
+            done(36, "admin", "POST /jobs/1/cancel", "", 1),
+            done(
+                37,
+                "admin",
+                "POST /jobs/1/finish",
+                r#"{"outcome":"Complete"}"#,
+                1,
+            ),
+            done(40, "ann", "POST /reservations/2/refresh", "", 2),
+            asked(50, "admin", "POST /pass", "", Told::Pass(0, 0, 1)),
+            done(60, "ann", "POST /reservations/2/acquire", "", 2),
+            done(70, "ann", "POST /reservations/2/release", "", 2),
+            done(80, "ann", "POST /reservations/2/cancel", "", 2),
+            shows(
+                "GET /reservations",
+                r#"{"reservations":[{"board":"b1","deadline":130,"number":2,"owner":"ann","priority":50,"state":"canceled","tags":[]}]}"#,
+            ),
+            shows(
+                "GET /jobs/1",
+                r#"{"board":"b1","group":1,"kind":"ordinary","number":1,"owner":"ann","priority":50,"result":"Canceled","role":"","state":"Finished","tags":["hdmi"],"text":"job_name = \"boot\"\ndevice_type = \"bbb\"\ntags = [\"hdmi\"]\n","type":"bbb"}"#,
+            ),
+            shows(
+                "GET /boards",
+                r#"{"boards":[{"health":"Good","holder":"none","jobs_since":1,"last_check":0,"name":"b1","state":"Idle","tags":["hdmi"],"type":"bbb"}]}"#,
+            ),
+            shows(
+                "GET /status",
+                r#"{"boards":1,"clock":80,"count":15,"jobs":1,"next":3,"reservations":1,"types":1}"#,
+            ),
+        ],
+    )?;
     Ok(())
 }

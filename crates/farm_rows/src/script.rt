@@ -42,6 +42,23 @@ pub(crate) struct Step {
     told: Told,
 }
 
+/// A request at a moment, and its answer.
+pub(crate) fn asked(
+    now: u64,
+    user: &'static str,
+    line: &'static str,
+    body: &'static str,
+    told: Told,
+) -> Step {
+    Step {
+        now,
+        user,
+        line,
+        body,
+        told,
+    }
+}
+
 /// A command that is done and gives a number.
 pub(crate) fn done(
     now: u64,
@@ -50,13 +67,7 @@ pub(crate) fn done(
     body: &'static str,
     number: u64,
 ) -> Step {
-    Step {
-        now,
-        user,
-        line,
-        body,
-        told: Told::Number(number),
-    }
+    asked(now, user, line, body, Told::Number(number))
 }
 
 /// A request that is refused with a code.
@@ -67,35 +78,18 @@ pub(crate) fn refused(
     body: &'static str,
     code: u16,
 ) -> Step {
-    Step {
-        now,
-        user,
-        line,
-        body,
-        told: Told::Refused(code),
-    }
+    asked(now, user, line, body, Told::Refused(code))
 }
 
 /// A pass by the dispatcher: checks made, reservations expired, claims served.
 pub(crate) fn passes(now: u64, checks: u64, expired: u64, served: u64) -> Step {
-    Step {
-        now,
-        user: "dispatcher",
-        line: "POST /pass",
-        body: "",
-        told: Told::Pass(checks, expired, served),
-    }
+    let told = Told::Pass(checks, expired, served);
+    asked(now, "dispatcher", "POST /pass", "", told)
 }
 
 /// A view and its whole JSON text.
 pub(crate) fn shows(line: &'static str, text: &'static str) -> Step {
-    Step {
-        now: 0,
-        user: "",
-        line,
-        body: "",
-        told: Told::Shown(text),
-    }
+    asked(0, "", line, "", Told::Shown(text))
 }
 
 /// The HTTP status, the status line's end and the text of a refusal.
