@@ -13,6 +13,3 @@ mod reading;
 pub use fault::KeepFault;
 pub use keeper::{Keeper, RunEnd};
 pub use reading::found;
-
-#[cfg(test)]
-mod tests;
