@@ -1,5 +1,5 @@
 # make run   builds the program and shows its main job on real input
-# make test  every proof, every must-fail edit, every test and program, from nothing
+# make test  every proof, every must-fail edit, every test and program, from nothing (rt ci), then the scripts of tests/
 # make bin   leaves the program at bin/farm
 .PHONY: run test bin
 
@@ -7,7 +7,7 @@ run: bin
 	@sh tests/show.sh bin/farm
 
 test:
-	rt ci
+	@sh tests/all.sh
 
 bin:
 	cd crates/farm && rt run -- --help > /dev/null && mkdir -p ../../bin && cp out/farm ../../bin/farm

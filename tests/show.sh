@@ -1,40 +1,69 @@
 #!/bin/sh
-# Shows the program's main job: a request on standard input, its answer on standard output, over a
-# farm in memory and over one in a file; the import of a lab file; and the reports.
+# Shows the program's main job: requests on standard input and their answers on standard output, first
+# over a farm in memory, then a day of a lab whose farm is kept in a file, and its reports.
 set -eu
 farm=$1
-lab=$(dirname "$0")/../examples/lab.toml
+examples=$(dirname "$0")/../examples
 folder=$(mktemp -d)
 trap 'rm -r "$folder"' EXIT
-db=$folder/farm.db
+db=$folder/lab.db
+now=1700000000
 
-# Runs the program with its words, on a request where one is given first.
-show() {
-    request=$1
-    shift
-    printf '%s\n' "\$ ${request:+printf '$request' | }farm $*"
+# Runs the program with its words, and shows them, what it prints and its status.
+run() {
+    printf '$ farm %s\n' "$*" | sed "s,$folder/,,; s,$examples,examples,"
     status=0
-    printf "$request" | "$farm" "$@" || status=$?
+    "$farm" "$@" < "$folder/request" || status=$?
     printf '\n(status %s)\n\n' "$status"
 }
 
-type='POST /types HTTP/1.1\r\nx-user: admin\r\ncontent-length: 14\r\n\r\n{"name":"bbb"}'
-echo "A device type is added:"
-show "$type" once --memory --at 1700000000
-echo "Only the admin may do that:"
-show 'POST /types HTTP/1.1\r\nx-user: ann\r\ncontent-length: 14\r\n\r\n{"name":"bbb"}' once --memory --at 1700000000
-echo "The boards of an empty farm:"
-show 'GET /boards HTTP/1.1\r\n\r\n' once --memory --at 1700000000
-echo "A farm in a file:"
-show '' init --db "$db"
-show "$type" once --db "$db" --at 1700000000
-echo "It is still there when the program runs again, so the type exists:"
-show "$type" once --db "$db" --at 1700000000
-echo "A lab file is imported, and again:"
-show '' import --db "$db" --at 1700000100 "$lab"
-show '' import --db "$db" --at 1700000200 "$lab"
-echo "A board is reserved, and the reports:"
-show 'POST /reservations HTTP/1.1\r\nx-user: ann\r\ncontent-length: 11\r\n\r\n{"tags":[]}' once --db "$db" --at 1700000300
-show '' report --db "$db" queue
-show '' report --db "$db" boards
-show '' report --db "$db" --west 60 reservations
+# Asks the farm in the file, ten seconds after the last time: ask WHO METHOD PATH [BODY].
+ask() {
+    who=$1 method=$2 path=$3 body=${4-}
+    now=$((now + 10))
+    printf '%s %s HTTP/1.1\r\nx-user: %s\r\ncontent-length: %s\r\n\r\n%s' \
+        "$method" "$path" "$who" "$(printf '%s' "$body" | wc -c)" "$body" > "$folder/request"
+    sed 's/^/> /' "$folder/request"
+    echo
+    run once --db "$db" --at "$now"
+    : > "$folder/request"
+}
+
+: > "$folder/request"
+echo "== A device type is added, by the admin"
+printf 'POST /types HTTP/1.1\r\nx-user: admin\r\ncontent-length: 14\r\n\r\n{"name":"bbb"}' > "$folder/request"
+sed 's/^/> /' "$folder/request"
+echo
+run once --memory --at "$now"
+echo "== Only the admin may do that"
+sed 's/admin/ann/' "$folder/request" > "$folder/other" && mv "$folder/other" "$folder/request"
+sed 's/^/> /' "$folder/request"
+echo
+run once --memory --at "$now"
+: > "$folder/request"
+
+echo "== A farm in a file, and a lab file into it; a second import adds nothing"
+run init --db "$db"
+run import --db "$db" --at "$now" "$examples/lab.toml"
+run import --db "$db" --at "$now" "$examples/lab.toml"
+echo "== The admin sets boards Good"
+ask admin POST /boards/bbb-01/health '{"health":"Good"}'
+ask admin POST /boards/rpi4b-02/health '{"health":"Good"}'
+echo "== Ann submits a job file, bob reserves a board with a display"
+ask ann POST /jobs "$(cat "$examples/boot.toml")"
+ask bob POST /reservations '{"tags":["hdmi"]}'
+ask ann GET /queue
+echo "== The dispatcher's pass gives both their boards, and the job starts"
+ask dispatcher POST /pass
+ask dispatcher POST /jobs/1/start
+echo "== Bob acquires his board; nobody else may"
+ask ann POST /reservations/2/acquire
+ask bob POST /reservations/2/acquire
+echo "== The job ends"
+ask dispatcher POST /jobs/1/finish '{"outcome":"Complete"}'
+ask ann GET /jobs/1
+echo "== Carol reserves the same board and waits; the reports, an hour east of UTC"
+ask carol POST /reservations '{"tags":["name=rpi4b-02"],"priority":"high"}'
+run report --db "$db" queue
+run report --db "$db" --east 60 boards
+run report --db "$db" --east 60 reservations

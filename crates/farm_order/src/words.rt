@@ -264,7 +264,7 @@ fn import_command<'a>(alloc: Global) -> Result<Command<'a>, AllocError>
     ensures { IfOk result (AddsShape import_app.top) }
 {
     Command::new(alloc, "import")
-        .about("Brings the boards, jobs and reservations of a lab file into a farm")
+        .about("Adds the types and boards of a lab file to a farm")
         .arg(file(alloc, true))?
         .arg(moment(alloc))?
         .arg(positional(alloc, "lab", "LAB", "The lab file, in TOML"))

@@ -1,0 +1,80 @@
+#!/bin/sh
+# Refuses each growth of memory of the program in turn, counting upwards until a run meets no refusal:
+# a request over a farm in memory, and one over a farm in a file. Each run answers as it would with
+# ample memory, or with 503 and code 1 (60 where the store's own growth was refused), or ends with the
+# line of that fault; and whatever was answered 200 is in the file.
+#     sh tests/refused_memory.sh bin/farm
+# Wants a C compiler (`cc`) and a C library whose functions can be preloaded.
+set -eu
+farm=$(realpath "$1")
+tests=$(cd "$(dirname "$0")" && pwd)
+command -v cc > /dev/null || { echo "refused memory: not tried, since there is no C compiler"; exit 0; }
+folder=$(mktemp -d)
+trap 'rm -r "$folder"' EXIT
+cc -O1 -shared -fPIC -o "$folder/refuse.so" "$tests/refuse.c"
+cd "$folder"
+
+printf 'POST /types HTTP/1.1\r\nx-user: admin\r\nx-key: k1\r\ncontent-length: 14\r\n\r\n{"name":"bbb"}' > request
+printf 'GET /status HTTP/1.1\r\n\r\n' > status_request
+answer() {
+    printf 'HTTP/1.1 %s\r\ncontent-type: application/json\r\ncontent-length: %s\r\nconnection: close\r\n\r\n%s' \
+        "$1" "${#2}" "$2"
+}
+answer '200 OK' '{"number":0}' > done
+answer '503 Service Unavailable' '{"code":1,"text":"no memory"}' > no_memory
+answer '503 Service Unavailable' '{"code":60,"text":"store fault"}' > store_fault
+: > nothing
+
+# Runs the program with growth number $1 refused; its output, errors and status are left in files.
+refuse() {
+    number=$1
+    shift
+    rm -f refused
+    status=0
+    REFUSE=$number REFUSED=refused LD_PRELOAD=./refuse.so "$farm" "$@" < request > output 2> errors || status=$?
+}
+
+# What the run that refused growth $1 may have printed, and with which status.
+check() {
+    case "$status $(cat errors)" in
+        "0 ") cmp -s output done ;;
+        "5 farm: 1 no memory") cmp -s output no_memory || cmp -s output nothing ;;
+        "4 farm: 60 store fault") cmp -s output store_fault || cmp -s output nothing ;;
+        *) false ;;
+    esac && return
+    echo "refused memory: growth $1 of '$2' ended with status $status:"
+    cat output errors
+    exit 1
+}
+
+number=0
+while :; do
+    number=$((number + 1))
+    refuse $number once --memory --at 1700000000
+    check $number "once --memory"
+    [ -e refused ] || break
+done
+echo "refused memory: $((number - 1)) growths of a request over a farm in memory"
+
+# Over a file: afterwards the command is in it, or it isn't, and it is where it was answered; and
+# sent again under its key it is answered as if nothing had happened.
+"$farm" init --db empty > nothing_else
+number=0
+while :; do
+    number=$((number + 1))
+    cp empty farm.db
+    cp empty-wal farm.db-wal
+    refuse $number once --db farm.db --at 1700000000
+    check $number "once --db"
+    was_refused=0
+    [ -e refused ] && was_refused=1
+    "$farm" once --db farm.db --at 1700000001 < status_request > look
+    case "$status $(sed -n 's/.*"count":\([0-9]*\).*/\1/p' look)" in
+        "0 1" | "5 0" | "5 1" | "4 0" | "4 1") ;;
+        *) echo "refused memory: after growth $number the status was $status, and the file has:"; cat look; exit 1 ;;
+    esac
+    "$farm" once --db farm.db --at 1700000002 < request > again
+    cmp again done
+    [ $was_refused = 1 ] || break
+done
+echo "refused memory: $((number - 1)) growths of a request over a farm in a file"
