@@ -1,5 +1,5 @@
 -- Conversations in a row, one after another.
-use Rattle.std.proofs.Common.{◌≡◌, ◌⊎◌, ℕ, suc, ◌+◌, ◌<◌, Bool, true, false, List, [], ◌∷◌, ◌++◌, length, get_or, take, drop, map, refl, sym, ap, ◌∙◌, subst, inl, inr}
+use Rattle.std.proofs.Common.{◌≡◌, ◌⊎◌, ℕ, suc, ◌+◌, ◌<◌, true, false, List, [], ◌∷◌, ◌++◌, length, get_or, take, drop, map, refl, sym, ap, ◌∙◌, subst, inl, inr}
 use Rattle.std.specs.Prelude.{Option, Some, None, Result, Ok, Err, IsOk}
 use Rattle.std.specs.List.{AllByRecursion, flat_map}
 use Rattle.std.specs.Io.KnownBytes.{Appends, Consumes}
@@ -8,27 +8,23 @@ use Rattle.std.proofs.lemmas.List.{append_assoc, append-nil, map-append, take_mo
 use Rattle.std.proofs.lemmas.List.Concat.{flat_map-append}
 use Rattle.std.proofs.lemmas.List.Sums.{fold-append}
 use Rattle.sqlite_trees.specs.declared.store.Store.{Ghosts}
-use Rattle.sqlite.specs.Held.{state}
 use Rattle.farm_types.specs.Farm.{Farm}
-use Rattle.farm_types.specs.Machine.{Changed, answer, step, run}
+use Rattle.farm_types.specs.Machine.{answer, step, run}
 use Rattle.farm_types.specs.Refuse.{kind_of}
 use Rattle.farm_types.specs.declared.calls.Call.{Call}
 use Rattle.farm_types.specs.declared.rows.Reply.{Reply}
-use Rattle.farm_core.specs.Answers.{IsChange}
-use Rattle.farm_store.specs.Holds.{StandsFor}
-use Rattle.farm_keep.specs.Kept.{Kept, Keeps, KeepsFarm, KeepsEither}
+use Rattle.farm_keep.specs.Kept.{Kept, Keeps}
 use Rattle.farm_keep.specs.Restarts.{again}
-use Rattle.farm_keep.specs.declared.fault.KeepFault.{KeepFault}
 use Rattle.farm_keep.proofs.KeptLemmas.{again_kept}
 use Rattle.farm_wire.specs.Reading.{Denial}
 use Rattle.farm_wire.specs.declared.ask.Ask.{Ask}
 use Rattle.farm_wire.specs.declared.answers.Out.{Out}
 use Rattle.farm_desk.specs.Heard.{Asks, Hears}
-use Rattle.farm_desk.specs.Answers.{Answers, Says, Does, Shows, Refuses, IsView, denied, replied}
-use Rattle.farm_desk.specs.Due.{IsDue, IsDueTo, IsDueToAsked, IsNotUnderstood, RunsOut, RestsOrIsDone, Closes, ClosesIfAsked, Cause, WasClosed, LacksMemory, LosesStore}
-use Rattle.farm_desk.specs.Ends.{IsAnswered, IsUnwritten, IsUnread, IsToldBy}
+use Rattle.farm_desk.specs.Answers.{Answers, Says, Shows, IsView, denied, replied}
+use Rattle.farm_desk.specs.Due.{IsDue}
+use Rattle.farm_desk.specs.Ends.{IsAnswered}
 use Rattle.farm_desk.specs.Imports.{Reaches}
-use Rattle.farm_desk.specs.Conversations.{Desk, Converses, Talk, ConverseInTurn, ConverseApart, AnswersAll, StopsAt, Exchange, talk_of, calls_in, calls_of, MachineSays, AreTold, AreHeard, ActAsRun, AnsweredActAsRun, IsSentAgain, AsksCalls, IsDoneOf, LeavesOpen, LeaveOpen, LeavesBy, IsClosing, ClosesAfter, OpenKeepsDone, ClosedKeepsPrefix}
+use Rattle.farm_desk.specs.Conversations.{Desk, Converses, Talk, ConverseInTurn, ConverseApart, AnswersAll, StopsAt, Exchange, talk_of, calls_in, calls_of, MachineSays, AreTold, ActAsRun, AnsweredActAsRun, IsSentAgain}
 use Rattle.farm_desk.specs.declared.fault.DeskFault.{DeskFault}
 
 -- ---- two lists

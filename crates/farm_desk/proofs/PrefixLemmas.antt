@@ -14,10 +14,9 @@ use Rattle.farm_keep.specs.declared.fault.KeepFault.{KeepFault}
 use Rattle.farm_wire.specs.Reading.{Denial}
 use Rattle.farm_wire.specs.declared.ask.Ask.{Ask}
 use Rattle.farm_desk.specs.Heard.{Hears}
-use Rattle.farm_desk.specs.Answers.{Answers}
-use Rattle.farm_desk.specs.Due.{IsDue, IsDueTo, IsDueToAsked, IsNotUnderstood, RunsOut, RestsOrIsDone, Closes, ClosesIfAsked, Cause}
+use Rattle.farm_desk.specs.Due.{IsDue, IsDueTo, RestsOrIsDone, Cause}
 use Rattle.farm_desk.specs.Imports.{Reaches}
-use Rattle.farm_desk.specs.Conversations.{Desk, Converses, Talk, ConverseInTurn, calls_in, AsksCalls, IsDoneOf, LeavesOpen, LeaveOpen, LeavesBy, IsClosing, ClosesAfter, OpenKeepsDone, ClosedKeepsPrefix}
+use Rattle.farm_desk.specs.Conversations.{Desk, Converses, Talk, ConverseInTurn, calls_in, AsksCalls, IsDoneOf, LeavesOpen, LeavesBy, IsClosing, OpenKeepsDone, ClosedKeepsPrefix}
 use Rattle.farm_desk.specs.declared.fault.DeskFault.{DeskFault}
 use Rattle.farm_desk.proofs.ConversationLemmas.{IsLed, led, reached, resting, reaches_on}
 

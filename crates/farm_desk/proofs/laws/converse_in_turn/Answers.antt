@@ -1,5 +1,5 @@
 -- One conversation more, answered or not.
-use Rattle.std.proofs.Common.{◌≤◌, ◌<◌, length, arith, refl}
+use Rattle.std.proofs.Common.{◌<◌, length, arith, refl}
 use Rattle.farm_desk.specs.Conversations.{desk}
 use Rattle.farm_desk.proofs.ConversationLemmas.{one_more, stops_at}
 use Rattle.farm_desk.proofs.laws.converse_in_turn.Goals as goal
