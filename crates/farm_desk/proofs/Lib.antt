@@ -2,3 +2,5 @@ mod AnswerLemmas
 mod HeardLemmas
 mod ImportLemmas
 mod FileLemmas
+mod ConversationLemmas
+mod PrefixLemmas

@@ -7,3 +7,4 @@ pub mod Made
 pub mod Imports
 pub mod InFiles
 pub mod Reports
+pub mod Conversations

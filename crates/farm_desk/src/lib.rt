@@ -12,6 +12,7 @@ pub mod fault;
 pub mod files;
 mod hear;
 pub mod import;
+pub mod laws;
 pub mod log;
 pub mod orders;
 pub mod program;

@@ -118,6 +118,16 @@ fn callers_and_keys(rt: HostRuntime) -> Result<(), Fail> {
     )
 }
 
+#[test]
+fn longest_body(rt: HostRuntime) -> Result<(), Fail> {
+    let mut bytes = Vec::new(rt.alloc());
+    bytes.resize(65_536, b'z')?;
+    let body = std::str::from_utf8(bytes.as_slice())?;
+    let found = code_of(asked(rt.alloc(), "POST /pass", ADMIN, body)?);
+    assert_eq!(rt; found, 200);
+    Ok(())
+}
+
 /// Whether a call submits one job at that priority, for any board of that type, with that text.
 fn submits(call: &Call, priority: u64, kind: &str, text: &str) -> bool {
     let Cmd::Submit(found, wants, roles, body) = &call.cmd else {

@@ -1,0 +1,267 @@
+-- Conversations in a row, one after another.
+use Rattle.std.proofs.Common.{◌≡◌, ◌⊎◌, ℕ, suc, ◌+◌, ◌<◌, true, false, List, [], ◌∷◌, ◌++◌, length, get_or, take, drop, map, refl, sym, ap, ◌∙◌, subst, inl, inr}
+use Rattle.std.specs.Prelude.{Option, Some, None, Result, Ok, Err, IsOk}
+use Rattle.std.specs.List.{AllByRecursion, flat_map}
+use Rattle.std.specs.Io.KnownBytes.{Appends, Consumes}
+use Rattle.std.proofs.Math.Seq.{drop-cons}
+use Rattle.std.proofs.lemmas.List.{append_assoc, append-nil, map-append, take_more, take-append-drop}
+use Rattle.std.proofs.lemmas.List.Concat.{flat_map-append}
+use Rattle.std.proofs.lemmas.List.Sums.{fold-append}
+use Rattle.sqlite_trees.specs.declared.store.Store.{Ghosts}
+use Rattle.farm_types.specs.Farm.{Farm}
+use Rattle.farm_types.specs.Machine.{answer, step, run}
+use Rattle.farm_types.specs.Refuse.{kind_of}
+use Rattle.farm_types.specs.declared.calls.Call.{Call}
+use Rattle.farm_types.specs.declared.rows.Reply.{Reply}
+use Rattle.farm_keep.specs.Kept.{Kept, Keeps}
+use Rattle.farm_keep.specs.Restarts.{again}
+use Rattle.farm_keep.proofs.KeptLemmas.{again_kept}
+use Rattle.farm_wire.specs.Reading.{Denial}
+use Rattle.farm_wire.specs.declared.ask.Ask.{Ask}
+use Rattle.farm_wire.specs.declared.answers.Out.{Out}
+use Rattle.farm_desk.specs.Heard.{Asks, Hears}
+use Rattle.farm_desk.specs.Answers.{Answers, Says, Shows, IsView, denied, replied}
+use Rattle.farm_desk.specs.Due.{IsDue}
+use Rattle.farm_desk.specs.Ends.{IsAnswered}
+use Rattle.farm_desk.specs.Imports.{Reaches}
+use Rattle.farm_desk.specs.Conversations.{Desk, Converses, Talk, ConverseInTurn, ConverseApart, AnswersAll, StopsAt, Exchange, talk_of, calls_in, calls_of, MachineSays, AreTold, ActAsRun, AnsweredActAsRun, IsSentAgain}
+use Rattle.farm_desk.specs.declared.fault.DeskFault.{DeskFault}
+
+-- ---- two lists
+
+pub apart : {S : Type 0} (g : Ghosts S) (first second : List Talk) (old new : Desk S) → ConverseInTurn g (first ++ second) old new → ConverseApart g first second old new
+apart g [] second old new h = (old, refl, h)
+apart g (talk ∷ first) second old new h =
+    let others = apart g first second h.0 new h.2 in
+    (others.0, (h.0, h.1, others.1), others.2)
+
+pub together : {S : Type 0} (g : Ghosts S) (first second : List Talk) (old between new : Desk S) → ConverseInTurn g first old between → ConverseInTurn g second between new → ConverseInTurn g (first ++ second) old new
+together g [] second old between new a b = subst (λ desk. ConverseInTurn g second desk new) a b
+together g (talk ∷ first) second old between new a b = (a.0, a.1, together g first second a.0 between new a.2 b)
+
+-- ---- at moments
+
+pub none_yet : {S : Type 0} (g : Ghosts S) (old : Desk S) → AnswersAll g old old []
+none_yet g old = record { talks = []; at_moments = refl; answered = tt; in_turn = refl }
+
+all_answered : (talks : List Talk) (last : Talk) → AllByRecursion (λ talk. IsOk talk.end) talks → IsOk last.end → AllByRecursion (λ talk. IsOk talk.end) (talks ++ last ∷ [])
+all_answered [] last all ok = (ok, tt)
+all_answered (talk ∷ talks) last all ok = (all.0, all_answered talks last all.1 ok)
+
+pub one_more : {S : Type 0} (g : Ghosts S) (old between new : Desk S) (moments : List ℕ) (i now status : ℕ) → i < length moments → now ≡ get_or moments i 0
+    → AnswersAll g old between (take i moments) → Converses g between new now (Ok status) → AnswersAll g old new (take (i + 1) moments)
+one_more g old between new moments i now status low here all h =
+    let last : Talk = record { now = now; end = Ok status } in
+    record {
+      talks = all.talks ++ last ∷ [];
+      at_moments = map-append (λ talk. talk.now) all.talks (last ∷ [])
+          ∙ ap (λ ms. ms ++ now ∷ []) all.at_moments
+          ∙ ap (λ m. take i moments ++ m ∷ []) here
+          ∙ sym (take_more moments i 0 low);
+      answered = all_answered all.talks last all.answered refl;
+      in_turn = together g all.talks (last ∷ []) old between new all.in_turn (new, h, refl);
+    }
+
+pub stops_at : {S : Type 0} (g : Ghosts S) (old between new : Desk S) (moments : List ℕ) (i now : ℕ) (fault : DeskFault) → i < length moments → now ≡ get_or moments i 0
+    → AnswersAll g old between (take i moments) → Converses g between new now (Err fault) → StopsAt g old new moments fault
+stops_at g old between new moments i now fault low here all h =
+    record {
+      done = take i moments;
+      last = now;
+      left = drop (suc i) moments;
+      moments_are = sym (take-append-drop i moments)
+          ∙ ap (λ l. take i moments ++ l) (drop-cons moments i 0 low ∙ ap (λ m. m ∷ drop (suc i) moments) (sym here));
+      between = between;
+      answers = all;
+      stops = h;
+    }
+
+-- ---- what is due
+
+-- what the conversation came to before its answer was written: nothing was read, or an answer was due, which ends it unless the writer failed
+pub record IsLed {S : Type 0} (g : Ghosts S) (old new : Desk S) (now : ℕ) (end : Result ℕ DeskFault) : Type 0 where
+  pub bytes : List ℕ
+  pub due_end : Result ℕ DeskFault
+  pub due : IsDue g old.keeper new.keeper old.input new.input now bytes due_end
+  pub same : (end ≡ due_end) ⊎ (end ≡ Err DeskFault.Write)
+
+led_told : {S : Type 0} (g : Ghosts S) (old new : Desk S) (now : ℕ) (end : Result ℕ DeskFault)
+    → IsAnswered (IsDue g old.keeper new.keeper old.input new.input now) old.output new.output end → IsLed g old new now end
+led_told g old new now end a = record { bytes = a.bytes; due_end = end; due = a.due; same = inl refl }
+
+pub led : {S : Type 0} (g : Ghosts S) (old new : Desk S) (now : ℕ) (end : Result ℕ DeskFault)
+    → Converses g old new now end → (new.keeper ≡ old.keeper) ⊎ IsLed g old new now end
+led g old new now (Ok status) h = inr (led_told g old new now (Ok status) (h.answered tt))
+led g old new now (Err DeskFault.NoMemory) h = inr (led_told g old new now (Err DeskFault.NoMemory) (h.answered tt))
+led g old new now (Err DeskFault.Read) h = inl (h.unread refl).rests
+led g old new now (Err DeskFault.Write) h =
+    let u = h.unwritten refl in
+    inr (record { bytes = u.bytes; due_end = u.end; due = u.due; same = inr refl })
+led g old new now (Err (DeskFault.Keep fault)) h = inr (led_told g old new now (Err (DeskFault.Keep fault)) (h.answered tt))
+led g old new now (Err (DeskFault.File fault)) h = inr (led_told g old new now (Err (DeskFault.File fault)) (h.answered tt))
+
+-- ---- one answer
+
+-- what an answer says of the keeper
+pub record IsReached {S : Type 0} (g : Ghosts S) (old new : Kept S) (asked : Result Ask Denial) (bytes : List ℕ) (status : ℕ) : Type 0 where
+  pub out : Out
+  pub machine : MachineSays old.farm.farm asked out
+  pub says : Says out bytes status
+  pub reaches : Reaches g old new (calls_in asked)
+
+-- a keeper that rests has the farm after no calls
+pub resting : {S : Type 0} (g : Ghosts S) (old new : Kept S) → new ≡ old → Reaches g old new []
+resting g old new rests =
+    record {
+      opened = ap (λ k. k.is_open) rests;
+      farm = ap (λ k. k.farm.farm) rests;
+      stands = λ keeps. subst (λ k. Keeps g k) (sym rests) keeps;
+    }
+
+shown : {S : Type 0} (g : Ghosts S) (old new : Kept S) (view : Ask) (bytes : List ℕ) (status : ℕ)
+    → Shows old new view bytes status → (out : Out) × IsView view old.farm.farm out × Says out bytes status × Reaches g old new []
+shown g old new view bytes status a = (a.out, a.shows, a.says, resting g old new a.rests)
+
+pub reached : {S : Type 0} (g : Ghosts S) (old new : Kept S) (asked : Result Ask Denial) (bytes : List ℕ) (status : ℕ)
+    → Answers g old new asked bytes status → IsReached g old new asked bytes status
+reached g old new (Err why) bytes status a =
+    record { out = denied why; machine = refl; says = a.says; reaches = resting g old new a.rests }
+reached g old new (Ok (Ask.Call call)) bytes status a =
+    record {
+      out = replied (kind_of call.cmd) (answer old.farm.farm call);
+      machine = refl;
+      says = a.says;
+      reaches = record { opened = a.stays_open ∙ sym a.was_open; farm = a.farm; stands = a.stands };
+    }
+reached g old new (Ok view) bytes status a =
+    record { out = a.out; machine = a.shows; says = a.says; reaches = resting g old new a.rests }
+
+-- ---- known bytes
+
+known_rest : (input : List ℕ) (rest : Option (List ℕ)) (used : List ℕ) → Consumes (Some input) rest used → (left : List ℕ) × (rest ≡ Some left) × (input ≡ used ++ left)
+known_rest input None used h = absurd h
+known_rest input (Some left) used h = (left, refl, h)
+
+known_written : (held : List ℕ) (holds : Option (List ℕ)) (bytes : List ℕ) → Appends (Some held) holds bytes → holds ≡ Some (held ++ bytes)
+known_written held None bytes h = absurd h
+known_written held (Some written) bytes h = ap (λ l. Some l) h
+
+-- ---- answered conversations
+
+-- one answered conversation over known bytes
+pub record IsOne {S : Type 0} (g : Ghosts S) (old new : Desk S) (input held : List ℕ) (now : ℕ) (end : Result ℕ DeskFault) : Type 0 where
+  pub exchange : Exchange
+  pub rest : List ℕ
+  pub when : exchange.now ≡ now
+  pub status : Ok exchange.status ≡ end
+  pub left : new.input ≡ Some rest
+  pub taken : input ≡ exchange.request ++ rest
+  pub asks : Asks exchange.request (exchange.request ≡ input) exchange.now exchange.asked
+  pub machine : MachineSays old.keeper.farm.farm exchange.asked exchange.told
+  pub says : Says exchange.told exchange.answer exchange.status
+  pub written : new.output ≡ Some (held ++ exchange.answer)
+  pub reaches : Reaches g old.keeper new.keeper (calls_in exchange.asked)
+
+not_memory : (status : ℕ) → Ok status ≡ Err DeskFault.NoMemory → ⊥
+not_memory status e = cc
+
+one_of : {S : Type 0} (g : Ghosts S) (old new : Desk S) (input held bytes : List ℕ) (now status : ℕ) → old.input ≡ Some input → old.output ≡ Some held
+    → IsDue g old.keeper new.keeper old.input new.input now bytes (Ok status) → Appends old.output new.output bytes → IsOne g old new input held now (Ok status)
+one_of g old new input held bytes now status i o (inl due) w =
+    let hears : Hears (Some input) new.input now due.what = subst (λ x. Hears x new.input now due.what) i due.hears in
+    let known = known_rest input new.input hears.used hears.taken in
+    let all = reached g old.keeper new.keeper due.what bytes status due.due in
+    record {
+      exchange = record { now = now; request = hears.used; asked = due.what; told = all.out; answer = bytes; status = status };
+      rest = known.0;
+      when = refl;
+      status = refl;
+      left = known.1;
+      taken = known.2;
+      asks = hears.asks;
+      machine = all.machine;
+      says = all.says;
+      written = known_written held new.output bytes (subst (λ x. Appends x new.output bytes) o w);
+      reaches = all.reaches;
+    }
+one_of g old new input held bytes now status i o (inr short) w = absurd (not_memory status short.fault)
+
+one : {S : Type 0} (g : Ghosts S) (old new : Desk S) (input held : List ℕ) (now : ℕ) (end : Result ℕ DeskFault) → old.input ≡ Some input → old.output ≡ Some held
+    → IsOk end → Converses g old new now end → IsOne g old new input held now end
+one g old new input held now (Ok status) i o ok h =
+    let a = h.answered tt in
+    one_of g old new input held a.bytes now status i o a.due a.written
+one g old new input held now (Err fault) i o ok h = absurd (let no : false ≡ true = ok in cc)
+
+-- one call list after another
+pub reaches_on : {S : Type 0} (g : Ghosts S) (old next new : Kept S) (first others : List Call) → Reaches g old next first → Reaches g next new others → Reaches g old new (first ++ others)
+reaches_on g old next new first others a b =
+    record {
+      opened = b.opened ∙ a.opened;
+      farm = b.farm ∙ ap (λ F. run F others) a.farm ∙ sym (fold-append step old.farm.farm first others);
+      stands = λ keeps. b.stands (a.stands keeps);
+    }
+
+acts_on : {S : Type 0} (g : Ghosts S) (talk : Talk) (talks : List Talk) (old next new : Desk S) (input held : List ℕ)
+    → (x : IsOne g old next input held talk.now talk.end) → (xs : List Exchange)
+    → ActAsRun g talks next new x.rest (held ++ x.exchange.answer) xs → ActAsRun g (talk ∷ talks) old new input held (x.exchange ∷ xs)
+acts_on g talk talks old next new input held x xs all =
+    let head : talk_of x.exchange ≡ talk = ap (λ t. record { now = t; end = Ok x.exchange.status }) x.when ∙ ap (λ e. record { now = talk.now; end = e }) x.status in
+    record {
+      rest = all.rest;
+      each = ap (λ t. t ∷ map talk_of xs) head ∙ ap (λ ts. talk ∷ ts) all.each;
+      left = all.left;
+      taken = x.taken ∙ ap (λ l. x.exchange.request ++ l) all.taken ∙ sym (append_assoc x.exchange.request (flat_map (λ y. y.request) xs) all.rest);
+      heard = (x.rest, x.taken, x.asks, all.heard);
+      told = (x.machine, x.says, subst (λ F. AreTold F xs) x.reaches.farm all.told);
+      written = all.written ∙ ap (λ l. Some l) (append_assoc held x.exchange.answer (flat_map (λ y. y.answer) xs));
+      reaches = reaches_on g old.keeper next.keeper new.keeper (calls_in x.exchange.asked) (calls_of xs) x.reaches all.reaches;
+    }
+
+pub acts_as_run : {S : Type 0} (g : Ghosts S) → AnsweredActAsRun g
+acts_as_run g [] old new input held i o ok h = (
+  [],
+  record {
+    rest = input;
+    each = refl;
+    left = ap (λ desk. desk.input) h ∙ i;
+    taken = refl;
+    heard = tt;
+    told = tt;
+    written = ap (λ desk. desk.output) h ∙ o ∙ ap (λ l. Some l) (sym (append-nil held));
+    reaches = resting g old.keeper new.keeper (ap (λ desk. desk.keeper) h);
+  },
+)
+acts_as_run g (talk ∷ talks) old new input held i o ok h =
+    let x = one g old h.0 input held talk.now talk.end i o ok.0 h.1 in
+    let others = acts_as_run g talks h.0 new x.rest (held ++ x.exchange.answer) x.left x.written ok.1 h.2 in
+    (x.exchange ∷ others.0, acts_on g talk talks old h.0 new input held x others.0 others.1)
+
+-- ---- sent again
+
+-- each is told at its place
+pub told_at : (F : Farm) (before after : List Exchange) (x : Exchange) → AreTold F (before ++ x ∷ after) → MachineSays (run F (calls_of before)) x.asked x.told
+told_at F [] after x h = h.0
+told_at F (y ∷ before) after x h =
+    subst (λ G. MachineSays G x.asked x.told) (sym (fold-append step F (calls_in y.asked) (calls_of before)))
+    (told_at (run F (calls_in y.asked)) before after x h.2)
+
+calls_through : (before between : List Exchange) (first : Exchange) (call : Call) → first.asked ≡ Ok (Ask.Call call)
+    → calls_of (before ++ first ∷ between) ≡ calls_of before ++ call ∷ calls_of between
+calls_through before between first call asks =
+    flat_map-append (λ x. calls_in x.asked) before (first ∷ between)
+    ∙ ap (λ asked. calls_of before ++ (calls_in asked ++ calls_of between)) asks
+
+pub told_again : (F : Farm) (before between after : List Exchange) (first second : Exchange) (call repeated : Call) (key : List ℕ) (reply : Reply)
+    → IsSentAgain F before between after first second call repeated key reply
+    → second.told ≡ replied (kind_of repeated.cmd) (again call reply repeated)
+told_again F before between after first second call repeated key reply is =
+    let placed : AreTold F ((before ++ first ∷ between) ++ second ∷ after) =
+    subst (λ l. AreTold F l) (sym (append_assoc before (first ∷ between) (second ∷ after))) is.told in
+    let says = told_at F (before ++ first ∷ between) after second placed in
+    let machine : second.told ≡ replied (kind_of repeated.cmd) (answer (run F (calls_of (before ++ first ∷ between))) repeated) =
+    subst (λ asked. MachineSays (run F (calls_of (before ++ first ∷ between))) asked second.told) is.asks_again says in
+    machine
+    ∙ ap (λ calls. replied (kind_of repeated.cmd) (answer (run F calls) repeated)) (calls_through before between first call is.asks)
+    ∙ ap (λ told. replied (kind_of repeated.cmd) told)
+    (again_kept F (calls_of before) (calls_of between) call repeated key reply is.keyed is.same_key is.same_caller is.accepted)

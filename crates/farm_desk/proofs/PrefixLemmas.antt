@@ -1,0 +1,257 @@
+-- What conversations do to the farm and its store, however they end.
+use Rattle.std.proofs.Common.{◌≡◌, ◌⊎◌, ℕ, Bool, true, false, List, [], ◌∷◌, ◌++◌, refl, sym, ap, ◌∙◌, subst, inl, inr}
+use Rattle.std.specs.Prelude.{Result, Ok, Err}
+use Rattle.std.proofs.lemmas.List.Sums.{fold-append}
+use Rattle.sqlite_trees.specs.declared.store.Store.{Ghosts}
+use Rattle.sqlite.specs.Held.{state}
+use Rattle.farm_types.specs.Farm.{Farm}
+use Rattle.farm_types.specs.Machine.{answer, step, run}
+use Rattle.farm_types.specs.declared.calls.Call.{Call}
+use Rattle.farm_core.specs.Answers.{IsChange}
+use Rattle.farm_store.specs.Holds.{StandsFor}
+use Rattle.farm_keep.specs.Kept.{Kept, Keeps, KeepsFarm, KeepsEither}
+use Rattle.farm_keep.specs.declared.fault.KeepFault.{KeepFault}
+use Rattle.farm_wire.specs.Reading.{Denial}
+use Rattle.farm_wire.specs.declared.ask.Ask.{Ask}
+use Rattle.farm_desk.specs.Heard.{Hears}
+use Rattle.farm_desk.specs.Due.{IsDue, IsDueTo, RestsOrIsDone, Cause}
+use Rattle.farm_desk.specs.Imports.{Reaches}
+use Rattle.farm_desk.specs.Conversations.{Desk, Converses, Talk, ConverseInTurn, calls_in, AsksCalls, IsDoneOf, LeavesOpen, LeavesBy, IsClosing, OpenKeepsDone, ClosedKeepsPrefix}
+use Rattle.farm_desk.specs.declared.fault.DeskFault.{DeskFault}
+use Rattle.farm_desk.proofs.ConversationLemmas.{IsLed, led, reached, resting, reaches_on}
+
+-- ---- open or closed
+
+both_ways : {A : Type 0} (b : Bool) → b ≡ true → b ≡ false → A
+both_ways b opened closed = absurd (let same : true ≡ false = sym opened ∙ closed in cc)
+
+-- the keeper stays as open as it was, or is closed
+asked_closes : {S : Type 0} (g : Ghosts S) (old new : Kept S) (asked : Result Ask Denial) (bytes : List ℕ) (end : Result ℕ DeskFault)
+    → IsDueTo g old new asked bytes end → (new.is_open ≡ old.is_open) ⊎ (new.is_open ≡ false)
+asked_closes g old new asked bytes (Ok status) due = inl (reached g old new asked bytes status due).reaches.opened
+asked_closes g old new asked bytes (Err DeskFault.NoMemory) due = inl due.stays_open
+asked_closes g old new (Ok what) bytes (Err (DeskFault.Keep fault)) due = inr due.is_closed
+asked_closes g old new (Err why) bytes (Err (DeskFault.Keep fault)) due = absurd due
+asked_closes g old new asked bytes (Err DeskFault.Read) due = absurd due
+asked_closes g old new asked bytes (Err DeskFault.Write) due = absurd due
+asked_closes g old new asked bytes (Err (DeskFault.File fault)) due = absurd due
+
+due_closes : {S : Type 0} (g : Ghosts S) (old new : Desk S) (now : ℕ) (bytes : List ℕ) (end : Result ℕ DeskFault)
+    → IsDue g old.keeper new.keeper old.input new.input now bytes end → (new.keeper.is_open ≡ old.keeper.is_open) ⊎ (new.keeper.is_open ≡ false)
+due_closes g old new now bytes end (inl due) = asked_closes g old.keeper new.keeper due.what bytes end due.due
+due_closes g old new now bytes end (inr short) = inl (ap (λ k. k.is_open) short.rests)
+
+still_closed : {S : Type 0} (g : Ghosts S) (old new : Desk S) (now : ℕ) (end : Result ℕ DeskFault)
+    → Converses g old new now end → old.keeper.is_open ≡ false → new.keeper.is_open ≡ false
+still_closed g old new now end h closed = by (led g old new now end h)
+  where
+    from : (new.keeper.is_open ≡ old.keeper.is_open) ⊎ (new.keeper.is_open ≡ false) → new.keeper.is_open ≡ false
+    from (inl same) = same ∙ closed
+    from (inr shut) = shut
+
+    by : (new.keeper ≡ old.keeper) ⊎ IsLed g old new now end → new.keeper.is_open ≡ false
+    by (inl rests) = ap (λ k. k.is_open) rests ∙ closed
+    by (inr l) = from (due_closes g old new now l.bytes l.due_end l.due)
+
+-- a closed keeper stays closed over all of them
+all_closed : {S : Type 0} (g : Ghosts S) (talks : List Talk) (old new : Desk S) → ConverseInTurn g talks old new → old.keeper.is_open ≡ false → new.keeper.is_open ≡ false
+all_closed g [] old new h closed = ap (λ desk. desk.keeper.is_open) h ∙ closed
+all_closed g (talk ∷ talks) old new h closed =
+    all_closed g talks h.0 new h.2 (still_closed g old h.0 talk.now talk.end h.1 closed)
+
+-- ---- a conversation that leaves the keeper open
+
+none_of : (end : Result ℕ DeskFault) → IsDoneOf end [] []
+none_of (Ok status) = refl
+none_of (Err fault) = inl refl
+
+all_of : (end : Result ℕ DeskFault) (calls : List Call) → IsDoneOf end calls calls
+all_of (Ok status) calls = refl
+all_of (Err fault) calls = inr refl
+
+-- without an answer none need be done
+lost_none : (end : Result ℕ DeskFault) (fault : DeskFault) (calls : List Call) → (end ≡ Err fault) ⊎ (end ≡ Err DeskFault.Write) → IsDoneOf end calls []
+lost_none (Ok status) fault calls (inl e) = absurd (let no : Ok status ≡ Err fault = e in cc)
+lost_none (Ok status) fault calls (inr e) = absurd (let no : Ok status ≡ Err DeskFault.Write = e in cc)
+lost_none (Err other) fault calls e = inl refl
+
+-- calls that were done, with what was asked
+pub record IsPart {S : Type 0} (g : Ghosts S) (old new : Desk S) (now : ℕ) (end : Result ℕ DeskFault) : Type 0 where
+  pub done : List Call
+  pub asked : List Call
+  pub asks : AsksCalls old.input new.input now asked
+  pub done_of : IsDoneOf end asked done
+  pub reaches : Reaches g old.keeper new.keeper done
+
+nothing_done : {S : Type 0} (g : Ghosts S) (old new : Desk S) (now : ℕ) (end : Result ℕ DeskFault) → new.keeper ≡ old.keeper → IsPart g old new now end
+nothing_done g old new now end rests =
+    record { done = []; asked = []; asks = inr refl; done_of = none_of end; reaches = resting g old.keeper new.keeper rests }
+
+out_of_memory : {S : Type 0} (g : Ghosts S) (old new : Desk S) (now : ℕ) (end : Result ℕ DeskFault) (asked : Result Ask Denial)
+    → (end ≡ Err DeskFault.NoMemory) ⊎ (end ≡ Err DeskFault.Write) → Hears old.input new.input now asked
+    → new.keeper.is_open ≡ old.keeper.is_open → RestsOrIsDone g old.keeper new.keeper asked → IsPart g old new now end
+out_of_memory g old new now end (Ok (Ask.Call call)) lost hears same (inl rests) =
+    record {
+      done = [];
+      asked = call ∷ [];
+      asks = inl (Ok (Ask.Call call), hears, refl);
+      done_of = lost_none end DeskFault.NoMemory (call ∷ []) lost;
+      reaches = resting g old.keeper new.keeper rests;
+    }
+out_of_memory g old new now end (Ok (Ask.Call call)) lost hears same (inr d) =
+    record {
+      done = call ∷ [];
+      asked = call ∷ [];
+      asks = inl (Ok (Ask.Call call), hears, refl);
+      done_of = all_of end (call ∷ []);
+      reaches = record { opened = same; farm = d.farm; stands = d.stands };
+    }
+out_of_memory g old new now end (Ok view) lost hears same rests = nothing_done g old new now end rests
+out_of_memory g old new now end (Err why) lost hears same rests = nothing_done g old new now end rests
+
+asked_part : {S : Type 0} (g : Ghosts S) (old new : Desk S) (now : ℕ) (end due_end : Result ℕ DeskFault) (asked : Result Ask Denial) (bytes : List ℕ)
+    → (end ≡ due_end) ⊎ (end ≡ Err DeskFault.Write) → new.keeper.is_open ≡ true → Hears old.input new.input now asked
+    → IsDueTo g old.keeper new.keeper asked bytes due_end → IsPart g old new now end
+asked_part g old new now end (Ok status) asked bytes same opened hears due =
+    record {
+      done = calls_in asked;
+      asked = calls_in asked;
+      asks = inl (asked, hears, refl);
+      done_of = all_of end (calls_in asked);
+      reaches = (reached g old.keeper new.keeper asked bytes status due).reaches;
+    }
+asked_part g old new now end (Err DeskFault.NoMemory) asked bytes same opened hears due =
+    out_of_memory g old new now end asked same hears due.stays_open due.farm
+asked_part g old new now end (Err (DeskFault.Keep fault)) (Ok what) bytes same opened hears due = both_ways new.keeper.is_open opened due.is_closed
+asked_part g old new now end (Err (DeskFault.Keep fault)) (Err why) bytes same opened hears due = absurd due
+asked_part g old new now end (Err DeskFault.Read) asked bytes same opened hears due = absurd due
+asked_part g old new now end (Err DeskFault.Write) asked bytes same opened hears due = absurd due
+asked_part g old new now end (Err (DeskFault.File fault)) asked bytes same opened hears due = absurd due
+
+part : {S : Type 0} (g : Ghosts S) (old new : Desk S) (now : ℕ) (end : Result ℕ DeskFault) → new.keeper.is_open ≡ true → Converses g old new now end → IsPart g old new now end
+part g old new now end opened h = by (led g old new now end h)
+  where
+    due_part : (bytes : List ℕ) (due_end : Result ℕ DeskFault) → (end ≡ due_end) ⊎ (end ≡ Err DeskFault.Write)
+        → IsDue g old.keeper new.keeper old.input new.input now bytes due_end → IsPart g old new now end
+    due_part bytes due_end same (inl due) = asked_part g old new now end due_end due.what bytes same opened due.hears due.due
+    due_part bytes due_end same (inr short) = nothing_done g old new now end short.rests
+
+    by : (new.keeper ≡ old.keeper) ⊎ IsLed g old new now end → IsPart g old new now end
+    by (inl rests) = nothing_done g old new now end rests
+    by (inr l) = due_part l.bytes l.due_end l.same l.due
+
+leaves_open : {S : Type 0} (g : Ghosts S) (old new : Desk S) (talk : Talk) → new.keeper.is_open ≡ true → (p : IsPart g old new talk.now talk.end) → LeavesOpen g old new talk p.done
+leaves_open g old new talk opened p =
+    record { asked = p.asked; asks = p.asks; done_of = p.done_of; is_open = opened; farm = p.reaches.farm; stands = p.reaches.stands }
+
+-- the end of a list is open only where each place before it is
+was_open : {S : Type 0} (g : Ghosts S) (talks : List Talk) (next new : Desk S) → ConverseInTurn g talks next new → new.keeper.is_open ≡ true → next.keeper.is_open ≡ true
+was_open g talks next new h opened = by next.keeper.is_open refl
+  where
+    by : (b : Bool) → next.keeper.is_open ≡ b → next.keeper.is_open ≡ true
+    by true e = e
+    by false e = both_ways new.keeper.is_open opened (all_closed g talks next new h e)
+
+pub open_keeps_done : {S : Type 0} (g : Ghosts S) → OpenKeepsDone g
+open_keeps_done g [] old new opened still h =
+    ([], (h, refl), resting g old.keeper new.keeper (ap (λ desk. desk.keeper) h))
+open_keeps_done g (talk ∷ talks) old new opened still h =
+    let next_open = was_open g talks h.0 new h.2 still in
+    let p = part g old h.0 talk.now talk.end next_open h.1 in
+    let others = open_keeps_done g talks h.0 new next_open still h.2 in
+    (p.done ++ others.0, (h.0, p.done, others.0, leaves_open g old h.0 talk next_open p, others.1, refl), reaches_on g old.keeper h.0.keeper new.keeper p.done others.0 p.reaches others.2)
+
+-- ---- a conversation that closes it
+
+-- a change was not done, or perhaps done
+pub record IsCut {S : Type 0} (g : Ghosts S) (old new : Desk S) (now : ℕ) (end : Result ℕ DeskFault) : Type 0 where
+  pub call : Call
+  pub asks : AsksCalls old.input new.input now (call ∷ [])
+  pub change : IsChange (answer old.keeper.farm.farm call)
+  pub closing : IsClosing end
+  pub leaves : Keeps g old.keeper → LeavesBy g new.keeper end old.keeper.farm.farm (step old.keeper.farm.farm call)
+
+-- a store that stands for a farm leaves no other
+keeps_either : {S : Type 0} (g : Ghosts S) (k : Kept S) (F G : Farm) → KeepsFarm g k F → KeepsEither g k F G
+keeps_either g k F G keeps clean db may = inl ((keeps clean).left db may)
+
+cut_by : {S : Type 0} (g : Ghosts S) (old new : Desk S) (now : ℕ) (end : Result ℕ DeskFault) (what : Ask) (fault : KeepFault)
+    → old.keeper.is_open ≡ true → (end ≡ Err (DeskFault.Keep fault)) ⊎ (end ≡ Err DeskFault.Write) → Hears old.input new.input now (Ok what)
+    → Cause g old.keeper new.keeper what fault → IsCut g old new now end
+cut_by g old new now end what KeepFault.Closed opened same hears cause = both_ways old.keeper.is_open opened cause.was_closed
+cut_by g old new now end (Ask.Call call) KeepFault.NoMemory opened same hears cause =
+    let kept : Keeps g old.keeper → KeepsFarm g new.keeper old.keeper.farm.farm =
+    λ keeps. subst (λ conn. StandsFor (state g conn) old.keeper.farm.farm) (sym cause.store) keeps in
+    record {
+      call = call;
+      asks = inl (Ok (Ask.Call call), hears, refl);
+      change = cause.change;
+      closing = (elim same as (λ s. IsClosing end) [ inl e ↦ subst (λ r. IsClosing r) (sym e) tt | inr e ↦ subst (λ r. IsClosing r) (sym e) tt ]);
+      leaves = λ keeps.
+          (elim same as (λ s. LeavesBy g new.keeper end old.keeper.farm.farm (step old.keeper.farm.farm call)) [
+            | inl e ↦ subst (λ r. LeavesBy g new.keeper r old.keeper.farm.farm (step old.keeper.farm.farm call)) (sym e) (kept keeps)
+            | inr e ↦ subst (λ r. LeavesBy g new.keeper r old.keeper.farm.farm (step old.keeper.farm.farm call)) (sym e)
+                (keeps_either g new.keeper old.keeper.farm.farm (step old.keeper.farm.farm call) (kept keeps))
+          ]);
+    }
+cut_by g old new now end (Ask.Call call) KeepFault.Store opened same hears cause =
+    record {
+      call = call;
+      asks = inl (Ok (Ask.Call call), hears, refl);
+      change = cause.change;
+      closing = (elim same as (λ s. IsClosing end) [ inl e ↦ subst (λ r. IsClosing r) (sym e) tt | inr e ↦ subst (λ r. IsClosing r) (sym e) tt ]);
+      leaves = λ keeps.
+          (elim same as (λ s. LeavesBy g new.keeper end old.keeper.farm.farm (step old.keeper.farm.farm call)) [
+            | inl e ↦ subst (λ r. LeavesBy g new.keeper r old.keeper.farm.farm (step old.keeper.farm.farm call)) (sym e) (cause.leaves keeps)
+            | inr e ↦ subst (λ r. LeavesBy g new.keeper r old.keeper.farm.farm (step old.keeper.farm.farm call)) (sym e) (cause.leaves keeps)
+          ]);
+    }
+cut_by g old new now end what fault opened same hears cause = absurd cause
+
+asked_cut : {S : Type 0} (g : Ghosts S) (old new : Desk S) (now : ℕ) (end due_end : Result ℕ DeskFault) (asked : Result Ask Denial) (bytes : List ℕ)
+    → old.keeper.is_open ≡ true → new.keeper.is_open ≡ false → (end ≡ due_end) ⊎ (end ≡ Err DeskFault.Write) → Hears old.input new.input now asked
+    → IsDueTo g old.keeper new.keeper asked bytes due_end → IsCut g old new now end
+asked_cut g old new now end (Ok status) asked bytes opened closed same hears due =
+    both_ways new.keeper.is_open ((reached g old.keeper new.keeper asked bytes status due).reaches.opened ∙ opened) closed
+asked_cut g old new now end (Err DeskFault.NoMemory) asked bytes opened closed same hears due =
+    both_ways new.keeper.is_open (due.stays_open ∙ opened) closed
+asked_cut g old new now end (Err (DeskFault.Keep fault)) (Ok what) bytes opened closed same hears due = cut_by g old new now end what fault opened same hears due.cause
+asked_cut g old new now end (Err (DeskFault.Keep fault)) (Err why) bytes opened closed same hears due = absurd due
+asked_cut g old new now end (Err DeskFault.Read) asked bytes opened closed same hears due = absurd due
+asked_cut g old new now end (Err DeskFault.Write) asked bytes opened closed same hears due = absurd due
+asked_cut g old new now end (Err (DeskFault.File fault)) asked bytes opened closed same hears due = absurd due
+
+cut : {S : Type 0} (g : Ghosts S) (old new : Desk S) (now : ℕ) (end : Result ℕ DeskFault) → old.keeper.is_open ≡ true → new.keeper.is_open ≡ false → Converses g old new now end → IsCut g old new now end
+cut g old new now end opened closed h = by (led g old new now end h)
+  where
+    shut : {A : Type 0} → new.keeper ≡ old.keeper → A
+    shut rests = both_ways new.keeper.is_open (ap (λ k. k.is_open) rests ∙ opened) closed
+
+    due_cut : (bytes : List ℕ) (due_end : Result ℕ DeskFault) → (end ≡ due_end) ⊎ (end ≡ Err DeskFault.Write)
+        → IsDue g old.keeper new.keeper old.input new.input now bytes due_end → IsCut g old new now end
+    due_cut bytes due_end same (inl due) = asked_cut g old new now end due_end due.what bytes opened closed same due.hears due.due
+    due_cut bytes due_end same (inr short) = shut short.rests
+
+    by : (new.keeper ≡ old.keeper) ⊎ IsLed g old new now end → IsCut g old new now end
+    by (inl rests) = shut rests
+    by (inr l) = due_cut l.bytes l.due_end l.same l.due
+
+pub closed_keeps_prefix : {S : Type 0} (g : Ghosts S) → ClosedKeepsPrefix g
+closed_keeps_prefix g talks last old between new opened still closed h ends =
+    let before = open_keeps_done g talks old between opened still h in
+    let c = cut g between new last.now last.end still closed ends in
+    let farm = before.2.farm in
+    let more : step between.keeper.farm.farm c.call ≡ run old.keeper.farm.farm (before.0 ++ c.call ∷ []) =
+    ap (λ F. step F c.call) farm ∙ sym (fold-append step old.keeper.farm.farm before.0 (c.call ∷ [])) in (
+      before.0,
+      before.1,
+      record {
+        call = c.call;
+        asks = c.asks;
+        change = subst (λ F. IsChange (answer F c.call)) farm c.change;
+        closing = c.closing;
+        leaves = λ keeps.
+            subst (λ G. LeavesBy g new.keeper last.end (run old.keeper.farm.farm before.0) G) more
+            (subst (λ F. LeavesBy g new.keeper last.end F (step between.keeper.farm.farm c.call)) farm (c.leaves (before.2.stands keeps)));
+      },
+    )

@@ -1,0 +1,214 @@
+-- Conversations one after another over one keeper: what they ask, what they do, what they answer.
+use Rattle.std.specs.Prelude.{◌≡◌, ◌⊎◌, ℕ, true, false, IsOk, List, [], ◌∷◌, ◌++◌, map, Option, Some, Result, Ok, Err}
+use Rattle.std.specs.List.{AllByRecursion, flat_map}
+use Rattle.sqlite_trees.specs.declared.store.Store.{Ghosts}
+use Rattle.farm_types.specs.Farm.{Farm}
+use Rattle.farm_types.specs.Machine.{Changed, answer, run}
+use Rattle.farm_types.specs.Refuse.{kind_of}
+use Rattle.farm_types.specs.declared.calls.Call.{Call}
+use Rattle.farm_types.specs.declared.rows.Reply.{Reply}
+use Rattle.farm_core.specs.Answers.{IsChange}
+use Rattle.farm_keep.specs.Kept.{Kept, Keeps, KeepsFarm, KeepsEither}
+use Rattle.farm_keep.specs.Restarts.{again}
+use Rattle.farm_keep.specs.declared.fault.KeepFault.{KeepFault}
+use Rattle.farm_wire.specs.Reading.{Denial}
+use Rattle.farm_wire.specs.declared.ask.Ask.{Ask}
+use Rattle.farm_wire.specs.declared.answers.Out.{Out}
+use Rattle.farm_desk.specs.Heard.{Asks, Hears}
+use Rattle.farm_desk.specs.Answers.{Says, IsView, denied, replied}
+use Rattle.farm_desk.specs.Due.{IsDue}
+use Rattle.farm_desk.specs.Ends.{IsAnswered, IsUnwritten, IsUnread, IsToldBy}
+use Rattle.farm_desk.specs.Imports.{Reaches}
+use Rattle.farm_desk.specs.declared.fault.DeskFault.{DeskFault}
+
+-- ---- one conversation, and several in a row
+
+-- what a conversation changes: a keeper, what is left of an input, and what stands written
+pub record Desk (S : Type 0) : Type 0 where
+  pub keeper : Kept S
+  pub input : Option (List ℕ)
+  pub output : Option (List ℕ)
+
+-- a conversation at this moment ends so
+pub record Converses {S : Type 0} (g : Ghosts S) (old new : Desk S) (now : ℕ) (end : Result ℕ DeskFault) : Type 0 where
+  pub answered : IsToldBy end → IsAnswered (IsDue g old.keeper new.keeper old.input new.input now) old.output new.output end
+  pub unwritten : end ≡ Err DeskFault.Write → IsUnwritten (IsDue g old.keeper new.keeper old.input new.input now) old.output new.output
+  pub unread : end ≡ Err DeskFault.Read → IsUnread old.keeper new.keeper old.output new.output
+
+-- the moment of a conversation, and how it ends
+pub record Talk : Type 0 where
+  pub now : ℕ
+  pub end : Result ℕ DeskFault
+
+-- each conversation begins where the one before it ended
+abbrev pub ConverseInTurn : {S : Type 0} → Ghosts S → List Talk → Desk S → Desk S → Type 0
+ConverseInTurn {S} g [] old new = new ≡ old
+ConverseInTurn {S} g (talk ∷ talks) old new =
+    (next : Desk S) × Converses g old next talk.now talk.end × ConverseInTurn g talks next new
+
+-- those of the first list lead to a desk, and those of the second list on from it
+abbrev pub ConverseApart : {S : Type 0} → Ghosts S → List Talk → List Talk → Desk S → Desk S → Type 0
+ConverseApart {S} g first second old new =
+    (between : Desk S) × ConverseInTurn g first old between × ConverseInTurn g second between new
+
+-- these three are a desk
+abbrev pub desk : {S : Type 0} → Kept S → Option (List ℕ) → Option (List ℕ) → Desk S
+desk keeper input output = record { keeper = keeper; input = input; output = output }
+
+-- one conversation at each of these moments, and each is answered
+pub record AnswersAll {S : Type 0} (g : Ghosts S) (old new : Desk S) (moments : List ℕ) : Type 0 where
+  pub talks : List Talk
+  pub at_moments : map (λ talk. talk.now) talks ≡ moments
+  pub answered : AllByRecursion (λ talk. IsOk talk.end) talks
+  pub in_turn : ConverseInTurn g talks old new
+
+-- the conversations at the first moments are answered, and the next ends with this fault
+pub record StopsAt {S : Type 0} (g : Ghosts S) (old new : Desk S) (moments : List ℕ) (fault : DeskFault) : Type 0 where
+  pub done : List ℕ
+  pub last : ℕ
+  pub left : List ℕ
+  pub moments_are : moments ≡ done ++ last ∷ left
+  pub between : Desk S
+  pub answers : AnswersAll g old between done
+  pub stops : Converses g between new last (Err fault)
+
+-- ---- where each of them is answered
+
+-- a request and its answer: when it came, its bytes, what they ask, what is told, the bytes of that, and their status
+pub record Exchange : Type 0 where
+  pub now : ℕ
+  pub request : List ℕ
+  pub asked : Result Ask Denial
+  pub told : Out
+  pub answer : List ℕ
+  pub status : ℕ
+
+abbrev pub talk_of : Exchange → Talk
+talk_of x = record { now = x.now; end = Ok x.status }
+
+-- the call that is asked, if it is one
+abbrev pub calls_in : Result Ask Denial → List Call
+calls_in (Ok (Ask.Call call)) = call ∷ []
+calls_in asked = []
+
+-- the calls that are asked, in the order of the requests
+abbrev pub calls_of : List Exchange → List Call
+calls_of exchanges = flat_map (λ x. calls_in x.asked) exchanges
+
+-- what the machine says of that farm to what is asked
+abbrev pub MachineSays : Farm → Result Ask Denial → Out → Type 0
+MachineSays F (Err why) out = out ≡ denied why
+MachineSays F (Ok (Ask.Call call)) out = out ≡ replied (kind_of call.cmd) (answer F call)
+MachineSays F (Ok view) out = IsView view F out
+
+-- each is told what the machine says of the farm after the calls before it
+abbrev pub AreTold : Farm → List Exchange → Type 0
+AreTold F [] = Unit {0}
+AreTold F (x ∷ xs) =
+    MachineSays F x.asked x.told × Says x.told x.answer x.status × AreTold (run F (calls_in x.asked)) xs
+
+-- the requests stand at the front of the input, one behind another, and each asks what is said of it at its moment
+abbrev pub AreHeard : List ℕ → List Exchange → Type 0
+AreHeard input [] = Unit {0}
+AreHeard input (x ∷ xs) =
+    (rest : List ℕ) × (input ≡ x.request ++ rest) × Asks x.request (x.request ≡ input) x.now x.asked × AreHeard rest xs
+
+-- the conversations are these exchanges: the requests left the input and the answers were written, in order; each is
+-- the machine's at its place; the keeper has the farm after the calls that were asked, and its store keeps that farm
+pub record ActAsRun {S : Type 0} (g : Ghosts S) (talks : List Talk) (old new : Desk S) (input held : List ℕ) (exchanges : List Exchange) : Type 0 where
+  pub rest : List ℕ
+  pub each : map talk_of exchanges ≡ talks
+  pub left : new.input ≡ Some rest
+  pub taken : input ≡ flat_map (λ x. x.request) exchanges ++ rest
+  pub heard : AreHeard input exchanges
+  pub told : AreTold old.keeper.farm.farm exchanges
+  pub written : new.output ≡ Some (held ++ flat_map (λ x. x.answer) exchanges)
+  pub reaches : Reaches g old.keeper new.keeper (calls_of exchanges)
+
+-- answered conversations over a known input and a known output are one run of the machine
+abbrev pub AnsweredActAsRun : {S : Type 0} → Ghosts S → Type 0
+AnsweredActAsRun {S} g = (talks : List Talk) (old new : Desk S) (input held : List ℕ)
+    → old.input ≡ Some input → old.output ≡ Some held → AllByRecursion (λ talk. IsOk talk.end) talks
+    → ConverseInTurn g talks old new
+    → (exchanges : List Exchange) × ActAsRun g talks old new input held exchanges
+
+-- ---- a request that is sent again
+
+-- two requests somewhere among the exchanges ask calls under one key of one caller, and the first of them is accepted
+pub record IsSentAgain (F : Farm) (before between after : List Exchange) (first second : Exchange) (call repeated : Call) (key : List ℕ) (reply : Reply) : Type 0 where
+  pub told : AreTold F (before ++ first ∷ (between ++ second ∷ after))
+  pub asks : first.asked ≡ Ok (Ask.Call call)
+  pub asks_again : second.asked ≡ Ok (Ask.Call repeated)
+  pub keyed : call.key ≡ Some key
+  pub same_key : repeated.key ≡ Some key
+  pub same_caller : repeated.caller ≡ call.caller
+  pub accepted : answer (run F (calls_of before)) call ≡ Changed reply
+
+-- the second is told the kept reply, or is refused for its key or its moment
+abbrev pub ToldAgain : Type 0
+ToldAgain = (F : Farm) (before between after : List Exchange) (first second : Exchange) (call repeated : Call) (key : List ℕ) (reply : Reply)
+    → IsSentAgain F before between after first second call repeated key reply
+    → second.told ≡ replied (kind_of repeated.cmd) (again call reply repeated)
+
+-- ---- however they end
+
+-- the bytes that left the reader ask these calls, or nothing was understood
+abbrev pub AsksCalls : Option (List ℕ) → Option (List ℕ) → ℕ → List Call → Type 0
+AsksCalls input rest now calls =
+    ((asked : Result Ask Denial) × Hears input rest now asked × (calls ≡ calls_in asked)) ⊎ (calls ≡ [])
+
+-- a call that was answered is done; one whose answer was not is done or not
+abbrev pub IsDoneOf : Result ℕ DeskFault → List Call → List Call → Type 0
+IsDoneOf (Ok status) asked done = done ≡ asked
+IsDoneOf (Err fault) asked done = (done ≡ []) ⊎ (done ≡ asked)
+
+-- a conversation does these calls and leaves the keeper open
+pub record LeavesOpen {S : Type 0} (g : Ghosts S) (old new : Desk S) (talk : Talk) (done : List Call) : Type 0 where
+  pub asked : List Call
+  pub asks : AsksCalls old.input new.input talk.now asked
+  pub done_of : IsDoneOf talk.end asked done
+  pub is_open : new.keeper.is_open ≡ true
+  pub farm : new.keeper.farm.farm ≡ run old.keeper.farm.farm done
+  pub stands : Keeps g old.keeper → Keeps g new.keeper
+
+-- one after another they do these calls and leave it open
+abbrev pub LeaveOpen : {S : Type 0} → Ghosts S → List Talk → Desk S → Desk S → List Call → Type 0
+LeaveOpen {S} g [] old new done = (new ≡ old) × (done ≡ [])
+LeaveOpen {S} g (talk ∷ talks) old new done =
+    (next : Desk S) × (first : List Call) × (others : List Call)
+    × LeavesOpen g old next talk first × LeaveOpen g talks next new others × (done ≡ first ++ others)
+
+-- a stop then leaves the farm before the call or, not after want of memory, the one after it
+abbrev pub LeavesBy : {S : Type 0} → Ghosts S → Kept S → Result ℕ DeskFault → Farm → Farm → Type 0
+LeavesBy {S} g k (Err (DeskFault.Keep KeepFault.NoMemory)) F G = KeepsFarm g k F
+LeavesBy {S} g k (Err (DeskFault.Keep KeepFault.Store)) F G = KeepsEither g k F G
+LeavesBy {S} g k (Err DeskFault.Write) F G = KeepsEither g k F G
+LeavesBy {S} g k end F G = ⊥
+
+-- how a conversation ends that closes the keeper
+abbrev pub IsClosing : Result ℕ DeskFault → Type 0
+IsClosing (Err (DeskFault.Keep KeepFault.NoMemory)) = Unit {0}
+IsClosing (Err (DeskFault.Keep KeepFault.Store)) = Unit {0}
+IsClosing (Err DeskFault.Write) = Unit {0}
+IsClosing end = ⊥
+
+-- after these calls were done, a conversation closes the keeper over one call more, a change
+pub record ClosesAfter {S : Type 0} (g : Ghosts S) (start : Kept S) (old new : Desk S) (talk : Talk) (done : List Call) : Type 0 where
+  pub call : Call
+  pub asks : AsksCalls old.input new.input talk.now (call ∷ [])
+  pub change : IsChange (answer (run start.farm.farm done) call)
+  pub closing : IsClosing talk.end
+  pub leaves : Keeps g start → LeavesBy g new.keeper talk.end (run start.farm.farm done) (run start.farm.farm (done ++ call ∷ []))
+
+-- while the keeper stays open, it has the farm after the calls that were done, and its store keeps that farm
+abbrev pub OpenKeepsDone : {S : Type 0} → Ghosts S → Type 0
+OpenKeepsDone {S} g = (talks : List Talk) (old new : Desk S)
+    → old.keeper.is_open ≡ true → new.keeper.is_open ≡ true → ConverseInTurn g talks old new
+    → (done : List Call) × LeaveOpen g talks old new done × Reaches g old.keeper new.keeper done
+
+-- where one more conversation closes it, a stop leaves the farm after the calls that were done, or after one call more
+abbrev pub ClosedKeepsPrefix : {S : Type 0} → Ghosts S → Type 0
+ClosedKeepsPrefix {S} g = (talks : List Talk) (last : Talk) (old between new : Desk S)
+    → old.keeper.is_open ≡ true → between.keeper.is_open ≡ true → new.keeper.is_open ≡ false
+    → ConverseInTurn g talks old between → Converses g between new last.now last.end
+    → (done : List Call) × LeaveOpen g talks old between done × ClosesAfter g old.keeper between new last done

@@ -1,0 +1,65 @@
+//! Conversations one after another, and the laws over them.
+ghost use Rattle.std.specs.Prelude.{◌≤◌, ◌++◌, ◌↔◌, List, OnOk, IfErr};
+ghost use Rattle.sqlite.specs.Held.{state};
+ghost use Rattle.sqlite_trees.specs.View.{doubt};
+ghost use Rattle.farm_desk.specs.Conversations.{Desk, Talk, ConverseInTurn, ConverseApart, desk, AnswersAll, StopsAt, AnsweredActAsRun, ToldAgain, OpenKeepsDone, ClosedKeepsPrefix};
+
+use crate::converse::converse;
+use crate::fault::DeskFault;
+use farm_keep::Keeper;
+use sqlite::Alter;
+use std::alloc::Global;
+use std::io::{Read, Write};
+
+/// Converses once at each moment, one conversation after another over one reader and one writer, and
+/// stops at the first that isn't answered. The laws below say what that comes to. Costs what the
+/// conversations cost.
+pub fn converse_in_turn<R: Read, W: Write, S: Alter>(
+    alloc: Global,
+    keeper: &mut Keeper<S>,
+    reader: &mut R,
+    writer: &mut W,
+    moments: &[u64],
+) -> Result<(), DeskFault>
+    ensures answered { OnOk result (AnswersAll S.Store
+        (desk keeper.old (R.remaining reader.old) (W.contents writer.old))
+        (desk keeper.new (R.remaining reader.new) (W.contents writer.new)) moments.now) }
+    ensures fault { IfErr result (λ fault. StopsAt S.Store
+        (desk keeper.old (R.remaining reader.old) (W.contents writer.old))
+        (desk keeper.new (R.remaining reader.new) (W.contents writer.new)) moments.now fault) }
+    ensures clean { doubt (state S.Store keeper.old.conn).is_clean ≤ doubt (state S.Store keeper.new.conn).is_clean }
+{
+    for now in moments {
+        if let Err(fault) = converse(alloc, keeper, reader, writer, *now) {
+            return Err(fault);
+        }
+    }
+    Ok(())
+}
+
+/// Conversations over one list and then over another are the conversations over their joining.
+pub fn conversations_join<S: Alter>()
+    ensures { (first second : List Talk) (old new : Desk S)
+        → ConverseInTurn S.Store (first ++ second) old new ↔ ConverseApart S.Store first second old new }
+{}
+
+/// Conversations that are all answered act as one run over the calls that they ask, in the order of
+/// the requests: what left the reader are the requests, one behind another, what was written are the
+/// answers, each the machine's at its place, and the store keeps the farm after the run.
+pub fn answered_act_as_run<S: Alter>()
+    ensures { AnsweredActAsRun S.Store }
+{}
+
+/// A request that is sent again under its key is told the kept reply, or is refused for its key or
+/// its moment: a client that gets no answer may send it again until it gets one.
+pub fn request_told_again()
+    ensures { ToldAgain }
+{}
+
+/// However conversations end, the store keeps the farm after the calls that were done. Where one of
+/// them closes the keeper, a stop leaves that farm or, unless memory was wanting, perhaps the one
+/// after the call that it asked: that is the crash prefix of conversations.
+pub fn conversations_keep_a_prefix<S: Alter>()
+    ensures opened { OpenKeepsDone S.Store }
+    ensures closed { ClosedKeepsPrefix S.Store }
+{}
