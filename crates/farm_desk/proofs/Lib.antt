@@ -1,4 +1,6 @@
 mod AnswerLemmas
 mod HeardLemmas
+mod ConverseLemmas
 mod ImportLemmas
 mod FileLemmas
+mod ServingLemmas
