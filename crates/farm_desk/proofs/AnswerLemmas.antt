@@ -1,5 +1,5 @@
 -- The answers that are due: to a view, to what is denied, to a call.
-use Rattle.std.proofs.Common.{◌≡◌, ◌≢◌, ◌≤◌, arith, ◌↔◌, ℕ, List, Bool, true, false, refl, sym, ap, ◌∙◌, subst, Ok, Err, inl, inr}
+use Rattle.std.proofs.Common.{◌≡◌, ◌≢◌, ◌↔◌, ℕ, List, Bool, true, false, refl, sym, ap, ◌∙◌, subst, Ok, Err, inr}
 use Rattle.std.specs.Prelude.{Result}
 use Rattle.sqlite_trees.specs.declared.store.Store.{Ghosts}
 use Rattle.farm_types.specs.Machine.{Answered, answer, step}
@@ -15,7 +15,7 @@ use Rattle.farm_wire.specs.Reading.{Denial}
 use Rattle.farm_wire.specs.Replies.{reply_bytes}
 use Rattle.farm_wire.specs.declared.ask.Ask.{Ask}
 use Rattle.farm_wire.specs.declared.answers.Out.{Out}
-use Rattle.farm_desk.specs.Answers.{IsView, IsLook, Says, Does, denied, refusal, replied}
+use Rattle.farm_desk.specs.Answers.{IsView, IsLook, Says, denied, refusal, replied}
 use Rattle.farm_desk.specs.Due.{Closes, IsDueTo, RunsOut}
 use Rattle.farm_desk.specs.Made.{IsMadeOf, IsMadeOfOne}
 use Rattle.farm_desk.specs.declared.fault.DeskFault.{DeskFault}

@@ -20,7 +20,7 @@ use Rattle.farm_store.specs.Schema.{no_schema}
 use Rattle.farm_types.specs.Farm.{Farm, empty}
 use Rattle.farm_keep.specs.Headline.{Adopts}
 use Rattle.farm_keep.specs.Kept.{Kept, Keeps, KeepsFarm}
-use Rattle.farm_desk.specs.InFiles.{FindsFarm, HasFarm, HoldsFarm, HoldsNoTable, MakesFarm}
+use Rattle.farm_desk.specs.InFiles.{FindsFarm, MakesFarm}
 
 zip_none : {A B : Type 0} (P : A → B → Type 0) (bs : List B) → AllZip P [] bs → bs ≡ []
 zip_none P [] all = refl

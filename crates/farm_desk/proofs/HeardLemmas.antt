@@ -1,5 +1,5 @@
 -- What was read and what it means, joined.
-use Rattle.std.proofs.Common.{◌≡◌, ℕ, List, [], drop, refl, Ok, Err, inl, inr, subst, sym}
+use Rattle.std.proofs.Common.{◌≡◌, ℕ, List, drop, refl, Ok, Err, inl, inr, subst}
 use Rattle.std.specs.Prelude.{Option, Some, None, Result, IfSome}
 use Rattle.farm_types.specs.declared.refusal.Refusal.{Refusal}
 use Rattle.farm_http.specs.Request.{Request, request_of}

@@ -1,5 +1,5 @@
 -- Which answer is due, and how the conversation ends once it is written.
-use Rattle.std.specs.Prelude.{◌≡◌, ℕ, ◌⊎◌, true, false, List, Option, Result, Ok, Err, ⊤}
+use Rattle.std.specs.Prelude.{◌≡◌, ℕ, ◌⊎◌, true, false, List, Option, Result, Ok, Err}
 use Rattle.sqlite_trees.specs.declared.store.Store.{Ghosts}
 use Rattle.farm_types.specs.Machine.{answer, step}
 use Rattle.farm_types.specs.declared.calls.Call.{Call}

@@ -1,5 +1,5 @@
 -- How a conversation ends.
-use Rattle.std.specs.Prelude.{◌≡◌, ℕ, List, Option, Result, Ok, Err}
+use Rattle.std.specs.Prelude.{◌≡◌, ℕ, Bool, true, false, List, Option, Result, Err}
 use Rattle.std.specs.Io.KnownBytes.{Appends, Keeps}
 use Rattle.farm_http.specs.Faults.{WritesPrefix}
 use Rattle.farm_keep.specs.Kept.{Kept}
@@ -17,6 +17,17 @@ pub record IsUnwritten (Due : List ℕ → Result ℕ DeskFault → Type 0) (hel
   pub end : Result ℕ DeskFault
   pub due : Due bytes end
   pub part : WritesPrefix held holds bytes
+
+-- a writer gained all of the bytes, or where it failed a part of them
+abbrev pub Gains : Bool → Option (List ℕ) → Option (List ℕ) → List ℕ → Type 0
+Gains false held holds bytes = Appends held holds bytes
+Gains true held holds bytes = WritesPrefix held holds bytes
+
+-- the writer gained the answer that was due, or where it failed a part of it
+pub record IsTold (Due : List ℕ → Result ℕ DeskFault → Type 0) (failed : Bool) (held holds : Option (List ℕ)) (end : Result ℕ DeskFault) : Type 0 where
+  pub bytes : List ℕ
+  pub due : Due bytes end
+  pub written : Gains failed held holds bytes
 
 -- the reader gave no request: nothing is written, and the keeper stays as it was
 pub record IsUnread {S : Type 0} (old new : Kept S) (held holds : Option (List ℕ)) : Type 0 where

@@ -7,7 +7,7 @@ use Rattle.farm_keep.specs.Faults.{fault_code}
 use Rattle.farm_keep.specs.declared.fault.KeepFault.{KeepFault}
 use Rattle.farm_desk.specs.declared.fault.DeskFault.{DeskFault}
 use Rattle.farm_desk.specs.declared.orders.End.{End}
-use Rattle.farm_desk.specs.declared.program.TheConstants.{DONE, FAILED, NO_ROOM, REFUSED, WRONG_WORDS}
+use Rattle.farm_desk.specs.declared.program.TheConstants.{DONE, FAILED, NO_ROOM, REFUSED}
 
 abbrev pub fault_number : DeskFault → ℕ
 fault_number DeskFault.NoMemory = NO_MEMORY
@@ -33,5 +33,4 @@ abbrev pub order_status : Result End DeskFault → ℕ
 order_status (Ok End.Done) = DONE
 order_status (Ok End.Refused) = REFUSED
 order_status (Ok (End.RefusedAt place refusal)) = REFUSED
-order_status (Ok End.NotYet) = WRONG_WORDS
 order_status (Err fault) = exit_status fault

@@ -5,6 +5,8 @@ pub mod Due
 pub mod Ends
 pub mod Made
 pub mod Imports
+pub mod Serving
 pub mod InFiles
 pub mod Reports
 pub mod Conversations
+pub mod Lines

@@ -1,10 +1,10 @@
 //! One request, one answer.
-ghost use Rattle.std.specs.Prelude.{◌≡◌, ◌≤◌, ◌↔◌, Err, IfOk, IfErr, IsTrue};
+ghost use Rattle.std.specs.Prelude.{◌≡◌, ◌≢◌, ◌≤◌, ◌↔◌, false, Err, IfOk, IfErr, IsTrue};
 ghost use Rattle.sqlite.specs.Held.{state};
 ghost use Rattle.sqlite_trees.specs.View.{doubt};
 ghost use Rattle.farm_http.specs.Logs.{unread, unwritten, IsSpent};
 ghost use Rattle.farm_desk.specs.Due.{IsDue};
-ghost use Rattle.farm_desk.specs.Ends.{IsAnswered, IsUnwritten, IsUnread, IsToldBy};
+ghost use Rattle.farm_desk.specs.Ends.{IsAnswered, IsUnwritten, IsUnread, IsTold, IsToldBy};
 ghost use Rattle.farm_desk.specs.Made.{bytes_in};
 
 use crate::answer::due_to;
@@ -86,11 +86,41 @@ pub fn converse_logged<R: Read, W: Write, S: Alter>(
     ensures spent { result ≡ Err DeskFault.Read → IsSpent log.new.reading }
     ensures clean { doubt (state S.Store keeper.old.conn).is_clean ≤ doubt (state S.Store keeper.new.conn).is_clean }
 {
-    let due = due(alloc, keeper, reader, now, &mut log.reading)?;
-    match write_whole_logged(writer, due.bytes(), &mut log.writing) {
-        Ok(()) => due.end,
-        Err(_) => Err(DeskFault::Write),
+    let end = converse_through(alloc, keeper, reader, writer, now, log);
+    if log.writing.has_failed() {
+        return Err(DeskFault::Write);
     }
+    end
+}
+
+/// Converses as `converse_logged` does, and ends as the answer that was due ends it, also where that
+/// answer was lost: so a keeper's fault is known in each case.
+pub(crate) fn converse_through<R: Read, W: Write, S: Alter>(
+    alloc: Global,
+    keeper: &mut Keeper<S>,
+    reader: &mut R,
+    writer: &mut W,
+    now: u64,
+    log: &mut Log,
+) -> Result<u16, DeskFault>
+    requires unread { log.old.reading ≡ unread }
+    requires unwritten { log.old.writing ≡ unwritten }
+
+    // The answer that is due was written, or where the writer failed a part of it.
+    ensures told { result ≢ Err DeskFault.Read → IsTold
+        (IsDue S.Store keeper.old keeper.new (R.remaining reader.old) (R.remaining reader.new) now)
+        log.new.writing.failed (W.contents writer.old) (W.contents writer.new) result }
+
+    // The reader gave no request.
+    ensures unread { result ≡ Err DeskFault.Read → IsUnread keeper.old keeper.new
+        (W.contents writer.old) (W.contents writer.new) × IsSpent log.new.reading
+        × (log.new.writing.failed ≡ false) }
+    ensures clean { doubt (state S.Store keeper.old.conn).is_clean ≤ doubt (state S.Store keeper.new.conn).is_clean }
+{
+    let due = due(alloc, keeper, reader, now, &mut log.reading)?;
+    // Whether the writer failed, its log says.
+    let _ = write_whole_logged(writer, due.bytes(), &mut log.writing);
+    due.end
 }
 
 /// The answer that is due, unless the reader gave no request.

@@ -69,7 +69,7 @@ pub fn make_farm<S: Start>(
 {
     let conn = open(rt, path, start)?;
     match Keeper::fresh(alloc, conn) {
-        Ok(keeper) => Ok(keeper),
+        Ok(made) => Ok(made),
         Err(fault) => Err(DeskFault::Keep(fault)),
     }
 }

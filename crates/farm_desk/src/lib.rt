@@ -1,8 +1,9 @@
 //! The desk of the board farm: bytes in, bytes out, over a store.
 //!
 //! `converse` reads one request, acts on the farm or looks at it, and writes one answer; `import`
-//! adds what a lab file lists; `program` is the program `farm`. `specs/` says what a conversation
-//! is, in the order Heard, Answers, Due, Ends, and what an import is in Imports.
+//! adds what a lab file lists; `serve_on` converses with one connection after another; `program` is
+//! the program `farm`. `specs/` says what a conversation is, in the order Heard, Answers, Due, Ends,
+//! what an import is in Imports, and what serving makes of a farm in Serving.
 #![tactic(auto)]
 
 mod answer;
@@ -15,8 +16,10 @@ pub mod import;
 pub mod laws;
 pub mod log;
 pub mod orders;
+mod patient;
 pub mod program;
 mod report;
+pub mod serve;
 
 pub use farm_order::fault::OrderFault;
 pub use farm_order::order::{Order, Place, Report};

@@ -1,17 +1,20 @@
 //! Carrying out an order.
-ghost use Rattle.std.specs.Prelude.{◌≡◌, ◌≤◌, ℕ, Ok, IfOk};
+ghost use Rattle.std.specs.Prelude.{◌≡◌, ◌≤◌, ℕ, None, Ok, IfOk, OnOk};
 ghost use Rattle.std.specs.Io.KnownBytes.{Appends};
 ghost use Rattle.farm_desk.specs.Due.{IsDue};
 ghost use Rattle.farm_desk.specs.Ends.{IsAnswered};
 ghost use Rattle.farm_desk.specs.Faults.{end_of};
+ghost use Rattle.farm_desk.specs.Imports.{IsImport};
+ghost use Rattle.farm_desk.specs.Lines.{counts_line, port_line, TellsImport};
 ghost use Rattle.farm_desk.specs.Reports.{Reports, seconds_ahead};
 
 use crate::converse::converse;
 use crate::due::OK;
 use crate::fault::DeskFault;
 use crate::files::{make_farm, open_farm, read_lab};
-use crate::import::import;
+use crate::import::{ImportEnd, import};
 use crate::report::{report_text, zone_between};
+use crate::serve::serve_on;
 use farm_keep::{KeepFault, Keeper};
 use farm_order::order::{Order, Place, Report};
 use farm_types::refusal::Refusal;
@@ -19,6 +22,7 @@ use farm_wire::write_whole;
 use sqlite::{Alter, Connection, MemStore, Unknown};
 use std::alloc::Global;
 use std::io::{Read, Write};
+use std::net::{Ipv4Addr, TcpListener};
 
 /// How an order ended that met no fault.
 #[derive(Clone, Copy, Debug, PartialEq, Eq)]
@@ -29,12 +33,10 @@ pub enum End {
     Refused,
     /// The command at that place of its lab file, counted from 1, was refused.
     RefusedAt(usize, Refusal),
-    /// Nothing was done: the order isn't there yet.
-    NotYet,
 }
 
-/// Carries out an order. Faults are found in this order: those of the store, of the lab file, then
-/// of the input and the output. Files are opened with the reading of a crash that most disks keep,
+/// Carries out an order. Faults are found in this order: those of the store, of the lab file or the
+/// listener, then of the input and the output. Files are opened with the reading of a crash that most disks keep,
 /// that a torn write leaves each byte old or new: so most commits sync once.
 pub fn carry_out<R: Read, W: Write>(
     rt: &HostRuntime,
@@ -55,7 +57,7 @@ pub fn carry_out<R: Read, W: Write>(
             west,
             which,
         } => report(rt, alloc, file.as_str(), (east, west), which, output),
-        Order::Serve { .. } => Ok(End::NotYet),
+        Order::Serve { file, port, max } => serve(rt, alloc, file.as_str(), port, max, output),
     }
 }
 
@@ -134,15 +136,66 @@ fn import_file<W: Write>(
 ) -> Result<End, DeskFault> {
     let mut keeper = open_farm(rt, alloc, file, Unknown)?;
     let text = read_lab(rt, alloc, lab)?;
-    let end = import(alloc, &mut keeper, text.as_slice(), at);
+    import_text(alloc, &mut keeper, text.as_slice(), at, output)
+}
+
+/// Adds what a lab file lists to a keeper's farm, and prints how much that was.
+fn import_text<W: Write, S: Alter>(
+    alloc: Global,
+    keeper: &mut Keeper<S>,
+    text: &[u8],
+    at: u64,
+    output: &mut W,
+) -> Result<End, DeskFault>
+    ensures { IfOk result (λ end. (imported : ImportEnd) × IsImport S.Store keeper.old keeper.new text.now at imported
+        × (imported.fault ≡ None)
+        × TellsImport imported (W.contents output.old) (W.contents output.new) end) }
+{
+    let end = import(alloc, keeper, text, at);
     if let Some(fault) = end.fault {
         return Err(fault);
     }
     if let Some((place, refusal)) = end.stopped {
         return Ok(End::RefusedAt(place, refusal));
     }
-    match writeln!(output, "accepted {}, kept {}", end.accepted, end.kept) {
+    print_counts(output, end.accepted, end.kept)
+}
+
+/// Prints how many commands were accepted, and how many had been before.
+fn print_counts<W: Write>(output: &mut W, accepted: usize, kept: usize) -> Result<End, DeskFault>
+    ensures { IfOk result (λ end. (end ≡ End.Done)
+        × Appends (W.contents output.old) (W.contents output.new) (counts_line accepted kept)) }
+{
+    match writeln!(output, "accepted {accepted}, kept {kept}") {
         Ok(()) => Ok(End::Done),
+        Err(_) => Err(DeskFault::Write),
+    }
+}
+
+/// Serves so many connections to a port of 127.0.0.1 from the farm of a file.
+fn serve<W: Write>(
+    rt: &HostRuntime,
+    alloc: Global,
+    file: &str,
+    port: u16,
+    max: u64,
+    output: &mut W,
+) -> Result<End, DeskFault> {
+    let mut keeper = open_farm(rt, alloc, file, Unknown)?;
+    let Ok(listener) = TcpListener::bind(rt, (Ipv4Addr::LOCALHOST, port)) else {
+        return Err(DeskFault::Read);
+    };
+    print_port(output, port)?;
+    serve_on(alloc, &mut keeper, &listener, max, rt)?;
+    Ok(End::Done)
+}
+
+/// Prints the port on which clients are heard from now on.
+fn print_port<W: Write>(output: &mut W, port: u16) -> Result<(), DeskFault>
+    ensures { OnOk result (Appends (W.contents output.old) (W.contents output.new) (port_line port)) }
+{
+    match writeln!(output, "listening {port}") {
+        Ok(()) => Ok(()),
         Err(_) => Err(DeskFault::Write),
     }
 }

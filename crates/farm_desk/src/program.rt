@@ -1,6 +1,8 @@
 //! The program: its words, its faults and its exit status.
-ghost use Rattle.std.specs.Prelude.{◌≡◌};
+ghost use Rattle.std.specs.Prelude.{◌≡◌, OnOk};
+ghost use Rattle.std.specs.Io.KnownBytes.{Appends};
 ghost use Rattle.farm_desk.specs.Faults.{exit_status, order_status};
+ghost use Rattle.farm_desk.specs.Lines.{fault_line, refusal_line};
 
 use crate::fault::DeskFault;
 use crate::orders::{End, carry_out};
@@ -12,6 +14,7 @@ use farm_order::words::order_of;
 use farm_types::refusal::Refusal;
 use farm_wire::write_whole;
 use std::alloc::Global;
+use std::io;
 use std::io::{Read, Write};
 
 /// The order was carried out; a request was answered 200.
@@ -20,7 +23,7 @@ pub const DONE: u8 = 0;
 pub const WRONG_WORDS: u8 = 2;
 /// The request was refused, as its answer tells, or the file of an import.
 pub const REFUSED: u8 = 3;
-/// The store, the input or the output failed.
+/// The store, the input, the output or the listener failed.
 pub const FAILED: u8 = 4;
 /// There was no memory.
 pub const NO_ROOM: u8 = 5;
@@ -72,13 +75,8 @@ fn status_of<E: Write>(errors: &mut E, ended: Result<End, DeskFault>) -> u8
         Ok(End::Done) => DONE,
         Ok(End::Refused) => REFUSED,
         Ok(End::RefusedAt(place, refusal)) => {
-            let (code, text) = (refusal.code, refusal.text());
-            let _ = writeln!(errors, "farm: {code} {text} at {place}");
+            let _ = write_refusal(errors, place, refusal);
             REFUSED
-        }
-        Ok(End::NotYet) => {
-            let _ = write_whole(errors, b"farm: the program doesn't serve yet\n");
-            WRONG_WORDS
         }
         Err(fault) => tell(errors, fault),
     }
@@ -89,9 +87,7 @@ fn status_of<E: Write>(errors: &mut E, ended: Result<End, DeskFault>) -> u8
 pub fn tell<E: Write>(errors: &mut E, fault: DeskFault) -> u8
     ensures { result ≡ exit_status fault }
 {
-    let code = fault.code();
-    let text = Refusal { code }.text();
-    let _ = writeln!(errors, "farm: {code} {text}");
+    let _ = write_fault(errors, fault.code());
     match fault {
         DeskFault::NoMemory
         | DeskFault::Keep(KeepFault::NoMemory)
@@ -99,4 +95,21 @@ pub fn tell<E: Write>(errors: &mut E, fault: DeskFault) -> u8
         DeskFault::File(_) => REFUSED,
         _ => FAILED,
     }
+}
+
+/// Writes the line of a fault of that number.
+fn write_fault<E: Write>(errors: &mut E, code: u16) -> io::Result<()>
+    ensures { OnOk result (Appends (E.contents errors.old) (E.contents errors.new) (fault_line code)) }
+{
+    let text = Refusal { code }.text();
+    writeln!(errors, "farm: {code} {text}")
+}
+
+/// Writes the line of a lab file's refused command, whose place is counted from 1.
+fn write_refusal<E: Write>(errors: &mut E, place: usize, refusal: Refusal) -> io::Result<()>
+    ensures { OnOk result (Appends (E.contents errors.old) (E.contents errors.new)
+        (refusal_line refusal.code place)) }
+{
+    let (code, text) = (refusal.code, refusal.text());
+    writeln!(errors, "farm: {code} {text} at {place}")
 }

@@ -1,5 +1,5 @@
 -- The keeper's answer and its faults, as what is due.
-use Rattle.std.proofs.Common.{◌≡◌, subst}
+use Rattle.std.proofs.Common.{subst}
 use Rattle.farm_desk.specs.Made.{IsMadeOf, bytes_in}
 use Rattle.farm_desk.proofs.AnswerLemmas.{call_is_due, fault_is_due}
 use Rattle.farm_desk.proofs.answer.due_to_call.Goals as goal

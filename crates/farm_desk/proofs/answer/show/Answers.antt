@@ -1,5 +1,5 @@
 -- Each view's answer, with the rows that it lends.
-use Rattle.std.proofs.Common.{◌≡◌, refl, sym, subst}
+use Rattle.std.proofs.Common.{refl, sym, subst}
 use Rattle.farm_wire.specs.declared.answers.Out.{Out}
 use Rattle.farm_desk.specs.Answers.{IsView}
 use Rattle.farm_desk.specs.Made.{IsMadeOfOne, bytes_in}

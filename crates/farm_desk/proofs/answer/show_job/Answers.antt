@@ -1,5 +1,5 @@
 -- One job, or that there is none.
-use Rattle.std.proofs.Common.{◌≡◌, refl, subst}
+use Rattle.std.proofs.Common.{refl, subst}
 use Rattle.farm_types.specs.declared.refusal.TheConstants.{NO_JOB}
 use Rattle.farm_wire.specs.declared.answers.Out.{Out}
 use Rattle.farm_desk.specs.Answers.{ShowsJob, refusal}

@@ -1,5 +1,5 @@
 -- The claims, or that there is no memory to list them.
-use Rattle.std.proofs.Common.{◌≡◌, ◌∙◌}
+use Rattle.std.proofs.Common.{◌∙◌}
 use Rattle.farm_wire.specs.declared.answers.Out.{Out}
 use Rattle.farm_desk.proofs.AnswerLemmas.{made_of_one, short_of_all}
 use Rattle.farm_desk.proofs.answer.show_queue.Goals as goal

@@ -6,4 +6,4 @@ pub returns-in-Ok : goal.returns-in-Ok
 returns-in-Ok g c =
     let opened = c.in_ok-conn.ensures in
     let made = c.in-Ok.ensures in
-    fresh_makes (image_at g.S.Start) c.in_ok-conn.conn c.in-Ok.keeper opened.opened opened.found made.opened made.keeps made.clean
+    fresh_makes (image_at g.S.Start) c.in_ok-conn.conn c.in-Ok.made opened.opened opened.found made.opened made.keeps made.clean

@@ -1,0 +1,248 @@
+-- What a conversation makes of a keeper, and one connection after others.
+use Rattle.std.proofs.Common.{◌≡◌, ◌≢◌, ◌≤◌, ◌+◌, ◌↔◌, ℕ, List, [], ◌∷◌, ◌++◌, true, false, refl, sym, ap, ◌∙◌, subst, arith, Ok, Err, inl, inr}
+use Rattle.std.specs.Prelude.{Option, Result}
+use Rattle.std.proofs.lemmas.List.{length-append}
+use Rattle.std.proofs.lemmas.List.Sums.{fold-append}
+use Rattle.sqlite_trees.specs.declared.store.Store.{Ghosts}
+use Rattle.farm_types.specs.Farm.{Farm}
+use Rattle.farm_types.specs.Machine.{answer, run, step}
+use Rattle.farm_types.specs.declared.calls.Call.{Call}
+use Rattle.farm_core.specs.Answers.{IsChange}
+use Rattle.farm_keep.specs.Kept.{Kept, Keeps, KeepsEither, KeepsFarm}
+use Rattle.farm_keep.specs.declared.fault.KeepFault.{KeepFault}
+use Rattle.farm_wire.specs.Reading.{Denial}
+use Rattle.farm_wire.specs.declared.ask.Ask.{Ask}
+use Rattle.farm_desk.specs.Answers.{Answers}
+use Rattle.farm_desk.specs.Due.{Closes, ClosesIfAsked, IsDue, IsDueTo, RestsOrIsDone}
+use Rattle.farm_desk.specs.Ends.{IsTold}
+use Rattle.farm_desk.specs.Serving.{ClosesAfter, PassesOn, Serves, ServesUntil}
+use Rattle.farm_desk.specs.declared.fault.DeskFault.{DeskFault}
+
+-- ---- one connection
+
+-- nothing is done
+pub serves_none : {S : Type 0} (g : Ghosts S) (k : Kept S) (max : ℕ) → k.is_open ≡ true → Serves g k k max
+serves_none g k max opened = record {
+  was_open = opened;
+  calls = [];
+  few = omega arith;
+  reaches = record { opened = refl; farm = refl; stands = λ keeps. keeps };
+}
+
+rests : {S : Type 0} (g : Ghosts S) (old new : Kept S) (max : ℕ) → old.is_open ≡ true → new ≡ old → Serves g old new max
+rests g old new max opened same = subst (λ k. Serves g old k max) (sym same) (serves_none g old max opened)
+
+-- a call is done
+serves_call : {S : Type 0} (g : Ghosts S) (old new : Kept S) (call : Call) → old.is_open ≡ true → new.is_open ≡ old.is_open
+    → new.farm.farm ≡ step old.farm.farm call → (Keeps g old → Keeps g new) → Serves g old new 1
+serves_call g old new call opened stays farm stands = record {
+  was_open = opened;
+  calls = call ∷ [];
+  few = omega arith;
+  reaches = record { opened = stays; farm = farm; stands = stands };
+}
+
+answered : {S : Type 0} (g : Ghosts S) (old new : Kept S) (what : Result Ask Denial) (bytes : List ℕ) (status : ℕ)
+    → old.is_open ≡ true → Answers g old new what bytes status → Serves g old new 1
+answered g old new (Err why) bytes status opened due = rests g old new 1 opened due.rests
+answered g old new (Ok (Ask.Call call)) bytes status opened due =
+    serves_call g old new call opened (due.stays_open ∙ sym due.was_open) due.farm due.stands
+answered g old new (Ok Ask.Types) bytes status opened due = rests g old new 1 opened due.rests
+answered g old new (Ok Ask.Boards) bytes status opened due = rests g old new 1 opened due.rests
+answered g old new (Ok Ask.Queue) bytes status opened due = rests g old new 1 opened due.rests
+answered g old new (Ok Ask.Reservations) bytes status opened due = rests g old new 1 opened due.rests
+answered g old new (Ok Ask.Status) bytes status opened due = rests g old new 1 opened due.rests
+answered g old new (Ok (Ask.Job number)) bytes status opened due = rests g old new 1 opened due.rests
+
+ran_out : {S : Type 0} (g : Ghosts S) (old new : Kept S) (what : Result Ask Denial)
+    → old.is_open ≡ true → new.is_open ≡ old.is_open → RestsOrIsDone g old new what → Serves g old new 1
+ran_out g old new (Err why) opened stays same = rests g old new 1 opened same
+ran_out g old new (Ok (Ask.Call call)) opened stays (inl same) = rests g old new 1 opened same
+ran_out g old new (Ok (Ask.Call call)) opened stays (inr done) = serves_call g old new call opened stays done.farm done.stands
+ran_out g old new (Ok Ask.Types) opened stays same = rests g old new 1 opened same
+ran_out g old new (Ok Ask.Boards) opened stays same = rests g old new 1 opened same
+ran_out g old new (Ok Ask.Queue) opened stays same = rests g old new 1 opened same
+ran_out g old new (Ok Ask.Reservations) opened stays same = rests g old new 1 opened same
+ran_out g old new (Ok Ask.Status) opened stays same = rests g old new 1 opened same
+ran_out g old new (Ok (Ask.Job number)) opened stays same = rests g old new 1 opened same
+
+-- what the keeper's fault is told as
+abbrev given : KeepFault → Result ℕ DeskFault
+given fault = Err (DeskFault.Keep fault)
+
+closed : {S : Type 0} (g : Ghosts S) (old new : Kept S) (what : Ask) (fault : KeepFault) (bytes : List ℕ)
+    → Closes g old new what fault bytes → ServesUntil g old new 1 (given fault)
+closed g old new what KeepFault.Closed bytes due = due.cause
+closed g old new what KeepFault.BadStore bytes due = absurd due.cause
+closed g old new what KeepFault.OldSchema bytes due = absurd due.cause
+closed g old new (Ask.Call call) KeepFault.NoMemory bytes due = record {
+  was_open = due.cause.was_open;
+  is_closed = due.is_closed;
+  calls = [];
+  call = call;
+  few = omega arith;
+  change = due.cause.change;
+  leaves = λ keeps. subst (λ c. KeepsFarm g (record { conn = c; farm = old.farm; is_open = old.is_open }) old.farm.farm) (sym due.cause.store) keeps;
+}
+closed g old new (Ask.Call call) KeepFault.Store bytes due = record {
+  was_open = due.cause.was_open;
+  is_closed = due.is_closed;
+  calls = [];
+  call = call;
+  few = omega arith;
+  change = due.cause.change;
+  leaves = due.cause.leaves;
+}
+closed g old new Ask.Types KeepFault.NoMemory bytes due = absurd due.cause
+closed g old new Ask.Boards KeepFault.NoMemory bytes due = absurd due.cause
+closed g old new Ask.Queue KeepFault.NoMemory bytes due = absurd due.cause
+closed g old new Ask.Reservations KeepFault.NoMemory bytes due = absurd due.cause
+closed g old new Ask.Status KeepFault.NoMemory bytes due = absurd due.cause
+closed g old new (Ask.Job number) KeepFault.NoMemory bytes due = absurd due.cause
+closed g old new Ask.Types KeepFault.Store bytes due = absurd due.cause
+closed g old new Ask.Boards KeepFault.Store bytes due = absurd due.cause
+closed g old new Ask.Queue KeepFault.Store bytes due = absurd due.cause
+closed g old new Ask.Reservations KeepFault.Store bytes due = absurd due.cause
+closed g old new Ask.Status KeepFault.Store bytes due = absurd due.cause
+closed g old new (Ask.Job number) KeepFault.Store bytes due = absurd due.cause
+
+closed_if_asked : {S : Type 0} (g : Ghosts S) (old new : Kept S) (what : Result Ask Denial) (fault : KeepFault) (bytes : List ℕ)
+    → ClosesIfAsked g old new what fault bytes → ServesUntil g old new 1 (given fault)
+closed_if_asked g old new (Ok what) fault bytes due = closed g old new what fault bytes due
+closed_if_asked g old new (Err why) fault bytes due = absurd due
+
+-- the same fault, of whatever there is besides
+retold : {S A : Type 0} (g : Ghosts S) (old new : Kept S) (max : ℕ) (fault : KeepFault) → ServesUntil g old new max (given fault)
+    → (told : Result A DeskFault) → told ≡ Err (DeskFault.Keep fault) → ServesUntil g old new max told
+retold g old new max KeepFault.NoMemory serves told same = subst (ServesUntil g old new max) (sym same) serves
+retold g old new max KeepFault.Store serves told same = subst (ServesUntil g old new max) (sym same) serves
+retold g old new max KeepFault.Closed serves told same = subst (ServesUntil g old new max) (sym same) serves
+retold g old new max KeepFault.BadStore serves told same = absurd serves
+retold g old new max KeepFault.OldSchema serves told same = absurd serves
+
+asked : {S A : Type 0} (g : Ghosts S) (old new : Kept S) (what : Result Ask Denial) (bytes : List ℕ) (end : Result ℕ DeskFault) (told : Result A DeskFault)
+    → old.is_open ≡ true → PassesOn end told → IsDueTo g old new what bytes end → ServesUntil g old new 1 told
+asked g old new what bytes (Ok status) (Ok done) opened passes due = answered g old new what bytes status opened due
+asked g old new what bytes (Ok status) (Err fault) opened passes due = absurd passes
+asked g old new what bytes (Err DeskFault.NoMemory) (Ok done) opened passes due = ran_out g old new what opened due.stays_open due.farm
+asked g old new what bytes (Err DeskFault.NoMemory) (Err fault) opened passes due = absurd passes
+asked g old new what bytes (Err DeskFault.Read) told opened passes due = absurd due
+asked g old new what bytes (Err DeskFault.Write) told opened passes due = absurd due
+asked g old new what bytes (Err (DeskFault.File fault)) told opened passes due = absurd due
+asked g old new what bytes (Err (DeskFault.Keep fault)) told opened passes due =
+    retold g old new 1 fault (closed_if_asked g old new what fault bytes due) told passes
+
+not_understood : {S A : Type 0} (g : Ghosts S) (old new : Kept S) (end : Result ℕ DeskFault) (told : Result A DeskFault)
+    → old.is_open ≡ true → PassesOn end told → end ≡ Err DeskFault.NoMemory → new ≡ old → ServesUntil g old new 1 told
+not_understood g old new end (Ok done) opened passes short same = rests g old new 1 opened same
+not_understood {A = A} g old new end (Err fault) opened passes short same =
+    absurd (subst (λ e. PassesOn {A = A} e (Err fault)) short passes)
+
+due_serves : {S A : Type 0} (g : Ghosts S) (old new : Kept S) (input rest : Option (List ℕ)) (now : ℕ) (bytes : List ℕ) (end : Result ℕ DeskFault) (told : Result A DeskFault)
+    → old.is_open ≡ true → PassesOn end told → IsDue g old new input rest now bytes end → ServesUntil g old new 1 told
+due_serves g old new input rest now bytes end told opened passes (inl due) = asked g old new due.what bytes end told opened passes due.due
+due_serves g old new input rest now bytes end told opened passes (inr short) = not_understood g old new end told opened passes short.fault short.rests
+
+-- a conversation, by its end
+pub conversation_serves : {S A : Type 0} (g : Ghosts S) (old new : Kept S) (input rest : Option (List ℕ)) (now : ℕ) (failed : _) (held holds : Option (List ℕ))
+    (end : Result ℕ DeskFault) (told : Result A DeskFault)
+    → old.is_open ≡ true → PassesOn end told
+    → (end ≢ Err DeskFault.Read → IsTold (IsDue g old new input rest now) failed held holds end)
+    → (end ≡ Err DeskFault.Read → new ≡ old)
+    → ServesUntil g old new 1 told
+conversation_serves g old new input rest now failed held holds (Err DeskFault.Read) (Ok done) opened passes tells unread =
+    rests g old new 1 opened (unread refl)
+conversation_serves g old new input rest now failed held holds (Err DeskFault.Read) (Err fault) opened passes tells unread = absurd passes
+conversation_serves g old new input rest now failed held holds (Ok status) told opened passes tells unread =
+    let t = tells (λ e. cc) in due_serves g old new input rest now t.bytes (Ok status) told opened passes t.due
+conversation_serves g old new input rest now failed held holds (Err DeskFault.NoMemory) told opened passes tells unread =
+    let t = tells (λ e. cc) in due_serves g old new input rest now t.bytes (Err DeskFault.NoMemory) told opened passes t.due
+conversation_serves g old new input rest now failed held holds (Err DeskFault.Write) told opened passes tells unread =
+    let t = tells (λ e. cc) in due_serves g old new input rest now t.bytes (Err DeskFault.Write) told opened passes t.due
+conversation_serves g old new input rest now failed held holds (Err (DeskFault.Keep fault)) told opened passes tells unread =
+    let t = tells (λ e. cc) in due_serves g old new input rest now t.bytes (Err (DeskFault.Keep fault)) told opened passes t.due
+conversation_serves g old new input rest now failed held holds (Err (DeskFault.File fault)) told opened passes tells unread =
+    let t = tells (λ e. cc) in due_serves g old new input rest now t.bytes (Err (DeskFault.File fault)) told opened passes t.due
+
+-- ---- one connection after others
+
+run_on : (F G : Farm) (before calls : List Call) → G ≡ run F before → run G calls ≡ run F (before ++ calls)
+run_on F G before calls farm = ap (λ H. run H calls) farm ∙ sym (fold-append step F before calls)
+
+closes_on : {S : Type 0} (g : Ghosts S) (old mid new : Kept S) (n : ℕ) (Leaves Leaves' : List Call → Call → Type 0)
+    → (first : Serves g old mid n) → ClosesAfter g mid new 1 Leaves
+    → ((calls : List Call) (call : Call) → Leaves calls call → Leaves' (first.calls ++ calls) call)
+    → ClosesAfter g old new (n + 1) Leaves'
+closes_on g old mid new n Leaves Leaves' first last further = record {
+  was_open = first.was_open;
+  is_closed = last.is_closed;
+  calls = first.calls ++ last.calls;
+  call = last.call;
+  few = omega (arith, first.few, last.few, length-append first.calls last.calls);
+  change = subst (λ F. IsChange (answer F last.call)) (run_on old.farm.farm mid.farm.farm first.calls last.calls first.reaches.farm) last.change;
+  leaves = λ keeps. further last.calls last.call (last.leaves (first.reaches.stands keeps));
+}
+
+-- one more connection is served
+pub serves_next : {S A : Type 0} (g : Ghosts S) (old mid new : Kept S) (n : ℕ) (end : Result A DeskFault)
+    → Serves g old mid n → ServesUntil g mid new 1 end → ServesUntil g old new (n + 1) end
+serves_next g old mid new n (Ok done) first last = record {
+  was_open = first.was_open;
+  calls = first.calls ++ last.calls;
+  few = omega (arith, first.few, last.few, length-append first.calls last.calls);
+  reaches = record {
+    opened = last.reaches.opened ∙ first.reaches.opened;
+    farm = last.reaches.farm ∙ run_on old.farm.farm mid.farm.farm first.calls last.calls first.reaches.farm;
+    stands = λ keeps. last.reaches.stands (first.reaches.stands keeps);
+  };
+}
+serves_next g old mid new n (Err (DeskFault.Keep KeepFault.NoMemory)) first last =
+    closes_on g old mid new n (λ calls call. KeepsFarm g new (run mid.farm.farm calls)) (λ calls call. KeepsFarm g new (run old.farm.farm calls)) first last
+    (λ calls call kept. subst (KeepsFarm g new) (run_on old.farm.farm mid.farm.farm first.calls calls first.reaches.farm) kept)
+serves_next g old mid new n (Err (DeskFault.Keep KeepFault.Store)) first last =
+    closes_on g old mid new n (λ calls call. KeepsEither g new (run mid.farm.farm calls) (step (run mid.farm.farm calls) call))
+    (λ calls call. KeepsEither g new (run old.farm.farm calls) (step (run old.farm.farm calls) call)) first last
+    (λ calls call kept. subst (λ F. KeepsEither g new F (step F call)) (run_on old.farm.farm mid.farm.farm first.calls calls first.reaches.farm) kept)
+serves_next g old mid new n (Err (DeskFault.Keep KeepFault.Closed)) first last =
+    absurd (let e = sym last.was_closed ∙ first.reaches.opened ∙ first.was_open in cc)
+serves_next g old mid new n (Err (DeskFault.Keep KeepFault.BadStore)) first last = absurd last
+serves_next g old mid new n (Err (DeskFault.Keep KeepFault.OldSchema)) first last = absurd last
+serves_next g old mid new n (Err DeskFault.NoMemory) first last = absurd last
+serves_next g old mid new n (Err DeskFault.Read) first last = absurd last
+serves_next g old mid new n (Err DeskFault.Write) first last = absurd last
+serves_next g old mid new n (Err (DeskFault.File fault)) first last = absurd last
+
+closes_within : {S : Type 0} (g : Ghosts S) (old new : Kept S) (n max : ℕ) (Leaves : List Call → Call → Type 0) → n ≤ max
+    → ClosesAfter g old new n Leaves → ClosesAfter g old new max Leaves
+closes_within g old new n max Leaves less closes = record {
+  was_open = closes.was_open;
+  is_closed = closes.is_closed;
+  calls = closes.calls;
+  call = closes.call;
+  few = omega (arith, less, closes.few);
+  change = closes.change;
+  leaves = closes.leaves;
+}
+
+-- more connections might have been served
+pub serves_within : {S A : Type 0} (g : Ghosts S) (old new : Kept S) (n max : ℕ) (end : Result A DeskFault) → n ≤ max
+    → ServesUntil g old new n end → ServesUntil g old new max end
+serves_within g old new n max (Ok done) less serves =
+    record { was_open = serves.was_open; calls = serves.calls; few = omega (arith, less, serves.few); reaches = serves.reaches }
+serves_within g old new n max (Err (DeskFault.Keep KeepFault.NoMemory)) less serves =
+    closes_within g old new n max (λ calls call. KeepsFarm g new (run old.farm.farm calls)) less serves
+serves_within g old new n max (Err (DeskFault.Keep KeepFault.Store)) less serves =
+    closes_within g old new n max (λ calls call. KeepsEither g new (run old.farm.farm calls) (step (run old.farm.farm calls) call)) less serves
+serves_within g old new n max (Err (DeskFault.Keep KeepFault.Closed)) less serves = serves
+serves_within g old new n max (Err (DeskFault.Keep KeepFault.BadStore)) less serves = absurd serves
+serves_within g old new n max (Err (DeskFault.Keep KeepFault.OldSchema)) less serves = absurd serves
+serves_within g old new n max (Err DeskFault.NoMemory) less serves = absurd serves
+serves_within g old new n max (Err DeskFault.Read) less serves = absurd serves
+serves_within g old new n max (Err DeskFault.Write) less serves = absurd serves
+serves_within g old new n max (Err (DeskFault.File fault)) less serves = absurd serves
+
+-- of a keeper that was open the fault is never that it was closed
+pub never_closed : {S A : Type 0} (g : Ghosts S) (old new : Kept S) (max : ℕ) (end : Result A DeskFault) → old.is_open ≡ true
+    → ServesUntil g old new max end → (end ≡ Err (DeskFault.Keep KeepFault.Closed) ↔ old.is_open ≡ false)
+never_closed g old new max end opened serves =
+    (λ e. (subst (ServesUntil g old new max) e serves).was_closed, λ shut. absurd (cc))

@@ -1,0 +1,31 @@
+-- The lines that the program writes.
+use Rattle.std.specs.Prelude.{◌≡◌, ℕ, List, [], ◌∷◌, ◌++◌, codes, decimal, Option, Some, None}
+use Rattle.std.specs.Io.KnownBytes.{Appends, Keeps}
+use Rattle.farm_types.specs.Refusals.{text_of}
+use Rattle.farm_types.specs.declared.refusal.Refusal.{Refusal}
+use Rattle.farm_desk.specs.declared.import.ImportEnd.{ImportEnd}
+use Rattle.farm_desk.specs.declared.orders.End.{End}
+
+-- so many commands of a lab file were accepted, and so many had been before
+abbrev pub counts_line : ℕ → ℕ → List ℕ
+counts_line accepted kept = (codes "accepted " ++ (decimal accepted ++ (codes ", kept " ++ decimal kept))) ++ 10 ∷ []
+
+-- clients are heard on this port
+abbrev pub port_line : ℕ → List ℕ
+port_line port = (codes "listening " ++ decimal port) ++ 10 ∷ []
+
+-- a fault of this number
+abbrev pub fault_line : ℕ → List ℕ
+fault_line code = (codes "farm: " ++ (decimal code ++ (codes " " ++ text_of code))) ++ 10 ∷ []
+
+-- a refusal of this number, at that place of a lab file
+abbrev pub refusal_line : ℕ → ℕ → List ℕ
+refusal_line code place = (codes "farm: " ++ (decimal code ++ (codes " " ++ (text_of code ++ (codes " at " ++ decimal place))))) ++ 10 ∷ []
+
+-- an import without a refusal prints its line; of one with, the place and the refusal are given, and nothing is printed
+abbrev pub TellsBy : Option (ℕ × Refusal) → List ℕ → Option (List ℕ) → Option (List ℕ) → End → Type 0
+TellsBy None line held holds end = (end ≡ End.Done) × Appends held holds line
+TellsBy (Some stop) line held holds end = (end ≡ End.RefusedAt stop.0 stop.1) × Keeps held holds
+
+abbrev pub TellsImport : ImportEnd → Option (List ℕ) → Option (List ℕ) → End → Type 0
+TellsImport imported held holds end = TellsBy imported.stopped (counts_line imported.accepted imported.kept) held holds end

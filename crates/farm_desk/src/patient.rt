@@ -1,0 +1,96 @@
+//! A client's stream, with limits of time.
+use std::io;
+use std::io::{Error, ErrorKind, Read, Write};
+use std::net::{Shutdown, TcpStream};
+use std::time::{Clock, Duration};
+
+/// How long a client may take over its request, and how long over its answer, in seconds.
+pub const LIMIT_SECONDS: u64 = 10;
+
+/// The most reads that `drop_rest` makes, of `ROOM` bytes each.
+const MOST_READS: u32 = 32;
+
+const ROOM: usize = 4096;
+
+/// One direction of a client's stream. A read or a write that waits for `LIMIT_SECONDS` fails, and so
+/// does one that begins later than that after the first. So whoever sends or takes a byte now and then
+/// keeps the others waiting for no longer than twice that at the request, and as long at the answer.
+#[derive(Drop)]
+pub(crate) struct Patient<'a, C: Clock> {
+    stream: &'a TcpStream,
+    clock: &'a C,
+    since: Option<Duration>,
+}
+
+impl<'a, C: Clock> Patient<'a, C> {
+    /// A direction whose time begins with its first read or write.
+    pub(crate) fn new(stream: &'a TcpStream, clock: &'a C) -> Patient<'a, C> {
+        Patient {
+            stream,
+            clock,
+            since: None,
+        }
+    }
+
+    /// Fails where the time is over.
+    fn begin(&mut self) -> io::Result<()> {
+        let now = self.clock.monotonic()?;
+        match self.since {
+            Some(since) if now.saturating_sub(since) > limit() => {
+                Err(Error::from(ErrorKind::TimedOut))
+            }
+            Some(_) => Ok(()),
+            None => {
+                self.since = Some(now);
+                Ok(())
+            }
+        }
+    }
+}
+
+impl<C: Clock> Read for Patient<'_, C> {
+    fn read(&mut self, buf: &mut [u8]) -> io::Result<usize> {
+        self.begin()?;
+        let mut stream = self.stream;
+        stream.read(buf)
+    }
+}
+
+impl<C: Clock> Write for Patient<'_, C> {
+    fn write(&mut self, buf: &[u8]) -> io::Result<usize> {
+        self.begin()?;
+        let mut stream = self.stream;
+        stream.write(buf)
+    }
+
+    fn flush(&mut self) -> io::Result<()> {
+        Ok(())
+    }
+}
+
+fn limit() -> Duration {
+    Duration::from_secs(LIMIT_SECONDS)
+}
+
+/// Lets no read and no write of a stream wait for longer than the limit.
+pub(crate) fn limit_waits(stream: &TcpStream) -> io::Result<()> {
+    stream.set_read_timeout(Some(limit()))?;
+    stream.set_write_timeout(Some(limit()))
+}
+
+/// Ends an answer, and drops what has come and was not asked for. A close over unread bytes would
+/// reset the connection, and the client could lose its answer (RFC 9112, section 9.6). It waits for
+/// nothing.
+pub(crate) fn drop_rest(stream: &TcpStream) {
+    if stream.shutdown(Shutdown::Write).is_err() || stream.set_nonblocking(true).is_err() {
+        return;
+    }
+    let mut stream = stream;
+    let mut room = [0u8; ROOM];
+    for _ in 0..MOST_READS {
+        match stream.read(&mut room) {
+            Ok(count) if count > 0 => {}
+            _ => return,
+        }
+    }
+}
