@@ -1,4 +1,4 @@
-//! The boards that are measured: 256 of them, with eight tags each.
+//! The boards that are measured, with eight tags each.
 use farm_types::asked::Wants;
 use farm_types::fault::WordFault;
 use farm_types::rows::{BoardRow, Check, Health, Holder, State, TypeRow, Want};
@@ -6,13 +6,11 @@ use farm_types::tags::{Tag, Tags};
 use farm_types::words::Name;
 use std::alloc::Global;
 
-/// How many boards there are.
-pub const BOARDS: u64 = 256;
+/// The most boards that a farm can have.
+pub const MOST: u64 = 256;
 
-/// How many boards a farm has of a type, and how many of its boards have the rare tag.
-const OF_KIND: u64 = 64;
-
-const RARE: u64 = 4;
+/// How many of a farm's boards have the rare tag.
+pub const RARE: u64 = 4;
 
 pub fn name(alloc: Global, text: &str) -> anyhow::Result<Name> {
     Ok(Name::parse(alloc, text.as_bytes())?)
@@ -32,9 +30,14 @@ pub fn board_name(alloc: Global, place: u64) -> anyhow::Result<Name> {
     name(alloc, text.as_str())
 }
 
-/// The type of a farm's board at a place.
-pub fn kind_at(place: u64) -> &'static str {
-    match place / OF_KIND {
+/// The type of the board at a place, of so many: the first quarter is of the first type.
+pub fn kind_at(place: u64, boards: u64) -> &'static str {
+    kind(place.saturating_mul(4) / boards.max(1))
+}
+
+/// A farm's types in turn; the last from 3 on.
+pub fn kind(turn: u64) -> &'static str {
+    match turn {
         0 => "aaa",
         1 => "bbb",
         2 => "ccc",
@@ -69,39 +72,40 @@ fn board(alloc: Global, place: u64, kind: &str, last: &str) -> anyhow::Result<Bo
     })
 }
 
-/// The greatest tag of a board where the last `rare` boards have the rare one.
-fn last_tag(place: u64, rare: u64) -> &'static str {
-    if place < BOARDS.saturating_sub(rare) {
+/// The greatest tag of the board at a place, of so many whose last `rare` have the rare one.
+fn last_tag(place: u64, boards: u64, rare: u64) -> &'static str {
+    if place < boards.saturating_sub(rare) {
         "k16"
     } else {
         "k15"
     }
 }
 
-/// Boards of one type, in name order; the last `fitting` of them have the rare tag.
+/// 256 boards of one type, in name order; the last `fitting` of them have the rare tag.
 pub fn boards(alloc: Global, fitting: u64) -> anyhow::Result<Vec<BoardRow>> {
     let mut rows = Vec::new(alloc);
-    for place in 0..BOARDS {
-        rows.push(board(alloc, place, "bbb", last_tag(place, fitting))?)?;
+    for place in 0..MOST {
+        rows.push(board(alloc, place, "bbb", last_tag(place, MOST, fitting))?)?;
     }
     Ok(rows)
 }
 
-/// A farm's board, which is in maintenance where it is one of the last `away`.
-fn lab_board(alloc: Global, place: u64, away: u64) -> anyhow::Result<BoardRow> {
-    let mut row = board(alloc, place, kind_at(place), last_tag(place, RARE))?;
-    if place >= BOARDS.saturating_sub(away) {
+/// A board of a farm of so many, which is in maintenance where it is one of the last `away`.
+fn lab_board(alloc: Global, place: u64, boards: u64, away: u64) -> anyhow::Result<BoardRow> {
+    let last = last_tag(place, boards, RARE);
+    let mut row = board(alloc, place, kind_at(place, boards), last)?;
+    if place >= boards.saturating_sub(away) {
         row.health = Health::Maintenance;
     }
     Ok(row)
 }
 
-/// The boards of a farm, 64 of each of four types, in name order. The last four have the rare tag,
-/// and the last `away` are in maintenance.
-pub fn lab(alloc: Global, away: u64) -> anyhow::Result<Vec<BoardRow>> {
+/// The boards of a farm, a quarter of each of four types, in name order. The last four have the
+/// rare tag, and the last `away` are in maintenance.
+pub fn lab(alloc: Global, boards: u64, away: u64) -> anyhow::Result<Vec<BoardRow>> {
     let mut rows = Vec::new(alloc);
-    for place in 0..BOARDS {
-        rows.push(lab_board(alloc, place, away)?)?;
+    for place in 0..boards {
+        rows.push(lab_board(alloc, place, boards, away)?)?;
     }
     Ok(rows)
 }

@@ -1,21 +1,22 @@
 //! The calls that are given to a farm.
 ghost use Rattle.std.specs.Prelude.{◌≡◌, ◌≤◌, ◌&&◌, ◌∷◌, [], None, IfOk, IsTrue, is_some, length, true};
-ghost use Rattle.farm_types.specs.Proper.{is_proper_cmd, is_want};
+ghost use Rattle.farm_types.specs.Proper.{has_no_name_tag, is_proper_cmd, is_want};
 
 use crate::{boards, shape};
 use anyhow::bail;
 use farm_types::asked::{Roles, Wants};
 use farm_types::calls::{Call, Cmd};
-use farm_types::rows::{Outcome, Want};
+use farm_types::rows::{Check, Health, Outcome, Want};
 use farm_types::words::{Body, Key, Name, Priority, Tags};
 use std::alloc::Global;
-
-/// How many calls of a command are given.
-pub const CALLS: u64 = 256;
 
 /// A command that is given many times.
 #[derive(Clone, Copy)]
 pub enum Step {
+    AddType,
+    AddBoard,
+    SetTags,
+    SetHealth,
     Submit,
     Cancel,
     Start,
@@ -30,6 +31,10 @@ pub enum Step {
 impl Step {
     pub fn name(self) -> &'static str {
         match self {
+            Step::AddType => "AddType",
+            Step::AddBoard => "AddBoard",
+            Step::SetTags => "SetTags",
+            Step::SetHealth => "SetHealth",
             Step::Submit => "Submit",
             Step::Cancel => "Cancel",
             Step::Start => "Start",
@@ -44,6 +49,7 @@ impl Step {
 
     fn caller(self) -> &'static str {
         match self {
+            Step::AddType | Step::AddBoard | Step::SetTags | Step::SetHealth => "admin",
             Step::Start | Step::Finish => "dispatcher",
             _ => "ann",
         }
@@ -88,15 +94,15 @@ fn submit_one(alloc: Global, priority: Priority, want: Want, body: Body) -> anyh
     Ok(Cmd::Submit(priority, wants, roles, body))
 }
 
-/// The command that submits one job, for a board of the type at a place.
-fn submit(alloc: Global, place: u64) -> anyhow::Result<Cmd>
+/// The command that submits one job, for a board of the type at a place of so many.
+fn submit(alloc: Global, place: u64, boards: u64) -> anyhow::Result<Cmd>
     ensures { IfOk result (λ cmd. IsTrue (is_proper_cmd cmd)) }
 {
     let body = shape::job_file(alloc)?;
     if body.len() > 65_536 {
         bail!("too long");
     }
-    let kind = boards::name(alloc, boards::kind_at(place))?;
+    let kind = boards::name(alloc, boards::kind_at(place, boards))?;
     let want = want_of(kind, boards::asked_tags(alloc, false)?);
     submit_one(alloc, shape::priority()?, want, body)
 }
@@ -108,14 +114,60 @@ fn reserve(alloc: Global) -> anyhow::Result<Cmd>
     Ok(Cmd::reserve(shape::priority()?, tags))
 }
 
-/// The command at a place among many: the rows that it speaks of are numbered from `first` on.
+/// The tags that boards are given, none of which is `name`.
+fn board_tags(alloc: Global) -> anyhow::Result<Tags>
+    ensures { IfOk result (λ tags. IsTrue (has_no_name_tag tags)) }
+{
+    let tags = boards::asked_tags(alloc, true)?;
+    if !tags.has_no_name_tag() {
+        bail!("a tag `name`");
+    }
+    Ok(tags)
+}
+
+fn add_type(alloc: Global, place: u64) -> anyhow::Result<Cmd>
+    ensures { IfOk result (λ cmd. IsTrue (is_proper_cmd cmd)) }
+{
+    let text = format!(in alloc; "type-{place:04}")?;
+    Ok(Cmd::add_type(boards::name(alloc, text.as_str())?, Check::Never))
+}
+
+/// The command that adds a board of one of the four types, which take turns.
+fn add_board(alloc: Global, place: u64) -> anyhow::Result<Cmd>
+    ensures { IfOk result (λ cmd. IsTrue (is_proper_cmd cmd)) }
+{
+    let text = format!(in alloc; "extra-{place:04}")?;
+    let name = boards::name(alloc, text.as_str())?;
+    let kind = boards::name(alloc, boards::kind(place % 4))?;
+    Ok(Cmd::add_board(name, kind, board_tags(alloc)?))
+}
+
+fn set_tags(alloc: Global, place: u64) -> anyhow::Result<Cmd>
+    ensures { IfOk result (λ cmd. IsTrue (is_proper_cmd cmd)) }
+{
+    let name = boards::board_name(alloc, place)?;
+    Ok(Cmd::set_tags(name, board_tags(alloc)?))
+}
+
+fn set_health(alloc: Global, place: u64) -> anyhow::Result<Cmd>
+    ensures { IfOk result (λ cmd. IsTrue (is_proper_cmd cmd)) }
+{
+    let name = boards::board_name(alloc, place)?;
+    Ok(Cmd::set_health(name, Health::Maintenance))
+}
+
+/// The command at a place among so many: the rows that it speaks of are numbered from `first` on.
 #[tactic(auto, unfolding(farm_types::specs::Proper::is_proper_cmd))]
-fn command(alloc: Global, step: Step, first: u64, place: u64) -> anyhow::Result<Cmd>
+fn command(alloc: Global, step: Step, first: u64, place: u64, count: u64) -> anyhow::Result<Cmd>
     ensures { IfOk result (λ cmd. IsTrue (is_proper_cmd cmd)) }
 {
     let number = first.saturating_add(place);
     match step {
-        Step::Submit => submit(alloc, place),
+        Step::AddType => add_type(alloc, place),
+        Step::AddBoard => add_board(alloc, place),
+        Step::SetTags => set_tags(alloc, place),
+        Step::SetHealth => set_health(alloc, place),
+        Step::Submit => submit(alloc, place, count),
         Step::Cancel => Ok(Cmd::Cancel(number)),
         Step::Start => Ok(Cmd::Start(number)),
         Step::Finish => Ok(Cmd::Finish(number, Outcome::Complete)),
@@ -145,21 +197,21 @@ pub fn pass(alloc: Global, now: u64) -> anyhow::Result<Call> {
     call(alloc, "dispatcher", None, now, Cmd::Pass)
 }
 
-/// Calls of one command on 256 rows, numbered from `first` on.
-pub fn calls(alloc: Global, step: Step, first: u64) -> anyhow::Result<Vec<Call>> {
+/// So many calls of one command, on rows numbered from `first` on.
+pub fn calls(alloc: Global, step: Step, first: u64, count: u64) -> anyhow::Result<Vec<Call>> {
     let mut calls = Vec::new(alloc);
-    for place in 0..CALLS {
-        let cmd = command(alloc, step, first, place)?;
+    for place in 0..count {
+        let cmd = command(alloc, step, first, place, count)?;
         calls.push(call(alloc, step.caller(), None, shape::NOW, cmd)?)?;
     }
     Ok(calls)
 }
 
-/// Calls that submit a job each, with keys that stand before all that are kept.
-pub fn keyed_calls(alloc: Global) -> anyhow::Result<Vec<Call>> {
+/// So many calls that submit a job each, with keys that stand before all that are kept.
+pub fn keyed_calls(alloc: Global, count: u64) -> anyhow::Result<Vec<Call>> {
     let mut calls = Vec::new(alloc);
-    for place in 0..CALLS {
-        let cmd = submit(alloc, place)?;
+    for place in 0..count {
+        let cmd = submit(alloc, place, count)?;
         let key = first_key(alloc, place)?;
         calls.push(call(alloc, "ann", Some(key), shape::NOW, cmd)?)?;
     }

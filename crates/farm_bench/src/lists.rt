@@ -7,20 +7,26 @@ use farm_types::rows::BoardRow;
 use farm_types::table::is_sorted;
 
 /// Boards that fit: none, too few for four wants, just enough and behind all others, all.
-const FITTING: [u64; 5] = [0, 1, 3, 4, boards::BOARDS];
+const FITTING: [u64; 5] = [0, 1, 3, 4, boards::MOST];
 
 const CALLS: u64 = 1000;
 
-fn show_found(watch: &Watch<'_>, fitting: u64, found: Option<Picked>) -> anyhow::Result<()> {
-    match found {
-        None => println!(watch.rt; "{fitting} boards fit: none")?,
-        Some(picked) => println!(watch.rt; "{fitting} boards fit: {:?}", picked.places())?,
-    }
-    Ok(())
+fn show_found(watch: &mut Watch<'_>, fitting: u64, found: Option<Picked>) -> anyhow::Result<()> {
+    let alloc = watch.alloc();
+    let what = match found {
+        None => format!(in alloc; "{fitting} fit: none")?,
+        Some(picked) => format!(in alloc; "{fitting} fit: {:?}", picked.places())?,
+    };
+    watch.show(what.as_str(), 0)
 }
 
 /// Looks once, and prints the places.
-fn look(watch: &Watch<'_>, fitting: u64, boards: &[BoardRow], wants: &Wants) -> anyhow::Result<()> {
+fn look(
+    watch: &mut Watch<'_>,
+    fitting: u64,
+    boards: &[BoardRow],
+    wants: &Wants,
+) -> anyhow::Result<()> {
     if !is_sorted(boards) {
         return Ok(());
     }
@@ -29,7 +35,12 @@ fn look(watch: &Watch<'_>, fitting: u64, boards: &[BoardRow], wants: &Wants) -> 
 }
 
 /// Prints the time of a look, of a thousand.
-fn time(watch: &Watch<'_>, fitting: u64, boards: &[BoardRow], wants: &Wants) -> anyhow::Result<()> {
+fn time(
+    watch: &mut Watch<'_>,
+    fitting: u64,
+    boards: &[BoardRow],
+    wants: &Wants,
+) -> anyhow::Result<()> {
     if !is_sorted(boards) {
         return Ok(());
     }
@@ -41,11 +52,11 @@ fn time(watch: &Watch<'_>, fitting: u64, boards: &[BoardRow], wants: &Wants) -> 
         }
     }
     let nanos = watch.stop(start)?;
-    let what = format!(in watch.alloc(); "{fitting} boards fit, {met} of {CALLS} met")?;
+    let what = format!(in watch.alloc(); "{fitting} fit, {met} of {CALLS} met")?;
     watch.show_each(what.as_str(), nanos, CALLS)
 }
 
-fn measure(watch: &Watch<'_>, fitting: u64) -> anyhow::Result<()> {
+fn measure(watch: &mut Watch<'_>, fitting: u64) -> anyhow::Result<()> {
     let boards = boards::boards(watch.alloc(), fitting)?;
     let wants = boards::wants(watch.alloc())?;
     if watch.timed {
@@ -55,7 +66,8 @@ fn measure(watch: &Watch<'_>, fitting: u64) -> anyhow::Result<()> {
     }
 }
 
-pub fn run(watch: &Watch<'_>) -> anyhow::Result<()> {
+pub fn run(watch: &mut Watch<'_>) -> anyhow::Result<()> {
+    watch.begin("least list, four wants, 256 boards")?;
     for fitting in FITTING {
         measure(watch, fitting)?;
     }

@@ -5,7 +5,7 @@ use crate::{boards, steps};
 use farm_core::farm::Farm;
 
 /// Takes the rows of a shape.
-fn open(watch: &Watch<'_>, name: &str, shape: &Shape) -> anyhow::Result<()> {
+fn open(watch: &mut Watch<'_>, name: &str, shape: &Shape) -> anyhow::Result<()> {
     let rows = shape::rows(watch.alloc(), shape)?;
     let start = watch.start()?;
     let farm = Farm::from_rows(rows)?;
@@ -13,14 +13,14 @@ fn open(watch: &Watch<'_>, name: &str, shape: &Shape) -> anyhow::Result<()> {
     let status = farm.status();
     let (jobs, reservations) = (status.jobs, status.reservations);
     let what = format!(in watch.alloc();
-        "  {name}, {jobs} jobs and {reservations} reservations taken"
+        "{name}, {jobs} jobs and {reservations} reservations taken"
     )?;
     watch.show(what.as_str(), nanos)
 }
 
 /// Takes rows that ended, rows that wait, and all at once.
-pub fn run_rows(watch: &Watch<'_>, rows: u64) -> anyhow::Result<()> {
-    println!(watch.rt; "rows")?;
+pub fn run_rows(watch: &mut Watch<'_>, rows: u64) -> anyhow::Result<()> {
+    watch.begin("taking rows")?;
     let finished = Shape {
         finished: rows,
         ..IDLE
@@ -56,13 +56,13 @@ pub fn run_rows(watch: &Watch<'_>, rows: u64) -> anyhow::Result<()> {
     open(watch, "both, and three times as many kept replies", &kept)
 }
 
-fn pass(watch: &Watch<'_>, name: &str, shape: &Shape, now: u64) -> anyhow::Result<()> {
+fn pass(watch: &mut Watch<'_>, name: &str, shape: &Shape, now: u64) -> anyhow::Result<()> {
     let mut farm = steps::farm(watch, shape)?;
     steps::measure_pass(watch, &mut farm, name, now)
 }
 
 /// Passes over groups of four.
-fn run_groups(watch: &Watch<'_>, claims: u64) -> anyhow::Result<()> {
+fn run_groups(watch: &mut Watch<'_>, claims: u64) -> anyhow::Result<()> {
     let some = Shape {
         groups: claims,
         ..IDLE
@@ -77,14 +77,14 @@ fn run_groups(watch: &Watch<'_>, claims: u64) -> anyhow::Result<()> {
     pass(watch, "groups that lack one board", &short, NOW)?;
     let away = Shape {
         groups: claims,
-        away: boards::BOARDS,
+        away: boards::MOST,
         ..IDLE
     };
     pass(watch, "groups where no board is free", &away, NOW)
 }
 
 /// Passes over reservations.
-fn run_reservations(watch: &Watch<'_>, claims: u64) -> anyhow::Result<()> {
+fn run_reservations(watch: &mut Watch<'_>, claims: u64) -> anyhow::Result<()> {
     let some = Shape {
         waiting: claims,
         ..IDLE
@@ -100,7 +100,7 @@ fn run_reservations(watch: &Watch<'_>, claims: u64) -> anyhow::Result<()> {
 }
 
 /// Passes with much to do but serving, and one with nothing to do.
-fn run_rest(watch: &Watch<'_>, rows: u64) -> anyhow::Result<()> {
+fn run_rest(watch: &mut Watch<'_>, rows: u64) -> anyhow::Result<()> {
     let dead = Shape {
         waiting: rows / 10,
         ..IDLE
@@ -116,35 +116,40 @@ fn run_rest(watch: &Watch<'_>, rows: u64) -> anyhow::Result<()> {
 }
 
 /// Passes over so many claims, and over so many rows of other kinds.
-pub fn run_passes(watch: &Watch<'_>, rows: u64, claims: u64) -> anyhow::Result<()> {
-    println!(watch.rt; "passes over {claims} claims")?;
+pub fn run_passes(watch: &mut Watch<'_>, rows: u64, claims: u64) -> anyhow::Result<()> {
+    let heading = format!(in watch.alloc(); "passes over {claims} claims")?;
+    watch.begin(heading.as_str())?;
     run_groups(watch, claims)?;
     run_reservations(watch, claims)?;
-    println!(watch.rt; "passes over {rows} rows")?;
+    let heading = format!(in watch.alloc(); "passes over {rows} rows")?;
+    watch.begin(heading.as_str())?;
     run_rest(watch, rows)
 }
 
 /// Passes over the most claims that there can be.
-pub fn run_full_passes(watch: &Watch<'_>, rows: u64) -> anyhow::Result<()> {
+pub fn run_full_passes(watch: &mut Watch<'_>, rows: u64) -> anyhow::Result<()> {
     let groups = rows / 4;
-    println!(watch.rt; "passes over {groups} groups, and over {rows} reservations")?;
+    let heading = format!(in watch.alloc();
+        "passes over {groups} groups, and over {rows} reservations"
+    )?;
+    watch.begin(heading.as_str())?;
     run_groups(watch, groups)?;
     run_reservations(watch, rows)
 }
 
-fn queue(watch: &Watch<'_>, name: &str, shape: &Shape) -> anyhow::Result<()> {
+fn queue(watch: &mut Watch<'_>, name: &str, shape: &Shape) -> anyhow::Result<()> {
     let farm = steps::farm(watch, shape)?;
     let start = watch.start()?;
     let claims = farm.queue()?;
     let nanos = watch.stop(start)?;
     let count = claims.len();
-    let what = format!(in watch.alloc(); "  {name}, {count} claims")?;
+    let what = format!(in watch.alloc(); "{name}, {count} claims")?;
     watch.show(what.as_str(), nanos)
 }
 
 /// The queue of claims, half of them groups of four, alone and behind finished jobs.
-pub fn run_queue(watch: &Watch<'_>, rows: u64, claims: u64) -> anyhow::Result<()> {
-    println!(watch.rt; "queue")?;
+pub fn run_queue(watch: &mut Watch<'_>, rows: u64, claims: u64) -> anyhow::Result<()> {
+    watch.begin("queue")?;
     let waiting = claims / 2;
     let groups = claims - waiting;
     let alone = Shape {

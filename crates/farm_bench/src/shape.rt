@@ -14,13 +14,17 @@ pub const NOW: u64 = 1_700_000_000;
 /// For how long a reservation lives without a refresh, in seconds.
 pub const LEASE: u64 = 60;
 
-/// What stands in a farm beside its 256 boards.
+/// What stands in a farm.
 #[derive(Clone, Copy)]
 pub struct Shape {
+    /// Boards, of which a quarter is of each type.
+    pub boards: u64,
     /// Jobs that are finished.
     pub finished: u64,
     /// Reservations that were canceled.
     pub canceled: u64,
+    /// Single jobs that wait.
+    pub singles: u64,
     /// Groups of four jobs that wait.
     pub groups: u64,
     /// Reservations that wait.
@@ -35,10 +39,12 @@ pub struct Shape {
     pub kept: u64,
 }
 
-/// The boards alone.
+/// 256 boards alone.
 pub const IDLE: Shape = Shape {
+    boards: boards::MOST,
     finished: 0,
     canceled: 0,
+    singles: 0,
     groups: 0,
     waiting: 0,
     rare: false,
@@ -70,8 +76,8 @@ fn take_number(rows: &mut Rows) -> u64 {
     number
 }
 
-/// A job that waits. It asks for a board of the type of the place.
-fn job(alloc: Global, number: u64, group: u64, place: u64, rare: bool) -> anyhow::Result<JobRow> {
+/// A job that waits. It asks for a board of a type.
+fn job(alloc: Global, number: u64, group: u64, kind: &str, rare: bool) -> anyhow::Result<JobRow> {
     let body = if number == group {
         job_file(alloc)?
     } else {
@@ -84,7 +90,7 @@ fn job(alloc: Global, number: u64, group: u64, place: u64, rare: bool) -> anyhow
         owner: owner(alloc)?,
         priority: priority()?,
         want: Want {
-            kind: Some(boards::name(alloc, boards::kind_at(place))?),
+            kind: Some(boards::name(alloc, kind)?),
             tags: boards::asked_tags(alloc, rare)?,
         },
         role: None,
@@ -95,10 +101,15 @@ fn job(alloc: Global, number: u64, group: u64, place: u64, rare: bool) -> anyhow
     })
 }
 
-fn add_finished(alloc: Global, rows: &mut Rows) -> anyhow::Result<()> {
+/// The place of the board that goes with a number, among so many boards.
+fn place_of(number: u64, boards: u64) -> u64 {
+    number % boards.max(1)
+}
+
+fn add_finished(alloc: Global, rows: &mut Rows, boards: u64) -> anyhow::Result<()> {
     let number = take_number(rows);
-    let place = number % boards::BOARDS;
-    let mut row = job(alloc, number, number, place, false)?;
+    let place = place_of(number, boards);
+    let mut row = job(alloc, number, number, boards::kind_at(place, boards), false)?;
     row.state = JobState::Finished;
     row.outcome = Some(Outcome::Complete);
     row.board = Some(boards::board_name(alloc, place)?);
@@ -106,17 +117,23 @@ fn add_finished(alloc: Global, rows: &mut Rows) -> anyhow::Result<()> {
     Ok(())
 }
 
-/// Four jobs of one group, for boards of one type; the rare tag is found in the last type alone.
-fn add_group(alloc: Global, rows: &mut Rows, rare: bool) -> anyhow::Result<()> {
-    let group = rows.meta.next;
-    let place = if rare {
-        boards::BOARDS
+/// The type that the claim with that number asks for; the rare tag is found in the last type alone.
+fn kind_of(number: u64, shape: &Shape) -> &'static str {
+    if shape.rare {
+        boards::kind(3)
     } else {
-        group % boards::BOARDS
-    };
-    for _ in 0..4 {
+        boards::kind_at(place_of(number, shape.boards), shape.boards)
+    }
+}
+
+/// A group of so many jobs, for boards of one type.
+fn add_group(alloc: Global, rows: &mut Rows, shape: &Shape, jobs: u64) -> anyhow::Result<()> {
+    let group = rows.meta.next;
+    let kind = kind_of(group, shape);
+    for _ in 0..jobs {
         let number = take_number(rows);
-        rows.jobs.push(job(alloc, number, group, place, rare)?)?;
+        rows.jobs
+            .push(job(alloc, number, group, kind, shape.rare)?)?;
     }
     Ok(())
 }
@@ -142,11 +159,11 @@ fn add_waiting(alloc: Global, rows: &mut Rows, rare: bool) -> anyhow::Result<()>
     Ok(())
 }
 
-fn add_canceled(alloc: Global, rows: &mut Rows) -> anyhow::Result<()> {
+fn add_canceled(alloc: Global, rows: &mut Rows, boards: u64) -> anyhow::Result<()> {
     let number = take_number(rows);
     let mut row = reservation(alloc, number, false)?;
     row.state = ResState::Canceled;
-    row.board = Some(boards::board_name(alloc, number % boards::BOARDS)?);
+    row.board = Some(boards::board_name(alloc, place_of(number, boards))?);
     rows.reservations.push(row)?;
     Ok(())
 }
@@ -171,7 +188,7 @@ fn idle_rows(alloc: Global, shape: &Shape) -> anyhow::Result<Rows> {
     };
     Ok(Rows {
         types: boards::types(alloc, check)?,
-        boards: boards::lab(alloc, shape.away)?,
+        boards: boards::lab(alloc, shape.boards, shape.away)?,
         jobs: Vec::new(alloc),
         reservations: Vec::new(alloc),
         kept: Vec::new(alloc),
@@ -190,13 +207,16 @@ pub fn rows(alloc: Global, shape: &Shape) -> anyhow::Result<Rows> {
         add_kept(alloc, &mut rows, place)?;
     }
     for _ in 0..shape.finished {
-        add_finished(alloc, &mut rows)?;
+        add_finished(alloc, &mut rows, shape.boards)?;
     }
     for _ in 0..shape.canceled {
-        add_canceled(alloc, &mut rows)?;
+        add_canceled(alloc, &mut rows, shape.boards)?;
+    }
+    for _ in 0..shape.singles {
+        add_group(alloc, &mut rows, shape, 1)?;
     }
     for _ in 0..shape.groups {
-        add_group(alloc, &mut rows, shape.rare)?;
+        add_group(alloc, &mut rows, shape, 4)?;
     }
     for _ in 0..shape.waiting {
         add_waiting(alloc, &mut rows, shape.rare)?;

@@ -1,5 +1,6 @@
 //! What a command costs, by how many jobs and reservations there are.
-use crate::calls::{self, CALLS, Step};
+use crate::boards;
+use crate::calls::{self, Step};
 use crate::shape::{self, IDLE, Shape};
 use crate::watch::Watch;
 use farm_core::farm::Farm;
@@ -22,9 +23,9 @@ fn give(farm: &mut Farm, calls: &[Call]) -> anyhow::Result<u64> {
     Ok(accepted)
 }
 
-/// Gives 256 calls, and shows the time of one.
+/// Gives calls, and shows the time of one.
 fn measure_calls(
-    watch: &Watch<'_>,
+    watch: &mut Watch<'_>,
     farm: &mut Farm,
     name: &str,
     calls: &[Call],
@@ -32,13 +33,20 @@ fn measure_calls(
     let start = watch.start()?;
     let accepted = give(farm, calls)?;
     let nanos = watch.stop(start)?;
-    let what = format!(in watch.alloc(); "  {name}, {accepted} of {CALLS} accepted")?;
-    watch.show_each(what.as_str(), nanos, CALLS)
+    let count = calls.len() as u64;
+    let what = format!(in watch.alloc(); "{name}, {accepted} of {count} accepted")?;
+    watch.show_each(what.as_str(), nanos, count)
 }
 
-/// Gives a command 256 times, and shows the time of one.
-fn measure(watch: &Watch<'_>, farm: &mut Farm, step: Step, first: u64) -> anyhow::Result<()> {
-    let calls = calls::calls(watch.alloc(), step, first)?;
+/// Gives a command so many times, and shows the time of one.
+fn measure(
+    watch: &mut Watch<'_>,
+    farm: &mut Farm,
+    step: Step,
+    first: u64,
+    count: u64,
+) -> anyhow::Result<()> {
+    let calls = calls::calls(watch.alloc(), step, first, count)?;
     measure_calls(watch, farm, step.name(), calls.as_slice())
 }
 
@@ -49,80 +57,120 @@ fn reply_of(answer: Answer) -> Option<Reply> {
     }
 }
 
-/// Gives a pass, and shows what it did and its time.
-pub fn measure_pass(
-    watch: &Watch<'_>,
-    farm: &mut Farm,
-    name: &str,
-    now: u64,
-) -> anyhow::Result<()> {
+/// Gives a pass. Gives its reply and the nanoseconds that it took.
+pub fn pass(watch: &Watch<'_>, farm: &mut Farm, now: u64) -> anyhow::Result<(Reply, u64)> {
     let call = calls::pass(watch.alloc(), now)?;
     let start = watch.start()?;
     let answer = farm.step(&call)?;
     let nanos = watch.stop(start)?;
-    let Some(Reply(checked, ended, served)) = reply_of(answer) else {
-        anyhow::bail!("refused");
-    };
+    match reply_of(answer) {
+        Some(reply) => Ok((reply, nanos)),
+        None => anyhow::bail!("refused"),
+    }
+}
+
+/// Gives a pass, and shows what it did and its time.
+pub fn measure_pass(
+    watch: &mut Watch<'_>,
+    farm: &mut Farm,
+    name: &str,
+    now: u64,
+) -> anyhow::Result<()> {
+    let (Reply(checked, ended, served), nanos) = pass(watch, farm, now)?;
     let what = format!(in watch.alloc();
-        "  {name}, {checked} checked, {ended} ended, {served} served"
+        "{name}, {checked} checked, {ended} ended, {served} served"
     )?;
     watch.show(what.as_str(), nanos)
 }
 
-/// Submits jobs and serves them, with nothing shown. Gives the first of their numbers.
-fn serve_jobs(watch: &Watch<'_>, farm: &mut Farm) -> anyhow::Result<u64> {
-    let first = farm.status().next;
-    let calls = calls::calls(watch.alloc(), Step::Submit, first)?;
+/// Gives a command so many times, with nothing shown.
+pub fn do_all(
+    watch: &Watch<'_>,
+    farm: &mut Farm,
+    step: Step,
+    first: u64,
+    count: u64,
+) -> anyhow::Result<()> {
+    let calls = calls::calls(watch.alloc(), step, first, count)?;
     give(farm, calls.as_slice())?;
-    farm.step(&calls::pass(watch.alloc(), shape::NOW)?)?;
-    Ok(first)
+    Ok(())
 }
 
 /// Jobs are submitted, served and canceled; as many are served, started and finished. So each board
 /// is held where jobs are canceled or started, and until they are finished.
-fn measure_jobs(watch: &Watch<'_>, farm: &mut Farm) -> anyhow::Result<()> {
+fn measure_jobs(watch: &mut Watch<'_>, farm: &mut Farm, boards: u64) -> anyhow::Result<()> {
     let first = farm.status().next;
-    measure(watch, farm, Step::Submit, first)?;
-    measure_pass(watch, farm, "Pass", shape::NOW)?;
-    measure(watch, farm, Step::Cancel, first)?;
-    let first = serve_jobs(watch, farm)?;
-    measure(watch, farm, Step::Start, first)?;
-    measure(watch, farm, Step::Finish, first)
+    measure(watch, farm, Step::Submit, first, boards)?;
+    measure_pass(watch, farm, "Pass over jobs", shape::NOW)?;
+    measure(watch, farm, Step::Cancel, first, boards)?;
+    let first = farm.status().next;
+    do_all(watch, farm, Step::Submit, first, boards)?;
+    pass(watch, farm, shape::NOW)?;
+    measure(watch, farm, Step::Start, first, boards)?;
+    measure(watch, farm, Step::Finish, first, boards)
 }
 
 /// Reservations are made, served, acquired, refreshed, released and canceled.
-fn measure_reservations(watch: &Watch<'_>, farm: &mut Farm) -> anyhow::Result<()> {
+fn measure_reservations(watch: &mut Watch<'_>, farm: &mut Farm, boards: u64) -> anyhow::Result<()> {
     let first = farm.status().next;
-    measure(watch, farm, Step::Reserve, first)?;
-    measure_pass(watch, farm, "Pass", shape::NOW)?;
+    measure(watch, farm, Step::Reserve, first, boards)?;
+    measure_pass(watch, farm, "Pass over reservations", shape::NOW)?;
     for step in [Step::Acquire, Step::Refresh, Step::Release, Step::CancelRes] {
-        measure(watch, farm, step, first)?;
+        measure(watch, farm, step, first, boards)?;
     }
     Ok(())
 }
 
-/// Each command on a farm that has so many jobs in the end, and as many reservations.
-pub fn run(watch: &Watch<'_>, rows: u64) -> anyhow::Result<()> {
+/// The commands of the admin: types are added, and boards get other tags and another health.
+fn measure_admin(watch: &mut Watch<'_>, farm: &mut Farm, boards: u64) -> anyhow::Result<()> {
+    measure(watch, farm, Step::AddType, 0, 16)?;
+    measure(watch, farm, Step::SetTags, 0, boards)?;
+    measure(watch, farm, Step::SetHealth, 0, boards)
+}
+
+/// The last quarter of the boards is added to the others.
+fn run_boards(watch: &mut Watch<'_>, boards: u64, rows: u64) -> anyhow::Result<()> {
+    let added = boards / 4;
     let shape = Shape {
-        finished: rows.saturating_sub(2 * CALLS),
-        canceled: rows.saturating_sub(CALLS),
+        boards: boards.saturating_sub(added),
+        finished: rows,
+        canceled: rows,
         ..IDLE
     };
     let mut farm = farm(watch, &shape)?;
-    println!(watch.rt; "{rows} jobs and {rows} reservations")?;
-    measure_jobs(watch, &mut farm)?;
-    measure_reservations(watch, &mut farm)
+    measure(watch, &mut farm, Step::AddBoard, 0, added)
+}
+
+/// Each command on a farm of so many boards that has so many jobs in the end, and as many
+/// reservations.
+pub fn run(watch: &mut Watch<'_>, boards: u64, rows: u64) -> anyhow::Result<()> {
+    let shape = Shape {
+        boards,
+        finished: rows.saturating_sub(boards.saturating_mul(2)),
+        canceled: rows.saturating_sub(boards),
+        ..IDLE
+    };
+    let mut farm = farm(watch, &shape)?;
+    let heading = format!(in watch.alloc();
+        "{boards} boards, {rows} jobs and {rows} reservations"
+    )?;
+    watch.begin(heading.as_str())?;
+    measure_jobs(watch, &mut farm, boards)?;
+    measure_reservations(watch, &mut farm, boards)?;
+    measure_admin(watch, &mut farm, boards)?;
+    run_boards(watch, boards, rows)
 }
 
 /// Jobs are submitted with keys, where so many replies are kept in the end. Each key stands before
 /// those of most replies, which are moved.
-pub fn run_keyed(watch: &Watch<'_>, kept: u64) -> anyhow::Result<()> {
+pub fn run_keyed(watch: &mut Watch<'_>, kept: u64) -> anyhow::Result<()> {
     let shape = Shape {
-        kept: kept.saturating_sub(CALLS),
+        kept: kept.saturating_sub(boards::MOST),
         ..IDLE
     };
     let mut farm = farm(watch, &shape)?;
-    println!(watch.rt; "{kept} kept replies")?;
-    let calls = calls::keyed_calls(watch.alloc())?;
+    let heading = format!(in watch.alloc(); "{kept} kept replies")?;
+    watch.begin(heading.as_str())?;
+    let calls = calls::keyed_calls(watch.alloc(), boards::MOST)?;
     measure_calls(watch, &mut farm, "Submit with a key", calls.as_slice())
 }
