@@ -79,7 +79,7 @@ call_is_due g old new call told bytes (Ok status) same farm opened stands made =
     }
 call_is_due g old new call told bytes (Err fault) same farm opened stands made =
     due_when_short g old new (Ok (Ask.Call call)) bytes fault made.fault_is
-    (record { says = made.bytes_are; stays_open = opened.1 ∙ sym opened.0; farm = inr (record { farm = farm; stands = stands }) })
+    (record { says = made.bytes_are; stays_open = opened.1 ∙ sym opened.0; farm = inr (record { was_open = opened.0; farm = farm; stands = stands }) })
 
 open_unless : (b : Bool) → (b ≡ false → ⊥) → b ≡ true
 open_unless true h = refl

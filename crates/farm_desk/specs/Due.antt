@@ -17,8 +17,9 @@ use Rattle.farm_desk.specs.Heard.{Hears, HearsWhole}
 
 -- ---- no memory for the answer
 
--- the call was done, though nobody is told
+-- the call was done by an open keeper, though nobody is told
 pub record IsDone {S : Type 0} (g : Ghosts S) (old new : Kept S) (call : Call) : Type 0 where
+  pub was_open : old.is_open ≡ true
   pub farm : new.farm.farm ≡ step old.farm.farm call
   pub stands : Keeps g old → Keeps g new
 
