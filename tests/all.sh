@@ -18,12 +18,12 @@ fi
 passed=${counts% *}
 failed=${counts#* }
 for script in shell refused_memory real_clients; do
-    if sh "tests/$script.sh" crates/farm/out/farm; then
-        passed=$((passed + 1))
-    else
-        failed=$((failed + 1))
-        status=1
-    fi
+    sh "tests/$script.sh" crates/farm/out/farm
+    case $? in
+        0) passed=$((passed + 1)) ;;
+        77) ;; # it wasn't tried, as it said
+        *) failed=$((failed + 1)) status=1 ;;
+    esac
 done
 echo "$passed passed, $failed failed"
 exit "$status"

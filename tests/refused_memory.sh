@@ -8,7 +8,7 @@
 set -eu
 farm=$(realpath "$1")
 tests=$(cd "$(dirname "$0")" && pwd)
-command -v cc > /dev/null || { echo "refused memory: not tried, since there is no C compiler"; exit 0; }
+command -v cc > /dev/null || { echo "refused memory: not tried, since there is no C compiler"; exit 77; }
 folder=$(mktemp -d)
 trap 'rm -r "$folder"' EXIT
 cc -O1 -shared -fPIC -o "$folder/refuse.so" "$tests/refuse.c"

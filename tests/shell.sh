@@ -6,7 +6,7 @@
 set -eu
 farm=$(realpath "$1")
 tests=$(cd "$(dirname "$0")" && pwd)
-command -v sqlite3 > /dev/null || { echo "SQLite's shell: not tried, since it isn't here"; exit 0; }
+command -v sqlite3 > /dev/null || { echo "SQLite's shell: not tried, since it isn't here"; exit 77; }
 folder=$(mktemp -d)
 trap 'rm -r "$folder"' EXIT
 cd "$folder"
