@@ -131,9 +131,11 @@ impl<S: Alter> Keeper<S> {
         // A `?` from here on leaves a closed keeper.
         self.is_open = false;
         let answer = self.farm.step(call)?;
-        if let Answer::Did(_, changes) = &answer {
-            put(self.alloc, &mut self.conn, changes)?;
-        }
+        let Answer::Did(_, changes) = &answer else {
+            self.is_open = true;
+            return Ok(answer);
+        };
+        put(self.alloc, &mut self.conn, changes)?;
         self.is_open = true;
         Ok(answer)
     }
