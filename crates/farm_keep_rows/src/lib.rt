@@ -18,5 +18,3 @@ mod runs;
 mod script;
 #[cfg(test)]
 mod stops;
-#[cfg(test)]
-mod unasked;
