@@ -25,18 +25,19 @@ answer '503 Service Unavailable' '{"code":1,"text":"no memory"}' > no_memory
 answer '503 Service Unavailable' '{"code":60,"text":"store fault"}' > store_fault
 : > nothing
 
-# Runs the program with growth number $1 refused; its output, errors and status are left in files.
+# Runs the program with growth number $1 refused; its output, errors and status are left behind.
 refuse() {
     number=$1
     shift
-    rm -f refused
     status=0
-    REFUSE=$number REFUSED=refused LD_PRELOAD=./refuse.so "$farm" "$@" < request > output 2> errors || status=$?
+    REFUSE=$number REFUSED=refused.$number LD_PRELOAD=./refuse.so "$farm" "$@" < request > output 2> errors || status=$?
+    said=
+    read -r said < errors || :
 }
 
 # What the run that refused growth $1 may have printed, and with which status.
 check() {
-    case "$status $(cat errors)" in
+    case "$status $said" in
         "0 ") cmp -s output done ;;
         "5 farm: 1 no memory") cmp -s output no_memory || cmp -s output nothing ;;
         "4 farm: 60 store fault") cmp -s output store_fault || cmp -s output nothing ;;
@@ -52,29 +53,33 @@ while :; do
     number=$((number + 1))
     refuse $number once --memory --at 1700000000
     check $number "once --memory"
-    [ -e refused ] || break
+    [ -e refused.$number ] || break
 done
-echo "refused memory: $((number - 1)) growths of a request over a farm in memory"
+echo "refused memory: each of the $((number - 1)) growths of a request over a farm in memory"
+rm refused.*
 
-# Over a file: afterwards the command is in it, or it isn't, and it is where it was answered; and
-# sent again under its key it is answered as if nothing had happened.
-"$farm" init --db empty > nothing_else
+# Over a file: afterwards the command is in it or it isn't, and it is where it was answered 200.
+mkdir made
+"$farm" init --db made/farm.db > nothing_else
 number=0
 while :; do
     number=$((number + 1))
-    cp empty farm.db
-    cp empty-wal farm.db-wal
+    cp made/farm.db made/farm.db-wal .
     refuse $number once --db farm.db --at 1700000000
     check $number "once --db"
-    was_refused=0
-    [ -e refused ] && was_refused=1
     "$farm" once --db farm.db --at 1700000001 < status_request > look
-    case "$status $(sed -n 's/.*"count":\([0-9]*\).*/\1/p' look)" in
-        "0 1" | "5 0" | "5 1" | "4 0" | "4 1") ;;
-        *) echo "refused memory: after growth $number the status was $status, and the file has:"; cat look; exit 1 ;;
+    while read -r line; do :; done < look
+    case "$status $line" in
+        "0 "*'"count":1,'*'"types":1}' | [45]*'"count":1,'*'"types":1}' | [45]*'"count":0,'*'"types":0}') ;;
+        *) echo "refused memory: after growth $number the status was $status, and the file has: $line"; exit 1 ;;
     esac
-    "$farm" once --db farm.db --at 1700000002 < request > again
-    cmp again done
-    [ $was_refused = 1 ] || break
+    [ -e refused.$number ] || break
 done
-echo "refused memory: $((number - 1)) growths of a request over a farm in a file"
+echo "refused memory: each of the $((number - 1)) growths of a request over a farm in a file"
+
+# Sent again under its key after a refused growth, and once more, it is answered as if nothing had happened.
+cp made/farm.db made/farm.db-wal .
+refuse $((number / 2)) once --db farm.db --at 1700000000
+"$farm" once --db farm.db --at 1700000002 < request > again
+"$farm" once --db farm.db --at 1700000003 < request >> again
+cat done done | cmp again -

@@ -29,6 +29,7 @@ rpi4b|2|20
 bbb-03|beaglebone-black|hdmi,outlet=3,power=pdu1,rack=1,serial,switch=sw1|3|0|0|0|0|0
 1|ann|50|hdmi|0|1700000360|
 ann|r1|9|1|0|0
+admin|15
 clock|1700000300
 count|16
 next|2
@@ -41,7 +42,8 @@ select t.name || ': ' || group_concat(c.name || ' ' || c.type, ', ')
 select * from types order by name;
 select * from boards where name = 'bbb-03';
 select * from reservations;
-select * from kept;
+select * from kept where caller = 'ann';
+select caller, count(*) from kept where caller = 'admin';
 select * from meta order by name;
 END
 diff wanted found || { echo "SQLite's shell: it reads something else"; exit 1; }

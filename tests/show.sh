@@ -53,13 +53,16 @@ echo "== Ann submits a job file, bob reserves a board with a display"
 ask ann POST /jobs "$(cat "$examples/boot.toml")"
 ask bob POST /reservations '{"tags":["hdmi"]}'
 ask ann GET /queue
-echo "== The dispatcher's pass gives both their boards, and the job starts"
+echo "== The dispatcher's pass gives bob his board; ann's board is due for a health check first, job 3"
 ask dispatcher POST /pass
-ask dispatcher POST /jobs/1/start
 echo "== Bob acquires his board; nobody else may"
 ask ann POST /reservations/2/acquire
 ask bob POST /reservations/2/acquire
-echo "== The job ends"
+echo "== The check ends well, and the next pass gives ann's job the board"
+ask dispatcher POST /jobs/3/start
+ask dispatcher POST /jobs/3/finish '{"outcome":"Complete"}'
+ask dispatcher POST /pass
+ask dispatcher POST /jobs/1/start
 ask dispatcher POST /jobs/1/finish '{"outcome":"Complete"}'
 ask ann GET /jobs/1
 echo "== Carol reserves the same board and waits; the reports, an hour east of UTC"
