@@ -1,7 +1,7 @@
 #!/bin/sh
 # What `make test` runs: every proof, every wrong body, every test and program from nothing (rt ci), and
-# then the program that it built against SQLite's shell, refused memory and real clients, where the
-# machine has what they want. The last line counts all: 'N passed, 0 failed'.
+# then the program that it built: its statuses, and SQLite's shell, refused memory and real clients, where
+# the machine has what these want. The last line counts all: 'N passed, 0 failed'.
 set -u
 cd "$(dirname "$0")/.."
 folder=$(mktemp -d)
@@ -17,7 +17,7 @@ if [ -z "$counts" ]; then
 fi
 passed=${counts% *}
 failed=${counts#* }
-for script in shell refused_memory real_clients; do
+for script in statuses shell refused_memory real_clients; do
     sh "tests/$script.sh" crates/farm/out/farm
     case $? in
         0) passed=$((passed + 1)) ;;
