@@ -30,8 +30,6 @@ mod routes;
 #[cfg(test)]
 mod script;
 #[cfg(test)]
-mod serving;
-#[cfg(test)]
 mod stops;
 #[cfg(test)]
 mod types;

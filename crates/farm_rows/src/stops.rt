@@ -13,9 +13,6 @@ use std::test::Fail;
 /// More calls than any run needs.
 const MANY: u64 = 1000;
 
-/// A desk over files in memory that fail after so many calls.
-pub(crate) type FailingDesk = Keeper<FileStore<Fuse<Memory>>>;
-
 fn opened<D: Disk + Drop>(alloc: Global, files: Files<D>) -> Option<Connection<FileStore<D>>>
     ensures { IfSome result (λ conn. conn.in_transaction ≡ false) }
 {
@@ -33,23 +30,13 @@ fn opened<D: Disk + Drop>(alloc: Global, files: Files<D>) -> Option<Connection<F
 
 /// An open desk over an empty farm whose log fails after so many calls; None where it fails before
 /// the desk is open.
-fn desk(alloc: Global, calls: u64) -> Option<FailingDesk> {
+fn desk(alloc: Global, calls: u64) -> Option<Keeper<FileStore<Fuse<Memory>>>> {
     let files = Files {
         log: Fuse::new(Memory::new(alloc), calls),
         db: Fuse::new(Memory::new(alloc), MANY),
     };
     let conn = opened(alloc, files)?;
     Keeper::fresh(alloc, conn).ok()
-}
-
-/// An open desk over an empty farm whose store fails at the next command that changes it.
-pub(crate) fn desk_that_fails(alloc: Global) -> Result<FailingDesk, Fail> {
-    for calls in 0..MANY {
-        if let Some(keeper) = desk(alloc, calls) {
-            return Ok(keeper);
-        }
-    }
-    Err(Fail::new("no desk was opened"))
 }
 
 #[test]
@@ -63,17 +50,22 @@ fn store_that_fails(rt: HostRuntime) -> Result<(), Fail> {
         "{\"code\":60,\"text\":\"store fault\"}",
     )?;
     let closed = answer(alloc, unavailable, "", "{\"code\":61,\"text\":\"closed\"}")?;
-    let mut keeper = desk_that_fails(alloc)?;
-    let mut output = Vec::new(alloc);
-    let end = converse(alloc, &mut keeper, &mut &FIRST_TYPE[..], &mut output, 10);
-    assert_eq!(rt; output.as_slice(), fault.as_bytes());
-    assert_eq!(rt; end, Err(DeskFault::Keep(KeepFault::Store)));
-    assert!(rt; keeper.farm().is_none());
-    for ask in [FIRST_TYPE, b"GET /types HTTP/1.1\r\n\r\n".as_slice()] {
+    for calls in 0..MANY {
+        let Some(mut keeper) = desk(alloc, calls) else {
+            continue;
+        };
         let mut output = Vec::new(alloc);
-        let end = converse(alloc, &mut keeper, &mut &ask[..], &mut output, 10);
-        assert_eq!(rt; output.as_slice(), closed.as_bytes());
-        assert_eq!(rt; end, Err(DeskFault::Keep(KeepFault::Closed)));
+        let end = converse(alloc, &mut keeper, &mut &FIRST_TYPE[..], &mut output, 10);
+        assert_eq!(rt; output.as_slice(), fault.as_bytes());
+        assert_eq!(rt; end, Err(DeskFault::Keep(KeepFault::Store)));
+        assert!(rt; keeper.farm().is_none());
+        for ask in [FIRST_TYPE, b"GET /types HTTP/1.1\r\n\r\n".as_slice()] {
+            let mut output = Vec::new(alloc);
+            let end = converse(alloc, &mut keeper, &mut &ask[..], &mut output, 10);
+            assert_eq!(rt; output.as_slice(), closed.as_bytes());
+            assert_eq!(rt; end, Err(DeskFault::Keep(KeepFault::Closed)));
+        }
+        return Ok(());
     }
-    Ok(())
+    Err(Fail::new("no desk was opened"))
 }
