@@ -30,6 +30,8 @@ mod routes;
 #[cfg(test)]
 mod script;
 #[cfg(test)]
+mod serving;
+#[cfg(test)]
 mod stops;
 #[cfg(test)]
 mod types;

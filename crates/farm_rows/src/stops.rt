@@ -13,6 +13,9 @@ use std::test::Fail;
 /// More calls than any run needs.
 const MANY: u64 = 1000;
 
+/// A desk over files in memory that fail after so many calls.
+pub(crate) type FailingDesk = Keeper<FileStore<Fuse<Memory>>>;
+
 fn opened<D: Disk + Drop>(alloc: Global, files: Files<D>) -> Option<Connection<FileStore<D>>>
     ensures { IfSome result (λ conn. conn.in_transaction ≡ false) }
 {
@@ -30,13 +33,23 @@ fn opened<D: Disk + Drop>(alloc: Global, files: Files<D>) -> Option<Connection<F
 
 /// An open desk over an empty farm whose log fails after so many calls; None where it fails before
 /// the desk is open.
-fn desk(alloc: Global, calls: u64) -> Option<Keeper<FileStore<Fuse<Memory>>>> {
+fn desk(alloc: Global, calls: u64) -> Option<FailingDesk> {
     let files = Files {
         log: Fuse::new(Memory::new(alloc), calls),
         db: Fuse::new(Memory::new(alloc), MANY),
     };
     let conn = opened(alloc, files)?;
     Keeper::fresh(alloc, conn).ok()
+}
+
+/// An open desk over an empty farm whose store fails at the next command that changes it.
+pub(crate) fn desk_that_fails(alloc: Global) -> Result<FailingDesk, Fail> {
+    for calls in 0..MANY {
+        if let Some(keeper) = desk(alloc, calls) {
+            return Ok(keeper);
+        }
+    }
+    Err(Fail::new("no desk was opened"))
 }
 
 #[test]
