@@ -140,33 +140,39 @@ def served(words, client, port, times, given):
     return pairs
 
 
-def serve_round(farm, echo, client, path, port, table):
+def serve_round(farm, echo, client, peer, folder, port, table):
+    """Each request, to the echo and to the desk; beside the durable one the peer's commits."""
     for name, status, asked in ASKED:
         words = [echo, str(port), str(TIMES)]
         table.add(served(words, client, port, TIMES, (name, "", asked)), "echo ")
         port += 1
-        words = [farm, "serve", "--db", path, "--port", str(port), "--max", str(TIMES)]
+        words = [farm, "serve", "--db", f"{folder}/served.db", "--port", str(port), "--max", str(TIMES)]
         table.add(served(words, client, port, TIMES, (name, f"HTTP/1.1 {status}", asked)), "desk ")
         port += 1
+    clear(f"{folder}/bench.db")
+    table.add(lines(peer, f"{folder}/bench.db", "4"), "peer ")
     return port
+
+
+def allowed(table, name):
+    """What echo and commit together allow, over what the desk takes, one a round."""
+    commits = table.times["peer reserve"] if name == "durable" else [0] * len(table.times[f"desk {name}"])
+    return [(echo + commit) / desk for echo, commit, desk in zip(table.times[f"echo {name}"], commits, table.times[f"desk {name}"])]
 
 
 def compare_serving(farm, store, folder, rounds):
     table = Table()
     peer, echo, client = built("peer", folder, "-lsqlite3"), built("echo", folder), built("client", folder)
-    path, port = f"{folder}/served.db", FIRST_PORT
+    port = FIRST_PORT
     for _ in range(rounds):
-        lines(store, "fill", path)
-        port = serve_round(farm, echo, client, path, port, table)
-        clear(f"{folder}/bench.db")
-        table.add(lines(peer, f"{folder}/bench.db", "4"), "peer ")
+        lines(store, "fill", f"{folder}/served.db")
+        port = serve_round(farm, echo, client, peer, folder, port, table)
     for name, _, _ in ASKED:
-        allowed = table.median(f"echo {name}") + (table.median("peer reserve") if name == "durable" else 0)
-        asked = table.median(f"desk {name}")
-        print(f"{name}: {table.text(f'desk {name}')}, {1e9 / asked:.0f} a second; echo {table.text(f'echo {name}')};"
-              f" of what is allowed {allowed / asked:.2f}")
+        each = allowed(table, name)
+        print(f"{name}: {table.text(f'desk {name}')}, {1e9 / table.median(f'desk {name}'):.0f} a second; echo {table.text(f'echo {name}')};"
+              f" of what is allowed {statistics.median(each):.2f} ({min(each):.2f} to {max(each):.2f})")
     print(f"the real library's commit: {table.text('peer reserve')}")
-    clear(path)
+    clear(f"{folder}/served.db")
     clear(f"{folder}/bench.db")
 
 

@@ -46,7 +46,7 @@ start() {
     while :; do
         "$farm" serve --db "$db" --port "$port" --max 1000000 > "$folder/out" 2> "$folder/err" &
         server=$!
-        while ! grep -q . "$folder/out" "$folder/err"; do
+        while ! grep -qs . "$folder/out" "$folder/err"; do
             sleep 0.02
         done
         [ "$(cat "$folder/out")" = "listening $port" ] && return
@@ -175,13 +175,16 @@ if has python3; then
 import socket, sys, time
 desk = socket.create_connection(("127.0.0.1", int(sys.argv[1])))
 desk.sendall(b"POST /ty")
-time.sleep(60)' "$port" &
+open(sys.argv[2], "w").write("stalls")
+time.sleep(60)' "$port" "$folder/stalls" &
     stalled=$!
-    sleep 0.5
+    while ! grep -qs . "$folder/stalls"; do
+        sleep 0.02
+    done
     begun=$(date +%s)
     same "status behind a client that stalls" 200 "$(ask_into "$folder/answer" GET /status '' '' '')"
     waited=$(($(date +%s) - begun))
-    [ "$waited" -le 12 ] || fail "waited $waited s for a client that stalls"
+    [ "$waited" -ge 8 ] && [ "$waited" -le 12 ] || fail "waited $waited s for a client that stalls"
     kill "$stalled"
     wait "$stalled" 2> /dev/null || :
     stalled=

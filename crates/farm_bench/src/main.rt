@@ -22,7 +22,7 @@ const ROUNDS: u64 = 7;
 fn run_short(watch: &mut Watch<'_>) -> anyhow::Result<()> {
     lists::run(watch)?;
     steps::run(watch, boards::MOST, 1_000)?;
-    steps::run(watch, 16, 100)?;
+    steps::run(watch, 16, 1_000)?;
     steps::run_keyed(watch, 1_000)?;
     grid::run(watch, 16, 100, 40)?;
     grid::run_drain(watch, 16, 40)?;

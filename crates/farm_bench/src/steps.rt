@@ -96,11 +96,18 @@ pub fn do_all(
     Ok(())
 }
 
-/// Jobs are submitted, served and canceled; as many are served, started and finished. So each board
-/// is held where jobs are canceled or started, and until they are finished.
+/// Jobs are submitted, as many whatever boards there are, and canceled.
+fn measure_submits(watch: &mut Watch<'_>, farm: &mut Farm) -> anyhow::Result<()> {
+    let first = farm.status().next;
+    measure(watch, farm, Step::Submit, first, boards::MOST)?;
+    do_all(watch, farm, Step::Cancel, first, boards::MOST)
+}
+
+/// Jobs are served and canceled; as many are served, started and finished. So each board is held
+/// where jobs are canceled or started, and until they are finished.
 fn measure_jobs(watch: &mut Watch<'_>, farm: &mut Farm, boards: u64) -> anyhow::Result<()> {
     let first = farm.status().next;
-    measure(watch, farm, Step::Submit, first, boards)?;
+    do_all(watch, farm, Step::Submit, first, boards)?;
     measure_pass(watch, farm, "Pass over jobs", shape::NOW)?;
     measure(watch, farm, Step::Cancel, first, boards)?;
     let first = farm.status().next;
@@ -144,9 +151,10 @@ fn run_boards(watch: &mut Watch<'_>, boards: u64, rows: u64) -> anyhow::Result<(
 /// Each command on a farm of so many boards that has so many jobs in the end, and as many
 /// reservations.
 pub fn run(watch: &mut Watch<'_>, boards: u64, rows: u64) -> anyhow::Result<()> {
+    let submitted = boards.saturating_mul(2).saturating_add(boards::MOST);
     let shape = Shape {
         boards,
-        finished: rows.saturating_sub(boards.saturating_mul(2)),
+        finished: rows.saturating_sub(submitted),
         canceled: rows.saturating_sub(boards),
         ..IDLE
     };
@@ -155,6 +163,7 @@ pub fn run(watch: &mut Watch<'_>, boards: u64, rows: u64) -> anyhow::Result<()> 
         "{boards} boards, {rows} jobs and {rows} reservations"
     )?;
     watch.begin(heading.as_str())?;
+    measure_submits(watch, &mut farm)?;
     measure_jobs(watch, &mut farm, boards)?;
     measure_reservations(watch, &mut farm, boards)?;
     measure_admin(watch, &mut farm, boards)?;

@@ -21,6 +21,4 @@ mod reserve;
 mod serve;
 mod submit;
 mod tables;
-#[cfg(test)]
-mod tests;
 mod types;

@@ -14,6 +14,7 @@ use crate::hear::{Unheard, hear};
 use crate::log::Log;
 use farm_keep::Keeper;
 use farm_wire::answers::Out;
+use farm_wire::asks::Asks;
 use farm_wire::{ReadLog, write_whole_logged};
 use sqlite::Alter;
 use std::alloc::Global;
@@ -27,8 +28,8 @@ use std::io::{Read, Write};
 /// a fault, that of 1, 60 or 61, and the keeper is closed. An answer of 1 or 60 doesn't tell whether
 /// the command was done: the client repeats it with its key.
 ///
-/// Costs what its parts cost: one read of the request, one command or view, and one write where the
-/// writer takes the answer whole.
+/// Costs what its parts cost: one read of the request, a router of seventeen paths, one command or
+/// view, and one write where the writer takes the answer whole. `serve_on` builds the router once.
 pub fn converse<R: Read, W: Write, S: Alter>(
     alloc: Global,
     keeper: &mut Keeper<S>,
@@ -86,7 +87,7 @@ pub fn converse_logged<R: Read, W: Write, S: Alter>(
     ensures spent { result ≡ Err DeskFault.Read → IsSpent log.new.reading }
     ensures clean { doubt (state S.Store keeper.old.conn).is_clean ≤ doubt (state S.Store keeper.new.conn).is_clean }
 {
-    let end = converse_through(alloc, keeper, reader, writer, now, log);
+    let end = converse_through(alloc, None, keeper, reader, writer, now, log);
     if log.writing.has_failed() {
         return Err(DeskFault::Write);
     }
@@ -94,9 +95,10 @@ pub fn converse_logged<R: Read, W: Write, S: Alter>(
 }
 
 /// Converses as `converse_logged` does, and ends as the answer that was due ends it, also where that
-/// answer was lost: so a keeper's fault is known in each case.
+/// answer was lost: so a keeper's fault is known in each case. The router is lent, or built.
 pub(crate) fn converse_through<R: Read, W: Write, S: Alter>(
     alloc: Global,
+    asks: Option<&Asks>,
     keeper: &mut Keeper<S>,
     reader: &mut R,
     writer: &mut W,
@@ -117,7 +119,7 @@ pub(crate) fn converse_through<R: Read, W: Write, S: Alter>(
         × (log.new.writing.failed ≡ false) }
     ensures clean { doubt (state S.Store keeper.old.conn).is_clean ≤ doubt (state S.Store keeper.new.conn).is_clean }
 {
-    let due = due(alloc, keeper, reader, now, &mut log.reading)?;
+    let due = due(alloc, asks, keeper, reader, now, &mut log.reading)?;
     // Whether the writer failed, its log says.
     let _ = write_whole_logged(writer, due.bytes(), &mut log.writing);
     due.end
@@ -126,6 +128,7 @@ pub(crate) fn converse_through<R: Read, W: Write, S: Alter>(
 /// The answer that is due, unless the reader gave no request.
 fn due<R: Read, S: Alter>(
     alloc: Global,
+    asks: Option<&Asks>,
     keeper: &mut Keeper<S>,
     reader: &mut R,
     now: u64,
@@ -137,7 +140,7 @@ fn due<R: Read, S: Alter>(
     ensures unread { IfErr result (λ fault. (fault ≡ DeskFault.Read) × IsSpent log.new × (keeper.new ≡ keeper.old)) }
     ensures clean { doubt (state S.Store keeper.old.conn).is_clean ≤ doubt (state S.Store keeper.new.conn).is_clean }
 {
-    match hear(alloc, reader, now, log) {
+    match hear(alloc, asks, reader, now, log) {
         Ok(ask) => Ok(due_to(alloc, keeper, &ask)),
         Err(Unheard::Refused(refusal)) => Ok(Due::of(alloc, &Out::Refused(refusal))),
         Err(Unheard::Method(allowed)) => Ok(Due::of(alloc, &Out::Method(allowed))),

@@ -9,6 +9,7 @@ use crate::fault::DeskFault;
 use crate::log::Log;
 use crate::patient::{Patient, drop_rest, limit_waits};
 use farm_keep::{KeepFault, Keeper};
+use farm_wire::asks::Asks;
 use farm_wire::constant::no_memory_answer;
 use farm_wire::write_whole;
 use sqlite::Alter;
@@ -34,8 +35,9 @@ use std::time::{Clock, SystemTime, UNIX_EPOCH};
 /// nothing can be said of what a socket gives and takes; `converse_logged` says it of readers and
 /// writers whose bytes are known.
 ///
-/// Costs for each connection an accept, one read where the request came whole, one write where the
-/// answer is taken whole, a few short calls of the system, and what its command or view costs.
+/// Costs building a router of seventeen paths, once, and for each connection an accept, one read where
+/// the request came whole, one write where the answer is taken whole, a few short calls of the system,
+/// and what its command or view costs.
 pub fn serve_on<S: Alter, C: Clock>(
     alloc: Global,
     keeper: &mut Keeper<S>,
@@ -55,8 +57,10 @@ pub fn serve_on<S: Alter, C: Clock>(
     if keeper.farm().is_none() {
         return Err(DeskFault::Keep(KeepFault::Closed));
     }
+    // Where there is no memory for it now, each request has one of its own.
+    let asks = Asks::new(alloc).ok();
     for _ in 0..max {
-        serve_next(alloc, keeper, listener, clock)?;
+        serve_next(alloc, asks.as_ref(), keeper, listener, clock)?;
     }
     Ok(())
 }
@@ -64,6 +68,7 @@ pub fn serve_on<S: Alter, C: Clock>(
 /// Takes one connection, and serves it where there is a moment to serve it at.
 fn serve_next<S: Alter, C: Clock>(
     alloc: Global,
+    asks: Option<&Asks>,
     keeper: &mut Keeper<S>,
     listener: &TcpListener,
     clock: &C,
@@ -78,7 +83,7 @@ fn serve_next<S: Alter, C: Clock>(
     let Some(now) = moment(clock) else {
         return Ok(());
     };
-    let ended = serve_stream(alloc, keeper, &stream, clock, now);
+    let ended = serve_stream(alloc, asks, keeper, &stream, clock, now);
     drop_rest(&stream);
     ended
 }
@@ -103,6 +108,7 @@ fn moment<C: Clock>(clock: &C) -> Option<u64> {
 /// read; without memory for the buffer the client is told so.
 fn serve_stream<S: Alter, C: Clock>(
     alloc: Global,
+    asks: Option<&Asks>,
     keeper: &mut Keeper<S>,
     stream: &TcpStream,
     clock: &C,
@@ -114,7 +120,7 @@ fn serve_stream<S: Alter, C: Clock>(
 {
     let mut writer = Patient::new(stream, clock);
     match BufReader::new(alloc, Patient::new(stream, clock)) {
-        Ok(mut reader) => serve_one(alloc, keeper, &mut reader, &mut writer, now),
+        Ok(mut reader) => serve_one(alloc, asks, keeper, &mut reader, &mut writer, now),
         Err(_) => {
             let _ = write_whole(&mut writer, no_memory_answer());
             Ok(())
@@ -126,6 +132,7 @@ fn serve_stream<S: Alter, C: Clock>(
 /// where the answer was lost.
 fn serve_one<R: Read, W: Write, S: Alter>(
     alloc: Global,
+    asks: Option<&Asks>,
     keeper: &mut Keeper<S>,
     reader: &mut R,
     writer: &mut W,
@@ -135,7 +142,7 @@ fn serve_one<R: Read, W: Write, S: Alter>(
     ensures serves { ServesUntil S.Store keeper.old keeper.new 1 result }
     ensures clean { doubt (state S.Store keeper.old.conn).is_clean ≤ doubt (state S.Store keeper.new.conn).is_clean }
 {
-    pass_on(converse_through(alloc, keeper, reader, writer, now, &mut Log::new()))
+    pass_on(converse_through(alloc, asks, keeper, reader, writer, now, &mut Log::new()))
 }
 
 /// The keeper's fault, where a conversation ended with one.

@@ -24,6 +24,3 @@ pub mod whole;
 pub use fault::{FileFault, FileKind, Reason};
 pub use job::job_of;
 pub use lab::lab_of;
-
-#[cfg(test)]
-mod tests;

@@ -387,6 +387,3 @@ fn positional<'a>(alloc: Global, id: &'a str, name: &'a str, help: &'a str) -> A
         .required(true)
         .action(ArgAction::Set)
 }
-
-#[cfg(test)]
-mod tests;

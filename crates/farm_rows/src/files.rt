@@ -10,7 +10,7 @@ use std::test::Fail;
 use std::{env, fs};
 
 /// A file's path in the folder for temporary files, where nothing of that name stands any more.
-fn new_path(rt: &HostRuntime, name: &str) -> Result<String, Fail> {
+pub(crate) fn new_path(rt: &HostRuntime, name: &str) -> Result<String, Fail> {
     let folder = env::temp_dir(rt)?;
     let path = format!(in rt.alloc(); "{}/farm_rows_{name}", folder.as_str())?;
     let _ = fs::remove_file(rt, path.as_str());
@@ -22,14 +22,14 @@ fn new_path(rt: &HostRuntime, name: &str) -> Result<String, Fail> {
 }
 
 /// What the program did: its status, its output, and what it told beside it.
-fn run(rt: &HostRuntime, order: Order, mut input: &[u8]) -> (u8, Vec<u8>, Vec<u8>) {
+pub(crate) fn run(rt: &HostRuntime, order: Order, mut input: &[u8]) -> (u8, Vec<u8>, Vec<u8>) {
     let (mut output, mut errors) = (Vec::new(rt.alloc()), Vec::new(rt.alloc()));
     let status = perform(rt, rt.alloc(), order, &mut input, &mut output, &mut errors);
     (status, output, errors)
 }
 
 /// Demands that an order ends with that status, writes that on the output, and tells that.
-fn expect(
+pub(crate) fn expect(
     rt: &HostRuntime,
     order: Order,
     input: &[u8],
@@ -50,20 +50,20 @@ fn expect(
     Ok(())
 }
 
-fn init(alloc: Global, path: &str) -> Result<Order, AllocError> {
+pub(crate) fn init(alloc: Global, path: &str) -> Result<Order, AllocError> {
     Ok(Order::Init {
         file: String::from_str(alloc, path)?,
     })
 }
 
-fn once(alloc: Global, path: &str, at: u64) -> Result<Order, AllocError> {
+pub(crate) fn once(alloc: Global, path: &str, at: u64) -> Result<Order, AllocError> {
     Ok(Order::Once {
         place: Place::File(String::from_str(alloc, path)?),
         at,
     })
 }
 
-fn import(alloc: Global, path: &str, at: u64, lab: &str) -> Result<Order, AllocError> {
+pub(crate) fn import(alloc: Global, path: &str, at: u64, lab: &str) -> Result<Order, AllocError> {
     Ok(Order::Import {
         file: String::from_str(alloc, path)?,
         at,
@@ -71,7 +71,7 @@ fn import(alloc: Global, path: &str, at: u64, lab: &str) -> Result<Order, AllocE
     })
 }
 
-fn report(
+pub(crate) fn report(
     alloc: Global,
     path: &str,
     east: u64,
@@ -106,7 +106,7 @@ fn ask(
 }
 
 /// A new file with the empty farm.
-fn made(rt: &HostRuntime, name: &str) -> Result<String, Fail> {
+pub(crate) fn made(rt: &HostRuntime, name: &str) -> Result<String, Fail> {
     let path = new_path(rt, name)?;
     expect(
         rt,
@@ -339,7 +339,7 @@ fn good_board(rt: &HostRuntime, path: &str) -> Result<(), Fail> {
 }
 
 /// Changes the tables of a file by a statement.
-fn change(rt: &HostRuntime, path: &str, statement: &str) -> Result<(), Fail> {
+pub(crate) fn change(rt: &HostRuntime, path: &str, statement: &str) -> Result<(), Fail> {
     let mut conn = Connection::open(rt, path)?;
     conn.execute(statement, &[])?;
     Ok(())

@@ -8,6 +8,8 @@ mod checks;
 #[cfg(test)]
 mod desk;
 #[cfg(test)]
+mod endings;
+#[cfg(test)]
 mod fakes;
 #[cfg(test)]
 mod faults;

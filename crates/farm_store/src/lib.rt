@@ -6,8 +6,6 @@ mod fault;
 pub mod laws;
 mod queries;
 mod schema;
-#[cfg(test)]
-mod tests;
 mod upserts;
 
 pub use fault::StoreFault;

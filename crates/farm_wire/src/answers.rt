@@ -137,6 +137,3 @@ pub fn answer_bytes(alloc: Global, out: &Out<'_>) -> Result<Vec<u8>, AllocError>
         Out::Status(status) => answer_of(alloc, 200, "", &status_value(alloc, *status)?),
     }
 }
-
-#[cfg(test)]
-mod tests;

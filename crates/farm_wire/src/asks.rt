@@ -199,6 +199,3 @@ fn command_of(alloc: Global, place: Place, path: &str, body: &[u8]) -> Result<Cm
         _ => Err(WordFault::Refused(Refusal { code: NO_ROUTE })),
     }
 }
-
-#[cfg(test)]
-mod tests;

@@ -5,14 +5,14 @@ use Rattle.farm_wire.specs.Reading.{refused, other_methods}
 use Rattle.farm_desk.proofs.HeardLemmas.{hears_meant, hears_refused}
 use Rattle.farm_desk.proofs.hear.hear.Goals as goal
 
-pub returns-in-Ok-of : goal.returns-in-Ok-of
-returns-in-Ok-of g c =
-    hears_meant _ _ _ (IsSpent c.read_request_logged.new.log) c.in-Ok.taken (Ok c.in-Ok-of.ask) c.in-Ok.ensures.known c.in-Ok-of.ensures
+pub returns-in-Ok-asked_of : goal.returns-in-Ok-asked_of
+returns-in-Ok-asked_of g c =
+    hears_meant _ _ _ (IsSpent c.read_request_logged.new.log) c.in-Ok.taken (Ok c.in-Ok-asked_of.ask) c.in-Ok.ensures.known c.in-Ok-asked_of.ensures
 
-pub returns-in-Err-Refused-of : goal.returns-in-Err-Refused-of
-returns-in-Err-Refused-of g c =
-    hears_meant _ _ _ (IsSpent c.read_request_logged.new.log) c.in-Ok.taken (Err (refused c.in-Err-Refused-of.refusal.code)) c.in-Ok.ensures.known
-    (rw c.in-Err-Refused-of.field-0-is at c.in-Err-Refused-of.ensures)
+pub returns-in-Err-Refused-asked_of : goal.returns-in-Err-Refused-asked_of
+returns-in-Err-Refused-asked_of g c =
+    hears_meant _ _ _ (IsSpent c.read_request_logged.new.log) c.in-Ok.taken (Err (refused c.in-Err-Refused-asked_of.refusal.code)) c.in-Ok.ensures.known
+    (rw c.in-Err-Refused-asked_of.field-0-is at c.in-Err-Refused-asked_of.ensures)
 
 pub returns-in-Ok : goal.returns-in-Ok
 returns-in-Ok g c =

@@ -1,6 +1,12 @@
-use super::*;
-use farm_types::rows::{Check, Health, Holder, JobState, Outcome, State, Want};
+//! Answers as bytes, row by row.
+use farm_types::claims::{Claim, Status};
+use farm_types::refusal::Refusal;
+use farm_types::rows::{
+    BoardRow, Check, Health, Holder, JobRow, JobState, Outcome, Reply, ResRow, State, TypeRow, Want,
+};
 use farm_types::words::{Body, Name, Priority, Tags};
+use farm_wire::allowed::Allowed;
+use farm_wire::answers::{Out, answer_bytes};
 use std::process::Abort;
 use std::test::Fail;
 

@@ -2,10 +2,9 @@
 ghost use Rattle.std.specs.Prelude.{◌≡◌, IfOk, IsTrue};
 ghost use Rattle.farm_types.specs.Proper.{is_proper_cmd};
 
-mod passes;
-
-use crate::farm::{Farm, StepFault};
+use farm_core::farm::{Farm, StepFault};
 use farm_types::calls::{Answer, Call, Cmd};
+use farm_types::claims::Status;
 use farm_types::fault::WordFault;
 use farm_types::rows::{Check, Health};
 use farm_types::tags::Tags;
@@ -35,28 +34,47 @@ fn give(farm: &mut Farm, alloc: Global, caller: &str, now: u64, cmd: Cmd) -> Res
     Ok(code_of(farm.step(&call)))
 }
 
+// These have no clause, so that the proof of a test doesn't carry what a farm shows.
+
+fn add_type(farm: &mut Farm, alloc: Global, now: u64) -> Result<u16, WordFault> {
+    let cmd = Cmd::add_type(name(alloc, "bbb")?, Check::Never);
+    give(farm, alloc, "admin", now, cmd)
+}
+
+fn add_board(farm: &mut Farm, alloc: Global, now: u64) -> Result<u16, WordFault> {
+    let cmd = Cmd::add_board(name(alloc, "b1")?, name(alloc, "bbb")?, Tags::none(alloc));
+    give(farm, alloc, "admin", now, cmd)
+}
+
+fn set_health(
+    farm: &mut Farm,
+    alloc: Global,
+    now: u64,
+    board: &str,
+    health: Health,
+) -> Result<u16, WordFault> {
+    let cmd = Cmd::set_health(name(alloc, board)?, health);
+    give(farm, alloc, "admin", now, cmd)
+}
+
+fn set_tags(farm: &mut Farm, alloc: Global, now: u64) -> Result<u16, WordFault> {
+    let cmd = Cmd::set_tags(name(alloc, "b1")?, Tags::none(alloc));
+    give(farm, alloc, "admin", now, cmd)
+}
+
+fn status_of(farm: &Farm) -> Status {
+    farm.status()
+}
+
 #[test]
 fn same_type_twice(rt: HostRuntime) -> Result<(), Fail> {
     let alloc = rt.alloc();
     let mut farm = Farm::empty(alloc);
-    let first = give(
-        &mut farm,
-        alloc,
-        "admin",
-        7,
-        Cmd::add_type(name(alloc, "bbb")?, Check::Never),
-    )?;
-    assert_eq!(rt; first, 0);
-    let again = give(
-        &mut farm,
-        alloc,
-        "admin",
-        9,
-        Cmd::add_type(name(alloc, "bbb")?, Check::Never),
-    )?;
-    assert_eq!(rt; again, 11);
-    assert_eq!(rt; farm.status().count, 1);
-    assert_eq!(rt; farm.status().clock, 7);
+    assert_eq!(rt; add_type(&mut farm, alloc, 7)?, 0);
+    assert_eq!(rt; add_type(&mut farm, alloc, 9)?, 11);
+    let status = status_of(&farm);
+    assert_eq!(rt; status.count, 1);
+    assert_eq!(rt; status.clock, 7);
     assert_eq!(rt; farm.types().len(), 1);
     Ok(())
 }
@@ -65,14 +83,7 @@ fn same_type_twice(rt: HostRuntime) -> Result<(), Fail> {
 fn last_moment(rt: HostRuntime) -> Result<(), Fail> {
     let alloc = rt.alloc();
     let mut farm = Farm::empty(alloc);
-    let late = give(
-        &mut farm,
-        alloc,
-        "admin",
-        250_000_000_001,
-        Cmd::add_type(name(alloc, "bbb")?, Check::Never),
-    )?;
-    assert_eq!(rt; late, 2);
+    assert_eq!(rt; add_type(&mut farm, alloc, 250_000_000_001)?, 2);
     Ok(())
 }
 
@@ -80,27 +91,11 @@ fn last_moment(rt: HostRuntime) -> Result<(), Fail> {
 fn health_of_boards(rt: HostRuntime) -> Result<(), Fail> {
     let alloc = rt.alloc();
     let mut farm = Farm::empty(alloc);
-    give(
-        &mut farm,
-        alloc,
-        "admin",
-        1,
-        Cmd::add_type(name(alloc, "bbb")?, Check::Never),
-    )?;
-    let unknown = give(
-        &mut farm,
-        alloc,
-        "admin",
-        2,
-        Cmd::set_health(name(alloc, "b9")?, Health::Good),
-    )?;
-    assert_eq!(rt; unknown, 12);
-    let board = Cmd::add_board(name(alloc, "b1")?, name(alloc, "bbb")?, Tags::none(alloc));
-    assert_eq!(rt; give(&mut farm, alloc, "admin", 3, board)?, 0);
-    let retired = Cmd::set_health(name(alloc, "b1")?, Health::Retired);
-    assert_eq!(rt; give(&mut farm, alloc, "admin", 4, retired)?, 0);
-    let tags = Cmd::set_tags(name(alloc, "b1")?, Tags::none(alloc));
-    assert_eq!(rt; give(&mut farm, alloc, "admin", 5, tags)?, 15);
+    assert_eq!(rt; add_type(&mut farm, alloc, 1)?, 0);
+    assert_eq!(rt; set_health(&mut farm, alloc, 2, "b9", Health::Good)?, 12);
+    assert_eq!(rt; add_board(&mut farm, alloc, 3)?, 0);
+    assert_eq!(rt; set_health(&mut farm, alloc, 4, "b1", Health::Retired)?, 0);
+    assert_eq!(rt; set_tags(&mut farm, alloc, 5)?, 15);
     assert_eq!(rt; farm.boards().len(), 1);
     Ok(())
 }

@@ -1,6 +1,7 @@
 //! Worked rows of the pass.
-use crate::farm::Farm;
+use farm_core::farm::Farm;
 use farm_types::calls::{Answer, Call, Cmd, Rows};
+use farm_types::claims::Status;
 use farm_types::fault::WordFault;
 use farm_types::rows::{
     BoardRow, Check, Health, Holder, JobRow, JobState, MetaRow, Outcome, Reply, ResRow, ResState,
@@ -100,6 +101,43 @@ fn pass(farm: &mut Farm, alloc: Global, now: u64) -> Result<Reply, Fail> {
     Ok(reply_of(farm.step(&call)?).ok_or("refused")?)
 }
 
+// These have no clause, so that the proof of a test doesn't carry what a farm shows.
+
+fn add_board(rows: &mut Rows, alloc: Global, called: &str, health: Health) -> Result<(), Fail> {
+    Ok(rows.boards.push(board(alloc, called, health)?)?)
+}
+
+fn add_job(
+    rows: &mut Rows,
+    alloc: Global,
+    number: u64,
+    group: u64,
+    priority: u64,
+) -> Result<(), Fail> {
+    Ok(rows.jobs.push(job(alloc, number, group, priority)?)?)
+}
+
+fn add_reservation(rows: &mut Rows, alloc: Global, number: u64, deadline: u64) -> Result<(), Fail> {
+    Ok(
+        rows.reservations
+            .push(reservation(alloc, number, deadline)?)?,
+    )
+}
+
+fn farm_of(rows: Rows) -> Result<Farm, Fail> {
+    Ok(Farm::from_rows(rows)?)
+}
+
+fn status_of(farm: &Farm) -> Status {
+    farm.status()
+}
+
+/// The state and the deadline of the first reservation.
+fn first_lease(farm: &Farm) -> Option<(ResState, u64)> {
+    let row = farm.reservations().first()?;
+    Some((row.state, row.deadline))
+}
+
 /// The holder of a board.
 fn holder_of(farm: &Farm, called: &str) -> Option<Holder> {
     for board in farm.boards() {
@@ -129,8 +167,8 @@ fn pass_on_empty_farm(rt: HostRuntime) -> Result<(), Fail> {
     let alloc = rt.alloc();
     let mut farm = Farm::empty(alloc);
     assert_eq!(rt; pass(&mut farm, alloc, 1_700_000_000)?, Reply(0, 0, 0));
-    assert_eq!(rt; farm.status().count, 1);
-    assert_eq!(rt; farm.status().clock, 1_700_000_000);
+    assert_eq!(rt; status_of(&farm).count, 1);
+    assert_eq!(rt; status_of(&farm).clock, 1_700_000_000);
     Ok(())
 }
 
@@ -138,10 +176,10 @@ fn pass_on_empty_farm(rt: HostRuntime) -> Result<(), Fail> {
 fn higher_priority_first(rt: HostRuntime) -> Result<(), Fail> {
     let alloc = rt.alloc();
     let mut rows = one_type(alloc, Check::Never, 3)?;
-    rows.boards.push(board(alloc, "b1", Health::Good)?)?;
-    rows.jobs.push(job(alloc, 1, 1, 50)?)?;
-    rows.jobs.push(job(alloc, 2, 2, 100)?)?;
-    let mut farm = Farm::from_rows(rows)?;
+    add_board(&mut rows, alloc, "b1", Health::Good)?;
+    add_job(&mut rows, alloc, 1, 1, 50)?;
+    add_job(&mut rows, alloc, 2, 2, 100)?;
+    let mut farm = farm_of(rows)?;
     assert_eq!(rt; queued(&farm, alloc)?.as_slice(), [2, 1].as_slice());
     assert_eq!(rt; pass(&mut farm, alloc, 30)?, Reply(0, 0, 1));
     assert_eq!(rt; holder_of(&farm, "b1"), Some(Holder::Job(2)));
@@ -155,16 +193,14 @@ fn higher_priority_first(rt: HostRuntime) -> Result<(), Fail> {
 fn reservation_before_job(rt: HostRuntime) -> Result<(), Fail> {
     let alloc = rt.alloc();
     let mut rows = one_type(alloc, Check::Never, 3)?;
-    rows.boards.push(board(alloc, "b1", Health::Good)?)?;
-    rows.reservations.push(reservation(alloc, 1, 80)?)?;
-    rows.jobs.push(job(alloc, 2, 2, 50)?)?;
-    let mut farm = Farm::from_rows(rows)?;
+    add_board(&mut rows, alloc, "b1", Health::Good)?;
+    add_reservation(&mut rows, alloc, 1, 80)?;
+    add_job(&mut rows, alloc, 2, 2, 50)?;
+    let mut farm = farm_of(rows)?;
     assert_eq!(rt; pass(&mut farm, alloc, 30)?, Reply(0, 0, 1));
     assert_eq!(rt; holder_of(&farm, "b1"), Some(Holder::Res(1)));
     assert_eq!(rt; state_of(&farm, 2), Some(JobState::Submitted));
-    let served = farm.reservations().first().ok_or("none")?;
-    assert!(rt; served.state == ResState::Allocated);
-    assert_eq!(rt; served.deadline, 90);
+    assert_eq!(rt; first_lease(&farm), Some((ResState::Allocated, 90)));
     Ok(())
 }
 
@@ -173,12 +209,12 @@ fn reservation_before_job(rt: HostRuntime) -> Result<(), Fail> {
 fn group_waits_whole(rt: HostRuntime) -> Result<(), Fail> {
     let alloc = rt.alloc();
     let mut rows = one_type(alloc, Check::Never, 4)?;
-    rows.boards.push(board(alloc, "b1", Health::Good)?)?;
-    rows.boards.push(board(alloc, "b2", Health::Maintenance)?)?;
-    rows.jobs.push(job(alloc, 1, 1, 50)?)?;
-    rows.jobs.push(job(alloc, 2, 1, 50)?)?;
-    rows.jobs.push(job(alloc, 3, 3, 50)?)?;
-    let mut farm = Farm::from_rows(rows)?;
+    add_board(&mut rows, alloc, "b1", Health::Good)?;
+    add_board(&mut rows, alloc, "b2", Health::Maintenance)?;
+    add_job(&mut rows, alloc, 1, 1, 50)?;
+    add_job(&mut rows, alloc, 2, 1, 50)?;
+    add_job(&mut rows, alloc, 3, 3, 50)?;
+    let mut farm = farm_of(rows)?;
     assert_eq!(rt; pass(&mut farm, alloc, 30)?, Reply(0, 0, 1));
     assert_eq!(rt; state_of(&farm, 1), Some(JobState::Submitted));
     assert_eq!(rt; state_of(&farm, 2), Some(JobState::Submitted));
@@ -191,16 +227,16 @@ fn group_waits_whole(rt: HostRuntime) -> Result<(), Fail> {
 fn check_goes_first(rt: HostRuntime) -> Result<(), Fail> {
     let alloc = rt.alloc();
     let mut rows = one_type(alloc, Check::Hours(24), 2)?;
-    rows.boards.push(board(alloc, "b1", Health::Unknown)?)?;
-    rows.jobs.push(job(alloc, 1, 1, 100)?)?;
-    let mut farm = Farm::from_rows(rows)?;
+    add_board(&mut rows, alloc, "b1", Health::Unknown)?;
+    add_job(&mut rows, alloc, 1, 1, 100)?;
+    let mut farm = farm_of(rows)?;
     assert_eq!(rt; pass(&mut farm, alloc, 1000)?, Reply(1, 0, 0));
     assert_eq!(rt; holder_of(&farm, "b1"), Some(Holder::Job(2)));
     assert_eq!(rt; state_of(&farm, 1), Some(JobState::Submitted));
     let check = farm.job(2).ok_or("no check")?;
     assert!(rt; check.checking && check.state == JobState::Scheduled);
     assert_eq!(rt; check.owner.as_str(), "admin");
-    assert_eq!(rt; farm.status().next, 3);
+    assert_eq!(rt; status_of(&farm).next, 3);
     Ok(())
 }
 
@@ -217,13 +253,12 @@ fn lease_ends(rt: HostRuntime) -> Result<(), Fail> {
     lease.state = ResState::Allocated;
     lease.board = Some(name(alloc, "b1")?);
     rows.reservations.push(lease)?;
-    let mut farm = Farm::from_rows(rows)?;
+    let mut farm = farm_of(rows)?;
     assert_eq!(rt; pass(&mut farm, alloc, 79)?, Reply(0, 0, 0));
     assert_eq!(rt; holder_of(&farm, "b1"), Some(Holder::Res(1)));
     assert_eq!(rt; pass(&mut farm, alloc, 80)?, Reply(0, 1, 0));
     assert_eq!(rt; holder_of(&farm, "b1"), Some(Holder::Nobody));
-    let ended = farm.reservations().first().ok_or("none")?;
-    assert!(rt; ended.state == ResState::Expired);
+    assert!(rt; matches!(first_lease(&farm), Some((ResState::Expired, _))));
     Ok(())
 }
 
@@ -232,16 +267,16 @@ fn lease_ends(rt: HostRuntime) -> Result<(), Fail> {
 fn farm_full_of_jobs(rt: HostRuntime) -> Result<(), Fail> {
     let alloc = rt.alloc();
     let mut rows = one_type(alloc, Check::Hours(24), 100_001)?;
-    rows.boards.push(board(alloc, "b1", Health::Unknown)?)?;
+    add_board(&mut rows, alloc, "b1", Health::Unknown)?;
     for number in 1..100_001 {
         let mut done = job(alloc, number, number, 50)?;
         done.state = JobState::Finished;
         done.outcome = Some(Outcome::Complete);
         rows.jobs.push(done)?;
     }
-    let mut farm = Farm::from_rows(rows)?;
+    let mut farm = farm_of(rows)?;
     assert_eq!(rt; pass(&mut farm, alloc, 1000)?, Reply(0, 0, 0));
     assert_eq!(rt; holder_of(&farm, "b1"), Some(Holder::Nobody));
-    assert_eq!(rt; farm.status().jobs, 100_000);
+    assert_eq!(rt; status_of(&farm).jobs, 100_000);
     Ok(())
 }

@@ -1,6 +1,10 @@
-use super::*;
+//! What requests ask, row by row.
 use farm_http::request::read_request;
+use farm_types::calls::{Call, Cmd};
 use farm_types::rows::Check;
+use farm_wire::ask::Ask;
+use farm_wire::fault::AskFault;
+use std::alloc::Global;
 use std::process::Abort;
 use std::test::Fail;
 

@@ -1,14 +1,8 @@
 //! Rows as the tables spell them, and what is left where a call fails.
 ghost use Rattle.farm_types.specs.Small.{AreSmall};
 
-mod rows;
-mod stops;
-
-use crate::fault::StoreFault;
-use crate::queries::load;
-use crate::schema::create;
-use crate::tests::rows::{STATEMENTS, one_of_each, read_back, two_of_each};
-use crate::upserts::put;
+use crate::rows::{STATEMENTS, one_of_each, read_back, two_of_each};
+use farm_store::{StoreFault, create, load, put};
 use farm_types::calls::{Changes, Rows};
 use sqlite::{Alter, Connection, Error, MemStore};
 use std::alloc::{AllocError, Global};
@@ -17,14 +11,14 @@ use std::test::Fail;
 // These have no clause, so that the proof of a test does not carry what a connection shows. Each asks
 // the connection that no transaction is begun.
 
-fn make<S: Alter>(conn: &mut Connection<S>) -> Result<(), StoreFault> {
+pub(crate) fn make<S: Alter>(conn: &mut Connection<S>) -> Result<(), StoreFault> {
     if !conn.is_autocommit() {
         return Err(StoreFault::Store);
     }
     create(conn)
 }
 
-fn write<S: Alter>(
+pub(crate) fn write<S: Alter>(
     alloc: Global,
     conn: &mut Connection<S>,
     changes: &Changes,
@@ -37,7 +31,7 @@ fn write<S: Alter>(
     put(alloc, conn, changes)
 }
 
-fn read<S: Alter>(alloc: Global, conn: &mut Connection<S>) -> Result<Rows, StoreFault> {
+pub(crate) fn read<S: Alter>(alloc: Global, conn: &mut Connection<S>) -> Result<Rows, StoreFault> {
     if !conn.is_autocommit() {
         return Err(StoreFault::Store);
     }
@@ -53,7 +47,7 @@ fn number<S: Alter>(conn: &mut Connection<S>, sql: &str) -> Result<i64, Error> {
 }
 
 /// Each field of each row.
-fn shown(alloc: Global, rows: &Rows) -> Result<String, AllocError> {
+pub(crate) fn shown(alloc: Global, rows: &Rows) -> Result<String, AllocError> {
     format!(in alloc; "{rows:?}")
 }
 

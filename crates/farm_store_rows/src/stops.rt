@@ -2,9 +2,9 @@
 ghost use Rattle.std.specs.Prelude.{IfSome};
 ghost use Rattle.farm_types.specs.Small.{AreSmall};
 
-use crate::fault::StoreFault;
-use crate::tests::rows::{one_of_each, two_of_each};
-use crate::tests::{make, read, shown, write};
+use crate::rows::{one_of_each, two_of_each};
+use crate::tables::{make, read, shown, write};
+use farm_store::StoreFault;
 use farm_types::calls::Changes;
 use sqlite::{Alter, Connection, Error, ErrorCode, FileStore, Files, Options};
 use sqlite_disk::{Crash, Disk, Fuse, Memory};

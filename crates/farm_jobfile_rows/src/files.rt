@@ -1,7 +1,6 @@
-mod examples;
-
-use crate::tests::examples::{BOOT, LAB, MULTINODE};
-use crate::{FileFault, FileKind, Reason, job_of, lab_of};
+//! Worked rows of job files and lab files, and the files of `examples/`.
+use crate::examples::{BOOT, LAB, MULTINODE};
+use farm_jobfile::{FileFault, FileKind, Reason, job_of, lab_of};
 use farm_types::calls::{Call, Cmd};
 use farm_types::refusal::Refusal;
 use farm_types::rows::{Check, Want};

@@ -1,5 +1,8 @@
-use super::*;
-use std::alloc::AllocError;
+//! Words, row by row.
+use farm_order::fault::OrderFault;
+use farm_order::order::{Order, Place, Report};
+use farm_order::words::order_of;
+use std::alloc::{AllocError, Global};
 
 fn read(rt: &HostRuntime, line: &str) -> Result<Result<Order, OrderFault>, AllocError> {
     let alloc = rt.alloc();
