@@ -2,4 +2,6 @@
 #![tactic(auto)]
 
 #[cfg(test)]
+mod displayed;
+#[cfg(test)]
 mod readers;
