@@ -1,6 +1,7 @@
 -- Heads end in a line feed, so the first prefix that is one ends with its last line.
-use Rattle.std.proofs.Common.{◌≡◌, ◌≢◌, ℕ, ◌+◌, ◌-◌, ◌<◌, ◌≤◌, min, List, [], ◌∷◌, ◌++◌, length, get_or, take, drop, set, refl, sym, ap, subst, ◌∙◌, append_assoc, append-nil, arith, suc, length-append, below_more}
-use Rattle.std.proofs.lemmas.List.{get_or-set_other, take-set-le, get_or-take, take-take, length-take, length-map}
+use Rattle.std.proofs.Common.{◌≡◌, ◌≢◌, ℕ, ◌+◌, ◌-◌, ◌<◌, ◌≤◌, min, List, [], ◌∷◌, ◌++◌, length, get_or, take, drop, refl, sym, ap, subst, ◌∙◌, append_assoc, append-nil, arith, suc, length-append, below_more}
+use Rattle.std.proofs.lemmas.List.{take-append-le, length-take, length-map}
+use Rattle.std.proofs.Math.ListN.{get_or-append}
 use Rattle.std.proofs.Math.Seq.{get_or-append_seam, take-append_seam}
 use Rattle.httparse.specs.Grammar.{RequestHead, ReadsRequest, LineEnd, crlf, lf, print_end, print_request}
 use Rattle.httparse.specs.Spans.{IsRequestOf, header_bytes, name_and_value}
@@ -10,7 +11,6 @@ use Rattle.farm_http.specs.Heads.{IsHead, IsOpen, OpenBelow}
 use Rattle.std.specs.Prelude.{Option}
 use Rattle.std.specs.Io.KnownBytes.{Consumes}
 use Rattle.std.proofs.KnownBytes.{Consumes-trans}
-use Rattle.std.proofs.lemmas.List.{take_more_set}
 use Rattle.std.proofs.Math.Seq.{take-length}
 
 -- the bytes end in a line feed
@@ -60,20 +60,19 @@ head_of buf headers r found room short o =
       },
     )
 
--- a write at n leaves the lines before it
-pub open_set : (n b : ℕ) (bytes : List ℕ) → OpenBelow n bytes → OpenBelow n (set bytes n b)
-open_set n b bytes o i below at =
-    let other : i ≢ n = omega arith in
-    subst IsOpen (sym (take-set-le (i + 1) bytes n b (omega arith))) (o i below (sym (get_or-set_other bytes n i b 0 other) ∙ at))
+-- a byte behind them leaves the lines before it
+pub open_push : (bytes : List ℕ) (b : ℕ) → OpenBelow (length bytes) bytes → OpenBelow (length bytes) (bytes ++ b ∷ [])
+open_push bytes b o i below at =
+    subst IsOpen (sym (take-append-le (i + 1) bytes (b ∷ []) (omega arith))) (o i below (sym (get_or-append bytes (b ∷ []) 0 i below) ∙ at))
 
--- a cut behind n leaves the lines before it
-pub open_take : (n m : ℕ) (bytes : List ℕ) → n ≤ m → OpenBelow n bytes → OpenBelow n (take m bytes)
-open_take n m bytes le o i below at =
-    subst IsOpen (sym (take-take (i + 1) m bytes (omega arith))) (o i below (sym (get_or-take m bytes i 0 (omega arith)) ∙ at))
-
--- one more line that is open
-pub open_more : (n : ℕ) (bytes : List ℕ) → OpenBelow n bytes → IsOpen (take (n + 1) bytes) → OpenBelow (n + 1) bytes
-open_more n bytes o last = below_more (λ i. get_or bytes i 0 ≡ 10 → IsOpen (take (i + 1) bytes)) n o (λ _. last)
+-- one more line that is open, or one more byte of a line
+pub open_more : (bytes : List ℕ) (b : ℕ) → OpenBelow (length bytes) bytes → (b ≡ 10 → IsOpen (bytes ++ b ∷ [])) → OpenBelow (length (bytes ++ b ∷ [])) (bytes ++ b ∷ [])
+open_more bytes b o last =
+    let all = bytes ++ b ∷ [] in
+    let long : length all ≡ length bytes + 1 = length-append bytes (b ∷ []) in
+    let whole : take (length bytes + 1) all ≡ all = ap (λ n. take n all) (sym long) ∙ take-length all in
+    subst (λ n. OpenBelow n all) (sym long) (below_more (λ i. get_or all i 0 ≡ 10 → IsOpen (take (i + 1) all)) (length bytes) (open_push bytes b o)
+    (λ at. subst IsOpen (sym whole) (last (sym (get_or-append_seam bytes b [] 0) ∙ at))))
 
 -- a list of one is its first item
 one_item : (buf : List ℕ) → length buf ≡ 1 → buf ≡ get_or buf 0 0 ∷ []
@@ -81,10 +80,9 @@ one_item [] e = cc
 one_item (x ∷ []) e = refl
 one_item (x ∷ (y ∷ ys)) e = absurd (omega (arith, e))
 
--- one byte was read, and was put behind the n bytes
-pub read_more : (a b c : Option (List ℕ)) (old buf : List ℕ) (n k : ℕ) → n < length old → Consumes a b (take n old) → Consumes b c (take k buf)
-    → k ≤ length buf → length buf ≡ 1 → k ≢ 0 → Consumes a c (take (n + 1) (set old n (get_or buf 0 0)))
-read_more a b c old buf n k room before read fits one some =
+-- one byte was read, and was put behind the others
+pub read_more : (a b c : Option (List ℕ)) (old buf : List ℕ) (k : ℕ) → Consumes a b old → Consumes b c (take k buf) → k ≤ length buf → length buf ≡ 1 → k ≢ 0 → Consumes a c (old ++ get_or buf 0 0 ∷ [])
+read_more a b c old buf k before read fits one some =
     let whole : k ≡ length buf = omega (arith, one, fits) in
     let taken : take k buf ≡ get_or buf 0 0 ∷ [] = ap (λ j. take j buf) whole ∙ take-length buf ∙ one_item buf one in
-    subst (Consumes a c) (sym (take_more_set old n (get_or buf 0 0) room)) (Consumes-trans a b c _ _ before (subst (Consumes b c) taken read))
+    Consumes-trans a b c _ _ before (subst (Consumes b c) taken read)

@@ -1,9 +1,6 @@
 -- A head and a body behind it.
-use Rattle.std.proofs.Common.{◌≡◌, ℕ, ◌+◌, ◌≤◌, List, ◌++◌, length, take, drop, ap, sym, subst, ◌∙◌, append-nil, Ok, inr}
-use Rattle.std.specs.Prelude.{Option}
-use Rattle.std.specs.Io.KnownBytes.{Consumes}
-use Rattle.std.proofs.KnownBytes.{Consumes-trans}
-use Rattle.std.proofs.lemmas.List.{length-take-le, drop_at}
+use Rattle.std.proofs.Common.{◌≡◌, ℕ, ◌+◌, ◌≤◌, List, ◌++◌, length, take, drop, ap, sym, subst, ◌∙◌, append-nil, length-append, arith, Ok, inr}
+use Rattle.std.proofs.lemmas.List.{length-take-le, drop_at, take_all, take-append-le}
 use Rattle.std.proofs.lemmas.Slice.{take-put_mid}
 use Rattle.std.proofs.Math.Seq.{take-append_seam}
 use borrow.Rule.Slice.PartMut.{put_mid}
@@ -18,6 +15,18 @@ use Rattle.farm_http.specs.declared.fault.WireFault.TheVariants.{NoMemory, Read,
 -- a head is what it prints
 pub head_text : (bytes : List ℕ) (h : RequestHead) → IsHead bytes h → bytes ≡ print_request h
 head_text bytes h is = is.reads.1 ∙ append-nil (print_request h)
+
+-- room that is made behind the head leaves it
+pub front_kept : (head zeros : List ℕ) (n : ℕ) → length head ≤ n → take (length head) (take n head ++ zeros) ≡ head
+front_kept head zeros n le = ap (λ l. take (length head) (l ++ zeros)) (take_all n head le) ∙ take-append_seam head zeros
+
+-- a list of this length that is written over the front of another is what stands there then
+pub written : (head s body behind rest : List ℕ) (h n m : ℕ) → head ≡ take h s → h ≤ length s → length body ≡ n → m ≡ h + n → take (h + n) (head ++ (body ++ behind)) ≡ take m ((head ++ (body ++ behind)) ++ rest)
+written head s body behind rest h n m front within long same =
+    let all = head ++ (body ++ behind) in
+    let first : length head ≡ h = ap length front ∙ length-take-le h s within in
+    let fits : h + n ≤ length all = omega (arith, first, long, length-append head (body ++ behind), length-append body behind) in
+    sym (ap (λ k. take k (all ++ rest)) same ∙ take-append-le (h + n) all rest fits)
 
 -- the body was put behind the head
 pub joined : (bytes body : List ℕ) (head k j : ℕ) → head ≤ length bytes → length body ≡ k → take (head + k) (put_mid head j bytes body) ≡ take head bytes ++ body
@@ -36,11 +45,6 @@ request_of bytes body head k j h within long is declared =
       whole = all ∙ ap (λ l. print_request h ++ l) (sym rest);
       declared = sym declared ∙ ap (λ n. Ok n) (sym long ∙ ap length (sym rest));
     }
-
-pub consumes_joined : (a b c : Option (List ℕ)) (bytes body : List ℕ) (head k j : ℕ) → head ≤ length bytes → length body ≡ k → Consumes a b (take head bytes) → Consumes b c body
-    → Consumes a c (take (head + k) (put_mid head j bytes body))
-consumes_joined a b c bytes body head k j within long first second =
-    subst (Consumes a c) (sym (joined bytes body head k j within long)) (Consumes-trans a b c (take head bytes) body first second)
 
 -- a body that fails makes its request fail
 pub body_fails : (front used : List ℕ) (AtEnd Spent : Type 0) (e : WireFault) (h : RequestHead) (k : ℕ) → IsHead front h → Ok k ≡ body_length h

@@ -1,5 +1,5 @@
 //! Reading one request.
-ghost use Rattle.std.specs.Prelude.{◌≡◌, ℕ, ◌+◌, ◌<◌, ◌≤◌, length, take, false, ⊤, List, IsTrue, IfOk, IfErr, IfSome, OnOk, IsErrOf};
+ghost use Rattle.std.specs.Prelude.{◌≡◌, ℕ, ◌+◌, ◌<◌, ◌≤◌, length, [], vec_capacity, false, ⊤, List, IsTrue, IfOk, IfErr, IfSome, OnOk, IsErrOf};
 ghost use Rattle.std.specs.Io.KnownBytes.{Consumes, IsAtEnd};
 ghost use Rattle.httparse.specs.Grammar.{RequestHead};
 ghost use Rattle.farm_http.specs.Fields.{body_length, numbered};
@@ -81,69 +81,70 @@ fn take_request<R: Read>(
     ensures failed { IsTrue log.new.failed → IsErrOf result WireFault.Read }
     ensures turns { log.new.calls ≤ MAX_TURNS }
 {
-    let Ok(mut bytes) = vec![in alloc; 0u8; MAX_HEAD + MAX_BODY] else {
+    let Ok(mut bytes) = Vec::with_capacity(alloc, MAX_HEAD + MAX_BODY) else {
         return Err(WireFault::NoMemory);
     };
-    let (head, len) = fill(reader, log, bytes.as_mut_slice())?;
-    bytes.truncate(len);
+    let head = fill(reader, log, &mut bytes)?;
     Ok(Taken { bytes, head })
 }
 
-/// Reads a request to the front of the bytes, and gives the lengths of its head and of all of it.
-fn fill<R: Read>(
-    reader: &mut R,
-    log: &mut ReadLog,
-    bytes: &mut [u8],
-) -> Result<(usize, usize), WireFault>
-    requires room { length bytes.old ≡ MAX_HEAD + MAX_BODY }
+/// Reads a request into bytes that have room for it, and gives the length of its head. Only as many
+/// bytes are cleared as the body has.
+fn fill<R: Read>(reader: &mut R, log: &mut ReadLog, bytes: &mut Vec<u8>) -> Result<usize, WireFault>
+    requires empty { bytes.old.items ≡ [] }
+    requires room { MAX_HEAD + MAX_BODY ≤ vec_capacity bytes.old }
     requires fresh { log.old ≡ unread }
-    ensures request { IfOk result (λ n. IsRequest (take n.1 bytes.new) n.0) }
+    ensures request { IfOk result (λ n. IsRequest bytes.new.items n) }
     ensures taken { IfOk result
-        (λ n. Consumes (R.remaining reader.old) (R.remaining reader.new) (take n.1 bytes.new)) }
+        (λ n. Consumes (R.remaining reader.old) (R.remaining reader.new) bytes.new.items) }
     ensures fault { IfErr result
         (FailsAfter (R.remaining reader.old) (R.remaining reader.new) (IsSpent log.new)) }
     ensures failed { IsTrue log.new.failed → IsErrOf result WireFault.Read }
     ensures turns { log.new.calls ≤ MAX_TURNS }
 {
     let mut headers = [EMPTY_HEADER_SPAN; MAX_FIELDS];
-    let head = read_head(reader, log, bytes, &mut headers)?;
-    let body = length_after(&bytes[..head])?;
-    read_body(reader, log, &mut bytes[head..head + body])?;
-    Ok((head, head + body))
+    read_head(reader, log, bytes, &mut headers)?;
+    let head = bytes.len();
+    let body = length_after(bytes.as_slice())?;
+    let Ok(()) = bytes.resize(head + body, 0) else {
+        return Err(WireFault::NoMemory);
+    };
+    read_body(reader, log, &mut bytes[head..])?;
+    Ok(head)
 }
 
-/// Reads a head to the front of the bytes, and gives its length.
+/// Reads a head into bytes that have room for it.
 fn read_head<R: Read>(
     reader: &mut R,
     log: &mut ReadLog,
-    bytes: &mut [u8],
+    bytes: &mut Vec<u8>,
     headers: &mut [HeaderSpan],
-) -> Result<usize, WireFault>
-    requires room { MAX_HEAD ≤ length bytes.old }
+) -> Result<(), WireFault>
+    requires empty { bytes.old.items ≡ [] }
+    requires room { MAX_HEAD ≤ vec_capacity bytes.old }
     requires fields { length headers.old ≡ MAX_FIELDS }
     requires fresh { log.old ≡ unread }
-    ensures within { IfOk result (λ n. n ≤ MAX_HEAD) }
-    ensures head { IfOk result (λ n. (h : RequestHead) × IsHead (take n bytes.new) h) }
-    ensures bytes { IfOk result
-        (λ n. Consumes (R.remaining reader.old) (R.remaining reader.new) (take n bytes.new)) }
+    ensures capacity { vec_capacity bytes.old ≤ vec_capacity bytes.new }
+    ensures within { OnOk result (length bytes.new.items ≤ MAX_HEAD) }
+    ensures head { OnOk result ((h : RequestHead) × IsHead bytes.new.items h) }
+    ensures bytes { OnOk result
+        (Consumes (R.remaining reader.old) (R.remaining reader.new) bytes.new.items) }
     ensures fault { IfErr result (λ e. (used : List ℕ)
         × Consumes (R.remaining reader.old) (R.remaining reader.new) used
         × HeadFails used (IsAtEnd (R.remaining reader.new)) (IsSpent log.new) e) }
     ensures failed { IsTrue log.new.failed → IsErrOf result WireFault.Read }
     ensures turns { log.new.calls ≤ MAX_TURNS }
 {
-    let mut len = 0usize;
-    while len < MAX_HEAD {
+    while bytes.len() < MAX_HEAD {
         let mut byte = [0u8; 1];
         if read_some(reader, log, &mut byte)? == 0 {
             return Err(WireFault::Refused(Refusal { code: BAD_REQUEST }));
         }
         let last = byte[0];
-        bytes[len] = last;
-        len += 1;
+        bytes.push_reserved(last);
         if last == b'\n' {
-            match parse_request(&bytes[..len], headers) {
-                Ok(Status::Complete(_)) => return Ok(len),
+            match parse_request(bytes.as_slice(), headers) {
+                Ok(Status::Complete(_)) => return Ok(()),
                 Ok(Status::Partial) => {}
                 Err(_) => return Err(WireFault::Refused(Refusal { code: BAD_REQUEST })),
             }

@@ -58,7 +58,7 @@ and_true : (b : Bool) → (b && true) ≡ b
 and_true true = refl
 and_true false = refl
 
-or_false : (b : Bool) → (b || false) ≡ b
+pub or_false : (b : Bool) → (b || false) ≡ b
 or_false true = refl
 or_false false = refl
 
@@ -67,11 +67,11 @@ then_is Less b = refl
 then_is Equal b = refl
 then_is Greater b = refl
 
-agree_one : (a b : Row) → is_null (column b 0) ≡ false → agree plain (0 ∷ []) a (0 ∷ []) b ≡ is_eq (value_cmp (column a 0) (column b 0))
+pub agree_one : (a b : Row) → is_null (column b 0) ≡ false → agree plain (0 ∷ []) a (0 ∷ []) b ≡ is_eq (value_cmp (column a 0) (column b 0))
 unfolding first_key
 agree_one a b q = and_true _ ∙ equal_is_tied (column a 0) (column b 0) q
 
-agree_next : (v w : Value) (a b : Row) → is_null (column b 0) ≡ false → agree plain (1 ∷ []) (v ∷ a) (1 ∷ []) (w ∷ b) ≡ is_eq (by_first a b)
+pub agree_next : (v w : Value) (a b : Row) → is_null (column b 0) ≡ false → agree plain (1 ∷ []) (v ∷ a) (1 ∷ []) (w ∷ b) ≡ is_eq (by_first a b)
 unfolding first_key
 agree_next v w a b q = and_true _ ∙ equal_is_tied (column a 0) (column b 0) q
 

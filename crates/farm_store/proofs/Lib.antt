@@ -1,5 +1,7 @@
 pub mod Sorted
+pub mod Order
 pub mod Replace
+pub mod OnConflict
 pub mod PutLemmas
 pub mod Keys
 pub mod OneRow
@@ -16,7 +18,6 @@ pub mod EmptyRows
 pub mod SmallCodes
 pub mod ZipAt
 pub mod Commute
-pub mod Order
 pub mod Loads
 pub mod ColumnsFrom
 pub mod Selects

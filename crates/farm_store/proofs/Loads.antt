@@ -3,7 +3,6 @@ use Rattle.std.proofs.Common.{refl, ◌≡◌, ◌≢◌, inl, inr, ℕ, List, [
 use Rattle.std.specs.List.{AllByRecursion}
 use Rattle.std.specs.List.Sorted.{IsPermutation, IsSorted}
 use Rattle.std.specs.Cmp.{IsTotalOrder}
-use Rattle.std.proofs.lemmas.Cmp.{tied_back}
 use Rattle.std.proofs.lemmas.List.Sorted.{sum_by-IsPermutation, IsPermutation-sym}
 use Rattle.sqlite.specs.Order.{Row}
 use Rattle.sqlite_trees.specs.Tree.{IsAscending}
@@ -11,17 +10,11 @@ use Rattle.sqlite_rules.specs.Lists.{Has}
 use Rattle.sqlite_rules.proofs.ListLemmas.{all_has}
 use Rattle.sqlite_rules.proofs.ProbeLemmas.{has_mapped, mapped_has}
 use Rattle.farm_store.specs.Stored.{IsStrict, Differ, Lists}
+use Rattle.farm_store.proofs.Sorted.{tie_same}
 use Rattle.farm_store.proofs.Order.{permuted, tied, at_most_one, strictly, same_rows}
 
 module _ {O : Type 0} {cmp : Row → Row → Ordering} (total : IsTotalOrder cmp) {c : O → O → Ordering} (totally : IsTotalOrder c) (show : Row → Row) (width : ℕ) (P Q : Row → O)
     (shows : (raw : Row) → P raw ≡ Q (show raw)) (keeps : (a b : Row) → c (Q a) (Q b) ≡ cmp a b) where
-  tie_same : (rows : List Row) (a b : Row) → IsStrict cmp rows → Has rows a → Has rows b → cmp a b ≡ Equal → a ≡ b
-  tie_same [] a b up h k tie = absurd h
-  tie_same (x ∷ rows) a b up (inl h) (inl k) tie = h ∙ sym k
-  tie_same (x ∷ rows) a b up (inl h) (inr k) tie = absurd (let low = all_has (λ z. cmp x z ≡ Less) rows b up.0 k in let e = sym low ∙ ap (λ z. cmp z b) (sym h) ∙ tie in cc)
-  tie_same (x ∷ rows) a b up (inr h) (inl k) tie = absurd (let low = all_has (λ z. cmp x z ≡ Less) rows a up.0 h in let e = sym low ∙ ap (λ z. cmp z a) (sym k) ∙ tied_back total a b tie in cc)
-  tie_same (x ∷ rows) a b up (inr h) (inr k) tie = tie_same rows a b up.1 h k tie
-
   all_strict : (a : Row) (rows : List Row) → AllByRecursion (λ b. cmp a b ≡ Less) rows → AllByRecursion (λ q. c (Q a) q ≡ Less) (map Q rows)
   all_strict a [] all = tt
   all_strict a (b ∷ rows) all = (keeps a b ∙ all.0, all_strict a rows all.1)
@@ -46,7 +39,7 @@ module _ {O : Type 0} {cmp : Row → Row → Ordering} (total : IsTotalOrder cmp
   answers raws rows ordered it same sorted =
       let apart = shown_apart raws it.apart (λ a b h k tie.
       let e : cmp (show a) (show b) ≡ Equal = sym (keeps (show a) (show b)) ∙ ap (λ q. c q (Q (show b))) (sym (shows a)) ∙ ap (c (P a)) (sym (shows b)) ∙ tie in
-      tie_same rows (show a) (show b) it.strict (it.complete a h) (it.complete b k) e) in
+      tie_same total rows (show a) (show b) it.strict (it.complete a h) (it.complete b k) e) in
       same_rows totally ordered (map Q rows)
       (strictly totally ordered sorted (λ q. subst (λ n. n ≤ 1) (sym (sum_by-IsPermutation (tied totally q) (map P raws) ordered same)) (at_most_one totally q (map P raws) apart)))
       (map_strict rows it.strict)

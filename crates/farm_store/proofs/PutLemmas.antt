@@ -29,7 +29,7 @@ put_apart show new (r ∷ rows) up other = elim (value_cmp (rowid r) (rowid new)
   | Greater ↦ (other, up)
 ]
 
-eq_is : (o : Ordering) → is_eq o ≡ true → o ≡ Equal
+pub eq_is : (o : Ordering) → is_eq o ≡ true → o ≡ Equal
 eq_is Less h = absurd (cc)
 eq_is Equal h = refl
 eq_is Greater h = absurd (cc)

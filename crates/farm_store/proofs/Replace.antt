@@ -65,11 +65,11 @@ has_own : (row : Row) → is_int (rowid row) ≡ true → has_rowid (id_in (rowi
 has_own row keyed = let own = int_is (rowid row) keyed in rw (sym own, tied_itself value_cmp_total (rowid row))
 
 -- a part that gave a value did not stop on the way
-went : {B E R : Type 0} {b : B} {Stops : E → Type 0} → ((stop : E) × Stops stop × (Ok b ≡ Err stop)) ⊎ R → R
+pub went : {B E R : Type 0} {b : B} {Stops : E → Type 0} → ((stop : E) × Stops stop × (Ok b ≡ Err stop)) ⊎ R → R
 went (inl stopped) = absurd (let e = stopped.2 in cc)
 went (inr on) = on
 
-same_value : {B E : Type 0} {a b : B} → ◌≡◌ {A = Result B E} (Ok a) (Ok b) → a ≡ b
+pub same_value : {B E : Type 0} {a b : B} → ◌≡◌ {A = Result B E} (Ok a) (Ok b) → a ≡ b
 same_value e = cc
 
 filter_all : (P : Row → Type 0) (p : Row → Bool) (rows : List Row) → AllByRecursion P rows → AllByRecursion P (filter p rows)
@@ -145,28 +145,35 @@ module _ (show : Row → Row) (limit : Option ℕ) (mode : Mode) (schema : Schem
           subst (λ (u : Trees). AllByRecursion (λ t. t.tree ≢ tree → u t.tree ≡ mid t.tree) schema.tables) is applied.tables,
         )
 
+    -- the row is put where those that conflict with it were taken out
+    pub from_put : (found : List Row) → AreConflicts None schema.indexes table (db tree) new found → (next : Trees) → are_fresh (without_all (db tree) (ids_of found)) (new ∷ []) ≡ true
+        → next tree ≡ put_all (without_all (db tree) (ids_of found)) (new ∷ []) → AllByRecursion (λ t. t.tree ≢ tree → next t.tree ≡ db t.tree) schema.tables → Replaces show schema table new db next
+    from_put found are next fresh put others =
+        let left = without_all (db tree) (ids_of found) in
+        record {
+          added = subst (λ l. Has l new) (sym put) (put_all_adds (new ∷ []) left new fresh (inl refl));
+          kept = λ r was free. subst (λ l. Has l r) (sym put) (put_all_keeps (new ∷ []) left r fresh (cleared found are r was free));
+          rest = λ r there. elim (put_all_has (new ∷ []) left r (subst (λ l. Has l r) put there)) [
+            | inl fresh ↦ inl (elim fresh [ inl same ↦ same | inr none ↦ absurd none ])
+            | inr old ↦ inr (without_all_has (ids_of found) (db tree) r old, free_if_left found are r old)
+          ];
+          left = left;
+          is = put;
+          free = λ r h. (without_all_has (ids_of found) (db tree) r h, free_if_left found are r h);
+          apart = λ up. left_apart (Differ show) (ids_of found) (db tree) up;
+          ordered = subst IsTable (sym put) (IsTable-put_row new left (left_table (ids_of found) (db tree) ordered all_keyed).0);
+          keyed = subst (AllByRecursion HasInt) (sym put) (all-put_row HasInt new left own (left_table (ids_of found) (db tree) ordered all_keyed).1);
+          others = others;
+        }
+
     from_mid : (found : List Row) → AreConflicts None schema.indexes table (db tree) new found → (mid : Trees) → mid tree ≡ without_all (db tree) (ids_of found)
         → AllByRecursion (λ t. t.tree ≢ tree → mid t.tree ≡ db t.tree) schema.tables → (w : Written) → Puts task new mid (Ok w) → Replaces show schema table new db w.trees
     from_mid found are mid left others w h =
         let put = puts_is mid w h in
-        record {
-          added = subst (λ l. Has l new) (sym put.1) (put_all_adds (new ∷ []) (mid tree) new put.0 (inl refl));
-          kept = λ r was free. subst (λ l. Has l r) (sym put.1) (put_all_keeps (new ∷ []) (mid tree) r put.0 (subst (λ l. Has l r) (sym left) (cleared found are r was free)));
-          rest = λ r there. elim (put_all_has (new ∷ []) (mid tree) r (subst (λ l. Has l r) put.1 there)) [
-            | inl fresh ↦ inl (elim fresh [ inl same ↦ same | inr none ↦ absurd none ])
-            | inr old ↦
-                let still_left = subst (λ l. Has l r) left old in inr (without_all_has (ids_of found) (db tree) r still_left, free_if_left found are r still_left)
-          ];
-          left = mid tree;
-          is = put.1;
-          free = λ r h. let still_left = subst (λ l. Has l r) left h in (without_all_has (ids_of found) (db tree) r still_left, free_if_left found are r still_left);
-          apart = λ up. subst (IsAscending (Differ show)) (sym left) (left_apart (Differ show) (ids_of found) (db tree) up);
-          ordered = subst IsTable (sym put.1) (IsTable-put_row new (mid tree) (subst IsTable (sym left) (left_table (ids_of found) (db tree) ordered all_keyed).0));
-          keyed = subst (AllByRecursion HasInt) (sym put.1) (all-put_row HasInt new (mid tree) own (subst (AllByRecursion HasInt) (sym left) (left_table (ids_of found) (db tree) ordered all_keyed).1));
-          others = all_from _ schema.tables (λ t known other. all_has _ schema.tables t put.2 known other ∙ all_has _ schema.tables t others known other);
-        }
+        from_put found are w.trees (subst (λ l. are_fresh l (new ∷ []) ≡ true) left put.0) (put.1 ∙ ap (λ l. put_all l (new ∷ [])) left)
+        (all_from _ schema.tables (λ t known other. all_has _ schema.tables t put.2 known other ∙ all_has _ schema.tables t others known other))
 
-    clears : (found : List Row) → AreConflicts None schema.indexes table (db tree) new found → (w : Written) → Clears task Replace new db found (Ok w) → Replaces show schema table new db w.trees
+    pub clears : (found : List Row) → AreConflicts None schema.indexes table (db tree) new found → (w : Written) → Clears task Replace new db found (Ok w) → Replaces show schema table new db w.trees
     clears [] are w h = from_mid [] are db refl (all_from _ schema.tables (λ t known other. refl)) w h
     clears (x ∷ more) are w h =
         let done = went h in

@@ -21,6 +21,14 @@ module _ {X : Type 0} {cmp : X → X → Ordering} (total : IsTotalOrder cmp) wh
   turned : (a b : X) → cmp a b ≡ Greater → cmp b a ≡ Less
   turned a b h = total.antisymm b a ∙ ap ordering_reverse h
 
+  -- of a strict list, items that tie are one
+  pub tie_same : (ys : List X) (a b : X) → IsStrict cmp ys → Has ys a → Has ys b → cmp a b ≡ Equal → a ≡ b
+  tie_same [] a b up h k tie = absurd h
+  tie_same (y ∷ ys) a b up (inl h) (inl k) tie = h ∙ sym k
+  tie_same (y ∷ ys) a b up (inl h) (inr k) tie = absurd (let low = all_has (λ z. cmp y z ≡ Less) ys b up.0 k in let e = sym low ∙ ap (λ z. cmp z b) (sym h) ∙ tie in cc)
+  tie_same (y ∷ ys) a b up (inr h) (inl k) tie = absurd (let low = all_has (λ z. cmp y z ≡ Less) ys a up.0 h in let e = sym low ∙ ap (λ z. cmp z a) (sym k) ∙ tied_back total a b tie in cc)
+  tie_same (y ∷ ys) a b up (inr h) (inr k) tie = tie_same ys a b up.1 h k tie
+
   all_map : (P Q : X → Type 0) (ys : List X) → ((y : X) → P y → Q y) → AllByRecursion P ys → AllByRecursion Q ys
   all_map P Q [] f all = tt
   all_map P Q (y ∷ ys) f all = (f y all.0, all_map P Q ys f all.1)

@@ -21,7 +21,10 @@ pub(crate) fn put_number<S: Alter>(
     ensures survives { CommitsNothing (state S.Store tx.old.conn.now) (state S.Store tx.new.conn.now) }
 {
     let columns = meta_columns(name, value);
-    tx.execute("INSERT OR REPLACE INTO meta VALUES (?1, ?2)", &columns)?;
+    tx.execute(
+        "INSERT INTO meta VALUES (?1, ?2) ON CONFLICT (name) DO UPDATE SET value = excluded.value",
+        &columns,
+    )?;
     Ok(())
 }
 

@@ -1,19 +1,21 @@
 -- The bytes so far came from the reader, and none of their lines ended a head.
-use Rattle.std.proofs.Common.{◌-◌, ◌≤◌, ◌≡◌, false, length, take}
+use Rattle.std.proofs.Common.{◌-◌, ◌≤◌, ◌≡◌, false, length}
+use Rattle.std.specs.Prelude.{vec_capacity}
 use Rattle.std.specs.Io.KnownBytes.{Consumes}
 use Rattle.farm_http.specs.declared.limits.TheConstants.{MAX_HEAD, MAX_FIELDS, MAX_TURNS}
 use Rattle.farm_http.specs.Heads.{OpenBelow}
 use Rattle.farm_http.proofs.request.read_head.Given as goal
 
-abbrev pub invariant-loop-len : goal.invariant-loop-len
-invariant-loop-len g l = record {
-  short : l.len ≤ MAX_HEAD;
+abbrev pub invariant-loop-byte : goal.invariant-loop-byte
+invariant-loop-byte g l = record {
+  short : length l.bytes.items ≤ MAX_HEAD;
+  capacity : vec_capacity l.bytes ≡ vec_capacity l.fn.bytes;
   turns : l.log.calls ≤ MAX_TURNS;
   alive : l.log.failed ≡ false;
   room : length l.headers ≡ MAX_FIELDS;
-  taken : Consumes (g.R.Read.remaining l.fn.reader) (g.R.Read.remaining l.reader) (take l.len l.bytes);
-  open_lines : OpenBelow l.len l.bytes;
+  taken : Consumes (g.R.Read.remaining l.fn.reader) (g.R.Read.remaining l.reader) l.bytes.items;
+  open_lines : OpenBelow (length l.bytes.items) l.bytes.items;
 }
 
-abbrev pub decreases-loop-len : goal.decreases-loop-len
-decreases-loop-len g l = MAX_HEAD - l.len
+abbrev pub decreases-loop-byte : goal.decreases-loop-byte
+decreases-loop-byte g l = MAX_HEAD - length l.bytes.items
