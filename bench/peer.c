@@ -1,6 +1,6 @@
 /* The rows of the desk's commands through the real SQLite library: the same tables, the same
-   statements (INSERT OR REPLACE, each prepared once), one transaction a command, in WAL mode with
-   full sync. Prints the lines that farm_bench_store prints of the same commands:
+   statements (each prepared once), one transaction a command, in WAL mode with full sync. Prints
+   the lines that farm_bench_store prints of the same commands:
 
        NAME NANOSECONDS
 
@@ -205,7 +205,7 @@ static void open_store(const char *path) {
     put_job = prepare("INSERT OR REPLACE INTO jobs VALUES (?1, ?2, ?3, ?4, ?5, ?6, ?7, ?8, ?9, ?10, ?11, ?12)");
     put_reservation = prepare("INSERT OR REPLACE INTO reservations VALUES (?1, ?2, ?3, ?4, ?5, ?6, ?7)");
     put_kept = prepare("INSERT OR REPLACE INTO kept VALUES (?1, ?2, ?3, ?4, ?5, ?6)");
-    put_meta = prepare("INSERT OR REPLACE INTO meta VALUES (?1, ?2)");
+    put_meta = prepare("INSERT INTO meta VALUES (?1, ?2) ON CONFLICT (name) DO UPDATE SET value = excluded.value");
     begin = prepare("BEGIN IMMEDIATE");
     commit = prepare("COMMIT");
 }
