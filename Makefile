@@ -1,13 +1,17 @@
-# make run   builds the program and shows its main job on real input
-# make test  every proof, every must-fail edit, every test and program, from nothing (rt ci), then the scripts of tests/
-# make bin   leaves the program at bin/farm
-.PHONY: run test bin
+# make run    plays a day of a lab, requests and answers, in a build without proofs
+# make bin    proves and builds the program, and leaves it at bin/farm
+# make test   every proof, wrong body, test and program, from nothing (rt ci), then the scripts of tests/
+# make wrong  further wrong bodies, many to a check
+.PHONY: run bin test wrong
 
-run: bin
-	@sh tests/show.sh bin/farm
+run:
+	@sh tests/day.sh
+
+bin:
+	@python3 tests/build.py
 
 test:
 	@sh tests/all.sh
 
-bin:
-	cd crates/farm && rt run -- --help > /dev/null && mkdir -p ../../bin && cp out/farm ../../bin/farm
+wrong:
+	@python3 tests/waves.py

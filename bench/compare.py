@@ -1,26 +1,33 @@
 #!/usr/bin/env python3
-"""Runs the desk's measures beside those of their peers, in rounds that alternate, and prints the
-medians over the rounds, the least and the greatest in brackets, and the ratio of the medians.
+"""Times the built program beside its peers, in rounds that alternate, and prints the medians over the
+rounds, the least and the greatest in brackets, and how the program compares.
 
-usage: compare.py commits STORE FOLDER ROUNDS    commands in a file and in memory; peer.c on the real SQLite
-       compare.py open FARM FOLDER ROUNDS        a farm of 100,000 jobs; the sqlite3 shell reads the jobs
-       compare.py ask STORE ROUNDS               requests on bytes in memory; no peer
-       compare.py serve FARM STORE FOLDER ROUNDS requests over a socket; echo.c, and peer.c's commits
+usage: compare.py commands FARM FOLDER ROUNDS   commands to `farm serve` on a file; echo.c, and the commits of peer.c
+       compare.py views FARM FOLDER ROUNDS      views and refusals of `farm serve`; echo.c
+       compare.py open FARM FOLDER ROUNDS       a farm of 99,000 jobs is opened; the sqlite3 shell reads the jobs
 
-STORE is the program of crates/farm_bench_store, FARM that of crates/farm, FOLDER a folder on the disk
-that is measured. It needs cc, SQLite's header and library, and the sqlite3 shell.
+FARM is the program (bin/farm), FOLDER a folder on the disk that is measured. Each request goes over a
+connection of its own (client.c). Farms are made by `farm init` and filled by the real SQLite. It needs
+cc, SQLite's header and library, and the sqlite3 shell.
 """
 import os
+import shutil
 import statistics
 import subprocess
 import sys
 import time
 
 HERE = os.path.dirname(os.path.abspath(__file__))
-JOBS = 100_000
 FIRST_PORT = 18100
-TIMES = 400
+FEW, MANY = 1_000, 99_000  # finished jobs in a farm; it can have 100,000 jobs
+BOARDS = 64  # boards that are added, and rows that a pass changes
+TURNS = 4
+TIMES = 200
+TAGS = ["k01", "k02", "k03", "k04", "k05", "k06", "k07", "k16"]
+JOB_FILE = 'job_name = "boot"\ndevice_type = "bbb"\npriority = 50\ntags = ["k01", "k07"]\n#'.ljust(299, "x") + "\n"
 
+
+# Programs
 
 def built(name, folder, *libraries):
     """Compiles a C program of this folder."""
@@ -34,6 +41,38 @@ def lines(*words, given=None):
     ran = subprocess.run(words, input=given, stdout=subprocess.PIPE, check=True)
     return [(name, int(nanos)) for name, nanos in (it.split() for it in ran.stdout.decode().splitlines())]
 
+
+def timed(*words):
+    start = time.perf_counter_ns()
+    subprocess.run(words, stdout=subprocess.DEVNULL, check=True)
+    return time.perf_counter_ns() - start
+
+
+class Served:
+    """Servers, each on a port of its own, and the client that asks them."""
+
+    def __init__(self, folder):
+        self.client = built("client", folder)
+        self.port = FIRST_PORT
+
+    def ask(self, server, listed, *words):
+        """Starts a server that ends after so many connections, waits until it listens, and asks it."""
+        self.port += 1
+        count = str(len(listed))
+        with subprocess.Popen([it.format(port=self.port, count=count) for it in server], stdout=subprocess.PIPE) as running:
+            try:
+                running.stdout.readline()
+                return lines(self.client, str(self.port), *words, given=b"".join(listed))
+            except subprocess.CalledProcessError:
+                running.kill()
+                raise
+
+
+def desk(farm, path):
+    return [farm, "serve", "--db", path, "--port", "{port}", "--max", "{count}"]
+
+
+# Times
 
 class Table:
     """The times of each measure, in nanoseconds, one a round."""
@@ -52,10 +91,12 @@ class Table:
         times = [it / 1000 for it in self.times[name]]
         return f"{statistics.median(times):.1f} us ({min(times):.1f} to {max(times):.1f})"
 
-    def ratio(self, name, peer):
-        each = [a / b for a, b in zip(self.times[name], self.times[peer])]
-        return f"{self.median(name) / self.median(peer):.2f} ({min(each):.2f} to {max(each):.2f})"
 
+def spread(each):
+    return f"{statistics.median(each):.2f} ({min(each):.2f} to {max(each):.2f})"
+
+
+# Farms
 
 def clear(path):
     for end in ("", "-wal", "-shm", "-journal"):
@@ -63,134 +104,181 @@ def clear(path):
             os.remove(path + end)
 
 
-def compare_commits(store, folder, rounds):
-    table = Table()
-    peer = built("peer", folder, "-lsqlite3")
-    for _ in range(rounds):
-        for kind, path in (("file", f"{folder}/bench.db"), ("memory", ":memory:")):
-            clear(path)
-            table.add(lines(peer, path, "6"), f"{kind} peer ")
-            clear(path)
-            table.add(lines(store, "commits", path, "6"), f"{kind} desk ")
-    clear(f"{folder}/bench.db")
-    for name in [it for it in table.times if " desk " in it]:
-        other = name.replace(" desk ", " peer ")
-        commits = 1e9 / table.median(name)
-        print(f"{name.replace(' desk ', ' ')}: {table.text(name)}, {commits:.0f} a second; real {table.text(other)}; ratio {table.ratio(name, other)}")
-
-
-def fill(farm, path):
-    """A farm that the desk has made, which the real SQLite fills with a type, boards and finished jobs."""
+def fill(farm, path, boards, *statements):
+    """A farm that the desk has made, which the real SQLite fills: two types, so many good boards of the first."""
     clear(path)
     subprocess.run([farm, "init", "--db", path], stdout=subprocess.DEVNULL, check=True)
-    body = "x" * 300
-    subprocess.run(["sqlite3", path], check=True, input=f"""
-        INSERT INTO types VALUES ('bbb', 0, 0);
-        INSERT INTO boards WITH RECURSIVE n(i) AS (SELECT 0 UNION ALL SELECT i + 1 FROM n LIMIT 64)
-            SELECT printf('board-%04d', i), 'bbb', 'k01,k02,k03,k04,k05,k06,k07,k16', 0, 0, 0, 0, 0, 0 FROM n;
-        INSERT INTO jobs WITH RECURSIVE n(i) AS (SELECT 1 UNION ALL SELECT i + 1 FROM n LIMIT {JOBS})
-            SELECT i, i, 0, 'ann', 50, 'bbb', 'k01,k07', '', 4, 1, printf('board-%04d', i % 64), '{body}' FROM n;
-        UPDATE meta SET value = {JOBS} + 1 WHERE name = 'next';
-    """.encode())
+    first = f"""
+        INSERT INTO types VALUES ('aaa', 0, 0), ('bbb', 0, 0), ('ccc', 0, 0), ('ddd', 0, 0);
+        INSERT INTO boards WITH RECURSIVE n(i) AS (SELECT 0 UNION ALL SELECT i + 1 FROM n LIMIT {boards})
+            SELECT printf('board-%04d', i), substr('aaabbbcccddd', i / 64 * 3 + 1, 3), '{",".join(TAGS)}', 0, 0, 0, 0, 0, 0 FROM n;
+        UPDATE meta SET value = 1700000000 WHERE name = 'clock';
+    """
+    last = """
+        UPDATE meta SET value = 1 + (SELECT count(*) FROM jobs) + (SELECT count(*) FROM reservations) WHERE name = 'next';
+    """
+    subprocess.run(["sqlite3", path], check=True, input="".join([first, *statements, last]).encode())
 
 
-def timed(*words):
-    start = time.perf_counter_ns()
-    subprocess.run(words, stdout=subprocess.DEVNULL, check=True)
-    return time.perf_counter_ns() - start
+def waiting_reservations(count):
+    """Reservations that have waited in vain, numbered from 1 on."""
+    return f"""
+        INSERT INTO reservations WITH RECURSIVE n(i) AS (SELECT 1 UNION ALL SELECT i + 1 FROM n LIMIT {count})
+            SELECT i, 'ann', 50, 'k01,k07', 0, 1700000060, '' FROM n;
+    """
+
+
+def jobs(first, count, kind, state, outcome, board):
+    """Single jobs of 300 bytes, numbered from `first` on; `board` is a term of SQL."""
+    return f"""
+        INSERT INTO jobs WITH RECURSIVE n(i) AS (SELECT {first} UNION ALL SELECT i + 1 FROM n LIMIT {count})
+            SELECT i, i, 0, 'ann', 50, {kind}, 'k01,k07', '', {state}, {outcome}, {board}, '{JOB_FILE}' FROM n;
+    """
+
+
+def finished_jobs(first, count):
+    return jobs(first, count, "'aaa'", 4, 1, "printf('board-%04d', i % 64)")
+
+
+def copy(filled, path):
+    """A copy that is on the disk, so that no commit has to wait for its pages."""
+    clear(path)
+    shutil.copy(filled, path)
+    with open(path, "rb+") as it:
+        os.fsync(it.fileno())
+
+
+# Requests
+
+def item(name, line, caller, body="", status=200, key=None):
+    """A request of a client's list; '-' is one that isn't timed."""
+    head = f"{line} HTTP/1.1\r\nx-user: {caller}\r\n" + (f"x-key: {key}\r\n" if key else "")
+    request = f"{head}content-length: {len(body)}\r\n\r\n{body}"
+    return f"{name} {status} {len(request)}\n{request}".encode()
+
+
+def added_boards():
+    tags = ",".join(f'"{it}"' for it in TAGS)
+    for place in range(BOARDS):
+        yield item("add_board", "POST /boards", "admin", f'{{"name":"extra-{place:04}","type":"bbb","tags":[{tags}]}}')
+    for place in range(BOARDS):
+        yield item("-", f"POST /boards/extra-{place:04}/health", "admin", '{"health":"Good"}')
+
+
+def turn(first):
+    """Jobs are submitted, served, started and finished; reservations are made and canceled. Numbers begin at `first`."""
+    numbers = range(first, first + BOARDS)
+    for number in numbers:
+        yield item("submit_keyed", "POST /jobs", "ann", JOB_FILE, key=f"key-{number:08}")
+    yield item("pass_serves_64", "POST /pass", "dispatcher")
+    for number in numbers:
+        yield item("start", f"POST /jobs/{number}/start", "dispatcher")
+    for number in numbers:
+        yield item("finish", f"POST /jobs/{number}/finish", "dispatcher", '{"outcome":"Complete"}')
+    for _ in numbers:
+        yield item("reserve", "POST /reservations", "ann", '{"tags":["k01","k07"]}')
+    for number in numbers:
+        yield item("-", f"POST /reservations/{number + BOARDS}/cancel", "ann")
+
+
+def commands(finished):
+    """The list of commands to a farm of so many finished jobs, behind 64 reservations that end at the first pass."""
+    listed = [*added_boards(), item("pass_ends_64", "POST /pass", "dispatcher")]
+    for place in range(TURNS):
+        listed += turn(1 + BOARDS + finished + 2 * BOARDS * place)
+    return listed
+
+
+def views():
+    asked = [
+        ("status", "GET /status", 200),
+        ("no_such_route", "GET /nowhere", 404),
+        ("no_such_job", "POST /jobs/999999999/cancel", 404),
+        ("boards_256", "GET /boards", 200),
+        ("queue_1000", "GET /queue", 200),
+    ]
+    return [item(name, line, "ann", status=status) for name, line, status in asked for _ in range(TIMES)]
+
+
+# Comparisons
+
+def compare_commands(farm, folder, rounds):
+    served, table = Served(folder), Table()
+    peer, echo = built("peer", folder, "-lsqlite3"), built("echo", folder)
+    full, path = f"{folder}/full.db", f"{folder}/bench.db"
+    sizes = (FEW, MANY)
+    for size in sizes:
+        fill(farm, f"{full}.{size}", 64, waiting_reservations(BOARDS), finished_jobs(BOARDS + 1, size))
+    for _ in range(rounds):
+        for size in sizes:
+            copy(f"{full}.{size}", path)
+            table.add(lines(peer, path, str(TURNS)), f"{size} real ")
+            copy(f"{full}.{size}", path)
+            table.add(served.ask(desk(farm, path), commands(size)), f"{size} desk ")
+            table.add(served.ask([echo, "{port}", "{count}"], commands(size), "echo"), f"{size} echo ")
+    for size in sizes:
+        print(f"{size} finished jobs")
+        show_commands(table, size)
+        clear(f"{full}.{size}")
+    show_growth(table)
+    clear(path)
+
+
+def names_of(table, before):
+    return [it[len(before):] for it in table.times if it.startswith(before)]
+
+
+def show_commands(table, size):
+    """Beside each command: what echo and commit allow, and how much more than the commit it takes without the socket."""
+    for name in names_of(table, f"{size} desk "):
+        of, echo, real = (f"{size} {it} {name}" for it in ("desk", "echo", "real"))
+        each = list(zip(table.times[of], table.times[echo], table.times[real]))
+        print(f"  {name}: {table.text(of)}, {1e9 / table.median(of):.0f} a second; echo {table.text(echo)}; real commit {table.text(real)};"
+              f" of what both allow {spread([(b + c) / a for a, b, c in each])};"
+              f" without echo, commits {spread([(a - b) / c for a, b, c in each])}")
+
+
+def show_growth(table):
+    print(f"{MANY} to {FEW} finished jobs")
+    for name in names_of(table, f"{FEW} desk "):
+        ratios = [table.median(f"{MANY} {who} {name}") / table.median(f"{FEW} {who} {name}") for who in ("desk", "real")]
+        print(f"  {name}: desk {ratios[0]:.2f}, real commit {ratios[1]:.2f}")
+
+
+def compare_views(farm, folder, rounds):
+    served, table = Served(folder), Table()
+    echo, path, listed = built("echo", folder), f"{folder}/bench.db", views()
+    fill(farm, path, 256, jobs(1, 1000, "substr('aaabbbcccddd', i % 4 * 3 + 1, 3)", 0, 0, "''"))
+    for _ in range(rounds):
+        table.add(served.ask(desk(farm, path), listed), "desk ")
+        table.add(served.ask([echo, "{port}", "{count}"], listed, "echo"), "echo ")
+    for name in names_of(table, "desk "):
+        each = [echo / desk for desk, echo in zip(table.times[f"desk {name}"], table.times[f"echo {name}"])]
+        print(f"{name}: {table.text(f'desk {name}')}, {1e9 / table.median(f'desk {name}'):.0f} a second; echo {table.text(f'echo {name}')};"
+              f" of what echo allows {spread(each)}")
+    clear(path)
 
 
 def compare_opening(farm, folder, rounds):
-    table = Table()
-    path = f"{folder}/full.db"
-    fill(farm, path)
+    table, path = Table(), f"{folder}/full.db"
+    fill(farm, path, 64, finished_jobs(1, MANY))
     for _ in range(rounds):
         table.add([("shell", timed("sqlite3", path, "select * from jobs"))])
         table.add([("farm", timed(farm, "report", "--db", path, "queue"))])
-    print(f"a report of a farm of {JOBS} finished jobs: {table.text('farm')}")
-    print(f"the shell's select of the jobs: {table.text('shell')}; ratio {table.ratio('farm', 'shell')}")
+    each = [a / b for a, b in zip(table.times["farm"], table.times["shell"])]
+    print(f"a report of a farm of {MANY} finished jobs: {table.text('farm')}")
+    print(f"the shell's select of the jobs: {table.text('shell')}; ratio {spread(each)}")
     clear(path)
 
 
-def compare_asking(store, rounds):
-    table = Table()
-    for _ in range(rounds):
-        table.add(lines(store, "ask", "4"))
-    for name in table.times:
-        print(f"{name}: {table.text(name)}")
-
-
-def request(line, body=""):
-    return f"{line} HTTP/1.1\r\nx-user: ann\r\ncontent-length: {len(body)}\r\n\r\n{body}".encode()
-
-
-ASKED = [
-    ("view_boards", "200", request("GET /boards")),
-    ("view_status", "200", request("GET /status")),
-    ("refused", "404", request("POST /jobs/999999999/cancel")),
-    ("durable", "200", request("POST /reservations", '{"tags":["k01","k07"]}')),
-]
-
-
-def served(words, client, port, times, given):
-    """Starts a server, waits until it listens, and asks it."""
-    with subprocess.Popen(words, stdout=subprocess.PIPE) as server:
-        server.stdout.readline()
-        pairs = lines(client, str(port), str(times), *given[:2], given=given[2])
-    return pairs
-
-
-def serve_round(farm, echo, client, peer, folder, port, table):
-    """Each request, to the echo and to the desk; beside the durable one the peer's commits."""
-    for name, status, asked in ASKED:
-        words = [echo, str(port), str(TIMES)]
-        table.add(served(words, client, port, TIMES, (name, "", asked)), "echo ")
-        port += 1
-        words = [farm, "serve", "--db", f"{folder}/served.db", "--port", str(port), "--max", str(TIMES)]
-        table.add(served(words, client, port, TIMES, (name, f"HTTP/1.1 {status}", asked)), "desk ")
-        port += 1
-    clear(f"{folder}/bench.db")
-    table.add(lines(peer, f"{folder}/bench.db", "4"), "peer ")
-    return port
-
-
-def allowed(table, name):
-    """What echo and commit together allow, over what the desk takes, one a round."""
-    commits = table.times["peer reserve"] if name == "durable" else [0] * len(table.times[f"desk {name}"])
-    return [(echo + commit) / desk for echo, commit, desk in zip(table.times[f"echo {name}"], commits, table.times[f"desk {name}"])]
-
-
-def compare_serving(farm, store, folder, rounds):
-    table = Table()
-    peer, echo, client = built("peer", folder, "-lsqlite3"), built("echo", folder), built("client", folder)
-    port = FIRST_PORT
-    for _ in range(rounds):
-        lines(store, "fill", f"{folder}/served.db")
-        port = serve_round(farm, echo, client, peer, folder, port, table)
-    for name, _, _ in ASKED:
-        each = allowed(table, name)
-        print(f"{name}: {table.text(f'desk {name}')}, {1e9 / table.median(f'desk {name}'):.0f} a second; echo {table.text(f'echo {name}')};"
-              f" of what is allowed {statistics.median(each):.2f} ({min(each):.2f} to {max(each):.2f})")
-    print(f"the real library's commit: {table.text('peer reserve')}")
-    clear(f"{folder}/served.db")
-    clear(f"{folder}/bench.db")
-
-
 def main(words):
+    compare = {"commands": compare_commands, "views": compare_views, "open": compare_opening}
     try:
-        what, *rest = words
-        if what == "commits":
-            compare_commits(rest[0], rest[1], int(rest[2]))
-        elif what == "open":
-            compare_opening(rest[0], rest[1], int(rest[2]))
-        elif what == "ask":
-            compare_asking(rest[0], int(rest[1]))
-        elif what == "serve":
-            compare_serving(rest[0], rest[1], rest[2], int(rest[3]))
-        else:
-            raise ValueError
-    except (ValueError, IndexError):
+        what, farm, folder, rounds = words
+        compare, rounds = compare[what], int(rounds)
+    except (ValueError, KeyError):
         sys.exit(__doc__)
+    compare(os.path.abspath(farm), folder, rounds)
 
 
 if __name__ == "__main__":

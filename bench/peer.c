@@ -1,41 +1,27 @@
-/* The rows of the desk's commands through the real SQLite library: the same tables, the same
-   statements (each prepared once), one transaction a command, in WAL mode with full sync. Prints
-   the lines that farm_bench_store prints of the same commands:
+/* The rows of the desk's commands through the real SQLite library: the same statements (each
+   prepared once), one transaction a command, in WAL mode with full sync, in a file that compare.py
+   has filled for the desk too. Prints for each command a line
 
        NAME NANOSECONDS
 
-   the median of all calls of one command, to be compared by compare.py.
+   the median of all its calls, under the name that compare.py gives to the desk's requests. The
+   commands come in the order of compare.py's list, since later ones write over earlier rows.
 
-   usage: peer FILE ROUNDS     FILE may be :memory: */
+   usage: peer FILE TURNS     FILE has 64 waiting reservations, numbered from 1 on */
 #define _GNU_SOURCE
 #include <sqlite3.h>
 #include <stdio.h>
 #include <stdlib.h>
 #include <string.h>
 #include <time.h>
-#include <unistd.h>
 
 enum { BOARDS = 64, BODY = 300 };
-
-static const char *TABLES =
-    "CREATE TABLE types(name TEXT PRIMARY KEY NOT NULL, unit INTEGER NOT NULL, every INTEGER NOT NULL) STRICT;"
-    "CREATE TABLE boards(name TEXT PRIMARY KEY NOT NULL, kind TEXT NOT NULL, tags TEXT NOT NULL, health INTEGER NOT NULL,"
-    " state INTEGER NOT NULL, holder INTEGER NOT NULL, held_by INTEGER NOT NULL, jobs_since INTEGER NOT NULL,"
-    " last_check INTEGER NOT NULL) STRICT;"
-    "CREATE TABLE jobs(number INTEGER PRIMARY KEY NOT NULL, grp INTEGER NOT NULL, checking INTEGER NOT NULL,"
-    " owner TEXT NOT NULL, priority INTEGER NOT NULL, kind TEXT NOT NULL, tags TEXT NOT NULL, role TEXT NOT NULL,"
-    " state INTEGER NOT NULL, outcome INTEGER NOT NULL, board TEXT NOT NULL, body TEXT NOT NULL) STRICT;"
-    "CREATE TABLE reservations(number INTEGER PRIMARY KEY NOT NULL, owner TEXT NOT NULL, priority INTEGER NOT NULL,"
-    " tags TEXT NOT NULL, state INTEGER NOT NULL, deadline INTEGER NOT NULL, board TEXT NOT NULL) STRICT;"
-    "CREATE TABLE kept(caller TEXT NOT NULL, ckey TEXT NOT NULL, kind INTEGER NOT NULL, a INTEGER NOT NULL,"
-    " b INTEGER NOT NULL, c INTEGER NOT NULL, PRIMARY KEY(caller, ckey)) STRICT;"
-    "CREATE TABLE meta(name TEXT PRIMARY KEY NOT NULL, value INTEGER NOT NULL) STRICT;";
 
 static const char *TAGS = "k01,k02,k03,k04,k05,k06,k07,k16";
 
 static sqlite3 *db;
 static sqlite3_stmt *put_board, *put_job, *put_reservation, *put_kept, *put_meta, *begin, *commit;
-static long next_number = 1, count;
+static long next_number, count;
 static char body[BODY + 1];
 
 static void die(const char *what) {
@@ -47,10 +33,6 @@ static double now(void) {
     struct timespec t;
     clock_gettime(CLOCK_MONOTONIC, &t);
     return t.tv_sec * 1e9 + t.tv_nsec;
-}
-
-static void exec(const char *sql) {
-    if (sqlite3_exec(db, sql, 0, 0, 0) != SQLITE_OK) die(sql);
 }
 
 static sqlite3_stmt *prepare(const char *sql) {
@@ -68,22 +50,27 @@ static void run(sqlite3_stmt *it) {
 static void number(sqlite3_stmt *it, int at, long value) { sqlite3_bind_int64(it, at, value); }
 static void text(sqlite3_stmt *it, int at, const char *value) { sqlite3_bind_text(it, at, value, -1, SQLITE_TRANSIENT); }
 
-static void board(int place, int state, int holder, long held_by) {
+static void name_board(char *name, size_t size, int place) { snprintf(name, size, "extra-%04d", place); }
+
+static void board(int place, int health, int state, long held_by, int jobs_since) {
     char name[24];
-    snprintf(name, sizeof name, "board-%04d", place);
+    name_board(name, sizeof name, place);
     text(put_board, 1, name);
     text(put_board, 2, "bbb");
     text(put_board, 3, TAGS);
-    number(put_board, 4, 0);
+    number(put_board, 4, health);
     number(put_board, 5, state);
-    number(put_board, 6, holder);
+    number(put_board, 6, held_by ? 1 : 0);
     number(put_board, 7, held_by);
-    number(put_board, 8, 0);
-    number(put_board, 9, 1700000000);
+    number(put_board, 8, jobs_since);
+    number(put_board, 9, 0);
     run(put_board);
 }
 
-static void job(long it, int state, int outcome, const char *on) {
+/* A job; without a place it has no board. */
+static void job(long it, int state, int outcome, int place) {
+    char name[24] = "";
+    if (place >= 0) name_board(name, sizeof name, place);
     number(put_job, 1, it);
     number(put_job, 2, it);
     number(put_job, 3, 0);
@@ -94,7 +81,7 @@ static void job(long it, int state, int outcome, const char *on) {
     text(put_job, 8, "");
     number(put_job, 9, state);
     number(put_job, 10, outcome);
-    text(put_job, 11, on);
+    text(put_job, 11, name);
     text(put_job, 12, body);
     run(put_job);
 }
@@ -135,72 +122,77 @@ static void numbers(void) {
     meta("next", next_number);
 }
 
-/* Each command is one transaction. */
-static void add_board(int place) {
-    run(begin);
-    board(place, 0, 0, 0);
-    numbers();
-    run(commit);
-}
+/* The rows of each command, by the number of the first row and the place of the board. */
+static void add_board(long first, int place) { (void)first; board(place, 3, 0, 0, 0); }
+static void make_good(long first, int place) { (void)first; board(place, 0, 0, 0, 0); }
+static void start(long first, int place) { board(place, 0, 2, first + place, 0); job(first + place, 2, 0, place); }
+static void finish(long first, int place) { board(place, 0, 0, 0, 1); job(first + place, 4, 1, place); }
+static void reserve(long first, int place) { (void)first, (void)place; reservation(next_number++, 0); }
+static void cancel(long first, int place) { reservation(first + place, 4); }
 
-static void submit(int keyed) {
+static void submit(long first, int place) {
+    (void)first, (void)place;
     long it = next_number++;
-    run(begin);
-    job(it, 0, 0, "");
-    if (keyed) kept(it);
-    numbers();
-    run(commit);
-}
-
-static void reserve(void) {
-    long it = next_number++;
-    run(begin);
-    reservation(it, 0);
-    numbers();
-    run(commit);
+    job(it, 0, 0, -1);
+    kept(it);
 }
 
 /* 64 reservations that wait end. */
-static void pass_that_ends(long first) {
-    run(begin);
+static void pass_that_ends(long first, int place) {
+    (void)place;
     for (int i = 0; i < BOARDS; i++) reservation(first + i, 3);
-    numbers();
-    run(commit);
 }
 
 /* 64 jobs get their boards. */
-static void pass_that_serves(long first) {
-    char name[24];
+static void pass_that_serves(long first, int place) {
+    (void)place;
+    for (int i = 0; i < BOARDS; i++) board(i, 0, 1, first + i, 0);
+    for (int i = 0; i < BOARDS; i++) job(first + i, 1, 0, i);
+}
+
+enum { MOST = 4096 };
+struct series { const char *name; void (*rows)(long, int); int n; double took[MOST]; };
+
+static struct series commands[] = {
+    {.name = "add_board", .rows = add_board}, {.name = "pass_ends_64", .rows = pass_that_ends},
+    {.name = "submit_keyed", .rows = submit}, {.name = "pass_serves_64", .rows = pass_that_serves},
+    {.name = "start", .rows = start},         {.name = "finish", .rows = finish},
+    {.name = "reserve", .rows = reserve}};
+enum { ADD_BOARD, PASS_ENDS, SUBMIT, PASS_SERVES, START, FINISH, RESERVE, COMMANDS };
+
+/* A command is one transaction. */
+static void transact(void (*rows)(long, int), long first, int place) {
     run(begin);
-    for (int i = 0; i < BOARDS; i++) board(i, 1, 1, first + i);
-    for (int i = 0; i < BOARDS; i++) {
-        snprintf(name, sizeof name, "board-%04d", i);
-        job(first + i, 1, 0, name);
-    }
+    rows(first, place);
     numbers();
     run(commit);
 }
 
-static void cancel(long it, int place) {
-    char name[24];
-    snprintf(name, sizeof name, "board-%04d", place);
-    run(begin);
-    board(place, 0, 0, 0);
-    job(it, 4, 4, name);
-    numbers();
-    run(commit);
+/* A command so many times, on rows from `first` on. */
+static void take(int which, long first, int times) {
+    struct series *it = &commands[which];
+    for (int i = 0; i < times; i++) {
+        double since = now();
+        transact(it->rows, first, i);
+        if (it->n < MOST) it->took[it->n++] = now() - since;
+    }
+}
+
+static void leave(void (*rows)(long, int), long first, int times) {
+    for (int i = 0; i < times; i++) transact(rows, first, i);
+}
+
+static long number_of(const char *sql) {
+    sqlite3_stmt *it = prepare(sql);
+    if (sqlite3_step(it) != SQLITE_ROW) die(sql);
+    long value = sqlite3_column_int64(it, 0);
+    sqlite3_finalize(it);
+    return value;
 }
 
 static void open_store(const char *path) {
-    const char *ends[] = {"", "-wal", "-shm", "-journal"};
-    char other[4200];
-    for (int i = 0; i < 4 && path[0] != ':'; i++) {
-        snprintf(other, sizeof other, "%s%s", path, ends[i]);
-        unlink(other);
-    }
-    if (sqlite3_open(path, &db) != SQLITE_OK) die("open");
-    exec("PRAGMA locking_mode=EXCLUSIVE; PRAGMA journal_mode=WAL; PRAGMA synchronous=FULL;");
-    exec(TABLES);
+    if (sqlite3_open_v2(path, &db, SQLITE_OPEN_READWRITE, 0) != SQLITE_OK) die("open");
+    if (sqlite3_exec(db, "PRAGMA locking_mode=EXCLUSIVE; PRAGMA journal_mode=WAL; PRAGMA synchronous=FULL;", 0, 0, 0) != SQLITE_OK) die("pragmas");
     put_board = prepare("INSERT OR REPLACE INTO boards VALUES (?1, ?2, ?3, ?4, ?5, ?6, ?7, ?8, ?9)");
     put_job = prepare("INSERT OR REPLACE INTO jobs VALUES (?1, ?2, ?3, ?4, ?5, ?6, ?7, ?8, ?9, ?10, ?11, ?12)");
     put_reservation = prepare("INSERT OR REPLACE INTO reservations VALUES (?1, ?2, ?3, ?4, ?5, ?6, ?7)");
@@ -208,6 +200,8 @@ static void open_store(const char *path) {
     put_meta = prepare("INSERT INTO meta VALUES (?1, ?2) ON CONFLICT (name) DO UPDATE SET value = excluded.value");
     begin = prepare("BEGIN IMMEDIATE");
     commit = prepare("COMMIT");
+    next_number = number_of("SELECT value FROM meta WHERE name = 'next'");
+    count = number_of("SELECT value FROM meta WHERE name = 'count'");
 }
 
 static int by_size(const void *a, const void *b) {
@@ -215,57 +209,29 @@ static int by_size(const void *a, const void *b) {
     return (x > y) - (x < y);
 }
 
-enum { MOST = 4096 };
-struct series { const char *name; int n; double took[MOST]; };
-static struct series added = {.name = "add_board"}, submitted = {.name = "submit_keyed"},
-                     reserved = {.name = "reserve"}, ended = {.name = "pass_ends_64"}, served = {.name = "pass_serves_64"};
-
-static void keep(struct series *in, double since) {
-    if (in->n < MOST) in->took[in->n++] = now() - since;
-}
-
-static void show(struct series *it) {
-    qsort(it->took, it->n, sizeof *it->took, by_size);
-    printf("%s %.0f\n", it->name, it->n ? it->took[it->n / 2] : 0);
-}
-
 int main(int words, char **word) {
     if (words != 3) {
-        fprintf(stderr, "usage: peer FILE ROUNDS\n");
+        fprintf(stderr, "usage: peer FILE TURNS\n");
         return 2;
     }
     memset(body, 'x', BODY);
     open_store(word[1]);
-    for (int i = 0; i < BOARDS; i++) {
-        double start = now();
-        add_board(i);
-        keep(&added, start);
-    }
-    for (int round = atoi(word[2]); round > 0; round--) {
+    take(ADD_BOARD, 0, BOARDS);
+    leave(make_good, 0, BOARDS);
+    take(PASS_ENDS, 1, 1);
+    for (int turn = atoi(word[2]); turn > 0; turn--) {
         long first = next_number;
-        for (int i = 0; i < BOARDS; i++) {
-            double start = now();
-            submit(1);
-            keep(&submitted, start);
-        }
-        double start = now();
-        pass_that_serves(first);
-        keep(&served, start);
-        for (int i = 0; i < BOARDS; i++) cancel(first + i, i);
+        take(SUBMIT, first, BOARDS);
+        take(PASS_SERVES, first, 1);
+        take(START, first, BOARDS);
+        take(FINISH, first, BOARDS);
         first = next_number;
-        for (int i = 0; i < BOARDS; i++) {
-            start = now();
-            reserve();
-            keep(&reserved, start);
-        }
-        start = now();
-        pass_that_ends(first);
-        keep(&ended, start);
+        take(RESERVE, first, BOARDS);
+        leave(cancel, first, BOARDS);
     }
-    show(&added);
-    show(&submitted);
-    show(&reserved);
-    show(&ended);
-    show(&served);
+    for (struct series *it = commands; it < commands + COMMANDS; it++) {
+        qsort(it->took, it->n, sizeof *it->took, by_size);
+        printf("%s %.0f\n", it->name, it->took[it->n / 2]);
+    }
     return 0;
 }

@@ -1,29 +1,58 @@
 #!/bin/sh
-# What `make test` runs: every proof, every wrong body, every test and program from nothing (rt ci), and
-# then the program that it built: its statuses, and SQLite's shell, refused memory and real clients, where
-# the machine has what these want. The last line counts all: 'N passed, 0 failed'.
+# What `make test` runs: every proof, every wrong body, every test and program from nothing (rt ci), further
+# wrong bodies in waves, and then the program that it built: its words, statuses and examples, and SQLite's
+# shell, refused memory and real clients, where the machine has what these want. It tells what that cost by
+# kind, and the last line counts all: 'N passed, 0 failed'.
 set -u
 cd "$(dirname "$0")/.."
 folder=$(mktemp -d)
 trap 'rm -r "$folder"' EXIT
-{
-    rt ci
-    echo $? > "$folder/status"
-} 2>&1 | tee "$folder/said"
-status=$(cat "$folder/status")
-counts=$(sed -n 's/^\([0-9]*\) passed, \([0-9]*\) failed$/\1 \2/p' "$folder/said" | tail -n 1)
-if [ -z "$counts" ]; then
-    exit "$status"
+
+# Runs a command, and keeps what it cost under a kind.
+costing() {
+    python3 tests/costs.py "$folder/costs" "$@"
+}
+
+# Runs a script, which takes seconds, for ten minutes at most: one that waits for ever fails.
+limited() {
+    kind=$1
+    shift
+    costing "$kind" timeout -k 10 600 "$@"
+}
+
+passed=0
+failed=0
+
+# Runs a command and keeps what it cost under a kind; its last line 'N passed, M failed' is added to the sums.
+counting() {
+    {
+        costing "$@"
+        echo $? > "$folder/status"
+    } 2>&1 | tee "$folder/said"
+    counts=$(sed -n 's/^\([0-9]*\) passed, \([0-9]*\) failed$/\1 \2/p' "$folder/said" | tail -n 1)
+    : "${counts:=0 1}"
+    passed=$((passed + ${counts% *}))
+    failed=$((failed + ${counts#* }))
+    return "$(cat "$folder/status")"
+}
+
+status=0
+counting proofs rt ci || status=1
+if [ "$status" = 0 ]; then
+    counting "wrong bodies in waves" python3 tests/waves.py || status=1
+    for script in waves_test.py words.sh statuses.sh examples.sh shell.sh refused_memory.sh real_clients.sh sockets.py; do
+        case $script in
+            *_test.py) limited "tests of scripts" python3 "tests/$script" ;;
+            *.py) limited "scripts over the program" python3 "tests/$script" crates/farm/out/farm ;;
+            *) limited "scripts over the program" sh "tests/$script" crates/farm/out/farm ;;
+        esac
+        case $? in
+            0) passed=$((passed + 1)) ;;
+            77) ;; # it wasn't tried, as it said
+            *) failed=$((failed + 1)) status=1 ;;
+        esac
+    done
 fi
-passed=${counts% *}
-failed=${counts#* }
-for script in statuses shell refused_memory real_clients; do
-    sh "tests/$script.sh" crates/farm/out/farm
-    case $? in
-        0) passed=$((passed + 1)) ;;
-        77) ;; # it wasn't tried, as it said
-        *) failed=$((failed + 1)) status=1 ;;
-    esac
-done
+python3 tests/costs.py "$folder/costs"
 echo "$passed passed, $failed failed"
 exit "$status"

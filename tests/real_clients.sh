@@ -40,16 +40,19 @@ same() {
     [ "$2" = "$3" ] || fail "$1: wanted '$2', got '$3'"
 }
 
-# Starts the server on a free port.
+# Starts the server on a free port. It is there once its line is whole: the line may come in pieces.
 start() {
     port=$((20000 + $$ % 20000))
     while :; do
         "$farm" serve --db "$db" --port "$port" --max 1000000 > "$folder/out" 2> "$folder/err" &
         server=$!
-        while ! grep -qs . "$folder/out" "$folder/err"; do
+        while [ "$(cat "$folder/out" "$folder/err" | wc -l)" -eq 0 ]; do
             sleep 0.02
         done
-        [ "$(cat "$folder/out")" = "listening $port" ] && return
+        if [ -s "$folder/out" ]; then
+            same "the first line" "listening $port" "$(cat "$folder/out")"
+            return
+        fi
         wait "$server" && fail "the server ended" || same "a port that is taken" 4 "$?"
         same "a port that is taken" "farm: 80 read fault" "$(cat "$folder/err")"
         port=$((port + 1))

@@ -3,70 +3,57 @@ use crate::boards;
 use crate::watch::Watch;
 use farm_pick::{Free, Picked, least};
 use farm_types::asked::Wants;
-use farm_types::rows::BoardRow;
+use farm_types::fault::WordFault;
+use farm_types::rows::{BoardRow, Want};
 use farm_types::table::is_sorted;
+use std::alloc::Global;
 
 /// Boards that fit: none, too few for four wants, just enough and behind all others, all.
 const FITTING: [u64; 5] = [0, 1, 3, 4, boards::MOST];
 
-const CALLS: u64 = 1000;
+/// How many looks are timed together.
+const LOOKS: u64 = 1000;
 
-fn show_found(watch: &mut Watch<'_>, fitting: u64, found: Option<Picked>) -> anyhow::Result<()> {
+/// Four wants of three tags.
+fn wants(alloc: Global) -> anyhow::Result<Wants> {
+    let mut items = Vec::new(alloc);
+    for _ in 0..4 {
+        let tags = boards::asked_tags(alloc, true)?;
+        items.push(Want { kind: None, tags })?;
+    }
+    Ok(Wants::of(items).map_err(WordFault::Refused)?)
+}
+
+/// Looks a thousand times, and gives what was found last.
+fn look(boards: &[BoardRow], wants: &Wants) -> Option<Picked> {
+    let mut found = None;
+    if is_sorted(boards) {
+        for _ in 0..LOOKS {
+            found = least(boards, &[], wants, Free::ServingIdle);
+        }
+    }
+    found
+}
+
+fn measure(watch: &Watch<'_>, fitting: u64) -> anyhow::Result<()> {
     let alloc = watch.alloc();
+    let boards = boards::boards(alloc, fitting, 0)?;
+    let wants = wants(alloc)?;
+    let mut found = None;
+    let mut times = Vec::new(alloc);
+    for _ in 0..watch.rounds() {
+        let start = watch.start()?;
+        found = look(boards.as_slice(), &wants);
+        times.push(watch.stop(start)? / LOOKS)?;
+    }
     let what = match found {
         None => format!(in alloc; "{fitting} fit: none")?,
         Some(picked) => format!(in alloc; "{fitting} fit: {:?}", picked.places())?,
     };
-    watch.show(what.as_str(), 0)
+    watch.show(what.as_str(), times)
 }
 
-/// Looks once, and prints the places.
-fn look(
-    watch: &mut Watch<'_>,
-    fitting: u64,
-    boards: &[BoardRow],
-    wants: &Wants,
-) -> anyhow::Result<()> {
-    if !is_sorted(boards) {
-        return Ok(());
-    }
-    let found = least(boards, &[], wants, Free::ServingIdle);
-    show_found(watch, fitting, found)
-}
-
-/// Prints the time of a look, of a thousand.
-fn time(
-    watch: &mut Watch<'_>,
-    fitting: u64,
-    boards: &[BoardRow],
-    wants: &Wants,
-) -> anyhow::Result<()> {
-    if !is_sorted(boards) {
-        return Ok(());
-    }
-    let start = watch.start()?;
-    let mut met = 0u64;
-    for _ in 0..CALLS {
-        if least(boards, &[], wants, Free::ServingIdle).is_some() {
-            met = met.wrapping_add(1);
-        }
-    }
-    let nanos = watch.stop(start)?;
-    let what = format!(in watch.alloc(); "{fitting} fit, {met} of {CALLS} met")?;
-    watch.show_each(what.as_str(), nanos, CALLS)
-}
-
-fn measure(watch: &mut Watch<'_>, fitting: u64) -> anyhow::Result<()> {
-    let boards = boards::boards(watch.alloc(), fitting)?;
-    let wants = boards::wants(watch.alloc())?;
-    if watch.timed {
-        time(watch, fitting, boards.as_slice(), &wants)
-    } else {
-        look(watch, fitting, boards.as_slice(), &wants)
-    }
-}
-
-pub fn run(watch: &mut Watch<'_>) -> anyhow::Result<()> {
+pub fn run(watch: &Watch<'_>) -> anyhow::Result<()> {
     watch.begin("least list, four wants, 256 boards")?;
     for fitting in FITTING {
         measure(watch, fitting)?;

@@ -1,168 +1,95 @@
-//! What it costs to take rows, to pass, and to show the queue.
-use crate::shape::{self, IDLE, LEASE, NOW, Shape};
+//! The farms that take their rows, pass and list their queues.
+use crate::boards::{MOST, RARE};
+use crate::measures::{Deed, measure};
+use crate::rows::{IDLE, LEASE, NOW, Shape};
 use crate::watch::Watch;
-use crate::{boards, steps};
-use farm_core::farm::Farm;
 
-/// Takes the rows of a shape.
-fn open(watch: &mut Watch<'_>, name: &str, shape: &Shape) -> anyhow::Result<()> {
-    let rows = shape::rows(watch.alloc(), shape)?;
-    let start = watch.start()?;
-    let farm = Farm::from_rows(rows)?;
-    let nanos = watch.stop(start)?;
-    let status = farm.status();
-    let (jobs, reservations) = (status.jobs, status.reservations);
-    let what = format!(in watch.alloc();
-        "{name}, {jobs} jobs and {reservations} reservations taken"
-    )?;
-    watch.show(what.as_str(), nanos)
-}
+const PASS: Deed = Deed::Pass(NOW);
 
-/// Takes rows that ended, rows that wait, and all at once.
-pub fn run_rows(watch: &mut Watch<'_>, rows: u64) -> anyhow::Result<()> {
-    watch.begin("taking rows")?;
-    let finished = Shape {
-        finished: rows,
-        ..IDLE
-    };
-    open(watch, "finished jobs", &finished)?;
-    let groups = Shape {
-        groups: rows / 4,
-        ..IDLE
-    };
-    open(watch, "groups of four", &groups)?;
-    let canceled = Shape {
-        canceled: rows,
-        ..IDLE
-    };
-    open(watch, "canceled reservations", &canceled)?;
-    let waiting = Shape {
-        waiting: rows,
-        ..IDLE
-    };
-    open(watch, "waiting reservations", &waiting)?;
-    let both = Shape {
-        finished: rows,
-        canceled: rows,
-        ..IDLE
-    };
-    open(watch, "both", &both)?;
-    let kept = Shape {
-        finished: rows,
-        canceled: rows,
-        kept: rows.saturating_mul(3),
-        ..IDLE
-    };
-    open(watch, "both, and three times as many kept replies", &kept)
-}
-
-fn pass(watch: &mut Watch<'_>, name: &str, shape: &Shape, now: u64) -> anyhow::Result<()> {
-    let mut farm = steps::farm(watch, shape)?;
-    steps::measure_pass(watch, &mut farm, name, now)
-}
-
-/// Passes over groups of four.
-fn run_groups(watch: &mut Watch<'_>, claims: u64) -> anyhow::Result<()> {
-    let some = Shape {
-        groups: claims,
-        ..IDLE
-    };
-    pass(watch, "groups that boards fit", &some, NOW)?;
-    let short = Shape {
-        groups: claims,
+/// Passes over claims of a shape: boards fit; no free board fits, since each claim asks for the tag
+/// of the boards in maintenance; three boards with that tag are free; no board is free.
+fn run_claims(watch: &Watch<'_>, heading: &str, shape: &Shape) -> anyhow::Result<()> {
+    watch.begin(heading)?;
+    measure(watch, "boards fit", shape, PASS)?;
+    let rare = Shape {
         rare: true,
-        away: 1,
-        ..IDLE
+        away: RARE,
+        ..*shape
     };
-    pass(watch, "groups that lack one board", &short, NOW)?;
-    let away = Shape {
-        groups: claims,
-        away: boards::MOST,
-        ..IDLE
-    };
-    pass(watch, "groups where no board is free", &away, NOW)
-}
-
-/// Passes over reservations.
-fn run_reservations(watch: &mut Watch<'_>, claims: u64) -> anyhow::Result<()> {
-    let some = Shape {
-        waiting: claims,
-        ..IDLE
-    };
-    pass(watch, "reservations that boards fit", &some, NOW)?;
+    measure(watch, "no free board fits", &rare, PASS)?;
+    let few = Shape { away: 1, ..rare };
+    measure(watch, "three boards fit", &few, PASS)?;
     let none = Shape {
-        waiting: claims,
-        rare: true,
-        away: 4,
-        ..IDLE
+        away: MOST,
+        ..*shape
     };
-    pass(watch, "reservations that no free board fits", &none, NOW)
+    measure(watch, "no board is free", &none, PASS)
 }
 
-/// Passes with much to do but serving, and one with nothing to do.
-fn run_rest(watch: &mut Watch<'_>, rows: u64) -> anyhow::Result<()> {
-    let dead = Shape {
-        waiting: rows / 10,
+/// Passes over so many claims of three kinds, single jobs behind finished ones.
+fn run_passes(watch: &Watch<'_>, finished: u64, claims: u64) -> anyhow::Result<()> {
+    let singles = Shape {
+        finished,
+        groups: claims,
         ..IDLE
     };
-    pass(watch, "reservations that end", &dead, NOW + LEASE)?;
-    let due = Shape { due: true, ..IDLE };
-    pass(watch, "boards that are due", &due, NOW)?;
+    let heading = format!(in watch.alloc(); "{claims} jobs behind {finished} finished ones")?;
+    run_claims(watch, heading.as_str(), &singles)?;
+    let groups = Shape {
+        members: 4,
+        finished: 0,
+        ..singles
+    };
+    let heading = format!(in watch.alloc(); "{claims} groups of four")?;
+    run_claims(watch, heading.as_str(), &groups)?;
+    let reservations = Shape {
+        waiting: claims,
+        ..IDLE
+    };
+    let heading = format!(in watch.alloc(); "{claims} reservations")?;
+    run_claims(watch, heading.as_str(), &reservations)?;
+    measure(watch, "all end", &reservations, Deed::Pass(NOW + LEASE))
+}
+
+/// A pass over jobs that are finished, and taking as many reservations besides.
+fn run_rows(watch: &Watch<'_>, rows: u64) -> anyhow::Result<()> {
+    watch.begin("rows")?;
     let finished = Shape {
         finished: rows,
         ..IDLE
     };
-    pass(watch, "finished jobs", &finished, NOW)
-}
-
-/// Passes over so many claims, and over so many rows of other kinds.
-pub fn run_passes(watch: &mut Watch<'_>, rows: u64, claims: u64) -> anyhow::Result<()> {
-    let heading = format!(in watch.alloc(); "passes over {claims} claims")?;
-    watch.begin(heading.as_str())?;
-    run_groups(watch, claims)?;
-    run_reservations(watch, claims)?;
-    let heading = format!(in watch.alloc(); "passes over {rows} rows")?;
-    watch.begin(heading.as_str())?;
-    run_rest(watch, rows)
-}
-
-/// Passes over the most claims that there can be.
-pub fn run_full_passes(watch: &mut Watch<'_>, rows: u64) -> anyhow::Result<()> {
-    let groups = rows / 4;
-    let heading = format!(in watch.alloc();
-        "passes over {groups} groups, and over {rows} reservations"
-    )?;
-    watch.begin(heading.as_str())?;
-    run_groups(watch, groups)?;
-    run_reservations(watch, rows)
-}
-
-fn queue(watch: &mut Watch<'_>, name: &str, shape: &Shape) -> anyhow::Result<()> {
-    let farm = steps::farm(watch, shape)?;
-    let start = watch.start()?;
-    let claims = farm.queue()?;
-    let nanos = watch.stop(start)?;
-    let count = claims.len();
-    let what = format!(in watch.alloc(); "{name}, {count} claims")?;
-    watch.show(what.as_str(), nanos)
+    measure(watch, "pass over finished jobs", &finished, PASS)?;
+    let full = Shape {
+        waiting: rows,
+        ..finished
+    };
+    measure(watch, "all", &full, Deed::Take)
 }
 
 /// The queue of claims, half of them groups of four, alone and behind finished jobs.
-pub fn run_queue(watch: &mut Watch<'_>, rows: u64, claims: u64) -> anyhow::Result<()> {
+fn run_queue(watch: &Watch<'_>, finished: u64, claims: u64) -> anyhow::Result<()> {
     watch.begin("queue")?;
-    let waiting = claims / 2;
-    let groups = claims - waiting;
     let alone = Shape {
-        groups,
-        waiting,
+        groups: claims / 2,
+        members: 4,
+        waiting: claims / 2,
         ..IDLE
     };
-    queue(watch, "claims alone", &alone)?;
-    let behind = Shape {
-        finished: rows.saturating_sub(claims.saturating_mul(2)),
-        groups,
-        waiting,
-        ..IDLE
-    };
-    queue(watch, "behind finished jobs", &behind)
+    measure(watch, "alone", &alone, Deed::Queue)?;
+    let behind = Shape { finished, ..alone };
+    measure(watch, "behind finished jobs", &behind, Deed::Queue)
+}
+
+/// The measures on the scale of a full farm where the watch takes times, else on a small scale.
+pub fn run(watch: &Watch<'_>) -> anyhow::Result<()> {
+    if watch.timed {
+        run_passes(watch, 0, 1_000)?;
+        run_passes(watch, 75_000, 25_000)?;
+        run_rows(watch, 100_000)?;
+        run_queue(watch, 97_000, 1_000)
+    } else {
+        run_passes(watch, 40, 20)?;
+        run_rows(watch, 40)?;
+        run_queue(watch, 40, 10)
+    }
 }

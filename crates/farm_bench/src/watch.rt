@@ -1,126 +1,61 @@
-//! A watch, and the times that it took over the rounds.
+//! A watch.
+use anyhow::bail;
 use std::alloc::Global;
 use std::time::Instant;
 
-/// The times of one measure, in nanoseconds, one for each round.
-#[derive(Drop)]
-struct Series {
-    heading: String,
-    what: String,
-    nanos: Vec<u64>,
-}
+/// How often everything is timed.
+const ROUNDS: u64 = 7;
 
-/// A watch. Where it isn't told to take times it prints what was done at once, so that such a run
-/// always prints the same; else it keeps the times until `report`.
-#[derive(Drop)]
+/// A watch. Where it isn't told to take times it shows what was done alone, so that such a run
+/// always prints the same.
+#[derive(Clone, Copy)]
 pub struct Watch<'a> {
     pub rt: &'a HostRuntime,
     pub timed: bool,
-    heading: String,
-    measures: Vec<Series>,
 }
 
-impl<'a> Watch<'a> {
-    pub fn new(rt: &'a HostRuntime, timed: bool) -> Watch<'a> {
-        Watch {
-            rt,
-            timed,
-            heading: String::new(rt.alloc()),
-            measures: Vec::new(rt.alloc()),
-        }
-    }
-
+impl Watch<'_> {
     pub fn alloc(&self) -> Global {
         self.rt.alloc()
     }
 
+    /// How often a measure is taken.
+    pub fn rounds(&self) -> u64 {
+        if self.timed { ROUNDS } else { 1 }
+    }
+
     pub fn start(&self) -> anyhow::Result<Instant> {
-        Ok(Instant::now(self.rt)?)
+        match Instant::now(self.rt) {
+            Ok(start) => Ok(start),
+            Err(_) => bail!("no clock"),
+        }
     }
 
     /// The nanoseconds since a start.
     pub fn stop(&self, start: Instant) -> anyhow::Result<u64> {
-        let nanos = start.elapsed(self.rt)?.as_nanos();
-        Ok(u64::try_from(nanos).unwrap_or(u64::MAX))
+        match start.elapsed(self.rt) {
+            Ok(time) => Ok(u64::try_from(time.as_nanos()).unwrap_or(u64::MAX)),
+            Err(_) => bail!("no clock"),
+        }
     }
 
-    /// What the next measures have in common.
-    pub fn begin(&mut self, heading: &str) -> anyhow::Result<()> {
-        self.heading = String::from_str(self.alloc(), heading)?;
+    /// Prints what the next measures have in common.
+    pub fn begin(&self, heading: &str) -> anyhow::Result<()> {
+        println!(self.rt; "{heading}")?;
+        Ok(())
+    }
+
+    /// Prints what was done, and of its times in nanoseconds the median, the least and the greatest.
+    pub fn show(&self, what: &str, mut nanos: Vec<u64>) -> anyhow::Result<()> {
         if !self.timed {
-            println!(self.rt; "{heading}")?;
+            println!(self.rt; "  {what}")?;
+            return Ok(());
         }
+        nanos.sort_unstable();
+        let median = nanos.get(nanos.len() / 2).copied().unwrap_or(0);
+        let least = nanos.first().copied().unwrap_or(0);
+        let most = nanos.last().copied().unwrap_or(0);
+        println!(self.rt; "  {what}: {median} ns ({least} to {most})")?;
         Ok(())
     }
-
-    /// Takes down what was done, and the time that it took.
-    pub fn show(&mut self, what: &str, nanos: u64) -> anyhow::Result<()> {
-        if self.timed {
-            return self.keep(what, nanos);
-        }
-        println!(self.rt; "  {what}")?;
-        Ok(())
-    }
-
-    /// Takes down what was done so many times, and the time that each took.
-    pub fn show_each(&mut self, what: &str, nanos: u64, times: u64) -> anyhow::Result<()> {
-        self.show(what, nanos / times.max(1))
-    }
-
-    /// Keeps a time of a measure.
-    fn keep(&mut self, what: &str, nanos: u64) -> anyhow::Result<()> {
-        for series in self.measures.iter_mut() {
-            if series.heading.as_str() == self.heading.as_str() && series.what.as_str() == what {
-                series.nanos.push(nanos)?;
-                return Ok(());
-            }
-        }
-        let alloc = self.alloc();
-        let mut first = Vec::new(alloc);
-        first.push(nanos)?;
-        self.measures.push(Series {
-            heading: String::from_str(alloc, self.heading.as_str())?,
-            what: String::from_str(alloc, what)?,
-            nanos: first,
-        })?;
-        Ok(())
-    }
-
-    /// Prints of each measure the median time, and in brackets the least and the greatest.
-    pub fn report(mut self) -> anyhow::Result<()> {
-        let mut heading = "";
-        for series in self.measures.iter_mut() {
-            series.nanos.sort_unstable();
-        }
-        for series in self.measures.iter() {
-            if series.heading.as_str() != heading {
-                heading = series.heading.as_str();
-                println!(self.rt; "{heading}")?;
-            }
-            print_series(self.rt, series)?;
-        }
-        Ok(())
-    }
-}
-
-/// A time in microseconds.
-fn micros(alloc: Global, nanos: u64) -> anyhow::Result<String> {
-    let whole = nanos / 1000;
-    let rest = nanos % 1000;
-    Ok(format!(in alloc; "{whole}.{rest:03}")?)
-}
-
-fn print_series(rt: &HostRuntime, series: &Series) -> anyhow::Result<()> {
-    let times = series.nanos.as_slice();
-    let median = times.get(times.len() / 2).copied().unwrap_or(0);
-    let least = times.first().copied().unwrap_or(0);
-    let most = times.last().copied().unwrap_or(0);
-    let what = series.what.as_str();
-    println!(rt;
-        "  {what}: {} us ({} to {})",
-        micros(rt.alloc(), median)?,
-        micros(rt.alloc(), least)?,
-        micros(rt.alloc(), most)?
-    )?;
-    Ok(())
 }

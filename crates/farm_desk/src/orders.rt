@@ -45,40 +45,62 @@ pub fn carry_out<R: Read, W: Write>(
     input: &mut R,
     output: &mut W,
 ) -> Result<End, DeskFault> {
-    match order {
-        Order::Once { place, at } => once(rt, alloc, place, input, output, at),
-        Order::Init { file } => init(rt, alloc, file.as_str(), output),
-        Order::Import { file, at, lab } => {
-            import_file(rt, alloc, file.as_str(), at, lab.as_str(), output)
-        }
+    let (file, task) = match order {
+        Order::Once { place, at } => match place {
+            Place::Memory => {
+                return on_farm(
+                    rt,
+                    alloc,
+                    memory_keeper(alloc)?,
+                    Task::Answer { at },
+                    input,
+                    output,
+                );
+            }
+            Place::File(file) => (file, Task::Answer { at }),
+        },
+        Order::Init { file } => return init(rt, alloc, file.as_str(), output),
+        Order::Import { file, at, lab } => (file, Task::Import { at, lab }),
         Order::Report {
             file,
             east,
             west,
             which,
-        } => report(rt, alloc, file.as_str(), (east, west), which, output),
-        Order::Serve { file, port, max } => serve(rt, alloc, file.as_str(), port, max, output),
-    }
+        } => (file, Task::Report { east, west, which }),
+        Order::Serve { file, port, max } => (file, Task::Serve { port, max }),
+    };
+    let keeper = open_farm(rt, alloc, file.as_str(), Unknown)?;
+    on_farm(rt, alloc, keeper, task, input, output)
 }
 
-/// Answers one request of the farm at a place.
-fn once<R: Read, W: Write>(
+/// What is done with a farm that is there.
+#[derive(Drop)]
+enum Task {
+    Answer { at: u64 },
+    Import { at: u64, lab: String },
+    Report { east: u64, west: u64, which: Report },
+    Serve { port: u16, max: u64 },
+}
+
+/// Does what an order wants of a keeper's farm.
+fn on_farm<R: Read, W: Write, S: Alter + Drop>(
     rt: &HostRuntime,
     alloc: Global,
-    place: Place,
+    mut keeper: Keeper<S>,
+    task: Task,
     input: &mut R,
     output: &mut W,
-    at: u64,
 ) -> Result<End, DeskFault> {
-    match place {
-        Place::Memory => {
-            let mut keeper = memory_keeper(alloc)?;
-            answer_one(alloc, &mut keeper, input, output, at)
+    match task {
+        Task::Answer { at } => answer_one(alloc, &mut keeper, input, output, at),
+        Task::Import { at, lab } => {
+            let text = read_lab(rt, alloc, lab.as_str())?;
+            import_text(alloc, &mut keeper, text.as_slice(), at, output)
         }
-        Place::File(file) => {
-            let mut keeper = open_farm(rt, alloc, file.as_str(), Unknown)?;
-            answer_one(alloc, &mut keeper, input, output, at)
+        Task::Report { east, west, which } => {
+            print_report(alloc, &keeper, (east, west), which, output)
         }
+        Task::Serve { port, max } => serve(rt, alloc, &mut keeper, port, max, output),
     }
 }
 
@@ -125,20 +147,6 @@ fn init<W: Write>(
     }
 }
 
-/// Adds what a lab file lists to the farm of a file.
-fn import_file<W: Write>(
-    rt: &HostRuntime,
-    alloc: Global,
-    file: &str,
-    at: u64,
-    lab: &str,
-    output: &mut W,
-) -> Result<End, DeskFault> {
-    let mut keeper = open_farm(rt, alloc, file, Unknown)?;
-    let text = read_lab(rt, alloc, lab)?;
-    import_text(alloc, &mut keeper, text.as_slice(), at, output)
-}
-
 /// Adds what a lab file lists to a keeper's farm, and prints how much that was.
 fn import_text<W: Write, S: Alter>(
     alloc: Global,
@@ -172,21 +180,20 @@ fn print_counts<W: Write>(output: &mut W, accepted: usize, kept: usize) -> Resul
     }
 }
 
-/// Serves so many connections to a port of 127.0.0.1 from the farm of a file.
-fn serve<W: Write>(
+/// Serves so many connections to a port of 127.0.0.1 from a keeper's farm.
+fn serve<W: Write, S: Alter>(
     rt: &HostRuntime,
     alloc: Global,
-    file: &str,
+    keeper: &mut Keeper<S>,
     port: u16,
     max: u64,
     output: &mut W,
 ) -> Result<End, DeskFault> {
-    let mut keeper = open_farm(rt, alloc, file, Unknown)?;
     let Ok(listener) = TcpListener::bind(rt, (Ipv4Addr::LOCALHOST, port)) else {
         return Err(DeskFault::Read);
     };
     print_port(output, port)?;
-    serve_on(alloc, &mut keeper, &listener, max, rt)?;
+    serve_on(alloc, keeper, &listener, max, rt)?;
     Ok(End::Done)
 }
 
@@ -198,19 +205,6 @@ fn print_port<W: Write>(output: &mut W, port: u16) -> Result<(), DeskFault>
         Ok(()) => Ok(()),
         Err(_) => Err(DeskFault::Write),
     }
-}
-
-/// Prints a report of the farm of a file.
-fn report<W: Write>(
-    rt: &HostRuntime,
-    alloc: Global,
-    file: &str,
-    zone: (u64, u64),
-    which: Report,
-    output: &mut W,
-) -> Result<End, DeskFault> {
-    let keeper = open_farm(rt, alloc, file, Unknown)?;
-    print_report(alloc, &keeper, zone, which, output)
 }
 
 /// Prints a report of a keeper's farm.

@@ -185,6 +185,3 @@ fn read_body<R: Read>(reader: &mut R, log: &mut ReadLog, body: &mut [u8]) -> Res
     }
     Ok(())
 }
-
-#[cfg(test)]
-mod tests;

@@ -40,6 +40,3 @@ pub fn write_whole_logged<W: Write>(
     }
     Ok(())
 }
-
-#[cfg(test)]
-mod tests;

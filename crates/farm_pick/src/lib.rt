@@ -6,14 +6,10 @@ mod choose;
 mod fit;
 mod free;
 mod laws;
-#[cfg(test)]
-mod made;
 mod order;
 mod picked;
 mod queue;
 mod search;
-#[cfg(test)]
-mod tests;
 
 pub use candidates::Candidates;
 pub use fit::carries_all;

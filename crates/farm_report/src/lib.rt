@@ -20,6 +20,3 @@ pub use fault::ReportFault;
 pub use jiff::tz::Offset;
 pub use moment::zone_of;
 pub use reservations::reservations_text;
-
-#[cfg(test)]
-mod tests;

@@ -2,6 +2,38 @@
 #![tactic(auto)]
 
 #[cfg(test)]
+mod answered;
+#[cfg(test)]
+mod asked;
+#[cfg(test)]
+mod clients;
+#[cfg(test)]
+mod created;
+#[cfg(test)]
 mod displayed;
 #[cfg(test)]
+mod fakes;
+#[cfg(test)]
+mod files;
+#[cfg(test)]
+mod fourteen;
+#[cfg(test)]
+mod full;
+#[cfg(test)]
+mod heads;
+#[cfg(test)]
+mod puts;
+#[cfg(test)]
+mod queues;
+#[cfg(test)]
 mod readers;
+#[cfg(test)]
+mod requests;
+#[cfg(test)]
+mod rows;
+#[cfg(test)]
+mod search;
+#[cfg(test)]
+mod stores;
+#[cfg(test)]
+mod written;

@@ -1,0 +1,107 @@
+//! What is done with a farm, and how long it takes.
+ghost use Rattle.std.specs.Prelude.{IsTrue};
+ghost use Rattle.farm_types.specs.Proper.{is_proper_cmd};
+
+use crate::boards;
+use crate::rows::{self, Shape};
+use crate::watch::Watch;
+use anyhow::bail;
+use farm_core::farm::Farm;
+use farm_types::calls::{Answer, Call, Cmd, Rows};
+use farm_types::rows::Reply;
+use farm_types::words::Key;
+use std::alloc::Global;
+
+/// What is done with the rows of a farm.
+#[derive(Clone, Copy)]
+pub enum Deed {
+    /// The farm takes them.
+    Take,
+    /// A farm that has them passes, at a moment.
+    Pass(u64),
+    /// A farm that has them lists its queue.
+    Queue,
+}
+
+/// What came of a deed, and how many nanoseconds it took.
+#[derive(Drop)]
+struct Done {
+    what: String,
+    nanos: u64,
+}
+
+fn farm_of(rows: Rows) -> anyhow::Result<Farm> {
+    match Farm::from_rows(rows) {
+        Ok(farm) => Ok(farm),
+        Err(_) => bail!("unsound rows"),
+    }
+}
+
+fn take(watch: &Watch<'_>, rows: Rows) -> anyhow::Result<Done> {
+    let start = watch.start()?;
+    let farm = farm_of(rows)?;
+    let nanos = watch.stop(start)?;
+    let status = farm.status();
+    let (jobs, reservations) = (status.jobs, status.reservations);
+    let what = format!(in watch.alloc(); "{jobs} jobs and {reservations} reservations taken")?;
+    Ok(Done { what, nanos })
+}
+
+/// The dispatcher's call of a command, under a key where there is one.
+fn call(alloc: Global, key: Option<Key>, now: u64, cmd: Cmd) -> anyhow::Result<Call>
+    requires { IsTrue (is_proper_cmd cmd) }
+{
+    let caller = boards::name(alloc, "dispatcher")?;
+    Ok(Call::new(caller, key, now, cmd))
+}
+
+/// A pass at a moment.
+#[tactic(auto, unfolding(farm_types::specs::Proper::is_proper_cmd))]
+fn pass_at(alloc: Global, now: u64) -> anyhow::Result<Call> {
+    call(alloc, None, now, Cmd::Pass)
+}
+
+fn pass(watch: &Watch<'_>, rows: Rows, now: u64) -> anyhow::Result<Done> {
+    let mut farm = farm_of(rows)?;
+    let call = pass_at(watch.alloc(), now)?;
+    let start = watch.start()?;
+    let answer = farm.step(&call);
+    let nanos = watch.stop(start)?;
+    let Ok(Answer::Did(Reply(_, ended, served), _)) = answer else {
+        bail!("refused");
+    };
+    let what = format!(in watch.alloc(); "{ended} ended, {served} served")?;
+    Ok(Done { what, nanos })
+}
+
+fn queue(watch: &Watch<'_>, rows: Rows) -> anyhow::Result<Done> {
+    let farm = farm_of(rows)?;
+    let start = watch.start()?;
+    let claims = farm.queue()?;
+    let nanos = watch.stop(start)?;
+    let count = claims.len();
+    let what = format!(in watch.alloc(); "{count} claims")?;
+    Ok(Done { what, nanos })
+}
+
+fn perform(watch: &Watch<'_>, shape: &Shape, deed: Deed) -> anyhow::Result<Done> {
+    let rows = rows::rows(watch.alloc(), shape)?;
+    match deed {
+        Deed::Take => take(watch, rows),
+        Deed::Pass(now) => pass(watch, rows, now),
+        Deed::Queue => queue(watch, rows),
+    }
+}
+
+/// Does a deed with the rows of a shape as often as the watch says, and shows what came of it.
+pub fn measure(watch: &Watch<'_>, name: &str, shape: &Shape, deed: Deed) -> anyhow::Result<()> {
+    let alloc = watch.alloc();
+    let mut what = String::new(alloc);
+    let mut times = Vec::new(alloc);
+    for _ in 0..watch.rounds() {
+        let done = perform(watch, shape, deed)?;
+        what = format!(in alloc; "{name}, {}", done.what)?;
+        times.push(done.nanos)?;
+    }
+    watch.show(what.as_str(), times)
+}

@@ -1,0 +1,155 @@
+//! The farms that are measured, as rows.
+use crate::boards;
+use farm_types::calls::Rows;
+use farm_types::fault::WordFault;
+use farm_types::rows::{
+    BoardRow, JobRow, JobState, MetaRow, Outcome, ResRow, ResState, TypeRow, Want,
+};
+use farm_types::words::{Body, Priority};
+use std::alloc::Global;
+
+/// The clock of a farm, in seconds since 1970.
+pub const NOW: u64 = 1_700_000_000;
+
+/// For how long a reservation lives without a refresh, in seconds.
+pub const LEASE: u64 = 60;
+
+/// What stands in a farm beside its 256 boards.
+#[derive(Clone, Copy)]
+pub struct Shape {
+    /// How many of the last boards are in maintenance.
+    pub away: u64,
+    /// Jobs that are finished.
+    pub finished: u64,
+    /// Groups of jobs that wait.
+    pub groups: u64,
+    /// How many jobs are in each group.
+    pub members: u64,
+    /// Reservations that wait.
+    pub waiting: u64,
+    /// Whether those that wait ask for the tag that four boards have.
+    pub rare: bool,
+}
+
+/// The boards alone.
+pub const IDLE: Shape = Shape {
+    away: 0,
+    finished: 0,
+    groups: 0,
+    members: 1,
+    waiting: 0,
+    rare: false,
+};
+
+/// The next free number, which is taken.
+fn take_number(rows: &mut Rows) -> u64 {
+    let number = rows.meta.next;
+    rows.meta.next = number.saturating_add(1);
+    number
+}
+
+/// A job that waits for a board of a type; the first of its group has a text of 300 bytes.
+fn job(alloc: Global, number: u64, group: u64, kind: &str, rare: bool) -> anyhow::Result<JobRow> {
+    let owner = boards::name(alloc, "ann")?;
+    let priority = Priority::of(50).map_err(WordFault::Refused)?;
+    let kind = Some(boards::name(alloc, kind)?);
+    let tags = boards::asked_tags(alloc, rare)?;
+    let length = if number == group { 300 } else { 0 };
+    let text = format!(in alloc; "{:x>length$}", "")?;
+    Ok(JobRow {
+        number,
+        group,
+        checking: false,
+        owner,
+        priority,
+        want: Want { kind, tags },
+        role: None,
+        state: JobState::Submitted,
+        outcome: None,
+        board: None,
+        body: Body::of(text),
+    })
+}
+
+/// A reservation that waits for a board of any type.
+fn reservation(alloc: Global, number: u64, rare: bool) -> anyhow::Result<ResRow> {
+    let owner = boards::name(alloc, "ann")?;
+    let priority = Priority::of(50).map_err(WordFault::Refused)?;
+    let tags = boards::asked_tags(alloc, rare)?;
+    Ok(ResRow {
+        number,
+        owner,
+        priority,
+        want: Want { kind: None, tags },
+        state: ResState::Waiting,
+        deadline: NOW + LEASE,
+        board: None,
+    })
+}
+
+fn add_finished(alloc: Global, rows: &mut Rows) -> anyhow::Result<()> {
+    let number = take_number(rows);
+    let place = number % boards::MOST;
+    let mut row = job(alloc, number, number, boards::kind_at(place), false)?;
+    row.state = JobState::Finished;
+    row.outcome = Some(Outcome::Complete);
+    row.board = Some(boards::board_name(alloc, place)?);
+    rows.jobs.push(row)?;
+    Ok(())
+}
+
+/// A group that waits, for boards of one type: of the last where it asks for the rare tag, which no
+/// other has.
+fn add_group(alloc: Global, rows: &mut Rows, shape: &Shape) -> anyhow::Result<()> {
+    let group = rows.meta.next;
+    let place = if shape.rare {
+        boards::MOST
+    } else {
+        group % boards::MOST
+    };
+    for _ in 0..shape.members {
+        let number = take_number(rows);
+        let row = job(alloc, number, group, boards::kind_at(place), shape.rare)?;
+        rows.jobs.push(row)?;
+    }
+    Ok(())
+}
+
+fn add_waiting(alloc: Global, rows: &mut Rows, rare: bool) -> anyhow::Result<()> {
+    let number = take_number(rows);
+    let row = reservation(alloc, number, rare)?;
+    rows.reservations.push(row)?;
+    Ok(())
+}
+
+/// The rows of a farm of these types and boards alone.
+fn idle(alloc: Global, types: Vec<TypeRow>, boards: Vec<BoardRow>) -> Rows {
+    Rows {
+        types,
+        boards,
+        jobs: Vec::new(alloc),
+        reservations: Vec::new(alloc),
+        kept: Vec::new(alloc),
+        meta: MetaRow {
+            clock: NOW,
+            count: 0,
+            next: 1,
+        },
+    }
+}
+
+/// The rows of a farm of this shape: first what ended, then what waits.
+pub fn rows(alloc: Global, shape: &Shape) -> anyhow::Result<Rows> {
+    let boards = boards::boards(alloc, boards::RARE, shape.away)?;
+    let mut rows = idle(alloc, boards::types(alloc)?, boards);
+    for _ in 0..shape.finished {
+        add_finished(alloc, &mut rows)?;
+    }
+    for _ in 0..shape.groups {
+        add_group(alloc, &mut rows, shape)?;
+    }
+    for _ in 0..shape.waiting {
+        add_waiting(alloc, &mut rows, shape.rare)?;
+    }
+    Ok(rows)
+}

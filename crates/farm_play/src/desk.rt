@@ -1,0 +1,191 @@
+//! What a farm is asked and told. These functions have no clause, so that a player's proof doesn't
+//! carry a keeper's clauses from one step to the next.
+use crate::script::{Deed, Step};
+use crate::text::{first_word, shown};
+use farm_core::farm::Farm;
+use farm_desk::converse::converse;
+use farm_desk::fault::DeskFault;
+use farm_desk::import::{ImportEnd, import};
+use farm_keep::{KeepFault, Keeper};
+use farm_report::{boards_text, queue_text, reservations_text, zone_of};
+use sqlite::{Alter, Connection};
+use std::alloc::{AllocError, Global};
+use std::io::{Read, Write};
+
+/// A keeper of the empty farm, whose tables it makes.
+pub fn fresh<S: Alter + Drop>(alloc: Global, conn: Option<Connection<S>>) -> Option<Keeper<S>> {
+    match conn {
+        Some(conn) if conn.is_autocommit() => Keeper::fresh(alloc, conn).ok(),
+        _ => None,
+    }
+}
+
+/// A keeper of the farm whose tables are there.
+pub fn adopt<S: Alter + Drop>(
+    alloc: Global,
+    conn: Option<Connection<S>>,
+) -> Result<Keeper<S>, KeepFault> {
+    match conn {
+        Some(conn) if conn.is_autocommit() => Keeper::adopt(alloc, conn),
+        _ => Err(KeepFault::Store),
+    }
+}
+
+/// Puts a keeper that is found into its place.
+pub fn put<S: Alter + Drop>(
+    place: &mut Option<Keeper<S>>,
+    found: Result<Keeper<S>, KeepFault>,
+) -> Result<(), KeepFault> {
+    *place = Some(found?);
+    Ok(())
+}
+
+/// Takes a keeper out of its place, and gives its connection.
+pub fn take_connection<S: Alter>(place: &mut Option<Keeper<S>>) -> Option<Connection<S>> {
+    Some(place.take()?.into_connection())
+}
+
+/// The store of a keeper that ends.
+pub fn store_of<S: Alter + Drop>(keeper: Keeper<S>) -> S {
+    keeper.into_connection().into_store()
+}
+
+/// Takes a keeper out of its place, and gives its store.
+pub fn take_store<S: Alter + Drop>(place: &mut Option<Keeper<S>>) -> Option<S> {
+    Some(store_of(place.take()?))
+}
+
+/// Converses once.
+fn told<R: Read, W: Write, S: Alter>(
+    alloc: Global,
+    keeper: &mut Keeper<S>,
+    reader: &mut R,
+    writer: &mut W,
+    now: u64,
+) -> Result<u16, DeskFault> {
+    converse(alloc, keeper, reader, writer, now)
+}
+
+/// With what an answer begins that has this status, or ends that tells this fault.
+fn mark_of(alloc: Global, end: Result<u16, DeskFault>) -> Result<String, AllocError> {
+    match end {
+        Ok(status) => format!(in alloc; "HTTP/1.1 {status} "),
+        Err(fault) => {
+            let code = fault.code();
+            format!(in alloc; "{{\"code\":{code},\"text\":\"{fault}\"}}")
+        }
+    }
+}
+
+/// The answer to a request; where it doesn't tell how the conversation ended, that follows it.
+fn answered<S: Alter>(
+    alloc: Global,
+    keeper: &mut Keeper<S>,
+    now: u64,
+    mut request: &[u8],
+) -> Result<Vec<u8>, AllocError> {
+    let mut output = Vec::new(alloc);
+    let end = told(alloc, keeper, &mut request, &mut output, now);
+    let mark = mark_of(alloc, end)?;
+    if !output.starts_with(mark.as_bytes()) && !output.ends_with(mark.as_bytes()) {
+        output.extend_from_slice(b"\nended ")?;
+        output.extend_from_slice(mark.as_bytes())?;
+    }
+    Ok(output)
+}
+
+/// The bytes of a step's request.
+fn request(alloc: Global, step: &Step) -> Result<Vec<u8>, AllocError> {
+    let mut bytes = step.head.clone()?;
+    if step.deed == Deed::Ask {
+        let length = step.body.len();
+        let line = format!(in alloc; "content-length: {length}\r\n\r\n")?;
+        bytes.extend_from_slice(line.as_bytes())?;
+    }
+    bytes.extend_from_slice(step.body.as_slice())?;
+    Ok(bytes)
+}
+
+/// How an import went, in words.
+fn import_words(alloc: Global, end: &ImportEnd) -> Result<String, AllocError> {
+    if let Some(fault) = &end.fault {
+        let code = fault.code();
+        return format!(in alloc; "{code} {fault}\n");
+    }
+    if let Some((place, refusal)) = &end.stopped {
+        let code = refusal.code;
+        return format!(in alloc; "{code} {refusal} at {place}\n");
+    }
+    let (accepted, kept) = (end.accepted, end.kept);
+    format!(in alloc; "accepted {accepted}, kept {kept}\n")
+}
+
+/// Imports a lab file.
+fn imported<S: Alter>(
+    alloc: Global,
+    keeper: &mut Keeper<S>,
+    step: &Step,
+) -> Result<String, AllocError> {
+    let end = import(alloc, keeper, step.body.as_slice(), step.now);
+    import_words(alloc, &end)
+}
+
+/// The report of that name, with moments so many minutes east of UTC.
+fn report_of(alloc: Global, farm: &Farm, words: &str) -> Option<String> {
+    let (name, east) = first_word(words);
+    let zone = zone_of(east.parse::<i64>().ok()?)?;
+    match name {
+        "queue" => queue_text(alloc, farm).ok(),
+        "boards" => boards_text(alloc, farm, zone).ok(),
+        "reservations" => reservations_text(alloc, farm, zone).ok(),
+        _ => None,
+    }
+}
+
+/// What a step that looks at a farm gives.
+fn look(alloc: Global, farm: &Farm, step: &Step) -> Result<String, AllocError> {
+    if step.deed == Deed::Count {
+        let count = farm.status().count;
+        return format!(in alloc; "{count}\n");
+    }
+    match report_of(alloc, farm, shown(step.head.as_slice())) {
+        Some(text) => Ok(text),
+        None => String::from_str(alloc, "no report\n"),
+    }
+}
+
+/// What a step that asks a keeper gives.
+pub fn does<S: Alter>(
+    alloc: Global,
+    keeper: &mut Keeper<S>,
+    step: &Step,
+) -> Result<Vec<u8>, AllocError> {
+    match step.deed {
+        Deed::Ask | Deed::Raw => {
+            let bytes = request(alloc, step)?;
+            answered(alloc, keeper, step.now, bytes.as_slice())
+        }
+        Deed::Import => Ok(imported(alloc, keeper, step)?.into_bytes()),
+        _ => match keeper.farm() {
+            Some(farm) => Ok(look(alloc, farm, step)?.into_bytes()),
+            None => Vec::from_slice(alloc, b"closed\n"),
+        },
+    }
+}
+
+/// A keeper's farm in words, all that it holds among them.
+pub fn in_words<S: Alter>(alloc: Global, keeper: &Keeper<S>) -> Result<String, AllocError> {
+    let farm = keeper.farm();
+    format!(in alloc; "{farm:?}")
+}
+
+/// One statement on a store, and how many rows it changed; None where it is refused.
+pub fn executed<S: Alter + Drop>(
+    alloc: Global,
+    mut conn: Connection<S>,
+    statement: &str,
+) -> Option<(Connection<S>, String)> {
+    let rows = conn.execute(statement, &[]).ok()?;
+    let text = format!(in alloc; "{rows}\n").ok()?;
+    Some((conn, text))
+}

@@ -1,0 +1,130 @@
+//! Plays transcripts: what a farm is asked, and what it has to answer. The words name their files;
+//! behind the word `show` each step is shown as it is played. The program prints a line a
+//! transcript, and its status is 1 where one failed.
+//!
+//! The transcripts of data/wrong have to fail, so that it stays shown that a wrong expectation does:
+//! the lines that they print are in `stdout`, and the program's status is 1.
+#![tactic(auto)]
+
+mod desk;
+mod player;
+mod script;
+mod stops;
+mod store;
+mod teller;
+mod text;
+
+use player::Player;
+use script::{Deed, Reading, Step, Transcript};
+use sqlite_disk::{Fuse, Memory};
+use std::process::ExitCode;
+use std::{env, fs, io};
+use stops::plays_stops;
+use teller::Teller;
+
+/// The steps before the end of the stops.
+fn stopped(steps: &[Step]) -> &[Step] {
+    let end = steps.iter().position(|step| step.deed == Deed::End);
+    steps.get(..end.unwrap_or(0)).unwrap_or(&[])
+}
+
+/// Plays steps; whether all give what is wanted of them.
+fn plays(
+    teller: &Teller<'_>,
+    player: &mut Player<Fuse<Memory>>,
+    steps: &[Step],
+) -> io::Result<bool> {
+    let mut passed = 0;
+    for (place, step) in steps.iter().enumerate() {
+        if place < passed {
+            continue;
+        }
+        let is_well = if step.deed == Deed::Stops {
+            let rest = stopped(steps.get(place..).unwrap_or(&[]));
+            passed = place.saturating_add(rest.len()).saturating_add(1);
+            plays_stops(
+                teller.rt.alloc(),
+                teller,
+                player,
+                rest.get(1..).unwrap_or(&[]),
+            )?
+        } else {
+            player.plays(teller, step)?
+        };
+        if !is_well {
+            return Ok(false);
+        }
+    }
+    Ok(true)
+}
+
+/// Plays a transcript behind those that go before it.
+fn plays_whole(
+    teller: &Teller<'_>,
+    player: &mut Player<Fuse<Memory>>,
+    all: &[Transcript],
+    one: &Transcript,
+) -> io::Result<bool> {
+    for place in &one.after {
+        if let Some(first) = all.get(*place) {
+            if !plays(teller, player, first.steps.as_slice())? {
+                return Ok(false);
+            }
+        }
+    }
+    plays(teller, player, one.steps.as_slice())
+}
+
+/// Plays a transcript on a new farm.
+fn plays_anew(teller: &Teller<'_>, all: &[Transcript], one: &Transcript) -> io::Result<bool> {
+    let mut player = Player::new(teller.rt.alloc());
+    plays_whole(teller, &mut player, all, one)
+}
+
+/// Plays all transcripts; whether all passed.
+fn play(rt: &HostRuntime, all: &[Transcript], shows: bool) -> io::Result<bool> {
+    let mut passed = true;
+    for one in all {
+        let name = one.name.as_str();
+        let teller = Teller { rt, name, shows };
+        if plays_anew(&teller, all, one)? {
+            println!(rt; "{name}: ok")?;
+        } else {
+            passed = false;
+        }
+    }
+    Ok(passed)
+}
+
+/// Reads a file's transcripts.
+fn read(rt: &HostRuntime, reading: &mut Reading, file: &str) -> io::Result<()> {
+    let text = fs::read_to_string(rt, file)?;
+    for (number, line) in (1..).zip(text.as_str().lines()) {
+        if let Err(error) = reading.line(number, line) {
+            println!(rt; "{file}, line {number}: {error}")?;
+            return Err(error);
+        }
+    }
+    Ok(())
+}
+
+fn run(rt: &HostRuntime) -> io::Result<bool> {
+    let words: Vec<String> = env::args(rt)?.collect(rt.alloc())?;
+    let mut reading = Reading::new(rt.alloc());
+    let mut shows = false;
+    for word in words.iter().skip(1) {
+        match word.as_str() {
+            "show" => shows = true,
+            file => read(rt, &mut reading, file)?,
+        }
+    }
+    play(rt, reading.done.as_slice(), shows)
+}
+
+fn main(rt: HostRuntime) -> io::Result<ExitCode> {
+    if run(&rt)? {
+        Ok(ExitCode::SUCCESS)
+    } else {
+        Ok(ExitCode::FAILURE)
+    }
+}

@@ -1,0 +1,263 @@
+//! Transcripts: their lines read into steps.
+use crate::text::{answer, first_word, push_escaped, push_line, push_times, unread};
+use std::alloc::Global;
+use std::io;
+
+/// What a step does.
+#[derive(Clone, Copy, PartialEq, Eq)]
+pub enum Deed {
+    /// Asks; the head lacks the length of the body.
+    Ask,
+    /// Asks these very bytes.
+    Raw,
+    /// Does nothing; it is a heading where steps are shown.
+    Say,
+    /// Imports a lab file.
+    Import,
+    /// Reports; the words are the report's name and the minutes east of UTC.
+    Report,
+    /// Tells how many commands were accepted.
+    Count,
+    /// One statement on the store.
+    Sql,
+    /// The store is closed in order, or by a crash.
+    Close,
+    Crash,
+    /// The farm is found in the store.
+    Open,
+    /// The log, or the tables' file, stops after so many calls.
+    Fuse,
+    /// The steps up to the next `End` are stopped at each call.
+    Stops,
+    End,
+}
+
+/// The deeds of the words with which lines begin.
+const DEEDS: [(&str, Deed); 11] = [
+    ("#!", Deed::Say),
+    ("import", Deed::Import),
+    ("report", Deed::Report),
+    ("count", Deed::Count),
+    ("sql", Deed::Sql),
+    ("close", Deed::Close),
+    ("crash", Deed::Crash),
+    ("open", Deed::Open),
+    ("fuse", Deed::Fuse),
+    ("stops", Deed::Stops),
+    ("end", Deed::End),
+];
+
+impl Deed {
+    /// Whether a farm's keeper is asked.
+    pub fn is_asked(self) -> bool {
+        matches!(
+            self,
+            Deed::Ask | Deed::Raw | Deed::Import | Deed::Report | Deed::Count
+        )
+    }
+
+    /// The word with which its line begins.
+    pub fn word(self) -> &'static str {
+        match DEEDS.iter().find(|(_, deed)| *deed == self) {
+            Some((word, _)) => word,
+            None => ">",
+        }
+    }
+}
+
+/// A step, what it is given and what it has to give: one of the wanted.
+#[derive(Drop)]
+pub struct Step {
+    pub line: u64,
+    pub deed: Deed,
+    pub now: u64,
+    /// A request's head, or the words behind a deed's word.
+    pub head: Vec<u8>,
+    pub body: Vec<u8>,
+    pub wanted: Vec<Vec<u8>>,
+}
+
+/// A transcript, and the places of those whose steps go before its own.
+#[derive(Drop)]
+pub struct Transcript {
+    pub name: String,
+    pub after: Vec<usize>,
+    pub steps: Vec<Step>,
+}
+
+/// What is read of the files so far.
+#[derive(Drop)]
+pub struct Reading {
+    alloc: Global,
+    line: u64,
+    now: u64,
+    fields: String,
+    pub done: Vec<Transcript>,
+}
+
+impl Reading {
+    pub fn new(alloc: Global) -> Reading {
+        Reading {
+            alloc,
+            line: 0,
+            now: 0,
+            fields: String::new(alloc),
+            done: Vec::new(alloc),
+        }
+    }
+
+    fn transcript(&mut self) -> io::Result<&mut Transcript> {
+        self.done.last_mut().ok_or(unread())
+    }
+
+    /// The step that is being read.
+    fn step(&mut self) -> io::Result<&mut Step> {
+        self.transcript()?.steps.last_mut().ok_or(unread())
+    }
+
+    fn begin(&mut self, name: &str) -> io::Result<()> {
+        self.now = 0;
+        let name = String::from_str(self.alloc, name)?;
+        let (after, steps) = (Vec::new(self.alloc), Vec::new(self.alloc));
+        self.done.push(Transcript { name, after, steps })?;
+        Ok(())
+    }
+
+    /// The steps of the transcript of that name go first, behind those that go before them.
+    fn go_after(&mut self, name: &str) -> io::Result<()> {
+        for (place, one) in self.done.iter().enumerate() {
+            if one.name.as_str() == name {
+                let mut after = one.after.clone()?;
+                after.push(place)?;
+                self.transcript()?.after = after;
+                return Ok(());
+            }
+        }
+        Err(unread())
+    }
+
+    fn add(&mut self, deed: Deed, head: &str) -> io::Result<()> {
+        let step = Step {
+            line: self.line,
+            deed,
+            now: self.now,
+            head: Vec::from_slice(self.alloc, head.as_bytes())?,
+            body: Vec::new(self.alloc),
+            wanted: Vec::new(self.alloc),
+        };
+        self.transcript()?.steps.push(step)?;
+        Ok(())
+    }
+
+    /// A request: WHO METHOD PATH BODY, where WHO is `-`, a name, or a name, a slash and a key.
+    fn ask(&mut self, text: &str) -> io::Result<()> {
+        let (who, rest) = first_word(text);
+        let (method, rest) = first_word(rest);
+        let (path, body) = first_word(rest);
+        let line = format!(in self.alloc; "{method} {path} HTTP/1.1\r\n")?;
+        self.add(Deed::Ask, line.as_str())?;
+        let (user, key) = who.split_once("/").unwrap_or((who, ""));
+        if user != "-" {
+            self.field("x-user", user)?;
+        }
+        if !key.is_empty() {
+            self.field("x-key", key)?;
+        }
+        self.step()?.body.extend_from_slice(body.as_bytes())?;
+        Ok(())
+    }
+
+    fn field(&mut self, name: &str, value: &str) -> io::Result<()> {
+        let line = format!(in self.alloc; "{name}: {value}\r\n")?;
+        self.step()?.head.extend_from_slice(line.as_bytes())?;
+        Ok(())
+    }
+
+    /// Adds so many times the text: N TEXT.
+    fn times(&mut self, text: &str) -> io::Result<()> {
+        let (times, text) = first_word(text);
+        let times = times.parse::<u64>().map_err(|_| unread())?;
+        let step = self.step()?;
+        if step.deed == Deed::Raw {
+            push_times(&mut step.head, times, text)
+        } else {
+            push_times(&mut step.body, times, text)
+        }
+    }
+
+    /// Another right answer.
+    fn want_other(&mut self) -> io::Result<()> {
+        let none = Vec::new(self.alloc);
+        self.step()?.wanted.push(none)?;
+        Ok(())
+    }
+
+    /// The answer that is being read.
+    fn wanted(&mut self) -> io::Result<&mut Vec<u8>> {
+        if self.step()?.wanted.is_empty() {
+            self.want_other()?;
+        }
+        self.step()?.wanted.last_mut().ok_or(unread())
+    }
+
+    /// An answer: STATUS BODY.
+    fn want_answer(&mut self, text: &str) -> io::Result<()> {
+        let (status, body) = first_word(text);
+        let status = status.parse::<u16>().map_err(|_| unread())?;
+        let whole = answer(self.alloc, status, self.fields.as_str(), body)?;
+        self.fields.clear();
+        self.wanted()?.extend_from_slice(whole.as_bytes())?;
+        Ok(())
+    }
+
+    fn want_field(&mut self, text: &str) -> io::Result<()> {
+        self.fields.push_str(text)?;
+        self.fields.push_str("\r\n")?;
+        Ok(())
+    }
+
+    /// A line that says what is given or wanted.
+    fn mark(&mut self, mark: &str, text: &str) -> io::Result<()> {
+        match mark {
+            ">" => self.ask(text)?,
+            ">>" => {
+                self.add(Deed::Raw, "")?;
+                push_escaped(&mut self.step()?.head, text)?;
+            }
+            ">+" => push_escaped(&mut self.step()?.head, text)?,
+            ">*" => self.times(text)?,
+            "|" => push_line(&mut self.step()?.body, text)?,
+            "<" => self.want_answer(text)?,
+            "<+" => self.want_field(text)?,
+            "<<" => push_escaped(self.wanted()?, text)?,
+            "=" => push_line(self.wanted()?, text)?,
+            _ => return Err(unread()),
+        }
+        Ok(())
+    }
+
+    /// A line that begins with a word.
+    fn word(&mut self, word: &str, text: &str) -> io::Result<()> {
+        if let Some((_, deed)) = DEEDS.iter().find(|(name, _)| *name == word) {
+            return self.add(*deed, text);
+        }
+        match word {
+            "==" => self.begin(text)?,
+            "after" => self.go_after(text)?,
+            "at" => self.now = text.parse::<u64>().map_err(|_| unread())?,
+            "or" => self.want_other()?,
+            _ => self.mark(word, text)?,
+        }
+        Ok(())
+    }
+
+    /// Reads that line of a file.
+    pub fn line(&mut self, number: u64, line: &str) -> io::Result<()> {
+        self.line = number;
+        if line.is_empty() || (line.starts_with("#") && !line.starts_with("#! ")) {
+            return Ok(());
+        }
+        let (word, text) = first_word(line);
+        self.word(word, text)
+    }
+}

@@ -1,0 +1,244 @@
+//! Conversations over readers and writers that give and take little, or fail.
+use crate::asked::request;
+use crate::fakes::{Interrupted, Narrow, Slow};
+use crate::requests::FIRST_TYPE;
+use farm_desk::converse::converse_logged;
+use farm_desk::fault::DeskFault;
+use farm_desk::log::Log;
+use farm_keep::Keeper;
+use sqlite::{Alter, Connection};
+use std::alloc::Global;
+use std::io::{Read, Write};
+use std::process::Abort;
+use std::test::Fail;
+
+/// The answer to a command that is done and gives no number.
+pub(crate) const DONE: &[u8] =
+    b"HTTP/1.1 200 OK\r\ncontent-type: application/json\r\ncontent-length: 12\r\nconnection: close\r\n\r\n{\"number\":0}";
+
+/// The same with number 1.
+const FIRST_NUMBER: &[u8] =
+    b"HTTP/1.1 200 OK\r\ncontent-type: application/json\r\ncontent-length: 12\r\nconnection: close\r\n\r\n{\"number\":1}";
+
+/// How a conversation ends: with its status, or the number of its fault; how often the reader was
+/// called, and whether it failed.
+type End = (u16, u32, bool);
+
+/// The status, or the number of the fault.
+fn code_of(end: Result<u16, DeskFault>) -> u16 {
+    match end {
+        Ok(status) => status,
+        Err(fault) => fault.code(),
+    }
+}
+
+/// One conversation, at moment 10.
+fn talk<R: Read, W: Write, S: Alter>(
+    alloc: Global,
+    keeper: &mut Keeper<S>,
+    reader: &mut R,
+    writer: &mut W,
+) -> End {
+    let mut log = Log::new();
+    let end = converse_logged(alloc, keeper, reader, writer, 10, &mut log);
+    (code_of(end), log.reading.calls(), log.reading.has_failed())
+}
+
+/// The farm's accepted commands and its jobs; none where the keeper is closed.
+fn counts<S: Alter>(keeper: &Keeper<S>) -> Option<(u64, u64)> {
+    match keeper.farm() {
+        Some(farm) => {
+            let status = farm.status();
+            Some((status.count, status.jobs))
+        }
+        None => None,
+    }
+}
+
+/// A keeper of an empty farm; none where the store fails.
+pub(crate) fn made<S: Alter + Drop>(alloc: Global, conn: Connection<S>) -> Option<Keeper<S>> {
+    if !conn.is_autocommit() {
+        return None;
+    }
+    Keeper::fresh(alloc, conn).ok()
+}
+
+/// What the request of a reader is answered, and how the conversation ends.
+fn heard<R: Read, S: Alter>(
+    alloc: Global,
+    keeper: &mut Keeper<S>,
+    reader: &mut R,
+) -> (Vec<u8>, End) {
+    let mut output = Vec::new(alloc);
+    let end = talk(alloc, keeper, reader, &mut output);
+    (output, end)
+}
+
+/// The same by a writer that takes one byte a call and fails after so many.
+fn heard_in_part<R: Read, S: Alter>(
+    alloc: Global,
+    keeper: &mut Keeper<S>,
+    reader: &mut R,
+    room: usize,
+) -> (Vec<u8>, End) {
+    let mut output = Narrow {
+        held: Vec::new(alloc),
+        room,
+        fails: true,
+    };
+    let end = talk(alloc, keeper, reader, &mut output);
+    (output.held, end)
+}
+
+/// The farm is asked by a reader that gives no request, and isn't changed.
+fn expect_unread<R: Read, S: Alter>(
+    rt: &impl Abort,
+    alloc: Global,
+    keeper: &mut Keeper<S>,
+    reader: &mut R,
+) -> (u32, bool) {
+    let (answer, (code, calls, failed)) = heard(alloc, keeper, reader);
+    assert_eq!(rt; code, 80);
+    assert!(rt; answer.is_empty());
+    assert_eq!(rt; counts(keeper), Some((0, 0)));
+    (calls, failed)
+}
+
+/// A reader that fails at each byte in turn, and one that is interrupted for ever.
+fn readers_that_fail<S: Alter + Drop>(
+    rt: &impl Abort,
+    alloc: Global,
+    conn: Connection<S>,
+) -> Result<(), Fail> {
+    let mut keeper = made(alloc, conn).ok_or("no farm")?;
+    for left in 0..FIRST_TYPE.len() {
+        let mut once = Slow::failing(FIRST_TYPE, left, 1);
+        assert!(rt;
+            expect_unread(rt, alloc, &mut keeper, &mut once).1,
+            "at {left}"
+        );
+        let mut for_good = Slow::failing(FIRST_TYPE, left, u32::MAX);
+        assert!(rt;
+            expect_unread(rt, alloc, &mut keeper, &mut for_good).1,
+            "at {left}"
+        );
+    }
+    let end = expect_unread(rt, alloc, &mut keeper, &mut Interrupted);
+    assert_eq!(rt; end, (80_000, false));
+    Ok(())
+}
+
+#[test]
+fn reader_that_halts(rt: HostRuntime) -> Result<(), Fail> {
+    let alloc = rt.alloc();
+    readers_that_fail(&rt, alloc, Connection::open_in_memory(alloc)?)
+}
+
+/// Both the reader and the writer give and take one byte a call.
+fn bytes_one_by_one<S: Alter + Drop>(
+    rt: &impl Abort,
+    alloc: Global,
+    conn: Connection<S>,
+) -> Result<(), Fail> {
+    let mut keeper = made(alloc, conn).ok_or("no farm")?;
+    let mut input = Slow::whole(FIRST_TYPE, false);
+    let (answer, end) = heard_in_part(alloc, &mut keeper, &mut input, DONE.len());
+    assert_eq!(rt; end.0, 200);
+    assert_eq!(rt; answer.as_slice(), DONE);
+    Ok(())
+}
+
+#[test]
+fn one_byte_a_call(rt: HostRuntime) -> Result<(), Fail> {
+    let alloc = rt.alloc();
+    bytes_one_by_one(&rt, alloc, Connection::open_in_memory(alloc)?)
+}
+
+/// Hears the next request, and demands that answer and status 200.
+fn expect<R: Read, S: Alter>(
+    rt: &impl Abort,
+    alloc: Global,
+    keeper: &mut Keeper<S>,
+    reader: &mut R,
+    wanted: &[u8],
+) {
+    let (answer, end) = heard(alloc, keeper, reader);
+    assert_eq!(rt; answer.as_slice(), wanted);
+    assert_eq!(rt; end.0, 200);
+}
+
+/// A request that adds the type `bbb`, and one that looks at the types.
+const TYPE_AND_LOOK: &[u8] =
+    b"POST /types HTTP/1.1\r\nx-user: admin\r\ncontent-length: 14\r\n\r\n{\"name\":\"bbb\"}GET /types HTTP/1.1\r\n\r\n";
+
+const LOOK: &[u8] = b"GET /types HTTP/1.1\r\n\r\n";
+
+const TYPES: &[u8] =
+    b"HTTP/1.1 200 OK\r\ncontent-type: application/json\r\ncontent-length: 51\r\nconnection: close\r\n\r\n{\"types\":[{\"check\":\"none\",\"every\":0,\"name\":\"bbb\"}]}";
+
+/// A conversation takes its own request, and leaves the next one in the reader.
+fn one_after_the_other<S: Alter + Drop>(
+    rt: &impl Abort,
+    alloc: Global,
+    conn: Connection<S>,
+) -> Result<(), Fail> {
+    let mut keeper = made(alloc, conn).ok_or("no farm")?;
+    let mut input = TYPE_AND_LOOK;
+    expect(rt, alloc, &mut keeper, &mut input, DONE);
+    assert_eq!(rt; input, LOOK);
+    expect(rt, alloc, &mut keeper, &mut input, TYPES);
+    assert!(rt; input.is_empty());
+    Ok(())
+}
+
+#[test]
+fn two_requests_in_one_reader(rt: HostRuntime) -> Result<(), Fail> {
+    let alloc = rt.alloc();
+    one_after_the_other(&rt, alloc, Connection::open_in_memory(alloc)?)
+}
+
+/// Makes the type `bbb` and its Good board b1.
+fn prepare<S: Alter>(rt: &impl Abort, alloc: Global, keeper: &mut Keeper<S>) -> Result<(), Fail> {
+    let rows = [
+        ("POST /types", "{\"name\":\"bbb\"}"),
+        ("POST /boards", "{\"name\":\"b1\",\"type\":\"bbb\"}"),
+        ("POST /boards/b1/health", "{\"health\":\"Good\"}"),
+    ];
+    for (line, body) in rows {
+        let bytes = request(alloc, "admin", line, body)?;
+        expect(rt, alloc, keeper, &mut bytes.as_bytes(), DONE);
+    }
+    Ok(())
+}
+
+/// A job of ann's under the key j1.
+const KEYED_JOB: &[u8] =
+    b"POST /jobs HTTP/1.1\r\nx-user: ann\r\nx-key: j1\r\ncontent-length: 38\r\n\r\njob_name = \"boot\"\ndevice_type = \"bbb\"\n";
+
+/// A writer that fails after so many bytes: these are the answer's first, the command is done, and its
+/// repetition is answered by the kept reply.
+fn lost_after<S: Alter + Drop>(
+    rt: &impl Abort,
+    alloc: Global,
+    conn: Connection<S>,
+    room: usize,
+) -> Result<(), Fail> {
+    let mut keeper = made(alloc, conn).ok_or("no farm")?;
+    prepare(rt, alloc, &mut keeper)?;
+    let (answer, end) = heard_in_part(alloc, &mut keeper, &mut &KEYED_JOB[..], room);
+    assert_eq!(rt; end.0, 81);
+    assert!(rt; answer.len() == room && FIRST_NUMBER.starts_with(answer.as_slice()));
+    assert_eq!(rt; counts(&keeper), Some((4, 1)));
+    expect(rt, alloc, &mut keeper, &mut &KEYED_JOB[..], FIRST_NUMBER);
+    assert_eq!(rt; counts(&keeper), Some((4, 1)));
+    Ok(())
+}
+
+#[test]
+fn answer_lost(rt: HostRuntime) -> Result<(), Fail> {
+    let alloc = rt.alloc();
+    for room in 0..FIRST_NUMBER.len() {
+        lost_after(&rt, alloc, Connection::open_in_memory(alloc)?, room)?;
+    }
+    Ok(())
+}

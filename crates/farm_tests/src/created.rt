@@ -1,0 +1,168 @@
+//! The making of the tables, stopped at each call of each of the two files of a store.
+use crate::stores::make;
+use farm_core::farm::Farm;
+use farm_keep::{KeepFault, found};
+use farm_store::StoreFault;
+use sqlite::{Alter, Connection, FileStore, Files, Options};
+use sqlite_disk::{Crash, Disk, Fuse, Memory};
+use std::alloc::{AllocError, Global};
+use std::test::Fail;
+
+/// More calls than the making of the tables needs.
+const MANY: u64 = 10_000;
+
+/// A store in two files, with a small cache, and a log that is soon copied into the tables' file; none
+/// where a file fails.
+pub(crate) fn opened<D: Disk + Drop>(
+    alloc: Global,
+    files: Files<D>,
+) -> Option<Connection<FileStore<D>>> {
+    if !files.may_be_used() {
+        return None;
+    }
+    let options = Options {
+        cache_pages: 64,
+        spill_pages: 64,
+        checkpoint_frames: 8,
+        seed: 200,
+    };
+    Connection::open_files(alloc, files, options).ok()
+}
+
+/// The farm whose tables are there.
+fn find<S: Alter>(alloc: Global, conn: &mut Connection<S>) -> Result<Farm, KeepFault> {
+    if !conn.is_autocommit() {
+        return Err(KeepFault::Closed);
+    }
+    found(alloc, conn)
+}
+
+/// A farm in words, all that it holds among them.
+fn in_words(alloc: Global, farm: &Farm) -> Result<String, AllocError> {
+    format!(in alloc; "{farm:?}")
+}
+
+/// Whether a farm is empty; false where memory is refused.
+fn is_empty(alloc: Global, farm: &Farm) -> bool {
+    match (in_words(alloc, farm), in_words(alloc, &Farm::empty(alloc))) {
+        (Ok(words), Ok(wanted)) => words == wanted,
+        _ => false,
+    }
+}
+
+/// Whether the tables of the empty farm are found, and can't be made again. Where there are none, they
+/// can be made. None where it is otherwise.
+fn is_found<S: Alter>(alloc: Global, conn: &mut Connection<S>) -> Option<bool> {
+    match find(alloc, conn) {
+        Ok(farm) => {
+            let stands = is_empty(alloc, &farm) && make(conn) == Err(StoreFault::Store);
+            stands.then_some(true)
+        }
+        Err(KeepFault::Store) => make(conn).is_ok().then_some(false),
+        Err(_) => None,
+    }
+}
+
+/// Whether the tables are made, or found.
+fn made_or_found<S: Alter>(alloc: Global, conn: &mut Connection<S>, makes: bool) -> Option<bool> {
+    if makes {
+        Some(make(conn).is_ok())
+    } else {
+        is_found(alloc, conn)
+    }
+}
+
+/// Whether a call of the file has failed or would fail now.
+fn is_blown<D: Disk>(file: &mut D) -> bool {
+    !file.may_be_used() || file.len().is_err()
+}
+
+/// What a store's files are after a crash, and whether one was stopped.
+fn crashed<D: Disk + Crash>(store: FileStore<D>) -> (Files<D>, bool) {
+    let Files { mut log, mut db } = store.close();
+    let was_stopped = is_blown(&mut log) || is_blown(&mut db);
+    log.crash();
+    db.crash();
+    (Files { log, db }, was_stopped)
+}
+
+/// What a store of these files gives: where they are to be made, whether the tables were made, and else
+/// whether they are found; what files are left after a crash, and whether one was stopped. None where a
+/// stop came before the store was open.
+fn used<D: Disk + Crash + Drop>(
+    alloc: Global,
+    files: Files<D>,
+    makes: bool,
+) -> Option<(Option<bool>, Files<D>, bool)> {
+    let mut conn = opened(alloc, files)?;
+    let end = made_or_found(alloc, &mut conn, makes);
+    let (files, was_stopped) = crashed(conn.into_store());
+    Some((end, files, was_stopped))
+}
+
+/// A new file that is stopped after so many calls.
+pub(crate) fn stopping(alloc: Global, calls: u64) -> Fuse<Memory> {
+    Fuse::new(Memory::new(alloc), calls)
+}
+
+/// New files, of which one is stopped after so many calls: the log, or that of the tables.
+fn files(alloc: Global, is_log: bool, calls: u64) -> Files<Fuse<Memory>> {
+    let (log, db) = if is_log {
+        (calls, u64::MAX)
+    } else {
+        (u64::MAX, calls)
+    };
+    let (log, db) = (stopping(alloc, log), stopping(alloc, db));
+    Files { log, db }
+}
+
+/// How a making of the tables ends.
+enum End {
+    Whole,
+    Stopped,
+    Wrong,
+}
+
+/// The end of a making, by whether the tables were made, are found, and a file was stopped.
+fn end_of(made: bool, found: bool, was_stopped: bool) -> End {
+    match (made, found, was_stopped) {
+        (true, true, false) => End::Whole,
+        (true, true, true) | (false, _, true) => End::Stopped,
+        _ => End::Wrong,
+    }
+}
+
+/// Whether the tables are found when the files are opened again.
+fn is_found_in<D: Disk + Crash + Drop>(alloc: Global, files: Files<D>) -> Option<bool> {
+    let (found, _left, _was_stopped) = used(alloc, files, false)?;
+    found
+}
+
+/// The making of the tables where one file stops after so many calls.
+fn stopped_at(alloc: Global, is_log: bool, calls: u64) -> End {
+    let Some((made, left, was_stopped)) = used(alloc, files(alloc, is_log, calls), true) else {
+        return End::Stopped;
+    };
+    match (made, is_found_in(alloc, left)) {
+        (Some(made), Some(found)) => end_of(made, found, was_stopped),
+        _ => End::Wrong,
+    }
+}
+
+/// Stops the making of the tables at each call of one file, until a run meets no stop.
+fn stop_create(alloc: Global, is_log: bool) -> Result<(), Fail> {
+    for calls in 0..MANY {
+        match stopped_at(alloc, is_log, calls) {
+            End::Whole => return Ok(()),
+            End::Stopped => {}
+            End::Wrong => return Err(Fail::new(calls)),
+        }
+    }
+    Err(Fail::new("every run was stopped"))
+}
+
+#[test]
+fn create_stopped_at_each_call(rt: HostRuntime) -> Result<(), Fail> {
+    stop_create(rt.alloc(), true)?;
+    stop_create(rt.alloc(), false)
+}

@@ -1,0 +1,91 @@
+//! Rows that are made by hand.
+use farm_types::calls::Rows;
+use farm_types::fault::WordFault;
+use farm_types::priority::Priority;
+use farm_types::rows::{
+    BoardRow, Check, Health, Holder, JobRow, JobState, MetaRow, State, TypeRow, Want,
+};
+use farm_types::tags::Tags;
+use farm_types::words::{Body, Name};
+use std::alloc::Global;
+
+pub(crate) fn name(alloc: Global, text: &str) -> Result<Name, WordFault> {
+    Name::parse(alloc, text.as_bytes())
+}
+
+/// Tags of their canonical text.
+pub(crate) fn tags(alloc: Global, text: &str) -> Result<Tags, WordFault> {
+    Tags::parse(alloc, text.as_bytes())
+}
+
+/// A device type.
+pub(crate) fn type_row(alloc: Global, called: &str, check: Check) -> Result<TypeRow, WordFault> {
+    let name = name(alloc, called)?;
+    Ok(TypeRow { name, check })
+}
+
+/// A Good board of type `bbb` that nobody holds.
+pub(crate) fn board(alloc: Global, called: &str, texts: &str) -> Result<BoardRow, WordFault> {
+    let name = name(alloc, called)?;
+    let kind = Name::parse(alloc, b"bbb")?;
+    let tags = tags(alloc, texts)?;
+    Ok(BoardRow {
+        name,
+        kind,
+        tags,
+        health: Health::Good,
+        state: State::Idle,
+        holder: Holder::Nobody,
+        jobs_since: 0,
+        last_check: 0,
+    })
+}
+
+/// A want of type `bbb`.
+pub(crate) fn want(alloc: Global, texts: &str) -> Result<Want, WordFault> {
+    let kind = Some(name(alloc, "bbb")?);
+    let tags = tags(alloc, texts)?;
+    Ok(Want { kind, tags })
+}
+
+/// An ordinary job of ann's for any board of type `bbb`.
+pub(crate) fn job(
+    alloc: Global,
+    number: u64,
+    group: u64,
+    priority: Priority,
+    state: JobState,
+) -> Result<JobRow, WordFault> {
+    let owner = name(alloc, "ann")?;
+    let want = want(alloc, "")?;
+    Ok(JobRow {
+        number,
+        group,
+        checking: false,
+        owner,
+        priority,
+        want,
+        role: None,
+        state,
+        outcome: None,
+        board: None,
+        body: Body::none(alloc),
+    })
+}
+
+/// A farm without rows.
+pub(crate) fn no_rows(alloc: Global, next: u64) -> Rows {
+    let meta = MetaRow {
+        clock: 20,
+        count: 0,
+        next,
+    };
+    Rows {
+        types: Vec::new(alloc),
+        boards: Vec::new(alloc),
+        jobs: Vec::new(alloc),
+        reservations: Vec::new(alloc),
+        kept: Vec::new(alloc),
+        meta,
+    }
+}

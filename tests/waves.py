@@ -1,0 +1,241 @@
+#!/usr/bin/env python3
+"""waves.py [CRATE ..]: tries the wrong bodies crates/NAME/wrong/*.edit, many in one check.
+
+An edit has the form of a must-fail edit of rt ci: a line 'file: src/..', then pairs of lines 'old: TEXT' and
+'new: TEXT', each old text once in the file. All of an edit lies in one function. rt ci checks a crate once for
+each edit in must-fail/. Here a copy of the crate gets many edits at once, at most one a function, and the check
+reads only the edited functions and what they call: that is a wave. Two edits of one function go into two waves.
+
+An edit is refused where its function is not proved and an error stands at the function's own lines or in its own
+proof files. What calls an edited function stays unproved too, but has no error of its own, so no edit passes for
+the sake of another.
+
+The libraries below are those that rt ci left in crates/*/out, where nothing has changed since, or those of other
+commands of rt; what is missing is built. The last lines are the processor time and 'N passed, M failed'; the
+status is 1 where one failed.
+"""
+import os
+import re
+import resource
+import signal
+import sys
+import tempfile
+from typing import NamedTuple
+
+sys.dont_write_bytecode = True
+from functions import Function, functions_of, modules_of_types, sources_of
+from toolchain import load_rt
+
+
+rt = load_rt()
+
+
+class BadEdit(Exception):
+    """An edit that cannot be tried, and why."""
+
+
+class Edit(NamedTuple):
+    """A wrong body: its name, the function that it changes, and its new lines by file and number."""
+
+    name: str
+    function: Function
+    lines: dict
+
+
+# --- edits and waves ---
+
+
+def read_edit(crate, file, sources):
+    """Returns the edit that a file says, or raises BadEdit."""
+    if not file.endswith(".edit"):
+        raise BadEdit("an edit's name ends in .edit")
+    texts, why = rt.read_edit(file, crate.folder)
+    if why:
+        raise BadEdit(why)
+    lines, touched = {}, set()
+    for path, text in texts.items():
+        if path not in sources:
+            raise BadEdit(f"{path} is no source file")
+        functions = functions_of(crate.name, path, sources[path], modules_of_types(sources))
+        # (an edit's texts are single lines, so the edited file has as many lines as before)
+        for at, (old, new) in enumerate(zip(sources[path].split("\n"), text.split("\n")), 1):
+            if old != new:
+                lines[path, at] = new
+                touched.add(next((it for it in reversed(functions) if it.has(path, at)), None))
+    if len(touched) != 1 or None in touched:
+        raise BadEdit("what it changes is not the text of one function")
+    return Edit(os.path.basename(file).removesuffix(".edit"), touched.pop(), lines)
+
+
+def waves_of(edits):
+    """Returns the edits in as few waves as can be with at most one edit a function in each."""
+    waves = []
+    for edit in edits:
+        wave = next((it for it in waves if all(edit.function != other.function for other in it)), None)
+        if wave is None:
+            waves.append([edit])
+        else:
+            wave.append(edit)
+    return waves
+
+
+def edited(sources, wave):
+    """Returns the texts of the files that a wave changes."""
+    lines = {}
+    for edit in wave:
+        for (path, at), line in edit.lines.items():
+            lines.setdefault(path, sources[path].split("\n"))[at - 1] = line
+    return {path: "\n".join(it) for path, it in lines.items()}
+
+
+# --- what the prover says of a wave ---
+
+PLACE = re.compile(r"(?:note: )?(?:\./)?((?:src|proofs)/\S+?):(\d+):\d+: (.*)")
+# What only tells that a proof names something that the edit took away, or that another's proof is missing.
+NAMES = re.compile(r"has no field|is not in scope|has no `")
+CITES = re.compile(r"was not admitted")
+
+
+def errors_in(function, lines):
+    """Returns the lines that refuse something at the function's place."""
+    found = []
+    for line in lines:
+        at = PLACE.match(line)
+        is_error = at and (" error: " in f" {at[3]}" or "it is not proved" in at[3])
+        if is_error and function.has(at[1], int(at[2])) and not CITES.search(line):
+            found.append(line)
+    return found
+
+
+def judge(edit, lines, changed):
+    """Returns whether the check whose lines these are refused the edit, and what to say."""
+    own = errors_in(edit.function, lines)
+    bad = next((it for it in own if rt.unread(it, changed)), "")
+    if bad:
+        return False, f"BAD EDIT: the prover cannot read the edited text, so no contract was tried: {bad[:200]}"
+    if not re.match(r"only=\d+ proved=\d+$", lines[-1]):
+        first = next((it for it in lines if "error" in it), lines[0])
+        return False, f"BAD EDIT: the check of its wave ended without a verdict: {(own or [first])[0][:300]}"
+    stands = [it for it in lines if it.startswith(f"fn {edit.function.name}: ")]
+    if not stands:
+        return False, f"BAD EDIT: the prover names no function {edit.function.name}"
+    if not own or stands[0].endswith(": proved"):
+        return False, f"NOT REFUSED: {edit.function.name} has no error of its own with this edit"
+    first = next((it for it in own if not NAMES.search(it)), "")
+    if not first:
+        why = "only because a proof file names what the edit took away, so this says little"
+        return True, f"refused ({why}: change a value and keep the names): {own[0][:160]}"
+    return True, f"refused: {first[:160]}"
+
+
+def try_wave(crate, wave, sources, kept):
+    """Checks the crate's copy with a wave's edits, and returns for each whether it was refused and what to say."""
+    only = [word for edit in wave for word in ("--only", edit.function.name)]
+    texts = edited(sources, wave)
+    ran = rt.checked(crate, texts, ["--jobs", "1", *only], kept)
+    if ran.returncode == -signal.SIGKILL:
+        # (most likely for memory)
+        ran = rt.checked(crate, texts, ["--jobs", "1", *only], kept)
+    lines = [it for it in ran.stdout.split("\n") if it.strip()] or ["it said nothing"]
+    if rt.rtlib.STALE.search(ran.stdout):
+        lines = ["error: the kept work of a library could not be used"]
+    return [(f"{crate.name}/{edit.name}", *judge(edit, lines, texts)) for edit in wave]
+
+
+def edit_files(crate):
+    """Returns the files of a crate's edits."""
+    folder = f"{crate.folder}/wrong"
+    return [f"{folder}/{it}" for it in sorted(os.listdir(folder))] if os.path.isdir(folder) else []
+
+
+def try_edits(crate):
+    """Tries all edits of a crate, says of each what came of it, and returns whether each was refused."""
+    sources, edits, told = sources_of(crate.folder), [], []
+    for file in edit_files(crate):
+        try:
+            edits.append(read_edit(crate, file, sources))
+        except BadEdit as why:
+            told.append((f"{crate.name}/{os.path.basename(file)}", False, f"BAD EDIT: {why}"))
+    waves = waves_of(edits)
+    # (further waves take what the first checked of the functions that they leave alone)
+    with tempfile.TemporaryDirectory(prefix="waves-") as kept:
+        for wave in waves:
+            told += try_wave(crate, wave, sources, kept if len(waves) > 1 else None)
+    return tell(told)
+
+
+def tell(told):
+    """Prints what came of a crate's edits, and returns whether each was refused."""
+    # (one call, since crates end side by side)
+    print("".join(f"{name}: {text}\n" for name, _, text in told), end="", flush=True)
+    return [is_refused for _, is_refused, _ in told]
+
+
+# --- the libraries below ---
+
+
+def libraries_of(crates):
+    """Returns the repository's libraries below these crates, each after those that it uses."""
+    return list(dict.fromkeys(it for crate in crates for it in crate.below()))
+
+
+def changed_at(library):
+    """Returns when the newest of a library's files was written."""
+    return max(os.path.getmtime(it) for it in rt.rtlib.files_of(library.folder))
+
+
+def is_of_one_run(libraries):
+    """Returns whether one rt ci left the rlibs of all these libraries, and nothing has changed since."""
+    made = {}
+    for it in libraries:
+        if not os.path.isdir(it.rlib) or os.path.exists(f"{os.path.dirname(it.rlib)}/stamp"):
+            return False
+        made[it.name] = os.path.getmtime(it.rlib)
+        if made[it.name] < max([changed_at(it), *(made[dep.name] for dep in it.deps)]):
+            return False
+    return True
+
+
+def tasks_of(crates):
+    """Returns the tasks that try the crates' edits, and before them those that build what is missing below."""
+    libraries = libraries_of(crates)
+    stand, tasks = is_of_one_run(libraries), {}
+    for it in libraries:
+        waits = [(dep.name, "library") for dep in it.below()]
+
+        def build(given, jobs, it=it, waits=waits):
+            is_well = all(given[key] for key in waits)
+            return is_well and (stand or not it.build_rlib(["--jobs", str(jobs)], anew=False))
+
+        tasks[it.name, "library"] = (waits, it.count(rb"\n"), rt.need(it), build)
+    for it in crates:
+        waits = [(dep.name, "library") for dep in it.below()]
+
+        def tried(given, _jobs, it=it, waits=waits):
+            if all(given[key] for key in waits):
+                return try_edits(it)
+            return tell([(it.name, False, "a library below was not built")])
+
+        tasks[it.name, "edits"] = (waits, it.count(rb"\n"), rt.need(it), tried)
+    return tasks
+
+
+def main(names):
+    os.environ.pop(rt.rtlib.ALLOW_C, None)
+    crates = [it for it in rt.rtlib.crates_below(os.getcwd()) if edit_files(it) and (not names or it.name in names)]
+    lost = {*names} - {it.name for it in crates}
+    if lost or not crates:
+        sys.exit(f"waves.py: no folder crates/NAME/wrong here for {', '.join(sorted(lost)) or 'any crate'}")
+    held = rt.rtlib.lock([*crates, *libraries_of(crates)])
+    given = rt.in_lanes(tasks_of(crates))
+    for it in held:
+        os.close(it)
+    refused = [it for crate in crates for it in given[crate.name, "edits"]]
+    used = resource.getrusage(resource.RUSAGE_CHILDREN)
+    print(f"wrong bodies: {(used.ru_utime + used.ru_stime) / 60:.1f} processor minutes")
+    print(f"{refused.count(True)} passed, {refused.count(False)} failed")
+    return 0 if all(refused) else 1
+
+
+if __name__ == "__main__":
+    sys.exit(main(sys.argv[1:]))
