@@ -14,7 +14,7 @@ pub fn type_at(rows: &[TypeRow], name: &Name) -> Result<usize, usize>
     requires { IsStrictlySortedBy type_cmp rows.now }
     ensures { IsPlace type_cmp (λ r. r.name ≡ name.now) rows.now (type_in rows.now name.now) result }
 {
-    rows.binary_search_by(|row| row.name.order(name))
+    rows.binary_search_by(|kind| kind.name.order(name))
 }
 
 /// The type with that name, if there is one.
@@ -33,7 +33,7 @@ pub fn board_at(rows: &[BoardRow], name: &Name) -> Result<usize, usize>
     requires { IsStrictlySortedBy board_cmp rows.now }
     ensures { IsPlace board_cmp (λ r. r.name ≡ name.now) rows.now (board_in rows.now name.now) result }
 {
-    rows.binary_search_by(|row| row.name.order(name))
+    rows.binary_search_by(|board| board.name.order(name))
 }
 
 /// The board with that name, if there is one.
@@ -52,7 +52,7 @@ pub fn job_at(rows: &[JobRow], number: u64) -> Result<usize, usize>
     requires { IsStrictlySortedBy job_cmp rows.now }
     ensures { IsPlace job_cmp (λ r. r.number ≡ number) rows.now (job_in rows.now number) result }
 {
-    rows.binary_search_by(|row| row.number.cmp(&number))
+    rows.binary_search_by(|job| job.number.cmp(&number))
 }
 
 /// The job with that number, if there is one.
@@ -71,7 +71,7 @@ pub fn res_at(rows: &[ResRow], number: u64) -> Result<usize, usize>
     requires { IsStrictlySortedBy res_cmp rows.now }
     ensures { IsPlace res_cmp (λ r. r.number ≡ number) rows.now (res_in rows.now number) result }
 {
-    rows.binary_search_by(|row| row.number.cmp(&number))
+    rows.binary_search_by(|reservation| reservation.number.cmp(&number))
 }
 
 /// The reservation with that number, if there is one.
