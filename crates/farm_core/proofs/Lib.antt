@@ -4,6 +4,7 @@ pub mod Upto
 pub mod Edited
 pub mod Windows
 pub mod Tabled
+pub mod Puts
 pub mod EditLemmas
 pub mod JobLemmas
 pub mod AcceptedCalls

@@ -11,15 +11,11 @@ use Rattle.farm_types.specs.Proper.{is_frequency, is_proper_cmd}
 use Rattle.farm_types.specs.declared.calls.Cmd.{Cmd}
 use Rattle.farm_types.specs.declared.calls.Call.{Call}
 use Rattle.farm_types.specs.declared.rows.Check.{Check}
-use Rattle.farm_types.specs.Table.{put, type_cmp, board_cmp, job_cmp, res_cmp}
-use Rattle.farm_types.specs.Small.{IsSmall, every_of, IsSmallType, IsSmallBoard, IsSmallJob, IsSmallRes, IsSmallKept}
-use Rattle.farm_types.specs.declared.rows.TypeRow.{TypeRow}
+use Rattle.farm_types.specs.Table.{put}
+use Rattle.farm_types.specs.Small.{IsSmall, every_of, IsSmallBoard, IsSmallKept}
 use Rattle.farm_types.specs.declared.rows.BoardRow.{BoardRow}
 use Rattle.farm_types.specs.declared.rows.KeptRow.{KeptRow}
-use Rattle.farm_types.specs.declared.rows.JobRow.{JobRow}
 use Rattle.farm_types.specs.declared.rows.Want.{Want}
-use Rattle.farm_types.specs.declared.rows.ResRow.{ResRow}
-use Rattle.farm_core.specs.Orderly.{IsNear}
 
 pub all_put : {R : Type 0} (P : R → Type 0) (cmp : R → R → Ordering) (row : R) → P row → (rows : List R) → AllByRecursion P rows → AllByRecursion P (put cmp rows row)
 all_put P cmp row here [] all = (here, tt)
@@ -38,35 +34,8 @@ pub all_join : {R : Type 0} (P : R → Type 0) (rows more : List R) → AllByRec
 all_join P [] more all each = each
 all_join P (r ∷ rows) more all each = (all.0, all_join P rows more all.1 each)
 
-pub small_types_push : (rows : List TypeRow) (row : TypeRow) → IsSmallType row → AllByRecursion IsSmallType rows → AllByRecursion IsSmallType (rows ++ (row ∷ []))
-small_types_push rows row here all = all_push IsSmallType row here rows all
-
-pub small_boards_push : (rows : List BoardRow) (row : BoardRow) → IsSmallBoard row → AllByRecursion IsSmallBoard rows → AllByRecursion IsSmallBoard (rows ++ (row ∷ []))
-small_boards_push rows row here all = all_push IsSmallBoard row here rows all
-
-pub small_jobs_put : (rows : List JobRow) (row : JobRow) → IsSmallJob row → AllByRecursion IsSmallJob rows → AllByRecursion IsSmallJob (put job_cmp rows row)
-small_jobs_put rows row here all = all_put IsSmallJob job_cmp row here rows all
-
-pub near_put : (rows : List JobRow) (row : JobRow) → IsNear row → AllByRecursion IsNear rows → AllByRecursion IsNear (put job_cmp rows row)
-near_put rows row here all = all_put IsNear job_cmp row here rows all
-
-pub small_jobs_push : (rows : List JobRow) (row : JobRow) → IsSmallJob row → AllByRecursion IsSmallJob rows → AllByRecursion IsSmallJob (rows ++ (row ∷ []))
-small_jobs_push rows row here all = all_push IsSmallJob row here rows all
-
-pub small_res_put : (rows : List ResRow) (row : ResRow) → IsSmallRes row → AllByRecursion IsSmallRes rows → AllByRecursion IsSmallRes (put res_cmp rows row)
-small_res_put rows row here all = all_put IsSmallRes res_cmp row here rows all
-
-pub small_res_push : (rows : List ResRow) (row : ResRow) → IsSmallRes row → AllByRecursion IsSmallRes rows → AllByRecursion IsSmallRes (rows ++ (row ∷ []))
-small_res_push rows row here all = all_push IsSmallRes row here rows all
-
 pub small_kept_push : (rows : List KeptRow) (row : KeptRow) → IsSmallKept row → AllByRecursion IsSmallKept rows → AllByRecursion IsSmallKept (rows ++ (row ∷ []))
 small_kept_push rows row here all = all_push IsSmallKept row here rows all
-
-pub small_types_put : (rows : List TypeRow) (row : TypeRow) → IsSmallType row → AllByRecursion IsSmallType rows → AllByRecursion IsSmallType (put type_cmp rows row)
-small_types_put rows row here all = all_put IsSmallType type_cmp row here rows all
-
-pub small_boards_put : (rows : List BoardRow) (row : BoardRow) → IsSmallBoard row → AllByRecursion IsSmallBoard rows → AllByRecursion IsSmallBoard (put board_cmp rows row)
-small_boards_put rows row here all = all_put IsSmallBoard board_cmp row here rows all
 
 -- what holds of each row holds of the one that is found
 pub found_has : {R : Type 0} (P : R → Type 0) (test : R → Bool) (b : R) → (rows : List R) → AllByRecursion P rows → find test rows ≡ Some b → P b

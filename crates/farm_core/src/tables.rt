@@ -95,7 +95,6 @@ impl Tables {
     }
 
     /// Puts a type.
-    #[tactic(auto, using(crate::proofs::Small::small_types_put, crate::proofs::Small::small_types_push))]
     pub fn put_type(&mut self, changes: &mut Changes, row: TypeRow) -> Result<(), AllocError>
         requires orderly { IsOrderly (plain self.old) }
         requires small { IsSmallType row }
@@ -109,7 +108,6 @@ impl Tables {
     }
 
     /// Puts a board.
-    #[tactic(auto, using(crate::proofs::Small::small_boards_put, crate::proofs::Small::small_boards_push))]
     pub fn put_board(&mut self, changes: &mut Changes, row: BoardRow) -> Result<(), AllocError>
         requires orderly { IsOrderly (plain self.old) }
         requires small { IsSmallBoard row }
@@ -123,7 +121,6 @@ impl Tables {
     }
 
     /// Puts a job. A row with the next number is added at the end, and moves none.
-    #[tactic(auto, using(crate::proofs::Small::small_jobs_put, crate::proofs::Small::near_put, crate::proofs::Small::small_jobs_push))]
     pub fn put_job(&mut self, changes: &mut Changes, row: JobRow) -> Result<(), AllocError>
         requires orderly { IsOrderly (plain self.old) }
         requires small { IsSmallJob row }
@@ -138,7 +135,6 @@ impl Tables {
     }
 
     /// Puts a reservation. A row with the next number is added at the end, and moves none.
-    #[tactic(auto, using(crate::proofs::Small::small_res_put, crate::proofs::Small::small_res_push))]
     pub fn put_reservation(&mut self, changes: &mut Changes, row: ResRow) -> Result<(), AllocError>
         requires orderly { IsOrderly (plain self.old) }
         requires small { IsSmallRes row }
