@@ -1,9 +1,10 @@
 //! A whole change: the clock moves, the command acts, its reply is kept, and it is counted.
-ghost use Rattle.std.specs.Prelude.{◌≡◌, ◌≤◌, None, OnOk, IfOk};
+ghost use Rattle.std.specs.Prelude.{◌≡◌, ◌≢◌, ◌≤◌, None, OnOk, IfOk};
 ghost use Rattle.farm_types.specs.Farm.{Farm, put_rows};
 ghost use Rattle.farm_types.specs.Refuse.{refusal};
-ghost use Rattle.farm_types.specs.Change.{act, keep, change};
+ghost use Rattle.farm_types.specs.Change.{act, done, keep, change};
 ghost use Rattle.farm_types.specs.Sound.{IsSound};
+ghost use Rattle.farm_types.specs.declared.calls.Cmd.{Cmd};
 ghost use Rattle.farm_core.specs.Plain.{plain};
 ghost use Rattle.farm_core.specs.Orderly.{IsOrderly};
 ghost use Rattle.farm_core.specs.Calls.{IsSmallCmd};
@@ -28,27 +29,42 @@ impl Tables {
         ensures tracked { OnOk result ((F : Farm) → Tracks F changes.old (plain self.old)
             → Tracks F changes.new (plain self.new)) }
     {
-        let number = match &call.cmd {
-            Cmd::AddType(name, check) => self.add_type(changes, name, *check)?,
-            Cmd::AddBoard(name, kind, tags) => self.add_board(changes, name, kind, tags)?,
-            Cmd::SetTags(name, tags) => self.set_tags(changes, name, tags)?,
-            Cmd::SetHealth(name, health) => self.set_health(changes, name, *health)?,
+        match &call.cmd {
+            Cmd::Pass => self.pass(changes),
+            _ => Ok(Reply(self.act_numbered(changes, call)?, 0, 0)),
+        }
+    }
+
+    /// What a command other than a pass does. Gives the number of its reply.
+    fn act_numbered(&mut self, changes: &mut Changes, call: &Call) -> Result<u64, AllocError>
+        requires numbered { call.now.cmd ≢ Cmd.Pass }
+        requires orderly { IsOrderly (plain self.old) }
+        requires small { IsSmallCmd call.now.cmd }
+        requires clock { (plain self.old).clock ≤ 250000000000 }
+        requires next { (plain self.old).next ≤ 1000000000 }
+        ensures acts { IfOk result (λ n. act (plain self.old) call.entry.now.caller call.entry.now.cmd ≡ done n (plain self.new)) }
+        ensures orderly { OnOk result (IsOrderly (plain self.new)) }
+        ensures tracked { OnOk result ((F : Farm) → Tracks F changes.old (plain self.old)
+            → Tracks F changes.new (plain self.new)) }
+    {
+        match &call.cmd {
+            Cmd::AddType(name, check) => self.add_type(changes, name, *check),
+            Cmd::AddBoard(name, kind, tags) => self.add_board(changes, name, kind, tags),
+            Cmd::SetTags(name, tags) => self.set_tags(changes, name, tags),
+            Cmd::SetHealth(name, health) => self.set_health(changes, name, *health),
             Cmd::Submit(priority, wants, roles, body) => {
-                self.submit(changes, &call.caller, *priority, wants, roles, body)?
+                self.submit(changes, &call.caller, *priority, wants, roles, body)
             }
-            Cmd::Reserve(priority, tags) => {
-                self.reserve(changes, &call.caller, *priority, tags)?
-            }
-            Cmd::Cancel(number) => self.cancel(changes, *number)?,
-            Cmd::Start(number) => self.start(changes, *number)?,
-            Cmd::Finish(number, outcome) => self.finish(changes, *number, *outcome)?,
-            Cmd::Acquire(number) => self.acquire(changes, *number)?,
-            Cmd::Release(number) => self.release(changes, *number)?,
-            Cmd::Refresh(number) => self.refresh(changes, *number)?,
-            Cmd::CancelRes(number) => self.cancel_reservation(changes, *number)?,
-            Cmd::Pass => return self.pass(changes),
-        };
-        Ok(Reply(number, 0, 0))
+            Cmd::Reserve(priority, tags) => self.reserve(changes, &call.caller, *priority, tags),
+            Cmd::Cancel(number) => self.cancel(changes, *number),
+            Cmd::Start(number) => self.start(changes, *number),
+            Cmd::Finish(number, outcome) => self.finish(changes, *number, *outcome),
+            Cmd::Acquire(number) => self.acquire(changes, *number),
+            Cmd::Release(number) => self.release(changes, *number),
+            Cmd::Refresh(number) => self.refresh(changes, *number),
+            Cmd::CancelRes(number) => self.cancel_reservation(changes, *number),
+            Cmd::Pass => unreachable!(),
+        }
     }
 
     /// Keeps the reply under the call's key, if it has one.
