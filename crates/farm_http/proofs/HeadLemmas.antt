@@ -1,6 +1,6 @@
 -- Heads end in a line feed, so the first prefix that is one ends with its last line.
-use Rattle.std.proofs.Common.{◌≡◌, ◌≢◌, ℕ, ◌+◌, ◌-◌, ◌<◌, ◌≤◌, min, List, [], ◌∷◌, ◌++◌, length, get_or, take, drop, refl, sym, ap, subst, ◌∙◌, append_assoc, append-nil, arith, suc, length-append, below_more}
-use Rattle.std.proofs.lemmas.List.{take-append-le, length-take, length-map}
+use Rattle.std.proofs.Common.{◌≡◌, ◌≢◌, ℕ, ◌+◌, ◌-◌, ◌<◌, ◌≤◌, min, List, [], ◌∷◌, ◌++◌, length, get_or, take, drop, refl, sym, ap, subst, ◌∙◌, append_assoc, append-nil, arith, suc, length-append, below_more, Some, None, inl}
+use Rattle.std.proofs.lemmas.List.{take-append-le, take_more, length-take, length-map}
 use Rattle.std.proofs.Math.ListN.{get_or-append}
 use Rattle.std.proofs.Math.Seq.{get_or-append_seam, take-append_seam}
 use Rattle.httparse.specs.Grammar.{RequestHead, ReadsRequest, LineEnd, crlf, lf, print_end, print_request}
@@ -8,8 +8,11 @@ use Rattle.httparse.specs.Spans.{IsRequestOf, header_bytes, name_and_value}
 use Rattle.httparse.specs.declared.spans.HeaderSpan.{HeaderSpan}
 use Rattle.httparse.specs.declared.spans.RequestSpans.{RequestSpans}
 use Rattle.farm_http.specs.Heads.{IsHead, IsOpen, OpenBelow}
+use Rattle.farm_http.specs.Faults.{BodyFails, HeadFails}
+use Rattle.farm_http.specs.declared.fault.WireFault.{WireFault}
+use Rattle.farm_http.specs.declared.fault.WireFault.TheVariants.{NoMemory, Read, Write, Refused}
 use Rattle.std.specs.Prelude.{Option}
-use Rattle.std.specs.Io.KnownBytes.{Consumes}
+use Rattle.std.specs.Io.KnownBytes.{Consumes, Keeps}
 use Rattle.std.proofs.KnownBytes.{Consumes-trans}
 use Rattle.std.proofs.Math.Seq.{take-length}
 
@@ -65,14 +68,27 @@ pub open_push : (bytes : List ℕ) (b : ℕ) → OpenBelow (length bytes) bytes 
 open_push bytes b o i below at =
     subst IsOpen (sym (take-append-le (i + 1) bytes (b ∷ []) (omega arith))) (o i below (sym (get_or-append bytes (b ∷ []) 0 i below) ∙ at))
 
+-- they are all its lines but the last
+pub open_pushed : (bytes all : List ℕ) (b : ℕ) → all ≡ bytes ++ b ∷ [] → OpenBelow (length bytes) bytes → OpenBelow (length all - 1) all
+open_pushed bytes all b is o =
+    let long : length all ≡ length bytes + 1 = ap length is ∙ length-append bytes (b ∷ []) in
+    let before : length bytes ≡ length all - 1 = omega (arith, long) in
+    subst (λ n. OpenBelow n all) before (subst (OpenBelow (length bytes)) (sym is) (open_push bytes b o))
+
 -- one more line that is open, or one more byte of a line
-pub open_more : (bytes : List ℕ) (b : ℕ) → OpenBelow (length bytes) bytes → (b ≡ 10 → IsOpen (bytes ++ b ∷ [])) → OpenBelow (length (bytes ++ b ∷ [])) (bytes ++ b ∷ [])
-open_more bytes b o last =
-    let all = bytes ++ b ∷ [] in
-    let long : length all ≡ length bytes + 1 = length-append bytes (b ∷ []) in
-    let whole : take (length bytes + 1) all ≡ all = ap (λ n. take n all) (sym long) ∙ take-length all in
-    subst (λ n. OpenBelow n all) (sym long) (below_more (λ i. get_or all i 0 ≡ 10 → IsOpen (take (i + 1) all)) (length bytes) (open_push bytes b o)
-    (λ at. subst IsOpen (sym whole) (last (sym (get_or-append_seam bytes b [] 0) ∙ at))))
+pub open_more : (bytes : List ℕ) → 0 < length bytes → OpenBelow (length bytes - 1) bytes → (get_or bytes (length bytes - 1) 0 ≡ 10 → IsOpen bytes) → OpenBelow (length bytes) bytes
+open_more bytes some o last =
+    let long : length bytes - 1 + 1 ≡ length bytes = omega arith in
+    let whole : take (length bytes - 1 + 1) bytes ≡ bytes = ap (λ n. take n bytes) long ∙ take-length bytes in
+    subst (λ n. OpenBelow n bytes) long (below_more (λ i. get_or bytes i 0 ≡ 10 → IsOpen (take (i + 1) bytes)) (length bytes - 1) o (λ at. subst IsOpen (sym whole) (last at)))
+
+-- bytes whose last is a line feed
+pub ends_line : (bytes : List ℕ) → 0 < length bytes → get_or bytes (length bytes - 1) 0 ≡ 10 → EndsLine bytes
+ends_line bytes some at =
+    let n = length bytes - 1 in
+    let long : length bytes ≡ length bytes - 1 + 1 = omega arith in
+    let whole : bytes ≡ take (length bytes - 1 + 1) bytes = sym (take-length bytes) ∙ ap (λ k. take k bytes) long in
+    (take n bytes, whole ∙ take_more bytes n 0 (omega arith) ∙ ap (λ b. take n bytes ++ b ∷ []) at)
 
 -- a list of one is its first item
 one_item : (buf : List ℕ) → length buf ≡ 1 → buf ≡ get_or buf 0 0 ∷ []
@@ -80,9 +96,25 @@ one_item [] e = cc
 one_item (x ∷ []) e = refl
 one_item (x ∷ (y ∷ ys)) e = absurd (omega (arith, e))
 
--- one byte was read, and was put behind the others
-pub read_more : (a b c : Option (List ℕ)) (old buf : List ℕ) (k : ℕ) → Consumes a b old → Consumes b c (take k buf) → k ≤ length buf → length buf ≡ 1 → k ≢ 0 → Consumes a c (old ++ get_or buf 0 0 ∷ [])
-read_more a b c old buf k before read fits one some =
+-- one byte was read
+pub one_read : (a b : Option (List ℕ)) (buf : List ℕ) (k : ℕ) → Consumes a b (take k buf) → k ≤ length buf → length buf ≡ 1 → k ≢ 0 → Consumes a b (get_or buf 0 0 ∷ [])
+one_read a b buf k read fits one some =
     let whole : k ≡ length buf = omega (arith, one, fits) in
-    let taken : take k buf ≡ get_or buf 0 0 ∷ [] = ap (λ j. take j buf) whole ∙ take-length buf ∙ one_item buf one in
-    Consumes-trans a b c _ _ before (subst (Consumes b c) taken read)
+    subst (Consumes a b) (ap (λ j. take j buf) whole ∙ take-length buf ∙ one_item buf one) read
+
+-- no byte was read
+pub none_read : (a b : Option (List ℕ)) (buf : List ℕ) (k : ℕ) → Consumes a b (take k buf) → k ≡ 0 → Keeps a b
+none_read None b buf k read none = tt
+none_read (Some x) None buf k read none = absurd read
+none_read (Some x) (Some y) buf k read none = sym (subst (λ n. x ≡ take n buf ++ y) none read)
+
+-- one byte was read, and was put behind the others
+pub read_more : (a b c : Option (List ℕ)) (old all : List ℕ) (x : ℕ) → all ≡ old ++ x ∷ [] → Consumes a b old → Consumes b c (x ∷ []) → Consumes a c all
+read_more a b c old all x is before read = subst (Consumes a c) (sym is) (Consumes-trans a b c old (x ∷ []) before read)
+
+-- where no further byte came, no head did
+pub byte_fails : (old : List ℕ) (AtEnd Spent : Type 0) (e : WireFault) → length old < 8192 → OpenBelow (length old) old → BodyFails 1 [] AtEnd Spent e → HeadFails old AtEnd Spent e
+byte_fails old AtEnd Spent NoMemory short o f = f
+byte_fails old AtEnd Spent Read short o f = f
+byte_fails old AtEnd Spent Write short o f = f
+byte_fails old AtEnd Spent (Refused r) short o f = inl (record { refused = f.refused; end = f.end; short = short; open_lines = o })

@@ -1,5 +1,5 @@
 -- The head of a request: the first prefix that is one, or why there is none.
-use Rattle.std.specs.Prelude.{◌≡◌, ℕ, ◌+◌, ◌-◌, ◌<◌, ◌≤◌, ◌⊎◌, List, [], ◌∷◌, ◌++◌, length, take, slice_index}
+use Rattle.std.specs.Prelude.{◌≡◌, ℕ, ◌+◌, ◌-◌, ◌<◌, ◌≤◌, ◌⊎◌, Bool, true, false, List, [], ◌∷◌, ◌++◌, length, take, slice_index}
 use Rattle.httparse.specs.Ascii.{line_feed}
 use Rattle.httparse.specs.Grammar.{RequestHead, ReadsRequest, HasNoRequest, MayBecomeRequest}
 use Rattle.httparse.specs.Spans.{RequestOverflows}
@@ -21,6 +21,11 @@ pub record IsOpen (front : List ℕ) : Type 0 where
 abbrev pub OpenBelow : ℕ → List ℕ → Type 0
 OpenBelow n bytes =
     (i : ℕ) → i < n → slice_index bytes i ≡ line_feed → IsOpen (take (i + 1) bytes)
+
+-- what true and false tell of bytes: they are a head, or each of their lines leaves it open
+abbrev pub TellsHead : List ℕ → Bool → Type 0
+TellsHead bytes true = (h : RequestHead) × IsHead bytes h
+TellsHead bytes false = OpenBelow (length bytes) bytes
 
 -- the input ends before a head
 pub record EndsEarly (used : List ℕ) (AtEnd : Type 0) (code : ℕ) : Type 0 where

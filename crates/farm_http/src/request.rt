@@ -1,10 +1,10 @@
 //! Reading one request.
-ghost use Rattle.std.specs.Prelude.{◌≡◌, ℕ, ◌+◌, ◌<◌, ◌≤◌, length, [], vec_capacity, false, ⊤, List, IsTrue, IfOk, IfErr, IfSome, OnOk, IsErrOf};
-ghost use Rattle.std.specs.Io.KnownBytes.{Consumes, IsAtEnd};
+ghost use Rattle.std.specs.Prelude.{◌≡◌, ℕ, ◌+◌, ◌-◌, ◌<◌, ◌≤◌, ◌∷◌, length, [], vec_capacity, false, ⊤, List, IsTrue, IfOk, IfErr, IfSome, OnOk, OnErr, IsErrOf};
+ghost use Rattle.std.specs.Io.KnownBytes.{Consumes, IsAtEnd, Keeps};
 ghost use Rattle.httparse.specs.Grammar.{RequestHead};
 ghost use Rattle.farm_http.specs.Fields.{body_length, numbered};
 ghost use Rattle.farm_http.specs.Faults.{HeadFails, BodyFails, FailsAfter, TakesFrom};
-ghost use Rattle.farm_http.specs.Heads.{IsHead};
+ghost use Rattle.farm_http.specs.Heads.{IsHead, IsHopeless, OpenBelow, TellsHead};
 ghost use Rattle.farm_http.specs.Logs.{unread, IsSpent};
 ghost use Rattle.farm_http.specs.Requests.{IsRequest};
 
@@ -136,21 +136,54 @@ fn read_head<R: Read>(
     ensures turns { log.new.calls ≤ MAX_TURNS }
 {
     while bytes.len() < MAX_HEAD {
-        let mut byte = [0u8; 1];
-        if read_some(reader, log, &mut byte)? == 0 {
-            return Err(WireFault::Refused(Refusal { code: BAD_REQUEST }));
-        }
-        let last = byte[0];
-        bytes.push_reserved(last);
-        if last == b'\n' {
-            match parse_request(bytes.as_slice(), headers) {
-                Ok(Status::Complete(_)) => return Ok(()),
-                Ok(Status::Partial) => {}
-                Err(_) => return Err(WireFault::Refused(Refusal { code: BAD_REQUEST })),
-            }
+        let byte = read_byte(reader, log)?;
+        bytes.push_reserved(byte);
+        if is_head(bytes.as_slice(), headers)? {
+            return Ok(());
         }
     }
     Err(WireFault::Refused(Refusal { code: TOO_LARGE }))
+}
+
+/// Reads one byte.
+fn read_byte<R: Read>(reader: &mut R, log: &mut ReadLog) -> Result<u8, WireFault>
+    requires turns { log.old.calls ≤ MAX_TURNS }
+    requires alive { log.old.failed ≡ false }
+    ensures byte { IfOk result
+        (λ byte. Consumes (R.remaining reader.old) (R.remaining reader.new) (byte ∷ [])) }
+    ensures alive { OnOk result (log.new.failed ≡ false) }
+    ensures kept { OnErr result (Keeps (R.remaining reader.old) (R.remaining reader.new)) }
+    ensures fault { IfErr result
+        (BodyFails 1 [] (IsAtEnd (R.remaining reader.new)) (IsSpent log.new)) }
+    ensures failed { IsTrue log.new.failed → IsErrOf result WireFault.Read }
+    ensures turns { log.new.calls ≤ MAX_TURNS }
+{
+    let mut byte = [0u8; 1];
+    if read_some(reader, log, &mut byte)? == 0 {
+        return Err(WireFault::Refused(Refusal { code: BAD_REQUEST }));
+    }
+    Ok(byte[0])
+}
+
+/// Whether bytes are a head, where no line before their last ends one. Refused are bytes that no
+/// head begins with.
+fn is_head(bytes: &[u8], headers: &mut [HeaderSpan]) -> Result<bool, Refusal>
+    requires fields { length headers.old ≡ MAX_FIELDS }
+    requires some { 0 < length bytes.now }
+    requires short { length bytes.now ≤ MAX_HEAD }
+    requires open_lines { OpenBelow (length bytes.now - 1) bytes.now }
+    ensures told { IfOk result (TellsHead bytes.now) }
+    ensures refused { IfErr result (λ refusal. IsHopeless bytes.now refusal.code) }
+{
+    let last = bytes[bytes.len() - 1];
+    if last != b'\n' {
+        return Ok(false);
+    }
+    match parse_request(bytes, headers) {
+        Ok(Status::Complete(_)) => Ok(true),
+        Ok(Status::Partial) => Ok(false),
+        Err(_) => Err(Refusal { code: BAD_REQUEST }),
+    }
 }
 
 /// How long the body is that follows a head.

@@ -1,55 +1,59 @@
--- A line that ends a head, one that does not, and a byte of a line.
-use Rattle.std.proofs.Common.{◌≡◌, ◌+◌, ◌-◌, length, get_or, ◌∷◌, ◌++◌, [], arith, sym, ap, subst, ◌∙◌, length-append}
+-- A byte that doesn't come, a line that no head has, a line that ends a head, and one that does not.
+use Rattle.std.proofs.Common.{◌≡◌, ◌∷◌, [], length, true, ◌+◌, ◌<◌, arith, ap, subst, ◌∙◌, length-append, inl, inr}
+use Rattle.std.proofs.KnownBytes.{Consumes-kept}
+use Rattle.std.proofs.lemmas.Result.{err_from_is_err_and}
+use Rattle.std.specs.Io.KnownBytes.{IsAtEnd}
 use Rattle.httparse.specs.Grammar.{RequestHead}
-use Rattle.std.specs.Io.KnownBytes.{Consumes}
-use Rattle.farm_http.specs.Heads.{IsHead, IsOpen, OpenBelow}
-use Rattle.farm_http.proofs.HeadLemmas.{head_of, open_push, open_more, read_more}
+use Rattle.farm_http.specs.Heads.{IsHead, OpenBelow, TellsHead}
+use Rattle.farm_http.specs.Logs.{IsSpent}
+use Rattle.farm_http.proofs.HeadLemmas.{byte_fails, open_pushed, read_more}
 use Rattle.farm_http.proofs.request.read_head.Goals as goal
 
-pub returns-in-Ok-Complete-clause-head : goal.returns-in-Ok-Complete-clause-head
-returns-in-Ok-Complete-clause-head g c =
-    let found = rw c.in-Ok-Complete.field-0-is at c.in-Ok-Complete.ensures.complete in
-    let old = c.loop-byte.bytes.items in
-    let b = get_or c.read_some.new.buf 0 0 in
+pub is_head-requires-clause-open_lines : goal.is_head-requires-clause-open_lines
+is_head-requires-clause-open_lines g c =
+    open_pushed c.loop-reader.bytes.items c.as_slice.result.now c.in_ok-byte.byte (c.as_slice.ensures.value ∙ c.push_reserved.ensures.items) c.loop-reader.invariant.open_lines
+
+pub returns-in_err-byte-clause-fault : goal.returns-in_err-byte-clause-fault
+returns-in_err-byte-clause-fault g c =
+    let p = err_from_is_err_and c.from_residual.result c.from_residual.ensures.1 in
+    let old = c.loop-reader.bytes.items in
+    let short : length old < 8192 = omega arith in
+    rw (p.1, p.2) (
+      old,
+      Consumes-kept _ _ _ old c.loop-reader.invariant.taken c.in_err-byte.ensures.kept,
+      byte_fails old (IsAtEnd (g.R.Read.remaining c.read_byte.new.reader)) (IsSpent c.read_byte.new.log) c.in_err-byte.field-0.0 short c.loop-reader.invariant.open_lines c.in_err-byte.ensures.fault,
+    )
+
+pub returns-in_err-is_head-clause-fault : goal.returns-in_err-is_head-clause-fault
+returns-in_err-is_head-clause-fault g c =
+    let p = err_from_is_err_and c.from_residual-in_err-is_head.result c.from_residual-in_err-is_head.ensures.1 in
+    let old = c.loop-reader.bytes.items in
     let all = c.as_slice.result.now in
-    let is : all ≡ old ++ b ∷ [] = c.as_slice.ensures.value ∙ c.push_reserved.ensures.items in
-    let long : length all ≡ length old + 1 = ap length is ∙ length-append old (b ∷ []) in
-    let before : length old ≡ length all - 1 = omega (arith, long) in
-    let lines : OpenBelow (length all - 1) all = subst (λ n. OpenBelow n all) before (subst (OpenBelow (length old)) (sym is) (open_push old b c.loop-byte.invariant.open_lines)) in
-    let head = head_of all c.parse_request.new.headers _ found (omega arith) (omega (arith, long, c.loop-byte-test.true)) lines in
-    subst (λ l. (h : RequestHead) × IsHead l h) c.as_slice.ensures.value head
+    let is = c.as_slice.ensures.value ∙ c.push_reserved.ensures.items in
+    rw (p.1, p.2) (
+      all,
+      read_more _ _ _ old all c.in_ok-byte.byte is c.loop-reader.invariant.taken c.in_ok-byte.ensures.byte,
+      inr (inl c.in_err-is_head.ensures.refused),
+    )
 
-pub loop-byte-preserved-in-Ok-Partial : goal.loop-byte-preserved-in-Ok-Partial
-loop-byte-preserved-in-Ok-Partial g c =
-    let none = rw c.in-Ok-Partial.field-0-is at c.in-Ok-Partial.ensures.partial in
-    let more = rw c.in-Ok-Partial.field-0-is at c.in-Ok-Partial.ensures.unfinished in
-    let old = c.loop-byte.bytes.items in
-    let b = get_or c.read_some.new.buf 0 0 in
+pub returns-then-branch-clause-head : goal.returns-then-branch-clause-head
+returns-then-branch-clause-head g c =
+    let found : TellsHead c.as_slice.result.now true = subst (TellsHead c.as_slice.result.now) c.if-branch.true c.in_ok-is_head.ensures.told in
+    subst (λ l. (h : RequestHead) × IsHead l h) c.as_slice.ensures.value found
+
+pub loop-reader-preserved : goal.loop-reader-preserved
+loop-reader-preserved g c =
+    let old = c.loop-reader.bytes.items in
+    let all = c.push_reserved.new.self.items in
     let is = c.push_reserved.ensures.items in
-    let seen = c.as_slice.ensures.value ∙ is in
-    let lines = open_more old b c.loop-byte.invariant.open_lines (λ _. subst IsOpen seen (record { none = none; more = more })) in
+    let long : length all ≡ length old + 1 = ap length is ∙ length-append old (c.in_ok-byte.byte ∷ []) in
+    let lines : OpenBelow (length c.as_slice.result.now) c.as_slice.result.now = subst (TellsHead c.as_slice.result.now) c.if-branch.false c.in_ok-is_head.ensures.told in
     record {
-      short = omega arith;
+      short = omega (arith, long);
       capacity = omega arith;
       turns = omega arith;
-      alive = c.in_ok-read_some.ensures.alive;
+      alive = c.in_ok-byte.ensures.alive;
       room = omega arith;
-      taken = subst (Consumes _ _) (sym is) (read_more _ _ _ old c.read_some.new.buf c.in_ok-read_some.field-0 c.loop-byte.invariant.taken c.in_ok-read_some.ensures.ok c.in_ok-read_some.ensures.within c.read_some.auto.buf c.if-branch-eq0.false);
-      open_lines = subst (λ l. OpenBelow (length l) l) (sym is) lines;
-    }
-
-pub loop-byte-preserved : goal.loop-byte-preserved
-loop-byte-preserved g c =
-    let old = c.loop-byte.bytes.items in
-    let b = get_or c.read_some.new.buf 0 0 in
-    let is = c.push_reserved.ensures.items in
-    let lines = open_more old b c.loop-byte.invariant.open_lines (λ line. absurd (c.if-last-eq10.false line)) in
-    record {
-      short = omega arith;
-      capacity = omega arith;
-      turns = omega arith;
-      alive = c.in_ok-read_some.ensures.alive;
-      room = omega arith;
-      taken = subst (Consumes _ _) (sym is) (read_more _ _ _ old c.read_some.new.buf c.in_ok-read_some.field-0 c.loop-byte.invariant.taken c.in_ok-read_some.ensures.ok c.in_ok-read_some.ensures.within c.read_some.auto.buf c.if-branch-eq0.false);
-      open_lines = subst (λ l. OpenBelow (length l) l) (sym is) lines;
+      taken = read_more _ _ _ old all c.in_ok-byte.byte is c.loop-reader.invariant.taken c.in_ok-byte.ensures.byte;
+      open_lines = subst (λ l. OpenBelow (length l) l) c.as_slice.ensures.value lines;
     }

@@ -6,8 +6,8 @@ use Rattle.farm_http.specs.declared.limits.TheConstants.{MAX_HEAD, MAX_FIELDS, M
 use Rattle.farm_http.specs.Heads.{OpenBelow}
 use Rattle.farm_http.proofs.request.read_head.Given as goal
 
-abbrev pub invariant-loop-byte : goal.invariant-loop-byte
-invariant-loop-byte g l = record {
+abbrev pub invariant-loop-reader : goal.invariant-loop-reader
+invariant-loop-reader g l = record {
   short : length l.bytes.items ≤ MAX_HEAD;
   capacity : vec_capacity l.bytes ≡ vec_capacity l.fn.bytes;
   turns : l.log.calls ≤ MAX_TURNS;
@@ -17,5 +17,5 @@ invariant-loop-byte g l = record {
   open_lines : OpenBelow (length l.bytes.items) l.bytes.items;
 }
 
-abbrev pub decreases-loop-byte : goal.decreases-loop-byte
-decreases-loop-byte g l = MAX_HEAD - length l.bytes.items
+abbrev pub decreases-loop-reader : goal.decreases-loop-reader
+decreases-loop-reader g l = MAX_HEAD - length l.bytes.items
