@@ -1,11 +1,14 @@
 //! A farm and the store that keeps it.
-ghost use Rattle.std.specs.Prelude.{◌≡◌, ◌≢◌, ◌≤◌, ◌↔◌, true, false, Err, OnOk, IfOk, IfErr, MatchOption};
+ghost use Rattle.std.specs.Prelude.{◌≡◌, ◌≢◌, ◌≤◌, ◌↔◌, ◌⊎◌, true, false, Err, OnOk, IfOk, IfErr, MatchOption};
 ghost use Rattle.sqlite.specs.Held.{state};
+ghost use Rattle.sqlite.specs.State.{HasCleanDisk};
 ghost use Rattle.sqlite_trees.specs.View.{doubt};
 ghost use Rattle.farm_types.specs.Farm.{empty};
 ghost use Rattle.farm_types.specs.Machine.{answer, step};
 ghost use Rattle.farm_types.specs.Sound.{IsSound};
 ghost use Rattle.farm_core.specs.Answers.{shown, IsChange};
+ghost use Rattle.farm_store.specs.Columns.{rows_of};
+ghost use Rattle.farm_store.specs.Holds.{LeavesEither, StandsFor};
 ghost use Rattle.farm_store.specs.Schema.{no_schema};
 ghost use Rattle.farm_keep.specs.Kept.{Keeps, KeepsEither, OnNoChange};
 ghost use Rattle.farm_keep.specs.Headline.{Adopts};
@@ -130,13 +133,41 @@ impl<S: Alter> Keeper<S> {
         }
         // A `?` from here on leaves a closed keeper.
         self.is_open = false;
-        let answer = self.farm.step(call)?;
-        let Answer::Did(_, changes) = &answer else {
-            self.is_open = true;
-            return Ok(answer);
-        };
-        put(self.alloc, &mut self.conn, changes)?;
+        let answer = step_and_put(self.alloc, &mut self.conn, &mut self.farm, call)?;
         self.is_open = true;
         Ok(answer)
     }
+}
+
+/// One step of a farm that works, and its changed rows put into the store that keeps it.
+fn step_and_put<S: Alter>(
+    alloc: Global,
+    conn: &mut Connection<S>,
+    farm: &mut Farm,
+    call: &Call,
+) -> Result<Answer, KeepFault>
+    requires autocommit { conn.old.in_transaction ≡ false }
+    requires working { farm.old.failed ≡ false }
+    ensures autocommit { conn.new.in_transaction ≡ false }
+    ensures clean { doubt (state S.Store conn.old).is_clean ≤ doubt (state S.Store conn.new).is_clean }
+    ensures answer { IfOk result (λ a. shown a ≡ answer farm.old.farm call.entry.now) }
+    ensures farm { OnOk result (farm.new.farm ≡ step farm.old.farm call.entry.now) }
+    ensures working { OnOk result ((farm.new.failed ≡ false) × IsSound farm.new.farm) }
+    ensures stands { OnOk result (StandsFor (state S.Store conn.old) farm.old.farm → StandsFor (state S.Store conn.new) farm.new.farm) }
+    ensures rests { IfOk result (λ a. OnNoChange a ((conn.new ≡ conn.old) × (farm.new ≡ farm.old))) }
+    ensures change { IfErr result (λ _. IsChange (answer farm.old.farm call.entry.now)) }
+    ensures memory { result ≡ Err KeepFault.NoMemory → conn.new ≡ conn.old }
+    ensures store { result ≡ Err KeepFault.Store → StandsFor (state S.Store conn.old) farm.old.farm → HasCleanDisk (state S.Store conn.new)
+        → LeavesEither (state S.Store conn.new) (rows_of farm.old.farm) (rows_of (step farm.old.farm call.entry.now)) }
+    ensures fault { IfErr result (λ fault. (fault ≡ KeepFault.NoMemory) ⊎ (fault ≡ KeepFault.Store)) }
+{
+    let answer = match farm.step(call) {
+        Ok(answer) => answer,
+        Err(_) => return Err(KeepFault::NoMemory),
+    };
+    let Answer::Did(_, changes) = &answer else {
+        return Ok(answer);
+    };
+    put(alloc, conn, changes)?;
+    Ok(answer)
 }

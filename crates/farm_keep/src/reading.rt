@@ -18,7 +18,6 @@ use std::alloc::Global;
 /// changes nothing. `Keeper::adopt` is this call and a keeper of what it gives: this one lends the
 /// connection, so that its clauses can say what a fault leaves. Each table is read once, in order
 /// of its key, and n rows are tested in O(n log n).
-#[tactic(auto, using(farm_store::proofs::SoundReadable::sound_is_readable))]
 pub fn found<S: Alter>(alloc: Global, conn: &mut Connection<S>) -> Result<Farm, KeepFault>
     requires { conn.old.in_transaction ≡ false }
 
@@ -44,7 +43,10 @@ pub fn found<S: Alter>(alloc: Global, conn: &mut Connection<S>) -> Result<Farm, 
         → (T : Tables) → ¬ Stands (state S.Store conn.old) T }
     ensures fault { result ≢ Err KeepFault.Closed }
 {
-    let rows = load(alloc, conn)?;
+    let rows = match load(alloc, conn) {
+        Ok(rows) => rows,
+        Err(fault) => return Err(KeepFault::from(fault)),
+    };
     let farm = Farm::from_rows(rows)?;
     Ok(farm)
 }

@@ -1,5 +1,5 @@
 //! One call after another.
-ghost use Rattle.std.specs.Prelude.{◌≡◌, ◌≢◌, ◌≤◌, ◌<◌, ◌+◌, ℕ, true, false, Err, Some, IfOk, IfNone, map, take, length};
+ghost use Rattle.std.specs.Prelude.{◌≡◌, ◌≢◌, ◌≤◌, ◌<◌, ◌+◌, ℕ, true, false, Err, Some, IfOk, IfNone, [], map, take, length, vec_capacity};
 ghost use Rattle.sqlite.specs.Held.{state};
 ghost use Rattle.sqlite_trees.specs.View.{doubt};
 ghost use Rattle.farm_types.specs.Farm.{Farm as Plain};
@@ -80,7 +80,7 @@ impl<S: Alter> Keeper<S> {
             × (self.new.is_open ≡ false) × (result.fault ≢ Some KeepFault.Store) }
         ensures clean { doubt (state S.Store self.old.conn).is_clean ≤ doubt (state S.Store self.new.conn).is_clean }
     {
-        let Ok(mut answers) = Vec::with_capacity(alloc, calls.len()) else {
+        let Ok(answers) = Vec::with_capacity(alloc, calls.len()) else {
             self.is_open = false;
             return RunEnd {
                 done: 0,
@@ -88,13 +88,35 @@ impl<S: Alter> Keeper<S> {
                 fault: Some(KeepFault::NoMemory),
             };
         };
+        self.run_into(answers, calls)
+    }
+
+    /// `run`, where there is room for all answers.
+    fn run_into(&mut self, mut answers: Vec<Answer>, calls: &[Call]) -> RunEnd
+        requires none { answers.items ≡ [] }
+        requires room { length calls.now ≤ vec_capacity answers }
+        ensures counted { length result.answers.items ≡ result.done }
+        ensures within { result.done ≤ length calls.now }
+        ensures answers { map shown result.answers.items ≡ answers_of self.old.farm.farm (take result.done calls.now) }
+        ensures whole { IfNone result.fault ((result.done ≡ length calls.now) × (self.new.is_open ≡ self.old.is_open)) }
+        ensures farm { IfNone result.fault (self.new.farm.farm ≡ run self.old.farm.farm calls.now) }
+        ensures stands { IfNone result.fault (Keeps S.Store self.old
+            → KeepsFarm S.Store self.new (run self.old.farm.farm calls.now)) }
+        ensures memory { result.fault ≡ Some KeepFault.NoMemory → (self.new.is_open ≡ false)
+            × (Keeps S.Store self.old → KeepsFarm S.Store self.new (run self.old.farm.farm (take result.done calls.now))) }
+        ensures store { result.fault ≡ Some KeepFault.Store → (self.new.is_open ≡ false) × (result.done < length calls.now)
+            × (Keeps S.Store self.old → KeepsEither S.Store self.new
+            (run self.old.farm.farm (take result.done calls.now))
+            (run self.old.farm.farm (take (result.done + 1) calls.now))) }
+        ensures fault { (result.fault ≢ Some KeepFault.BadStore) × (result.fault ≢ Some KeepFault.OldSchema) }
+        ensures closed { result.fault ≡ Some KeepFault.Closed → (self.old.is_open ≡ false) × (self.new ≡ self.old) }
+        ensures before { self.old.is_open ≡ false → (result.done ≡ 0) × (self.new.conn ≡ self.old.conn)
+            × (self.new.is_open ≡ false) × (result.fault ≢ Some KeepFault.Store) }
+        ensures clean { doubt (state S.Store self.old.conn).is_clean ≤ doubt (state S.Store self.new.conn).is_clean }
+    {
         for call in calls {
             match self.act(call) {
-                Ok(answer) => {
-                    if answers.push(answer).is_err() {
-                        unreachable!()
-                    }
-                }
+                Ok(answer) => answers.push_reserved(answer),
                 Err(fault) => {
                     return RunEnd {
                         done: answers.len(),
