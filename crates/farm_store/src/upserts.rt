@@ -13,8 +13,8 @@ ghost use Rattle.sqlite.specs.State.{HasCleanDisk};
 ghost use Rattle.sqlite_trees.specs.View.{doubt};
 ghost use Rattle.farm_types.specs.Farm.{Farm, put_rows};
 ghost use Rattle.farm_types.specs.Small.{AreSmall};
-ghost use Rattle.farm_store.specs.Columns.{rows_of};
-ghost use Rattle.farm_store.specs.Edits.{CommitsNothing};
+ghost use Rattle.farm_store.specs.Columns.{rows_of, with_types, with_boards, with_jobs};
+ghost use Rattle.farm_store.specs.Edits.{ChangesTables, CommitsNothing};
 ghost use Rattle.farm_store.specs.Holds.{IsInside, Stands, LeavesEither};
 ghost use Rattle.farm_store.specs.Texts.{AreBoardTexts, AreJobTexts, AreResTexts};
 
@@ -29,6 +29,26 @@ use farm_types::calls::Changes;
 pub(crate) use meta::{put_number, put_numbers};
 use sqlite::{Alter, Connection, Error, Transaction};
 use std::alloc::Global;
+
+/// Each changed type, board and job by its table's upsert.
+fn put_lab<S: Alter>(
+    tx: &mut Transaction<'_, S>,
+    changes: &Changes,
+    texts: &Texts,
+) -> Result<(), Error>
+    requires small { AreSmall changes.now }
+    requires boards { AreBoardTexts texts.now.boards.items changes.now.boards.items }
+    requires jobs { AreJobTexts texts.now.jobs.items changes.now.jobs.items }
+    ensures same_reference { tx.new.conn.ghost_name ≡ tx.old.conn.ghost_name }
+    ensures put { ChangesTables result (state S.Store tx.old.conn.now) (state S.Store tx.new.conn.now)
+        (λ T. with_jobs (with_boards (with_types T changes.now.types.items) changes.now.boards.items) changes.now.jobs.items) }
+    ensures survives { CommitsNothing (state S.Store tx.old.conn.now) (state S.Store tx.new.conn.now) }
+{
+    put_types(tx, &changes.types)?;
+    put_boards(tx, &changes.boards, &texts.boards)?;
+    put_jobs(tx, &changes.jobs, &texts.jobs)?;
+    Ok(())
+}
 
 /// Each changed row by its table's upsert, and the three numbers.
 fn put_all<S: Alter>(
@@ -45,9 +65,7 @@ fn put_all<S: Alter>(
         → IsInside (state S.Store tx.new.conn.now) (rows_of (put_rows F changes.now)) × IsTrue (state S.Store tx.new.conn.now).is_open) }
     ensures survives { CommitsNothing (state S.Store tx.old.conn.now) (state S.Store tx.new.conn.now) }
 {
-    put_types(tx, &changes.types)?;
-    put_boards(tx, &changes.boards, &texts.boards)?;
-    put_jobs(tx, &changes.jobs, &texts.jobs)?;
+    put_lab(tx, changes, texts)?;
     put_reservations(tx, &changes.reservations, &texts.reservations)?;
     put_kept(tx, &changes.kept)?;
     put_numbers(tx, changes.meta)?;
