@@ -168,6 +168,8 @@ fn step_and_put<S: Alter>(
     let Answer::Did(_, changes) = &answer else {
         return Ok(answer);
     };
-    put(alloc, conn, changes)?;
-    Ok(answer)
+    match put(alloc, conn, changes) {
+        Ok(()) => Ok(answer),
+        Err(fault) => Err(KeepFault::from(fault)),
+    }
 }
