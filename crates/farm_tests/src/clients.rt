@@ -135,18 +135,59 @@ fn two_clients(rt: HostRuntime) -> Result<(), Fail> {
     Ok(())
 }
 
+/// The answer to a type that is there.
+const EXISTS: &[u8] =
+    b"HTTP/1.1 409 Conflict\r\ncontent-type: application/json\r\ncontent-length: 32\r\nconnection: close\r\n\r\n{\"code\":11,\"text\":\"type exists\"}";
+
+/// Serves none, then one, then one more, all by the same keeper; how many commands were accepted after
+/// each.
+fn serve_in_turn<S: Alter + Drop>(
+    alloc: Global,
+    conn: Connection<S>,
+    listener: &TcpListener,
+) -> Result<[Option<u64>; 3], Fail> {
+    let mut keeper = made(alloc, conn).ok_or("no farm")?;
+    let clock = Hands::standing(10);
+    serve(alloc, &mut keeper, listener, 0, &clock)?;
+    let none = count(&keeper);
+    serve(alloc, &mut keeper, listener, 1, &clock)?;
+    let first = count(&keeper);
+    serve(alloc, &mut keeper, listener, 1, &clock)?;
+    Ok([none, first, count(&keeper)])
+}
+
+/// As many are served as is asked for: the second client waits on, and is served by the same keeper.
+#[test]
+fn as_many_as_asked(rt: HostRuntime) -> Result<(), Fail> {
+    let alloc = rt.alloc();
+    let listener = TcpListener::bind(&rt, "127.0.0.1:0")?;
+    let first = client(&rt, &listener, FIRST_TYPE)?;
+    let second = client(&rt, &listener, FIRST_TYPE)?;
+    let conn = Connection::open_in_memory(alloc)?;
+    let counts = serve_in_turn(alloc, conn, &listener)?;
+    assert_eq!(rt; counts, [Some(0), Some(1), Some(1)]);
+    assert!(rt; is_answered(alloc, first, DONE)?);
+    assert!(rt; is_answered(alloc, second, EXISTS)?);
+    Ok(())
+}
+
+/// A clock that is eleven seconds on at each look.
+fn running() -> Hands {
+    let mut clock = Hands::standing(10);
+    clock.step = 11;
+    clock
+}
+
 /// A clock that can't be read, one whose time is over at the second look, and one that fails at the
 /// second: so the request isn't read, isn't read whole, or its answer isn't written.
 fn clocks() -> [(Hands, &'static [u8], u64); 3] {
     let mut blank = Hands::standing(10);
     blank.moment = None;
-    let mut running = Hands::standing(10);
-    running.step = 11;
     let mut ending = Hands::standing(10);
     ending.looks = Cell::new(1);
     [
         (blank, FIRST_TYPE, 0),
-        (running, &FIRST_TYPE[..40], 0),
+        (running(), &FIRST_TYPE[..40], 0),
         (ending, FIRST_TYPE, 1),
     ]
 }
@@ -165,6 +206,35 @@ fn clocks_that_fail(rt: HostRuntime) -> Result<(), Fail> {
             assert!(rt; bytes.is_empty());
         }
     }
+    Ok(())
+}
+
+/// Serves a client whose time is over, and then another by the same keeper; how many commands were
+/// accepted after each.
+fn serve_after_a_slow_one<S: Alter + Drop>(
+    alloc: Global,
+    conn: Connection<S>,
+    listener: &TcpListener,
+) -> Result<(Option<u64>, Option<u64>), Fail> {
+    let mut keeper = made(alloc, conn).ok_or("no farm")?;
+    serve(alloc, &mut keeper, listener, 1, &running())?;
+    let slow = count(&keeper);
+    serve(alloc, &mut keeper, listener, 1, &Hands::standing(10))?;
+    Ok((slow, count(&keeper)))
+}
+
+/// Once the desk gave up a client that waits, it serves the next.
+#[test]
+fn served_after_a_slow_one(rt: HostRuntime) -> Result<(), Fail> {
+    let alloc = rt.alloc();
+    let listener = TcpListener::bind(&rt, "127.0.0.1:0")?;
+    let slow = client(&rt, &listener, &FIRST_TYPE[..40])?;
+    let next = client(&rt, &listener, FIRST_TYPE)?;
+    let conn = Connection::open_in_memory(alloc)?;
+    let counts = serve_after_a_slow_one(alloc, conn, &listener)?;
+    assert_eq!(rt; counts, (Some(0), Some(1)));
+    assert!(rt; is_answered(alloc, slow, b"")?);
+    assert!(rt; is_answered(alloc, next, DONE)?);
     Ok(())
 }
 

@@ -22,6 +22,8 @@ mod full;
 #[cfg(test)]
 mod heads;
 #[cfg(test)]
+mod picks;
+#[cfg(test)]
 mod puts;
 #[cfg(test)]
 mod queues;
@@ -35,5 +37,7 @@ mod rows;
 mod search;
 #[cfg(test)]
 mod stores;
+#[cfg(test)]
+mod tables;
 #[cfg(test)]
 mod written;

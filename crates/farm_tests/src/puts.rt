@@ -10,7 +10,8 @@ use std::alloc::Global;
 use std::process::Abort;
 use std::test::Fail;
 
-fn write<S: Alter>(
+/// Puts changes, where no transaction is begun.
+pub(crate) fn write<S: Alter>(
     alloc: Global,
     conn: &mut Connection<S>,
     changes: &Changes,

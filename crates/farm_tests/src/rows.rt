@@ -1,4 +1,6 @@
 //! Rows that are made by hand.
+ghost use Rattle.std.specs.Prelude.{◌≡◌, IfOk};
+
 use farm_types::calls::Rows;
 use farm_types::fault::WordFault;
 use farm_types::priority::Priority;
@@ -55,7 +57,10 @@ pub(crate) fn job(
     group: u64,
     priority: Priority,
     state: JobState,
-) -> Result<JobRow, WordFault> {
+) -> Result<JobRow, WordFault>
+    ensures number { IfOk result (λ row. row.number ≡ number) }
+    ensures group { IfOk result (λ row. row.group ≡ group) }
+{
     let owner = name(alloc, "ann")?;
     let want = want(alloc, "")?;
     Ok(JobRow {
