@@ -139,21 +139,30 @@ fn two_clients(rt: HostRuntime) -> Result<(), Fail> {
 const EXISTS: &[u8] =
     b"HTTP/1.1 409 Conflict\r\ncontent-type: application/json\r\ncontent-length: 32\r\nconnection: close\r\n\r\n{\"code\":11,\"text\":\"type exists\"}";
 
-/// Serves none, then one, then one more, all by the same keeper; how many commands were accepted after
-/// each.
-fn serve_in_turn<S: Alter + Drop>(
+/// Serves by one keeper in turns: so many connections by that clock, and then so many commands were
+/// accepted.
+fn serve_in_turns<S: Alter + Drop>(
+    rt: &impl Abort,
     alloc: Global,
     conn: Connection<S>,
     listener: &TcpListener,
-) -> Result<[Option<u64>; 3], Fail> {
+    turns: &[(u64, Hands, u64)],
+) -> Result<(), Fail> {
     let mut keeper = made(alloc, conn).ok_or("no farm")?;
-    let clock = Hands::standing(10);
-    serve(alloc, &mut keeper, listener, 0, &clock)?;
-    let none = count(&keeper);
-    serve(alloc, &mut keeper, listener, 1, &clock)?;
-    let first = count(&keeper);
-    serve(alloc, &mut keeper, listener, 1, &clock)?;
-    Ok([none, first, count(&keeper)])
+    for (max, clock, wanted) in turns {
+        serve(alloc, &mut keeper, listener, *max, clock)?;
+        assert_eq!(rt; count(&keeper), Some(*wanted));
+    }
+    Ok(())
+}
+
+/// None, then one, then one more.
+fn turns() -> [(u64, Hands, u64); 3] {
+    [
+        (0, Hands::standing(10), 0),
+        (1, Hands::standing(10), 1),
+        (1, Hands::standing(10), 1),
+    ]
 }
 
 /// As many are served as is asked for: the second client waits on, and is served by the same keeper.
@@ -164,8 +173,7 @@ fn as_many_as_asked(rt: HostRuntime) -> Result<(), Fail> {
     let first = client(&rt, &listener, FIRST_TYPE)?;
     let second = client(&rt, &listener, FIRST_TYPE)?;
     let conn = Connection::open_in_memory(alloc)?;
-    let counts = serve_in_turn(alloc, conn, &listener)?;
-    assert_eq!(rt; counts, [Some(0), Some(1), Some(1)]);
+    serve_in_turns(&rt, alloc, conn, &listener, &turns())?;
     assert!(rt; is_answered(alloc, first, DONE)?);
     assert!(rt; is_answered(alloc, second, EXISTS)?);
     Ok(())
@@ -209,21 +217,7 @@ fn clocks_that_fail(rt: HostRuntime) -> Result<(), Fail> {
     Ok(())
 }
 
-/// Serves a client whose time is over, and then another by the same keeper; how many commands were
-/// accepted after each.
-fn serve_after_a_slow_one<S: Alter + Drop>(
-    alloc: Global,
-    conn: Connection<S>,
-    listener: &TcpListener,
-) -> Result<(Option<u64>, Option<u64>), Fail> {
-    let mut keeper = made(alloc, conn).ok_or("no farm")?;
-    serve(alloc, &mut keeper, listener, 1, &running())?;
-    let slow = count(&keeper);
-    serve(alloc, &mut keeper, listener, 1, &Hands::standing(10))?;
-    Ok((slow, count(&keeper)))
-}
-
-/// Once the desk gave up a client that waits, it serves the next.
+/// Once the desk gave up a client that waits, the same keeper serves the next.
 #[test]
 fn served_after_a_slow_one(rt: HostRuntime) -> Result<(), Fail> {
     let alloc = rt.alloc();
@@ -231,8 +225,8 @@ fn served_after_a_slow_one(rt: HostRuntime) -> Result<(), Fail> {
     let slow = client(&rt, &listener, &FIRST_TYPE[..40])?;
     let next = client(&rt, &listener, FIRST_TYPE)?;
     let conn = Connection::open_in_memory(alloc)?;
-    let counts = serve_after_a_slow_one(alloc, conn, &listener)?;
-    assert_eq!(rt; counts, (Some(0), Some(1)));
+    let turns = [(1, running(), 0), (1, Hands::standing(10), 1)];
+    serve_in_turns(&rt, alloc, conn, &listener, &turns)?;
     assert!(rt; is_answered(alloc, slow, b"")?);
     assert!(rt; is_answered(alloc, next, DONE)?);
     Ok(())
