@@ -47,19 +47,19 @@ view_is_due g k Ask.Queue bytes (Ok status) look opened made = record { was_open
 view_is_due g k Ask.Reservations bytes (Ok status) look opened made = record { was_open = opened; out = made.0; shows = made.1; says = made.2; rests = refl }
 view_is_due g k Ask.Status bytes (Ok status) look opened made = record { was_open = opened; out = made.0; shows = made.1; says = made.2; rests = refl }
 view_is_due g k (Ask.Job number) bytes (Ok status) look opened made = record { was_open = opened; out = made.0; shows = made.1; says = made.2; rests = refl }
-view_is_due g k Ask.Types bytes (Err fault) look opened made = due_when_short g k k (Ok Ask.Types) bytes fault made.fault_is (record { says = made.bytes_are; stays_open = refl; farm = refl })
-view_is_due g k Ask.Boards bytes (Err fault) look opened made = due_when_short g k k (Ok Ask.Boards) bytes fault made.fault_is (record { says = made.bytes_are; stays_open = refl; farm = refl })
-view_is_due g k Ask.Queue bytes (Err fault) look opened made = due_when_short g k k (Ok Ask.Queue) bytes fault made.fault_is (record { says = made.bytes_are; stays_open = refl; farm = refl })
-view_is_due g k Ask.Reservations bytes (Err fault) look opened made = due_when_short g k k (Ok Ask.Reservations) bytes fault made.fault_is (record { says = made.bytes_are; stays_open = refl; farm = refl })
-view_is_due g k Ask.Status bytes (Err fault) look opened made = due_when_short g k k (Ok Ask.Status) bytes fault made.fault_is (record { says = made.bytes_are; stays_open = refl; farm = refl })
-view_is_due g k (Ask.Job number) bytes (Err fault) look opened made = due_when_short g k k (Ok (Ask.Job number)) bytes fault made.fault_is (record { says = made.bytes_are; stays_open = refl; farm = refl })
+view_is_due g k Ask.Types bytes (Err fault) look opened made = due_when_short g k k (Ok Ask.Types) bytes fault made.fault_is (record { says = made.bytes_are; was_open = opened; stays_open = refl; farm = refl })
+view_is_due g k Ask.Boards bytes (Err fault) look opened made = due_when_short g k k (Ok Ask.Boards) bytes fault made.fault_is (record { says = made.bytes_are; was_open = opened; stays_open = refl; farm = refl })
+view_is_due g k Ask.Queue bytes (Err fault) look opened made = due_when_short g k k (Ok Ask.Queue) bytes fault made.fault_is (record { says = made.bytes_are; was_open = opened; stays_open = refl; farm = refl })
+view_is_due g k Ask.Reservations bytes (Err fault) look opened made = due_when_short g k k (Ok Ask.Reservations) bytes fault made.fault_is (record { says = made.bytes_are; was_open = opened; stays_open = refl; farm = refl })
+view_is_due g k Ask.Status bytes (Err fault) look opened made = due_when_short g k k (Ok Ask.Status) bytes fault made.fault_is (record { says = made.bytes_are; was_open = opened; stays_open = refl; farm = refl })
+view_is_due g k (Ask.Job number) bytes (Err fault) look opened made = due_when_short g k k (Ok (Ask.Job number)) bytes fault made.fault_is (record { says = made.bytes_are; was_open = opened; stays_open = refl; farm = refl })
 
 -- a denial that was made, or for which there was no memory
 pub denial_is_due : {S : Type 0} (g : Ghosts S) (k : Kept S) (why : Denial) (bytes : List ℕ) (end : Result ℕ DeskFault)
     → IsMadeOf (denied why) bytes end → IsDueTo g k k (Err why) bytes end
 denial_is_due g k why bytes (Ok status) made = record { says = made; rests = refl }
 denial_is_due g k why bytes (Err fault) made =
-    due_when_short g k k (Err why) bytes fault made.fault_is (record { says = made.bytes_are; stays_open = refl; farm = refl })
+    due_when_short g k k (Err why) bytes fault made.fault_is (record { says = made.bytes_are; was_open = tt; stays_open = refl; farm = refl })
 
 -- ---- calls
 
@@ -79,7 +79,7 @@ call_is_due g old new call told bytes (Ok status) same farm opened stands made =
     }
 call_is_due g old new call told bytes (Err fault) same farm opened stands made =
     due_when_short g old new (Ok (Ask.Call call)) bytes fault made.fault_is
-    (record { says = made.bytes_are; stays_open = opened.1 ∙ sym opened.0; farm = inr (record { was_open = opened.0; farm = farm; stands = stands }) })
+    (record { says = made.bytes_are; was_open = opened.0; stays_open = opened.1 ∙ sym opened.0; farm = inr (record { was_open = opened.0; farm = farm; stands = stands }) })
 
 open_unless : (b : Bool) → (b ≡ false → ⊥) → b ≡ true
 open_unless true h = refl

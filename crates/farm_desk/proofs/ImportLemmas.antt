@@ -14,10 +14,10 @@ use Rattle.farm_core.specs.Answers.{IsChange, shown}
 use Rattle.farm_keep.specs.Kept.{Kept, Keeps, KeepsFarm, KeepsEither, OnNoChange}
 use Rattle.farm_keep.specs.Runs.{answers_of}
 use Rattle.farm_keep.specs.declared.fault.KeepFault.{KeepFault}
-use Rattle.farm_keep.proofs.RunLemmas.{answers_more, run_more}
+use Rattle.farm_keep.proofs.RunLemmas.{answers_more, next_change, run_more}
 use Rattle.farm_desk.specs.declared.fault.DeskFault.{DeskFault}
 use Rattle.farm_desk.specs.declared.import.ImportEnd.{ImportEnd}
-use Rattle.farm_desk.specs.Imports.{Counts, EndsBy, IsCounted, IsNextChange, IsStopped, IsWhole, Reaches, is_accepted, is_kept}
+use Rattle.farm_desk.specs.Imports.{Counts, EndsBy, IsCounted, IsStopped, IsWhole, Reaches, is_accepted, is_kept}
 
 -- ---- one more call
 
@@ -161,14 +161,6 @@ rests_when_denied (Answer.Refused refusal) code P denied rests = rests
 -- what the keeper gave then
 abbrev acted : KeepFault → Result Answer KeepFault
 acted fault = Err fault
-
-next_change : (F G : Farm) (calls : List Call) (i : ℕ) (call : Call) → i < length calls → call ≡ get_or calls i call → G ≡ run F (take i calls)
-    → IsChange (answer G call) → IsNextChange F calls i
-next_change F G calls i call low here before change = record {
-  told = answer G call;
-  next = answers_with F G calls i call (answer G call) (record { low = low; here = here; before = before; told_is = refl });
-  change = change;
-}
 
 -- the keeper gave a fault at a call
 pub faulted_at : {S : Type 0} (g : Ghosts S) (old mid new : Kept S) (calls : List Call) (i done : ℕ) (call : Call) (fault : KeepFault)

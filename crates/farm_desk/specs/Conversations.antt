@@ -18,8 +18,10 @@ use Rattle.farm_desk.specs.Heard.{Asks, Hears}
 use Rattle.farm_desk.specs.Answers.{Says, IsView, denied, replied}
 use Rattle.farm_desk.specs.Due.{IsDue}
 use Rattle.farm_desk.specs.Ends.{IsAnswered, IsUnwritten, IsUnread, IsToldBy}
+use Rattle.farm_desk.specs.Faults.{ended_order}
 use Rattle.farm_desk.specs.Imports.{Reaches}
 use Rattle.farm_desk.specs.declared.fault.DeskFault.{DeskFault}
+use Rattle.farm_desk.specs.declared.orders.End.{End}
 
 -- ---- one conversation, and several in a row
 
@@ -34,6 +36,12 @@ pub record Converses {S : Type 0} (g : Ghosts S) (old new : Desk S) (now : ℕ) 
   pub answered : IsToldBy end → IsAnswered (IsDue g old.keeper new.keeper old.input new.input now) old.output new.output end
   pub unwritten : end ≡ Err DeskFault.Write → IsUnwritten (IsDue g old.keeper new.keeper old.input new.input now) old.output new.output
   pub unread : end ≡ Err DeskFault.Read → IsUnread old.keeper new.keeper old.output new.output
+
+-- an order that is one conversation at this moment: it ends as the conversation does
+pub record AnswersOne {S : Type 0} (g : Ghosts S) (old new : Desk S) (now : ℕ) (result : Result End DeskFault) : Type 0 where
+  pub end : Result ℕ DeskFault
+  pub converses : Converses g old new now end
+  pub ends : result ≡ ended_order end
 
 -- the moment of a conversation, and how it ends
 pub record Talk : Type 0 where

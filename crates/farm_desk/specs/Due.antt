@@ -28,9 +28,16 @@ abbrev pub RestsOrIsDone : {S : Type 0} → Ghosts S → Kept S → Kept S → R
 RestsOrIsDone g old new (Ok (Ask.Call call)) = (new ≡ old) ⊎ IsDone g old new call
 RestsOrIsDone g old new what = new ≡ old
 
--- there was no memory for the answer: the constant one is due, and an open keeper stays open
+-- a keeper that was asked anything was open
+abbrev pub WasOpenFor : {S : Type 0} → Kept S → Result Ask Denial → Type 0
+WasOpenFor old (Ok what) = old.is_open ≡ true
+WasOpenFor old (Err why) = Unit {0}
+
+-- there was no memory for the answer: the constant one is due, and an open keeper stays open; a closed one has its own
+-- answer to whatever is asked
 pub record RunsOut {S : Type 0} (g : Ghosts S) (old new : Kept S) (what : Result Ask Denial) (bytes : List ℕ) : Type 0 where
   pub says : bytes ≡ reply_bytes (refusal NO_MEMORY)
+  pub was_open : WasOpenFor old what
   pub stays_open : new.is_open ≡ old.is_open
   pub farm : RestsOrIsDone g old new what
 

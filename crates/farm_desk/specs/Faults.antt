@@ -28,6 +28,11 @@ exit_status fault = FAILED
 abbrev pub end_of : ℕ → End
 end_of status = if status == 200 then End.Done else End.Refused
 
+-- how the order ends that answers one request
+abbrev pub ended_order : Result ℕ DeskFault → Result End DeskFault
+ended_order (Ok status) = Ok (end_of status)
+ended_order (Err fault) = Err fault
+
 -- the exit status of an order
 abbrev pub order_status : Result End DeskFault → ℕ
 order_status (Ok End.Done) = DONE

@@ -6,9 +6,8 @@ use Rattle.farm_types.specs.Farm.{Farm}
 use Rattle.farm_types.specs.Machine.{Answered, Changed, Repeated, Denied, run}
 use Rattle.farm_types.specs.declared.calls.Call.{Call}
 use Rattle.farm_types.specs.declared.refusal.Refusal.{Refusal}
-use Rattle.farm_core.specs.Answers.{IsChange}
 use Rattle.farm_keep.specs.Kept.{Kept, Keeps, KeepsFarm, KeepsEither}
-use Rattle.farm_keep.specs.Runs.{answers_of}
+use Rattle.farm_keep.specs.Runs.{answers_of, IsNextChange}
 use Rattle.farm_keep.specs.declared.fault.KeepFault.{KeepFault}
 use Rattle.farm_jobfile.specs.Reading.{Faults}
 use Rattle.farm_jobfile.specs.Lab.{entry_of, lab}
@@ -65,12 +64,6 @@ pub record IsStopped {S : Type 0} (g : Ghosts S) (old new : Kept S) (calls : Lis
   pub within : place ≤ length calls
   pub refused : answers_of old.farm.farm (take place calls) ≡ answers_of old.farm.farm (take done calls) ++ Denied code ∷ []
   pub reaches : Reaches g old new (take done calls)
-
--- the next call's answer is a change's
-pub record IsNextChange (F : Farm) (calls : List Call) (done : ℕ) : Type 0 where
-  pub told : Answered
-  pub next : answers_of F (take (done + 1) calls) ≡ answers_of F (take done calls) ++ told ∷ []
-  pub change : IsChange told
 
 -- there was no memory for the change of the next call: the keeper is closed, and its store keeps the farm before it
 pub record LacksMemoryFor {S : Type 0} (g : Ghosts S) (old new : Kept S) (calls : List Call) (done : ℕ) : Type 0 where

@@ -1,8 +1,9 @@
 -- The lines that the program writes.
-use Rattle.std.specs.Prelude.{◌≡◌, ℕ, List, [], ◌∷◌, ◌++◌, codes, decimal, Option, Some, None}
+use Rattle.std.specs.Prelude.{◌≡◌, ℕ, List, [], ◌∷◌, ◌++◌, codes, decimal, Option, Some, None, Result, Ok, Err}
 use Rattle.std.specs.Io.KnownBytes.{Appends, Keeps}
 use Rattle.farm_types.specs.Refusals.{text_of}
 use Rattle.farm_types.specs.declared.refusal.Refusal.{Refusal}
+use Rattle.farm_desk.specs.declared.fault.DeskFault.{DeskFault}
 use Rattle.farm_desk.specs.declared.import.ImportEnd.{ImportEnd}
 use Rattle.farm_desk.specs.declared.orders.End.{End}
 
@@ -22,10 +23,13 @@ fault_line code = (codes "farm: " ++ (decimal code ++ (codes " " ++ text_of code
 abbrev pub refusal_line : ℕ → ℕ → List ℕ
 refusal_line code place = (codes "farm: " ++ (decimal code ++ (codes " " ++ (text_of code ++ (codes " at " ++ decimal place))))) ++ 10 ∷ []
 
--- an import without a refusal prints its line; of one with, the place and the refusal are given, and nothing is printed
-abbrev pub TellsBy : Option (ℕ × Refusal) → List ℕ → Option (List ℕ) → Option (List ℕ) → End → Type 0
-TellsBy None line held holds end = (end ≡ End.Done) × Appends held holds line
-TellsBy (Some stop) line held holds end = (end ≡ End.RefusedAt stop.0 stop.1) × Keeps held holds
+-- an import that met a fault ends with it, and one that met a refusal with its place and the refusal: neither prints
+-- anything; any other prints its line, or the writer failed
+abbrev pub TellsBy : Option DeskFault → Option (ℕ × Refusal) → List ℕ → Option (List ℕ) → Option (List ℕ) → Result End DeskFault → Type 0
+TellsBy (Some fault) stopped line held holds result = (result ≡ Err fault) × Keeps held holds
+TellsBy None (Some stop) line held holds result = (result ≡ Ok (End.RefusedAt stop.0 stop.1)) × Keeps held holds
+TellsBy None None line held holds (Ok end) = (end ≡ End.Done) × Appends held holds line
+TellsBy None None line held holds (Err fault) = fault ≡ DeskFault.Write
 
-abbrev pub TellsImport : ImportEnd → Option (List ℕ) → Option (List ℕ) → End → Type 0
-TellsImport imported held holds end = TellsBy imported.stopped (counts_line imported.accepted imported.kept) held holds end
+abbrev pub TellsImport : ImportEnd → Option (List ℕ) → Option (List ℕ) → Result End DeskFault → Type 0
+TellsImport imported held holds result = TellsBy imported.fault imported.stopped (counts_line imported.accepted imported.kept) held holds result

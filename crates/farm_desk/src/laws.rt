@@ -3,11 +3,13 @@ ghost use Rattle.std.specs.Prelude.{◌≤◌, ◌++◌, ◌↔◌, List, OnOk, 
 ghost use Rattle.sqlite.specs.Held.{state};
 ghost use Rattle.sqlite_trees.specs.View.{doubt};
 ghost use Rattle.farm_desk.specs.Conversations.{Desk, Talk, ConverseInTurn, ConverseApart, desk, AnswersAll, StopsAt, AnsweredActAsRun, ToldAgain, OpenKeepsDone, ClosedKeepsPrefix};
+ghost use Rattle.farm_desk.specs.InFiles.{LeavesFiles};
 
 use crate::converse::converse;
 use crate::fault::DeskFault;
 use farm_keep::Keeper;
-use sqlite::Alter;
+use sqlite::{Alter, FileStore};
+use sqlite_disk::Disk;
 use std::alloc::Global;
 use std::io::{Read, Write};
 
@@ -63,3 +65,13 @@ pub fn conversations_keep_a_prefix<S: Alter>()
     ensures opened { OpenKeepsDone S.Store }
     ensures closed { ClosedKeepsPrefix S.Store }
 {}
+
+/// The crash prefix in files: whatever a stop leaves of the files of a keeper after a run, however the
+/// run ended, they hold the farm after the calls that were answered or, where a fault of the store
+/// ended it, perhaps after one call more. `open_farm` says that a keeper which is opened on files that
+/// hold a farm has exactly that farm.
+pub fn stopped_files_hold<D: Disk + Drop>(keeper: Keeper<FileStore<D>>) -> FileStore<D>
+    ensures { LeavesFiles keeper result }
+{
+    keeper.into_connection().into_store()
+}

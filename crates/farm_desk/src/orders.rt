@@ -1,9 +1,7 @@
 //! Carrying out an order.
-ghost use Rattle.std.specs.Prelude.{◌≡◌, ◌≤◌, ℕ, None, Ok, IfOk, OnOk};
+ghost use Rattle.std.specs.Prelude.{◌≡◌, ◌≤◌, IfOk, IfErr, OnOk};
 ghost use Rattle.std.specs.Io.KnownBytes.{Appends};
-ghost use Rattle.farm_desk.specs.Due.{IsDue};
-ghost use Rattle.farm_desk.specs.Ends.{IsAnswered};
-ghost use Rattle.farm_desk.specs.Faults.{end_of};
+ghost use Rattle.farm_desk.specs.Conversations.{AnswersOne, desk};
 ghost use Rattle.farm_desk.specs.Imports.{IsImport};
 ghost use Rattle.farm_desk.specs.Lines.{counts_line, port_line, TellsImport};
 ghost use Rattle.farm_desk.specs.Reports.{Reports, seconds_ahead};
@@ -112,9 +110,8 @@ fn answer_one<R: Read, W: Write, S: Alter>(
     output: &mut W,
     at: u64,
 ) -> Result<End, DeskFault>
-    ensures answered { IfOk result (λ end. (status : ℕ) × (end ≡ end_of status) × IsAnswered
-        (IsDue S.Store keeper.old keeper.new (R.remaining input.old) (R.remaining input.new) at)
-        (W.contents output.old) (W.contents output.new) (Ok status)) }
+    ensures { AnswersOne S.Store (desk keeper.old (R.remaining input.old) (W.contents output.old))
+        (desk keeper.new (R.remaining input.new) (W.contents output.new)) at result }
 {
     match converse(alloc, keeper, input, output, at)? {
         OK => Ok(End::Done),
@@ -155,9 +152,8 @@ fn import_text<W: Write, S: Alter>(
     at: u64,
     output: &mut W,
 ) -> Result<End, DeskFault>
-    ensures { IfOk result (λ end. (imported : ImportEnd) × IsImport S.Store keeper.old keeper.new text.now at imported
-        × (imported.fault ≡ None)
-        × TellsImport imported (W.contents output.old) (W.contents output.new) end) }
+    ensures { (imported : ImportEnd) × IsImport S.Store keeper.old keeper.new text.now at imported
+        × TellsImport imported (W.contents output.old) (W.contents output.new) result }
 {
     let end = import(alloc, keeper, text, at);
     if let Some(fault) = end.fault {
@@ -171,8 +167,9 @@ fn import_text<W: Write, S: Alter>(
 
 /// Prints how many commands were accepted, and how many had been before.
 fn print_counts<W: Write>(output: &mut W, accepted: usize, kept: usize) -> Result<End, DeskFault>
-    ensures { IfOk result (λ end. (end ≡ End.Done)
+    ensures done { IfOk result (λ end. (end ≡ End.Done)
         × Appends (W.contents output.old) (W.contents output.new) (counts_line accepted kept)) }
+    ensures fault { IfErr result (λ fault. fault ≡ DeskFault.Write) }
 {
     match writeln!(output, "accepted {accepted}, kept {kept}") {
         Ok(()) => Ok(End::Done),

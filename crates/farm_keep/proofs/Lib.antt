@@ -1,3 +1,4 @@
 pub mod KeptLemmas
+pub mod LifeLemmas
 pub mod RestartLemmas
 pub mod RunLemmas

@@ -1,6 +1,6 @@
 -- What a run leaves, and what is found again.
-use Rattle.std.specs.Prelude.{◌≡◌, ◌≤◌, ◌⊎◌, ◌+◌, ℕ, true, List, take, map, length, Some, IfNone}
-use Rattle.sqlite.specs.State.{HasCleanDisk}
+use Rattle.std.specs.Prelude.{◌≡◌, ◌≢◌, ◌≤◌, ◌<◌, ◌⊎◌, ◌+◌, ℕ, true, false, List, take, map, length, Some, IfNone, ⊤}
+use Rattle.sqlite.specs.State.{State, HasCleanDisk}
 use Rattle.sqlite.specs.Held.{Held, state}
 use Rattle.sqlite.specs.Tree.{Trees}
 use Rattle.sqlite_trees.specs.declared.store.Store.{Ghosts}
@@ -12,9 +12,10 @@ use Rattle.farm_types.specs.declared.calls.Call.{Call}
 use Rattle.farm_core.specs.Answers.{shown}
 use Rattle.farm_store.specs.Columns.{Tables, rows_of}
 use Rattle.farm_store.specs.Holds.{Holds, Stands, LeavesNoMore}
-use Rattle.farm_keep.specs.Kept.{Kept, KeepsFarm}
-use Rattle.farm_keep.specs.Runs.{answers_of}
+use Rattle.farm_keep.specs.Kept.{Kept, Keeps, KeepsFarm, KeepsEither}
+use Rattle.farm_keep.specs.Runs.{answers_of, IsNextChange}
 use Rattle.farm_keep.specs.declared.keeper.run.RunEnd.{RunEnd}
+use Rattle.farm_keep.specs.declared.fault.KeepFault.{KeepFault}
 use Rattle.farm_keep.specs.declared.fault.KeepFault.TheVariants as fault
 
 -- a stop now leaves the rows of the run over the calls that were answered or, after a fault of the store, perhaps over one call more
@@ -33,13 +34,44 @@ pub record Adopts {S : Type 0} (g : Ghosts S) (conn : Held S) (k : Kept S) : Typ
   pub rows : HasCleanDisk (state g k.conn) → (T : Tables) → Stands (state g conn) T → rows_of k.farm.farm ≡ T
   pub exact : HasCleanDisk (state g k.conn) → (F : Farm) → IsSound F → Stands (state g conn) (rows_of F) → k.farm.farm ≡ F
 
--- the calls were run on this farm: they were answered as far as it says, the store keeps the farm that they lead to,
--- a stop leaves no other tables than the run's, and each farm on the way is sound
-pub record ResumesAs {S : Type 0} (g : Ghosts S) (k : Kept S) (end : RunEnd) (F : Farm) (calls : List Call) : Type 0 where
+-- the store's disk always returns what was written
+abbrev pub IsAlwaysClean : {S : Type 0} → Ghosts S → Type 0
+IsAlwaysClean {S} g = (h : Held S) → HasCleanDisk (state g h)
+
+-- why a store gives no keeper: it is bad only where no sound farm stands there, and its schema old only where no tables do
+abbrev pub Denies : State → KeepFault → Type 0
+Denies s KeepFault.BadStore = (F : Farm) → IsSound F → ¬ Stands s (rows_of F)
+Denies s KeepFault.OldSchema = (T : Tables) → ¬ Stands s T
+Denies s other = ⊤
+
+-- what a run over calls makes of a keeper
+pub record Runs {S : Type 0} (g : Ghosts S) (old new : Kept S) (end : RunEnd) (calls : List Call) : Type 0 where
+  -- the answers are the machine's, one for each call that was done
+  pub counted : length end.answers.items ≡ end.done
   pub within : end.done ≤ length calls
-  pub whole : IfNone end.fault ((end.done ≡ length calls) × (k.is_open ≡ true))
-  pub answers : HasCleanDisk (state g k.conn) → map shown end.answers.items ≡ answers_of F (take end.done calls)
-  pub farm : HasCleanDisk (state g k.conn) → IfNone end.fault (k.farm.farm ≡ run F calls)
-  pub stands : IfNone end.fault (KeepsFarm g k (run F calls))
-  pub left : LeavesRun g k end F calls
-  pub sound : (n : ℕ) → IsSound (run F (take n calls))
+  pub answers : map shown end.answers.items ≡ answers_of old.farm.farm (take end.done calls)
+  -- without a fault all calls were done, and the store keeps the farm that they lead to
+  pub whole : IfNone end.fault ((end.done ≡ length calls) × (new.is_open ≡ old.is_open))
+  pub farm : IfNone end.fault (new.farm.farm ≡ run old.farm.farm calls)
+  pub stands : IfNone end.fault (Keeps g old → KeepsFarm g new (run old.farm.farm calls))
+  -- without memory the keeper is closed, and the store keeps the farm of the calls that were done: there was no room for
+  -- the answers, or none for the change of the next call
+  pub memory : end.fault ≡ Some fault.NoMemory → (new.is_open ≡ false) × ((end.done ≡ 0) ⊎ IsNextChange old.farm.farm calls end.done)
+      × (Keeps g old → KeepsFarm g new (run old.farm.farm (take end.done calls)))
+  -- where the store refused the change of the next call the keeper is closed, and a stop leaves that farm or the one after this call
+  pub store : end.fault ≡ Some fault.Store → (new.is_open ≡ false) × (end.done < length calls) × IsNextChange old.farm.farm calls end.done
+      × (Keeps g old → KeepsEither g new (run old.farm.farm (take end.done calls)) (run old.farm.farm (take (end.done + 1) calls)))
+  -- a keeper that was closed does nothing
+  pub closed : end.fault ≡ Some fault.Closed → (old.is_open ≡ false) × (new ≡ old)
+  pub before : old.is_open ≡ false → (end.done ≡ 0) × (new.conn ≡ old.conn) × (new.is_open ≡ false) × (end.fault ≢ Some fault.Store)
+  pub others : (end.fault ≢ Some fault.BadStore) × (end.fault ≢ Some fault.OldSchema)
+  -- however the run ended, a stop leaves no other tables, and each farm on the way is sound
+  pub left : Keeps g old → LeavesRun g new end old.farm.farm calls
+  pub sound : old.is_open ≡ true → (n : ℕ) → IsSound (run old.farm.farm (take n calls))
+  pub clean : doubt (state g old.conn).is_clean ≤ doubt (state g new.conn).is_clean
+
+-- a keeper that was made from what the connection held ran the calls
+pub record Resumes {S : Type 0} (g : Ghosts S) (conn : Held S) (k : Kept S) (end : RunEnd) (calls : List Call) : Type 0 where
+  pub adopted : Kept S
+  pub adopts : Adopts g conn adopted
+  pub runs : Runs g adopted k end calls

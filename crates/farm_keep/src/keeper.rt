@@ -6,12 +6,12 @@ ghost use Rattle.sqlite_trees.specs.View.{doubt};
 ghost use Rattle.farm_types.specs.Farm.{empty};
 ghost use Rattle.farm_types.specs.Machine.{answer, step};
 ghost use Rattle.farm_types.specs.Sound.{IsSound};
-ghost use Rattle.farm_core.specs.Answers.{shown, IsChange};
-ghost use Rattle.farm_store.specs.Columns.{rows_of};
-ghost use Rattle.farm_store.specs.Holds.{LeavesEither, StandsFor};
+ghost use Rattle.farm_core.specs.Answers.{shown, IsChange, Leads};
+ghost use Rattle.farm_store.specs.Columns.{Tables, rows_of};
+ghost use Rattle.farm_store.specs.Holds.{LeavesEither, Stands, StandsFor};
 ghost use Rattle.farm_store.specs.Schema.{no_schema};
 ghost use Rattle.farm_keep.specs.Kept.{Keeps, KeepsEither, OnNoChange};
-ghost use Rattle.farm_keep.specs.Headline.{Adopts};
+ghost use Rattle.farm_keep.specs.Headline.{Adopts, Denies, IsAlwaysClean};
 
 mod run;
 
@@ -48,12 +48,13 @@ impl<S: Alter> Model for Keeper<S> {
 }
 
 impl<S: Alter + Drop> Keeper<S> {
-    /// A keeper of the empty farm, in a store without tables. What a fault leaves is said of
-    /// `farm_store::create`, which is lent the connection.
+    /// A keeper of the empty farm, in a store without tables; a store that stands for tables is
+    /// refused. What a fault leaves is said of `farm_store::create`, which is lent the connection.
     pub fn fresh(alloc: Global, mut conn: Connection<S>) -> Result<Keeper<S>, KeepFault>
         requires { conn.in_transaction ≡ false }
         ensures opened { IfOk result (λ k. (k.is_open ≡ true) × (k.farm.farm ≡ empty)) }
         ensures keeps { IfOk result (λ k. (state S.Store conn).now.schema ≡ no_schema → Keeps S.Store k) }
+        ensures refused { IfOk result (λ k. HasCleanDisk (state S.Store k.conn) → (T : Tables) → ¬ Stands (state S.Store conn) T) }
         ensures clean { IfOk result (λ k. doubt (state S.Store conn).is_clean ≤ doubt (state S.Store k.conn).is_clean) }
         ensures fault { IfErr result (λ fault. fault ≡ KeepFault.Store) }
     {
@@ -71,6 +72,7 @@ impl<S: Alter + Drop> Keeper<S> {
     pub fn adopt(alloc: Global, mut conn: Connection<S>) -> Result<Keeper<S>, KeepFault>
         requires { conn.in_transaction ≡ false }
         ensures adopted { IfOk result (λ k. Adopts S.Store conn k) }
+        ensures refused { IsAlwaysClean S.Store → IfErr result (Denies (state S.Store conn)) }
         ensures fault { result ≢ Err KeepFault.Closed }
     {
         let farm = found(alloc, &mut conn)?;
@@ -108,6 +110,9 @@ impl<S: Alter> Keeper<S> {
         ensures farm { OnOk result (self.new.farm.farm ≡ step self.old.farm.farm call.entry.now) }
         ensures opened { OnOk result ((self.old.is_open ≡ true) × (self.new.is_open ≡ true)) }
         ensures stands { OnOk result (Keeps S.Store self.old → Keeps S.Store self.new) }
+
+        // The changed rows of the answer are those that were put.
+        ensures changes { IfOk result (λ a. Leads a self.old.farm.farm self.new.farm.farm) }
 
         // A kept reply and a refusal leave the very keeper.
         ensures rests { IfOk result (λ a. OnNoChange a (self.new ≡ self.old)) }
@@ -153,6 +158,7 @@ fn step_and_put<S: Alter>(
     ensures answer { IfOk result (λ a. shown a ≡ answer farm.old.farm call.entry.now) }
     ensures farm { OnOk result (farm.new.farm ≡ step farm.old.farm call.entry.now) }
     ensures working { OnOk result ((farm.new.failed ≡ false) × IsSound farm.new.farm) }
+    ensures changes { IfOk result (λ a. Leads a farm.old.farm farm.new.farm) }
     ensures stands { OnOk result (StandsFor (state S.Store conn.old) farm.old.farm → StandsFor (state S.Store conn.new) farm.new.farm) }
     ensures rests { IfOk result (λ a. OnNoChange a ((conn.new ≡ conn.old) × (farm.new ≡ farm.old))) }
     ensures change { IfErr result (λ _. IsChange (answer farm.old.farm call.entry.now)) }

@@ -1,21 +1,44 @@
 //! Laws over runs and restarts.
-ghost use Rattle.std.specs.Prelude.{◌≡◌, ◌++◌, List};
-ghost use Rattle.farm_types.specs.Farm.{Farm};
+ghost use Rattle.std.specs.Prelude.{◌≡◌, ◌++◌, List, true, false};
+ghost use Rattle.sqlite.specs.Held.{state};
+ghost use Rattle.sqlite.specs.State.{HasCleanDisk};
+ghost use Rattle.sqlite.specs.Steps.{over_memory};
+ghost use Rattle.sqlite.specs.Tree.{Trees};
+ghost use Rattle.farm_store.specs.Columns.{rows_of};
+ghost use Rattle.farm_store.specs.Holds.{Holds};
+ghost use Rattle.farm_types.specs.Farm.{Farm as Plain};
+ghost use Rattle.farm_types.specs.Sound.{IsSound};
+ghost use Rattle.farm_keep.specs.Headline.{IsAlwaysClean, Runs};
+ghost use Rattle.farm_keep.specs.Kept.{Kept, Keeps};
+ghost use Rattle.farm_keep.specs.Lives.{Life, AreLived, GivesRestarts, GivesRun, OpensOn};
+ghost use Rattle.farm_keep.specs.declared.keeper.run.RunEnd.{RunEnd as End};
 ghost use Rattle.farm_types.specs.Machine.{run};
 ghost use Rattle.farm_types.specs.declared.calls.Call.{Call};
 ghost use Rattle.farm_keep.specs.Runs.{answers_of};
 ghost use Rattle.farm_keep.specs.Restarts.{Restart, run_all, joined, AnswersAgain, ActsOnce};
 
+use crate::fault::KeepFault;
+use crate::reading::found;
+use farm_core::farm::Farm;
+use farm_store::laws::opened_stands;
+use sqlite::{Alter, Connection};
+use std::alloc::Global;
+
 /// A run over one list and then over another is the run over their joining, and so are its answers.
 pub fn runs_join()
-    ensures farm { (F : Farm) (first second : List Call) → run F (first ++ second) ≡ run (run F first) second }
-    ensures answers { (F : Farm) (first second : List Call)
+    ensures farm { (F : Plain) (first second : List Call) → run F (first ++ second) ≡ run (run F first) second }
+    ensures answers { (F : Plain) (first second : List Call)
         → answers_of F (first ++ second) ≡ answers_of F first ++ answers_of (run F first) second }
 {}
 
 /// Restarts one after another are one run over the calls that were done.
 pub fn restarts_join()
-    ensures { (F : Farm) (restarts : List Restart) → run_all F restarts ≡ run F (joined restarts) }
+    ensures { (F : Plain) (restarts : List Restart) → run_all F restarts ≡ run F (joined restarts) }
+{}
+
+/// A store in memory always returns what was written: whatever else is said of a clean disk holds of it.
+pub fn memory_is_clean()
+    ensures { IsAlwaysClean over_memory }
 {}
 
 /// A command that is repeated under its key, after any restarts, acts at most once: a client that
@@ -24,3 +47,36 @@ pub fn acts_once()
     ensures again { AnswersAgain }
     ensures once { ActsOnce }
 {}
+
+/// The crash prefix: what a stop leaves after a run, however the run ended, is found again as exactly
+/// the farm after the calls that were answered or, where a fault of the store ended it, perhaps after
+/// one call more. It is `found`, on a store that was opened on what was left.
+pub fn found_after_stop<S: Alter>(
+    alloc: Global,
+    conn: &mut Connection<S>,
+) -> Result<Farm, KeepFault>
+    requires { conn.old.in_transaction ≡ false }
+    ensures { HasCleanDisk (state S.Store conn.new) → (old new : Kept S) (end : End) (calls : List Call)
+        → Keeps S.Store old → old.is_open ≡ true → Runs S.Store old new end calls → HasCleanDisk (state S.Store new.conn)
+        → (left : Trees) → (state S.Store new.conn).may_leave left → OpensOn (state S.Store conn.old) left
+        → GivesRun result old.farm.farm end calls }
+{
+    opened_stands(conn);
+    found(alloc, conn)
+}
+
+/// The crash prefix over any list of lives: each opens the store on what the stop before it left,
+/// resumes, runs its calls and is stopped. What the last one left is found again as exactly the farm
+/// after the calls that were done, life by life; `acts_once` speaks of the same list of restarts.
+pub fn restarts_find_a_prefix<S: Alter>(
+    alloc: Global,
+    conn: &mut Connection<S>,
+) -> Result<Farm, KeepFault>
+    requires { conn.old.in_transaction ≡ false }
+    ensures { HasCleanDisk (state S.Store conn.new) → (F : Plain) (lives : List (Life S)) (first last : Trees)
+        → IsSound F → Holds first (rows_of F) → AreLived S.Store lives first last → OpensOn (state S.Store conn.old) last
+        → GivesRestarts result F lives }
+{
+    opened_stands(conn);
+    found(alloc, conn)
+}

@@ -1,5 +1,5 @@
 -- The tables are made.
-use Rattle.std.proofs.Common.{◌≡◌, ◌⊎◌, inl, inr, ℕ, List, [], ◌∷◌, codes, Bool, true, false, Ok, Err, Result, refl, sym, ap, subst, ◌∙◌, IsTrue}
+use Rattle.std.proofs.Common.{◌≡◌, ◌⊎◌, inl, inr, ℕ, List, [], ◌∷◌, codes, Bool, true, false, Ok, Err, Result, is_ok, refl, sym, ap, subst, ◌∙◌, IsTrue}
 use Rattle.sqlite.specs.Order.{Row}
 use Rattle.sqlite.specs.Table.{Table}
 use Rattle.sqlite.specs.Schema.{Schema}
@@ -10,10 +10,10 @@ use Rattle.sqlite.specs.Does.{Tally, lacks_sequence}
 use Rattle.sqlite_tied.specs.Compute.{everything}
 use Rattle.sqlite.specs.Listing.{understood}
 use Rattle.sqlite.specs.Effect.{Database, IsDatabase}
-use Rattle.sqlite.specs.State.{State, Writes}
+use Rattle.sqlite.specs.State.{State, Writes, ExecutesIn}
 use Rattle.sqlite.proofs.Callers.{IsPlain, command_of, statement_of, runs_as}
-use Rattle.farm_store.specs.Schema.{no_schema, types_table, boards_table, jobs_table, reservations_table, kept_table, meta_table}
-use Rattle.farm_store.specs.Columns.{no_rows, by_first, by_two}
+use Rattle.farm_store.specs.Schema.{farm_schema, no_schema, types_table, boards_table, jobs_table, reservations_table, kept_table, meta_table}
+use Rattle.farm_store.specs.Columns.{Tables, no_rows, by_first, by_two}
 use Rattle.farm_store.specs.Edits.{Ran}
 use Rattle.farm_store.specs.Holds.{IsInside}
 use Rattle.farm_store.specs.Stored.{Lists, unnumbered, with_number}
@@ -146,3 +146,19 @@ makes_all a b c d e f h has one two three four five six =
         };
       };
     }
+
+-- ---- where the tables are there already
+
+taken : (old new : State) (text : List ℕ) (s : Schema) → is_ok (understood s text) ≡ false → old.now.schema ≡ s → Ran text old new → ⊥
+unfolding ExecutesIn
+taken old new text s refused has ran =
+    let known : Ok ran.1.0 ≡ understood s text = sym ran.1.1.is ∙ ap (λ u. understood u text) has in
+    let no : true ≡ false = ap is_ok known ∙ refused in cc
+
+-- the first table is not made over the farm's
+pub types_taken : (old new : State) → old.now.schema ≡ farm_schema → Ran types_text old new → ⊥
+unfolding understood everything
+types_taken old new has ran = taken old new types_text farm_schema refl has ran
+
+pub tables_taken : (old new : State) (T : Tables) → IsInside old T → Ran types_text old new → ⊥
+tables_taken old new T at ran = types_taken old new (at.shown ran.2).schema ran

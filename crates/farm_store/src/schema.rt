@@ -1,12 +1,14 @@
 //! The tables of the empty farm.
 ghost use Rattle.std.specs.Prelude.{◌≡◌, ◌≤◌, ◌⊎◌, false, IsTrue, IfErr, OnOk};
 ghost use Rattle.sqlite.specs.Held.{state};
-ghost use Rattle.sqlite.specs.State.{HasCleanDisk};
+ghost use Rattle.sqlite.specs.State.{HasCleanDisk, KeepsCommit};
+ghost use Rattle.sqlite.specs.Tree.{Trees};
 ghost use Rattle.sqlite_trees.specs.View.{doubt};
 ghost use Rattle.farm_types.specs.Farm.{empty};
-ghost use Rattle.farm_store.specs.Columns.{no_rows, rows_of};
+ghost use Rattle.farm_store.specs.Columns.{Tables, no_rows, rows_of};
 ghost use Rattle.farm_store.specs.Edits.{CommitsNothing, Ran, StaysOpen};
-ghost use Rattle.farm_store.specs.Holds.{Holds, IsInside, Stands};
+ghost use Rattle.farm_store.specs.Holds.{IsInside, IsMadeIn, Stands};
+ghost use Rattle.farm_store.specs.Reading.{CommitShows};
 ghost use Rattle.farm_store.specs.Schema.{no_schema};
 
 use crate::fault::StoreFault;
@@ -21,6 +23,8 @@ fn make<S: Alter>(tx: &mut Transaction<'_, S>, sql: &str) -> Result<(), Error>
     ensures same_reference { tx.new.conn.ghost_name ≡ tx.old.conn.ghost_name }
     ensures ran { HasCleanDisk (state S.Store tx.new.conn.now) → OnOk result (IsTrue (state S.Store tx.old.conn.now).in_transaction
         → Ran sql.now (state S.Store tx.old.conn.now) (state S.Store tx.new.conn.now)) }
+    ensures kept { HasCleanDisk (state S.Store tx.new.conn.now) → IsTrue (state S.Store tx.old.conn.now).in_transaction
+        → KeepsCommit (state S.Store tx.old.conn.now) (state S.Store tx.new.conn.now) }
     ensures survives { CommitsNothing (state S.Store tx.old.conn.now) (state S.Store tx.new.conn.now) }
 {
     tx.execute(sql, &[])?;
@@ -31,6 +35,9 @@ fn make_all<S: Alter>(tx: &mut Transaction<'_, S>) -> Result<(), Error>
     ensures same_reference { tx.new.conn.ghost_name ≡ tx.old.conn.ghost_name }
     ensures made { HasCleanDisk (state S.Store tx.new.conn.now) → OnOk result (IsTrue (state S.Store tx.old.conn.now).in_transaction
         → (state S.Store tx.old.conn.now).now.schema ≡ no_schema → IsInside (state S.Store tx.new.conn.now) no_rows) }
+    ensures refused { HasCleanDisk (state S.Store tx.new.conn.now) → OnOk result ((T : Tables) → ¬ IsInside (state S.Store tx.old.conn.now) T) }
+    ensures kept { HasCleanDisk (state S.Store tx.new.conn.now) → (T : Tables) → IsInside (state S.Store tx.old.conn.now) T
+        → CommitShows (state S.Store tx.old.conn.now) T → CommitShows (state S.Store tx.new.conn.now) T }
     ensures survives { CommitsNothing (state S.Store tx.old.conn.now) (state S.Store tx.new.conn.now) }
 {
     make(
@@ -79,7 +86,8 @@ fn put_first_numbers<S: Alter>(tx: &mut Transaction<'_, S>) -> Result<(), Error>
 }
 
 /// Makes the six tables of the empty farm in one transaction, whose commit is the last call of the store. Where a call of
-/// the store was refused, as where one of the tables is there already, a stop leaves none of what it makes or all.
+/// the store was refused, as where one of the tables is there already, a stop leaves none of what it makes or all. A store
+/// that stands for tables is refused, and stands for them as before.
 ///
 /// It runs ten statements, whatever else the store holds.
 pub fn create<S: Alter>(conn: &mut Connection<S>) -> Result<(), StoreFault>
@@ -88,8 +96,10 @@ pub fn create<S: Alter>(conn: &mut Connection<S>) -> Result<(), StoreFault>
     ensures clean { doubt (state S.Store conn.old).is_clean ≤ doubt (state S.Store conn.new).is_clean }
     ensures ok { HasCleanDisk (state S.Store conn.new) → OnOk result ((state S.Store conn.old).now.schema ≡ no_schema
         → Stands (state S.Store conn.new) (rows_of empty)) }
-    ensures stop { HasCleanDisk (state S.Store conn.new) → (state S.Store conn.old).now.schema ≡ no_schema
-        → (db : _) → (state S.Store conn.new).may_leave db → (state S.Store conn.old).may_leave db ⊎ Holds db (rows_of empty) }
+    ensures refused { HasCleanDisk (state S.Store conn.new) → OnOk result ((T : Tables) → ¬ Stands (state S.Store conn.old) T) }
+    ensures stands { HasCleanDisk (state S.Store conn.new) → (T : Tables) → Stands (state S.Store conn.old) T → Stands (state S.Store conn.new) T }
+    ensures stop { HasCleanDisk (state S.Store conn.new) → (db : Trees) → (state S.Store conn.new).may_leave db
+        → (state S.Store conn.old).may_leave db ⊎ IsMadeIn (state S.Store conn.old) db }
     ensures fault { IfErr result (λ fault. fault ≡ StoreFault.Store) }
 {
     let mut tx = conn.transaction();

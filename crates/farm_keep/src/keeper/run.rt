@@ -1,16 +1,8 @@
 //! One call after another.
-ghost use Rattle.std.specs.Prelude.{◌≡◌, ◌≢◌, ◌≤◌, ◌<◌, ◌+◌, ℕ, true, false, Err, Some, IfOk, IfNone, [], map, take, length, vec_capacity};
+ghost use Rattle.std.specs.Prelude.{◌≡◌, ◌≢◌, ◌≤◌, true, false, Err, IfOk, IfErr, [], length, vec_capacity};
 ghost use Rattle.sqlite.specs.Held.{state};
-ghost use Rattle.sqlite_trees.specs.View.{doubt};
-ghost use Rattle.farm_types.specs.Farm.{Farm as Plain};
-ghost use Rattle.farm_types.specs.Machine.{run};
 ghost use Rattle.farm_types.specs.Sound.{IsSound};
-ghost use Rattle.farm_core.specs.Answers.{shown};
-ghost use Rattle.farm_store.specs.Columns.{rows_of};
-ghost use Rattle.farm_store.specs.Holds.{Stands};
-ghost use Rattle.farm_keep.specs.Kept.{Keeps, KeepsFarm, KeepsEither};
-ghost use Rattle.farm_keep.specs.Runs.{answers_of};
-ghost use Rattle.farm_keep.specs.Headline.{LeavesRun, ResumesAs};
+ghost use Rattle.farm_keep.specs.Headline.{Denies, IsAlwaysClean, Resumes, Runs};
 
 use crate::fault::KeepFault;
 use crate::keeper::Keeper;
@@ -34,8 +26,8 @@ impl<S: Alter + Drop> Keeper<S> {
         calls: &[Call],
     ) -> Result<(Keeper<S>, RunEnd), KeepFault>
         requires autocommit { conn.in_transaction ≡ false }
-        ensures headline { IfOk result (λ r. (F : Plain) → IsSound F
-            → Stands (state S.Store conn) (rows_of F) → ResumesAs S.Store r.0 r.1 F calls.now) }
+        ensures resumed { IfOk result (λ r. Resumes S.Store conn r.0 r.1 calls.now) }
+        ensures refused { IsAlwaysClean S.Store → IfErr result (Denies (state S.Store conn)) }
         ensures fault { result ≢ Err KeepFault.Closed }
     {
         let mut keeper = Keeper::adopt(alloc, conn)?;
@@ -48,37 +40,7 @@ impl<S: Alter> Keeper<S> {
     /// One call after another, up to the first fault. Room for all answers is made first: where
     /// there is no memory for it, nothing is done and the keeper is closed.
     pub fn run(&mut self, alloc: Global, calls: &[Call]) -> RunEnd
-        // The answers are the machine's, one for each call that was done.
-        ensures counted { length result.answers.items ≡ result.done }
-        ensures within { result.done ≤ length calls.now }
-        ensures answers { map shown result.answers.items ≡ answers_of self.old.farm.farm (take result.done calls.now) }
-
-        // Without a fault all calls were done, and the store keeps the farm that they lead to.
-        ensures whole { IfNone result.fault ((result.done ≡ length calls.now) × (self.new.is_open ≡ self.old.is_open)) }
-        ensures farm { IfNone result.fault (self.new.farm.farm ≡ run self.old.farm.farm calls.now) }
-        ensures stands { IfNone result.fault (Keeps S.Store self.old
-            → KeepsFarm S.Store self.new (run self.old.farm.farm calls.now)) }
-
-        // Without memory the store keeps the farm of the calls that were done.
-        ensures memory { result.fault ≡ Some KeepFault.NoMemory → (self.new.is_open ≡ false)
-            × (Keeps S.Store self.old → KeepsFarm S.Store self.new (run self.old.farm.farm (take result.done calls.now))) }
-
-        // After a fault of the store a stop leaves that farm, or the one after one call more.
-        ensures store { result.fault ≡ Some KeepFault.Store → (self.new.is_open ≡ false) × (result.done < length calls.now)
-            × (Keeps S.Store self.old → KeepsEither S.Store self.new
-            (run self.old.farm.farm (take result.done calls.now))
-            (run self.old.farm.farm (take (result.done + 1) calls.now))) }
-        ensures fault { (result.fault ≢ Some KeepFault.BadStore) × (result.fault ≢ Some KeepFault.OldSchema) }
-
-        // However the run ended, a stop leaves no other tables, and each of these farms is sound.
-        ensures headline { Keeps S.Store self.old → LeavesRun S.Store self.new result self.old.farm.farm calls.now }
-        ensures sound { self.old.is_open ≡ true → (n : ℕ) → IsSound (run self.old.farm.farm (take n calls.now)) }
-
-        // A closed keeper does nothing.
-        ensures closed { result.fault ≡ Some KeepFault.Closed → (self.old.is_open ≡ false) × (self.new ≡ self.old) }
-        ensures before { self.old.is_open ≡ false → (result.done ≡ 0) × (self.new.conn ≡ self.old.conn)
-            × (self.new.is_open ≡ false) × (result.fault ≢ Some KeepFault.Store) }
-        ensures clean { doubt (state S.Store self.old.conn).is_clean ≤ doubt (state S.Store self.new.conn).is_clean }
+        ensures { Runs S.Store self.old self.new result calls.now }
     {
         let Ok(answers) = Vec::with_capacity(alloc, calls.len()) else {
             self.is_open = false;
@@ -93,26 +55,10 @@ impl<S: Alter> Keeper<S> {
 
     /// `run`, where there is room for all answers.
     fn run_into(&mut self, mut answers: Vec<Answer>, calls: &[Call]) -> RunEnd
+        requires sound { self.old.is_open ≡ true → IsSound self.old.farm.farm }
         requires none { answers.items ≡ [] }
         requires room { length calls.now ≤ vec_capacity answers }
-        ensures counted { length result.answers.items ≡ result.done }
-        ensures within { result.done ≤ length calls.now }
-        ensures answers { map shown result.answers.items ≡ answers_of self.old.farm.farm (take result.done calls.now) }
-        ensures whole { IfNone result.fault ((result.done ≡ length calls.now) × (self.new.is_open ≡ self.old.is_open)) }
-        ensures farm { IfNone result.fault (self.new.farm.farm ≡ run self.old.farm.farm calls.now) }
-        ensures stands { IfNone result.fault (Keeps S.Store self.old
-            → KeepsFarm S.Store self.new (run self.old.farm.farm calls.now)) }
-        ensures memory { result.fault ≡ Some KeepFault.NoMemory → (self.new.is_open ≡ false)
-            × (Keeps S.Store self.old → KeepsFarm S.Store self.new (run self.old.farm.farm (take result.done calls.now))) }
-        ensures store { result.fault ≡ Some KeepFault.Store → (self.new.is_open ≡ false) × (result.done < length calls.now)
-            × (Keeps S.Store self.old → KeepsEither S.Store self.new
-            (run self.old.farm.farm (take result.done calls.now))
-            (run self.old.farm.farm (take (result.done + 1) calls.now))) }
-        ensures fault { (result.fault ≢ Some KeepFault.BadStore) × (result.fault ≢ Some KeepFault.OldSchema) }
-        ensures closed { result.fault ≡ Some KeepFault.Closed → (self.old.is_open ≡ false) × (self.new ≡ self.old) }
-        ensures before { self.old.is_open ≡ false → (result.done ≡ 0) × (self.new.conn ≡ self.old.conn)
-            × (self.new.is_open ≡ false) × (result.fault ≢ Some KeepFault.Store) }
-        ensures clean { doubt (state S.Store self.old.conn).is_clean ≤ doubt (state S.Store self.new.conn).is_clean }
+        ensures { Runs S.Store self.old self.new result calls.now }
     {
         for call in calls {
             match self.act(call) {

@@ -1,7 +1,8 @@
-use Rattle.std.proofs.Common.{arith}
+use Rattle.std.proofs.Common.{sym, subst, arith}
+use Rattle.farm_store.specs.Holds.{ShowsTables}
 use Rattle.sqlite.specs.Held.{state}
 use Rattle.sqlite.specs.State.{HasCleanDisk}
-use Rattle.farm_store.proofs.Creates.{makes_all}
+use Rattle.farm_store.proofs.Creates.{makes_all, tables_taken}
 use Rattle.farm_store.proofs.schema.make_all.Goals as goal
 
 pub returns-clause-made : goal.returns-clause-made
@@ -19,3 +20,43 @@ returns-clause-made g c clean inside has =
     let six = c.in_ok-make-6.ensures.ran clean five.4 in
     makes_all (state g.S.Store c.args.tx.now.conn.now) (state g.S.Store c.make.new.tx.conn.now) (state g.S.Store c.make-2.new.tx.conn.now) (state g.S.Store c.make-3.new.tx.conn.now)
     (state g.S.Store c.make-4.new.tx.conn.now) (state g.S.Store c.make-5.new.tx.conn.now) (state g.S.Store c.make-6.new.tx.conn.now) has one two three four five six
+
+pub returns-in_err-make-2-clause-kept : goal.returns-in_err-make-2-clause-kept
+returns-in_err-make-2-clause-kept g c clean T at =
+    let late : HasCleanDisk (state g.S.Store c.make.new.tx.conn.now) = omega (arith, c.make-2.ensures.survives.clean) in
+    absurd (tables_taken (state g.S.Store c.args.tx.now.conn.now) (state g.S.Store c.make.new.tx.conn.now) T at (c.in_ok-make.ensures.ran late at.inside))
+
+pub returns-in_err-make-3-clause-kept : goal.returns-in_err-make-3-clause-kept
+returns-in_err-make-3-clause-kept g c clean T at =
+    let late : HasCleanDisk (state g.S.Store c.make.new.tx.conn.now) = omega (arith, c.make-2.ensures.survives.clean, c.make-3.ensures.survives.clean) in
+    absurd (tables_taken (state g.S.Store c.args.tx.now.conn.now) (state g.S.Store c.make.new.tx.conn.now) T at (c.in_ok-make.ensures.ran late at.inside))
+
+pub returns-in_err-make-4-clause-kept : goal.returns-in_err-make-4-clause-kept
+returns-in_err-make-4-clause-kept g c clean T at =
+    let late : HasCleanDisk (state g.S.Store c.make.new.tx.conn.now) = omega (arith, c.make-2.ensures.survives.clean, c.make-3.ensures.survives.clean, c.make-4.ensures.survives.clean) in
+    absurd (tables_taken (state g.S.Store c.args.tx.now.conn.now) (state g.S.Store c.make.new.tx.conn.now) T at (c.in_ok-make.ensures.ran late at.inside))
+
+pub returns-in_err-make-5-clause-kept : goal.returns-in_err-make-5-clause-kept
+returns-in_err-make-5-clause-kept g c clean T at =
+    let late : HasCleanDisk (state g.S.Store c.make.new.tx.conn.now) = omega (arith, c.make-2.ensures.survives.clean, c.make-3.ensures.survives.clean, c.make-4.ensures.survives.clean, c.make-5.ensures.survives.clean) in
+    absurd (tables_taken (state g.S.Store c.args.tx.now.conn.now) (state g.S.Store c.make.new.tx.conn.now) T at (c.in_ok-make.ensures.ran late at.inside))
+
+pub returns-in_err-make-6-clause-kept : goal.returns-in_err-make-6-clause-kept
+returns-in_err-make-6-clause-kept g c clean T at =
+    let late : HasCleanDisk (state g.S.Store c.make.new.tx.conn.now) = omega (arith, c.make-2.ensures.survives.clean, c.make-3.ensures.survives.clean, c.make-4.ensures.survives.clean, c.make-5.ensures.survives.clean, c.make-6.ensures.survives.clean) in
+    absurd (tables_taken (state g.S.Store c.args.tx.now.conn.now) (state g.S.Store c.make.new.tx.conn.now) T at (c.in_ok-make.ensures.ran late at.inside))
+
+pub returns-in_err-make-clause-kept : goal.returns-in_err-make-clause-kept
+returns-in_err-make-clause-kept g c clean T at shows still =
+    let keeps = c.make.ensures.kept clean at.inside in
+    subst (λ d. ShowsTables d T) (sym (keeps.committed still)) (shows (keeps.was_open still))
+
+pub returns-clause-kept : goal.returns-clause-kept
+returns-clause-kept g c clean T at =
+    let late : HasCleanDisk (state g.S.Store c.make.new.tx.conn.now) = omega (arith, c.make-2.ensures.survives.clean, c.make-3.ensures.survives.clean, c.make-4.ensures.survives.clean, c.make-5.ensures.survives.clean, c.make-6.ensures.survives.clean) in
+    absurd (tables_taken (state g.S.Store c.args.tx.now.conn.now) (state g.S.Store c.make.new.tx.conn.now) T at (c.in_ok-make.ensures.ran late at.inside))
+
+pub returns-clause-refused : goal.returns-clause-refused
+returns-clause-refused g c clean T at =
+    let late : HasCleanDisk (state g.S.Store c.make.new.tx.conn.now) = omega (arith, c.make-2.ensures.survives.clean, c.make-3.ensures.survives.clean, c.make-4.ensures.survives.clean, c.make-5.ensures.survives.clean, c.make-6.ensures.survives.clean) in
+    tables_taken (state g.S.Store c.args.tx.now.conn.now) (state g.S.Store c.make.new.tx.conn.now) T at (c.in_ok-make.ensures.ran late at.inside)

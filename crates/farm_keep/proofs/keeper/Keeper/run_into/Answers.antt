@@ -1,9 +1,15 @@
-use Rattle.std.proofs.Common.{arith, ◌+◌, ◌≡◌, ◌<◌, ◌++◌, ◌∷◌, [], map, take, length, get_or, sym, ap, ◌∙◌, subst}
-use Rattle.std.proofs.lemmas.List.{map-append}
+use Rattle.std.proofs.Common.{Some, Err, inr, rules, arith, ◌+◌, ◌≡◌, ◌<◌, true, ◌++◌, ◌∷◌, [], map, take, length, get_or, sym, ap, ◌∙◌, subst}
+use Rattle.std.proofs.lemmas.List.{map-append, take_all}
+use Rattle.sqlite.specs.Held.{state}
+use Rattle.farm_sound.proofs.Step.{IsSound-run}
 use Rattle.farm_types.specs.Machine.{answer, step, run}
-use Rattle.farm_core.specs.Answers.{shown}
-use Rattle.farm_keep.specs.Kept.{KeepsFarm}
-use Rattle.farm_keep.proofs.RunLemmas.{run_more, answers_more}
+use Rattle.farm_types.specs.Sound.{IsSound}
+use Rattle.farm_core.specs.Answers.{shown, IsChange}
+use Rattle.farm_store.specs.Holds.{StandsFor}
+use Rattle.farm_keep.specs.declared.fault.KeepFault.{KeepFault}
+use Rattle.farm_keep.specs.Kept.{Kept, Keeps, KeepsFarm, KeepsEither}
+use Rattle.farm_keep.specs.Runs.{IsNextChange}
+use Rattle.farm_keep.proofs.RunLemmas.{run_more, answers_more, next_change, step_more}
 use Rattle.farm_keep.proofs.keeper.Keeper.run_into.Goals as goal
 
 pub loop-call-preserved : goal.loop-call-preserved
@@ -31,4 +37,67 @@ loop-call-preserved g c =
       room = omega (arith, c.push_reserved.ensures.capacity);
       still = λ shut. absurd (let e = sym did.opened.0 ∙ was.opened ∙ shut in cc);
       stands = λ at. subst (KeepsFarm g.S.Store c.act.new.self) stepped (did.stands (subst (KeepsFarm g.S.Store c.loop-call.self) (sym was.farm) (was.stands at)));
+    }
+
+pub returns-in-Err : goal.returns-in-Err
+returns-in-Err g c =
+    let calls = c.args.calls.now in
+    let F = c.args.self.now.farm.farm in
+    let i = c.loop-call.call-index in
+    let was = c.loop-call.invariant in
+    let low : i < length calls = omega arith in
+    let call = c.call-item.result in
+    let here : call ≡ get_or calls i call = c.call-item.is in
+    let done : c.len.result ≡ i = search rules in
+    let next : IsChange (answer c.loop-call.self.farm.farm call) → IsNextChange F calls c.len.result = λ change.
+    subst (IsNextChange F calls) (sym done) (next_change F c.loop-call.self.farm.farm calls i call low here was.farm change) in
+    let keeps_here : Keeps g.S.Store c.args.self.now → KeepsFarm g.S.Store c.loop-call.self (run F (take c.len.result calls)) = λ keeps.
+    subst (λ n. KeepsFarm g.S.Store c.loop-call.self (run F (take n calls))) (sym done) (was.stands keeps) in
+    let farm : c.loop-call.self.farm.farm ≡ run F (take c.len.result calls) = was.farm ∙ ap (λ n. run F (take n calls)) (sym done) in
+    let stepped : step c.loop-call.self.farm.farm call ≡ run F (take (c.len.result + 1) calls) =
+    step_more F c.loop-call.self.farm.farm calls i call low here was.farm ∙ ap (λ n. run F (take (n + 1) calls)) (sym done) in
+    let told = λ (fault : KeepFault) (is : Some c.in-Err.fault ≡ Some fault). let same : c.in-Err.fault ≡ fault = (let e = is in cc) in let t : c.act.result ≡ Err fault = c.in-Err.is ∙ ap Err same in t in
+    record {
+      counted = search rules;
+      within = search rules;
+      answers = search rules;
+      whole = search rules;
+      farm = search rules;
+      stands = search rules;
+      memory = λ is.
+          let m = c.act.ensures.memory (told KeepFault.NoMemory is) in
+          (m.0, inr (next m.2), λ keeps. subst (λ h. StandsFor (state g.S.Store h) (run F (take c.len.result calls))) (sym m.1) (keeps_here keeps));
+      store = λ is.
+          let s = c.act.ensures.store (told KeepFault.Store is) in
+          (s.0, omega (arith, low, done), next s.1, λ keeps. subst (λ G. KeepsEither g.S.Store c.act.new.self (run F (take c.len.result calls)) G) stepped
+          (subst (λ G. KeepsEither g.S.Store c.act.new.self G (step c.loop-call.self.farm.farm call)) farm (s.2 (subst (KeepsFarm g.S.Store c.loop-call.self) (sym farm) (keeps_here keeps)))));
+      closed = search rules;
+      before = search rules;
+      others = search rules;
+      left = search rules;
+      sound = λ opened n. IsSound-run (take n calls) F (c.requires.sound opened);
+      clean = search rules;
+    }
+
+pub returns : goal.returns
+returns g c =
+    let calls = c.args.calls.now in
+    let F = c.args.self.now.farm.farm in
+    let was = c.loop-call.invariant in
+    let all : take c.loop-call.call-index calls ≡ calls = take_all c.loop-call.call-index calls (omega arith) in
+    record {
+      counted = search rules;
+      within = search rules;
+      answers = search rules;
+      whole = search rules;
+      farm = was.farm ∙ ap (run F) all;
+      stands = λ keeps. subst (λ l. KeepsFarm g.S.Store c.loop-call.self (run F l)) all (was.stands keeps);
+      memory = λ is. absurd (let e = is in cc);
+      store = λ is. absurd (let e = is in cc);
+      closed = λ is. absurd (let e = is in cc);
+      before = search rules;
+      others = (λ is. let e = is in cc, λ is. let e = is in cc);
+      left = search rules;
+      sound = λ opened n. IsSound-run (take n calls) F (c.requires.sound opened);
+      clean = search rules;
     }

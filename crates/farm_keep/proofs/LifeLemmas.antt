@@ -1,0 +1,100 @@
+-- What a run leaves is found again, life by life.
+use Rattle.std.proofs.Common.{◌≡◌, ◌⊎◌, inl, inr, ℕ, ◌+◌, List, [], ◌∷◌, Ok, Err, Result, take, refl, sym, subst, arith}
+use Rattle.std.specs.Prelude.{IfOk}
+use Rattle.std.specs.List.{AllZip}
+use Rattle.std.proofs.lemmas.List.Sums.{fold-append}
+use Rattle.sqlite.specs.Held.{Held, state}
+use Rattle.sqlite.specs.State.{State, HasCleanDisk, IsLive, Opens}
+use Rattle.sqlite.specs.Tree.{Trees}
+use Rattle.sqlite_trees.specs.declared.store.Store.{Ghosts}
+use Rattle.farm_types.specs.Farm.{Farm}
+use Rattle.farm_types.specs.Machine.{step, run}
+use Rattle.farm_types.specs.Sound.{IsSound}
+use Rattle.farm_types.specs.declared.calls.Call.{Call}
+use Rattle.farm_sound.proofs.Step.{IsSound-run}
+use Rattle.farm_core.specs.Shown.{Shown}
+use Rattle.farm_store.specs.Columns.{Tables, rows_of}
+use Rattle.farm_store.specs.Holds.{Holds, Stands}
+use Rattle.farm_keep.specs.Headline.{Denies, LeavesRun}
+use Rattle.farm_keep.specs.Kept.{Kept, Keeps}
+use Rattle.farm_keep.specs.Lives.{AreLived, GivesFarm, IsDone, IsLived, IsRestart, Life}
+use Rattle.farm_keep.specs.Restarts.{Restart, joined}
+use Rattle.farm_keep.specs.declared.keeper.run.RunEnd.{RunEnd}
+use Rattle.farm_keep.specs.declared.fault.KeepFault.{KeepFault}
+
+-- why a store gave no farm
+pub denies : (s : State) (fault : KeepFault) (result : Result Shown KeepFault) → result ≡ Err fault
+    → (result ≡ Err KeepFault.BadStore → (F : Farm) → IsSound F → ¬ Stands s (rows_of F))
+    → (result ≡ Err KeepFault.OldSchema → (T : Tables) → ¬ Stands s T) → Denies s fault
+denies s KeepFault.NoMemory result is bad ours = tt
+denies s KeepFault.Store result is bad ours = tt
+denies s KeepFault.BadStore result is bad ours = bad is
+denies s KeepFault.OldSchema result is bad ours = ours is
+denies s KeepFault.Closed result is bad ours = tt
+
+-- a store that stands for a sound farm gives it
+pub gives_farm : (result : Result Shown KeepFault) (old : State) (F : Farm) → IsSound F → Stands old (rows_of F)
+    → IfOk result (λ f. (G : Farm) → IsSound G → Stands old (rows_of G) → f.farm ≡ G)
+    → (result ≡ Err KeepFault.BadStore → (G : Farm) → IsSound G → ¬ Stands old (rows_of G))
+    → (result ≡ Err KeepFault.OldSchema → (T : Tables) → ¬ Stands old T) → GivesFarm result F
+gives_farm result old F sound at exact bad ours = record {
+  exact = by result exact;
+  good = λ is. bad is F sound at;
+  ours = λ is. ours is (rows_of F) at;
+}
+  where
+    by : (r : Result Shown KeepFault) → IfOk r (λ f. (G : Farm) → IsSound G → Stands old (rows_of G) → f.farm ≡ G) → IfOk r (λ f. f.farm ≡ F)
+    by (Ok f) h = h F sound at
+    by (Err e) h = tt
+
+pub record LeftRun (db : Trees) (F : Farm) (end : RunEnd) (calls : List Call) : Type 0 where
+  pub done : ℕ
+  pub counts : IsDone end done
+  pub holds : Holds db (rows_of (run F (take done calls)))
+
+pub left_run : {S : Type 0} (g : Ghosts S) (k : Kept S) (end : RunEnd) (F : Farm) (calls : List Call) (db : Trees)
+    → LeavesRun g k end F calls → HasCleanDisk (state g k.conn) → (state g k.conn).may_leave db → LeftRun db F end calls
+left_run g k end F calls db leaves clean may = elim (leaves clean db may) [
+  | inl here ↦ record { done = end.done; counts = inl refl; holds = here }
+  | inr more ↦ record { done = end.done + 1; counts = inr (more.0, refl); holds = more.1 }
+]
+
+-- a connection that was just opened stands for what it was opened on
+abbrev pub StandsOpened : {S : Type 0} → Ghosts S → Type 0
+StandsOpened g = (h : Held _) → Opens (state g h) → IsLive (state g h) → (T : Tables) → Holds (state g h).committed.trees T → Stands (state g h) T
+
+one_life : {S : Type 0} (g : Ghosts S) → StandsOpened g → (life : Life S) (first last : Trees) (F : Farm)
+    → IsSound F → Holds first (rows_of F) → IsLived g life first last → LeftRun last F life.end life.calls
+one_life g stands life first last F sound holds it =
+    let here : Holds (state g life.conn).committed.trees (rows_of F) = subst (λ (t : Trees). Holds t (rows_of F)) (sym it.opens.on) holds in
+    let at = stands life.conn it.opens.opens it.opens.live (rows_of F) here in
+    let k = it.resumes.adopted in
+    let made = it.resumes.adopts in
+    let early : HasCleanDisk (state g k.conn) = omega (arith, it.resumes.runs.clean, it.clean) in
+    let is = made.exact early F sound at in
+    let keeps : Keeps g k = λ clean. subst (Stands (state g k.conn)) (sym (made.rows clean (rows_of F) at)) (made.stands clean (rows_of F) at) in
+    let leaves : LeavesRun g life.keeper life.end F life.calls = subst (λ G. LeavesRun g life.keeper life.end G life.calls) is (it.resumes.runs.left keeps) in
+    left_run g life.keeper life.end F life.calls last leaves it.clean it.left
+
+pub record LeftLives {S : Type 0} (db : Trees) (F : Farm) (lives : List (Life S)) : Type 0 where
+  pub restarts : List Restart
+  pub each : AllZip IsRestart lives restarts
+  pub sound : IsSound (run F (joined restarts))
+  pub holds : Holds db (rows_of (run F (joined restarts)))
+
+pub all_lives : {S : Type 0} (g : Ghosts S) → StandsOpened g → (lives : List (Life S)) (first last : Trees) (F : Farm)
+    → IsSound F → Holds first (rows_of F) → AreLived g lives first last → LeftLives last F lives
+all_lives g stands [] first last F sound holds lived =
+    record { restarts = []; each = tt; sound = sound; holds = subst (λ (t : Trees). Holds t (rows_of F)) lived holds }
+all_lives g stands (life ∷ lives) first last F sound holds lived =
+    let one = one_life g stands life first lived.0 F sound holds lived.1 in
+    let done = take one.done life.calls in
+    let rest = all_lives g stands lives lived.0 last (run F done) (IsSound-run done F sound) one.holds lived.2 in
+    let restart : Restart = record { calls = life.calls; done = one.done } in
+    let same : run (run F done) (joined rest.restarts) ≡ run F (joined (restart ∷ rest.restarts)) = sym (fold-append step F done (joined rest.restarts)) in
+    record {
+      restarts = restart ∷ rest.restarts;
+      each = (record { calls = refl; done = one.counts }, rest.each);
+      sound = subst IsSound same rest.sound;
+      holds = subst (λ H. Holds last (rows_of H)) same rest.holds;
+    }
