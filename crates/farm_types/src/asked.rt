@@ -3,7 +3,7 @@ ghost use Rattle.std.specs.Prelude.{◌≡◌, ◌≤◌, ◌<◌, ◌⊎◌, �
 ghost use Rattle.farm_types.specs.Limits.{are_few_wants};
 
 use crate::refusal::{BAD_COUNT, Refusal};
-use crate::rows::{Want, copy_name};
+use crate::rows::Want;
 use crate::words::Name;
 use std::alloc::AllocError;
 use std::marker::Model;
@@ -89,16 +89,5 @@ impl Roles {
         ensures { result.now ≡ self.now }
     {
         self.items.as_slice()
-    }
-
-    /// Equal roles.
-    pub fn copy(&self) -> Result<Roles, AllocError>
-        ensures { IfOk result (λ roles. roles ≡ self.now) }
-    {
-        let mut items = Vec::new(*self.items.allocator());
-        for role in self.items.as_slice() {
-            items.push(copy_name(role)?)?;
-        }
-        Ok(Roles { items })
     }
 }

@@ -79,10 +79,11 @@ impl Model for Tag {
 }
 
 impl Tag {
-    /// The tag that a text spells; refused as a bad tag, or for memory.
+    /// The tag that a text spells; refused as a bad tag, or for memory where it spells one.
     #[tactic(auto, using(crate::proofs::TagLemmas::IsUtf8_of_tag))]
     pub fn parse(alloc: Global, text: &[u8]) -> Result<Tag, WordFault>
-        ensures { Reads (λ tag. tag) result (word_or (is_tag text.now) text.now BAD_TAG) }
+        ensures reads { Reads (λ tag. tag) result (word_or (is_tag text.now) text.now BAD_TAG) }
+        ensures memory { result ≡ Err WordFault.NoMemory → IsTrue (is_tag text.now) }
     {
         if !is_tag(text) {
             return Err(WordFault::Refused(Refusal { code: BAD_TAG }));
@@ -252,7 +253,8 @@ impl Tags {
     /// The tags of a list in any order and with doubles: refused as a bad count where the list has
     /// more than sixteen items, or for memory.
     pub fn of(alloc: Global, tags: &[Tag]) -> Result<Tags, WordFault>
-        ensures { Reads (λ tags. tags) result (tags_of tags.now) }
+        ensures reads { Reads (λ tags. tags) result (tags_of tags.now) }
+        ensures memory { result ≡ Err WordFault.NoMemory → length tags.now ≤ MOST_TAGS }
     {
         if tags.len() > MOST_TAGS {
             return Err(WordFault::Refused(Refusal { code: BAD_COUNT }));

@@ -1,5 +1,5 @@
 //! Words: texts that keep a rule of their own.
-ghost use Rattle.std.specs.Prelude.{◌≡◌, ◌↔◌, [], length, IsTrue, IfOk};
+ghost use Rattle.std.specs.Prelude.{◌≡◌, ◌↔◌, [], length, IsTrue, IfOk, Err};
 ghost use Rattle.std.specs.List.{list_all};
 ghost use Rattle.std.specs.Str.{IsUtf8, bytes_eq, is_utf8};
 ghost use Rattle.std.specs.String.{string_bytes};
@@ -76,10 +76,11 @@ impl Model for Name {
 }
 
 impl Name {
-    /// The name that a text spells; refused as a bad name, or for memory.
+    /// The name that a text spells; refused as a bad name, or for memory where it spells one.
     #[tactic(auto, using(crate::proofs::WordLemmas::IsUtf8_of_word))]
     pub fn parse(alloc: Global, text: &[u8]) -> Result<Name, WordFault>
-        ensures { Reads (λ name. name) result (word_or (is_word 48 text.now) text.now BAD_NAME) }
+        ensures reads { Reads (λ name. name) result (word_or (is_word 48 text.now) text.now BAD_NAME) }
+        ensures memory { result ≡ Err WordFault.NoMemory → IsTrue (is_word 48 text.now) }
     {
         if !is_word(LONGEST_NAME, text) {
             return Err(WordFault::Refused(Refusal { code: BAD_NAME }));
@@ -148,10 +149,11 @@ impl Model for Key {
 }
 
 impl Key {
-    /// The key that a text spells; refused as a bad key, or for memory.
+    /// The key that a text spells; refused as a bad key, or for memory where it spells one.
     #[tactic(auto, using(crate::proofs::WordLemmas::IsUtf8_of_word))]
     pub fn parse(alloc: Global, text: &[u8]) -> Result<Key, WordFault>
-        ensures { Reads (λ key. key) result (word_or (is_word 64 text.now) text.now BAD_KEY) }
+        ensures reads { Reads (λ key. key) result (word_or (is_word 64 text.now) text.now BAD_KEY) }
+        ensures memory { result ≡ Err WordFault.NoMemory → IsTrue (is_word 64 text.now) }
     {
         if !is_word(LONGEST_KEY, text) {
             return Err(WordFault::Refused(Refusal { code: BAD_KEY }));
