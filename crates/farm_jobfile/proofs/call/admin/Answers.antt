@@ -5,4 +5,4 @@ use Rattle.farm_jobfile.proofs.call.admin.Goals as goal
 
 pub unreachable-requires : goal.unreachable-requires
 unreachable-requires c =
-    word_taken 48 c.as_bytes.result.now _ _ _ c.in-Err-Refused.field-0-is (ap (is_word 48) c.as_bytes.ensures.value ∙ admin_is_word) c.in-Err-Refused.ensures
+    word_taken 48 c.as_bytes.result.now _ _ _ c.in-Err-Refused.field-0-is (ap (is_word 48) c.as_bytes.ensures.value ∙ admin_is_word) c.in-Err-Refused.ensures.reads

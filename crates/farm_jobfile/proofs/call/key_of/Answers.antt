@@ -7,4 +7,4 @@ pub unreachable-requires : goal.unreachable-requires
 unreachable-requires c =
     let text : c.as_bytes.result.now ≡ c.args.prefix.now ++ c.args.name.now = search (rules, c.as_bytes.ensures, c.in_ok-text.ensures) in
     let word = key_is_word c.args.prefix.now c.args.name.now c.requires.short c.requires.bytes c.requires.word in
-    word_taken 64 c.as_bytes.result.now _ _ _ c.in-Err-Refused.field-0-is (ap (is_word 64) text ∙ word) c.in-Err-Refused.ensures
+    word_taken 64 c.as_bytes.result.now _ _ _ c.in-Err-Refused.field-0-is (ap (is_word 64) text ∙ word) c.in-Err-Refused.ensures.reads

@@ -6,5 +6,5 @@ use Rattle.farm_wire.proofs.fields.list_of.Goals as goal
 
 pub returns-in-Err : goal.returns-in-Err
 returns-in-Err c =
-    refused_part c.in-Err.fault _ _ c.in-Err.ensures
+    refused_part c.in-Err.fault _ _ c.in-Err.ensures.reads
     (λ bad. list_all-map is_tag (λ text. text.now) c.args.texts.now ∙ list_all_at (λ text. is_tag text.now) c.args.texts.now c.loop-text.text-index _ c.loop-text-test.true (rw c.as_bytes.ensures.value at bad))
