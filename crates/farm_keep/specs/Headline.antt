@@ -12,6 +12,7 @@ use Rattle.farm_types.specs.declared.calls.Call.{Call}
 use Rattle.farm_core.specs.Answers.{shown}
 use Rattle.farm_store.specs.Columns.{Tables, rows_of}
 use Rattle.farm_store.specs.Holds.{Holds, Stands, LeavesNoMore}
+use Rattle.farm_store.specs.Schema.{farm_schema}
 use Rattle.farm_keep.specs.Kept.{Kept, Keeps, KeepsFarm, KeepsEither}
 use Rattle.farm_keep.specs.Runs.{answers_of, IsNextChange}
 use Rattle.farm_keep.specs.declared.keeper.run.RunEnd.{RunEnd}
@@ -24,11 +25,12 @@ LeavesRun g k end F calls =
     HasCleanDisk (state g k.conn) → (db : Trees) → (state g k.conn).may_leave db
     → Holds db (rows_of (run F (take end.done calls))) ⊎ ((end.fault ≡ Some fault.Store) × Holds db (rows_of (run F (take (end.done + 1) calls))))
 
--- the keeper was made from what the connection held
+-- the keeper was made from what the connection held, which had the farm's schema
 pub record Adopts {S : Type 0} (g : Ghosts S) (conn : Held S) (k : Kept S) : Type 0 where
   pub opened : k.is_open ≡ true
   pub sound : IsSound k.farm.farm
   pub clean : doubt (state g conn).is_clean ≤ doubt (state g k.conn).is_clean
+  pub ours : (state g conn).now.schema ≡ farm_schema
   pub left : HasCleanDisk (state g k.conn) → LeavesNoMore (state g conn) (state g k.conn)
   pub stands : HasCleanDisk (state g k.conn) → (T : Tables) → Stands (state g conn) T → Stands (state g k.conn) T
   pub rows : HasCleanDisk (state g k.conn) → (T : Tables) → Stands (state g conn) T → rows_of k.farm.farm ≡ T

@@ -49,12 +49,14 @@ impl<S: Alter> Model for Keeper<S> {
 
 impl<S: Alter + Drop> Keeper<S> {
     /// A keeper of the empty farm, in a store without tables; a store that stands for tables is
-    /// refused. What a fault leaves is said of `farm_store::create`, which is lent the connection.
+    /// refused as a fault of the store. What a fault leaves is said of `farm_store::create`, which is
+    /// lent the connection: such a store stands for its tables as before.
     pub fn fresh(alloc: Global, mut conn: Connection<S>) -> Result<Keeper<S>, KeepFault>
         requires { conn.in_transaction ≡ false }
         ensures opened { IfOk result (λ k. (k.is_open ≡ true) × (k.farm.farm ≡ empty)) }
         ensures keeps { IfOk result (λ k. (state S.Store conn).now.schema ≡ no_schema → Keeps S.Store k) }
         ensures refused { IfOk result (λ k. HasCleanDisk (state S.Store k.conn) → (T : Tables) → ¬ Stands (state S.Store conn) T) }
+        ensures bare { OnOk result ((state S.Store conn).now.schema ≡ no_schema) }
         ensures clean { IfOk result (λ k. doubt (state S.Store conn).is_clean ≤ doubt (state S.Store k.conn).is_clean) }
         ensures fault { IfErr result (λ fault. fault ≡ KeepFault.Store) }
     {
@@ -67,8 +69,10 @@ impl<S: Alter + Drop> Keeper<S> {
         })
     }
 
-    /// A keeper of the farm whose tables the store holds. What a fault leaves, and when it comes, is
-    /// said of `found`, which is lent the connection.
+    /// A keeper of the farm whose tables the store holds. At a fault the connection is given up. Over a
+    /// store that always returns what was written, as one in memory does, bad store is the answer only
+    /// where no sound farm stands there, and old schema only where no tables do; over any store `found`,
+    /// which is lent the connection, says so, and what the fault leaves.
     pub fn adopt(alloc: Global, mut conn: Connection<S>) -> Result<Keeper<S>, KeepFault>
         requires { conn.in_transaction ≡ false }
         ensures adopted { IfOk result (λ k. Adopts S.Store conn k) }
@@ -103,7 +107,8 @@ impl<S: Alter> Keeper<S> {
     }
 
     /// One command, made durable before it is answered. A change costs one transaction over the
-    /// rows that it changed; a kept reply and a refusal ask nothing of the store.
+    /// rows that it changed, and its answer has these rows; a kept reply and a refusal ask nothing of
+    /// the store.
     pub fn act(&mut self, call: &Call) -> Result<Answer, KeepFault>
         // The answer is the machine's, and so is the farm, which the store then keeps.
         ensures answer { IfOk result (λ a. shown a ≡ answer self.old.farm.farm call.entry.now) }

@@ -1,5 +1,5 @@
 //! The farm that a store's tables hold.
-ghost use Rattle.std.specs.Prelude.{◌≡◌, ◌≢◌, ◌≤◌, false, Err, IfOk};
+ghost use Rattle.std.specs.Prelude.{◌≡◌, ◌≢◌, ◌≤◌, false, Err, IfOk, OnOk};
 ghost use Rattle.sqlite.specs.State.{HasCleanDisk};
 ghost use Rattle.sqlite.specs.Held.{state};
 ghost use Rattle.sqlite_trees.specs.View.{doubt};
@@ -7,6 +7,7 @@ ghost use Rattle.farm_types.specs.Farm.{Farm as Plain};
 ghost use Rattle.farm_types.specs.Sound.{IsSound};
 ghost use Rattle.farm_store.specs.Columns.{Tables, rows_of};
 ghost use Rattle.farm_store.specs.Holds.{Stands, LeavesNoMore};
+ghost use Rattle.farm_store.specs.Schema.{farm_schema};
 
 use crate::fault::KeepFault;
 use farm_core::farm::Farm;
@@ -14,10 +15,11 @@ use farm_store::load;
 use sqlite::{Alter, Connection};
 use std::alloc::Global;
 
-/// The farm whose tables the connection shows; `BadStore` where they are those of no sound farm. It
-/// changes nothing. `Keeper::adopt` is this call and a keeper of what it gives: this one lends the
-/// connection, so that its clauses can say what a fault leaves. Each table is read once, in order
-/// of its key, and n rows are tested in O(n log n).
+/// The farm whose tables the connection shows; `BadStore` where they are those of no sound farm, as
+/// where the store has a column, a table, an index or a view that the farm's schema lacks. It changes
+/// nothing. `Keeper::adopt` is this call and a keeper of what it gives: this one lends the connection,
+/// so that its clauses can say what a fault leaves. Each table is read once, in order of its key, and
+/// n rows are tested in O(n log n).
 pub fn found<S: Alter>(alloc: Global, conn: &mut Connection<S>) -> Result<Farm, KeepFault>
     requires { conn.old.in_transaction ≡ false }
 
@@ -33,6 +35,9 @@ pub fn found<S: Alter>(alloc: Global, conn: &mut Connection<S>) -> Result<Farm, 
     ensures working { IfOk result (λ f. (f.failed ≡ false) × IsSound f.farm) }
     ensures rows { HasCleanDisk (state S.Store conn.new) → IfOk result (λ f. (T : Tables)
         → Stands (state S.Store conn.old) T → rows_of f.farm ≡ T) }
+
+    // Where a farm is found, the store has the farm's six tables, and no other table, column, index or view.
+    ensures ours { OnOk result ((state S.Store conn.old).now.schema ≡ farm_schema) }
 
     // Where the tables are those of a sound farm, it is exactly that farm.
     ensures exact { HasCleanDisk (state S.Store conn.new) → IfOk result (λ f. (F : Plain)

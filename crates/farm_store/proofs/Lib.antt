@@ -35,3 +35,4 @@ pub mod SoundReadable
 pub mod ReadFarm
 pub mod Listed
 pub mod Creates
+pub mod Ours

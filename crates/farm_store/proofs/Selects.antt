@@ -22,7 +22,8 @@ use Rattle.farm_store.specs.Holds.{IsInside, ShowsTables}
 use Rattle.farm_store.specs.Stored.{IsWide, Lists}
 use Rattle.farm_store.proofs.Loads.{answers}
 
-was_open : (sql : List ℕ) (params : Row) (old new : State) (rows : List Row) → Shown sql params old new rows → IsTrue old.is_open
+-- a query that answered found the connection open
+pub was_open : (sql : List ℕ) (params : Row) (old new : State) (rows : List Row) → Shown sql params old new rows → IsTrue old.is_open
 unfolding Shown
 was_open sql params old new rows h = by h.0.returning h.2
   where

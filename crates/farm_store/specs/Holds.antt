@@ -5,7 +5,7 @@ use Rattle.sqlite.specs.Tree.{Trees}
 use Rattle.sqlite.specs.State.{State, HasCleanDisk}
 use Rattle.sqlite_catalog.specs.Listing.{AreListed}
 use Rattle.sqlite_trees.specs.Objects.{catalog_tree}
-use Rattle.farm_store.specs.Schema.{farm_schema, no_schema}
+use Rattle.farm_store.specs.Schema.{farm_schema}
 use Rattle.farm_store.specs.Stored.{Lists, unnumbered, with_number}
 use Rattle.farm_store.specs.Columns.{Tables, rows_of, by_first, by_two}
 use Rattle.farm_types.specs.Farm.{Farm, empty}
@@ -49,7 +49,7 @@ LeavesNoMore old new = (db : Trees) → new.may_leave db → old.may_leave db
 abbrev pub StandsFor : State → Farm → Type 0
 StandsFor s F = HasCleanDisk s → Stands s (rows_of F)
 
--- the store stood for no tables, and where it had no schema these are the tables of the empty farm
+-- the store stood for no tables, and these are those of the empty farm
 pub record IsMadeIn (s : State) (db : Trees) : Type 0 where
   pub free : (T : Tables) → ¬ Stands s T
-  pub made : s.now.schema ≡ no_schema → Holds db (rows_of empty)
+  pub made : Holds db (rows_of empty)

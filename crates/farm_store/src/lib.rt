@@ -6,6 +6,7 @@ mod fault;
 pub mod laws;
 mod queries;
 mod schema;
+mod tables;
 mod upserts;
 
 pub use fault::StoreFault;

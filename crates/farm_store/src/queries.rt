@@ -7,7 +7,7 @@ mod meta;
 mod reservations;
 mod types;
 
-ghost use Rattle.std.specs.Prelude.{◌≡◌, ◌≤◌, false, Err, IfOk};
+ghost use Rattle.std.specs.Prelude.{◌≡◌, ◌≤◌, false, Err, IfOk, IsTrue, OnOk};
 ghost use Rattle.sqlite.specs.Held.{state};
 ghost use Rattle.sqlite.specs.State.{HasCleanDisk};
 ghost use Rattle.sqlite_trees.specs.View.{doubt};
@@ -17,6 +17,7 @@ ghost use Rattle.farm_store.specs.Edits.{CommitsNothing};
 ghost use Rattle.farm_store.specs.Holds.{IsInside, Stands, LeavesNoMore};
 ghost use Rattle.farm_store.specs.Readable.{IsReadable};
 ghost use Rattle.farm_store.specs.Reading.{CommitShows, ReadsFarm};
+ghost use Rattle.farm_store.specs.Schema.{farm_schema};
 
 use crate::fault::StoreFault;
 use crate::queries::boards::read_boards;
@@ -25,6 +26,7 @@ use crate::queries::kept::read_replies;
 use crate::queries::meta::read_numbers;
 use crate::queries::reservations::read_reservations;
 use crate::queries::types::read_types;
+use crate::tables::is_farm_schema;
 use farm_types::calls::Rows;
 use sqlite::{Alter, Connection, Transaction};
 use std::alloc::Global;
@@ -33,6 +35,7 @@ use std::alloc::Global;
 fn read_all<S: Alter>(alloc: Global, tx: &mut Transaction<'_, S>) -> Result<Rows, StoreFault>
     ensures same_reference { tx.new.conn.ghost_name ≡ tx.old.conn.ghost_name }
     ensures read { HasCleanDisk (state S.Store tx.new.conn.now) → (T : Tables) → IsInside (state S.Store tx.old.conn.now) T → ReadsFarm result T }
+    ensures opened { HasCleanDisk (state S.Store tx.new.conn.now) → OnOk result (IsTrue (state S.Store tx.old.conn.now).is_open) }
     ensures kept { HasCleanDisk (state S.Store tx.new.conn.now) → (T : Tables) → IsInside (state S.Store tx.old.conn.now) T
         → CommitShows (state S.Store tx.old.conn.now) T → CommitShows (state S.Store tx.new.conn.now) T }
     ensures survives { CommitsNothing (state S.Store tx.old.conn.now) (state S.Store tx.new.conn.now) }
@@ -47,11 +50,30 @@ fn read_all<S: Alter>(alloc: Global, tx: &mut Transaction<'_, S>) -> Result<Rows
     })
 }
 
+/// `load`, whatever other columns, tables, indexes and views the store has.
+fn load_any<S: Alter>(alloc: Global, conn: &mut Connection<S>) -> Result<Rows, StoreFault>
+    requires autocommit { conn.old.in_transaction ≡ false }
+    ensures autocommit { conn.new.in_transaction ≡ false }
+    ensures clean { doubt (state S.Store conn.old).is_clean ≤ doubt (state S.Store conn.new).is_clean }
+    ensures left { HasCleanDisk (state S.Store conn.new) → LeavesNoMore (state S.Store conn.old) (state S.Store conn.new) }
+    ensures stands { HasCleanDisk (state S.Store conn.new) → (T : Tables) → Stands (state S.Store conn.old) T → Stands (state S.Store conn.new) T }
+    ensures rows { HasCleanDisk (state S.Store conn.new) → IfOk result (λ rows. (T : Tables) → Stands (state S.Store conn.old) T → rows_of (farm_of rows) ≡ T) }
+    ensures farm { HasCleanDisk (state S.Store conn.new) → IfOk result (λ rows. (F : Farm) → IsReadable F → Stands (state S.Store conn.old) (rows_of F) → farm_of rows ≡ F) }
+    ensures opened { HasCleanDisk (state S.Store conn.new) → OnOk result (IsTrue (state S.Store conn.old).is_open) }
+    ensures bad { HasCleanDisk (state S.Store conn.new) → result ≡ Err StoreFault.BadStore → (F : Farm) → IsReadable F → ¬ Stands (state S.Store conn.old) (rows_of F) }
+    ensures old { HasCleanDisk (state S.Store conn.new) → result ≡ Err StoreFault.OldSchema → (T : Tables) → ¬ Stands (state S.Store conn.old) T }
+{
+    let mut tx = conn.transaction();
+    let rows = read_all(alloc, &mut tx);
+    tx.rollback();
+    rows
+}
+
 /// Reads the rows of all tables, in order of their keys, in one transaction that is rolled back. Refused as bad where a
 /// column can't be read: where it is of another kind, a name or a key is no word, tags are in no canonical text, a code
-/// stands for nothing, a number is below 0; and where the farm's numbers are not exactly its clock, count and next number,
-/// with schema 1. Where a table is not there, a call of the store was refused. Whether the rows are those of a sound farm
-/// is not looked at.
+/// stands for nothing, a number is below 0; where the farm's numbers are not exactly its clock, count and next number,
+/// with schema 1; and where the store has another column, table, index or view than the farm's. Where a table is not
+/// there, a call of the store was refused. Whether the rows are those of a sound farm is not looked at.
 ///
 /// It reads each row once, and keeps the raw rows of one table at a time.
 pub fn load<S: Alter>(alloc: Global, conn: &mut Connection<S>) -> Result<Rows, StoreFault>
@@ -62,11 +84,19 @@ pub fn load<S: Alter>(alloc: Global, conn: &mut Connection<S>) -> Result<Rows, S
     ensures stands { HasCleanDisk (state S.Store conn.new) → (T : Tables) → Stands (state S.Store conn.old) T → Stands (state S.Store conn.new) T }
     ensures rows { HasCleanDisk (state S.Store conn.new) → IfOk result (λ rows. (T : Tables) → Stands (state S.Store conn.old) T → rows_of (farm_of rows) ≡ T) }
     ensures farm { HasCleanDisk (state S.Store conn.new) → IfOk result (λ rows. (F : Farm) → IsReadable F → Stands (state S.Store conn.old) (rows_of F) → farm_of rows ≡ F) }
+    ensures ours { OnOk result ((state S.Store conn.old).now.schema ≡ farm_schema) }
     ensures bad { HasCleanDisk (state S.Store conn.new) → result ≡ Err StoreFault.BadStore → (F : Farm) → IsReadable F → ¬ Stands (state S.Store conn.old) (rows_of F) }
     ensures old { HasCleanDisk (state S.Store conn.new) → result ≡ Err StoreFault.OldSchema → (T : Tables) → ¬ Stands (state S.Store conn.old) T }
 {
-    let mut tx = conn.transaction();
-    let rows = read_all(alloc, &mut tx);
-    tx.rollback();
-    rows
+    let is_ours = is_farm_schema(conn.schema());
+    match load_any(alloc, conn) {
+        Ok(rows) => {
+            if is_ours {
+                Ok(rows)
+            } else {
+                Err(StoreFault::BadStore)
+            }
+        }
+        Err(fault) => Err(fault),
+    }
 }

@@ -12,6 +12,7 @@ ghost use Rattle.farm_store.specs.Reading.{CommitShows};
 ghost use Rattle.farm_store.specs.Schema.{no_schema};
 
 use crate::fault::StoreFault;
+use crate::tables::is_no_schema;
 use crate::upserts::{put_number, put_numbers};
 use farm_types::rows::MetaRow;
 use sqlite::{Alter, Connection, Error, Transaction};
@@ -85,23 +86,26 @@ fn put_first_numbers<S: Alter>(tx: &mut Transaction<'_, S>) -> Result<(), Error>
     Ok(())
 }
 
-/// Makes the six tables of the empty farm in one transaction, whose commit is the last call of the store. Where a call of
-/// the store was refused, as where one of the tables is there already, a stop leaves none of what it makes or all. A store
-/// that stands for tables is refused, and stands for them as before.
+/// Makes the six tables of the empty farm in one transaction, whose commit is the last call of the store. A store that
+/// has a table, an index or a view is refused, and stays as it is, so a store that stands for tables stands for them as
+/// before. Where a call of the store was refused, a stop leaves what it left before, or all that it makes.
 ///
 /// It runs ten statements, whatever else the store holds.
 pub fn create<S: Alter>(conn: &mut Connection<S>) -> Result<(), StoreFault>
     requires autocommit { conn.old.in_transaction ≡ false }
     ensures autocommit { conn.new.in_transaction ≡ false }
     ensures clean { doubt (state S.Store conn.old).is_clean ≤ doubt (state S.Store conn.new).is_clean }
-    ensures ok { HasCleanDisk (state S.Store conn.new) → OnOk result ((state S.Store conn.old).now.schema ≡ no_schema
-        → Stands (state S.Store conn.new) (rows_of empty)) }
+    ensures ok { HasCleanDisk (state S.Store conn.new) → OnOk result (Stands (state S.Store conn.new) (rows_of empty)) }
     ensures refused { HasCleanDisk (state S.Store conn.new) → OnOk result ((T : Tables) → ¬ Stands (state S.Store conn.old) T) }
+    ensures bare { OnOk result ((state S.Store conn.old).now.schema ≡ no_schema) }
     ensures stands { HasCleanDisk (state S.Store conn.new) → (T : Tables) → Stands (state S.Store conn.old) T → Stands (state S.Store conn.new) T }
     ensures stop { HasCleanDisk (state S.Store conn.new) → (db : Trees) → (state S.Store conn.new).may_leave db
         → (state S.Store conn.old).may_leave db ⊎ IsMadeIn (state S.Store conn.old) db }
     ensures fault { IfErr result (λ fault. fault ≡ StoreFault.Store) }
 {
+    if !is_no_schema(conn.schema()) {
+        return Err(StoreFault::Store);
+    }
     let mut tx = conn.transaction();
     make_all(&mut tx)?;
     put_first_numbers(&mut tx)?;

@@ -1,5 +1,5 @@
 //! Types read.
-ghost use Rattle.std.specs.Prelude.{◌≡◌, IfOk, OnOk, MatchOption};
+ghost use Rattle.std.specs.Prelude.{◌≡◌, IfOk, IsTrue, OnOk, MatchOption};
 ghost use Rattle.std.specs.List.{AllByRecursion};
 ghost use Rattle.sqlite.specs.Held.{state};
 ghost use Rattle.sqlite.specs.State.{HasCleanDisk};
@@ -57,6 +57,7 @@ fn type_rows<S: Alter>(tx: &mut Transaction<'_, S>) -> Result<Vec<Row>, Error>
     ensures same_reference { tx.new.conn.ghost_name ≡ tx.old.conn.ghost_name }
     ensures rows { HasCleanDisk (state S.Store tx.new.conn.now) → IfOk result (λ rows. (T : Tables) → IsInside (state S.Store tx.old.conn.now) T
         → (rows.items ≡ T.types) × AllByRecursion (IsWide 3) rows.items × IsInside (state S.Store tx.new.conn.now) T) }
+    ensures opened { HasCleanDisk (state S.Store tx.new.conn.now) → OnOk result (IsTrue (state S.Store tx.old.conn.now).is_open) }
     ensures kept { HasCleanDisk (state S.Store tx.new.conn.now) → (T : Tables) → IsInside (state S.Store tx.old.conn.now) T
         → CommitShows (state S.Store tx.old.conn.now) T → CommitShows (state S.Store tx.new.conn.now) T }
     ensures survives { CommitsNothing (state S.Store tx.old.conn.now) (state S.Store tx.new.conn.now) }
@@ -75,6 +76,7 @@ pub(crate) fn read_types<S: Alter>(
         → ReadsAll result (λ types. types.items) IsReadableType type_columns T.types }
     ensures inside { HasCleanDisk (state S.Store tx.new.conn.now) → OnOk result ((T : Tables) → IsInside (state S.Store tx.old.conn.now) T
         → IsInside (state S.Store tx.new.conn.now) T) }
+    ensures opened { HasCleanDisk (state S.Store tx.new.conn.now) → OnOk result (IsTrue (state S.Store tx.old.conn.now).is_open) }
     ensures kept { HasCleanDisk (state S.Store tx.new.conn.now) → (T : Tables) → IsInside (state S.Store tx.old.conn.now) T
         → CommitShows (state S.Store tx.old.conn.now) T → CommitShows (state S.Store tx.new.conn.now) T }
     ensures survives { CommitsNothing (state S.Store tx.old.conn.now) (state S.Store tx.new.conn.now) }

@@ -176,3 +176,12 @@ returns-clause-kept g c clean T at shows =
     let shows_reservations = c.in_ok-read_reservations.ensures.kept clean_reservations T at_jobs shows_jobs in
     let shows_kept = c.in_ok-read_replies.ensures.kept clean_kept T at_reservations shows_reservations in
     c.in_ok-read_numbers.ensures.kept clean T at_kept shows_kept
+
+pub returns-clause-opened : goal.returns-clause-opened
+returns-clause-opened g c clean =
+    let clean_kept : HasCleanDisk (state g.S.Store c.read_replies.new.tx.conn.now) = omega (arith, c.read_numbers.ensures.survives.clean) in
+    let clean_reservations : HasCleanDisk (state g.S.Store c.read_reservations.new.tx.conn.now) = omega (arith, c.read_replies.ensures.survives.clean) in
+    let clean_jobs : HasCleanDisk (state g.S.Store c.read_jobs.new.tx.conn.now) = omega (arith, c.read_reservations.ensures.survives.clean) in
+    let clean_boards : HasCleanDisk (state g.S.Store c.read_boards.new.tx.conn.now) = omega (arith, c.read_jobs.ensures.survives.clean) in
+    let clean_types : HasCleanDisk (state g.S.Store c.read_types.new.tx.conn.now) = omega (arith, c.read_boards.ensures.survives.clean) in
+    c.in_ok-read_types.ensures.opened clean_types

@@ -1,10 +1,11 @@
-use Rattle.std.proofs.Common.{true, refl, inl, inr, sym, subst, arith, rules}
+use Rattle.std.proofs.Common.{true, ◌≡◌, refl, inl, inr, sym, subst, arith, rules}
 use Rattle.sqlite.specs.Held.{state}
 use Rattle.sqlite.specs.State.{HasCleanDisk}
 use Rattle.sqlite.specs.Tree.{Trees}
 use Rattle.farm_types.specs.Farm.{empty}
 use Rattle.farm_store.specs.Columns.{no_rows, rows_of}
 use Rattle.farm_store.specs.Holds.{Holds, IsInside, Stands}
+use Rattle.farm_store.specs.Schema.{no_schema}
 use Rattle.farm_store.proofs.Commits.{begun, begun_commit, committed, left_before, rolled_back}
 use Rattle.farm_store.proofs.schema.create.Goals as goal
 
@@ -25,7 +26,8 @@ returns-in_err-commit-clause-stop g c clean db may =
           inl (subst (λ h. g.S.Store.recovers h.store db) {y = record c.args.conn.now { in_transaction = true }} is before)
       | inr now ↦ inr (record {
         free = λ T at. c.in_ok-make_all.ensures.refused made_clean T (begun g.S.Store c.args.conn.now c.transaction-tx.result.conn.now is T at);
-        made = λ has.
+        made =
+            let has : (state g.S.Store c.args.conn.now).now.schema ≡ no_schema = search rules in
             let there : IsInside made no_rows = c.in_ok-make_all.ensures.made made_clean (rw is refl) (rw is has) in
             let inside = c.in_ok-put_first_numbers.ensures.put filled_clean there in
             let still = c.in_ok-put_first_numbers.ensures.stays_open filled_clean there.inside in
@@ -50,7 +52,8 @@ returns-clause-stop g c clean db may =
           inl (subst (λ h. g.S.Store.recovers h.store db) {y = record c.args.conn.now { in_transaction = true }} is before)
       | inr now ↦ inr (record {
         free = λ T at. c.in_ok-make_all.ensures.refused made_clean T (begun g.S.Store c.args.conn.now c.transaction-tx.result.conn.now is T at);
-        made = λ has.
+        made =
+            let has : (state g.S.Store c.args.conn.now).now.schema ≡ no_schema = search rules in
             let there : IsInside made no_rows = c.in_ok-make_all.ensures.made made_clean (rw is refl) (rw is has) in
             let inside = c.in_ok-put_first_numbers.ensures.put filled_clean there in
             let still = c.in_ok-put_first_numbers.ensures.stays_open filled_clean there.inside in
@@ -59,7 +62,8 @@ returns-clause-stop g c clean db may =
     ]
 
 pub returns-clause-ok : goal.returns-clause-ok
-returns-clause-ok g c clean has =
+returns-clause-ok g c clean =
+    let has : (state g.S.Store c.args.conn.now).now.schema ≡ no_schema = search rules in
     let end = c.commit.new.self.0 in
     let late : HasCleanDisk (state g.S.Store end) = search rules in
     let filled = state g.S.Store c.put_first_numbers.new.tx.conn.now in

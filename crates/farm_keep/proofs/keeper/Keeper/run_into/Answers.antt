@@ -68,9 +68,13 @@ returns-in-Err g c =
           let m = c.act.ensures.memory (told KeepFault.NoMemory is) in
           (m.0, inr (next m.2), λ keeps. subst (λ h. StandsFor (state g.S.Store h) (run F (take c.len.result calls))) (sym m.1) (keeps_here keeps));
       store = λ is.
-          let s = c.act.ensures.store (told KeepFault.Store is) in
-          (s.0, omega (arith, low, done), next s.1, λ keeps. subst (λ G. KeepsEither g.S.Store c.act.new.self (run F (take c.len.result calls)) G) stepped
-          (subst (λ G. KeepsEither g.S.Store c.act.new.self G (step c.loop-call.self.farm.farm call)) farm (s.2 (subst (KeepsFarm g.S.Store c.loop-call.self) (sym farm) (keeps_here keeps)))));
+          let s = c.act.ensures.store (told KeepFault.Store is) in (
+            s.0,
+            omega (arith, low, done),
+            next s.1,
+            λ keeps. subst (λ G. KeepsEither g.S.Store c.act.new.self (run F (take c.len.result calls)) G) stepped
+                (subst (λ G. KeepsEither g.S.Store c.act.new.self G (step c.loop-call.self.farm.farm call)) farm (s.2 (subst (KeepsFarm g.S.Store c.loop-call.self) (sym farm) (keeps_here keeps)))),
+          );
       closed = search rules;
       before = search rules;
       others = search rules;

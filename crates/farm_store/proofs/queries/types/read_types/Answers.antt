@@ -15,3 +15,6 @@ returns-clause-read g c clean T at =
 
 pub returns-clause-inside : goal.returns-clause-inside
 returns-clause-inside g c clean = on_ok c.types_of.result _ (λ T at. (c.in_ok-rows.ensures.rows clean T at).2)
+
+pub returns-clause-opened : goal.returns-clause-opened
+returns-clause-opened g c clean = on_ok c.types_of.result _ (c.in_ok-rows.ensures.opened clean)

@@ -1,7 +1,7 @@
 use Rattle.std.proofs.Common.{[], sym, subst}
 use Rattle.sqlite.specs.Held.{state}
 use Rattle.farm_store.specs.Holds.{ShowsTables}
-use Rattle.farm_store.proofs.Selects.{fails_keep}
+use Rattle.farm_store.proofs.Selects.{fails_keep, was_open}
 use Rattle.farm_store.proofs.SelectTypes.{select_text, selects}
 use Rattle.farm_store.proofs.queries.types.type_rows.Goals as goal
 
@@ -21,3 +21,7 @@ pub returns-clause-kept : goal.returns-clause-kept
 returns-clause-kept g c clean T at shows still =
     let got = selects (state g.S.Store c.args.tx.now.conn.now) (state g.S.Store c.query_all.new.self.conn.now) c.in_ok-rows.rows.items T at (c.in_ok-rows.ensures.ok clean) in
     subst (λ d. ShowsTables d T) (sym got.2.committed) (shows got.2.was_open)
+
+pub returns-clause-opened : goal.returns-clause-opened
+returns-clause-opened g c clean =
+    was_open select_text [] (state g.S.Store c.args.tx.now.conn.now) (state g.S.Store c.query_all.new.self.conn.now) c.in_ok-rows.rows.items (c.in_ok-rows.ensures.ok clean)

@@ -1,4 +1,5 @@
-use Rattle.std.proofs.Common.{true, ◌≡◌, subst, arith, rules}
+use Rattle.std.proofs.Common.{true, ◌≡◌, IsTrue, subst, arith, rules}
+use Rattle.std.proofs.lemmas.Result.{on_ok_weaker}
 use Rattle.sqlite.specs.Held.{state}
 use Rattle.sqlite.specs.State.{HasCleanDisk}
 use Rattle.farm_types.specs.Farm.{Farm, farm_of}
@@ -7,7 +8,7 @@ use Rattle.farm_store.specs.Holds.{Stands}
 use Rattle.farm_store.specs.Readable.{IsReadable}
 use Rattle.farm_store.proofs.Commits.{begun, begun_commit, left_before, rolled_back}
 use Rattle.farm_store.proofs.ReadFarm.{if_read, never_bad, never_old}
-use Rattle.farm_store.proofs.queries.load.Goals as goal
+use Rattle.farm_store.proofs.queries.load_any.Goals as goal
 
 pub returns-clause-stands : goal.returns-clause-stands
 returns-clause-stands g c clean T at =
@@ -50,3 +51,11 @@ returns-clause-old g c clean old T at =
     let late : HasCleanDisk (state g.S.Store c.rollback.new.self.0) = search rules in
     let early : HasCleanDisk (state g.S.Store c.read_all-rows.new.tx.conn.now) = omega (arith, c.rollback.ensures.survives.clean) in
     never_old c.read_all-rows.result T old (c.read_all-rows.ensures.read early T (begun g.S.Store c.args.conn.now c.transaction-tx.result.conn.now c.transaction-tx.ensures.begun T at))
+
+pub returns-clause-opened : goal.returns-clause-opened
+returns-clause-opened g c clean =
+    let late : HasCleanDisk (state g.S.Store c.rollback.new.self.0) = search rules in
+    let early : HasCleanDisk (state g.S.Store c.read_all-rows.new.tx.conn.now) = omega (arith, c.rollback.ensures.survives.clean) in
+    on_ok_weaker c.read_all-rows.result
+    (λ was_open. subst (λ h. IsTrue (state g.S.Store h).is_open) {y = record c.args.conn.now { in_transaction = true }} c.transaction-tx.ensures.begun was_open)
+    (c.read_all-rows.ensures.opened early)

@@ -1,0 +1,271 @@
+//! Whether a store's tables are the farm's.
+ghost use Rattle.std.specs.Prelude.{◌≡◌, ◌↔◌, ◌∷◌, [], IsTrue, codes, true, map};
+ghost use Rattle.farm_store.specs.Schema.{IsBare, boards_table, farm_indexes, farm_schema, jobs_table, kept_table, key_index, keyed, meta_table, no_schema, numbered, reservations_table, strict_column, types_table};
+
+use sqlite_items::Items;
+use sqlite_schema::schema::{Column, Index, Kind, Schema, Table};
+use sqlite_value::keys::{Collation, Order};
+use sqlite_value::value::Value;
+
+/// Whether a column of a STRICT table is NOT NULL, and has no default.
+fn is_column(column: &Column, name: &str, kind: Kind) -> bool
+    ensures { IsTrue result ↔ (column.now ≡ strict_column name.now kind) }
+{
+    column.name.as_slice() == name.as_bytes()
+        && column.kind == kind
+        && column.is_strict
+        && column.not_null
+        && matches!(column.default, Value::Null)
+        && column.collation == Collation::Binary
+}
+
+/// Whether these are the columns, in this order.
+fn are_columns(columns: &[Column], wanted: &[(&str, Kind)]) -> bool
+    ensures { IsTrue result ↔ (columns.now ≡ map (λ w. strict_column w.0.now w.1) wanted.now) }
+{
+    match (columns, wanted) {
+        ([], []) => true,
+        ([column, columns @ ..], [(name, kind), wanted @ ..]) => {
+            is_column(column, name, *kind) && are_columns(columns, wanted)
+        }
+        _ => false,
+    }
+}
+
+/// Whether a table has nothing beside its columns and its keys.
+fn is_bare(table: &Table) -> bool
+    ensures { IsTrue result ↔ IsBare table.now }
+{
+    table.checks.roots.is_empty()
+        && table.references.is_empty()
+        && table.computed.is_empty()
+        && table.stamps.places.is_empty()
+        && table.stamps.terms.roots.is_empty()
+        && table.stamps.formats.is_empty()
+        && !table.is_counted
+}
+
+fn has_places(key: &Items<usize>, places: &[usize]) -> bool
+    ensures { IsTrue result ↔ (key.now ≡ places.now) }
+{
+    key.as_slice() == places
+}
+
+/// Whether a table has one UNIQUE, over these places.
+fn is_unique_over(table: &Table, places: &[usize]) -> bool
+    ensures { IsTrue result ↔ (table.now.uniques ≡ places.now ∷ []) }
+{
+    match table.uniques.as_slice() {
+        [unique] => has_places(unique, places),
+        _ => false,
+    }
+}
+
+fn is_plain(order: &Order) -> bool
+    ensures { IsTrue result ↔ (order.now ≡ record { digits = 0 }) }
+{
+    order.digits == 0
+}
+
+/// Whether a table has one UNIQUE, in plain order.
+fn is_ordered_plainly(table: &Table) -> bool
+    ensures { IsTrue result ↔ (table.now.orders ≡ record { digits = 0 } ∷ []) }
+{
+    match table.orders.as_slice() {
+        [order] => is_plain(order),
+        _ => false,
+    }
+}
+
+/// Whether a table, whatever its columns, has this name and this tree, and is keyed by the columns at these places.
+fn is_keyed(table: &Table, name: &str, tree: u32, places: &[usize]) -> bool
+    ensures { IsTrue result ↔ (table.now ≡ record (keyed name.now places.now table.now.columns) { tree = tree }) }
+{
+    table.name.as_slice() == name.as_bytes()
+        && table.tree == tree
+        && table.key.is_none()
+        && table.primary.as_slice() == places
+        && is_unique_over(table, places)
+        && is_ordered_plainly(table)
+        && is_bare(table)
+}
+
+/// Whether a table, whatever its columns, has this name and this tree, and its first column is its rowid.
+fn is_numbered(table: &Table, name: &str, tree: u32) -> bool
+    ensures { IsTrue result ↔ (table.now ≡ record (numbered name.now table.now.columns) { tree = tree }) }
+{
+    table.name.as_slice() == name.as_bytes()
+        && table.tree == tree
+        && table.key == Some(0)
+        && table.primary.as_slice() == [0].as_slice()
+        && table.uniques.is_empty()
+        && table.orders.is_empty()
+        && is_bare(table)
+}
+
+/// Whether an index is the one that goes with a table's key.
+fn is_key(index: &Index, name: &str, table: u32, places: &[usize]) -> bool
+    ensures { IsTrue result ↔ (index.now ≡ key_index name.now table places.now) }
+{
+    index.name.as_slice() == name.as_bytes()
+        && index.table == table
+        && u64::from(index.tree) == u64::from(table) + 1
+        && index.columns.as_slice() == places
+        && is_plain(&index.order)
+        && index.is_unique
+}
+
+fn is_types(table: &Table) -> bool
+    ensures { IsTrue result ↔ (table.now ≡ record types_table { tree = 0 }) }
+{
+    let wanted = [
+        ("name", Kind::Text),
+        ("unit", Kind::Integer),
+        ("every", Kind::Integer),
+    ];
+    is_keyed(table, "types", 0, &[1]) && are_columns(table.columns.as_slice(), &wanted)
+}
+
+fn is_boards(table: &Table) -> bool
+    ensures { IsTrue result ↔ (table.now ≡ record boards_table { tree = 2 }) }
+{
+    let wanted = [
+        ("name", Kind::Text),
+        ("kind", Kind::Text),
+        ("tags", Kind::Text),
+        ("health", Kind::Integer),
+        ("state", Kind::Integer),
+        ("holder", Kind::Integer),
+        ("held_by", Kind::Integer),
+        ("jobs_since", Kind::Integer),
+        ("last_check", Kind::Integer),
+    ];
+    is_keyed(table, "boards", 2, &[1]) && are_columns(table.columns.as_slice(), &wanted)
+}
+
+fn is_jobs(table: &Table) -> bool
+    ensures { IsTrue result ↔ (table.now ≡ record jobs_table { tree = 4 }) }
+{
+    let wanted = [
+        ("number", Kind::Integer),
+        ("grp", Kind::Integer),
+        ("checking", Kind::Integer),
+        ("owner", Kind::Text),
+        ("priority", Kind::Integer),
+        ("kind", Kind::Text),
+        ("tags", Kind::Text),
+        ("role", Kind::Text),
+        ("state", Kind::Integer),
+        ("outcome", Kind::Integer),
+        ("board", Kind::Text),
+        ("body", Kind::Text),
+    ];
+    is_numbered(table, "jobs", 4) && are_columns(table.columns.as_slice(), &wanted)
+}
+
+fn is_reservations(table: &Table) -> bool
+    ensures { IsTrue result ↔ (table.now ≡ record reservations_table { tree = 5 }) }
+{
+    let wanted = [
+        ("number", Kind::Integer),
+        ("owner", Kind::Text),
+        ("priority", Kind::Integer),
+        ("tags", Kind::Text),
+        ("state", Kind::Integer),
+        ("deadline", Kind::Integer),
+        ("board", Kind::Text),
+    ];
+    is_numbered(table, "reservations", 5) && are_columns(table.columns.as_slice(), &wanted)
+}
+
+fn is_replies(table: &Table) -> bool
+    ensures { IsTrue result ↔ (table.now ≡ record kept_table { tree = 6 }) }
+{
+    let wanted = [
+        ("caller", Kind::Text),
+        ("ckey", Kind::Text),
+        ("kind", Kind::Integer),
+        ("a", Kind::Integer),
+        ("b", Kind::Integer),
+        ("c", Kind::Integer),
+    ];
+    is_keyed(table, "kept", 6, &[1, 2]) && are_columns(table.columns.as_slice(), &wanted)
+}
+
+fn is_numbers(table: &Table) -> bool
+    ensures { IsTrue result ↔ (table.now ≡ record meta_table { tree = 8 }) }
+{
+    let wanted = [("name", Kind::Text), ("value", Kind::Integer)];
+    is_keyed(table, "meta", 8, &[1]) && are_columns(table.columns.as_slice(), &wanted)
+}
+
+fn are_tables(tables: &[Table]) -> bool
+    ensures { IsTrue result ↔ (tables.now ≡ farm_schema.tables) }
+{
+    match tables {
+        [types, boards, jobs, reservations, replies, numbers] => {
+            is_types(types)
+                && is_boards(boards)
+                && is_jobs(jobs)
+                && is_reservations(reservations)
+                && is_replies(replies)
+                && is_numbers(numbers)
+        }
+        _ => false,
+    }
+}
+
+fn is_key_of_types(index: &Index) -> bool
+    ensures { IsTrue result ↔ (index.now ≡ key_index (codes "sqlite_autoindex_types_1") 0 (1 ∷ [])) }
+{
+    is_key(index, "sqlite_autoindex_types_1", 0, &[1])
+}
+
+fn is_key_of_boards(index: &Index) -> bool
+    ensures { IsTrue result ↔ (index.now ≡ key_index (codes "sqlite_autoindex_boards_1") 2 (1 ∷ [])) }
+{
+    is_key(index, "sqlite_autoindex_boards_1", 2, &[1])
+}
+
+fn is_key_of_replies(index: &Index) -> bool
+    ensures { IsTrue result ↔ (index.now ≡ key_index (codes "sqlite_autoindex_kept_1") 6 (1 ∷ 2 ∷ [])) }
+{
+    is_key(index, "sqlite_autoindex_kept_1", 6, &[1, 2])
+}
+
+fn is_key_of_numbers(index: &Index) -> bool
+    ensures { IsTrue result ↔ (index.now ≡ key_index (codes "sqlite_autoindex_meta_1") 8 (1 ∷ [])) }
+{
+    is_key(index, "sqlite_autoindex_meta_1", 8, &[1])
+}
+
+fn are_indexes(indexes: &[Index]) -> bool
+    ensures { IsTrue result ↔ (indexes.now ≡ farm_indexes) }
+{
+    match indexes {
+        [types, boards, replies, numbers] => {
+            is_key_of_types(types)
+                && is_key_of_boards(boards)
+                && is_key_of_replies(replies)
+                && is_key_of_numbers(numbers)
+        }
+        _ => false,
+    }
+}
+
+#[tactic(auto, using(crate::proofs::Ours::schema_is))]
+/// Whether the tables are the farm's six and no others, with no index or view beside those of their keys.
+pub(crate) fn is_farm_schema(schema: &Schema) -> bool
+    ensures { IsTrue result ↔ (schema.now ≡ farm_schema) }
+{
+    are_tables(schema.tables.as_slice())
+        && are_indexes(schema.indexes.as_slice())
+        && schema.views.is_empty()
+}
+
+/// Whether there is no table, index or view.
+pub(crate) fn is_no_schema(schema: &Schema) -> bool
+    ensures { IsTrue result ↔ (schema.now ≡ no_schema) }
+{
+    schema.tables.is_empty() && schema.indexes.is_empty() && schema.views.is_empty()
+}
