@@ -2,7 +2,7 @@
 ghost use Rattle.std.specs.Prelude.{◌≡◌, ◌≢◌, ◌≤◌, ◌↔◌, false, Err, IfOk, IfErr, IsTrue};
 ghost use Rattle.sqlite.specs.Held.{state};
 ghost use Rattle.sqlite_trees.specs.View.{doubt};
-ghost use Rattle.farm_http.specs.Logs.{unread, unwritten, IsSpent};
+ghost use Rattle.farm_http.specs.Counts.{unread, unwritten, reader_of, reading_of, writer_of, writing_of, IsSameReader, IsSameWriter, IsSpent};
 ghost use Rattle.farm_desk.specs.Due.{IsDue};
 ghost use Rattle.farm_desk.specs.Ends.{IsAnswered, IsUnwritten, IsUnread, IsTold, IsToldBy};
 ghost use Rattle.farm_desk.specs.Made.{bytes_in};
@@ -11,11 +11,10 @@ use crate::answer::due_to;
 use crate::due::Due;
 use crate::fault::DeskFault;
 use crate::hear::{Unheard, hear};
-use crate::log::Log;
 use farm_keep::Keeper;
 use farm_wire::answers::Out;
 use farm_wire::asks::Asks;
-use farm_wire::{ReadLog, write_whole_logged};
+use farm_wire::{CountedReader, CountedWriter, write_whole_counted};
 use sqlite::Alter;
 use std::alloc::Global;
 use std::io::{Read, Write};
@@ -52,76 +51,80 @@ pub fn converse<R: Read, W: Write, S: Alter>(
         (W.contents writer.old) (W.contents writer.new) }
     ensures clean { doubt (state S.Store keeper.old.conn).is_clean ≤ doubt (state S.Store keeper.new.conn).is_clean }
 {
-    converse_logged(alloc, keeper, reader, writer, now, &mut Log::new())
+    let mut reader = CountedReader::new(reader);
+    let mut writer = CountedWriter::new(writer);
+    converse_counted(alloc, keeper, &mut reader, &mut writer, now)
 }
 
-/// Converses as `converse` does, and tells how often the reader and the writer were called and
-/// whether they failed.
-pub fn converse_logged<R: Read, W: Write, S: Alter>(
+/// Converses as `converse` does, and counts how often the reader and the writer were called
+/// and whether they failed.
+pub fn converse_counted<R: Read, W: Write, S: Alter>(
     alloc: Global,
     keeper: &mut Keeper<S>,
-    reader: &mut R,
-    writer: &mut W,
+    reader: &mut CountedReader<'_, R>,
+    writer: &mut CountedWriter<'_, W>,
     now: u64,
-    log: &mut Log,
 ) -> Result<u16, DeskFault>
-    requires unread { log.old.reading ≡ unread }
-    requires unwritten { log.old.writing ≡ unwritten }
+    requires unread { reading_of reader.old ≡ unread }
+    requires unwritten { writing_of writer.old ≡ unwritten }
+    ensures same_reader { IsSameReader reader.old reader.new }
+    ensures same_writer { IsSameWriter writer.old writer.new }
 
     // The answer that is due was written whole.
     ensures answered { IsToldBy result → IsAnswered
-        (IsDue S.Store keeper.old keeper.new (R.remaining reader.old) (R.remaining reader.new) now)
-        (W.contents writer.old) (W.contents writer.new) result }
+        (IsDue S.Store keeper.old keeper.new (R.remaining (reader_of reader.old)) (R.remaining (reader_of reader.new)) now)
+        (W.contents (writer_of writer.old)) (W.contents (writer_of writer.new)) result }
 
     // The writer failed in the middle of it.
     ensures unwritten { result ≡ Err DeskFault.Write → IsUnwritten
-        (IsDue S.Store keeper.old keeper.new (R.remaining reader.old) (R.remaining reader.new) now)
-        (W.contents writer.old) (W.contents writer.new) }
+        (IsDue S.Store keeper.old keeper.new (R.remaining (reader_of reader.old)) (R.remaining (reader_of reader.new)) now)
+        (W.contents (writer_of writer.old)) (W.contents (writer_of writer.new)) }
 
     // The reader gave no request.
     ensures unread { result ≡ Err DeskFault.Read → IsUnread keeper.old keeper.new
-        (W.contents writer.old) (W.contents writer.new) }
+        (W.contents (writer_of writer.old)) (W.contents (writer_of writer.new)) }
 
     // The faults Write and Read come only of a writer that failed, and of a reader that failed or took all its turns.
-    ensures failed { (result ≡ Err DeskFault.Write) ↔ IsTrue log.new.writing.failed }
-    ensures spent { result ≡ Err DeskFault.Read → IsSpent log.new.reading }
+    ensures failed { (result ≡ Err DeskFault.Write) ↔ IsTrue (writing_of writer.new).failed }
+    ensures spent { result ≡ Err DeskFault.Read → IsSpent (reading_of reader.new) }
     ensures clean { doubt (state S.Store keeper.old.conn).is_clean ≤ doubt (state S.Store keeper.new.conn).is_clean }
 {
-    let end = converse_through(alloc, None, keeper, reader, writer, now, log);
-    if log.writing.has_failed() {
+    let end = converse_through(alloc, None, keeper, reader, writer, now);
+    if writer.has_failed() {
         return Err(DeskFault::Write);
     }
     end
 }
 
-/// Converses as `converse_logged` does, and ends as the answer that was due ends it, also where that
+/// Converses as `converse_counted` does, and ends as the answer that was due ends it, also where that
 /// answer was lost: so a keeper's fault is known in each case. The router is lent, or built.
 pub(crate) fn converse_through<R: Read, W: Write, S: Alter>(
     alloc: Global,
     asks: Option<&Asks>,
     keeper: &mut Keeper<S>,
-    reader: &mut R,
-    writer: &mut W,
+    reader: &mut CountedReader<'_, R>,
+    writer: &mut CountedWriter<'_, W>,
     now: u64,
-    log: &mut Log,
 ) -> Result<u16, DeskFault>
-    requires unread { log.old.reading ≡ unread }
-    requires unwritten { log.old.writing ≡ unwritten }
+    requires unread { reading_of reader.old ≡ unread }
+    requires unwritten { writing_of writer.old ≡ unwritten }
+    ensures same_reader { IsSameReader reader.old reader.new }
+    ensures same_writer { IsSameWriter writer.old writer.new }
 
     // The answer that is due was written, or where the writer failed a part of it.
     ensures told { result ≢ Err DeskFault.Read → IsTold
-        (IsDue S.Store keeper.old keeper.new (R.remaining reader.old) (R.remaining reader.new) now)
-        log.new.writing.failed (W.contents writer.old) (W.contents writer.new) result }
+        (IsDue S.Store keeper.old keeper.new (R.remaining (reader_of reader.old)) (R.remaining (reader_of reader.new)) now)
+        (writing_of writer.new).failed (W.contents (writer_of writer.old)) (W.contents (writer_of writer.new)) result }
 
     // The reader gave no request.
     ensures unread { result ≡ Err DeskFault.Read → IsUnread keeper.old keeper.new
-        (W.contents writer.old) (W.contents writer.new) × IsSpent log.new.reading
-        × (log.new.writing.failed ≡ false) }
+        (W.contents (writer_of writer.old)) (W.contents (writer_of writer.new)) × IsSpent (reading_of reader.new)
+        × ((writing_of writer.new).failed ≡ false) }
     ensures clean { doubt (state S.Store keeper.old.conn).is_clean ≤ doubt (state S.Store keeper.new.conn).is_clean }
 {
-    let due = due(alloc, asks, keeper, reader, now, &mut log.reading)?;
-    // Whether the writer failed, its log says.
-    let _ = write_whole_logged(writer, due.bytes(), &mut log.writing);
+    let due = due(alloc, asks, keeper, reader, now)?;
+    // Whether the writer failed, its count says.
+    let _ = write_whole_counted(writer, due.bytes());
     due.end
 }
 
@@ -130,17 +133,17 @@ fn due<R: Read, S: Alter>(
     alloc: Global,
     asks: Option<&Asks>,
     keeper: &mut Keeper<S>,
-    reader: &mut R,
+    reader: &mut CountedReader<'_, R>,
     now: u64,
-    log: &mut ReadLog,
 ) -> Result<Due, DeskFault>
-    requires { log.old ≡ unread }
+    requires { reading_of reader.old ≡ unread }
+    ensures same { IsSameReader reader.old reader.new }
     ensures due { IfOk result (λ due. IsDue S.Store keeper.old keeper.new
-        (R.remaining reader.old) (R.remaining reader.new) now (bytes_in due.bytes) due.end) }
-    ensures unread { IfErr result (λ fault. (fault ≡ DeskFault.Read) × IsSpent log.new × (keeper.new ≡ keeper.old)) }
+        (R.remaining (reader_of reader.old)) (R.remaining (reader_of reader.new)) now (bytes_in due.bytes) due.end) }
+    ensures unread { IfErr result (λ fault. (fault ≡ DeskFault.Read) × IsSpent (reading_of reader.new) × (keeper.new ≡ keeper.old)) }
     ensures clean { doubt (state S.Store keeper.old.conn).is_clean ≤ doubt (state S.Store keeper.new.conn).is_clean }
 {
-    match hear(alloc, asks, reader, now, log) {
+    match hear(alloc, asks, reader, now) {
         Ok(ask) => Ok(due_to(alloc, keeper, &ask)),
         Err(Unheard::Refused(refusal)) => Ok(Due::of(alloc, &Out::Refused(refusal))),
         Err(Unheard::Method(allowed)) => Ok(Due::of(alloc, &Out::Method(allowed))),

@@ -1,6 +1,6 @@
 //! Hearing a request: its bytes, and what they ask.
 ghost use Rattle.std.specs.Prelude.{◌≡◌};
-ghost use Rattle.farm_http.specs.Logs.{unread, IsSpent};
+ghost use Rattle.farm_http.specs.Counts.{unread, reader_of, reading_of, IsSameReader, IsSpent};
 ghost use Rattle.farm_http.specs.Request.{Request};
 ghost use Rattle.farm_http.specs.Requests.{Spells};
 ghost use Rattle.farm_wire.specs.Asked.{ask, asked};
@@ -13,7 +13,7 @@ use farm_wire::allowed::Allowed;
 use farm_wire::ask::Ask;
 use farm_wire::asks::Asks;
 use farm_wire::fault::AskFault;
-use farm_wire::{ReadLog, WireFault, read_request_logged};
+use farm_wire::{CountedReader, WireFault, read_request_counted};
 use std::alloc::Global;
 use std::io::Read;
 
@@ -30,14 +30,15 @@ pub(crate) enum Unheard {
 pub(crate) fn hear<R: Read>(
     alloc: Global,
     asks: Option<&Asks>,
-    reader: &mut R,
+    reader: &mut CountedReader<'_, R>,
     now: u64,
-    log: &mut ReadLog,
 ) -> Result<Ask, Unheard>
-    requires { log.old ≡ unread }
-    ensures { Gives (R.remaining reader.old) (R.remaining reader.new) now (IsSpent log.new) result }
+    requires { reading_of reader.old ≡ unread }
+    ensures same { IsSameReader reader.old reader.new }
+    ensures gives { Gives (R.remaining (reader_of reader.old)) (R.remaining (reader_of reader.new)) now
+        (IsSpent (reading_of reader.new)) result }
 {
-    match read_request_logged(alloc, reader, log) {
+    match read_request_counted(alloc, reader) {
         Ok(taken) => match asked_of(alloc, asks, &taken, now) {
             Ok(ask) => Ok(ask),
             Err(AskFault::NoMemory) => Err(Unheard::NoMemory),

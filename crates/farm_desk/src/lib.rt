@@ -14,7 +14,6 @@ pub mod files;
 mod hear;
 pub mod import;
 pub mod laws;
-pub mod log;
 pub mod orders;
 mod patient;
 pub mod program;

@@ -6,12 +6,11 @@ ghost use Rattle.farm_desk.specs.Serving.{ServesUntil, PassesOn};
 
 use crate::converse::converse_through;
 use crate::fault::DeskFault;
-use crate::log::Log;
 use crate::patient::{Patient, drop_rest, limit_waits};
 use farm_keep::{KeepFault, Keeper};
 use farm_wire::asks::Asks;
 use farm_wire::constant::no_memory_answer;
-use farm_wire::write_whole;
+use farm_wire::{CountedReader, CountedWriter, write_whole};
 use sqlite::Alter;
 use std::alloc::Global;
 use std::io::{BufReader, Read, Write};
@@ -32,7 +31,7 @@ use std::time::{Clock, SystemTime, UNIX_EPOCH};
 /// then. The system keeps up to 128 of them waiting.
 ///
 /// The clauses say what becomes of the farm and of its store. That anybody was served they don't say:
-/// nothing can be said of what a socket gives and takes; `converse_logged` says it of readers and
+/// nothing can be said of what a socket gives and takes; `converse_counted` says it of readers and
 /// writers whose bytes are known.
 ///
 /// Costs building a router of seventeen paths, once, and for each connection an accept, one read where
@@ -142,7 +141,9 @@ fn serve_one<R: Read, W: Write, S: Alter>(
     ensures serves { ServesUntil S.Store keeper.old keeper.new 1 result }
     ensures clean { doubt (state S.Store keeper.old.conn).is_clean ≤ doubt (state S.Store keeper.new.conn).is_clean }
 {
-    pass_on(converse_through(alloc, asks, keeper, reader, writer, now, &mut Log::new()))
+    let mut reader = CountedReader::new(reader);
+    let mut writer = CountedWriter::new(writer);
+    pass_on(converse_through(alloc, asks, keeper, &mut reader, &mut writer, now))
 }
 
 /// The keeper's fault, where a conversation ended with one.

@@ -46,8 +46,8 @@ gives_map : (input used : List ℕ) (Spent : Type 0) (r : Result Taken WireFault
 gives_map input used Spent (Ok t) gives = gives
 gives_map input used Spent (Err e) gives = fails_map (used ≡ input) (used ≡ input) Spent (Unit {0}) (λ end. end) (λ _. tt) used e gives
 
-pub known_without_log : (a b : Option (List ℕ)) (Spent : Type 0) (r : Result Taken WireFault)
+pub known_without_count : (a b : Option (List ℕ)) (Spent : Type 0) (r : Result Taken WireFault)
     → IfSome a (λ input. (used : List ℕ) × Consumes (Some input) b used × Gives input used Spent r)
     → IfSome a (λ input. (used : List ℕ) × Consumes (Some input) b used × Gives input used (Unit {0}) r)
-known_without_log None b Spent r known = tt
-known_without_log (Some input) b Spent r known = (known.0, known.1, gives_map input known.0 Spent r known.2)
+known_without_count None b Spent r known = tt
+known_without_count (Some input) b Spent r known = (known.0, known.1, gives_map input known.0 Spent r known.2)

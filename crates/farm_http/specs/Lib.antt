@@ -2,5 +2,5 @@ pub mod Fields
 pub mod Request
 pub mod Heads
 pub mod Requests
-pub mod Logs
+pub mod Counts
 pub mod Faults

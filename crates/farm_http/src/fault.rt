@@ -1,8 +1,8 @@
 //! Why no request was read, or no answer written.
 ghost use Rattle.std.specs.Prelude.{◌≡◌};
 
-use crate::read_log::NoBytes;
-use crate::write_log::NotTaken;
+use crate::counted_writer::NotTaken;
+use crate::read_some::NoBytes;
 use farm_types::refusal::{NO_MEMORY, READ, Refusal, WRITE};
 use thiserror::Error;
 

@@ -4,7 +4,7 @@ ghost use Rattle.httparse.specs.Grammar.{RequestHead, ReadsRequest, print_reques
 ghost use Rattle.farm_http.specs.declared.fault.WireFault.{WireFault};
 ghost use Rattle.farm_http.specs.declared.taken.Taken.{Taken};
 ghost use Rattle.farm_http.specs.Heads.{HasNoHead};
-ghost use Rattle.farm_http.specs.Logs.{Reading, IsSpent};
+ghost use Rattle.farm_http.specs.Counts.{Reading, IsSpent};
 ghost use Rattle.farm_http.specs.Requests.{IsRequest};
 ghost use Rattle.farm_http.specs.Faults.{Gives, IsTaken};
 
@@ -21,9 +21,9 @@ pub fn head_is_found()
 /// Where a request stands at the front of the input, it is what reading takes, whatever follows:
 /// `used` left the reader, `more` is still in it.
 pub fn request_is_taken()
-    ensures { (request rest used more : List ℕ) (head : ℕ) (log : Reading)
+    ensures { (request rest used more : List ℕ) (head : ℕ) (count : Reading)
         → (taken : Result Taken WireFault)
         → IsRequest request head → request ++ rest ≡ used ++ more
-        → Gives (request ++ rest) used (IsSpent log) taken
-        → IsTaken request head (IsSpent log) taken }
+        → Gives (request ++ rest) used (IsSpent count) taken
+        → IsTaken request head (IsSpent count) taken }
 {}

@@ -5,14 +5,15 @@ ghost use Rattle.httparse.specs.Grammar.{RequestHead};
 ghost use Rattle.farm_http.specs.Fields.{body_length, numbered};
 ghost use Rattle.farm_http.specs.Faults.{HeadFails, BodyFails, FailsAfter, TakesFrom};
 ghost use Rattle.farm_http.specs.Heads.{IsHead, IsHopeless, OpenBelow, TellsHead};
-ghost use Rattle.farm_http.specs.Logs.{unread, IsSpent};
+ghost use Rattle.farm_http.specs.Counts.{unread, reader_of, reading_of, IsSameReader, IsSpent};
 ghost use Rattle.farm_http.specs.Requests.{IsRequest};
 
+use crate::counted_reader::CountedReader;
 use crate::fault::WireFault;
 use crate::fields::declared_among;
 use crate::limits::{MAX_BODY, MAX_FIELDS, MAX_HEAD, MAX_TURNS};
 use crate::parts::spans_of;
-use crate::read_log::{ReadLog, read_some};
+use crate::read_some::read_some;
 use crate::taken::Taken;
 use farm_types::refusal::{BAD_REQUEST, Refusal, TOO_LARGE};
 use httparse::Status;
@@ -40,103 +41,104 @@ pub fn read_request<R: Read>(alloc: Global, reader: &mut R) -> Result<Taken, Wir
     ensures known { IfSome (R.remaining reader.old)
         (λ input. TakesFrom input (R.remaining reader.new) ⊤ result) }
 {
-    read_request_logged(alloc, reader, &mut ReadLog::new())
+    read_request_counted(alloc, &mut CountedReader::new(reader))
 }
 
-/// Reads one request as `read_request` does, and tells how often the reader was called and whether
+/// Reads one request as `read_request` does, and counts how often the reader was called and whether
 /// it failed.
-pub fn read_request_logged<R: Read>(
+pub fn read_request_counted<R: Read>(
     alloc: Global,
-    reader: &mut R,
-    log: &mut ReadLog,
+    reader: &mut CountedReader<'_, R>,
 ) -> Result<Taken, WireFault>
-    requires fresh { log.old ≡ unread }
+    requires fresh { reading_of reader.old ≡ unread }
+    ensures same { IsSameReader reader.old reader.new }
     ensures taken { IfOk result
-        (λ taken. Consumes (R.remaining reader.old) (R.remaining reader.new) taken.bytes.items) }
+        (λ taken. Consumes (R.remaining (reader_of reader.old)) (R.remaining (reader_of reader.new)) taken.bytes.items) }
 
     // The fault Read comes only of a reader that failed or took all its turns, and of one that
     // failed nothing else comes.
     ensures fault { IfErr result
-        (FailsAfter (R.remaining reader.old) (R.remaining reader.new) (IsSpent log.new)) }
-    ensures failed { IsTrue log.new.failed → IsErrOf result WireFault.Read }
-    ensures turns { log.new.calls ≤ MAX_TURNS }
-    ensures known { IfSome (R.remaining reader.old)
-        (λ input. TakesFrom input (R.remaining reader.new) (IsSpent log.new) result) }
+        (FailsAfter (R.remaining (reader_of reader.old)) (R.remaining (reader_of reader.new)) (IsSpent (reading_of reader.new))) }
+    ensures failed { IsTrue (reading_of reader.new).failed → IsErrOf result WireFault.Read }
+    ensures turns { (reading_of reader.new).calls ≤ MAX_TURNS }
+    ensures known { IfSome (R.remaining (reader_of reader.old))
+        (λ input. TakesFrom input (R.remaining (reader_of reader.new)) (IsSpent (reading_of reader.new)) result) }
 {
-    take_request(alloc, reader, log)
+    take_request(alloc, reader)
 }
 
 /// The same, as it is said of any reader.
 fn take_request<R: Read>(
     alloc: Global,
-    reader: &mut R,
-    log: &mut ReadLog,
+    reader: &mut CountedReader<'_, R>,
 ) -> Result<Taken, WireFault>
-    requires { log.old ≡ unread }
+    requires { reading_of reader.old ≡ unread }
+    ensures same { IsSameReader reader.old reader.new }
     ensures taken { IfOk result
-        (λ taken. Consumes (R.remaining reader.old) (R.remaining reader.new) taken.bytes.items) }
+        (λ taken. Consumes (R.remaining (reader_of reader.old)) (R.remaining (reader_of reader.new)) taken.bytes.items) }
     ensures request { IfOk result (λ taken. IsRequest taken.bytes.items taken.head) }
     ensures fault { IfErr result
-        (FailsAfter (R.remaining reader.old) (R.remaining reader.new) (IsSpent log.new)) }
-    ensures failed { IsTrue log.new.failed → IsErrOf result WireFault.Read }
-    ensures turns { log.new.calls ≤ MAX_TURNS }
+        (FailsAfter (R.remaining (reader_of reader.old)) (R.remaining (reader_of reader.new)) (IsSpent (reading_of reader.new))) }
+    ensures failed { IsTrue (reading_of reader.new).failed → IsErrOf result WireFault.Read }
+    ensures turns { (reading_of reader.new).calls ≤ MAX_TURNS }
 {
     let Ok(mut bytes) = Vec::with_capacity(alloc, MAX_HEAD + MAX_BODY) else {
         return Err(WireFault::NoMemory);
     };
-    let head = fill(reader, log, &mut bytes)?;
+    let head = fill(reader, &mut bytes)?;
     Ok(Taken { bytes, head })
 }
 
 /// Reads a request into bytes that have room for it, and gives the length of its head. Only as many
 /// bytes are cleared as the body has.
-fn fill<R: Read>(reader: &mut R, log: &mut ReadLog, bytes: &mut Vec<u8>) -> Result<usize, WireFault>
+fn fill<R: Read>(reader: &mut CountedReader<'_, R>, bytes: &mut Vec<u8>) -> Result<usize, WireFault>
     requires empty { bytes.old.items ≡ [] }
     requires room { MAX_HEAD + MAX_BODY ≤ vec_capacity bytes.old }
-    requires fresh { log.old ≡ unread }
+    requires fresh { reading_of reader.old ≡ unread }
+    ensures same { IsSameReader reader.old reader.new }
     ensures request { IfOk result (λ n. IsRequest bytes.new.items n) }
     ensures taken { IfOk result
-        (λ n. Consumes (R.remaining reader.old) (R.remaining reader.new) bytes.new.items) }
+        (λ n. Consumes (R.remaining (reader_of reader.old)) (R.remaining (reader_of reader.new)) bytes.new.items) }
     ensures fault { IfErr result
-        (FailsAfter (R.remaining reader.old) (R.remaining reader.new) (IsSpent log.new)) }
-    ensures failed { IsTrue log.new.failed → IsErrOf result WireFault.Read }
-    ensures turns { log.new.calls ≤ MAX_TURNS }
+        (FailsAfter (R.remaining (reader_of reader.old)) (R.remaining (reader_of reader.new)) (IsSpent (reading_of reader.new))) }
+    ensures failed { IsTrue (reading_of reader.new).failed → IsErrOf result WireFault.Read }
+    ensures turns { (reading_of reader.new).calls ≤ MAX_TURNS }
 {
     let mut headers = [EMPTY_HEADER_SPAN; MAX_FIELDS];
-    read_head(reader, log, bytes, &mut headers)?;
+    read_head(reader, bytes, &mut headers)?;
     let head = bytes.len();
     let body = length_after(bytes.as_slice())?;
     let Ok(()) = bytes.resize(head + body, 0) else {
         return Err(WireFault::NoMemory);
     };
-    read_body(reader, log, &mut bytes[head..])?;
+    read_body(reader, &mut bytes[head..])?;
     Ok(head)
 }
 
 /// Reads a head into bytes that have room for it.
 fn read_head<R: Read>(
-    reader: &mut R,
-    log: &mut ReadLog,
+    reader: &mut CountedReader<'_, R>,
     bytes: &mut Vec<u8>,
     headers: &mut [HeaderSpan],
 ) -> Result<(), WireFault>
     requires empty { bytes.old.items ≡ [] }
     requires room { MAX_HEAD ≤ vec_capacity bytes.old }
     requires fields { length headers.old ≡ MAX_FIELDS }
-    requires fresh { log.old ≡ unread }
+    requires fresh { reading_of reader.old ≡ unread }
+    ensures same { IsSameReader reader.old reader.new }
     ensures capacity { vec_capacity bytes.old ≤ vec_capacity bytes.new }
     ensures within { OnOk result (length bytes.new.items ≤ MAX_HEAD) }
     ensures head { OnOk result ((h : RequestHead) × IsHead bytes.new.items h) }
     ensures bytes { OnOk result
-        (Consumes (R.remaining reader.old) (R.remaining reader.new) bytes.new.items) }
+        (Consumes (R.remaining (reader_of reader.old)) (R.remaining (reader_of reader.new)) bytes.new.items) }
     ensures fault { IfErr result (λ e. (used : List ℕ)
-        × Consumes (R.remaining reader.old) (R.remaining reader.new) used
-        × HeadFails used (IsAtEnd (R.remaining reader.new)) (IsSpent log.new) e) }
-    ensures failed { IsTrue log.new.failed → IsErrOf result WireFault.Read }
-    ensures turns { log.new.calls ≤ MAX_TURNS }
+        × Consumes (R.remaining (reader_of reader.old)) (R.remaining (reader_of reader.new)) used
+        × HeadFails used (IsAtEnd (R.remaining (reader_of reader.new))) (IsSpent (reading_of reader.new)) e) }
+    ensures failed { IsTrue (reading_of reader.new).failed → IsErrOf result WireFault.Read }
+    ensures turns { (reading_of reader.new).calls ≤ MAX_TURNS }
 {
     while bytes.len() < MAX_HEAD {
-        let byte = read_byte(reader, log)?;
+        let byte = read_byte(reader)?;
         bytes.push_reserved(byte);
         if is_head(bytes.as_slice(), headers)? {
             return Ok(());
@@ -146,20 +148,21 @@ fn read_head<R: Read>(
 }
 
 /// Reads one byte.
-fn read_byte<R: Read>(reader: &mut R, log: &mut ReadLog) -> Result<u8, WireFault>
-    requires turns { log.old.calls ≤ MAX_TURNS }
-    requires alive { log.old.failed ≡ false }
+fn read_byte<R: Read>(reader: &mut CountedReader<'_, R>) -> Result<u8, WireFault>
+    requires turns { (reading_of reader.old).calls ≤ MAX_TURNS }
+    requires alive { (reading_of reader.old).failed ≡ false }
+    ensures same { IsSameReader reader.old reader.new }
     ensures byte { IfOk result
-        (λ byte. Consumes (R.remaining reader.old) (R.remaining reader.new) (byte ∷ [])) }
-    ensures alive { OnOk result (log.new.failed ≡ false) }
-    ensures kept { OnErr result (Keeps (R.remaining reader.old) (R.remaining reader.new)) }
+        (λ byte. Consumes (R.remaining (reader_of reader.old)) (R.remaining (reader_of reader.new)) (byte ∷ [])) }
+    ensures alive { OnOk result ((reading_of reader.new).failed ≡ false) }
+    ensures kept { OnErr result (Keeps (R.remaining (reader_of reader.old)) (R.remaining (reader_of reader.new))) }
     ensures fault { IfErr result
-        (BodyFails 1 [] (IsAtEnd (R.remaining reader.new)) (IsSpent log.new)) }
-    ensures failed { IsTrue log.new.failed → IsErrOf result WireFault.Read }
-    ensures turns { log.new.calls ≤ MAX_TURNS }
+        (BodyFails 1 [] (IsAtEnd (R.remaining (reader_of reader.new))) (IsSpent (reading_of reader.new))) }
+    ensures failed { IsTrue (reading_of reader.new).failed → IsErrOf result WireFault.Read }
+    ensures turns { (reading_of reader.new).calls ≤ MAX_TURNS }
 {
     let mut byte = [0u8; 1];
-    if read_some(reader, log, &mut byte)? == 0 {
+    if read_some(reader, &mut byte)? == 0 {
         return Err(WireFault::Refused(Refusal { code: BAD_REQUEST }));
     }
     Ok(byte[0])
@@ -198,19 +201,20 @@ fn length_after(head: &[u8]) -> Result<usize, Refusal>
 }
 
 /// Reads a body of a known length.
-fn read_body<R: Read>(reader: &mut R, log: &mut ReadLog, body: &mut [u8]) -> Result<(), WireFault>
-    requires turns { log.old.calls ≤ MAX_TURNS }
-    requires alive { log.old.failed ≡ false }
-    ensures ok { OnOk result (Consumes (R.remaining reader.old) (R.remaining reader.new) body.new) }
+fn read_body<R: Read>(reader: &mut CountedReader<'_, R>, body: &mut [u8]) -> Result<(), WireFault>
+    requires turns { (reading_of reader.old).calls ≤ MAX_TURNS }
+    requires alive { (reading_of reader.old).failed ≡ false }
+    ensures same { IsSameReader reader.old reader.new }
+    ensures ok { OnOk result (Consumes (R.remaining (reader_of reader.old)) (R.remaining (reader_of reader.new)) body.new) }
     ensures fault { IfErr result (λ e. (used : List ℕ)
-        × Consumes (R.remaining reader.old) (R.remaining reader.new) used
-        × BodyFails (length body.old) used (IsAtEnd (R.remaining reader.new)) (IsSpent log.new) e) }
-    ensures failed { IsTrue log.new.failed → IsErrOf result WireFault.Read }
-    ensures turns { log.new.calls ≤ MAX_TURNS }
+        × Consumes (R.remaining (reader_of reader.old)) (R.remaining (reader_of reader.new)) used
+        × BodyFails (length body.old) used (IsAtEnd (R.remaining (reader_of reader.new))) (IsSpent (reading_of reader.new)) e) }
+    ensures failed { IsTrue (reading_of reader.new).failed → IsErrOf result WireFault.Read }
+    ensures turns { (reading_of reader.new).calls ≤ MAX_TURNS }
 {
     let mut at = 0usize;
     while at < body.len() {
-        let count = read_some(reader, log, &mut body[at..])?;
+        let count = read_some(reader, &mut body[at..])?;
         if count == 0 {
             return Err(WireFault::Refused(Refusal { code: BAD_REQUEST }));
         }

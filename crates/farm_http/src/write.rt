@@ -1,11 +1,11 @@
 //! Writing an answer.
 ghost use Rattle.std.specs.Prelude.{◌≡◌, ℕ, ◌+◌, ◌<◌, ◌≤◌, length, take, IsTrue, IsErr, OnOk, IfErr, OnErr, ◌↔◌};
 ghost use Rattle.std.specs.Io.KnownBytes.{Appends};
-ghost use Rattle.farm_http.specs.Logs.{unwritten};
+ghost use Rattle.farm_http.specs.Counts.{unwritten, writer_of, writing_of, IsSameWriter};
 ghost use Rattle.farm_http.specs.Faults.{WritesPrefix};
 
+use crate::counted_writer::CountedWriter;
 use crate::fault::WireFault;
-use crate::write_log::{WriteLog, write_some};
 use std::io::Write;
 
 /// Writes all the bytes, or a prefix of them where the writer fails. A write that fails, takes no
@@ -17,26 +17,27 @@ pub fn write_whole<W: Write>(writer: &mut W, bytes: &[u8]) -> Result<(), WireFau
     ensures prefix { OnErr result
         (WritesPrefix (W.contents writer.old) (W.contents writer.new) bytes.now) }
 {
-    write_whole_logged(writer, bytes, &mut WriteLog::new())
+    write_whole_counted(&mut CountedWriter::new(writer), bytes)
 }
 
-/// Writes as `write_whole` does, and tells how often the writer was called and whether it failed.
-pub fn write_whole_logged<W: Write>(
-    writer: &mut W,
+/// Writes as `write_whole` does, and counts how often the writer was called and whether it failed.
+pub fn write_whole_counted<W: Write>(
+    writer: &mut CountedWriter<'_, W>,
     bytes: &[u8],
-    log: &mut WriteLog,
 ) -> Result<(), WireFault>
-    requires fresh { log.old ≡ unwritten }
-    ensures ok { OnOk result (Appends (W.contents writer.old) (W.contents writer.new) bytes.now) }
+    requires fresh { writing_of writer.old ≡ unwritten }
+    ensures same { IsSameWriter writer.old writer.new }
+    ensures ok { OnOk result (Appends
+        (W.contents (writer_of writer.old)) (W.contents (writer_of writer.new)) bytes.now) }
     ensures fault { IfErr result (λ e. e ≡ WireFault.Write) }
-    ensures prefix { OnErr result
-        (WritesPrefix (W.contents writer.old) (W.contents writer.new) bytes.now) }
-    ensures failed { IsErr result ↔ IsTrue log.new.failed }
-    ensures calls { log.new.calls ≤ length bytes.now }
+    ensures prefix { OnErr result (WritesPrefix
+        (W.contents (writer_of writer.old)) (W.contents (writer_of writer.new)) bytes.now) }
+    ensures failed { IsErr result ↔ IsTrue (writing_of writer.new).failed }
+    ensures calls { (writing_of writer.new).calls ≤ length bytes.now }
 {
     let mut done = 0usize;
     while done < bytes.len() {
-        done += write_some(writer, log, &bytes[done..])?;
+        done += writer.write(&bytes[done..])?;
     }
     Ok(())
 }

@@ -1,11 +1,11 @@
 //! Conversations over readers and writers that give and take little, or fail.
 use crate::asked::request;
-use crate::fakes::{Interrupted, Narrow, Slow};
+use crate::fakes::{Interrupted, Narrow, Slow, Tally};
 use crate::requests::FIRST_TYPE;
-use farm_desk::converse::converse_logged;
+use farm_desk::converse::converse_counted;
 use farm_desk::fault::DeskFault;
-use farm_desk::log::Log;
 use farm_keep::Keeper;
+use farm_wire::{CountedReader, CountedWriter};
 use sqlite::{Alter, Connection};
 use std::alloc::Global;
 use std::io::{Read, Write};
@@ -32,16 +32,21 @@ fn code_of(end: Result<u16, DeskFault>) -> u16 {
     }
 }
 
-/// One conversation, at moment 10.
+/// One conversation, at moment 10. The reader and the writer count their calls too.
 fn talk<R: Read, W: Write, S: Alter>(
+    rt: &impl Abort,
     alloc: Global,
     keeper: &mut Keeper<S>,
     reader: &mut R,
     writer: &mut W,
 ) -> End {
-    let mut log = Log::new();
-    let end = converse_logged(alloc, keeper, reader, writer, 10, &mut log);
-    (code_of(end), log.reading.calls(), log.reading.has_failed())
+    let (mut input, mut output) = (Tally::new(reader), Tally::new(writer));
+    let mut reader = CountedReader::new(&mut input);
+    let mut writer = CountedWriter::new(&mut output);
+    let end = converse_counted(alloc, keeper, &mut reader, &mut writer, 10);
+    let (reads, writes, failed) = (reader.calls(), writer.calls(), reader.has_failed());
+    assert_eq!(rt; (reads as usize, writes), (input.calls, output.calls));
+    (code_of(end), reads, failed)
 }
 
 /// The farm's accepted commands and its jobs; none where the keeper is closed.
@@ -65,28 +70,26 @@ pub(crate) fn made<S: Alter + Drop>(alloc: Global, conn: Connection<S>) -> Optio
 
 /// What the request of a reader is answered, and how the conversation ends.
 fn heard<R: Read, S: Alter>(
+    rt: &impl Abort,
     alloc: Global,
     keeper: &mut Keeper<S>,
     reader: &mut R,
 ) -> (Vec<u8>, End) {
     let mut output = Vec::new(alloc);
-    let end = talk(alloc, keeper, reader, &mut output);
+    let end = talk(rt, alloc, keeper, reader, &mut output);
     (output, end)
 }
 
-/// The same by a writer that takes one byte a call and fails after so many.
+/// The same by a writer that takes one byte a call and is interrupted after so many, so often.
 fn heard_in_part<R: Read, S: Alter>(
+    rt: &impl Abort,
     alloc: Global,
     keeper: &mut Keeper<S>,
     reader: &mut R,
-    room: usize,
+    (room, stops): (usize, u32),
 ) -> (Vec<u8>, End) {
-    let mut output = Narrow {
-        held: Vec::new(alloc),
-        room,
-        fails: true,
-    };
-    let end = talk(alloc, keeper, reader, &mut output);
+    let mut output = Narrow::stopping(alloc, room, stops, true);
+    let end = talk(rt, alloc, keeper, reader, &mut output);
     (output.held, end)
 }
 
@@ -97,7 +100,7 @@ fn expect_unread<R: Read, S: Alter>(
     keeper: &mut Keeper<S>,
     reader: &mut R,
 ) -> (u32, bool) {
-    let (answer, (code, calls, failed)) = heard(alloc, keeper, reader);
+    let (answer, (code, calls, failed)) = heard(rt, alloc, keeper, reader);
     assert_eq!(rt; code, 80);
     assert!(rt; answer.is_empty());
     assert_eq!(rt; counts(keeper), Some((0, 0)));
@@ -134,16 +137,16 @@ fn reader_that_halts(rt: HostRuntime) -> Result<(), Fail> {
     readers_that_fail(&rt, alloc, Connection::open_in_memory(alloc)?)
 }
 
-/// Both the reader and the writer give and take one byte a call.
+/// Both the reader and the writer give and take one byte a call, and the reader is interrupted once.
 fn bytes_one_by_one<S: Alter + Drop>(
     rt: &impl Abort,
     alloc: Global,
     conn: Connection<S>,
 ) -> Result<(), Fail> {
     let mut keeper = made(alloc, conn).ok_or("no farm")?;
-    let mut input = Slow::whole(FIRST_TYPE, false);
-    let (answer, end) = heard_in_part(alloc, &mut keeper, &mut input, DONE.len());
-    assert_eq!(rt; end.0, 200);
+    let mut input = Slow::whole(FIRST_TYPE, 1);
+    let (answer, end) = heard_in_part(rt, alloc, &mut keeper, &mut input, (0, 0));
+    assert_eq!(rt; end, (200, 74, false));
     assert_eq!(rt; answer.as_slice(), DONE);
     Ok(())
 }
@@ -162,7 +165,7 @@ fn expect<R: Read, S: Alter>(
     reader: &mut R,
     wanted: &[u8],
 ) {
-    let (answer, end) = heard(alloc, keeper, reader);
+    let (answer, end) = heard(rt, alloc, keeper, reader);
     assert_eq!(rt; answer.as_slice(), wanted);
     assert_eq!(rt; end.0, 200);
 }
@@ -215,17 +218,17 @@ fn prepare<S: Alter>(rt: &impl Abort, alloc: Global, keeper: &mut Keeper<S>) -> 
 const KEYED_JOB: &[u8] =
     b"POST /jobs HTTP/1.1\r\nx-user: ann\r\nx-key: j1\r\ncontent-length: 38\r\n\r\njob_name = \"boot\"\ndevice_type = \"bbb\"\n";
 
-/// A writer that fails after so many bytes: these are the answer's first, the command is done, and its
+/// A writer that is interrupted after so many bytes, once or for good: these are the answer's first, the command is done, and its
 /// repetition is answered by the kept reply.
 fn lost_after<S: Alter + Drop>(
     rt: &impl Abort,
     alloc: Global,
     conn: Connection<S>,
-    room: usize,
+    (room, stops): (usize, u32),
 ) -> Result<(), Fail> {
     let mut keeper = made(alloc, conn).ok_or("no farm")?;
     prepare(rt, alloc, &mut keeper)?;
-    let (answer, end) = heard_in_part(alloc, &mut keeper, &mut &KEYED_JOB[..], room);
+    let (answer, end) = heard_in_part(rt, alloc, &mut keeper, &mut &KEYED_JOB[..], (room, stops));
     assert_eq!(rt; end.0, 81);
     assert!(rt; answer.len() == room && FIRST_NUMBER.starts_with(answer.as_slice()));
     assert_eq!(rt; counts(&keeper), Some((4, 1)));
@@ -238,7 +241,14 @@ fn lost_after<S: Alter + Drop>(
 fn answer_lost(rt: HostRuntime) -> Result<(), Fail> {
     let alloc = rt.alloc();
     for room in 0..FIRST_NUMBER.len() {
-        lost_after(&rt, alloc, Connection::open_in_memory(alloc)?, room)?;
+        for stops in [1, u32::MAX] {
+            lost_after(
+                &rt,
+                alloc,
+                Connection::open_in_memory(alloc)?,
+                (room, stops),
+            )?;
+        }
     }
     Ok(())
 }

@@ -1,21 +1,53 @@
 //! Readers and writers that give and take little, or fail.
+use std::alloc::Global;
 use std::io;
 use std::io::{Error, ErrorKind, Read, Write};
 
-/// Gives one byte a call, and is interrupted before each where it stalls. At so many bytes it fails,
-/// once or for good.
+/// Counts the calls of a reader or a writer, for itself.
+#[derive(Drop)]
+pub(crate) struct Tally<T> {
+    pub(crate) of: T,
+    pub(crate) calls: usize,
+}
+
+impl<T> Tally<T> {
+    pub(crate) fn new(of: T) -> Tally<T> {
+        Tally { of, calls: 0 }
+    }
+}
+
+impl<R: Read> Read for Tally<R> {
+    fn read(&mut self, buf: &mut [u8]) -> io::Result<usize> {
+        self.calls = self.calls.saturating_add(1);
+        self.of.read(buf)
+    }
+}
+
+impl<W: Write> Write for Tally<W> {
+    fn write(&mut self, buf: &[u8]) -> io::Result<usize> {
+        self.calls = self.calls.saturating_add(1);
+        self.of.write(buf)
+    }
+
+    fn flush(&mut self) -> io::Result<()> {
+        self.of.flush()
+    }
+}
+
+/// Gives one byte a call, and is interrupted once before each of the first so many. At so many bytes
+/// it fails, once or for good.
 #[derive(Drop)]
 pub(crate) struct Slow<'a> {
     rest: &'a [u8],
-    stalls: bool,
+    stalls: usize,
     ready: bool,
     left: usize,
     fails: u32,
 }
 
 impl<'a> Slow<'a> {
-    /// Gives all bytes.
-    pub(crate) fn whole(rest: &'a [u8], stalls: bool) -> Slow<'a> {
+    /// Gives all bytes, and is interrupted so often.
+    pub(crate) fn whole(rest: &'a [u8], stalls: usize) -> Slow<'a> {
         Slow {
             rest,
             stalls,
@@ -29,7 +61,7 @@ impl<'a> Slow<'a> {
     pub(crate) fn failing(rest: &'a [u8], left: usize, fails: u32) -> Slow<'a> {
         Slow {
             rest,
-            stalls: false,
+            stalls: 0,
             ready: false,
             left,
             fails,
@@ -39,8 +71,9 @@ impl<'a> Slow<'a> {
 
 impl Read for Slow<'_> {
     fn read(&mut self, buf: &mut [u8]) -> io::Result<usize> {
-        if self.stalls && !self.ready {
+        if self.stalls > 0 && !self.ready {
             self.ready = true;
+            self.stalls -= 1;
             return Err(Error::from(ErrorKind::Interrupted));
         }
         if self.left == 0 && self.fails > 0 {
@@ -88,12 +121,30 @@ impl Read for Endless<'_> {
     }
 }
 
-/// Takes one byte a call, and after so many takes no more: it fails, or it takes nothing.
+/// Takes one byte a call, but after so many for some calls none: it is interrupted, or takes nothing.
 #[derive(Drop)]
 pub(crate) struct Narrow {
     pub(crate) held: Vec<u8>,
-    pub(crate) room: usize,
-    pub(crate) fails: bool,
+    room: usize,
+    stops: u32,
+    fails: bool,
+}
+
+impl Narrow {
+    /// Takes all bytes.
+    pub(crate) fn whole(alloc: Global) -> Narrow {
+        Narrow::stopping(alloc, 0, 0, false)
+    }
+
+    /// Stops so often behind so many bytes.
+    pub(crate) fn stopping(alloc: Global, room: usize, stops: u32, fails: bool) -> Narrow {
+        Narrow {
+            held: Vec::new(alloc),
+            room,
+            stops,
+            fails,
+        }
+    }
 }
 
 impl Write for Narrow {
@@ -101,10 +152,11 @@ impl Write for Narrow {
         let Some(first) = buf.first() else {
             return Ok(0);
         };
-        if self.held.len() < self.room {
+        if self.held.len() != self.room || self.stops == 0 {
             self.held.push(*first)?;
             return Ok(1);
         }
+        self.stops -= 1;
         if self.fails {
             Err(Error::from(ErrorKind::Interrupted))
         } else {

@@ -1,12 +1,14 @@
 //! Requests that are read whole or cut, from readers that are slow, fail or never end.
-use crate::fakes::{Interrupted, Slow};
+use crate::fakes::{Interrupted, Slow, Tally};
+use farm_http::counted_reader::CountedReader;
 use farm_http::fault::WireFault;
-use farm_http::read_log::ReadLog;
-use farm_http::request::{read_request, read_request_logged};
+use farm_http::limits::{MAX_BODY, MAX_HEAD};
+use farm_http::request::{read_request, read_request_counted};
 use farm_http::taken::Taken;
 use farm_types::refusal::{BAD_REQUEST, Refusal};
-use std::alloc::Global;
+use std::alloc::{AllocError, Global};
 use std::io::Read;
+use std::process::Abort;
 use std::test::Fail;
 
 /// A request that adds the type `bbb`.
@@ -18,11 +20,28 @@ pub(crate) fn read<R: Read>(alloc: Global, reader: &mut R) -> Result<Taken, Wire
     read_request(alloc, reader)
 }
 
+/// What a reader gives, how often it was called, by its own count too, and whether it failed.
+fn counted<R: Read>(
+    rt: &impl Abort,
+    alloc: Global,
+    reader: &mut R,
+) -> (Result<Taken, WireFault>, usize, bool) {
+    let mut input = Tally::new(reader);
+    let mut reader = CountedReader::new(&mut input);
+    let taken = read_request_counted(alloc, &mut reader);
+    let (calls, failed) = (reader.calls() as usize, reader.has_failed());
+    assert_eq!(rt; calls, input.calls);
+    (taken, calls, failed)
+}
+
 /// Why a reader gives no request, how often it was called, and whether it failed.
-fn fault_of<R: Read>(alloc: Global, reader: &mut R) -> (Option<WireFault>, u32, bool) {
-    let mut log = ReadLog::new();
-    let fault = read_request_logged(alloc, reader, &mut log).err();
-    (fault, log.calls(), log.has_failed())
+fn fault_of<R: Read>(
+    rt: &impl Abort,
+    alloc: Global,
+    reader: &mut R,
+) -> (Option<WireFault>, usize, bool) {
+    let (taken, calls, failed) = counted(rt, alloc, reader);
+    (taken.err(), calls, failed)
 }
 
 /// The request that adds the type, and the beginning of another.
@@ -47,9 +66,11 @@ fn first_type(rt: HostRuntime) {
 
 #[test]
 fn one_byte_a_call(rt: HostRuntime) -> Result<(), Fail> {
-    for stalls in [false, true] {
-        let taken = read(rt.alloc(), &mut Slow::whole(FIRST_TYPE, stalls))?;
-        assert_eq!(rt; taken.bytes.as_slice(), FIRST_TYPE);
+    for stalls in [0, 1, FIRST_TYPE.len()] {
+        let mut input = Slow::whole(FIRST_TYPE, stalls);
+        let (taken, calls, failed) = counted(&rt, rt.alloc(), &mut input);
+        assert_eq!(rt; taken?.bytes.as_slice(), FIRST_TYPE);
+        assert_eq!(rt; (calls - stalls, failed), (FIRST_TYPE.len(), false));
     }
     Ok(())
 }
@@ -58,7 +79,7 @@ fn one_byte_a_call(rt: HostRuntime) -> Result<(), Fail> {
 fn cut_at_each_byte(rt: HostRuntime) {
     let refused = WireFault::Refused(Refusal { code: BAD_REQUEST });
     for n in 0..FIRST_TYPE.len() {
-        let (fault, _, failed) = fault_of(rt.alloc(), &mut &FIRST_TYPE[..n]);
+        let (fault, _, failed) = fault_of(&rt, rt.alloc(), &mut &FIRST_TYPE[..n]);
         assert_eq!(rt; (fault, failed), (Some(refused), false), "at {n}");
     }
 }
@@ -66,13 +87,38 @@ fn cut_at_each_byte(rt: HostRuntime) {
 #[test]
 fn fails_at_each_byte(rt: HostRuntime) {
     for n in 0..FIRST_TYPE.len() {
-        let (fault, _, failed) = fault_of(rt.alloc(), &mut Slow::failing(FIRST_TYPE, n, 1));
+        let (fault, _, failed) = fault_of(&rt, rt.alloc(), &mut Slow::failing(FIRST_TYPE, n, 1));
         assert_eq!(rt; (fault, failed), (Some(WireFault::Read), true), "at {n}");
     }
 }
 
 #[test]
 fn interrupted_for_ever(rt: HostRuntime) {
-    let end = fault_of(rt.alloc(), &mut Interrupted);
+    let end = fault_of(&rt, rt.alloc(), &mut Interrupted);
     assert_eq!(rt; end, (Some(WireFault::Read), 80_000, false));
+}
+
+/// A request whose head and body are as long as they may be.
+fn longest(alloc: Global) -> Result<Vec<u8>, AllocError> {
+    let mut bytes = b"POST /jobs HTTP/1.1\r\ncontent-length: 65536\r\nx: ".to_vec(alloc)?;
+    bytes.resize(MAX_HEAD - 4, b'a')?;
+    bytes.extend_from_slice(b"\r\n\r\n")?;
+    bytes.resize(MAX_HEAD + MAX_BODY, b'b')?;
+    Ok(bytes)
+}
+
+/// A reader is not blamed before all its turns are taken: the longest request comes byte by byte, with
+/// as many interruptions as the turns allow, and with one more.
+#[test]
+fn all_turns(rt: HostRuntime) -> Result<(), Fail> {
+    let bytes = longest(rt.alloc())?;
+    for stalls in [0, 6_272] {
+        let mut input = Slow::whole(bytes.as_slice(), stalls);
+        let (taken, calls, failed) = counted(&rt, rt.alloc(), &mut input);
+        assert!(rt; taken?.bytes == bytes);
+        assert_eq!(rt; (calls, failed), (73_728 + stalls, false));
+    }
+    let end = fault_of(&rt, rt.alloc(), &mut Slow::whole(bytes.as_slice(), 6_273));
+    assert_eq!(rt; end, (Some(WireFault::Read), 80_000, false));
+    Ok(())
 }

@@ -1,37 +1,52 @@
 //! Answers that are written whole, or as far as the writer takes them.
-use crate::fakes::Narrow;
-use farm_http::write::{write_whole, write_whole_logged};
-use farm_http::write_log::WriteLog;
-use std::alloc::Global;
+use crate::fakes::{Narrow, Tally};
+use farm_http::counted_writer::CountedWriter;
+use farm_http::write::{write_whole, write_whole_counted};
+use std::io::Write;
+use std::process::Abort;
 use std::test::Fail;
 
 const TEXT: &[u8] = b"HTTP/1.1 200 OK\r\n";
 
-/// Whether the text was written whole by a writer with so much room, how often the writer was called
-/// and whether it failed; and what it holds.
-fn written(alloc: Global, room: usize, fails: bool) -> ((bool, usize, bool), Vec<u8>) {
-    let mut writer = Narrow {
-        held: Vec::new(alloc),
-        room,
-        fails,
-    };
-    let mut log = WriteLog::new();
-    let is_whole = write_whole_logged(&mut writer, TEXT, &mut log).is_ok();
-    ((is_whole, log.calls(), log.has_failed()), writer.held)
+/// Whether a text was written whole, how often the writer was called, by its own count too, and whether
+/// it failed.
+fn written<W: Write>(rt: &impl Abort, writer: &mut W, text: &[u8]) -> (bool, usize, bool) {
+    let mut output = Tally::new(writer);
+    let mut writer = CountedWriter::new(&mut output);
+    let is_whole = write_whole_counted(&mut writer, text).is_ok();
+    let (calls, failed) = (writer.calls(), writer.has_failed());
+    assert_eq!(rt; calls, output.calls);
+    (is_whole, calls, failed)
 }
 
+/// A writer that stops once or for good ends the writing.
 #[test]
 fn a_prefix_stands(rt: HostRuntime) {
-    for fails in [false, true] {
+    for (stops, fails) in [(1, false), (1, true), (u32::MAX, false), (u32::MAX, true)] {
         for room in 0..TEXT.len() {
-            let (end, held) = written(rt.alloc(), room, fails);
+            let mut writer = Narrow::stopping(rt.alloc(), room, stops, fails);
+            let end = written(&rt, &mut writer, TEXT);
             assert_eq!(rt; end, (false, room + 1, true), "at {room}");
-            assert_eq!(rt; held.as_slice(), &TEXT[..room], "at {room}");
+            assert_eq!(rt; writer.held.as_slice(), &TEXT[..room], "at {room}");
         }
-        let (end, held) = written(rt.alloc(), TEXT.len(), fails);
-        assert_eq!(rt; end, (true, TEXT.len(), false));
-        assert_eq!(rt; held.as_slice(), TEXT);
+        let mut writer = Narrow::stopping(rt.alloc(), TEXT.len(), stops, fails);
+        assert_eq!(rt; written(&rt, &mut writer, TEXT), (true, TEXT.len(), false));
+        assert_eq!(rt; writer.held.as_slice(), TEXT);
     }
+}
+
+/// A writer that takes all is not blamed, however long the text is: byte by byte, and in one write.
+#[test]
+fn a_long_text(rt: HostRuntime) -> Result<(), Fail> {
+    let text = vec![in rt.alloc(); b'a'; 1_100_000]?;
+    let mut writer = Narrow::whole(rt.alloc());
+    let end = written(&rt, &mut writer, text.as_slice());
+    assert_eq!(rt; end, (true, text.len(), false));
+    assert!(rt; writer.held == text);
+    let mut held = Vec::new(rt.alloc());
+    assert_eq!(rt; written(&rt, &mut held, text.as_slice()), (true, 1, false));
+    assert!(rt; held == text);
+    Ok(())
 }
 
 #[test]

@@ -31,10 +31,10 @@ pub mod shown;
 pub mod type_body;
 pub mod type_shown;
 
+pub use farm_http::counted_reader::CountedReader;
+pub use farm_http::counted_writer::CountedWriter;
 pub use farm_http::fault::WireFault;
 pub use farm_http::limits::{MAX_BODY, MAX_FIELDS, MAX_HEAD, MAX_TURNS};
-pub use farm_http::read_log::ReadLog;
-pub use farm_http::request::{read_request, read_request_logged};
+pub use farm_http::request::{read_request, read_request_counted};
 pub use farm_http::taken::Taken;
-pub use farm_http::write::{write_whole, write_whole_logged};
-pub use farm_http::write_log::WriteLog;
+pub use farm_http::write::{write_whole, write_whole_counted};

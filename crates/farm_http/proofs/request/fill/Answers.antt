@@ -6,7 +6,7 @@ use Rattle.std.proofs.lemmas.Result.{err_from_is_err_and}
 use Rattle.std.specs.Io.KnownBytes.{IsAtEnd}
 use Rattle.farm_http.specs.Fields.{body_length}
 use Rattle.farm_http.specs.Heads.{IsHead}
-use Rattle.farm_http.specs.Logs.{IsSpent}
+use Rattle.farm_http.specs.Counts.{reader_of, reading_of, IsSpent}
 use Rattle.farm_http.specs.Requests.{IsRequestOf}
 use Rattle.farm_http.proofs.Whole.{request_of, front_kept, written, body_fails}
 use Rattle.farm_http.proofs.request.fill.Goals as goal
@@ -26,7 +26,7 @@ returns-in_err-read_body-clause-fault g c =
     rw (p.1, p.2) (
       old ++ f.0,
       Consumes-trans _ _ _ old f.0 c.in_ok-read_head.ensures.bytes f.1,
-      body_fails _ f.0 (IsAtEnd (g.R.Read.remaining c.read_body.new.reader)) (IsSpent c.read_body.new.log) c.in_err-read_body.field-0.0 h.0 body h.1 declared (rw size at f.2),
+      body_fails _ f.0 (IsAtEnd (g.R.Read.remaining (reader_of c.read_body.new.reader))) (IsSpent (reading_of c.read_body.new.reader)) c.in_err-read_body.field-0.0 h.0 body h.1 declared (rw size at f.2),
     )
 
 pub returns-clause-request : goal.returns-clause-request

@@ -1,11 +1,11 @@
 -- A byte that doesn't come, a line that no head has, a line that ends a head, and one that does not.
-use Rattle.std.proofs.Common.{◌≡◌, ◌∷◌, [], length, true, ◌+◌, ◌<◌, arith, ap, subst, ◌∙◌, length-append, inl, inr}
+use Rattle.std.proofs.Common.{◌≡◌, ◌∷◌, [], length, true, ◌+◌, ◌<◌, arith, rules, ap, subst, ◌∙◌, length-append, inl, inr}
 use Rattle.std.proofs.KnownBytes.{Consumes-kept}
 use Rattle.std.proofs.lemmas.Result.{err_from_is_err_and}
 use Rattle.std.specs.Io.KnownBytes.{IsAtEnd}
 use Rattle.httparse.specs.Grammar.{RequestHead}
 use Rattle.farm_http.specs.Heads.{IsHead, OpenBelow, TellsHead}
-use Rattle.farm_http.specs.Logs.{IsSpent}
+use Rattle.farm_http.specs.Counts.{reader_of, reading_of, IsSpent}
 use Rattle.farm_http.proofs.HeadLemmas.{byte_fails, open_pushed, read_more}
 use Rattle.farm_http.proofs.request.read_head.Goals as goal
 
@@ -21,7 +21,7 @@ returns-in_err-byte-clause-fault g c =
     rw (p.1, p.2) (
       old,
       Consumes-kept _ _ _ old c.loop-reader.invariant.taken c.in_err-byte.ensures.kept,
-      byte_fails old (IsAtEnd (g.R.Read.remaining c.read_byte.new.reader)) (IsSpent c.read_byte.new.log) c.in_err-byte.field-0.0 short c.loop-reader.invariant.open_lines c.in_err-byte.ensures.fault,
+      byte_fails old (IsAtEnd (g.R.Read.remaining (reader_of c.read_byte.new.reader))) (IsSpent (reading_of c.read_byte.new.reader)) c.in_err-byte.field-0.0 short c.loop-reader.invariant.open_lines c.in_err-byte.ensures.fault,
     )
 
 pub returns-in_err-is_head-clause-fault : goal.returns-in_err-is_head-clause-fault
@@ -51,6 +51,7 @@ loop-reader-preserved g c =
     record {
       short = omega (arith, long);
       capacity = omega arith;
+      same = search rules;
       turns = omega arith;
       alive = c.in_ok-byte.ensures.alive;
       room = omega arith;

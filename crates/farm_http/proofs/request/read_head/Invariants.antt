@@ -4,16 +4,18 @@ use Rattle.std.specs.Prelude.{vec_capacity}
 use Rattle.std.specs.Io.KnownBytes.{Consumes}
 use Rattle.farm_http.specs.declared.limits.TheConstants.{MAX_HEAD, MAX_FIELDS, MAX_TURNS}
 use Rattle.farm_http.specs.Heads.{OpenBelow}
+use Rattle.farm_http.specs.Counts.{reader_of, reading_of, IsSameReader}
 use Rattle.farm_http.proofs.request.read_head.Given as goal
 
 abbrev pub invariant-loop-reader : goal.invariant-loop-reader
 invariant-loop-reader g l = record {
   short : length l.bytes.items ≤ MAX_HEAD;
   capacity : vec_capacity l.bytes ≡ vec_capacity l.fn.bytes;
-  turns : l.log.calls ≤ MAX_TURNS;
-  alive : l.log.failed ≡ false;
+  same : IsSameReader l.fn.reader l.reader;
+  turns : (reading_of l.reader).calls ≤ MAX_TURNS;
+  alive : (reading_of l.reader).failed ≡ false;
   room : length l.headers ≡ MAX_FIELDS;
-  taken : Consumes (g.R.Read.remaining l.fn.reader) (g.R.Read.remaining l.reader) l.bytes.items;
+  taken : Consumes (g.R.Read.remaining (reader_of l.fn.reader)) (g.R.Read.remaining (reader_of l.reader)) l.bytes.items;
   open_lines : OpenBelow (length l.bytes.items) l.bytes.items;
 }
 

@@ -1,14 +1,16 @@
 -- What was written so far is the front of the bytes, with no more writes than bytes.
 use Rattle.std.proofs.Common.{◌≡◌, ◌-◌, ◌≤◌, length, take, false}
 use Rattle.std.specs.Io.KnownBytes.{Appends}
-use Rattle.farm_http.proofs.write.write_whole_logged.Given as goal
+use Rattle.farm_http.specs.Counts.{writer_of, writing_of, IsSameWriter}
+use Rattle.farm_http.proofs.write.write_whole_counted.Given as goal
 
 abbrev pub invariant-loop-done : goal.invariant-loop-done
 invariant-loop-done g l = record {
   within : l.done ≤ length l.bytes;
-  calls : l.log.calls ≤ l.done;
-  alive : l.log.failed ≡ false;
-  written : Appends (g.W.Write.contents l.fn.writer) (g.W.Write.contents l.writer) (take l.done l.bytes);
+  same : IsSameWriter l.fn.writer l.writer;
+  calls : (writing_of l.writer).calls ≤ l.done;
+  alive : (writing_of l.writer).failed ≡ false;
+  written : Appends (g.W.Write.contents (writer_of l.fn.writer)) (g.W.Write.contents (writer_of l.writer)) (take l.done l.bytes);
 }
 
 abbrev pub decreases-loop-done : goal.decreases-loop-done

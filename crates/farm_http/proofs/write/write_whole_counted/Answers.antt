@@ -3,7 +3,7 @@ use Rattle.std.proofs.Common.{◌≡◌, ◌-◌, ◌≤◌, length, take, drop,
 use Rattle.std.proofs.KnownBytes.{Appends-trans}
 use Rattle.std.proofs.Math.Seq.{take-add}
 use Rattle.std.proofs.lemmas.List.{take-take, length-take, length-drop}
-use Rattle.farm_http.proofs.write.write_whole_logged.Goals as goal
+use Rattle.farm_http.proofs.write.write_whole_counted.Goals as goal
 
 pub loop-done-preserved : goal.loop-done-preserved
 loop-done-preserved g c =
@@ -16,7 +16,8 @@ loop-done-preserved g c =
     let all = Appends-trans _ _ _ (take done bytes) (take count (drop done bytes)) c.loop-done.invariant.written part in
     record {
       within = omega (arith, fits);
-      calls = omega (arith, c.in_ok-done.ensures.within.0, c.write_some.ensures.calls);
+      same = search rules;
+      calls = omega (arith, c.in_ok-done.ensures.within.0, c.write.ensures.counted);
       alive = search rules;
       written = rw (take-add done count bytes) all;
     }

@@ -1,0 +1,65 @@
+//! A reader that counts its calls. No contract over a reader can say that it failed, so its count says
+//! it; only `CountedReader::read` calls the reader, and only it counts.
+ghost use Rattle.std.specs.Prelude.{◌≡◌, ◌+◌, ◌^◌, ◌<◌, false};
+ghost use Rattle.std.specs.Io.{ReadsAtMost};
+ghost use Rattle.std.specs.Io.KnownBytes.{ReadConsumes};
+
+use std::io;
+use std::io::{ErrorKind, Read};
+
+/// A lent reader, how often it was called for one request, and whether it failed.
+#[derive(Drop)]
+pub struct CountedReader<'a, R> {
+    reader: &'a mut R,
+    calls: u32,
+    failed: bool,
+}
+
+impl<'a, R: Read> CountedReader<'a, R> {
+    ghost use Rattle.farm_http.specs.Counts.{unread, reader_of, reading_of, IsSameReader, TellsFailure};
+
+    /// A reader that was not called yet.
+    pub fn new(reader: &'a mut R) -> CountedReader<'a, R>
+        ensures lent { result.reader.ghost_name ≡ reader.entry.ghost_name }
+        ensures reader { reader_of result ≡ reader.old }
+        ensures unread { reading_of result ≡ unread }
+    {
+        CountedReader {
+            reader,
+            calls: 0,
+            failed: false,
+        }
+    }
+
+    /// How often the reader was called, interrupted calls too.
+    pub fn calls(&self) -> u32
+        ensures { result ≡ (reading_of self.now).calls }
+    {
+        self.calls
+    }
+
+    /// Whether the reader failed otherwise than by an interruption.
+    pub fn has_failed(&self) -> bool
+        ensures { result ≡ (reading_of self.now).failed }
+    {
+        self.failed
+    }
+
+    /// Calls the reader once.
+    pub(crate) fn read(&mut self, buf: &mut [u8]) -> io::Result<usize>
+        requires more { (reading_of self.old).calls + 1 < 2 ^ 32 }
+        requires alive { (reading_of self.old).failed ≡ false }
+        ensures same { IsSameReader self.old self.new }
+        ensures bound { ReadsAtMost result buf.new }
+        ensures bytes { ReadConsumes (R.remaining (reader_of self.old)) (R.remaining (reader_of self.new)) result buf.new }
+        ensures counted { (reading_of self.new).calls ≡ (reading_of self.old).calls + 1 }
+        ensures failed { TellsFailure result (reading_of self.new).failed }
+    {
+        self.calls += 1;
+        let result = self.reader.read(buf);
+        if let Err(error) = &result {
+            self.failed = error.kind() != ErrorKind::Interrupted;
+        }
+        result
+    }
+}
