@@ -1,5 +1,5 @@
 //! The boards of a lab file.
-ghost use Rattle.std.specs.Prelude.{map, IsTrue, IfOk};
+ghost use Rattle.std.specs.Prelude.{◌≢◌, map, Err, IsTrue, IfOk};
 ghost use Rattle.toml.specs.View.{view, table_view};
 ghost use Rattle.farm_types.specs.Proper.{has_no_name_tag};
 ghost use Rattle.farm_jobfile.specs.Reading.{Spells};
@@ -18,6 +18,7 @@ use toml::{Table, Value};
 fn own_tags(tags: Tags) -> Result<Tags, FileFault>
     ensures tags { Spells (λ tags. tags) result (own_tags tags) }
     ensures own { IfOk result (λ tags. IsTrue (has_no_name_tag tags)) }
+    ensures memory { result ≢ Err FileFault.NoMemory }
 {
     if tags.has_no_name_tag() {
         Ok(tags)

@@ -1,5 +1,5 @@
 //! The text and the tree of a file.
-ghost use Rattle.std.specs.Prelude.{◌≤◌, length, IfOk};
+ghost use Rattle.std.specs.Prelude.{◌≤◌, ◌≢◌, length, Err, IfOk};
 ghost use Rattle.toml.specs.View.{view};
 ghost use Rattle.farm_jobfile.specs.Reading.{Spells};
 ghost use Rattle.farm_jobfile.specs.Document.{text_in, tree_in};
@@ -13,6 +13,7 @@ use toml::Value;
 pub(crate) fn text_of(file: FileKind, most: usize, bytes: &[u8]) -> Result<&str, FileFault>
     ensures text { Spells (λ text. text.now) result (text_in file most bytes.now) }
     ensures short { IfOk result (λ text. length text.now ≤ most) }
+    ensures memory { result ≢ Err FileFault.NoMemory }
 {
     if bytes.len() > most {
         return Err(file.bad(Reason::TooLong));

@@ -1,5 +1,5 @@
 //! The words of a file.
-ghost use Rattle.std.specs.Prelude.{map};
+ghost use Rattle.std.specs.Prelude.{◌≡◌, ◌≢◌, map, Err, IsOk};
 ghost use Rattle.toml.specs.Data.{as_table};
 ghost use Rattle.toml.specs.View.{view, items_view, table_view};
 ghost use Rattle.farm_types.specs.Reads.{Reads};
@@ -17,7 +17,8 @@ use toml::{Table, Value};
 
 /// The table that a value is.
 pub(crate) fn table_of<'v>(file: FileKind, value: &'v Value) -> Result<&'v Table, FileFault>
-    ensures { Spells (λ table. table_view table.now) result (kind_or file (as_table (view value.now))) }
+    ensures spells { Spells (λ table. table_view table.now) result (kind_or file (as_table (view value.now))) }
+    ensures memory { result ≢ Err FileFault.NoMemory }
 {
     match value.as_table() {
         Some(table) => Ok(table),
@@ -25,9 +26,10 @@ pub(crate) fn table_of<'v>(file: FileKind, value: &'v Value) -> Result<&'v Table
     }
 }
 
-/// The name that a text spells.
+/// The name that a text spells; memory is wanted only where it spells one.
 pub(crate) fn name_of(alloc: Global, text: &str) -> Result<Name, FileFault>
-    ensures { Spells (λ name. name) result (name_or text.now) }
+    ensures spells { Spells (λ name. name) result (name_or text.now) }
+    ensures memory { result ≡ Err FileFault.NoMemory → IsOk (name_or text.now) }
 {
     match Name::parse(alloc, text.as_bytes()) {
         Ok(name) => Ok(name),
@@ -36,10 +38,11 @@ pub(crate) fn name_of(alloc: Global, text: &str) -> Result<Name, FileFault>
     }
 }
 
-/// The name that a value spells, a text.
+/// The name that a value spells, a text; memory is wanted only where it spells one.
 #[tactic(auto, unfolding(crate::specs::Fields::name_from))]
 pub(crate) fn name_from(alloc: Global, file: FileKind, value: &Value) -> Result<Name, FileFault>
-    ensures { Spells (λ name. name) result (name_from file (view value.now)) }
+    ensures spells { Spells (λ name. name) result (name_from file (view value.now)) }
+    ensures memory { result ≡ Err FileFault.NoMemory → IsOk (name_from file (view value.now)) }
 {
     match value.as_str() {
         Some(text) => name_of(alloc, text),
@@ -47,7 +50,7 @@ pub(crate) fn name_from(alloc: Global, file: FileKind, value: &Value) -> Result<
     }
 }
 
-/// The name under a key, which must be there.
+/// The name under a key, which must be there; memory is wanted only where there is one.
 #[tactic(auto, unfolding(crate::specs::Fields::name_in))]
 pub(crate) fn name_at(
     alloc: Global,
@@ -55,7 +58,8 @@ pub(crate) fn name_at(
     value: &Value,
     key: &str,
 ) -> Result<Name, FileFault>
-    ensures { Spells (λ name. name) result (name_in file key.now (view value.now)) }
+    ensures spells { Spells (λ name. name) result (name_in file key.now (view value.now)) }
+    ensures memory { result ≡ Err FileFault.NoMemory → IsOk (name_in file key.now (view value.now)) }
 {
     match value.get(key) {
         Some(field) => name_from(alloc, file, field),

@@ -1,5 +1,5 @@
 //! The job that a job file asks for.
-ghost use Rattle.std.specs.Prelude.{◌≡◌, IsTrue, IfOk};
+ghost use Rattle.std.specs.Prelude.{◌≡◌, ◌≢◌, Err, IsTrue, IfOk};
 ghost use Rattle.toml.specs.View.{view};
 ghost use Rattle.farm_types.specs.Proper.{is_proper_cmd};
 ghost use Rattle.farm_jobfile.specs.Reading.{Spells};
@@ -22,7 +22,8 @@ pub const LONGEST_JOB_FILE: usize = 65_536;
 /// Whether the text under the key `job_name` is there and not empty.
 #[tactic(auto, unfolding(crate::specs::Job::title_in))]
 fn title_of(value: &Value) -> Result<&str, FileFault>
-    ensures { Spells (λ title. title.now) result (title_in (view value.now)) }
+    ensures spells { Spells (λ title. title.now) result (title_in (view value.now)) }
+    ensures memory { result ≢ Err FileFault.NoMemory }
 {
     let Some(field) = value.get("job_name") else {
         return Err(FileKind::JobFile.bad(Reason::Missing));

@@ -1,5 +1,5 @@
 //! The priority of a job file.
-ghost use Rattle.std.specs.Prelude.{Some};
+ghost use Rattle.std.specs.Prelude.{◌≢◌, Some, Err};
 ghost use Rattle.toml.specs.View.{view};
 ghost use Rattle.farm_jobfile.specs.Reading.{Spells};
 ghost use Rattle.farm_jobfile.specs.Job.{priority_or, priority_word, priority_from, priority_in};
@@ -19,7 +19,8 @@ const HIGH: u64 = 100;
 
 /// The priority of that number.
 fn priority_of(number: u64) -> Result<Priority, FileFault>
-    ensures { Spells (λ priority. priority) result (priority_or (Some number)) }
+    ensures spells { Spells (λ priority. priority) result (priority_or (Some number)) }
+    ensures memory { result ≢ Err FileFault.NoMemory }
 {
     match Priority::of(number) {
         Ok(priority) => Ok(priority),
@@ -29,7 +30,8 @@ fn priority_of(number: u64) -> Result<Priority, FileFault>
 
 /// The priority that a word names.
 fn named_priority(text: &str) -> Result<Priority, FileFault>
-    ensures { Spells (λ priority. priority) result (priority_word text.now) }
+    ensures spells { Spells (λ priority. priority) result (priority_word text.now) }
+    ensures memory { result ≢ Err FileFault.NoMemory }
 {
     match text {
         "low" => priority_of(LOW),
@@ -42,7 +44,8 @@ fn named_priority(text: &str) -> Result<Priority, FileFault>
 /// The priority that a value spells: a word, or a whole number.
 #[tactic(auto, unfolding(crate::specs::Job::priority_from))]
 fn priority_from(field: &Value) -> Result<Priority, FileFault>
-    ensures { Spells (λ priority. priority) result (priority_from (view field.now)) }
+    ensures spells { Spells (λ priority. priority) result (priority_from (view field.now)) }
+    ensures memory { result ≢ Err FileFault.NoMemory }
 {
     if let Some(text) = field.as_str() {
         return named_priority(text);
@@ -62,7 +65,8 @@ fn priority_from(field: &Value) -> Result<Priority, FileFault>
 /// The priority under the key `priority`; absent means medium.
 #[tactic(auto, unfolding(crate::specs::Job::priority_in))]
 pub(crate) fn priority_at(value: &Value) -> Result<Priority, FileFault>
-    ensures { Spells (λ priority. priority) result (priority_in (view value.now)) }
+    ensures spells { Spells (λ priority. priority) result (priority_in (view value.now)) }
+    ensures memory { result ≢ Err FileFault.NoMemory }
 {
     match value.get("priority") {
         Some(field) => priority_from(field),

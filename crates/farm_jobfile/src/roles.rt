@@ -1,5 +1,5 @@
 //! The roles of a job file.
-ghost use Rattle.std.specs.Prelude.{◌≡◌, replicate, IfOk};
+ghost use Rattle.std.specs.Prelude.{◌≡◌, ◌≢◌, replicate, Err, IfOk};
 ghost use Rattle.toml.specs.View.{view, table_view};
 ghost use Rattle.farm_jobfile.specs.Reading.{Spells};
 ghost use Rattle.farm_jobfile.specs.Job.{count_or, count_in, role_in, roles_in, roles_from};
@@ -16,7 +16,8 @@ use toml::{Table, Value};
 /// The number of members that play a role.
 #[tactic(auto, unfolding(crate::specs::Job::count_in))]
 fn count_of(value: &Value) -> Result<u64, FileFault>
-    ensures { Spells (λ count. count) result (count_in (view value.now)) }
+    ensures spells { Spells (λ count. count) result (count_in (view value.now)) }
+    ensures memory { result ≢ Err FileFault.NoMemory }
 {
     let Some(field) = value.get("count") else {
         return Err(FileKind::JobFile.bad(Reason::Missing));

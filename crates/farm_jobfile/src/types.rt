@@ -1,5 +1,5 @@
 //! The types of a lab file.
-ghost use Rattle.std.specs.Prelude.{◌≡◌, map, nat_le, ◌&&◌, IsTrue, IfOk};
+ghost use Rattle.std.specs.Prelude.{◌≡◌, ◌≢◌, ◌&&◌, map, nat_le, Err, IsTrue, IfOk};
 ghost use Rattle.toml.specs.View.{view, table_view};
 ghost use Rattle.farm_types.specs.Proper.{is_frequency};
 ghost use Rattle.farm_jobfile.specs.Reading.{Spells};
@@ -27,7 +27,8 @@ pub enum CheckUnit {
 
 /// The unit that a word names.
 fn named_unit(text: &str) -> Result<CheckUnit, FileFault>
-    ensures { Spells (λ unit. unit) result (unit_or text.now) }
+    ensures spells { Spells (λ unit. unit) result (unit_or text.now) }
+    ensures memory { result ≢ Err FileFault.NoMemory }
 {
     match text {
         "none" => Ok(CheckUnit::None),
@@ -40,7 +41,8 @@ fn named_unit(text: &str) -> Result<CheckUnit, FileFault>
 /// The unit under the key `check`; absent means none.
 #[tactic(auto, unfolding(crate::specs::Lab::unit_in))]
 fn unit_of(value: &Value) -> Result<CheckUnit, FileFault>
-    ensures { Spells (λ unit. unit) result (unit_in (view value.now)) }
+    ensures spells { Spells (λ unit. unit) result (unit_in (view value.now)) }
+    ensures memory { result ≢ Err FileFault.NoMemory }
 {
     let Some(field) = value.get("check") else {
         return Ok(CheckUnit::None);
@@ -56,6 +58,7 @@ fn unit_of(value: &Value) -> Result<CheckUnit, FileFault>
 fn every_of(value: &Value) -> Result<u64, FileFault>
     ensures every { Spells (λ every. every) result (every_in (view value.now)) }
     ensures range { IfOk result (λ every. IsTrue (nat_le 1 every && nat_le every 10000)) }
+    ensures memory { result ≢ Err FileFault.NoMemory }
 {
     let Some(field) = value.get("every") else {
         return Err(FileKind::LabFile.bad(Reason::Missing));
@@ -74,6 +77,7 @@ fn every_of(value: &Value) -> Result<u64, FileFault>
 fn check_of(value: &Value) -> Result<Check, FileFault>
     ensures check { Spells (λ check. check) result (check_in (view value.now)) }
     ensures frequency { IfOk result (λ check. IsTrue (is_frequency check)) }
+    ensures memory { result ≢ Err FileFault.NoMemory }
 {
     match unit_of(value)? {
         CheckUnit::None => Ok(Check::Never),

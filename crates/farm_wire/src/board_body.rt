@@ -1,5 +1,5 @@
 //! The bodies of the paths of boards.
-ghost use Rattle.std.specs.Prelude.{IsTrue, IfOk};
+ghost use Rattle.std.specs.Prelude.{◌≢◌, Err, IsTrue, IfOk};
 ghost use Rattle.serde_json.specs.View.{view};
 ghost use Rattle.farm_types.specs.Proper.{is_proper_cmd};
 ghost use Rattle.farm_types.specs.Reads.{Reads};
@@ -54,7 +54,8 @@ pub(crate) fn set_tags_of(alloc: Global, path: &str, body: &[u8]) -> Result<Cmd,
 
 /// The health that a word names.
 fn health_of(text: &str) -> Result<Health, WordFault>
-    ensures { Reads (λ health. health) result (health_or text.now) }
+    ensures reads { Reads (λ health. health) result (health_or text.now) }
+    ensures memory { result ≢ Err WordFault.NoMemory }
 {
     match text {
         "Good" => Ok(Health::Good),

@@ -1,5 +1,5 @@
 //! The members of a JSON body.
-ghost use Rattle.std.specs.Prelude.{map, codes, IsTrue, IfOk};
+ghost use Rattle.std.specs.Prelude.{◌≡◌, ◌≢◌, map, codes, Err, IsTrue, IfOk, IsOk};
 ghost use Rattle.farm_types.specs.Proper.{has_no_name_tag};
 ghost use Rattle.serde_json.specs.View.{view, items_view};
 ghost use Rattle.farm_types.specs.Reads.{Reads};
@@ -13,10 +13,11 @@ use farm_types::words::{Name, Tag, Tags};
 use serde_json::Value;
 use std::alloc::Global;
 
-/// The text under a key, which must be there.
+/// The text under a key, which must be there. It takes no memory.
 #[tactic(auto, unfolding(crate::specs::Fields::text_in))]
 pub(crate) fn text_of<'v>(value: &'v Value, key: &str) -> Result<&'v str, WordFault>
-    ensures { Reads (λ text. text.now) result (text_in key.now (view value.now)) }
+    ensures reads { Reads (λ text. text.now) result (text_in key.now (view value.now)) }
+    ensures memory { result ≢ Err WordFault.NoMemory }
 {
     match value.get(key).and_then(Value::as_str) {
         Some(text) => Ok(text),
@@ -24,10 +25,11 @@ pub(crate) fn text_of<'v>(value: &'v Value, key: &str) -> Result<&'v str, WordFa
     }
 }
 
-/// The name under a key, which must be there.
+/// The name under a key, which must be there; memory is wanted only where there is one.
 #[tactic(auto, unfolding(crate::specs::Fields::name_in))]
 pub(crate) fn name_of(alloc: Global, value: &Value, key: &str) -> Result<Name, WordFault>
-    ensures { Reads (λ name. name) result (name_in key.now (view value.now)) }
+    ensures reads { Reads (λ name. name) result (name_in key.now (view value.now)) }
+    ensures memory { result ≡ Err WordFault.NoMemory → IsOk (name_in key.now (view value.now)) }
 {
     Name::parse(alloc, text_of(value, key)?.as_bytes())
 }
@@ -98,6 +100,7 @@ pub(crate) fn tags_of(alloc: Global, value: &Value) -> Result<Tags, WordFault>
 pub(crate) fn board_tags(tags: Tags) -> Result<Tags, WordFault>
     ensures tags { Reads (λ tags. tags) result (board_tags tags) }
     ensures own { IfOk result (λ tags. IsTrue (has_no_name_tag tags)) }
+    ensures memory { result ≢ Err WordFault.NoMemory }
 {
     if tags.has_no_name_tag() {
         Ok(tags)

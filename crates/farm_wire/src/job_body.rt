@@ -1,5 +1,5 @@
 //! The bodies of the paths of jobs.
-ghost use Rattle.std.specs.Prelude.{◌≡◌, IsTrue, IfOk, false};
+ghost use Rattle.std.specs.Prelude.{◌≡◌, ◌≢◌, Err, IsTrue, IfOk, false};
 ghost use Rattle.serde_json.specs.View.{view};
 ghost use Rattle.farm_types.specs.Codes.{same_outcome};
 ghost use Rattle.farm_types.specs.Proper.{is_proper_cmd};
@@ -21,6 +21,7 @@ use std::alloc::Global;
 fn outcome_of(text: &str) -> Result<Outcome, WordFault>
     ensures outcome { Reads (λ outcome. outcome) result (outcome_or text.now) }
     ensures ended { IfOk result (λ outcome. same_outcome outcome Outcome.Canceled ≡ false) }
+    ensures memory { result ≢ Err WordFault.NoMemory }
 {
     match text {
         "Complete" => Ok(Outcome::Complete),

@@ -1,5 +1,5 @@
 //! The parameter of a path: its first segment behind what each path of a group begins with.
-ghost use Rattle.std.specs.Prelude.{◌≡◌, ◌==◌, ◌&&◌, ◌<◌, ◌≤◌, length, drop, MatchOption, not, nat_lt, position};
+ghost use Rattle.std.specs.Prelude.{◌≡◌, ◌==◌, ◌&&◌, ◌<◌, ◌≤◌, ◌≢◌, length, drop, Err, IsOk, MatchOption, not, nat_lt, position};
 ghost use Rattle.std.specs.Char.{is_ascii_digit, digit_value};
 ghost use Rattle.std.specs.List.{before_first, list_all};
 ghost use Rattle.std.specs.Str.Parse.{digits_value};
@@ -101,7 +101,8 @@ fn small_number(text: &[u8]) -> Option<u64>
 /// The number that a segment writes: one to nine digits that begin with 1 to 9.
 #[tactic(auto, unfolding(crate::specs::Parameters::number_in))]
 fn number_of(text: &[u8]) -> Result<u64, WordFault>
-    ensures { Reads (λ n. n) result (number_in text.now) }
+    ensures reads { Reads (λ n. n) result (number_in text.now) }
+    ensures memory { result ≢ Err WordFault.NoMemory }
 {
     if !is_number(text) {
         return Err(WordFault::Refused(Refusal { code: BAD_REQUEST }));
@@ -112,10 +113,11 @@ fn number_of(text: &[u8]) -> Result<u64, WordFault>
     }
 }
 
-/// The board that a path names.
+/// The board that a path names; memory is wanted only where it names one.
 #[tactic(auto, unfolding(crate::specs::Parameters::board_in))]
 pub(crate) fn board_of(alloc: Global, path: &str) -> Result<Name, WordFault>
-    ensures { Reads (λ name. name) result (board_in path.now) }
+    ensures reads { Reads (λ name. name) result (board_in path.now) }
+    ensures memory { result ≡ Err WordFault.NoMemory → IsOk (board_in path.now) }
 {
     Name::parse(alloc, parameter("/boards/", path))
 }
@@ -123,7 +125,8 @@ pub(crate) fn board_of(alloc: Global, path: &str) -> Result<Name, WordFault>
 /// The job that a path names.
 #[tactic(auto, unfolding(crate::specs::Parameters::job_in))]
 pub(crate) fn job_of(path: &str) -> Result<u64, WordFault>
-    ensures { Reads (λ n. n) result (job_in path.now) }
+    ensures reads { Reads (λ n. n) result (job_in path.now) }
+    ensures memory { result ≢ Err WordFault.NoMemory }
 {
     number_of(parameter("/jobs/", path))
 }
@@ -131,7 +134,8 @@ pub(crate) fn job_of(path: &str) -> Result<u64, WordFault>
 /// The reservation that a path names.
 #[tactic(auto, unfolding(crate::specs::Parameters::reservation_in))]
 pub(crate) fn reservation_of(path: &str) -> Result<u64, WordFault>
-    ensures { Reads (λ n. n) result (reservation_in path.now) }
+    ensures reads { Reads (λ n. n) result (reservation_in path.now) }
+    ensures memory { result ≢ Err WordFault.NoMemory }
 {
     number_of(parameter("/reservations/", path))
 }

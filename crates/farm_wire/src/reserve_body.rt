@@ -1,5 +1,5 @@
 //! The body that reserves a board.
-ghost use Rattle.std.specs.Prelude.{IsTrue, IfOk, Option, ℕ};
+ghost use Rattle.std.specs.Prelude.{◌≢◌, Err, IsTrue, IfOk, Option, ℕ};
 ghost use Rattle.serde_json.specs.View.{view};
 ghost use Rattle.farm_types.specs.Proper.{is_proper_cmd};
 ghost use Rattle.farm_types.specs.Reads.{Reads};
@@ -23,7 +23,8 @@ const HIGH: u64 = 100;
 
 /// The priority of that number.
 fn priority_of(number: u64) -> Result<Priority, WordFault>
-    ensures { Reads (λ priority. priority) result (priority_number (Some number)) }
+    ensures reads { Reads (λ priority. priority) result (priority_number (Some number)) }
+    ensures memory { result ≢ Err WordFault.NoMemory }
 {
     match Priority::of(number) {
         Ok(priority) => Ok(priority),
@@ -33,7 +34,8 @@ fn priority_of(number: u64) -> Result<Priority, WordFault>
 
 /// The priority that a word names.
 fn named_priority(text: &str) -> Result<Priority, WordFault>
-    ensures { Reads (λ priority. priority) result (priority_word text.now) }
+    ensures reads { Reads (λ priority. priority) result (priority_word text.now) }
+    ensures memory { result ≢ Err WordFault.NoMemory }
 {
     match text {
         "low" => priority_of(LOW),
@@ -46,7 +48,8 @@ fn named_priority(text: &str) -> Result<Priority, WordFault>
 /// The priority that a value spells: a word, or a whole number.
 #[tactic(auto, unfolding(crate::specs::Commands::priority_from))]
 fn priority_from(field: &Value) -> Result<Priority, WordFault>
-    ensures { Reads (λ priority. priority) result (priority_from (view field.now)) }
+    ensures reads { Reads (λ priority. priority) result (priority_from (view field.now)) }
+    ensures memory { result ≢ Err WordFault.NoMemory }
 {
     if let Some(text) = field.as_str() {
         return named_priority(text);
@@ -63,7 +66,8 @@ fn priority_from(field: &Value) -> Result<Priority, WordFault>
 /// The priority under the key `priority`; absent means medium.
 #[tactic(auto, unfolding(crate::specs::Commands::priority_in))]
 fn priority_in(value: &Value) -> Result<Priority, WordFault>
-    ensures { Reads (λ priority. priority) result (priority_in (view value.now)) }
+    ensures reads { Reads (λ priority. priority) result (priority_in (view value.now)) }
+    ensures memory { result ≢ Err WordFault.NoMemory }
 {
     match value.get("priority") {
         Some(field) => priority_from(field),

@@ -1,4 +1,5 @@
 //! Who sends a request, and under which key its reply is kept.
+ghost use Rattle.std.specs.Prelude.{◌≡◌, Err, IsOk};
 ghost use Rattle.farm_types.specs.Reads.{Reads};
 ghost use Rattle.farm_wire.specs.Sender.{caller_in, key_in};
 
@@ -8,10 +9,12 @@ use farm_types::refusal::{BAD_REQUEST, Refusal};
 use farm_types::words::{Key, Name};
 use std::alloc::Global;
 
-/// The name in the field `x-user`, which must stand there once.
+/// The name in the field `x-user`, which must stand there once; memory is wanted only where there is
+/// one.
 #[tactic(auto, unfolding(crate::specs::Sender::caller_in))]
 pub(crate) fn caller_of(alloc: Global, parts: &Parts<'_>) -> Result<Name, WordFault>
-    ensures { Reads (λ name. name) result (caller_in parts.now.fields) }
+    ensures reads { Reads (λ name. name) result (caller_in parts.now.fields) }
+    ensures memory { result ≡ Err WordFault.NoMemory → IsOk (caller_in parts.now.fields) }
 {
     match parts.field(b"x-user") {
         Ok(Some(value)) => Name::parse(alloc, value),
@@ -19,10 +22,11 @@ pub(crate) fn caller_of(alloc: Global, parts: &Parts<'_>) -> Result<Name, WordFa
     }
 }
 
-/// The key in the field `x-key`, which may stand there once.
+/// The key in the field `x-key`, which may stand there once; memory is wanted only where there is one.
 #[tactic(auto, unfolding(crate::specs::Sender::key_in))]
 pub(crate) fn key_of(alloc: Global, parts: &Parts<'_>) -> Result<Option<Key>, WordFault>
-    ensures { Reads (λ key. key) result (key_in parts.now.fields) }
+    ensures reads { Reads (λ key. key) result (key_in parts.now.fields) }
+    ensures memory { result ≡ Err WordFault.NoMemory → IsOk (key_in parts.now.fields) }
 {
     match parts.field(b"x-key") {
         Ok(None) => Ok(None),

@@ -1,5 +1,5 @@
 //! The body that adds a type.
-ghost use Rattle.std.specs.Prelude.{IsTrue, IfOk, nat_le, ◌&&◌};
+ghost use Rattle.std.specs.Prelude.{◌≢◌, ◌&&◌, Err, IsTrue, IfOk, nat_le};
 ghost use Rattle.serde_json.specs.View.{view};
 ghost use Rattle.farm_types.specs.Proper.{is_frequency, is_proper_cmd};
 ghost use Rattle.farm_types.specs.Reads.{Reads};
@@ -28,7 +28,8 @@ pub enum CheckUnit {
 /// The unit under the key `check`.
 #[tactic(auto, unfolding(crate::specs::Commands::unit_in))]
 fn unit_of(value: &Value) -> Result<CheckUnit, WordFault>
-    ensures { Reads (λ unit. unit) result (unit_in (view value.now)) }
+    ensures reads { Reads (λ unit. unit) result (unit_in (view value.now)) }
+    ensures memory { result ≢ Err WordFault.NoMemory }
 {
     let Some(field) = value.get("check") else {
         return Ok(CheckUnit::None);
@@ -46,6 +47,7 @@ fn unit_of(value: &Value) -> Result<CheckUnit, WordFault>
 fn every_of(value: &Value) -> Result<u64, WordFault>
     ensures every { Reads (λ every. every) result (every_in (view value.now)) }
     ensures range { IfOk result (λ every. IsTrue (nat_le 1 every && nat_le every 10000)) }
+    ensures memory { result ≢ Err WordFault.NoMemory }
 {
     match value.get("every").and_then(Value::as_u64) {
         Some(every) if every >= 1 && every <= LONGEST_EVERY => Ok(every),
@@ -58,6 +60,7 @@ fn every_of(value: &Value) -> Result<u64, WordFault>
 fn check_of(value: &Value) -> Result<Check, WordFault>
     ensures check { Reads (λ check. check) result (check_in (view value.now)) }
     ensures frequency { IfOk result (λ check. IsTrue (is_frequency check)) }
+    ensures memory { result ≢ Err WordFault.NoMemory }
 {
     match unit_of(value)? {
         CheckUnit::None => Ok(Check::Never),
