@@ -6,3 +6,4 @@ mod FileLemmas
 mod ConversationLemmas
 mod PrefixLemmas
 mod ServingLemmas
+mod VisitLemmas

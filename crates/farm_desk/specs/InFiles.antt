@@ -1,36 +1,50 @@
 -- Which farm stands in a file and the log beside it.
-use Rattle.std.specs.Prelude.{◌≡◌, ℕ, true, List, [], take}
-use Rattle.sqlite.specs.Files.{HoldsDatabase, over_files, file_state}
-use Rattle.sqlite.specs.State.{HasCleanDisk}
+use Rattle.std.specs.Prelude.{◌≡◌, ◌≤◌, ℕ, true, List, [], take, Result, IfErr, ⊤}
+use Rattle.sqlite.specs.Files.{HoldsDatabase, over_files, file_state, IsOpened}
+use Rattle.sqlite.specs.Held.{Held, state}
+use Rattle.sqlite.specs.Start.{FindsIn}
+use Rattle.sqlite.specs.State.{HasCleanDisk, IsLive, Opens}
 use Rattle.sqlite.specs.Tree.{Trees}
 use Rattle.sqlite_disk.specs.declared.Disk.{Ghosts}
 use Rattle.sqlite_store.specs.declared.store.FileStore.{FileStore}
 use Rattle.sqlite_store.specs.FileStore as files
-use Rattle.sqlite_trees.specs.View.{IsClean}
+use Rattle.sqlite_trees.specs.View.{IsClean, doubt}
 use Rattle.sqlite_trees.specs.Objects.{catalog_tree}
+use Rattle.sqlite_trees.specs.declared.store.Store as store
 use Rattle.sqlite_wal.specs.Recovery.{Image}
-use Rattle.farm_store.specs.Columns.{rows_of}
+use Rattle.farm_store.specs.Columns.{Tables, rows_of}
 use Rattle.farm_store.specs.Holds.{Holds}
+use Rattle.farm_store.specs.Schema.{no_schema}
 use Rattle.farm_types.specs.Farm.{Farm, empty}
 use Rattle.farm_types.specs.Sound.{IsSound}
 use Rattle.farm_types.specs.Machine.{run}
 use Rattle.farm_types.specs.declared.calls.Call.{Call}
-use Rattle.farm_keep.specs.Headline.{Runs}
+use Rattle.farm_keep.specs.Headline.{IsAlwaysClean, Runs}
 use Rattle.farm_keep.specs.Kept.{Kept, Keeps, KeepsFarm}
 use Rattle.farm_keep.specs.Lives.{IsDone}
+use Rattle.farm_keep.specs.declared.fault.KeepFault.{KeepFault}
 use Rattle.farm_keep.specs.declared.keeper.run.RunEnd.{RunEnd}
+use Rattle.farm_desk.specs.declared.fault.DeskFault.{DeskFault}
 
--- they hold a database whose tables are the farm's
-pub record HoldsFarm (image : Image) (F : Farm) : Type 0 where
+-- ---- what the files hold
+
+-- they hold a database with these tables
+pub record HoldsTables (image : Image) (T : Tables) : Type 0 where
   pub trees : Trees
   pub database : HoldsDatabase image trees
-  pub holds : Holds trees (rows_of F)
+  pub holds : Holds trees T
+
+-- with the farm's tables
+abbrev pub HoldsFarm : Image → Farm → Type 0
+HoldsFarm image F = HoldsTables image (rows_of F)
 
 -- they hold a database without a table
 pub record HoldsNoTable (image : Image) : Type 0 where
   pub trees : Trees
   pub database : HoldsDatabase image trees
   pub unlisted : trees catalog_tree ≡ []
+
+-- ---- the keeper over files that were opened
 
 -- an open keeper has this farm, and its store keeps it
 pub record HasFarm {D : Type 0} {g : Ghosts D} (k : Kept (FileStore D g)) (F : Farm) : Type 0 where
@@ -43,11 +57,69 @@ pub record FindsFarm {D : Type 0} {g : Ghosts D} (image : Image) (k : Kept (File
   pub sound : IsSound k.farm.farm
   pub finds : HasCleanDisk (file_state k.conn) → (F : Farm) → IsSound F → HoldsFarm image F → HasFarm k F
 
--- an open keeper has the empty farm, and where the files held a database without a table, its store keeps that farm
+-- an open keeper has the empty farm, the files held no farm's tables, and where they held a database without a table, its store keeps the empty farm
 pub record MakesFarm {D : Type 0} {g : Ghosts D} (image : Image) (k : Kept (FileStore D g)) : Type 0 where
   pub opened : k.is_open ≡ true
   pub farm : k.farm.farm ≡ empty
+  pub free : HasCleanDisk (file_state k.conn) → (T : Tables) → ¬ HoldsTables image T
   pub stands : HoldsNoTable image → KeepsFarm over_files k empty
+
+-- ---- why there is none
+
+-- memory or the store failed, or the tables are those of no farm
+abbrev pub IsOpenFault : DeskFault → Type 0
+IsOpenFault (DeskFault.Keep KeepFault.NoMemory) = ⊤
+IsOpenFault (DeskFault.Keep KeepFault.Store) = ⊤
+IsOpenFault (DeskFault.Keep KeepFault.BadStore) = ⊤
+IsOpenFault (DeskFault.Keep KeepFault.OldSchema) = ⊤
+IsOpenFault fault = ⊥
+
+-- the files are bad only where they hold no sound farm, and their schema is old only where they hold no farm's tables
+abbrev pub DeniesFarm : Image → DeskFault → Type 0
+DeniesFarm image (DeskFault.Keep KeepFault.BadStore) = (F : Farm) → IsSound F → ¬ HoldsFarm image F
+DeniesFarm image (DeskFault.Keep KeepFault.OldSchema) = (T : Tables) → ¬ HoldsTables image T
+DeniesFarm image other = ⊤
+
+-- so it is on a disk that always returns what was written
+abbrev pub GivesReason : {D : Type 0} {g : Ghosts D} → Image → Result (Kept (FileStore D g)) DeskFault → Type 0
+GivesReason {D} {g} image result = IsAlwaysClean (over_files {D = D} {g = g}) → IfErr result (DeniesFarm image)
+
+-- ---- the same of any store
+
+-- a connection that was just opened shows what the files held
+pub record ShowsFiles {D : Type 0} {g : Ghosts D} (image : Image) (conn : Held (FileStore D g)) : Type 0 where
+  pub opened : HasCleanDisk (file_state conn) → IsOpened conn
+  pub found : HasCleanDisk (file_state conn) → FindsIn image (file_state conn)
+
+-- a connection was just opened on these tables
+pub record OpensTables {S : Type 0} (g : store.Ghosts S) (conn : Held S) (T : Tables) : Type 0 where
+  pub opens : Opens (state g conn)
+  pub live : IsLive (state g conn)
+  pub holds : Holds (state g conn).committed.trees T
+
+-- an open keeper was made from a connection: where that was just opened on the tables of a sound farm, the keeper has that farm, and its store keeps it
+pub record FindsTables {S : Type 0} (g : store.Ghosts S) (conn : Held S) (k : Kept S) : Type 0 where
+  pub opened : k.is_open ≡ true
+  pub sound : IsSound k.farm.farm
+  pub clean : doubt (state g conn).is_clean ≤ doubt (state g k.conn).is_clean
+  pub exact : HasCleanDisk (state g k.conn) → (F : Farm) → IsSound F → OpensTables g conn (rows_of F) → k.farm.farm ≡ F
+  pub stands : (F : Farm) → OpensTables g conn (rows_of F) → KeepsFarm g k F
+
+-- an open keeper has the empty farm; its connection was opened on no farm's tables, and where it showed no table at all, its store keeps the empty farm
+pub record MakesTables {S : Type 0} (g : store.Ghosts S) (conn : Held S) (k : Kept S) : Type 0 where
+  pub opened : k.is_open ≡ true
+  pub farm : k.farm.farm ≡ empty
+  pub clean : doubt (state g conn).is_clean ≤ doubt (state g k.conn).is_clean
+  pub free : HasCleanDisk (state g k.conn) → (T : Tables) → ¬ OpensTables g conn T
+  pub keeps : (state g conn).now.schema ≡ no_schema → Keeps g k
+
+-- why a connection gives no keeper
+abbrev pub DeniesTables : {S : Type 0} → store.Ghosts S → Held S → DeskFault → Type 0
+DeniesTables g conn (DeskFault.Keep KeepFault.BadStore) = (F : Farm) → IsSound F → ¬ OpensTables g conn (rows_of F)
+DeniesTables g conn (DeskFault.Keep KeepFault.OldSchema) = (T : Tables) → ¬ OpensTables g conn T
+DeniesTables g conn other = ⊤
+
+-- ---- after a stop
 
 -- they hold the farm after so many of the calls as a stop after this run leaves done
 pub record HoldsRun (image : Image) (F : Farm) (end : RunEnd) (calls : List Call) : Type 0 where

@@ -10,3 +10,6 @@ pub mod InFiles
 pub mod Reports
 pub mod Conversations
 pub mod Lines
+pub mod Clients
+pub mod Visits
+pub mod Known

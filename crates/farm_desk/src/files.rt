@@ -1,16 +1,16 @@
 //! Farms in files.
 ghost use Rattle.std.specs.Prelude.{◌≡◌, false, IfOk, IfErr};
-ghost use Rattle.sqlite.specs.Files.{file_state, IsOpened};
-ghost use Rattle.sqlite.specs.Start.{FindsIn};
-ghost use Rattle.sqlite.specs.State.{HasCleanDisk};
 ghost use Rattle.sqlite_wal.specs.Files.{image_at};
-ghost use Rattle.farm_desk.specs.InFiles.{FindsFarm, MakesFarm};
+ghost use Rattle.sqlite_wal.specs.Recovery.{Image};
+ghost use Rattle.farm_keep.specs.Headline.{IsAlwaysClean};
+ghost use Rattle.farm_desk.specs.InFiles.{ShowsFiles, FindsTables, FindsFarm, MakesTables, MakesFarm, DeniesTables, GivesReason, IsOpenFault};
 
 use crate::fault::DeskFault;
 use farm_jobfile::lab::LONGEST_LAB_FILE;
 use farm_keep::{KeepFault, Keeper};
 use farm_store::laws::opened_stands;
-use sqlite::{Connection, FileFrom, FileStore, Start};
+use sqlite::{Alter, Connection, FileFrom, FileStore, Start};
+use sqlite_disk::Disk;
 use std::alloc::Global;
 use std::fs::File;
 use std::io;
@@ -27,8 +27,7 @@ fn open<S: Start>(
     start: S,
 ) -> Result<Connection<FileStore<FileFrom<S>>>, DeskFault>
     ensures mode { IfOk result (λ conn. conn.in_transaction ≡ false) }
-    ensures opened { IfOk result (λ conn. HasCleanDisk (file_state conn) → IsOpened conn) }
-    ensures found { IfOk result (λ conn. HasCleanDisk (file_state conn) → FindsIn (image_at S.Start) (file_state conn)) }
+    ensures shows { IfOk result (ShowsFiles (image_at S.Start)) }
     ensures fault { IfErr result (λ fault. fault ≡ DeskFault.Keep KeepFault.Store) }
 {
     match Connection::open_from(rt, path, false, start) {
@@ -38,7 +37,8 @@ fn open<S: Start>(
 }
 
 /// A keeper of the farm that stands in the file at a path. A file without its tables is a fault of
-/// the store, and one with the tables of no sound farm is bad.
+/// the store, and one with the tables of no sound farm is bad. What a fault leaves of a store is said
+/// of `farm_keep::found`, which is lent the connection.
 ///
 /// Costs one reading of the file.
 pub fn open_farm<S: Start>(
@@ -47,9 +47,54 @@ pub fn open_farm<S: Start>(
     path: &str,
     start: S,
 ) -> Result<FileKeeper<S>, DeskFault>
-    ensures { IfOk result (FindsFarm (image_at S.Start)) }
+    ensures found { IfOk result (FindsFarm (image_at S.Start)) }
+
+    // On a disk that always returns what was written, the files are told bad only where they hold no
+    // sound farm, and of an old schema only where they hold no farm's tables.
+    ensures denied { GivesReason (image_at S.Start) result }
+    ensures fault { IfErr result IsOpenFault }
 {
     let conn = open(rt, path, start)?;
+    farm_on(alloc, conn)
+}
+
+/// A keeper of the empty farm in the file at a path. A file that has a table of these names is
+/// refused by the store, and stays as it is. What else a fault leaves of a store is said of
+/// `farm_store::create`, which is lent the connection.
+pub fn make_farm<S: Start>(
+    rt: &HostRuntime,
+    alloc: Global,
+    path: &str,
+    start: S,
+) -> Result<FileKeeper<S>, DeskFault>
+    ensures made { IfOk result (MakesFarm (image_at S.Start)) }
+    ensures fault { IfErr result (λ fault. fault ≡ DeskFault.Keep KeepFault.Store) }
+{
+    let conn = open(rt, path, start)?;
+    new_farm_on(alloc, conn)
+}
+
+/// A keeper of the farm that files hold which were just opened. That its one call is of any store
+/// keeps its proof short.
+fn farm_on<D: Disk + Drop>(
+    alloc: Global,
+    conn: Connection<FileStore<D>>,
+) -> Result<Keeper<FileStore<D>>, DeskFault>
+    requires { conn.in_transaction ≡ false }
+    ensures found { IfOk result (λ k. (image : Image) → ShowsFiles image conn → FindsFarm image k) }
+    ensures denied { (image : Image) → ShowsFiles image conn → GivesReason image result }
+    ensures fault { IfErr result IsOpenFault }
+{
+    adopt(alloc, conn)
+}
+
+/// A keeper of the farm whose tables a connection holds that was just opened.
+fn adopt<S: Alter + Drop>(alloc: Global, conn: Connection<S>) -> Result<Keeper<S>, DeskFault>
+    requires { conn.in_transaction ≡ false }
+    ensures found { IfOk result (FindsTables S.Store conn) }
+    ensures denied { IsAlwaysClean S.Store → IfErr result (DeniesTables S.Store conn) }
+    ensures fault { IfErr result IsOpenFault }
+{
     opened_stands(&conn);
     match Keeper::adopt(alloc, conn) {
         Ok(keeper) => Ok(keeper),
@@ -57,17 +102,25 @@ pub fn open_farm<S: Start>(
     }
 }
 
-/// A keeper of the empty farm in the file at a path. A file that has a table of these names is
-/// refused by the store, and stays as it is.
-pub fn make_farm<S: Start>(
-    rt: &HostRuntime,
+/// A keeper of the empty farm over files that were just opened; its one call is of any store too.
+fn new_farm_on<D: Disk + Drop>(
     alloc: Global,
-    path: &str,
-    start: S,
-) -> Result<FileKeeper<S>, DeskFault>
-    ensures { IfOk result (MakesFarm (image_at S.Start)) }
+    conn: Connection<FileStore<D>>,
+) -> Result<Keeper<FileStore<D>>, DeskFault>
+    requires { conn.in_transaction ≡ false }
+    ensures made { IfOk result (λ k. (image : Image) → ShowsFiles image conn → MakesFarm image k) }
+    ensures fault { IfErr result (λ fault. fault ≡ DeskFault.Keep KeepFault.Store) }
 {
-    let conn = open(rt, path, start)?;
+    make(alloc, conn)
+}
+
+/// A keeper of the empty farm, whose tables are made in a store that was just opened.
+fn make<S: Alter + Drop>(alloc: Global, conn: Connection<S>) -> Result<Keeper<S>, DeskFault>
+    requires { conn.in_transaction ≡ false }
+    ensures made { IfOk result (MakesTables S.Store conn) }
+    ensures fault { IfErr result (λ fault. fault ≡ DeskFault.Keep KeepFault.Store) }
+{
+    opened_stands(&conn);
     match Keeper::fresh(alloc, conn) {
         Ok(made) => Ok(made),
         Err(fault) => Err(DeskFault::Keep(fault)),

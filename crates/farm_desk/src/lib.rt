@@ -6,13 +6,16 @@
 //! what an import is in Imports, and what serving makes of a farm in Serving.
 #![tactic(auto)]
 
+mod accepted;
 mod answer;
+pub mod clients;
 pub mod converse;
 mod due;
 pub mod fault;
 pub mod files;
 mod hear;
 pub mod import;
+pub mod known;
 pub mod laws;
 pub mod orders;
 mod patient;

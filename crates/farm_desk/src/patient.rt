@@ -17,14 +17,14 @@ const ROOM: usize = 4096;
 /// keeps the others waiting for no longer than twice that at the request, and as long at the answer.
 #[derive(Drop)]
 pub(crate) struct Patient<'a, C: Clock> {
-    stream: &'a TcpStream,
+    pub(crate) stream: TcpStream,
     clock: &'a C,
     since: Option<Duration>,
 }
 
 impl<'a, C: Clock> Patient<'a, C> {
     /// A direction whose time begins with its first read or write.
-    pub(crate) fn new(stream: &'a TcpStream, clock: &'a C) -> Patient<'a, C> {
+    pub(crate) fn new(stream: TcpStream, clock: &'a C) -> Patient<'a, C> {
         Patient {
             stream,
             clock,
@@ -51,16 +51,14 @@ impl<'a, C: Clock> Patient<'a, C> {
 impl<C: Clock> Read for Patient<'_, C> {
     fn read(&mut self, buf: &mut [u8]) -> io::Result<usize> {
         self.begin()?;
-        let mut stream = self.stream;
-        stream.read(buf)
+        self.stream.read(buf)
     }
 }
 
 impl<C: Clock> Write for Patient<'_, C> {
     fn write(&mut self, buf: &[u8]) -> io::Result<usize> {
         self.begin()?;
-        let mut stream = self.stream;
-        stream.write(buf)
+        self.stream.write(buf)
     }
 
     fn flush(&mut self) -> io::Result<()> {

@@ -1,21 +1,24 @@
-//! Serving connections, one after another.
-ghost use Rattle.std.specs.Prelude.{◌≡◌, ◌≤◌, ◌↔◌, true, false, Err};
+//! Serving clients, one after another.
+ghost use Rattle.std.specs.Prelude.{◌≡◌, ◌≤◌, ◌↔◌, ℕ, true, false, Err, IsOk, Result};
 ghost use Rattle.sqlite.specs.Held.{state};
 ghost use Rattle.sqlite_trees.specs.View.{doubt};
+ghost use Rattle.farm_desk.specs.Conversations.{Converses, desk};
 ghost use Rattle.farm_desk.specs.Serving.{ServesUntil, PassesOn};
+ghost use Rattle.farm_desk.specs.Visits.{ServesInTurn};
+ghost use Rattle.farm_desk.specs.declared.fault.DeskFault.{DeskFault as Fault};
 
+use crate::accepted::Accepted;
+use crate::clients::{Client, Clients};
 use crate::converse::converse_through;
 use crate::fault::DeskFault;
-use crate::patient::{Patient, drop_rest, limit_waits};
 use farm_keep::{KeepFault, Keeper};
 use farm_wire::asks::Asks;
-use farm_wire::constant::no_memory_answer;
-use farm_wire::{CountedReader, CountedWriter, write_whole};
+use farm_wire::{CountedReader, CountedWriter};
 use sqlite::Alter;
 use std::alloc::Global;
-use std::io::{BufReader, Read, Write};
-use std::net::{TcpListener, TcpStream};
-use std::time::{Clock, SystemTime, UNIX_EPOCH};
+use std::io::{Read, Write};
+use std::net::TcpListener;
+use std::time::Clock;
 
 /// Takes that many connections in turn; of each it reads one request, answers it as `converse` does,
 /// and closes it. The moment of a request is what the clock says once its connection is taken, in
@@ -53,78 +56,68 @@ pub fn serve_on<S: Alter, C: Clock>(
     ensures closed { (result ≡ Err (DeskFault.Keep KeepFault.Closed)) ↔ (keeper.old.is_open ≡ false) }
     ensures clean { doubt (state S.Store keeper.old.conn).is_clean ≤ doubt (state S.Store keeper.new.conn).is_clean }
 {
+    let mut clients = Accepted {
+        alloc,
+        listener,
+        clock,
+    };
+    serve(alloc, keeper, &mut clients, max)
+}
+
+/// Serves that many clients in turn: of each it reads one request at the moment that comes with it,
+/// answers it as `converse` does, and takes leave of it. It ends as `serve_on` does; that one serves
+/// the clients of a listener.
+pub fn serve<S: Alter, K: Clients>(
+    alloc: Global,
+    keeper: &mut Keeper<S>,
+    clients: &mut K,
+    max: u64,
+) -> Result<(), DeskFault>
+    // The next clients, as far as they are known, were conversed with in their order, each at its
+    // moment, over what it sent and what it was written.
+    ensures visits { ServesInTurn S.Store (K.clientele clients.old) (K.clientele clients.new)
+        keeper.old keeper.new max (IsOk result) }
+
+    // What that makes of the farm and of its store is what `serve_on` says.
+    ensures serves { ServesUntil S.Store keeper.old keeper.new max result }
+    ensures closed { (result ≡ Err (DeskFault.Keep KeepFault.Closed)) ↔ (keeper.old.is_open ≡ false) }
+    ensures clean { doubt (state S.Store keeper.old.conn).is_clean ≤ doubt (state S.Store keeper.new.conn).is_clean }
+{
     if keeper.farm().is_none() {
         return Err(DeskFault::Keep(KeepFault::Closed));
     }
     // Where there is no memory for it now, each request has one of its own.
     let asks = Asks::new(alloc).ok();
     for _ in 0..max {
-        serve_next(alloc, asks.as_ref(), keeper, listener, clock)?;
+        serve_next(alloc, asks.as_ref(), keeper, clients)?;
     }
     Ok(())
 }
 
-/// Takes one connection, and serves it where there is a moment to serve it at.
-fn serve_next<S: Alter, C: Clock>(
+/// Serves the next client, if there is one.
+fn serve_next<S: Alter, K: Clients>(
     alloc: Global,
     asks: Option<&Asks>,
     keeper: &mut Keeper<S>,
-    listener: &TcpListener,
-    clock: &C,
+    clients: &mut K,
 ) -> Result<(), DeskFault>
     requires { keeper.old.is_open ≡ true }
+    ensures visits { ServesInTurn S.Store (K.clientele clients.old) (K.clientele clients.new)
+        keeper.old keeper.new 1 (IsOk result) }
     ensures serves { ServesUntil S.Store keeper.old keeper.new 1 result }
     ensures clean { doubt (state S.Store keeper.old.conn).is_clean ≤ doubt (state S.Store keeper.new.conn).is_clean }
 {
-    let Some(stream) = next_stream(listener) else {
+    let Some(client) = clients.next() else {
         return Ok(());
     };
-    let Some(now) = moment(clock) else {
-        return Ok(());
-    };
-    let ended = serve_stream(alloc, asks, keeper, &stream, clock, now);
-    drop_rest(&stream);
+    let Client {
+        now,
+        mut reader,
+        mut writer,
+    } = client;
+    let ended = serve_one(alloc, asks, keeper, &mut reader, &mut writer, now);
+    clients.part(reader, writer);
     ended
-}
-
-/// The stream of the next connection, limited in time.
-fn next_stream(listener: &TcpListener) -> Option<TcpStream> {
-    let (stream, _) = listener.accept().ok()?;
-    limit_waits(&stream).ok()?;
-    Some(stream)
-}
-
-/// The moment that a clock says, in whole seconds since 1970-01-01 00:00:00 UTC.
-fn moment<C: Clock>(clock: &C) -> Option<u64> {
-    let since = SystemTime::now(clock)
-        .ok()?
-        .duration_since(UNIX_EPOCH)
-        .ok()?;
-    Some(since.as_secs())
-}
-
-/// Serves the client of a stream. A buffer stands before it, so that a head that came whole costs one
-/// read; without memory for the buffer the client is told so.
-fn serve_stream<S: Alter, C: Clock>(
-    alloc: Global,
-    asks: Option<&Asks>,
-    keeper: &mut Keeper<S>,
-    stream: &TcpStream,
-    clock: &C,
-    now: u64,
-) -> Result<(), DeskFault>
-    requires { keeper.old.is_open ≡ true }
-    ensures serves { ServesUntil S.Store keeper.old keeper.new 1 result }
-    ensures clean { doubt (state S.Store keeper.old.conn).is_clean ≤ doubt (state S.Store keeper.new.conn).is_clean }
-{
-    let mut writer = Patient::new(stream, clock);
-    match BufReader::new(alloc, Patient::new(stream, clock)) {
-        Ok(mut reader) => serve_one(alloc, asks, keeper, &mut reader, &mut writer, now),
-        Err(_) => {
-            let _ = write_whole(&mut writer, no_memory_answer());
-            Ok(())
-        }
-    }
 }
 
 /// Answers one request as `converse` does, and gives the keeper's fault where that closed it, also
@@ -138,6 +131,9 @@ fn serve_one<R: Read, W: Write, S: Alter>(
     now: u64,
 ) -> Result<(), DeskFault>
     requires { keeper.old.is_open ≡ true }
+    ensures converses { (end : Result ℕ Fault) × Converses S.Store
+        (desk keeper.old (R.remaining reader.old) (W.contents writer.old))
+        (desk keeper.new (R.remaining reader.new) (W.contents writer.new)) now end }
     ensures serves { ServesUntil S.Store keeper.old keeper.new 1 result }
     ensures clean { doubt (state S.Store keeper.old.conn).is_clean ≤ doubt (state S.Store keeper.new.conn).is_clean }
 {

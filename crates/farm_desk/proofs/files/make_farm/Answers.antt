@@ -1,9 +1,7 @@
+use Rattle.std.proofs.lemmas.Result.{IfOk-weaker}
 use Rattle.sqlite_wal.specs.Files.{image_at}
-use Rattle.farm_desk.proofs.FileLemmas.{fresh_makes}
 use Rattle.farm_desk.proofs.files.make_farm.Goals as goal
 
-pub returns-in-Ok : goal.returns-in-Ok
-returns-in-Ok g c =
-    let opened = c.in_ok-conn.ensures in
-    let made = c.in-Ok.ensures in
-    fresh_makes (image_at g.S.Start) c.in_ok-conn.conn c.in-Ok.made opened.opened opened.found made.opened made.keeps made.clean
+pub returns-clause-made : goal.returns-clause-made
+returns-clause-made g c =
+    IfOk-weaker c.new_farm_on.result _ _ (λ k made. made (image_at g.S.Start) c.in_ok-conn.ensures.shows) c.new_farm_on.ensures.made

@@ -1,4 +1,4 @@
-use Rattle.std.proofs.Common.{subst, sym, ap, arith}
+use Rattle.std.proofs.Common.{subst, arith}
 use Rattle.std.proofs.Math.Logic.{∥∥₁_map}
 use Rattle.sqlite.proofs.Theorems.{opens_again}
 use Rattle.sqlite.specs.Files.{file_state, over_files}

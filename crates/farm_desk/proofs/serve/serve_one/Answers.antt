@@ -1,8 +1,18 @@
--- What the conversation made of the keeper, by what is passed on of its end.
+-- What the conversation was, and what it made of the keeper, by what is passed on of its end.
+use Rattle.farm_desk.specs.Conversations.{desk}
 use Rattle.farm_desk.proofs.ServingLemmas.{conversation_serves}
+use Rattle.farm_desk.proofs.VisitLemmas.{conversation}
 use Rattle.farm_desk.proofs.serve.serve_one.Goals as goal
 
 pub returns-clause-serves : goal.returns-clause-serves
 returns-clause-serves g c =
     conversation_serves g.S.Store c.args.keeper.now c.converse_through.new.keeper _ _ _ _ _ _ c.converse_through.result c.pass_on.result
     c.requires c.pass_on.ensures c.converse_through.ensures.told (λ read. (c.converse_through.ensures.unread read).0.rests)
+
+pub returns-clause-converses : goal.returns-clause-converses
+returns-clause-converses g c =
+    conversation g.S.Store
+    (desk c.args.keeper.now (g.R.Read.remaining c.args.reader.now) (g.W.Write.contents c.args.writer.now))
+    (desk c.converse_through.new.keeper (g.R.Read.remaining c.converse_through.new.reader) (g.W.Write.contents c.converse_through.new.writer))
+    c.args.now _ c.converse_through.result c.converse_through.ensures.told (λ read. (c.converse_through.ensures.unread read).0)
+    (λ read. (c.converse_through.ensures.unread read).2)

@@ -1,0 +1,12 @@
+use Rattle.std.proofs.lemmas.Result.{IfErr-weaker, IfOk-weaker}
+use Rattle.farm_desk.proofs.FileLemmas.{denies_farm, finds_farm}
+use Rattle.farm_desk.proofs.files.farm_on.Goals as goal
+
+pub returns-clause-found : goal.returns-clause-found
+returns-clause-found g c =
+    IfOk-weaker c.adopt.result _ _ (λ k made image shows. finds_farm image c.args.conn k made shows) c.adopt.ensures.found
+
+pub returns-clause-denied : goal.returns-clause-denied
+returns-clause-denied g c image shows always =
+    IfErr-weaker c.adopt.result _ _ (λ fault denied. denies_farm image c.args.conn fault (always c.args.conn) denied shows)
+    (c.adopt.ensures.denied always)

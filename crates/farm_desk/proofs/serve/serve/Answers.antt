@@ -1,0 +1,35 @@
+-- One client more, and the fault that ends the serving.
+use Rattle.std.proofs.Common.{◌≤◌, ◌+◌, refl, subst, arith, Ok, Err, IsOk}
+use Rattle.std.proofs.lemmas.Result.{err_from_is_err_and}
+use Rattle.farm_desk.proofs.ServingLemmas.{serves_next, serves_within}
+use Rattle.farm_desk.proofs.VisitLemmas.{visits_next, visits_within}
+use Rattle.farm_desk.proofs.serve.serve.Goals as goal
+
+pub returns-in_err-serve_next-clause-serves : goal.returns-in_err-serve_next-clause-serves
+returns-in_err-serve_next-clause-serves g c =
+    let less : c.loop.counter + 1 ≤ c.args.max = omega (arith, c.loop-test.true) in
+    let p = err_from_is_err_and c.from_residual.result c.from_residual.ensures.1 in
+    rw (p.1, p.2) (serves_within {A = Unit {0}} g.S.Store c.args.keeper.now c.serve_next.new.keeper (c.loop.counter + 1) c.args.max (Err c.in_err-serve_next.field-0.0) less
+    (serves_next {A = Unit {0}} g.S.Store c.args.keeper.now c.loop.keeper c.serve_next.new.keeper c.loop.counter (Err c.in_err-serve_next.field-0.0)
+    c.loop.invariant.serves c.in_err-serve_next.ensures.serves))
+
+pub returns-in_err-serve_next-clause-visits : goal.returns-in_err-serve_next-clause-visits
+returns-in_err-serve_next-clause-visits g c =
+    let less : c.loop.counter + 1 ≤ c.args.max = omega (arith, c.loop-test.true) in
+    let p = err_from_is_err_and c.from_residual.result c.from_residual.ensures.1 in
+    visits_within g.S.Store (g.K.Clients.clientele c.args.clients.now) (g.K.Clients.clientele c.serve_next.new.clients) c.args.keeper.now c.serve_next.new.keeper
+    (c.loop.counter + 1) c.args.max (IsOk c.from_residual.result) less (λ ok. absurd (let no = subst (λ r. IsOk r) p.1 ok in cc))
+    (visits_next g.S.Store (g.K.Clients.clientele c.args.clients.now) (g.K.Clients.clientele c.loop.clients)
+    (g.K.Clients.clientele c.serve_next.new.clients) c.args.keeper.now c.loop.keeper c.serve_next.new.keeper c.loop.counter
+    _ ⊥ (λ never. absurd never) c.loop.invariant.visits c.in_err-serve_next.ensures.visits)
+
+pub loop-preserved : goal.loop-preserved
+loop-preserved g c =
+    record {
+      clean = omega (arith, c.loop.invariant.clean, c.serve_next.ensures.clean);
+      serves = serves_next g.S.Store c.args.keeper.now c.loop.keeper c.serve_next.new.keeper c.loop.counter (Ok c.in_ok-serve_next.field-0)
+          c.loop.invariant.serves c.in_ok-serve_next.ensures.serves;
+      visits = visits_next g.S.Store (g.K.Clients.clientele c.args.clients.now) (g.K.Clients.clientele c.loop.clients)
+          (g.K.Clients.clientele c.serve_next.new.clients) c.args.keeper.now c.loop.keeper c.serve_next.new.keeper c.loop.counter
+          _ (Unit {0}) (λ _. refl) c.loop.invariant.visits c.in_ok-serve_next.ensures.visits;
+    }

@@ -1,0 +1,70 @@
+//! Clients that a listener accepts.
+ghost use Rattle.std.specs.Prelude.{None, ⊤};
+
+use crate::clients::{Client, Clients};
+use crate::patient::{Patient, drop_rest, limit_waits};
+use farm_wire::constant::no_memory_answer;
+use farm_wire::write_whole;
+use std::alloc::Global;
+use std::io::BufReader;
+use std::net::{TcpListener, TcpStream};
+use std::time::{Clock, SystemTime, UNIX_EPOCH};
+
+/// The clients of a listener. Of them nothing is known.
+#[derive(Drop)]
+pub(crate) struct Accepted<'a, C: Clock> {
+    pub(crate) alloc: Global,
+    pub(crate) listener: &'a TcpListener,
+    pub(crate) clock: &'a C,
+}
+
+impl<'a, C: Clock> Clients for Accepted<'a, C> {
+    type Reader = BufReader<Patient<'a, C>>;
+
+    type Writer = Patient<'a, C>;
+
+    ghost clientele = { λ _. None };
+
+    ghost has_one = { λ _. ⊤ };
+
+    /// The next connection. A buffer stands before its stream, so that a head that came whole costs one
+    /// read; without memory for the buffer the client is told so.
+    fn next(&mut self) -> Option<Client<BufReader<Patient<'a, C>>, Patient<'a, C>>> {
+        let (stream, second) = next_stream(self.listener)?;
+        let now = moment(self.clock)?;
+        let mut writer = Patient::new(second, self.clock);
+        match BufReader::new(self.alloc, Patient::new(stream, self.clock)) {
+            Ok(reader) => Some(Client {
+                now,
+                reader,
+                writer,
+            }),
+            Err(_) => {
+                let _ = write_whole(&mut writer, no_memory_answer());
+                drop_rest(&writer.stream);
+                None
+            }
+        }
+    }
+
+    fn part(&mut self, _reader: BufReader<Patient<'a, C>>, writer: Patient<'a, C>) {
+        drop_rest(&writer.stream);
+    }
+}
+
+/// The stream of the next connection, limited in time, once to read it and once to write to it.
+fn next_stream(listener: &TcpListener) -> Option<(TcpStream, TcpStream)> {
+    let (stream, _) = listener.accept().ok()?;
+    limit_waits(&stream).ok()?;
+    let second = stream.try_clone().ok()?;
+    Some((stream, second))
+}
+
+/// The moment that a clock says, in whole seconds since 1970-01-01 00:00:00 UTC.
+fn moment<C: Clock>(clock: &C) -> Option<u64> {
+    let since = SystemTime::now(clock)
+        .ok()?
+        .duration_since(UNIX_EPOCH)
+        .ok()?;
+    Some(since.as_secs())
+}

@@ -1,0 +1,45 @@
+//! Clients that come one after another.
+ghost use Rattle.std.specs.Prelude.{◌≡◌, Option, MatchOption, IsSome};
+ghost use Rattle.farm_desk.specs.Clients.{Clientele, Comes, Goes, IsOver};
+
+use std::io::{Read, Write};
+
+/// A client that came: the moment of its request, in seconds since 1970-01-01 00:00:00 UTC, what it is
+/// read by and what it is answered by.
+#[derive(Drop)]
+pub struct Client<R, W> {
+    pub now: u64,
+    pub reader: R,
+    pub writer: W,
+}
+
+/// Clients that come one after another.
+pub trait Clients {
+    type Reader: Read + Drop;
+
+    type Writer: Write + Drop;
+
+    /// Those that are to come and those that went, where they are known.
+    ghost clientele: { Self → Option Clientele };
+
+    /// A client that came hasn't gone.
+    ghost has_one: { Self → Type 0 };
+
+    /// The next client; none where nobody came, or where the one that came can't be served.
+    fn next(&mut self) -> Option<Client<Self::Reader, Self::Writer>>
+        ensures comes { MatchOption result ((clientele self.new ≡ clientele self.old) × IsOver (clientele self.old))
+            (λ client. Comes (clientele self.old) (clientele self.new) (record {
+              now = client.now;
+              input = Self.Reader.remaining client.reader;
+              output = Self.Writer.contents client.writer;
+            })) }
+        ensures has_one { IsSome result → has_one self.new };
+
+    /// Takes leave of a client that came.
+    fn part(&mut self, reader: Self::Reader, writer: Self::Writer)
+        requires { has_one self.old }
+        ensures { Goes (clientele self.old) (clientele self.new) (record {
+          input = Self.Reader.remaining reader;
+          output = Self.Writer.contents writer;
+        }) };
+}
