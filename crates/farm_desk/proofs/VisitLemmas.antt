@@ -5,7 +5,7 @@ use Rattle.std.proofs.lemmas.List.{append_assoc, append-nil, length-append, map-
 use Rattle.sqlite_trees.specs.declared.store.Store.{Ghosts}
 use Rattle.farm_keep.specs.Kept.{Kept}
 use Rattle.farm_desk.specs.Clients.{Came, Clientele, Comes, Goes, IsOver, Went}
-use Rattle.farm_desk.specs.Conversations.{Converses, Desk, desk}
+use Rattle.farm_desk.specs.Conversations.{ConversesOnce, Desk, desk}
 use Rattle.farm_desk.specs.Due.{IsDue}
 use Rattle.farm_desk.specs.Ends.{IsTold, IsUnread}
 use Rattle.farm_desk.specs.Visits.{AreOf, ServesInTurn, Visit, VisitInTurn}
@@ -24,26 +24,26 @@ never_due g old new input rest now bytes (inr short) = let e = short.fault in cc
 pub conversation : {S : Type 0} (g : Ghosts S) (old new : Desk S) (now : ℕ) (failed : Bool) (end : Result ℕ DeskFault)
     → (end ≢ Err DeskFault.Read → IsTold (IsDue g old.keeper new.keeper old.input new.input now) failed old.output new.output end)
     → (end ≡ Err DeskFault.Read → IsUnread old.keeper new.keeper old.output new.output) → (end ≡ Err DeskFault.Read → failed ≡ false)
-    → (ended : Result ℕ DeskFault) × Converses g old new now ended
-conversation g old new now true end told unread alive = (
-  Err DeskFault.Write,
-  record {
+    → ConversesOnce g old new now
+conversation g old new now true end told unread alive = record {
+  end = Err DeskFault.Write;
+  converses = record {
     answered = λ t. absurd t;
     unwritten = λ _. told_in_part (IsDue g old.keeper new.keeper old.input new.input now) true old.output new.output end told alive refl;
     unread = λ e. absurd (cc);
-  },
-)
-conversation g old new now false end told unread alive = (
-  end,
-  record {
+  };
+}
+conversation g old new now false end told unread alive = record {
+  end = end;
+  converses = record {
     answered = told_whole (IsDue g old.keeper new.keeper old.input new.input now) false old.output new.output end told refl;
     unwritten = λ e.
         let t = told (λ r. cc) in
         absurd (never_due g old.keeper new.keeper old.input new.input now t.bytes
         (subst (λ x. IsDue g old.keeper new.keeper old.input new.input now t.bytes x) e t.due));
     unread = unread;
-  },
-)
+  };
+}
 
 -- ---- one client
 
@@ -72,14 +72,14 @@ of_one (Some before) (Some mid) (Some after) visit comes goes =
 -- one comes, and goes once it was conversed with
 pub visits_one : {S : Type 0} (g : Ghosts S) (before mid after : Option Clientele) (old new : Kept S) (came : Came) (went : Went) (Whole : Type 0)
     → old.is_open ≡ true → Comes before mid came → Goes mid after went
-    → (end : Result ℕ DeskFault) × Converses g (desk old came.input came.output) (desk new went.input went.output) came.now end
+    → ConversesOnce g (desk old came.input came.output) (desk new went.input went.output) came.now
     → ServesInTurn g before after old new 1 Whole
 visits_one g before mid after old new came went Whole opened comes goes talk =
-    let visit : Visit = record { came = came; went = went; end = talk.0 } in
+    let visit : Visit = record { came = came; went = went; end = talk.end } in
     record {
       visits = visit ∷ [];
       few = omega arith;
-      in_turn = (new, record { was_open = opened; converses = talk.1 }, refl);
+      in_turn = (new, record { was_open = opened; converses = talk.converses }, refl);
       clients = of_one before mid after visit comes goes;
       all = λ _. inl refl;
     }

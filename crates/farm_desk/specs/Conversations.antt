@@ -37,6 +37,11 @@ pub record Converses {S : Type 0} (g : Ghosts S) (old new : Desk S) (now : ℕ) 
   pub unwritten : end ≡ Err DeskFault.Write → IsUnwritten (IsDue g old.keeper new.keeper old.input new.input now) old.output new.output
   pub unread : end ≡ Err DeskFault.Read → IsUnread old.keeper new.keeper old.output new.output
 
+-- one conversation at this moment, however it ends
+pub record ConversesOnce {S : Type 0} (g : Ghosts S) (old new : Desk S) (now : ℕ) : Type 0 where
+  pub end : Result ℕ DeskFault
+  pub converses : Converses g old new now end
+
 -- an order that is one conversation at this moment: it ends as the conversation does
 pub record AnswersOne {S : Type 0} (g : Ghosts S) (old new : Desk S) (now : ℕ) (result : Result End DeskFault) : Type 0 where
   pub end : Result ℕ DeskFault

@@ -2,10 +2,9 @@
 ghost use Rattle.std.specs.Prelude.{◌≡◌, ◌≤◌, ◌↔◌, ℕ, true, false, Err, IsOk, Result};
 ghost use Rattle.sqlite.specs.Held.{state};
 ghost use Rattle.sqlite_trees.specs.View.{doubt};
-ghost use Rattle.farm_desk.specs.Conversations.{Converses, desk};
+ghost use Rattle.farm_desk.specs.Conversations.{ConversesOnce, desk};
 ghost use Rattle.farm_desk.specs.Serving.{ServesUntil, PassesOn};
 ghost use Rattle.farm_desk.specs.Visits.{ServesInTurn};
-ghost use Rattle.farm_desk.specs.declared.fault.DeskFault.{DeskFault as Fault};
 
 use crate::accepted::Accepted;
 use crate::clients::{Client, Clients};
@@ -131,9 +130,9 @@ fn serve_one<R: Read, W: Write, S: Alter>(
     now: u64,
 ) -> Result<(), DeskFault>
     requires { keeper.old.is_open ≡ true }
-    ensures converses { (end : Result ℕ Fault) × Converses S.Store
+    ensures converses { ConversesOnce S.Store
         (desk keeper.old (R.remaining reader.old) (W.contents writer.old))
-        (desk keeper.new (R.remaining reader.new) (W.contents writer.new)) now end }
+        (desk keeper.new (R.remaining reader.new) (W.contents writer.new)) now }
     ensures serves { ServesUntil S.Store keeper.old keeper.new 1 result }
     ensures clean { doubt (state S.Store keeper.old.conn).is_clean ≤ doubt (state S.Store keeper.new.conn).is_clean }
 {

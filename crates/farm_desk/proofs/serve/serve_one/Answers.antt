@@ -1,4 +1,6 @@
 -- What the conversation was, and what it made of the keeper, by what is passed on of its end.
+use Rattle.std.proofs.Common.{rules}
+use Rattle.farm_http.specs.Counts.{reader_of, writer_of}
 use Rattle.farm_desk.specs.Conversations.{desk}
 use Rattle.farm_desk.proofs.ServingLemmas.{conversation_serves}
 use Rattle.farm_desk.proofs.VisitLemmas.{conversation}
@@ -11,8 +13,11 @@ returns-clause-serves g c =
 
 pub returns-clause-converses : goal.returns-clause-converses
 returns-clause-converses g c =
-    conversation g.S.Store
-    (desk c.args.keeper.now (g.R.Read.remaining c.args.reader.now) (g.W.Write.contents c.args.writer.now))
-    (desk c.converse_through.new.keeper (g.R.Read.remaining c.converse_through.new.reader) (g.W.Write.contents c.converse_through.new.writer))
-    c.args.now _ c.converse_through.result c.converse_through.ensures.told (λ read. (c.converse_through.ensures.unread read).0)
-    (λ read. (c.converse_through.ensures.unread read).2)
+    let said = conversation g.S.Store
+        (desk c.args.keeper.now (g.R.Read.remaining c.args.reader.now) (g.W.Write.contents c.args.writer.now))
+        (desk c.converse_through.new.keeper (g.R.Read.remaining (reader_of c.converse_through.new.reader)) (g.W.Write.contents (writer_of c.converse_through.new.writer)))
+        c.args.now _ c.converse_through.result
+        (rw (c.new-reader.ensures.reader, c.new-writer.ensures.writer) at c.converse_through.ensures.told)
+        (λ read. rw c.new-writer.ensures.writer at (c.converse_through.ensures.unread read).0)
+        (λ read. (c.converse_through.ensures.unread read).2) in
+    search rules
