@@ -2,7 +2,8 @@
 # Refuses each growth of memory of the program in turn, counting upwards until a run meets no refusal:
 # a request over a farm in memory, and one over a farm in a file. Each run answers as it would with
 # ample memory, or with 503 and code 1 (60 where the store's own growth was refused), or ends with the
-# line of that fault; and whatever was answered 200 is in the file.
+# line of that fault; and whatever was answered 200 is in the file. Then the same of a program that serves
+# (refused_serving.py), whose keeper is closed where the growth was refused in the middle of a change.
 #     sh tests/refused_memory.sh bin/farm
 # Wants a C compiler (`cc`) and a C library whose functions can be preloaded.
 set -eu
@@ -83,3 +84,5 @@ refuse $((number / 2)) once --db farm.db --at 1700000000
 "$farm" once --db farm.db --at 1700000002 < request > again
 "$farm" once --db farm.db --at 1700000003 < request >> again
 cat done done | cmp again -
+
+python3 "$tests/refused_serving.py" "$farm" "$folder/refuse.so"
