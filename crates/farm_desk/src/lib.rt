@@ -1,9 +1,10 @@
 //! The desk of the board farm: bytes in, bytes out, over a store.
 //!
 //! `converse` reads one request, acts on the farm or looks at it, and writes one answer; `import`
-//! adds what a lab file lists; `serve_on` converses with one connection after another; `program` is
-//! the program `farm`. `specs/` says what a conversation is, in the order Heard, Answers, Due, Ends,
-//! what an import is in Imports, and what serving makes of a farm in Serving.
+//! adds what a lab file lists; `serve` converses with one client after another, and `serve_on` with
+//! those of a listener; `program` is the program `farm`. `specs/` says what a conversation is, in the
+//! order Heard, Answers, Due, Ends, what an import is in Imports, whom serving serves in Clients and
+//! Visits, and what it makes of a farm in Serving.
 #![tactic(auto)]
 
 mod accepted;

@@ -33,8 +33,8 @@ use std::time::Clock;
 /// then. The system keeps up to 128 of them waiting.
 ///
 /// The clauses say what becomes of the farm and of its store. That anybody was served they don't say:
-/// nothing can be said of what a socket gives and takes; `converse_counted` says it of readers and
-/// writers whose bytes are known.
+/// nothing can be said of what a socket gives and takes. It is `serve` over the listener's clients, and
+/// `serve` says it of clients that are known.
 ///
 /// Costs building a router of seventeen paths, once, and for each connection an accept, one read where
 /// the request came whole, one write where the answer is taken whole, a few short calls of the system,
