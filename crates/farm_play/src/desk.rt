@@ -12,47 +12,78 @@ use sqlite::{Alter, Connection};
 use std::alloc::{AllocError, Global};
 use std::io::{Read, Write};
 
-/// A keeper of the empty farm, whose tables it makes.
-pub fn fresh<S: Alter + Drop>(alloc: Global, conn: Option<Connection<S>>) -> Option<Keeper<S>> {
-    match conn {
-        Some(conn) if conn.is_autocommit() => Keeper::fresh(alloc, conn).ok(),
-        _ => None,
+/// A farm, by its keeper.
+pub struct Desk<S: Alter> {
+    keeper: Keeper<S>,
+}
+
+// It is written out, so that nothing here proves again how each part of a keeper is dropped.
+impl<S: Alter + Drop> Drop for Desk<S> {
+    fn drop(self) {
+        let Desk { keeper } = self;
+        drop(keeper.into_connection());
     }
 }
 
-/// A keeper of the farm whose tables are there.
-pub fn adopt<S: Alter + Drop>(
-    alloc: Global,
-    conn: Option<Connection<S>>,
-) -> Result<Keeper<S>, KeepFault> {
-    match conn {
-        Some(conn) if conn.is_autocommit() => Keeper::adopt(alloc, conn),
-        _ => Err(KeepFault::Store),
+impl<S: Alter + Drop> Desk<S> {
+    /// The empty farm, whose tables are made in a store.
+    pub fn fresh(alloc: Global, conn: Connection<S>) -> Option<Desk<S>> {
+        if !conn.is_autocommit() {
+            return None;
+        }
+        match Keeper::fresh(alloc, conn) {
+            Ok(keeper) => Some(Desk { keeper }),
+            Err(_) => None,
+        }
     }
-}
 
-/// Puts a keeper that is found into its place.
-pub fn put<S: Alter + Drop>(
-    place: &mut Option<Keeper<S>>,
-    found: Result<Keeper<S>, KeepFault>,
-) -> Result<(), KeepFault> {
-    *place = Some(found?);
-    Ok(())
-}
+    /// The farm whose tables are in a store.
+    pub fn adopt(alloc: Global, conn: Connection<S>) -> Result<Desk<S>, KeepFault> {
+        if !conn.is_autocommit() {
+            return Err(KeepFault::Store);
+        }
+        match Keeper::adopt(alloc, conn) {
+            Ok(keeper) => Ok(Desk { keeper }),
+            Err(fault) => Err(fault),
+        }
+    }
 
-/// Takes a keeper out of its place, and gives its connection.
-pub fn take_connection<S: Alter>(place: &mut Option<Keeper<S>>) -> Option<Connection<S>> {
-    Some(place.take()?.into_connection())
-}
+    /// The connection to the store of a farm that ends.
+    pub fn into_connection(self) -> Connection<S> {
+        let Desk { keeper } = self;
+        keeper.into_connection()
+    }
 
-/// The store of a keeper that ends.
-pub fn store_of<S: Alter + Drop>(keeper: Keeper<S>) -> S {
-    keeper.into_connection().into_store()
-}
+    /// The store of a farm that ends.
+    pub fn into_store(self) -> S {
+        self.into_connection().into_store()
+    }
 
-/// Takes a keeper out of its place, and gives its store.
-pub fn take_store<S: Alter + Drop>(place: &mut Option<Keeper<S>>) -> Option<S> {
-    Some(store_of(place.take()?))
+    /// Whether no fault has closed the keeper.
+    pub fn is_open(&self) -> bool {
+        self.keeper.farm().is_some()
+    }
+
+    /// The farm in words, all that it holds among them.
+    pub fn in_words(&self, alloc: Global) -> Result<String, AllocError> {
+        let farm = self.keeper.farm();
+        format!(in alloc; "{farm:?}")
+    }
+
+    /// What a step that asks gives.
+    pub fn does(&mut self, alloc: Global, step: &Step) -> Result<Vec<u8>, AllocError> {
+        match step.deed {
+            Deed::Ask | Deed::Raw => {
+                let bytes = request(alloc, step)?;
+                answered(alloc, &mut self.keeper, step.now, bytes.as_slice())
+            }
+            Deed::Import => Ok(imported(alloc, &mut self.keeper, step)?.into_bytes()),
+            _ => match self.keeper.farm() {
+                Some(farm) => Ok(look(alloc, farm, step)?.into_bytes()),
+                None => Vec::from_slice(alloc, b"closed\n"),
+            },
+        }
+    }
 }
 
 /// Converses once.
@@ -97,7 +128,7 @@ fn answered<S: Alter>(
 /// The bytes of a step's request.
 fn request(alloc: Global, step: &Step) -> Result<Vec<u8>, AllocError> {
     let mut bytes = step.head.clone()?;
-    if step.deed == Deed::Ask {
+    if matches!(step.deed, Deed::Ask) {
         let length = step.body.len();
         let line = format!(in alloc; "content-length: {length}\r\n\r\n")?;
         bytes.extend_from_slice(line.as_bytes())?;
@@ -144,7 +175,7 @@ fn report_of(alloc: Global, farm: &Farm, words: &str) -> Option<String> {
 
 /// What a step that looks at a farm gives.
 fn look(alloc: Global, farm: &Farm, step: &Step) -> Result<String, AllocError> {
-    if step.deed == Deed::Count {
+    if matches!(step.deed, Deed::Count) {
         let count = farm.status().count;
         return format!(in alloc; "{count}\n");
     }
@@ -152,31 +183,6 @@ fn look(alloc: Global, farm: &Farm, step: &Step) -> Result<String, AllocError> {
         Some(text) => Ok(text),
         None => String::from_str(alloc, "no report\n"),
     }
-}
-
-/// What a step that asks a keeper gives.
-pub fn does<S: Alter>(
-    alloc: Global,
-    keeper: &mut Keeper<S>,
-    step: &Step,
-) -> Result<Vec<u8>, AllocError> {
-    match step.deed {
-        Deed::Ask | Deed::Raw => {
-            let bytes = request(alloc, step)?;
-            answered(alloc, keeper, step.now, bytes.as_slice())
-        }
-        Deed::Import => Ok(imported(alloc, keeper, step)?.into_bytes()),
-        _ => match keeper.farm() {
-            Some(farm) => Ok(look(alloc, farm, step)?.into_bytes()),
-            None => Vec::from_slice(alloc, b"closed\n"),
-        },
-    }
-}
-
-/// A keeper's farm in words, all that it holds among them.
-pub fn in_words<S: Alter>(alloc: Global, keeper: &Keeper<S>) -> Result<String, AllocError> {
-    let farm = keeper.farm();
-    format!(in alloc; "{farm:?}")
 }
 
 /// One statement on a store, and how many rows it changed; None where it is refused.

@@ -16,30 +16,38 @@ mod text;
 
 use player::Player;
 use script::{Deed, Reading, Step, Transcript};
-use sqlite_disk::{Fuse, Memory};
+use sqlite::{Alter, Connection};
 use std::process::ExitCode;
 use std::{env, fs, io};
 use stops::plays_stops;
+use store::{DiskStore, InFiles};
 use teller::Teller;
 
 /// The steps before the end of the stops.
 fn stopped(steps: &[Step]) -> &[Step] {
-    let end = steps.iter().position(|step| step.deed == Deed::End);
-    steps.get(..end.unwrap_or(0)).unwrap_or(&[])
+    for (place, step) in steps.iter().enumerate() {
+        if matches!(step.deed, Deed::End) {
+            return steps.get(..place).unwrap_or(&[]);
+        }
+    }
+    &[]
 }
 
 /// Plays steps; whether all give what is wanted of them.
-fn plays(
+fn plays<S: Alter + Drop>(
     teller: &Teller<'_>,
-    player: &mut Player<Fuse<Memory>>,
+    player: &mut Player<S>,
     steps: &[Step],
-) -> io::Result<bool> {
+) -> io::Result<bool>
+where
+    Connection<S>: InFiles<S>,
+{
     let mut passed = 0;
     for (place, step) in steps.iter().enumerate() {
         if place < passed {
             continue;
         }
-        let is_well = if step.deed == Deed::Stops {
+        let is_well = if matches!(step.deed, Deed::Stops) {
             let rest = stopped(steps.get(place..).unwrap_or(&[]));
             passed = place.saturating_add(rest.len()).saturating_add(1);
             plays_stops(
@@ -59,12 +67,15 @@ fn plays(
 }
 
 /// Plays a transcript behind those that go before it.
-fn plays_whole(
+fn plays_whole<S: Alter + Drop>(
     teller: &Teller<'_>,
-    player: &mut Player<Fuse<Memory>>,
+    player: &mut Player<S>,
     all: &[Transcript],
     one: &Transcript,
-) -> io::Result<bool> {
+) -> io::Result<bool>
+where
+    Connection<S>: InFiles<S>,
+{
     for place in &one.after {
         if let Some(first) = all.get(*place) {
             if !plays(teller, player, first.steps.as_slice())? {
@@ -76,24 +87,39 @@ fn plays_whole(
 }
 
 /// Plays a transcript on a new farm.
-fn plays_anew(teller: &Teller<'_>, all: &[Transcript], one: &Transcript) -> io::Result<bool> {
-    let mut player = Player::new(teller.rt.alloc());
+fn plays_anew<S: Alter + Drop>(
+    teller: &Teller<'_>,
+    all: &[Transcript],
+    one: &Transcript,
+) -> io::Result<bool>
+where
+    Connection<S>: InFiles<S>,
+{
+    let mut player: Player<S> = Player::new(teller.rt.alloc());
     plays_whole(teller, &mut player, all, one)
 }
 
 /// Plays all transcripts; whether all passed.
-fn play(rt: &HostRuntime, all: &[Transcript], shows: bool) -> io::Result<bool> {
+fn play<S: Alter + Drop>(rt: &HostRuntime, all: &[Transcript], shows: bool) -> io::Result<bool>
+where
+    Connection<S>: InFiles<S>,
+{
     let mut passed = true;
     for one in all {
         let name = one.name.as_str();
         let teller = Teller { rt, name, shows };
-        if plays_anew(&teller, all, one)? {
+        if plays_anew::<S>(&teller, all, one)? {
             println!(rt; "{name}: ok")?;
         } else {
             passed = false;
         }
     }
     Ok(passed)
+}
+
+/// Plays them in files in memory. This is the one place that names the store.
+fn play_in_memory(rt: &HostRuntime, all: &[Transcript], shows: bool) -> io::Result<bool> {
+    play::<DiskStore>(rt, all, shows)
 }
 
 /// Reads a file's transcripts.
@@ -118,7 +144,7 @@ fn run(rt: &HostRuntime) -> io::Result<bool> {
             file => read(rt, &mut reading, file)?,
         }
     }
-    play(rt, reading.done.as_slice(), shows)
+    play_in_memory(rt, reading.done.as_slice(), shows)
 }
 
 fn main(rt: HostRuntime) -> io::Result<ExitCode> {

@@ -1,23 +1,42 @@
 //! Steps, played on a farm.
-use crate::desk::{does, in_words, put, take_connection, take_store};
+use crate::desk::{Desk, executed};
 use crate::script::{Deed, Step};
-use crate::store::{
-    Disks, Failing, closed, crashed, executed_in, found, made, no_files, with_fuse,
-};
+use crate::store::{Disks, Failing, InFiles, no_files, with_fuse};
 use crate::teller::Teller;
 use crate::text::{first_word, shown};
-use farm_keep::{KeepFault, Keeper};
-use sqlite::{Alter, FileStore, Files};
-use sqlite_disk::{Crash, Disk, Fuse, Memory};
+use farm_keep::KeepFault;
+use sqlite::{Alter, Connection};
 use std::alloc::{AllocError, Global};
 use std::io;
 
-/// A farm that steps are played on: its keeper, or the files of its store.
+/// What a step gives that can't be done.
+const NOT_DONE: &[u8] = b"not done\n";
+
+/// A farm that steps are played on, or the files of its store.
 #[derive(Drop)]
-pub struct Player<D: Disk> {
+pub struct Player<S: Alter> {
     alloc: Global,
-    keeper: Option<Keeper<FileStore<D>>>,
-    files: Option<Files<D>>,
+    desk: Option<Desk<S>>,
+    files: Option<Disks>,
+}
+
+/// The empty farm in new files.
+fn made<S: Alter + Drop>(alloc: Global) -> Option<Desk<S>>
+where
+    Connection<S>: InFiles<S>,
+{
+    Desk::fresh(alloc, Connection::<S>::opened(alloc, no_files(alloc))?)
+}
+
+/// The farm that these files hold.
+pub fn found<S: Alter + Drop>(alloc: Global, files: Disks) -> Result<Desk<S>, KeepFault>
+where
+    Connection<S>: InFiles<S>,
+{
+    match Connection::<S>::opened(alloc, files) {
+        Some(conn) => Desk::adopt(alloc, conn),
+        None => Err(KeepFault::Store),
+    }
 }
 
 /// Which file stops, and after how many calls.
@@ -31,53 +50,37 @@ fn fuse_of(words: &str) -> Option<(Failing, u64)> {
     }
 }
 
-/// What a step gives that asks the keeper.
-fn ask<S: Alter>(
-    alloc: Global,
-    keeper: &mut Option<Keeper<S>>,
-    step: &Step,
-) -> Result<Vec<u8>, AllocError> {
-    match keeper {
-        Some(keeper) => does(alloc, keeper, step),
-        None => Vec::from_slice(alloc, b"not done\n"),
-    }
-}
-
-/// The keeper's farm in words.
-fn words_of<S: Alter>(alloc: Global, keeper: &Option<Keeper<S>>) -> Result<String, AllocError> {
-    match keeper {
-        Some(keeper) => in_words(alloc, keeper),
-        None => String::from_str(alloc, "no farm"),
-    }
-}
-
-impl<D: Crash + Drop> Player<D> {
+impl<S: Alter + Drop> Player<S>
+where
+    Connection<S>: InFiles<S>,
+{
     /// The empty farm in new files.
-    fn begin(alloc: Global, files: Files<D>) -> Player<D> {
+    pub fn new(alloc: Global) -> Player<S> {
         Player {
             alloc,
-            keeper: made(alloc, files),
+            desk: made(alloc),
             files: None,
         }
     }
 
     /// The files of the store, which ends in order.
-    fn take_files(&mut self) -> Option<Files<D>> {
-        match take_connection(&mut self.keeper) {
-            Some(conn) => closed(conn),
+    fn take_files(&mut self) -> Option<Disks> {
+        match self.desk.take() {
+            Some(desk) => desk.into_connection().closed(),
             None => self.files.take(),
         }
     }
 
     fn sql(&mut self, statement: &str) -> Option<String> {
-        let (files, text) = executed_in(self.alloc, self.take_files()?, statement)?;
-        self.files = Some(files);
+        let conn = Connection::<S>::opened(self.alloc, self.take_files()?)?;
+        let (conn, text) = executed(self.alloc, conn, statement)?;
+        self.files = Some(conn.closed()?);
         Some(text)
     }
 
     /// The store ends by a crash.
     fn crash(&mut self) -> Option<&'static str> {
-        let (files, was_stopped) = crashed(take_store(&mut self.keeper)?);
+        let (files, was_stopped) = Connection::<S>::crashed(self.desk.take()?.into_store());
         self.files = Some(files);
         Some(if was_stopped { "stopped\n" } else { "" })
     }
@@ -87,7 +90,8 @@ impl<D: Crash + Drop> Player<D> {
         let Some(files) = self.files.take() else {
             return Err(KeepFault::Closed);
         };
-        put(&mut self.keeper, found(self.alloc, files))
+        self.desk = Some(found(self.alloc, files)?);
+        Ok(())
     }
 
     fn open(&mut self) -> Result<String, AllocError> {
@@ -100,16 +104,12 @@ impl<D: Crash + Drop> Player<D> {
         }
     }
 
-    /// The keeper's farm in words.
+    /// The farm in words.
     pub fn in_words(&self) -> Result<String, AllocError> {
-        words_of(self.alloc, &self.keeper)
-    }
-}
-
-impl Player<Fuse<Memory>> {
-    /// The empty farm in new files.
-    pub fn new(alloc: Global) -> Player<Fuse<Memory>> {
-        Player::begin(alloc, no_files(alloc))
+        match &self.desk {
+            Some(desk) => desk.in_words(self.alloc),
+            None => String::from_str(self.alloc, "no farm"),
+        }
     }
 
     /// The store ends in order, and the farm is found in it again; a copy of its files.
@@ -147,11 +147,14 @@ impl Player<Fuse<Memory>> {
     /// What a step gives.
     fn does(&mut self, step: &Step) -> Result<Vec<u8>, AllocError> {
         if step.deed.is_asked() {
-            return ask(self.alloc, &mut self.keeper, step);
+            return match &mut self.desk {
+                Some(desk) => desk.does(self.alloc, step),
+                None => Vec::from_slice(self.alloc, NOT_DONE),
+            };
         }
         match self.work(step.deed, shown(step.head.as_slice())) {
             Some(text) => Ok(text.into_bytes()),
-            None => Vec::from_slice(self.alloc, b"not done\n"),
+            None => Vec::from_slice(self.alloc, NOT_DONE),
         }
     }
 

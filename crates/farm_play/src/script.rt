@@ -1,10 +1,12 @@
 //! Transcripts: their lines read into steps.
-use crate::text::{answer, first_word, push_escaped, push_line, push_times, unread};
+use crate::text::{
+    answer, first_word, number_of, push_escaped, push_line, push_times, status_of, unread,
+};
 use std::alloc::Global;
 use std::io;
 
 /// What a step does.
-#[derive(Clone, Copy, PartialEq, Eq)]
+#[derive(Clone, Copy)]
 pub enum Deed {
     /// Asks; the head lacks the length of the body.
     Ask,
@@ -56,12 +58,24 @@ impl Deed {
         )
     }
 
+    /// The deed of a line that begins with that word.
+    fn of(word: &str) -> Option<Deed> {
+        for (name, deed) in &DEEDS {
+            if *name == word {
+                return Some(*deed);
+            }
+        }
+        None
+    }
+
     /// The word with which its line begins.
     pub fn word(self) -> &'static str {
-        match DEEDS.iter().find(|(_, deed)| *deed == self) {
-            Some((word, _)) => word,
-            None => ">",
+        for (word, deed) in &DEEDS {
+            if *deed as u8 == self as u8 {
+                return word;
+            }
         }
+        ">"
     }
 }
 
@@ -176,9 +190,9 @@ impl Reading {
     /// Adds so many times the text: N TEXT.
     fn times(&mut self, text: &str) -> io::Result<()> {
         let (times, text) = first_word(text);
-        let times = times.parse::<u64>().map_err(|_| unread())?;
+        let times = number_of(times)?;
         let step = self.step()?;
-        if step.deed == Deed::Raw {
+        if matches!(step.deed, Deed::Raw) {
             push_times(&mut step.head, times, text)
         } else {
             push_times(&mut step.body, times, text)
@@ -203,7 +217,7 @@ impl Reading {
     /// An answer: STATUS BODY.
     fn want_answer(&mut self, text: &str) -> io::Result<()> {
         let (status, body) = first_word(text);
-        let status = status.parse::<u16>().map_err(|_| unread())?;
+        let status = status_of(status)?;
         let whole = answer(self.alloc, status, self.fields.as_str(), body)?;
         self.fields.clear();
         self.wanted()?.extend_from_slice(whole.as_bytes())?;
@@ -238,13 +252,13 @@ impl Reading {
 
     /// A line that begins with a word.
     fn word(&mut self, word: &str, text: &str) -> io::Result<()> {
-        if let Some((_, deed)) = DEEDS.iter().find(|(name, _)| *name == word) {
-            return self.add(*deed, text);
+        if let Some(deed) = Deed::of(word) {
+            return self.add(deed, text);
         }
         match word {
             "==" => self.begin(text)?,
             "after" => self.go_after(text)?,
-            "at" => self.now = text.parse::<u64>().map_err(|_| unread())?,
+            "at" => self.now = number_of(text)?,
             "or" => self.want_other()?,
             _ => self.mark(word, text)?,
         }

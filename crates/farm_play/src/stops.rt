@@ -1,12 +1,11 @@
 //! Steps, stopped at each call of the store.
-use crate::desk::{does, in_words, store_of};
-use crate::player::Player;
+use crate::desk::Desk;
+use crate::player::{Player, found};
 use crate::script::Step;
-use crate::store::{Disks, Failing, crashed, found, with_fuse};
+use crate::store::{Disks, Failing, InFiles, with_fuse};
 use crate::teller::{Teller, is_wanted};
-use farm_keep::{KeepFault, Keeper};
-use sqlite::{Alter, Files};
-use sqlite_disk::{Crash, Disk, Fuse, Memory};
+use farm_keep::KeepFault;
+use sqlite::{Alter, Connection};
 use std::alloc::Global;
 use std::io;
 
@@ -26,7 +25,7 @@ struct Run<'a> {
 }
 
 /// How far a run came, and how it ended.
-#[derive(Clone, Copy, PartialEq, Eq)]
+#[derive(Clone, Copy)]
 enum End {
     /// All steps were answered.
     Whole,
@@ -36,17 +35,17 @@ enum End {
     Wrong,
 }
 
-/// Whether an answer tells that a call of the store failed.
-fn is_store_fault(output: &[u8]) -> bool {
-    output.ends_with(STORE_FAULT.as_bytes())
+/// Whether an answer ends with that text.
+fn ends_with(output: &[u8], text: &str) -> bool {
+    output.ends_with(text.as_bytes())
 }
 
 impl<'a> Run<'a> {
     /// Plays the steps from a place on, up to the store's fault.
-    fn play<S: Alter>(&self, keeper: &mut Keeper<S>, from: usize) -> io::Result<End> {
+    fn play<S: Alter + Drop>(&self, desk: &mut Desk<S>, from: usize) -> io::Result<End> {
         for (place, step) in self.steps.iter().enumerate().skip(from) {
-            let output = does(self.alloc, keeper, step)?;
-            if is_store_fault(output.as_slice()) && !is_wanted(step, output.as_slice()) {
+            let output = desk.does(self.alloc, step)?;
+            if ends_with(output.as_slice(), STORE_FAULT) && !is_wanted(step, output.as_slice()) {
                 return Ok(End::Fault(place));
             }
             if !self.teller.judge(step, output.as_slice())? {
@@ -56,15 +55,15 @@ impl<'a> Run<'a> {
         Ok(End::Whole)
     }
 
-    /// After how many steps the keeper's farm stood: those that were answered or, after a fault,
+    /// After how many steps the farm stood: those that were answered or, after a fault,
     /// perhaps one more.
-    fn place_of<S: Alter>(&self, end: End, keeper: &Keeper<S>) -> io::Result<Option<usize>> {
+    fn place_of<S: Alter + Drop>(&self, end: End, desk: &Desk<S>) -> io::Result<Option<usize>> {
         let (done, most) = match end {
             End::Whole => (self.steps.len(), self.steps.len()),
             End::Fault(done) => (done, done.saturating_add(1)),
             End::Wrong => return Ok(None),
         };
-        let words = in_words(self.alloc, keeper)?;
+        let words = desk.in_words(self.alloc)?;
         for (place, farm) in self.farms.iter().enumerate() {
             if done <= place && place <= most && *farm == words {
                 return Ok(Some(place));
@@ -73,61 +72,66 @@ impl<'a> Run<'a> {
         Ok(None)
     }
 
-    /// The keeper's farm is that of the steps that were answered, and the rest leads to the end.
-    fn goes_on<S: Alter>(&self, keeper: &mut Keeper<S>, end: End) -> io::Result<bool> {
-        let Some(place) = self.place_of(end, keeper)? else {
+    /// The farm is that of the steps that were answered, and the rest leads to the end.
+    fn goes_on<S: Alter + Drop>(&self, desk: &mut Desk<S>, end: End) -> io::Result<bool> {
+        let Some(place) = self.place_of(end, desk)? else {
             return self.teller.fails("another farm is found");
         };
-        let end = self.play(keeper, place)?;
-        if end == End::Whole && self.place_of(end, keeper)?.is_some() {
+        let end = self.play(desk, place)?;
+        if matches!(end, End::Whole) && self.place_of(end, desk)?.is_some() {
             return Ok(true);
         }
         self.teller.fails("the rest leads to another farm")
     }
 
-    /// Plays the steps up to the store's fault, which closes the keeper; how that ended, and the
-    /// store.
-    fn first<S: Alter + Drop>(&self, mut keeper: Keeper<S>) -> io::Result<(End, S)> {
-        let mut end = self.play(&mut keeper, 0)?;
-        if matches!(end, End::Fault(_)) && keeper.farm().is_some() {
+    /// Plays the steps up to the store's fault, which closes the keeper; how that ended.
+    fn first<S: Alter + Drop>(&self, desk: &mut Desk<S>) -> io::Result<End> {
+        let end = self.play(desk, 0)?;
+        if matches!(end, End::Fault(_)) && desk.is_open() {
             self.teller.fails("a fault left the farm open")?;
-            end = End::Wrong;
+            return Ok(End::Wrong);
         }
-        Ok((end, store_of(keeper)))
+        Ok(end)
     }
 
     /// Goes on with the farm that is found.
     fn second<S: Alter + Drop>(
         &self,
-        found: Result<Keeper<S>, KeepFault>,
+        found: Result<Desk<S>, KeepFault>,
         end: End,
     ) -> io::Result<bool> {
         match found {
-            Ok(mut keeper) => self.goes_on(&mut keeper, end),
+            Ok(mut desk) => self.goes_on(&mut desk, end),
             Err(_) => self.teller.fails("no farm is found"),
         }
     }
 
     /// Plays the steps up to the store's fault, and goes on with what is found after a crash.
     /// Whether the store was stopped; None where it went wrong, which is told.
-    fn is_stopped<D: Crash + Drop>(&self, files: Files<D>) -> io::Result<Option<bool>> {
-        let Ok(keeper) = found(self.alloc, files) else {
+    fn is_stopped<S: Alter + Drop>(&self, files: Disks) -> io::Result<Option<bool>>
+    where
+        Connection<S>: InFiles<S>,
+    {
+        let Ok(mut desk) = found::<S>(self.alloc, files) else {
             return Ok(Some(true));
         };
-        let (end, store) = self.first(keeper)?;
-        let (files, was_stopped) = crashed(store);
+        let end = self.first(&mut desk)?;
+        let (files, was_stopped) = Connection::<S>::crashed(desk.into_store());
         let is_well = match end {
             End::Wrong => false,
             End::Fault(_) if !was_stopped => self.teller.fails("a fault without a stop")?,
-            _ => self.second(found(self.alloc, files), end)?,
+            _ => self.second(found::<S>(self.alloc, files), end)?,
         };
         Ok(is_well.then_some(was_stopped))
     }
 
     /// Runs stopped at each call of one of the files, until no stop is met; whether all is well.
-    fn stops_each(&self, files: &Disks, failing: Failing) -> io::Result<bool> {
+    fn stops_each<S: Alter + Drop>(&self, files: &Disks, failing: Failing) -> io::Result<bool>
+    where
+        Connection<S>: InFiles<S>,
+    {
         for calls in 0..MANY {
-            match self.is_stopped(with_fuse(self.alloc, files, failing, calls)?)? {
+            match self.is_stopped::<S>(with_fuse(self.alloc, files, failing, calls)?)? {
                 Some(true) => {}
                 Some(false) => return Ok(true),
                 None => return self.teller.fails_after(calls),
@@ -139,12 +143,15 @@ impl<'a> Run<'a> {
 
 /// The farms in words before the first step and after each, in a run that isn't stopped; None where
 /// a step gives what isn't wanted.
-fn farms_of(
+fn farms_of<S: Alter + Drop>(
     alloc: Global,
     teller: &Teller<'_>,
-    player: &mut Player<Fuse<Memory>>,
+    player: &mut Player<S>,
     steps: &[Step],
-) -> io::Result<Option<Vec<String>>> {
+) -> io::Result<Option<Vec<String>>>
+where
+    Connection<S>: InFiles<S>,
+{
     let mut farms = Vec::new(alloc);
     farms.push(player.in_words()?)?;
     for step in steps {
@@ -158,12 +165,15 @@ fn farms_of(
 
 /// Plays steps that ask, stopped at each call of the log and then of the tables' file; leaves the
 /// farm of a run that isn't stopped. Whether all is well.
-pub fn plays_stops(
+pub fn plays_stops<S: Alter + Drop>(
     alloc: Global,
     teller: &Teller<'_>,
-    player: &mut Player<Fuse<Memory>>,
+    player: &mut Player<S>,
     steps: &[Step],
-) -> io::Result<bool> {
+) -> io::Result<bool>
+where
+    Connection<S>: InFiles<S>,
+{
     let Some(files) = player.copy() else {
         return teller.fails("no farm to stop");
     };
@@ -176,5 +186,5 @@ pub fn plays_stops(
         steps,
         farms: farms.as_slice(),
     };
-    Ok(run.stops_each(&files, Failing::Log)? && run.stops_each(&files, Failing::Tables)?)
+    Ok(run.stops_each::<S>(&files, Failing::Log)? && run.stops_each::<S>(&files, Failing::Tables)?)
 }

@@ -1,23 +1,50 @@
 //! Stores in two files in memory, each of which may stop at a call.
-use crate::desk::{adopt, executed, fresh};
-use farm_keep::{KeepFault, Keeper};
 use sqlite::{Connection, FileStore, Files, Options};
 use sqlite_disk::{Crash, Disk, Fuse, Memory};
-use std::alloc::{AllocError, Global};
+use std::alloc::Global;
 use std::io;
 
 /// The two files.
 pub type Disks = Files<Fuse<Memory>>;
 
+/// The store in them.
+pub type DiskStore = FileStore<Fuse<Memory>>;
+
 /// Which file stops.
-#[derive(Clone, Copy, PartialEq, Eq)]
+#[derive(Clone, Copy)]
 pub enum Failing {
     Log,
     Tables,
 }
 
-/// With a small cache, and a log that is soon copied into the tables' file; None where a stop comes
-/// before the store is open.
+/// A connection to a store `S` in two files, as a player opens and ends it. All else that plays is for
+/// any store, so that little is proved of this one.
+pub trait InFiles<S> {
+    /// With a small cache, and a log that is soon copied into the tables' file; None where a stop comes
+    /// before the store is open.
+    fn opened(alloc: Global, files: Disks) -> Option<Self>;
+
+    /// The files of a store that ends in order: its log is copied into the tables' file.
+    fn closed(self) -> Option<Disks>;
+
+    /// What the files of a store are after a crash, and whether one of them was stopped.
+    fn crashed(store: S) -> (Disks, bool);
+}
+
+impl InFiles<DiskStore> for Connection<DiskStore> {
+    fn opened(alloc: Global, files: Disks) -> Option<Connection<DiskStore>> {
+        opened(alloc, files)
+    }
+
+    fn closed(self) -> Option<Disks> {
+        closed(self)
+    }
+
+    fn crashed(store: DiskStore) -> (Disks, bool) {
+        crashed(store)
+    }
+}
+
 fn opened<D: Disk + Drop>(alloc: Global, files: Files<D>) -> Option<Connection<FileStore<D>>> {
     if !files.may_be_used() {
         return None;
@@ -28,35 +55,20 @@ fn opened<D: Disk + Drop>(alloc: Global, files: Files<D>) -> Option<Connection<F
         checkpoint_frames: 8,
         seed: 200,
     };
-    Connection::open_files(alloc, files, options).ok()
+    match Connection::open_files(alloc, files, options) {
+        Ok(conn) => Some(conn),
+        Err(_) => None,
+    }
 }
 
-/// A keeper of the empty farm, whose tables it makes in new files.
-pub fn made<D: Disk + Drop>(alloc: Global, files: Files<D>) -> Option<Keeper<FileStore<D>>> {
-    fresh(alloc, opened(alloc, files))
-}
-
-/// A keeper of the farm that these files hold.
-pub fn found<D: Disk + Drop>(
-    alloc: Global,
-    files: Files<D>,
-) -> Result<Keeper<FileStore<D>>, KeepFault> {
-    adopt(alloc, opened(alloc, files))
-}
-
-/// The files of a store that ends in order: its log is copied into the tables' file.
-pub fn closed<D: Disk + Drop>(conn: Connection<FileStore<D>>) -> Option<Files<D>> {
-    conn.close_files().ok()
-}
-
-/// One statement on the store in these files, and how many rows it changed.
-pub fn executed_in<D: Disk + Drop>(
-    alloc: Global,
-    files: Files<D>,
-    statement: &str,
-) -> Option<(Files<D>, String)> {
-    let (conn, text) = executed(alloc, opened(alloc, files)?, statement)?;
-    Some((closed(conn)?, text))
+fn closed<D: Disk + Drop>(conn: Connection<FileStore<D>>) -> Option<Files<D>> {
+    match conn.close_files() {
+        Ok(files) => Some(files),
+        Err((_, store)) => {
+            drop(store.close());
+            None
+        }
+    }
 }
 
 /// Leaves of a file what a crash does; whether a call of it has failed or would fail now.
@@ -66,8 +78,7 @@ fn crash<D: Crash>(file: &mut D) -> bool {
     was_stopped
 }
 
-/// What the files of a store are after a crash, and whether it was stopped.
-pub fn crashed<D: Crash + Drop>(store: FileStore<D>) -> (Files<D>, bool) {
+fn crashed<D: Crash + Drop>(store: FileStore<D>) -> (Files<D>, bool) {
     let mut files = store.close();
     let log = crash(&mut files.log);
     let tables = crash(&mut files.db);

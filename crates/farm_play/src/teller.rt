@@ -20,15 +20,23 @@ pub fn is_wanted(step: &Step, output: &[u8]) -> bool {
     if step.wanted.is_empty() {
         return output.is_empty();
     }
-    step.wanted.iter().any(|wanted| wanted.as_slice() == output)
+    for wanted in &step.wanted {
+        if wanted.as_slice() == output {
+            return true;
+        }
+    }
+    false
 }
 
 /// The first place where two texts differ.
 fn place_of_difference(one: &[u8], other: &[u8]) -> usize {
-    one.iter()
-        .zip(other.iter())
-        .position(|(first, second)| first != second)
-        .unwrap_or(one.len().min(other.len()))
+    for (place, byte) in one.iter().enumerate() {
+        match other.get(place) {
+            Some(found) if *found == *byte => {}
+            _ => return place,
+        }
+    }
+    one.len()
 }
 
 /// Some bytes from a place on, as a message shows them.
@@ -53,7 +61,7 @@ impl<'a> Teller<'a> {
             return Ok(());
         }
         let (head, body) = (shown(step.head.as_slice()), shown(step.body.as_slice()));
-        if step.deed == Deed::Say {
+        if matches!(step.deed, Deed::Say) {
             return println!(self.rt; "\n== {head}\n");
         }
         let (now, word, output) = (step.now, step.deed.word(), shown(output));

@@ -13,6 +13,22 @@ pub fn unread() -> io::Error {
     io::Error::from(ErrorKind::InvalidData)
 }
 
+/// A number as a line has it.
+pub fn number_of(text: &str) -> io::Result<u64> {
+    match text.parse::<u64>() {
+        Ok(number) => Ok(number),
+        Err(_) => Err(unread()),
+    }
+}
+
+/// A status as a line has it.
+pub fn status_of(text: &str) -> io::Result<u16> {
+    match text.parse::<u16>() {
+        Ok(status) => Ok(status),
+        Err(_) => Err(unread()),
+    }
+}
+
 /// Where in an escape a text is.
 #[derive(Clone, Copy)]
 enum Place {
@@ -95,11 +111,19 @@ const REASONS: [(u16, &str); 9] = [
     (503, "Service Unavailable"),
 ];
 
+/// What stands behind that HTTP status.
+fn reason_of(status: u16) -> io::Result<&'static str> {
+    for (number, reason) in &REASONS {
+        if *number == status {
+            return Ok(reason);
+        }
+    }
+    Err(unread())
+}
+
 /// A whole answer with that status, those further fields and that body.
 pub fn answer(alloc: Global, status: u16, fields: &str, body: &str) -> io::Result<String> {
-    let Some((_, reason)) = REASONS.iter().find(|(number, _)| *number == status) else {
-        return Err(unread());
-    };
+    let reason = reason_of(status)?;
     let length = body.len();
     Ok(format!(in alloc;
         "HTTP/1.1 {status} {reason}\r\ncontent-type: application/json\r\ncontent-length: {length}\r\nconnection: close\r\n{fields}\r\n{body}"
