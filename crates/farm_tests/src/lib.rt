@@ -36,6 +36,8 @@ mod rows;
 #[cfg(test)]
 mod search;
 #[cfg(test)]
+mod served;
+#[cfg(test)]
 mod stores;
 #[cfg(test)]
 mod tables;
