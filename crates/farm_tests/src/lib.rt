@@ -8,6 +8,8 @@ mod asked;
 #[cfg(test)]
 mod clients;
 #[cfg(test)]
+mod copies;
+#[cfg(test)]
 mod created;
 #[cfg(test)]
 mod displayed;
