@@ -1,14 +1,12 @@
 //! Serving clients that are known beforehand: what each is answered, byte by byte, and the farm
 //! afterwards.
 use crate::answered::{DONE, made};
-use crate::created::{opened, stopping};
 use crate::requests::FIRST_TYPE;
 use farm_desk::fault::DeskFault;
 use farm_desk::known::{KnownClients, Sent};
 use farm_desk::serve::serve;
-use farm_keep::{KeepFault, Keeper};
-use sqlite::{Alter, Connection, Files};
-use sqlite_disk::Disk;
+use farm_keep::Keeper;
+use sqlite::{Alter, Connection};
 use std::alloc::Global;
 use std::process::Abort;
 use std::test::Fail;
@@ -42,9 +40,6 @@ const BAD: &[u8] =
 const STATUS: &[u8] =
     b"HTTP/1.1 200 OK\r\ncontent-type: application/json\r\ncontent-length: 86\r\nconnection: close\r\n\r\n{\"boards\":0,\"clock\":1700000000,\"count\":1,\"jobs\":0,\"next\":1,\"reservations\":0,\"types\":1}";
 
-const STORE_FAULT: &[u8] =
-    b"HTTP/1.1 503 Service Unavailable\r\ncontent-type: application/json\r\ncontent-length: 32\r\nconnection: close\r\n\r\n{\"code\":60,\"text\":\"store fault\"}";
-
 /// The clients that went are these: what each was answered, and what stayed of what it sent.
 fn expect_gone(rt: &impl Abort, clients: &KnownClients<'_>, wanted: &[(&[u8], &[u8])]) {
     let gone = clients.gone();
@@ -76,7 +71,8 @@ fn serve_some<S: Alter>(
     serve(alloc, keeper, clients, max)
 }
 
-/// A head is refused at its first line, and what follows that stays unread. Four are served, then the last, and then nobody is left.
+/// A head is refused at its first line, and what follows that stays unread. Four are served, then the
+/// last, and then nobody is left.
 fn serve_all<S: Alter + Drop>(
     rt: &impl Abort,
     alloc: Global,
@@ -99,44 +95,4 @@ fn serve_all<S: Alter + Drop>(
 fn known_clients(rt: HostRuntime) -> Result<(), Fail> {
     let alloc = rt.alloc();
     serve_all(&rt, alloc, Connection::open_in_memory(alloc)?)
-}
-
-/// A store that fails at the first command ends the serving: its client is told so, and nobody else is
-/// taken, then or later. None where the farm isn't made.
-fn serve_failing<S: Alter + Drop>(
-    rt: &impl Abort,
-    alloc: Global,
-    conn: Connection<S>,
-) -> Option<Result<(), DeskFault>> {
-    let mut keeper = made(alloc, conn)?;
-    let all = five();
-    let mut clients = KnownClients::new(alloc, &all).ok()?;
-    let end = serve_some(alloc, &mut keeper, &mut clients, 9);
-    expect_gone(rt, &clients, &[(STORE_FAULT, b"")]);
-    let again = serve_some(alloc, &mut keeper, &mut clients, 9);
-    assert_eq!(rt; again, Err(DeskFault::Keep(KeepFault::Closed)));
-    assert_eq!(rt; clients.gone().len(), 1);
-    Some(end)
-}
-
-/// The same over two files; none where the store isn't opened.
-fn serve_files<D: Disk + Drop>(
-    rt: &impl Abort,
-    alloc: Global,
-    files: Files<D>,
-) -> Option<Result<(), DeskFault>> {
-    serve_failing(rt, alloc, opened(alloc, files)?)
-}
-
-#[test]
-fn known_clients_of_a_failing_store(rt: HostRuntime) -> Result<(), Fail> {
-    let alloc = rt.alloc();
-    for calls in 0..1000 {
-        let (log, db) = (stopping(alloc, calls), stopping(alloc, u64::MAX));
-        if let Some(end) = serve_files(&rt, alloc, Files { log, db }) {
-            assert_eq!(rt; end, Err(DeskFault::Keep(KeepFault::Store)));
-            return Ok(());
-        }
-    }
-    Err(Fail::new("no desk was opened"))
 }
