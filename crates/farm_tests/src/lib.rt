@@ -8,8 +8,6 @@ mod asked;
 #[cfg(test)]
 mod clients;
 #[cfg(test)]
-mod copies;
-#[cfg(test)]
 mod created;
 #[cfg(test)]
 mod displayed;
@@ -37,8 +35,6 @@ mod requests;
 mod rows;
 #[cfg(test)]
 mod search;
-#[cfg(test)]
-mod served;
 #[cfg(test)]
 mod stores;
 #[cfg(test)]
