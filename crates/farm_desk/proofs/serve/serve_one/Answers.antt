@@ -14,10 +14,10 @@ returns-clause-serves g c =
 pub returns-clause-converses : goal.returns-clause-converses
 returns-clause-converses g c =
     let said = conversation g.S.Store
-        (desk c.args.keeper.now (g.R.Read.remaining c.args.reader.now) (g.W.Write.contents c.args.writer.now))
-        (desk c.converse_through.new.keeper (g.R.Read.remaining (reader_of c.converse_through.new.reader)) (g.W.Write.contents (writer_of c.converse_through.new.writer)))
-        c.args.now _ c.converse_through.result
-        (rw (c.new-reader.ensures.reader, c.new-writer.ensures.writer) at c.converse_through.ensures.told)
-        (λ read. rw c.new-writer.ensures.writer at (c.converse_through.ensures.unread read).0)
-        (λ read. (c.converse_through.ensures.unread read).2) in
+    (desk c.args.keeper.now (g.R.Read.remaining c.args.reader.now) (g.W.Write.contents c.args.writer.now))
+    (desk c.converse_through.new.keeper (g.R.Read.remaining (reader_of c.converse_through.new.reader)) (g.W.Write.contents (writer_of c.converse_through.new.writer)))
+    c.args.now _ c.converse_through.result
+    (rw (c.new-reader.ensures.reader, c.new-writer.ensures.writer) at c.converse_through.ensures.told)
+    (λ read. rw c.new-writer.ensures.writer at (c.converse_through.ensures.unread read).0)
+    (λ read. (c.converse_through.ensures.unread read).2) in
     search rules
