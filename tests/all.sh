@@ -13,11 +13,11 @@ costing() {
     python3 tests/costs.py "$folder/costs" "$@"
 }
 
-# Runs a script, which takes seconds, for ten minutes at most: one that waits for ever fails.
+# Runs a script, which takes seconds to minutes, for twenty minutes at most: one that waits for ever fails.
 limited() {
     kind=$1
     shift
-    costing "$kind" timeout -k 10 600 "$@"
+    costing "$kind" timeout -k 10 1200 "$@"
 }
 
 passed=0
