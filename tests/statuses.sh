@@ -89,6 +89,48 @@ with sqlite3.connect(sys.argv[1]) as file: file.execute(sys.argv[2])' "$1" "$2"
     fi
 }
 
+# Demands that an init over a farm is refused, and that its file and its log stay, byte by byte.
+no_second_init() {
+    cp "$1" before
+    cp "$1-wal" before-wal
+    expect 4 '' "$store_fault" init --db "$1"
+    cmp -s before "$1" && cmp -s before-wal "$1-wal" || fail "an init that was refused changed $1"
+}
+
+# The tables of a file and their rows, as statements.
+tables() {
+    if command -v sqlite3 > /dev/null; then
+        sqlite3 "$1" .dump
+    else
+        python3 -c 'import sqlite3, sys
+print("\n".join(sqlite3.connect(sys.argv[1]).iterdump()))' "$1"
+    fi
+}
+
+# Demands that an order on a file of no sound farm is told so, and leaves its tables: FILE ORDER WORDS..
+refuses() {
+    file=$1
+    order=$2
+    shift 2
+    tables "$file" > before
+    expect 4 '' "$bad_store" "$order" --db "$file" "$@"
+    tables "$file" > after
+    cmp -s before after || fail "farm $order, which told bad store, changed the tables of $file"
+}
+
+# A job of ann's for a board of the type bbb: FILE AT NUMBER.
+submits() {
+    request ann POST /jobs 'device_type = "bbb"
+job_name = "boot"'
+    answers 0 '200 OK' "{\"number\":$3}" once --db "$1" --at "$2"
+}
+
+# Demands that this job is there, waits and is told whole: FILE AT NUMBER.
+has_job() {
+    printf 'GET /jobs/%d HTTP/1.1\r\n\r\n' "$3" > input
+    answers 0 '200 OK' "{\"board\":\"\",\"group\":$3,\"kind\":\"ordinary\",\"number\":$3,\"owner\":\"ann\",\"priority\":50,\"result\":\"\",\"role\":\"\",\"state\":\"Submitted\",\"tags\":[],\"text\":\"device_type = \\\"bbb\\\"\\njob_name = \\\"boot\\\"\",\"type\":\"bbb\"}" once --db "$1" --at "$2"
+}
+
 first_type() {
     printf 'POST /types HTTP/1.1\r\nx-user: admin\r\ncontent-length: 14\r\n\r\n{"name":"bbb"}' > input
 }
@@ -138,11 +180,16 @@ answers 3 '409 Conflict' '{"code":11,"text":"type exists"}' once --db twice.db -
 expect 0 '' '' report --db twice.db --west 60 boards
 
 # init_twice: the second is refused, and the farm of the first stays, byte by byte.
-cp twice.db before
-expect 4 '' "$store_fault" init --db twice.db
-cmp -s before twice.db || fail "a second init changed the file"
+no_second_init twice.db
 printf 'GET /types HTTP/1.1\r\n\r\n' > input
 answers 0 '200 OK' '{"types":[{"check":"none","every":0,"name":"bbb"}]}' once --db twice.db --at 1700000000
+
+# init_over_a_job: where a farm with a job is there, init is refused, and the job stands as before.
+good_board job.db
+submits job.db 20 1
+no_second_init job.db
+has_job job.db 20 1
+expect 0 ' 50         1 group       1 ann' '' report --db job.db queue
 
 # file_without_tables: the store's fault comes before that of a lab file that isn't there, and of input.
 first_type
@@ -267,10 +314,21 @@ assert sqlite3.sqlite_version_info >= (3, 37)' 2> /dev/null; then
     change bad.db 'UPDATE boards SET state = 2'
     expect 4 '' "$bad_store" report --db bad.db boards
 
+    # damaged_farm_with_a_job: each order that opens it is refused and changes nothing; once the damage is
+    # undone, the job stands as before.
+    good_board damaged.db
+    submits damaged.db 20 1
+    change damaged.db 'UPDATE boards SET state = 2'
+    printf 'GET /jobs/1 HTTP/1.1\r\n\r\n' > input
+    refuses damaged.db report queue
+    refuses damaged.db import --at 20 missing.toml
+    refuses damaged.db once --at 20
+    refuses damaged.db serve --port $port --max 0
+    change damaged.db 'UPDATE boards SET state = 0'
+    has_job damaged.db 20 1
+
     # file_with_board_held_twice: by a scheduled job, and by a reservation.
-    request ann POST /jobs 'device_type = "bbb"
-job_name = "boot"'
-    answers 0 '200 OK' '{"number":2}' once --db reservation.db --at 30
+    submits reservation.db 30 2
     expect 0 ' 50         2 group       1 ann' '' report --db reservation.db queue
     change reservation.db "UPDATE jobs SET state = 1, board = 'b1' WHERE number = 2"
     expect 4 '' "$bad_store" report --db reservation.db boards
@@ -282,9 +340,7 @@ job_name = "boot"'
     expect 0 'Good        Idle     none                  2023-11-14 23:13:20 b1 bbb' '' report --db checked.db --east 60 boards
 
     # job_view: a text that no job file has, with each kind of byte that JSON escapes.
-    request ann POST /jobs 'device_type = "bbb"
-job_name = "boot"'
-    answers 0 '200 OK' '{"number":1}' once --db checked.db --at 1700000000
+    submits checked.db 1700000000 1
     change checked.db "UPDATE jobs SET body = char(34, 233, 92, 10, 1)"
     printf 'GET /jobs/1 HTTP/1.1\r\n\r\n' > input
     answers 0 '200 OK' '{"board":"","group":1,"kind":"ordinary","number":1,"owner":"ann","priority":50,"result":"","role":"","state":"Submitted","tags":[],"text":"\"é\\\n\u0001","type":"bbb"}' once --db checked.db --at 1700000000
