@@ -74,6 +74,10 @@ refuses "invalid value '18446744073709551616'" once --memory --at 18446744073709
 refuses 'cannot be used multiple times' once --memory --at 1 --at 2
 refuses "unexpected argument 'more'" once --memory --at 1 more
 refuses "unexpected argument '--east'" once --memory --at 1 --east 5
+# The byte 0xff stands in no UTF-8 text.
+refuses 'invalid UTF-8 was detected in one or more arguments' "$(printf '\377')"
+refuses 'invalid UTF-8 was detected in one or more arguments' init --db "$(printf 'f\377')"
+refuses 'invalid UTF-8 was detected in one or more arguments' once --memory --at "$(printf '1\377')"
 [ "$(echo *)" = 'errors input output' ] || fail "refused words made a file"
 
 # ---- help

@@ -2,9 +2,19 @@
 #![tactic(auto)]
 
 use farm_desk::fault::DeskFault;
-use farm_desk::program::{program, tell};
-use std::env;
+use farm_desk::program::{WRONG_WORDS, program, tell};
+use std::io::{ErrorKind, Write};
 use std::process::ExitCode;
+use std::{env, io};
+
+/// What is told where a word is no text: the words of `clap` for it, which is given texts alone.
+const NO_TEXT: &str = "\
+error: invalid UTF-8 was detected in one or more arguments
+
+Usage: farm <COMMAND>
+
+For more information, try '--help'.
+";
 
 fn main(rt: HostRuntime) -> ExitCode {
     let alloc = rt.alloc();
@@ -13,7 +23,7 @@ fn main(rt: HostRuntime) -> ExitCode {
             Ok(words) => words,
             Err(_) => return ExitCode::from(tell(&mut rt.stderr(), DeskFault::NoMemory)),
         },
-        Err(_) => return ExitCode::from(tell(&mut rt.stderr(), DeskFault::NoMemory)),
+        Err(error) => return ExitCode::from(refuse_words(&mut rt.stderr(), &error)),
     };
     ExitCode::from(program(
         &rt,
@@ -23,4 +33,14 @@ fn main(rt: HostRuntime) -> ExitCode {
         &mut rt.stdout(),
         &mut rt.stderr(),
     ))
+}
+
+/// Tells `errors` why there are no words, and gives the exit status: one of them is no UTF-8, or
+/// there is no memory for them.
+fn refuse_words<E: Write>(errors: &mut E, error: &io::Error) -> u8 {
+    if error.kind() == ErrorKind::InvalidData {
+        let _ = errors.write_all(NO_TEXT.as_bytes());
+        return WRONG_WORDS;
+    }
+    tell(errors, DeskFault::NoMemory)
 }

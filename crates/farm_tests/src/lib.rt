@@ -8,6 +8,8 @@ mod asked;
 #[cfg(test)]
 mod clients;
 #[cfg(test)]
+mod copies;
+#[cfg(test)]
 mod created;
 #[cfg(test)]
 mod displayed;
@@ -35,6 +37,8 @@ mod requests;
 mod rows;
 #[cfg(test)]
 mod search;
+#[cfg(test)]
+mod served;
 #[cfg(test)]
 mod stores;
 #[cfg(test)]

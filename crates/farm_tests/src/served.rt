@@ -1,0 +1,109 @@
+//! Serving clients that are known beforehand: what each is answered, byte by byte, and the farm
+//! afterwards.
+use crate::answered::{DONE, made};
+use crate::requests::FIRST_TYPE;
+use farm_desk::fault::DeskFault;
+use farm_desk::known::{KnownClients, Sent};
+use farm_desk::serve::serve;
+use farm_keep::Keeper;
+use sqlite::{Alter, Connection};
+use std::alloc::Global;
+use std::process::Abort;
+use std::test::Fail;
+
+/// The request for the first type, and bytes behind it.
+const TYPE_AND_MORE: &[u8] =
+    b"POST /types HTTP/1.1\r\nx-user: admin\r\ncontent-length: 14\r\n\r\n{\"name\":\"bbb\"}and more";
+
+/// Five clients, and when they come.
+fn five() -> [Sent<'static>; 5] {
+    [
+        sent(1_700_000_000, FIRST_TYPE),
+        sent(1_700_000_007, TYPE_AND_MORE),
+        sent(1_700_000_008, b"GET /status\r\n\r\n"),
+        sent(1_700_000_009, b"GET /status HTTP/1.1\r\n\r\n"),
+        sent(1_700_000_010, FIRST_TYPE),
+    ]
+}
+
+fn sent(now: u64, bytes: &'static [u8]) -> Sent<'static> {
+    Sent { now, bytes }
+}
+
+const EXISTS: &[u8] =
+    b"HTTP/1.1 409 Conflict\r\ncontent-type: application/json\r\ncontent-length: 32\r\nconnection: close\r\n\r\n{\"code\":11,\"text\":\"type exists\"}";
+
+const BAD: &[u8] =
+    b"HTTP/1.1 400 Bad Request\r\ncontent-type: application/json\r\ncontent-length: 32\r\nconnection: close\r\n\r\n{\"code\":50,\"text\":\"bad request\"}";
+
+/// The farm with one type, whose command came first.
+const STATUS: &[u8] =
+    b"HTTP/1.1 200 OK\r\ncontent-type: application/json\r\ncontent-length: 86\r\nconnection: close\r\n\r\n{\"boards\":0,\"clock\":1700000000,\"count\":1,\"jobs\":0,\"next\":1,\"reservations\":0,\"types\":1}";
+
+/// The clients that went are these: what each was answered, and what stayed of what it sent.
+fn expect_gone(rt: &impl Abort, clients: &KnownClients<'_>, wanted: &[(&[u8], &[u8])]) {
+    let gone = clients.gone();
+    assert_eq!(rt; gone.len(), wanted.len());
+    for (client, (answer, rest)) in gone.iter().zip(wanted) {
+        assert_eq!(rt; client.answer.as_slice(), *answer);
+        assert_eq!(rt; client.rest, *rest);
+    }
+}
+
+/// How many commands were accepted, and when the last; none where the keeper is closed.
+fn count_and_clock<S: Alter>(keeper: &Keeper<S>) -> Option<(u64, u64)> {
+    match keeper.farm() {
+        Some(farm) => {
+            let status = farm.status();
+            Some((status.count, status.clock))
+        }
+        None => None,
+    }
+}
+
+/// Serves so many clients of those that are known.
+fn serve_some<S: Alter>(
+    alloc: Global,
+    keeper: &mut Keeper<S>,
+    clients: &mut KnownClients<'_>,
+    max: u64,
+) -> Result<(), DeskFault> {
+    serve(alloc, keeper, clients, max)
+}
+
+/// A head is refused at its first line, and what follows that stays unread. Four are served, then the
+/// last, and then nobody is left.
+fn serve_all<S: Alter + Drop>(
+    rt: &impl Abort,
+    alloc: Global,
+    conn: Connection<S>,
+) -> Result<(), Fail> {
+    let mut keeper = made(alloc, conn).ok_or("no farm")?;
+    let all = five();
+    let mut clients = KnownClients::new(alloc, &all)?;
+    serve_some(alloc, &mut keeper, &mut clients, 4)?;
+    let four: [(&[u8], &[u8]); 4] = [
+        (DONE, b""),
+        (EXISTS, b"and more"),
+        (BAD, b"\r\n"),
+        (STATUS, b""),
+    ];
+    expect_gone(rt, &clients, &four);
+    assert_eq!(rt; count_and_clock(&keeper), Some((1, 1_700_000_000)));
+    serve_some(alloc, &mut keeper, &mut clients, 9)?;
+    let all_five: [(&[u8], &[u8]); 5] = [
+        (DONE, b""),
+        (EXISTS, b"and more"),
+        (BAD, b"\r\n"),
+        (STATUS, b""),
+        (EXISTS, b""),
+    ];
+    expect_gone(rt, &clients, &all_five);
+    Ok(())
+}
+
+#[test]
+fn known_clients(rt: HostRuntime) -> Result<(), Fail> {
+    let alloc = rt.alloc();
+    serve_all(&rt, alloc, Connection::open_in_memory(alloc)?)
+}
