@@ -2,9 +2,11 @@
 //!
 //! `converse` reads one request, acts on the farm or looks at it, and writes one answer; `import`
 //! adds what a lab file lists; `serve` converses with one client after another, and `serve_on` with
-//! those of a listener; `program` is the program `farm`. `specs/` says what a conversation is, in the
-//! order Heard, Answers, Due, Ends, what an import is in Imports, whom serving serves in Clients and
-//! Visits, and what it makes of a farm in Serving.
+//! those of a listener; `program` is the program `farm`.
+//!
+//! Read `specs/` in the order Heard, Answers, Made, Due, Ends, which say what a conversation is; Imports,
+//! what an import is; Conversations, Clients, Known, Visits, Serving, what serving does; InFiles, what
+//! stands in files; Faults, Lines, Reports, what the program tells.
 #![tactic(auto)]
 
 mod accepted;

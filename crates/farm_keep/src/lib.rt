@@ -2,7 +2,9 @@
 //!
 //! A `Keeper` has a farm and the store that keeps it. A command is answered only after the store
 //! has committed what it changed, so a keeper that is made again from the store finds every command
-//! that was answered. `specs/` says what that means, in the order Kept, Runs, Headline, Restarts.
+//! that was answered.
+//!
+//! Read `specs/` in the order Kept, Runs, Headline, Restarts, Lives; Faults has the faults' numbers.
 #![tactic(auto)]
 
 mod fault;

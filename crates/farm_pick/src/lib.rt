@@ -1,4 +1,6 @@
 //! Which boards are given to a claim, and which claim goes first. Only the queue takes memory.
+//!
+//! Read `specs/` in the order Test, Choice, Least, Queue.
 #![tactic(auto)]
 
 mod candidates;

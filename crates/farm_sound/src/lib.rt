@@ -2,7 +2,9 @@
 //! the exact test whether rows are those of a sound farm, and look-ups in tables by binary search.
 //!
 //! `laws` says what is proved of the machine's definitions; `sound` decides them at run time, row by
-//! row as `specs/Told.antt` says; `seek` finds rows.
+//! row; `seek` finds rows.
+//!
+//! Read `specs/` in the order Place, Told, Served.
 #![tactic(auto)]
 
 mod board;

@@ -1,7 +1,8 @@
 //! The words, rows, calls and refusals of the board farm, and in `specs/` the whole machine.
 //!
-//! Read `specs/` in the order Words, Tags, Codes, Refusals, Proper, Table, Farm, Pick, Pass, Refuse,
-//! Change, Machine, Sound.
+//! Read `specs/` in the order Words, Table, Tags, Reads, Codes, Refusals, Limits, Proper, Farm, Pick,
+//! Pass, Refuse, Change, Machine, Sound, Small; then the scripts that are computed from them: Worked,
+//! WorkedJobs, WorkedChecks, WorkedReservations, WorkedWhole.
 #![tactic(auto)]
 
 pub mod asked;

@@ -4,7 +4,8 @@
 //! and JSON text (`answers`). Reading requests and writing answers whole is `farm_http`'s; its public
 //! names stand here again, so that a server needs this crate alone.
 //!
-//! Read `specs/` in the order Reading, Places, Sender, Fields, Parameters, Commands, Asked; then Shown, Replies.
+//! Read `specs/` in the order Reading, Places, Sender, Fields, Parameters, Commands, Asked; then Shown,
+//! JobWords, Whole, Replies.
 #![tactic(auto)]
 
 pub mod allowed;
