@@ -14,6 +14,7 @@ use Rattle.farm_types.specs.declared.rows.ResRow.{ResRow}
 use Rattle.farm_types.specs.declared.calls.Changes.{Changes}
 use Rattle.farm_core.specs.Orderly.{IsOrderly, IsNear}
 use Rattle.farm_core.specs.Tracks.{Tracks}
+use Rattle.farm_core.specs.Drafted.{IsWhole}
 use Rattle.farm_core.proofs.Edited.{put_all_join}
 use Rattle.farm_core.proofs.Small.{all_put, all_push}
 
@@ -72,6 +73,9 @@ module _ (F : Farm) (row : TypeRow) (small : IsSmallType row) (types : List Type
     };
   }
 
+  pub whole_type : {E : Farm} {c : Changes} (log : Vec TypeRow Global) → IsWhole E c F → log.items ≡ c.types.items ++ row ∷ [] → types ≡ put type_cmp F.types row → IsStrictlySortedBy type_cmp types → IsWhole E (record c { types = log }) (record F { types = types })
+  whole_type {E = E} {c = c} log whole logged is sorted = record { orderly = orderly_type whole.orderly is sorted; tracked = tracks_type log c logged is E whole.tracked }
+
 -- a board is put
 pub with_boards : (F : Farm) (row : BoardRow) (boards : List BoardRow) → boards ≡ put board_cmp F.boards row → record F { boards = boards } ≡ record F { boards = put board_cmp F.boards row }
 with_boards F row boards is = ap (λ rows. record F { boards = rows }) is
@@ -106,6 +110,9 @@ module _ (F : Farm) (row : BoardRow) (small : IsSmallBoard row) (boards : List B
       boards = all_behind IsSmallBoard c.boards.items log.items row small t.small.boards logged;
     };
   }
+
+  pub whole_board : {E : Farm} {c : Changes} (log : Vec BoardRow Global) → IsWhole E c F → log.items ≡ c.boards.items ++ row ∷ [] → boards ≡ put board_cmp F.boards row → IsStrictlySortedBy board_cmp boards → IsWhole E (record c { boards = log }) (record F { boards = boards })
+  whole_board {E = E} {c = c} log whole logged is sorted = record { orderly = orderly_board whole.orderly is sorted; tracked = tracks_board log c logged is E whole.tracked }
 
 -- a job is put
 pub with_jobs : (F : Farm) (row : JobRow) (jobs : List JobRow) → jobs ≡ put job_cmp F.jobs row → record F { jobs = jobs } ≡ record F { jobs = put job_cmp F.jobs row }
@@ -142,6 +149,9 @@ module _ (F : Farm) (row : JobRow) (small : IsSmallJob row) (jobs : List JobRow)
     };
   }
 
+  pub whole_job : {E : Farm} {c : Changes} (near : IsNear row) → (log : Vec JobRow Global) → IsWhole E c F → log.items ≡ c.jobs.items ++ row ∷ [] → jobs ≡ put job_cmp F.jobs row → IsStrictlySortedBy job_cmp jobs → IsWhole E (record c { jobs = log }) (record F { jobs = jobs })
+  whole_job {E = E} {c = c} near log whole logged is sorted = record { orderly = orderly_job near whole.orderly is sorted; tracked = tracks_job log c logged is E whole.tracked }
+
 -- a reservation is put
 pub with_reservations : (F : Farm) (row : ResRow) (reservations : List ResRow) → reservations ≡ put res_cmp F.reservations row → record F { reservations = reservations } ≡ record F { reservations = put res_cmp F.reservations row }
 with_reservations F row reservations is = ap (λ rows. record F { reservations = rows }) is
@@ -176,3 +186,6 @@ module _ (F : Farm) (row : ResRow) (small : IsSmallRes row) (reservations : List
       reservations = all_behind IsSmallRes c.reservations.items log.items row small t.small.reservations logged;
     };
   }
+
+  pub whole_res : {E : Farm} {c : Changes} (log : Vec ResRow Global) → IsWhole E c F → log.items ≡ c.reservations.items ++ row ∷ [] → reservations ≡ put res_cmp F.reservations row → IsStrictlySortedBy res_cmp reservations → IsWhole E (record c { reservations = log }) (record F { reservations = reservations })
+  whole_res {E = E} {c = c} log whole logged is sorted = record { orderly = orderly_res whole.orderly is sorted; tracked = tracks_res log c logged is E whole.tracked }

@@ -1,5 +1,5 @@
 -- What an edit of one table keeps of the whole farm.
-use Rattle.std.proofs.Common.{◌≡◌, ◌++◌, List, map, Bool, ap, ◌∙◌, Vec, Global}
+use Rattle.std.proofs.Common.{◌≡◌, ℕ, ◌++◌, List, map, Bool, ap, ◌∙◌, Vec, Global}
 use Rattle.std.specs.List.{filter}
 use Rattle.std.specs.Cmp.{on_total, nat_cmp_total}
 use Rattle.std.specs.Cmp.Lexicographic.{nat_list_cmp_total}
@@ -16,6 +16,7 @@ use Rattle.farm_types.specs.declared.rows.BoardRow.{BoardRow}
 use Rattle.farm_types.specs.declared.calls.Changes.{Changes}
 use Rattle.farm_core.specs.Orderly.{IsOrderly, IsNear}
 use Rattle.farm_core.specs.Tracks.{Tracks}
+use Rattle.farm_core.specs.Drafted.{IsWhole}
 use Rattle.farm_core.proofs.Edited.{all_changed, sorted_changed, puts_logged, small_logged}
 
 -- jobs keep their number and group
@@ -63,6 +64,9 @@ module _ (F : Farm) (test : JobRow → Bool) (f : JobRow → JobRow) (keeps : Ke
     };
   }
 
+  pub whole_jobs : {E : Farm} {c : Changes} (log : Vec JobRow Global) → log.items ≡ c.jobs.items ++ map f (filter test F.jobs) → Tracks E c F → IsWhole E (record c { jobs = log }) (record F { jobs = jobs })
+  whole_jobs {E = E} {c = c} log logged t = record { orderly = orderly_jobs; tracked = tracks_jobs log E c logged t }
+
 module _ (F : Farm) (test : ResRow → Bool) (f : ResRow → ResRow) (keeps : (r : ResRow) → (f r).number ≡ r.number) (small : (r : ResRow) → IsSmallRes r → IsSmallRes (f r)) (orderly : IsOrderly F) (reservations : List ResRow) (is : reservations ≡ change_where test f F.reservations) where
   tied_res : (r : ResRow) → res_cmp (f r) r ≡ Equal
   tied_res r = ap (λ n. nat_cmp n r.number) (keeps r) ∙ tied_itself nat_cmp_total r.number
@@ -97,6 +101,9 @@ module _ (F : Farm) (test : ResRow → Bool) (f : ResRow → ResRow) (keeps : (r
     };
   }
 
+  pub whole_reservations : {E : Farm} {c : Changes} (log : Vec ResRow Global) → log.items ≡ c.reservations.items ++ map f (filter test F.reservations) → Tracks E c F → IsWhole E (record c { reservations = log }) (record F { reservations = reservations })
+  whole_reservations {E = E} {c = c} log logged t = record { orderly = orderly_reservations; tracked = tracks_reservations log E c logged t }
+
 module _ (F : Farm) (test : BoardRow → Bool) (f : BoardRow → BoardRow) (keeps : (b : BoardRow) → (f b).name ≡ b.name) (small : (b : BoardRow) → IsSmallBoard b → IsSmallBoard (f b)) (orderly : IsOrderly F) (boards : List BoardRow) (is : boards ≡ change_where test f F.boards) where
   tied_board : (b : BoardRow) → board_cmp (f b) b ≡ Equal
   tied_board b = ap (λ n. text_cmp n b.name) (keeps b) ∙ tied_itself nat_list_cmp_total b.name
@@ -130,3 +137,27 @@ module _ (F : Farm) (test : BoardRow → Bool) (f : BoardRow → BoardRow) (keep
       boards = small_logged test f board_cmp (on_total (λ (r : BoardRow). r.name) nat_list_cmp_total) tied_board IsSmallBoard small c.boards.items log.items F.boards orderly.small_boards t.small.boards logged;
     };
   }
+
+  pub whole_boards : {E : Farm} {c : Changes} (log : Vec BoardRow Global) → log.items ≡ c.boards.items ++ map f (filter test F.boards) → Tracks E c F → IsWhole E (record c { boards = log }) (record F { boards = boards })
+  whole_boards {E = E} {c = c} log logged t = record { orderly = orderly_boards; tracked = tracks_boards log E c logged t }
+
+-- the next number is in no table
+pub whole_next : {E : Farm} {c : Changes} (F : Farm) (n : ℕ) → IsWhole E c F → IsWhole E c (record F { next = n })
+whole_next F n whole =
+    let o = whole.orderly in
+    let t = whole.tracked in
+    record {
+      orderly = record {
+        types = o.types;
+        boards = o.boards;
+        jobs = o.jobs;
+        reservations = o.reservations;
+        kept = o.kept;
+        small_types = o.small_types;
+        small_boards = o.small_boards;
+        small_jobs = o.small_jobs;
+        small_reservations = o.small_reservations;
+        near = o.near;
+      };
+      tracked = record { types = t.types; boards = t.boards; jobs = t.jobs; reservations = t.reservations; kept = t.kept; small = t.small };
+    }

@@ -1,6 +1,7 @@
 pub mod Plain
 pub mod Orderly
 pub mod Tracks
+pub mod Drafted
 pub mod Edits
 pub mod Calls
 pub mod Serving

@@ -3,10 +3,11 @@ use Rattle.std.specs.Prelude.{◌≡◌, ◌==◌, ◌+◌, ℕ, Bool, true, fal
 use Rattle.std.specs.Str.{bytes_eq}
 use Rattle.farm_types.specs.Table.{change_where}
 use Rattle.farm_types.specs.Farm.{Farm, members, res_of}
-use Rattle.farm_types.specs.Pass.{allocated, held, scheduled}
+use Rattle.farm_types.specs.Pass.{allocated, held, scheduled, serve}
 use Rattle.farm_types.specs.Pick.{Claimed}
 use Rattle.farm_types.specs.declared.rows.Holder.{Holder}
 use Rattle.farm_types.specs.declared.rows.State.{State}
+use Rattle.farm_core.specs.Drafted.{Drafted}
 
 -- a job, told by its number, is given the board of a name
 abbrev pub give_named : Farm → ℕ × List ℕ → Farm
@@ -31,3 +32,7 @@ Asks false F c = c.wants ≡ map (λ m. m.want) (members F c.number)
 -- one more, if a claim was served
 abbrev pub counted : ℕ → Bool → ℕ
 counted n served = if served then n + 1 else n
+
+-- serving the claim, the machine comes to the farm that the draft comes to
+abbrev pub Serves : Drafted → Claimed → Bool → Drafted → Type 0
+Serves D c served E = ((n : ℕ) → serve D.farm.clock (record { farm = D.farm; claims = n }) c ≡ record { farm = E.farm; claims = counted n served }) × (E.start ≡ D.start)

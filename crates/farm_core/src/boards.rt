@@ -8,10 +8,12 @@ ghost use Rattle.farm_types.specs.Pick.{is_nobody};
 ghost use Rattle.farm_types.specs.Refuse.{first_code, board_is, is_retired};
 ghost use Rattle.farm_types.specs.Change.{act, done};
 ghost use Rattle.farm_types.specs.declared.calls.Cmd.{Cmd};
+ghost use Rattle.farm_core.specs.Drafted.{Acts};
 ghost use Rattle.farm_core.specs.Plain.{plain};
 ghost use Rattle.farm_core.specs.Orderly.{IsOrderly};
 ghost use Rattle.farm_core.specs.Tracks.{Tracks};
 
+use crate::draft::Draft;
 use crate::tables::Tables;
 use farm_types::calls::Changes;
 use farm_types::refusal::{BOARD_EXISTS, HELD, NO_BOARD, NO_TYPE, RETIRED};
@@ -49,34 +51,6 @@ impl Tables {
         None
     }
 
-    /// Adds a board, in Maintenance and in nobody's hands.
-    pub fn add_board(
-        &mut self,
-        changes: &mut Changes,
-        name: &Name,
-        kind: &Name,
-        tags: &Tags,
-    ) -> Result<u64, AllocError>
-        requires { IsOrderly (plain self.old) }
-        ensures acts { IfOk result (λ n. act (plain self.old) [] (Cmd.AddBoard name.now kind.now tags.now) ≡ done n (plain self.new)) }
-        ensures orderly { OnOk result (IsOrderly (plain self.new)) }
-        ensures tracked { OnOk result ((F : Farm) → Tracks F changes.old (plain self.old)
-            → Tracks F changes.new (plain self.new)) }
-    {
-        let row = BoardRow {
-            name: name.copy()?,
-            kind: kind.copy()?,
-            tags: tags.copy()?,
-            health: Health::Maintenance,
-            state: State::Idle,
-            holder: Holder::Nobody,
-            jobs_since: 0,
-            last_check: 0,
-        };
-        self.put_board(changes, row)?;
-        Ok(0)
-    }
-
     /// Why a board's tags aren't set.
     pub fn refuse_set_tags(&self, name: &Name) -> Option<u16>
         requires { IsOrderly (plain self.now) }
@@ -91,28 +65,6 @@ impl Tables {
                 None
             }
         }
-    }
-
-    /// Sets a board's tags.
-    pub fn set_tags(
-        &mut self,
-        changes: &mut Changes,
-        name: &Name,
-        tags: &Tags,
-    ) -> Result<u64, AllocError>
-        requires { IsOrderly (plain self.old) }
-        ensures acts { IfOk result (λ n. act (plain self.old) [] (Cmd.SetTags name.now tags.now) ≡ done n (plain self.new)) }
-        ensures orderly { OnOk result (IsOrderly (plain self.new)) }
-        ensures tracked { OnOk result ((F : Farm) → Tracks F changes.old (plain self.old)
-            → Tracks F changes.new (plain self.new)) }
-    {
-        let mut row = match self.find_board(name) {
-            None => return Ok(0),
-            Some(row) => row.copy()?,
-        };
-        row.tags = tags.copy()?;
-        self.put_board(changes, row)?;
-        Ok(0)
     }
 
     /// Why a board's health isn't set.
@@ -135,26 +87,52 @@ impl Tables {
             }
         }
     }
+}
+
+impl Draft {
+    /// Adds a board, in Maintenance and in nobody's hands.
+    pub fn add_board(
+        self,
+        name: &Name,
+        kind: &Name,
+        tags: &Tags,
+    ) -> Result<(Draft, u64), AllocError>
+        ensures { IfOk result (λ r. Acts self [] (Cmd.AddBoard name.now kind.now tags.now) r.1 r.0) }
+    {
+        let row = BoardRow {
+            name: name.copy()?,
+            kind: kind.copy()?,
+            tags: tags.copy()?,
+            health: Health::Maintenance,
+            state: State::Idle,
+            holder: Holder::Nobody,
+            jobs_since: 0,
+            last_check: 0,
+        };
+        Ok((self.put_board(row)?, 0))
+    }
+
+    /// Sets a board's tags.
+    pub fn set_tags(self, name: &Name, tags: &Tags) -> Result<(Draft, u64), AllocError>
+        ensures { IfOk result (λ r. Acts self [] (Cmd.SetTags name.now tags.now) r.1 r.0) }
+    {
+        let mut row = match self.tables.find_board(name) {
+            None => return Ok((self, 0)),
+            Some(row) => row.copy()?,
+        };
+        row.tags = tags.copy()?;
+        Ok((self.put_board(row)?, 0))
+    }
 
     /// Sets a board's health.
-    pub fn set_health(
-        &mut self,
-        changes: &mut Changes,
-        name: &Name,
-        health: Health,
-    ) -> Result<u64, AllocError>
-        requires { IsOrderly (plain self.old) }
-        ensures acts { IfOk result (λ n. act (plain self.old) [] (Cmd.SetHealth name.now health) ≡ done n (plain self.new)) }
-        ensures orderly { OnOk result (IsOrderly (plain self.new)) }
-        ensures tracked { OnOk result ((F : Farm) → Tracks F changes.old (plain self.old)
-            → Tracks F changes.new (plain self.new)) }
+    pub fn set_health(self, name: &Name, health: Health) -> Result<(Draft, u64), AllocError>
+        ensures { IfOk result (λ r. Acts self [] (Cmd.SetHealth name.now health) r.1 r.0) }
     {
-        let mut row = match self.find_board(name) {
-            None => return Ok(0),
+        let mut row = match self.tables.find_board(name) {
+            None => return Ok((self, 0)),
             Some(row) => row.copy()?,
         };
         row.health = health;
-        self.put_board(changes, row)?;
-        Ok(0)
+        Ok((self.put_board(row)?, 0))
     }
 }

@@ -5,91 +5,20 @@ ghost use Rattle.farm_types.specs.Refuse.{refusal};
 ghost use Rattle.farm_types.specs.Change.{act, done, keep, change};
 ghost use Rattle.farm_types.specs.Sound.{IsSound};
 ghost use Rattle.farm_types.specs.declared.calls.Cmd.{Cmd};
+ghost use Rattle.farm_core.specs.Drafted.{at_farm, Acts};
 ghost use Rattle.farm_core.specs.Plain.{plain};
 ghost use Rattle.farm_core.specs.Orderly.{IsOrderly};
 ghost use Rattle.farm_core.specs.Calls.{IsSmallCmd};
 ghost use Rattle.farm_core.specs.Tracks.{Tracks, AreSmallRows, IsSmallReply};
 
+use crate::draft::Draft;
 use crate::tables::{Tables, no_changes};
 use farm_types::calls::{Call, Changes, Cmd};
 use farm_types::rows::{KeptRow, MetaRow, Reply};
 use std::alloc::AllocError;
+use std::mem::replace;
 
 impl Tables {
-    /// What the command does.
-    fn act(&mut self, changes: &mut Changes, call: &Call) -> Result<Reply, AllocError>
-        requires sound { IsSound (plain self.old) }
-        requires orderly { IsOrderly (plain self.old) }
-        requires small { IsSmallCmd call.now.cmd }
-        requires clock { (plain self.old).clock ≤ 250000000000 }
-        requires next { (plain self.old).next ≤ 1000000000 }
-        ensures farm { OnOk result (plain self.new ≡ (act (plain self.old) call.entry.now.caller call.entry.now.cmd).farm) }
-        ensures reply { IfOk result (λ reply. reply ≡ (act (plain self.old) call.entry.now.caller call.entry.now.cmd).reply) }
-        ensures orderly { OnOk result (IsOrderly (plain self.new)) }
-        ensures tracked { OnOk result ((F : Farm) → Tracks F changes.old (plain self.old)
-            → Tracks F changes.new (plain self.new)) }
-    {
-        match &call.cmd {
-            Cmd::Pass => self.pass(changes),
-            _ => Ok(Reply(self.act_numbered(changes, call)?, 0, 0)),
-        }
-    }
-
-    /// What a command other than a pass does. Gives the number of its reply.
-    fn act_numbered(&mut self, changes: &mut Changes, call: &Call) -> Result<u64, AllocError>
-        requires numbered { call.now.cmd ≢ Cmd.Pass }
-        requires orderly { IsOrderly (plain self.old) }
-        requires small { IsSmallCmd call.now.cmd }
-        requires clock { (plain self.old).clock ≤ 250000000000 }
-        requires next { (plain self.old).next ≤ 1000000000 }
-        ensures acts { IfOk result (λ n. act (plain self.old) call.entry.now.caller call.entry.now.cmd ≡ done n (plain self.new)) }
-        ensures orderly { OnOk result (IsOrderly (plain self.new)) }
-        ensures tracked { OnOk result ((F : Farm) → Tracks F changes.old (plain self.old)
-            → Tracks F changes.new (plain self.new)) }
-    {
-        match &call.cmd {
-            Cmd::AddType(name, check) => self.add_type(changes, name, *check),
-            Cmd::AddBoard(name, kind, tags) => self.add_board(changes, name, kind, tags),
-            Cmd::SetTags(name, tags) => self.set_tags(changes, name, tags),
-            Cmd::SetHealth(name, health) => self.set_health(changes, name, *health),
-            Cmd::Submit(priority, wants, roles, body) => {
-                self.submit(changes, &call.caller, *priority, wants, roles, body)
-            }
-            Cmd::Reserve(priority, tags) => self.reserve(changes, &call.caller, *priority, tags),
-            Cmd::Cancel(number) => self.cancel(changes, *number),
-            Cmd::Start(number) => self.start(changes, *number),
-            Cmd::Finish(number, outcome) => self.finish(changes, *number, *outcome),
-            Cmd::Acquire(number) => self.acquire(changes, *number),
-            Cmd::Release(number) => self.release(changes, *number),
-            Cmd::Refresh(number) => self.refresh(changes, *number),
-            Cmd::CancelRes(number) => self.cancel_reservation(changes, *number),
-            Cmd::Pass => unreachable!(),
-        }
-    }
-
-    /// Keeps the reply under the call's key, if it has one.
-    fn keep(&mut self, changes: &mut Changes, call: &Call, reply: Reply) -> Result<(), AllocError>
-        requires orderly { IsOrderly (plain self.old) }
-        requires small { IsSmallReply reply }
-        ensures farm { OnOk result (plain self.new ≡ keep call.entry.now reply (plain self.old)) }
-        ensures orderly { OnOk result (IsOrderly (plain self.new)) }
-        ensures tracked { OnOk result ((F : Farm) → Tracks F changes.old (plain self.old)
-            → Tracks F changes.new (plain self.new)) }
-    {
-        match &call.key {
-            None => Ok(()),
-            Some(key) => {
-                let row = KeptRow {
-                    caller: call.caller.copy()?,
-                    key: key.copy()?,
-                    kind: call.cmd.kind(),
-                    reply,
-                };
-                self.put_kept(changes, row)
-            }
-        }
-    }
-
     /// The command is done, its reply kept, the clock moved and the command counted.
     #[tactic(auto, unfolding(farm_types::specs::Change::change))]
     pub fn change(&mut self, call: &Call) -> Result<(Reply, Changes), AllocError>
@@ -103,9 +32,13 @@ impl Tables {
     {
         let count = self.count + 1;
         self.clock = self.clock.max(call.now);
-        let mut changes = no_changes(*self.types.allocator());
-        let reply = self.act(&mut changes, call)?;
-        self.keep(&mut changes, call, reply)?;
+        let none = Tables::new(*self.types.allocator());
+        // A `?` on the way leaves no rows.
+        let draft = Draft::of(replace(self, none));
+        let (draft, reply) = draft.act(call)?;
+        let draft = draft.keep(call, reply)?;
+        let (tables, mut changes) = draft.into_parts();
+        *self = tables;
         self.count = count;
         changes.meta = MetaRow {
             clock: self.clock,
@@ -113,5 +46,72 @@ impl Tables {
             next: self.next,
         };
         Ok((reply, changes))
+    }
+}
+
+impl Draft {
+    /// What the command does.
+    fn act(self, call: &Call) -> Result<(Draft, Reply), AllocError>
+        requires sound { IsSound self.farm }
+        requires small { IsSmallCmd call.now.cmd }
+        requires clock { self.farm.clock ≤ 250000000000 }
+        requires next { self.farm.next ≤ 1000000000 }
+        ensures farm { IfOk result (λ r. r.0 ≡ at_farm (act self.farm call.entry.now.caller call.entry.now.cmd).farm self) }
+        ensures reply { IfOk result (λ r. r.1 ≡ (act self.farm call.entry.now.caller call.entry.now.cmd).reply) }
+    {
+        match &call.cmd {
+            Cmd::Pass => self.pass(),
+            _ => {
+                let (draft, number) = self.act_numbered(call)?;
+                Ok((draft, Reply(number, 0, 0)))
+            }
+        }
+    }
+
+    /// What a command other than a pass does. Gives the number of its reply.
+    fn act_numbered(self, call: &Call) -> Result<(Draft, u64), AllocError>
+        requires numbered { call.now.cmd ≢ Cmd.Pass }
+        requires small { IsSmallCmd call.now.cmd }
+        requires clock { self.farm.clock ≤ 250000000000 }
+        requires next { self.farm.next ≤ 1000000000 }
+        ensures { IfOk result (λ r. Acts self call.entry.now.caller call.entry.now.cmd r.1 r.0) }
+    {
+        match &call.cmd {
+            Cmd::AddType(name, check) => self.add_type(name, *check),
+            Cmd::AddBoard(name, kind, tags) => self.add_board(name, kind, tags),
+            Cmd::SetTags(name, tags) => self.set_tags(name, tags),
+            Cmd::SetHealth(name, health) => self.set_health(name, *health),
+            Cmd::Submit(priority, wants, roles, body) => {
+                self.submit(&call.caller, *priority, wants, roles, body)
+            }
+            Cmd::Reserve(priority, tags) => self.reserve(&call.caller, *priority, tags),
+            Cmd::Cancel(number) => self.cancel(*number),
+            Cmd::Start(number) => self.start(*number),
+            Cmd::Finish(number, outcome) => self.finish(*number, *outcome),
+            Cmd::Acquire(number) => self.acquire(*number),
+            Cmd::Release(number) => self.release(*number),
+            Cmd::Refresh(number) => self.refresh(*number),
+            Cmd::CancelRes(number) => self.cancel_reservation(*number),
+            Cmd::Pass => unreachable!(),
+        }
+    }
+
+    /// Keeps the reply under the call's key, if it has one.
+    fn keep(self, call: &Call, reply: Reply) -> Result<Draft, AllocError>
+        requires { IsSmallReply reply }
+        ensures { IfOk result (λ d. d ≡ at_farm (keep call.entry.now reply self.farm) self) }
+    {
+        match &call.key {
+            None => Ok(self),
+            Some(key) => {
+                let row = KeptRow {
+                    caller: call.caller.copy()?,
+                    key: key.copy()?,
+                    kind: call.cmd.kind(),
+                    reply,
+                };
+                self.put_kept(row)
+            }
+        }
     }
 }

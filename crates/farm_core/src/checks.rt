@@ -4,10 +4,12 @@ ghost use Rattle.farm_types.specs.Farm.{Farm};
 ghost use Rattle.farm_types.specs.Pass.{check_job, check_one, checks, is_due, is_due_by, is_reached};
 ghost use Rattle.farm_types.specs.Pick.{check_of, is_nobody};
 ghost use Rattle.farm_types.specs.declared.rows.BoardRow.{BoardRow};
+ghost use Rattle.farm_core.specs.Drafted.{at_farm};
 ghost use Rattle.farm_core.specs.Plain.{plain};
 ghost use Rattle.farm_core.specs.Orderly.{IsOrderly};
 ghost use Rattle.farm_core.specs.Tracks.{Tracks};
 
+use crate::draft::Draft;
 use crate::tables::Tables;
 use farm_types::calls::Changes;
 use farm_types::fault::WordFault;
@@ -114,44 +116,41 @@ impl Tables {
         matches!(board.holder, Holder::Nobody)
             && is_due_by(self.check_of(&board.kind), self.clock, board)
     }
+}
 
+impl Draft {
     /// Checks the board at a place, where there is room for one more job.
-    fn check_board(&mut self, changes: &mut Changes, at: usize) -> Result<(), AllocError>
-        requires orderly { IsOrderly (plain self.old) }
-        requires within { at < length (plain self.old).boards }
-        ensures farm { OnOk result ((b : BoardRow) → b ≡ get_or (plain self.old).boards at b → plain self.new ≡ check_one (plain self.old) b) }
-        ensures orderly { OnOk result (IsOrderly (plain self.new)) }
-        ensures tracked { OnOk result ((F : Farm) → Tracks F changes.old (plain self.old)
-            → Tracks F changes.new (plain self.new)) }
+    fn check_board(self, at: usize) -> Result<Draft, AllocError>
+        requires { at < length self.farm.boards }
+        ensures { IfOk result (λ d. (b : BoardRow) → b ≡ get_or self.farm.boards at b → d ≡ at_farm (check_one self.farm b) self) }
     {
-        if !self.has_room(1) {
-            return Ok(());
+        if !self.tables.has_room(1) {
+            return Ok(self);
         }
-        let number = self.next;
-        let row = check_job(*self.jobs.allocator(), number, &self.boards[at])?;
-        let name = self.boards[at].name.copy()?;
-        self.put_job(changes, row)?;
-        self.hold_board(changes, &name, Holder::Job(number))?;
-        self.next = number + 1;
-        Ok(())
+        let number = self.tables.next;
+        let board = &self.tables.boards[at];
+        let row = check_job(*self.tables.jobs.allocator(), number, board)?;
+        let name = board.name.copy()?;
+        let draft = self.put_job(row)?;
+        let draft = draft.hold_board(&name, Holder::Job(number))?;
+        Ok(draft.with_next(number + 1))
     }
 
     /// Checks each due board in name order, while there is room. Gives how many. With B boards it
     /// looks at each once, and a check adds its row at the end of the jobs.
-    pub fn checks(&mut self, changes: &mut Changes) -> Result<u64, AllocError>
-        requires { IsOrderly (plain self.old) }
-        ensures farm { OnOk result (plain self.new ≡ checks (plain self.old) (plain self.old).clock) }
-        ensures count { IfOk result (λ n. n ≡ (checks (plain self.old) (plain self.old).clock).next - (plain self.old).next) }
-        ensures orderly { OnOk result (IsOrderly (plain self.new)) }
-        ensures tracked { OnOk result ((F : Farm) → Tracks F changes.old (plain self.old)
-            → Tracks F changes.new (plain self.new)) }
+    pub fn checks(self) -> Result<(Draft, u64), AllocError>
+        ensures farm { IfOk result (λ r. r.0 ≡ at_farm (checks self.farm self.farm.clock) self) }
+        ensures count { IfOk result (λ r. r.1 ≡ (checks self.farm self.farm.clock).next - self.farm.next) }
     {
-        let first = self.next;
-        for at in 0..self.boards.len() {
-            if self.is_due(&self.boards[at]) {
-                self.check_board(changes, at)?;
+        let first = self.tables.next;
+        let count = self.tables.boards.len();
+        let mut draft = self;
+        for at in 0..count {
+            if draft.tables.is_due(&draft.tables.boards[at]) {
+                draft = draft.check_board(at)?;
             }
         }
-        Ok(self.next - first)
+        let checked = draft.tables.next - first;
+        Ok((draft, checked))
     }
 }

@@ -1,5 +1,5 @@
 //! Boards are given to jobs and reservations.
-ghost use Rattle.std.specs.Prelude.{◌≡◌, ◌≤◌, OnOk};
+ghost use Rattle.std.specs.Prelude.{◌≡◌, ◌≤◌, ◌∷◌, [], OnOk, IfOk};
 ghost use Rattle.std.specs.List.{AllByRecursion, fold, zip};
 ghost use Rattle.std.specs.List.Sorted.{IsStrictlySortedBy};
 ghost use Rattle.std.specs.Str.{bytes_eq};
@@ -8,11 +8,13 @@ ghost use Rattle.farm_types.specs.Farm.{Farm};
 ghost use Rattle.farm_types.specs.Pass.{held};
 ghost use Rattle.farm_types.specs.Small.{IsSmall, held_by};
 ghost use Rattle.farm_types.specs.declared.rows.State.{State};
+ghost use Rattle.farm_core.specs.Drafted.{at_farm};
 ghost use Rattle.farm_core.specs.Plain.{plain};
 ghost use Rattle.farm_core.specs.Orderly.{IsOrderly, IsWindow};
 ghost use Rattle.farm_core.specs.Serving.{give_named, give_first};
 ghost use Rattle.farm_core.specs.Tracks.{Tracks};
 
+use crate::draft::Draft;
 use crate::edit::change_rows;
 use crate::held::Hold;
 use crate::job_edit::JobEdit;
@@ -36,88 +38,68 @@ fn window_of(boards: &[BoardRow], name: &Name) -> (usize, usize)
     }
 }
 
-impl Tables {
+impl Draft {
     /// The board of that name is reserved for a holder. With B boards it costs O(log B).
-    pub fn hold_board(
-        &mut self,
-        changes: &mut Changes,
-        name: &Name,
-        holder: Holder,
-    ) -> Result<(), AllocError>
-        requires orderly { IsOrderly (plain self.old) }
-        requires small { IsSmall (held_by holder) }
-        ensures farm { OnOk result (plain self.new ≡ record (plain self.old) { boards = change_where (λ c. bytes_eq c.name name.now) (held holder State.Reserved) (plain self.old).boards }) }
-        ensures orderly { OnOk result (IsOrderly (plain self.new)) }
-        ensures tracked { OnOk result ((F : Farm) → Tracks F changes.old (plain self.old)
-            → Tracks F changes.new (plain self.new)) }
+    pub fn hold_board(mut self, name: &Name, holder: Holder) -> Result<Draft, AllocError>
+        requires { IsSmall (held_by holder) }
+        ensures { IfOk result (λ d. d ≡ at_farm (record self.farm { boards = change_where (λ c. bytes_eq c.name name.now) (held holder State.Reserved) self.farm.boards }) self) }
     {
-        let (start, end) = window_of(&self.boards, name);
+        let (start, end) = window_of(&self.tables.boards, name);
         let hold = Hold { name, holder };
-        change_rows(&mut self.boards, &mut changes.boards, start, end, &hold)?;
-        Ok(())
+        change_rows(
+            &mut self.tables.boards,
+            &mut self.changes.boards,
+            start,
+            end,
+            &hold,
+        )?;
+        Ok(self)
     }
 
     /// A job is given the board of that name.
-    fn give_job(
-        &mut self,
-        changes: &mut Changes,
-        number: u64,
-        name: &Name,
-    ) -> Result<(), AllocError>
-        requires orderly { IsOrderly (plain self.old) }
-        requires small { IsSmall number }
-        ensures farm { OnOk result (plain self.new ≡ give_named (plain self.old) (number, name.now)) }
-        ensures orderly { OnOk result (IsOrderly (plain self.new)) }
-        ensures tracked { OnOk result ((F : Farm) → Tracks F changes.old (plain self.old)
-            → Tracks F changes.new (plain self.new)) }
+    fn give_job(self, number: u64, name: &Name) -> Result<Draft, AllocError>
+        requires { IsSmall number }
+        ensures { IfOk result (λ d. d ≡ at_farm (give_named self.farm (number, name.now)) self) }
     {
-        self.edit_jobs(changes, JobEdit::Schedule(number, name))?;
-        self.hold_board(changes, name, Holder::Job(number))?;
-        Ok(())
+        let draft = self.edit_jobs(JobEdit::Schedule(number, name))?;
+        let draft = draft.hold_board(name, Holder::Job(number))?;
+        Ok(draft)
     }
 
     /// Each job is given the board at its place among the names.
-    pub fn give_jobs(
-        &mut self,
-        changes: &mut Changes,
-        numbers: &[u64],
-        names: &[Name],
-    ) -> Result<(), AllocError>
-        requires orderly { IsOrderly (plain self.old) }
-        requires small { AllByRecursion IsSmall numbers.now }
-        ensures farm { OnOk result (plain self.new ≡ fold give_named (plain self.old) (zip numbers.now names.now)) }
-        ensures orderly { OnOk result (IsOrderly (plain self.new)) }
-        ensures tracked { OnOk result ((F : Farm) → Tracks F changes.old (plain self.old)
-            → Tracks F changes.new (plain self.new)) }
+    pub fn give_jobs(self, numbers: &[u64], names: &[Name]) -> Result<Draft, AllocError>
+        requires { AllByRecursion IsSmall numbers.now }
+        ensures { IfOk result (λ d. d ≡ at_farm (fold give_named self.farm (zip numbers.now names.now)) self) }
     {
         let count = numbers.len().min(names.len());
+        let mut draft = self;
         for at in 0..count {
-            self.give_job(changes, numbers[at], &names[at])?;
+            draft = draft.give_job(numbers[at], &names[at])?;
         }
-        Ok(())
+        Ok(draft)
+    }
+
+    /// A reservation is given the board of that name, for a lease from now on.
+    fn give_reservation(self, number: u64, name: &Name) -> Result<Draft, AllocError>
+        requires small { IsSmall number }
+        requires clock { self.farm.clock ≤ 250000000000 }
+        ensures { IfOk result (λ d. d ≡ at_farm (give_first self.farm number (name.now ∷ [])) self) }
+    {
+        let deadline = self.tables.clock + LEASE_SECONDS;
+        let draft = self.edit_reservation(number, ResEdit::Allocate(number, name, deadline))?;
+        let draft = draft.hold_board(name, Holder::Res(number))?;
+        Ok(draft)
     }
 
     /// A reservation is given the first board of the names, for a lease from now on.
-    pub fn give_first(
-        &mut self,
-        changes: &mut Changes,
-        number: u64,
-        names: &[Name],
-    ) -> Result<(), AllocError>
-        requires orderly { IsOrderly (plain self.old) }
+    pub fn give_first(self, number: u64, names: &[Name]) -> Result<Draft, AllocError>
         requires small { IsSmall number }
-        requires clock { (plain self.old).clock ≤ 250000000000 }
-        ensures farm { OnOk result (plain self.new ≡ give_first (plain self.old) number names.now) }
-        ensures orderly { OnOk result (IsOrderly (plain self.new)) }
-        ensures tracked { OnOk result ((F : Farm) → Tracks F changes.old (plain self.old)
-            → Tracks F changes.new (plain self.new)) }
+        requires clock { self.farm.clock ≤ 250000000000 }
+        ensures { IfOk result (λ d. d ≡ at_farm (give_first self.farm number names.now) self) }
     {
-        let Some(name) = names.first() else {
-            return Ok(());
-        };
-        let deadline = self.clock + LEASE_SECONDS;
-        self.edit_reservation(changes, number, ResEdit::Allocate(number, name, deadline))?;
-        self.hold_board(changes, name, Holder::Res(number))?;
-        Ok(())
+        match names.first() {
+            None => Ok(self),
+            Some(name) => self.give_reservation(number, name),
+        }
     }
 }

@@ -1,5 +1,5 @@
 //! The edits of the tables: rows are changed in their places, and logged.
-ghost use Rattle.std.specs.Prelude.{◌≡◌, ◌++◌, ◌≤◌, ◌<◌, ◌==◌, ℕ, false, map, length, get_or, OnOk};
+ghost use Rattle.std.specs.Prelude.{◌≡◌, ◌++◌, ◌≤◌, ◌<◌, ◌==◌, ℕ, false, map, length, get_or, OnOk, IfOk};
 ghost use Rattle.std.specs.List.{filter};
 ghost use Rattle.std.specs.List.Sorted.{IsStrictlySortedBy};
 ghost use Rattle.farm_types.specs.Table.{job_cmp, res_cmp, change_where};
@@ -8,11 +8,13 @@ ghost use Rattle.farm_types.specs.Pass.{change_jobs, change_res};
 ghost use Rattle.farm_types.specs.Small.{IsSmall, IsSmallRes};
 ghost use Rattle.farm_types.specs.declared.rows.JobRow.{JobRow};
 ghost use Rattle.farm_types.specs.declared.rows.ResRow.{ResRow};
+ghost use Rattle.farm_core.specs.Drafted.{at_farm};
 ghost use Rattle.farm_core.specs.Plain.{plain};
 ghost use Rattle.farm_core.specs.Edits.{IfAfterCheck, job_passes, job_changed, first_of, res_passes, res_changed, board_after, is_job_in, is_res_in};
 ghost use Rattle.farm_core.specs.Orderly.{IsOrderly, IsPlaceOf};
 ghost use Rattle.farm_core.specs.Tracks.{Tracks};
 
+use crate::draft::Draft;
 use crate::edit::change_rows;
 use crate::held::{Becomes, OfJobs, OfReservations};
 use crate::job_edit::JobEdit;
@@ -49,163 +51,144 @@ fn res_place_of(reservations: &[ResRow], number: u64) -> usize
     }
 }
 
-impl Tables {
+impl Draft {
     /// Changes the jobs that pass. Only the rows of the edit's four numbers are looked at.
-    pub fn edit_jobs(&mut self, changes: &mut Changes, edit: JobEdit<'_>) -> Result<(), AllocError>
-        requires orderly { IsOrderly (plain self.old) }
-        requires small { IsSmall (first_of edit) }
-        ensures farm { OnOk result (plain self.new ≡ record (plain self.old) { jobs = change_where (job_passes edit.entry) (job_changed edit.entry) (plain self.old).jobs }) }
-        ensures orderly { OnOk result (IsOrderly (plain self.new)) }
-        ensures tracked { OnOk result ((F : Farm) → Tracks F changes.old (plain self.old)
-            → Tracks F changes.new (plain self.new)) }
+    pub fn edit_jobs(mut self, edit: JobEdit<'_>) -> Result<Draft, AllocError>
+        requires { IsSmall (first_of edit) }
+        ensures { IfOk result (λ d. d ≡ at_farm (record self.farm { jobs = change_where (job_passes edit.entry) (job_changed edit.entry) self.farm.jobs }) self) }
     {
-        let start = place_of(&self.jobs, edit.first());
-        let end = place_of(&self.jobs, edit.first() + GROUP_REACH);
-        change_rows(&mut self.jobs, &mut changes.jobs, start, end, &edit)?;
-        Ok(())
-    }
-
-    /// Changes the boards that the jobs hold that pass. Each board is looked at, in name order.
-    fn edit_boards_of_jobs(
-        &mut self,
-        changes: &mut Changes,
-        edit: JobEdit<'_>,
-        becomes: Becomes,
-    ) -> Result<(), AllocError>
-        requires orderly { IsOrderly (plain self.old) }
-        requires small { IfAfterCheck becomes }
-        ensures farm { OnOk result (plain self.new ≡ record (plain self.old) { boards = change_where (λ b. is_job_in (plain self.old).jobs (job_passes edit.entry) b.holder) (board_after becomes) (plain self.old).boards }) }
-        ensures orderly { OnOk result (IsOrderly (plain self.new)) }
-        ensures tracked { OnOk result ((F : Farm) → Tracks F changes.old (plain self.old)
-            → Tracks F changes.new (plain self.new)) }
-    {
-        let end = self.boards.len();
-        let held = OfJobs {
-            jobs: &self.jobs,
-            edit,
-            becomes,
-        };
-        change_rows(&mut self.boards, &mut changes.boards, 0, end, &held)?;
-        Ok(())
-    }
-
-    /// Changes the jobs that pass and the boards that they hold.
-    pub fn edit_jobs_and_boards(
-        &mut self,
-        changes: &mut Changes,
-        edit: JobEdit<'_>,
-        becomes: Becomes,
-    ) -> Result<(), AllocError>
-        requires orderly { IsOrderly (plain self.old) }
-        requires first { IsSmall (first_of edit) }
-        requires small { IfAfterCheck becomes }
-        ensures farm { OnOk result (plain self.new ≡ change_jobs (job_passes edit.entry) (job_changed edit.entry) (board_after becomes) (plain self.old)) }
-        ensures orderly { OnOk result (IsOrderly (plain self.new)) }
-        ensures tracked { OnOk result ((F : Farm) → Tracks F changes.old (plain self.old)
-            → Tracks F changes.new (plain self.new)) }
-    {
-        // The boards first: the jobs as they were tell which change.
-        self.edit_boards_of_jobs(changes, edit, becomes)?;
-        self.edit_jobs(changes, edit)?;
-        Ok(())
-    }
-
-    /// Changes the reservations that pass, all from `start` to `end`.
-    pub fn edit_reservations(
-        &mut self,
-        changes: &mut Changes,
-        edit: ResEdit<'_>,
-        start: usize,
-        end: usize,
-    ) -> Result<(), AllocError>
-        requires orderly { IsOrderly (plain self.old) }
-        requires small { (r : ResRow) → IsSmallRes r → IsSmallRes (res_changed edit r) }
-        requires start { start ≤ end }
-        requires end { end ≤ length (plain self.old).reservations }
-        requires before { (k : ℕ) (d : ResRow) → k < start → res_passes edit (get_or (plain self.old).reservations k d) ≡ false }
-        requires behind { (k : ℕ) (d : ResRow) → end ≤ k → k < length (plain self.old).reservations → res_passes edit (get_or (plain self.old).reservations k d) ≡ false }
-        ensures farm { OnOk result (plain self.new ≡ record (plain self.old) { reservations = change_where (res_passes edit.entry) (res_changed edit.entry) (plain self.old).reservations }) }
-        ensures logged { OnOk result (changes.new.reservations.items ≡ changes.old.reservations.items ++ map (res_changed edit.entry) (filter (res_passes edit.entry) (plain self.old).reservations)) }
-        ensures orderly { OnOk result (IsOrderly (plain self.new)) }
-        ensures tracked { OnOk result ((F : Farm) → Tracks F changes.old (plain self.old)
-            → Tracks F changes.new (plain self.new)) }
-    {
+        let start = place_of(&self.tables.jobs, edit.first());
+        let end = place_of(&self.tables.jobs, edit.first() + GROUP_REACH);
         change_rows(
-            &mut self.reservations,
-            &mut changes.reservations,
+            &mut self.tables.jobs,
+            &mut self.changes.jobs,
             start,
             end,
             &edit,
         )?;
-        Ok(())
+        Ok(self)
+    }
+
+    /// Changes the boards that the jobs hold that pass. Each board is looked at, in name order.
+    fn edit_boards_of_jobs(
+        mut self,
+        edit: JobEdit<'_>,
+        becomes: Becomes,
+    ) -> Result<Draft, AllocError>
+        requires { IfAfterCheck becomes }
+        ensures { IfOk result (λ d. d ≡ at_farm (record self.farm { boards = change_where (λ b. is_job_in self.farm.jobs (job_passes edit.entry) b.holder) (board_after becomes) self.farm.boards }) self) }
+    {
+        let end = self.tables.boards.len();
+        let held = OfJobs {
+            jobs: &self.tables.jobs,
+            edit,
+            becomes,
+        };
+        change_rows(
+            &mut self.tables.boards,
+            &mut self.changes.boards,
+            0,
+            end,
+            &held,
+        )?;
+        Ok(self)
+    }
+
+    /// Changes the jobs that pass and the boards that they hold.
+    pub fn edit_jobs_and_boards(
+        self,
+        edit: JobEdit<'_>,
+        becomes: Becomes,
+    ) -> Result<Draft, AllocError>
+        requires first { IsSmall (first_of edit) }
+        requires small { IfAfterCheck becomes }
+        ensures { IfOk result (λ d. d ≡ at_farm (change_jobs (job_passes edit.entry) (job_changed edit.entry) (board_after becomes) self.farm) self) }
+    {
+        // The boards first: the jobs as they were tell which change.
+        let draft = self.edit_boards_of_jobs(edit, becomes)?;
+        draft.edit_jobs(edit)
+    }
+
+    /// Changes the reservations that pass, all from `start` to `end`. Gives how many.
+    pub fn edit_reservations(
+        mut self,
+        edit: ResEdit<'_>,
+        start: usize,
+        end: usize,
+    ) -> Result<(Draft, u64), AllocError>
+        requires small { (r : ResRow) → IsSmallRes r → IsSmallRes (res_changed edit r) }
+        requires start { start ≤ end }
+        requires end { end ≤ length self.farm.reservations }
+        requires before { (k : ℕ) (d : ResRow) → k < start → res_passes edit (get_or self.farm.reservations k d) ≡ false }
+        requires behind { (k : ℕ) (d : ResRow) → end ≤ k → k < length self.farm.reservations → res_passes edit (get_or self.farm.reservations k d) ≡ false }
+        ensures farm { IfOk result (λ r. r.0 ≡ at_farm (record self.farm { reservations = change_where (res_passes edit.entry) (res_changed edit.entry) self.farm.reservations }) self) }
+        ensures count { IfOk result (λ r. r.1 ≡ length (filter (res_passes edit.entry) self.farm.reservations)) }
+    {
+        let before = self.changes.reservations.len();
+        change_rows(
+            &mut self.tables.reservations,
+            &mut self.changes.reservations,
+            start,
+            end,
+            &edit,
+        )?;
+        let count = (self.changes.reservations.len() - before) as u64;
+        Ok((self, count))
     }
 
     /// Changes the boards that the reservations hold that pass. Each board is looked at, in name order.
     pub fn edit_boards_of_reservations(
-        &mut self,
-        changes: &mut Changes,
+        mut self,
         edit: ResEdit<'_>,
         becomes: Becomes,
-    ) -> Result<(), AllocError>
-        requires orderly { IsOrderly (plain self.old) }
-        requires small { IfAfterCheck becomes }
-        ensures farm { OnOk result (plain self.new ≡ record (plain self.old) { boards = change_where (λ b. is_res_in (plain self.old).reservations (res_passes edit.entry) b.holder) (board_after becomes) (plain self.old).boards }) }
-        ensures orderly { OnOk result (IsOrderly (plain self.new)) }
-        ensures tracked { OnOk result ((F : Farm) → Tracks F changes.old (plain self.old)
-            → Tracks F changes.new (plain self.new)) }
+    ) -> Result<Draft, AllocError>
+        requires { IfAfterCheck becomes }
+        ensures { IfOk result (λ d. d ≡ at_farm (record self.farm { boards = change_where (λ b. is_res_in self.farm.reservations (res_passes edit.entry) b.holder) (board_after becomes) self.farm.boards }) self) }
     {
-        let end = self.boards.len();
+        let end = self.tables.boards.len();
         let held = OfReservations {
-            reservations: &self.reservations,
+            reservations: &self.tables.reservations,
             edit,
             becomes,
         };
-        change_rows(&mut self.boards, &mut changes.boards, 0, end, &held)?;
-        Ok(())
+        change_rows(
+            &mut self.tables.boards,
+            &mut self.changes.boards,
+            0,
+            end,
+            &held,
+        )?;
+        Ok(self)
     }
 
     /// Changes one reservation, told by its number, with no change of its board.
-    pub fn edit_reservation(
-        &mut self,
-        changes: &mut Changes,
-        number: u64,
-        edit: ResEdit<'_>,
-    ) -> Result<(), AllocError>
-        requires orderly { IsOrderly (plain self.old) }
+    pub fn edit_reservation(self, number: u64, edit: ResEdit<'_>) -> Result<Draft, AllocError>
         requires number { IsSmall number }
         requires one { (r : ResRow) → res_passes edit r ≡ (r.number == number) }
         requires small { (r : ResRow) → IsSmallRes r → IsSmallRes (res_changed edit r) }
-        ensures farm { OnOk result (plain self.new ≡ record (plain self.old) { reservations = change_where (res_passes edit.entry) (res_changed edit.entry) (plain self.old).reservations }) }
-        ensures orderly { OnOk result (IsOrderly (plain self.new)) }
-        ensures tracked { OnOk result ((F : Farm) → Tracks F changes.old (plain self.old)
-            → Tracks F changes.new (plain self.new)) }
+        ensures { IfOk result (λ d. d ≡ at_farm (record self.farm { reservations = change_where (res_passes edit.entry) (res_changed edit.entry) self.farm.reservations }) self) }
     {
-        let start = res_place_of(&self.reservations, number);
-        let end = res_place_of(&self.reservations, number + 1);
-        self.edit_reservations(changes, edit, start, end)
+        let start = res_place_of(&self.tables.reservations, number);
+        let end = res_place_of(&self.tables.reservations, number + 1);
+        let (draft, _) = self.edit_reservations(edit, start, end)?;
+        Ok(draft)
     }
 
     /// Changes one reservation, told by its number, and the board that it holds.
     pub fn edit_reservation_and_board(
-        &mut self,
-        changes: &mut Changes,
+        self,
         number: u64,
         edit: ResEdit<'_>,
         becomes: Becomes,
-    ) -> Result<(), AllocError>
-        requires orderly { IsOrderly (plain self.old) }
+    ) -> Result<Draft, AllocError>
         requires number { IsSmall number }
         requires one { (r : ResRow) → res_passes edit r ≡ (r.number == number) }
         requires small { (r : ResRow) → IsSmallRes r → IsSmallRes (res_changed edit r) }
         requires board { IfAfterCheck becomes }
-        ensures farm { OnOk result (plain self.new ≡ change_res (res_passes edit.entry) (res_changed edit.entry) (board_after becomes) (plain self.old)) }
-        ensures orderly { OnOk result (IsOrderly (plain self.new)) }
-        ensures tracked { OnOk result ((F : Farm) → Tracks F changes.old (plain self.old)
-            → Tracks F changes.new (plain self.new)) }
+        ensures { IfOk result (λ d. d ≡ at_farm (change_res (res_passes edit.entry) (res_changed edit.entry) (board_after becomes) self.farm) self) }
     {
         // The board first: the reservations as they were tell which changes.
-        self.edit_boards_of_reservations(changes, edit, becomes)?;
-        self.edit_reservation(changes, number, edit)?;
-        Ok(())
+        let draft = self.edit_boards_of_reservations(edit, becomes)?;
+        draft.edit_reservation(number, edit)
     }
 }

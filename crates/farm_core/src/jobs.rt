@@ -10,10 +10,12 @@ ghost use Rattle.farm_types.specs.Small.{IsSmall, IsSmallJob};
 ghost use Rattle.farm_types.specs.declared.calls.Cmd.{Cmd};
 ghost use Rattle.farm_types.specs.declared.rows.JobState.{JobState};
 ghost use Rattle.farm_core.specs.Edits.{outcome_of};
+ghost use Rattle.farm_core.specs.Drafted.{Acts};
 ghost use Rattle.farm_core.specs.Plain.{plain};
 ghost use Rattle.farm_core.specs.Orderly.{IsOrderly};
 ghost use Rattle.farm_core.specs.Tracks.{Tracks};
 
+use crate::draft::Draft;
 use crate::held::Becomes;
 use crate::held_edits::{GROUP_REACH, place_of};
 use crate::job_edit::JobEdit;
@@ -113,24 +115,6 @@ impl Tables {
         }
     }
 
-    /// Cancels a job's whole group: the members that were not started end, and their boards are
-    /// free; those that run are being canceled. Gives the group's number.
-    pub fn cancel(&mut self, changes: &mut Changes, number: u64) -> Result<u64, AllocError>
-        requires { IsOrderly (plain self.old) }
-        ensures acts { IfOk result (λ group. act (plain self.old) [] (Cmd.Cancel number) ≡ done group (plain self.new)) }
-        ensures orderly { OnOk result (IsOrderly (plain self.new)) }
-        ensures tracked { OnOk result ((F : Farm) → Tracks F changes.old (plain self.old)
-            → Tracks F changes.new (plain self.new)) }
-    {
-        let group = match self.find_job(number) {
-            None => return Ok(0),
-            Some(job) => job.group,
-        };
-        self.edit_jobs_and_boards(changes, JobEdit::End(group), Becomes::Idle)?;
-        self.edit_jobs(changes, JobEdit::Cancel(group))?;
-        Ok(group)
-    }
-
     /// Why a job's group isn't started.
     pub fn refuse_start(&self, number: u64) -> Option<u16>
         requires { IsOrderly (plain self.now) }
@@ -146,26 +130,6 @@ impl Tables {
                 None
             }
         }
-    }
-
-    /// Starts a job's whole group: its members run, and so do their boards. Gives the group's number.
-    pub fn start(&mut self, changes: &mut Changes, number: u64) -> Result<u64, AllocError>
-        requires { IsOrderly (plain self.old) }
-        ensures acts { IfOk result (λ group. act (plain self.old) [] (Cmd.Start number) ≡ done group (plain self.new)) }
-        ensures orderly { OnOk result (IsOrderly (plain self.new)) }
-        ensures tracked { OnOk result ((F : Farm) → Tracks F changes.old (plain self.old)
-            → Tracks F changes.new (plain self.new)) }
-    {
-        let group = match self.find_job(number) {
-            None => return Ok(0),
-            Some(job) => job.group,
-        };
-        self.edit_jobs_and_boards(
-            changes,
-            JobEdit::Start(group),
-            Becomes::State(State::Running),
-        )?;
-        Ok(group)
     }
 
     /// Why a job isn't finished.
@@ -184,30 +148,53 @@ impl Tables {
             }
         }
     }
+}
+
+impl Draft {
+    /// Cancels a job's whole group: the members that were not started end, and their boards are
+    /// free; those that run are being canceled. Gives the group's number.
+    pub fn cancel(self, number: u64) -> Result<(Draft, u64), AllocError>
+        ensures { IfOk result (λ r. Acts self [] (Cmd.Cancel number) r.1 r.0) }
+    {
+        let group = match self.tables.find_job(number) {
+            None => return Ok((self, 0)),
+            Some(job) => job.group,
+        };
+        let draft = self.edit_jobs_and_boards(JobEdit::End(group), Becomes::Idle)?;
+        let draft = draft.edit_jobs(JobEdit::Cancel(group))?;
+        Ok((draft, group))
+    }
+
+    /// Starts a job's whole group: its members run, and so do their boards. Gives the group's number.
+    pub fn start(self, number: u64) -> Result<(Draft, u64), AllocError>
+        ensures { IfOk result (λ r. Acts self [] (Cmd.Start number) r.1 r.0) }
+    {
+        let group = match self.tables.find_job(number) {
+            None => return Ok((self, 0)),
+            Some(job) => job.group,
+        };
+        let running = Becomes::State(State::Running);
+        let draft = self.edit_jobs_and_boards(JobEdit::Start(group), running)?;
+        Ok((draft, group))
+    }
 
     /// Finishes a job: it ends, and its board is free and has the health that the outcome of a job
     /// or a check leaves. Gives the job's number.
-    pub fn finish(
-        &mut self,
-        changes: &mut Changes,
-        number: u64,
-        named: Outcome,
-    ) -> Result<u64, AllocError>
-        requires orderly { IsOrderly (plain self.old) }
-        requires clock { IsSmall (plain self.old).clock }
-        ensures acts { IfOk result (λ job. act (plain self.old) [] (Cmd.Finish number named) ≡ done job (plain self.new)) }
-        ensures orderly { OnOk result (IsOrderly (plain self.new)) }
-        ensures tracked { OnOk result ((F : Farm) → Tracks F changes.old (plain self.old)
-            → Tracks F changes.new (plain self.new)) }
+    pub fn finish(self, number: u64, named: Outcome) -> Result<(Draft, u64), AllocError>
+        requires { IsSmall self.farm.clock }
+        ensures { IfOk result (λ r. Acts self [] (Cmd.Finish number named) r.1 r.0) }
     {
-        let (outcome, becomes) = match self.find_job(number) {
-            None => return Ok(0),
+        let (outcome, becomes) = match self.tables.find_job(number) {
+            None => return Ok((self, 0)),
             Some(job) => {
                 let outcome = outcome_of(job, named);
-                (outcome, Becomes::after(job.checking, outcome, self.clock))
+                (
+                    outcome,
+                    Becomes::after(job.checking, outcome, self.tables.clock),
+                )
             }
         };
-        self.edit_jobs_and_boards(changes, JobEdit::Finish(number, outcome), becomes)?;
-        Ok(number)
+        let draft = self.edit_jobs_and_boards(JobEdit::Finish(number, outcome), becomes)?;
+        Ok((draft, number))
     }
 }

@@ -1,12 +1,13 @@
 //! The machine of the board farm: one farm, and one call after another.
 //!
 //! Read `specs/` in the order Plain, Shown, Answers, which say what callers see; then Calls, Orderly,
-//! Tracks, Edits, Serving, which say what a command keeps on its way.
+//! Tracks, Drafted, Edits, Serving, which say what a command keeps on its way.
 #![tactic(auto)]
 
 mod boards;
 mod change;
 mod checks;
+mod draft;
 mod edit;
 mod expire;
 pub mod farm;

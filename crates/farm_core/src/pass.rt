@@ -5,10 +5,12 @@ ghost use Rattle.farm_types.specs.Pick.{queue, shown_claim};
 ghost use Rattle.farm_types.specs.Change.{act};
 ghost use Rattle.farm_types.specs.Sound.{IsSound};
 ghost use Rattle.farm_types.specs.declared.calls.Cmd.{Cmd};
+ghost use Rattle.farm_core.specs.Drafted.{at_farm};
 ghost use Rattle.farm_core.specs.Plain.{plain};
 ghost use Rattle.farm_core.specs.Orderly.{IsOrderly};
 ghost use Rattle.farm_core.specs.Tracks.{Tracks};
 
+use crate::draft::Draft;
 use crate::tables::Tables;
 use farm_types::calls::Changes;
 use farm_types::claims::Claim;
@@ -23,22 +25,21 @@ impl Tables {
         let claims = farm_pick::queue_of(*self.jobs.allocator(), &self.jobs, &self.reservations)?;
         Ok(claims)
     }
+}
 
+impl Draft {
     /// A pass: leases that have come to their ends are over, each due board is checked while there
     /// is room, and then the claims are served in turn. Gives how many boards were checked, how many
     /// leases ended and how many claims were served.
-    pub fn pass(&mut self, changes: &mut Changes) -> Result<Reply, AllocError>
-        requires { IsSound (plain self.old) }
-        ensures farm { OnOk result (plain self.new ≡ (act (plain self.old) [] Cmd.Pass).farm) }
-        ensures reply { IfOk result (λ reply. reply ≡ (act (plain self.old) [] Cmd.Pass).reply) }
-        ensures orderly { OnOk result (IsOrderly (plain self.new)) }
-        ensures tracked { OnOk result ((F : Farm) → Tracks F changes.old (plain self.old)
-            → Tracks F changes.new (plain self.new)) }
+    pub fn pass(self) -> Result<(Draft, Reply), AllocError>
+        requires { IsSound self.farm }
+        ensures farm { IfOk result (λ r. r.0 ≡ at_farm (act self.farm [] Cmd.Pass).farm self) }
+        ensures reply { IfOk result (λ r. r.1 ≡ (act self.farm [] Cmd.Pass).reply) }
     {
-        let ended = self.expire(changes)?;
-        let checked = self.checks(changes)?;
-        let claims = self.queue()?;
-        let served = self.serve(changes, &claims)?;
-        Ok(Reply(checked, ended, served))
+        let (draft, ended) = self.expire()?;
+        let (draft, checked) = draft.checks()?;
+        let claims = draft.tables.queue()?;
+        let (draft, served) = draft.serve(&claims)?;
+        Ok((draft, Reply(checked, ended, served)))
     }
 }

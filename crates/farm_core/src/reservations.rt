@@ -11,10 +11,12 @@ ghost use Rattle.farm_types.specs.Small.{IsSmall, IsSmallRes};
 ghost use Rattle.farm_types.specs.declared.calls.Cmd.{Cmd};
 ghost use Rattle.farm_types.specs.declared.rows.ResRow.{ResRow};
 ghost use Rattle.farm_types.specs.declared.rows.ResState.{ResState};
+ghost use Rattle.farm_core.specs.Drafted.{Acts};
 ghost use Rattle.farm_core.specs.Plain.{plain};
 ghost use Rattle.farm_core.specs.Orderly.{IsOrderly};
 ghost use Rattle.farm_core.specs.Tracks.{Tracks};
 
+use crate::draft::Draft;
 use crate::held::Becomes;
 use crate::jobs::owned_by;
 use crate::res_edit::{ResEdit, is_dead};
@@ -107,74 +109,49 @@ impl Tables {
             Some(row) => refuse_row(row, now, owned_by(caller, &row.owner), is_alive(row)),
         }
     }
+}
 
+impl Draft {
     /// The reservation is acquired, and its board runs.
-    pub fn acquire(&mut self, changes: &mut Changes, number: u64) -> Result<u64, AllocError>
-        requires orderly { IsOrderly (plain self.old) }
-        requires small { IsSmall number }
-        ensures acts { IfOk result (λ n. act (plain self.old) [] (Cmd.Acquire number) ≡ done n (plain self.new)) }
-        ensures orderly { OnOk result (IsOrderly (plain self.new)) }
-        ensures tracked { OnOk result ((F : Farm) → Tracks F changes.old (plain self.old)
-            → Tracks F changes.new (plain self.new)) }
+    pub fn acquire(self, number: u64) -> Result<(Draft, u64), AllocError>
+        requires { IsSmall number }
+        ensures { IfOk result (λ r. Acts self [] (Cmd.Acquire number) r.1 r.0) }
     {
-        self.edit_reservation_and_board(
-            changes,
-            number,
-            ResEdit::Acquire(number),
-            Becomes::State(State::Running),
-        )?;
-        Ok(number)
+        let running = Becomes::State(State::Running);
+        let draft = self.edit_reservation_and_board(number, ResEdit::Acquire(number), running)?;
+        Ok((draft, number))
     }
 
     /// The reservation is allocated again for a lease from now on, and its board reserved.
-    pub fn release(&mut self, changes: &mut Changes, number: u64) -> Result<u64, AllocError>
-        requires orderly { IsOrderly (plain self.old) }
+    pub fn release(self, number: u64) -> Result<(Draft, u64), AllocError>
         requires small { IsSmall number }
-        requires clock { (plain self.old).clock ≤ 250000000000 }
-        ensures acts { IfOk result (λ n. act (plain self.old) [] (Cmd.Release number) ≡ done n (plain self.new)) }
-        ensures orderly { OnOk result (IsOrderly (plain self.new)) }
-        ensures tracked { OnOk result ((F : Farm) → Tracks F changes.old (plain self.old)
-            → Tracks F changes.new (plain self.new)) }
+        requires clock { self.farm.clock ≤ 250000000000 }
+        ensures { IfOk result (λ r. Acts self [] (Cmd.Release number) r.1 r.0) }
     {
-        let deadline = self.clock + LEASE_SECONDS;
-        self.edit_reservation_and_board(
-            changes,
-            number,
-            ResEdit::Release(number, deadline),
-            Becomes::State(State::Reserved),
-        )?;
-        Ok(number)
+        let edit = ResEdit::Release(number, self.tables.clock + LEASE_SECONDS);
+        let reserved = Becomes::State(State::Reserved);
+        let draft = self.edit_reservation_and_board(number, edit, reserved)?;
+        Ok((draft, number))
     }
 
     /// The reservation lives for a lease from now on.
-    pub fn refresh(&mut self, changes: &mut Changes, number: u64) -> Result<u64, AllocError>
-        requires orderly { IsOrderly (plain self.old) }
+    pub fn refresh(self, number: u64) -> Result<(Draft, u64), AllocError>
         requires small { IsSmall number }
-        requires clock { (plain self.old).clock ≤ 250000000000 }
-        ensures acts { IfOk result (λ n. act (plain self.old) [] (Cmd.Refresh number) ≡ done n (plain self.new)) }
-        ensures orderly { OnOk result (IsOrderly (plain self.new)) }
-        ensures tracked { OnOk result ((F : Farm) → Tracks F changes.old (plain self.old)
-            → Tracks F changes.new (plain self.new)) }
+        requires clock { self.farm.clock ≤ 250000000000 }
+        ensures { IfOk result (λ r. Acts self [] (Cmd.Refresh number) r.1 r.0) }
     {
-        let deadline = self.clock + LEASE_SECONDS;
-        self.edit_reservation(changes, number, ResEdit::Refresh(number, deadline))?;
-        Ok(number)
+        let edit = ResEdit::Refresh(number, self.tables.clock + LEASE_SECONDS);
+        let draft = self.edit_reservation(number, edit)?;
+        Ok((draft, number))
     }
 
     /// The reservation is canceled, and its board free.
-    pub fn cancel_reservation(
-        &mut self,
-        changes: &mut Changes,
-        number: u64,
-    ) -> Result<u64, AllocError>
-        requires orderly { IsOrderly (plain self.old) }
-        requires small { IsSmall number }
-        ensures acts { IfOk result (λ n. act (plain self.old) [] (Cmd.CancelRes number) ≡ done n (plain self.new)) }
-        ensures orderly { OnOk result (IsOrderly (plain self.new)) }
-        ensures tracked { OnOk result ((F : Farm) → Tracks F changes.old (plain self.old)
-            → Tracks F changes.new (plain self.new)) }
+    pub fn cancel_reservation(self, number: u64) -> Result<(Draft, u64), AllocError>
+        requires { IsSmall number }
+        ensures { IfOk result (λ r. Acts self [] (Cmd.CancelRes number) r.1 r.0) }
     {
-        self.edit_reservation_and_board(changes, number, ResEdit::Cancel(number), Becomes::Idle)?;
-        Ok(number)
+        let draft =
+            self.edit_reservation_and_board(number, ResEdit::Cancel(number), Becomes::Idle)?;
+        Ok((draft, number))
     }
 }

@@ -6,10 +6,12 @@ ghost use Rattle.farm_types.specs.Pick.{least, not_retired, fits};
 ghost use Rattle.farm_types.specs.Refuse.{first_code};
 ghost use Rattle.farm_types.specs.Change.{act, done};
 ghost use Rattle.farm_types.specs.declared.calls.Cmd.{Cmd};
+ghost use Rattle.farm_core.specs.Drafted.{Acts};
 ghost use Rattle.farm_core.specs.Plain.{plain};
 ghost use Rattle.farm_core.specs.Orderly.{IsOrderly};
 ghost use Rattle.farm_core.specs.Tracks.{Tracks};
 
+use crate::draft::Draft;
 use crate::reservations::LEASE_SECONDS;
 use crate::tables::Tables;
 use farm_types::calls::Changes;
@@ -43,24 +45,21 @@ impl Tables {
         }
         None
     }
+}
 
+impl Draft {
     /// Makes a reservation that waits for a lease from now on. Gives its number.
     pub fn reserve(
-        &mut self,
-        changes: &mut Changes,
+        self,
         owner: &Name,
         priority: Priority,
         tags: &Tags,
-    ) -> Result<u64, AllocError>
-        requires orderly { IsOrderly (plain self.old) }
-        requires next { (plain self.old).next ≤ 1000000000 }
-        requires clock { (plain self.old).clock ≤ 250000000000 }
-        ensures acts { IfOk result (λ number. act (plain self.old) owner.now (Cmd.Reserve priority tags.now) ≡ done number (plain self.new)) }
-        ensures orderly { OnOk result (IsOrderly (plain self.new)) }
-        ensures tracked { OnOk result ((F : Farm) → Tracks F changes.old (plain self.old)
-            → Tracks F changes.new (plain self.new)) }
+    ) -> Result<(Draft, u64), AllocError>
+        requires next { self.farm.next ≤ 1000000000 }
+        requires clock { self.farm.clock ≤ 250000000000 }
+        ensures { IfOk result (λ r. Acts self owner.now (Cmd.Reserve priority tags.now) r.1 r.0) }
     {
-        let number = self.next;
+        let number = self.tables.next;
         let row = ResRow {
             number,
             owner: owner.copy()?,
@@ -70,11 +69,10 @@ impl Tables {
                 tags: tags.copy()?,
             },
             state: ResState::Waiting,
-            deadline: self.clock + LEASE_SECONDS,
+            deadline: self.tables.clock + LEASE_SECONDS,
             board: None,
         };
-        self.put_reservation(changes, row)?;
-        self.next = number + 1;
-        Ok(number)
+        let draft = self.put_reservation(row)?;
+        Ok((draft.with_next(number + 1), number))
     }
 }

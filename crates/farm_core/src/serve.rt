@@ -9,11 +9,13 @@ ghost use Rattle.farm_types.specs.Sound.{IsSound};
 ghost use Rattle.farm_types.specs.declared.rows.BoardRow.{BoardRow};
 ghost use Rattle.farm_types.specs.declared.rows.ResRow.{ResRow};
 ghost use Rattle.farm_pick.specs.Least.{boards_at};
+ghost use Rattle.farm_core.specs.Drafted.{at_farm};
 ghost use Rattle.farm_core.specs.Plain.{plain};
 ghost use Rattle.farm_core.specs.Orderly.{IsOrderly};
-ghost use Rattle.farm_core.specs.Serving.{Asks, counted};
+ghost use Rattle.farm_core.specs.Serving.{Asks, Serves, counted};
 ghost use Rattle.farm_core.specs.Tracks.{Tracks};
 
+use crate::draft::Draft;
 use crate::tables::Tables;
 use farm_pick::Free;
 use farm_types::calls::Changes;
@@ -83,26 +85,6 @@ impl Tables {
         self.pick(&wants)
     }
 
-    /// Gives a group its boards, where free ones meet it.
-    fn serve_group(&mut self, changes: &mut Changes, group: u64) -> Result<bool, AllocError>
-        requires orderly { IsOrderly (plain self.old) }
-        requires small { IsSmall group }
-        ensures served { IfOk result (λ served. (c : Claimed) (n : ℕ) → c.reservation ≡ false → c.number ≡ group → Asks false (plain self.old) c
-            → serve (plain self.old).clock (record { farm = plain self.old; claims = n }) c ≡ record { farm = plain self.new; claims = counted n served }) }
-        ensures orderly { OnOk result (IsOrderly (plain self.new)) }
-        ensures tracked { OnOk result ((F : Farm) → Tracks F changes.old (plain self.old)
-            → Tracks F changes.new (plain self.new)) }
-    {
-        match self.pick_for_group(group)? {
-            None => Ok(false),
-            Some(names) => {
-                let numbers = numbers_in(*self.jobs.allocator(), self.near(group), group)?;
-                self.give_jobs(changes, &numbers, &names)?;
-                Ok(true)
-            }
-        }
-    }
-
     /// The names of the boards for a reservation: one, or none where there is no such reservation.
     fn pick_for_reservation(&self, number: u64) -> Result<Option<Vec<Name>>, AllocError>
         requires { IsOrderly (plain self.now) }
@@ -114,41 +96,45 @@ impl Tables {
             Some(row) => self.pick(&[&row.want]),
         }
     }
+}
 
-    /// Gives a reservation its board, where a free one meets it.
-    fn serve_reservation(&mut self, changes: &mut Changes, number: u64) -> Result<bool, AllocError>
-        requires orderly { IsOrderly (plain self.old) }
-        requires small { IsSmall number }
-        requires clock { (plain self.old).clock ≤ 250000000000 }
-        ensures served { IfOk result (λ served. (c : Claimed) (n : ℕ) → c.reservation ≡ true → c.number ≡ number → Asks true (plain self.old) c
-            → serve (plain self.old).clock (record { farm = plain self.old; claims = n }) c ≡ record { farm = plain self.new; claims = counted n served }) }
-        ensures orderly { OnOk result (IsOrderly (plain self.new)) }
-        ensures tracked { OnOk result ((F : Farm) → Tracks F changes.old (plain self.old)
-            → Tracks F changes.new (plain self.new)) }
+impl Draft {
+    /// Gives a group its boards, where free ones meet it.
+    fn serve_group(self, group: u64) -> Result<(Draft, bool), AllocError>
+        requires { IsSmall group }
+        ensures { IfOk result (λ r. (c : Claimed) → c.reservation ≡ false → c.number ≡ group → Asks false self.farm c → Serves self c r.1 r.0) }
     {
-        match self.pick_for_reservation(number)? {
-            None => Ok(false),
+        match self.tables.pick_for_group(group)? {
+            None => Ok((self, false)),
             Some(names) => {
-                self.give_first(changes, number, &names)?;
-                Ok(true)
+                let near = self.tables.near(group);
+                let numbers = numbers_in(*self.tables.jobs.allocator(), near, group)?;
+                Ok((self.give_jobs(&numbers, &names)?, true))
             }
         }
     }
 
+    /// Gives a reservation its board, where a free one meets it.
+    fn serve_reservation(self, number: u64) -> Result<(Draft, bool), AllocError>
+        requires small { IsSmall number }
+        requires clock { self.farm.clock ≤ 250000000000 }
+        ensures { IfOk result (λ r. (c : Claimed) → c.reservation ≡ true → c.number ≡ number → Asks true self.farm c → Serves self c r.1 r.0) }
+    {
+        match self.tables.pick_for_reservation(number)? {
+            None => Ok((self, false)),
+            Some(names) => Ok((self.give_first(number, &names)?, true)),
+        }
+    }
+
     /// Serves a claim, where free boards meet it.
-    fn serve_claim(&mut self, changes: &mut Changes, claim: &Claim) -> Result<bool, AllocError>
-        requires orderly { IsOrderly (plain self.old) }
+    fn serve_claim(self, claim: &Claim) -> Result<(Draft, bool), AllocError>
         requires small { IsSmall claim.now.number }
-        requires clock { (plain self.old).clock ≤ 250000000000 }
-        ensures served { IfOk result (λ served. (c : Claimed) (n : ℕ) → shown_claim c ≡ claim.now → Asks c.reservation (plain self.old) c
-            → serve (plain self.old).clock (record { farm = plain self.old; claims = n }) c ≡ record { farm = plain self.new; claims = counted n served }) }
-        ensures orderly { OnOk result (IsOrderly (plain self.new)) }
-        ensures tracked { OnOk result ((F : Farm) → Tracks F changes.old (plain self.old)
-            → Tracks F changes.new (plain self.new)) }
+        requires clock { self.farm.clock ≤ 250000000000 }
+        ensures { IfOk result (λ r. (c : Claimed) → shown_claim c ≡ claim.now → Asks c.reservation self.farm c → Serves self c r.1 r.0) }
     {
         let served = match claim.kind {
-            ClaimKind::Reservation => self.serve_reservation(changes, claim.number)?,
-            ClaimKind::Group => self.serve_group(changes, claim.number)?,
+            ClaimKind::Reservation => self.serve_reservation(claim.number)?,
+            ClaimKind::Group => self.serve_group(claim.number)?,
         };
         Ok(served)
     }
@@ -156,21 +142,21 @@ impl Tables {
     /// Serves the claims of the queue in turn, each where free boards meet it: one that waits holds
     /// up none behind it. Gives how many were served. With J jobs, B boards and C claims it costs
     /// O(C * (B + log J)).
-    pub fn serve(&mut self, changes: &mut Changes, claims: &[Claim]) -> Result<u64, AllocError>
-        requires sound { IsSound (plain self.old) }
-        requires queue { claims.now ≡ map shown_claim (queue (plain self.old)) }
-        ensures farm { OnOk result (plain self.new ≡ (serve_all (plain self.old) (plain self.old).clock).farm) }
-        ensures count { IfOk result (λ n. n ≡ (serve_all (plain self.old) (plain self.old).clock).claims) }
-        ensures orderly { OnOk result (IsOrderly (plain self.new)) }
-        ensures tracked { OnOk result ((F : Farm) → Tracks F changes.old (plain self.old)
-            → Tracks F changes.new (plain self.new)) }
+    pub fn serve(self, claims: &[Claim]) -> Result<(Draft, u64), AllocError>
+        requires sound { IsSound self.farm }
+        requires queue { claims.now ≡ map shown_claim (queue self.farm) }
+        ensures farm { IfOk result (λ r. r.0 ≡ at_farm (serve_all self.farm self.farm.clock).farm self) }
+        ensures count { IfOk result (λ r. r.1 ≡ (serve_all self.farm self.farm.clock).claims) }
     {
-        let mut served = 0;
+        let mut draft = self;
+        let mut count = 0;
         for claim in claims {
-            if self.serve_claim(changes, claim)? {
-                served += 1;
+            let (next, served) = draft.serve_claim(claim)?;
+            draft = next;
+            if served {
+                count += 1;
             }
         }
-        Ok(served)
+        Ok((draft, count))
     }
 }

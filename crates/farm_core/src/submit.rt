@@ -9,10 +9,12 @@ ghost use Rattle.farm_types.specs.Change.{act, done, new_members};
 ghost use Rattle.farm_types.specs.declared.calls.Cmd.{Cmd};
 ghost use Rattle.farm_types.specs.declared.rows.JobState.{JobState};
 ghost use Rattle.farm_core.specs.Edits.{text_at};
+ghost use Rattle.farm_core.specs.Drafted.{at_farm, Acts};
 ghost use Rattle.farm_core.specs.Plain.{plain};
 ghost use Rattle.farm_core.specs.Orderly.{IsOrderly};
 ghost use Rattle.farm_core.specs.Tracks.{Tracks};
 
+use crate::draft::Draft;
 use crate::tables::Tables;
 use farm_pick::Free;
 use farm_types::calls::{Changes, Roles, Wants};
@@ -109,65 +111,52 @@ impl Tables {
         }
         None
     }
+}
 
+impl Draft {
     /// Adds the members of a group, numbered from the group's number on; the first carries the text.
     fn add_members(
-        &mut self,
-        changes: &mut Changes,
+        self,
         group: u64,
         owner: &Name,
         priority: Priority,
         wants: &[Want],
         roles: &[Option<Name>],
         body: &Body,
-    ) -> Result<(), AllocError>
-        requires orderly { IsOrderly (plain self.old) }
+    ) -> Result<Draft, AllocError>
         requires few { length wants.now ≤ 4 }
         requires roles { length roles.now ≡ length wants.now }
         requires group { group ≤ 1000000000 }
-        ensures farm { OnOk result (plain self.new ≡ put_jobs (plain self.old) (new_members group group owner.now priority wants.now roles.now body.now)) }
-        ensures orderly { OnOk result (IsOrderly (plain self.new)) }
-        ensures tracked { OnOk result ((F : Farm) → Tracks F changes.old (plain self.old)
-            → Tracks F changes.new (plain self.new)) }
+        ensures { IfOk result (λ d. d ≡ at_farm (put_jobs self.farm (new_members group group owner.now priority wants.now roles.now body.now)) self) }
     {
+        let alloc = *self.tables.jobs.allocator();
+        let mut draft = self;
         for at in 0..wants.len() {
-            let text = member_text(*self.jobs.allocator(), at, body)?;
+            let text = member_text(alloc, at, body)?;
             let number = group + at as u64;
             let row = new_member(number, group, owner, priority, &wants[at], &roles[at], text)?;
-            self.put_job(changes, row)?;
+            draft = draft.put_job(row)?;
         }
-        Ok(())
+        Ok(draft)
     }
 
     /// Submits a group of jobs, one for each want. Gives the group's number.
     pub fn submit(
-        &mut self,
-        changes: &mut Changes,
+        self,
         owner: &Name,
         priority: Priority,
         wants: &Wants,
         roles: &Roles,
         body: &Body,
-    ) -> Result<u64, AllocError>
-        requires orderly { IsOrderly (plain self.old) }
+    ) -> Result<(Draft, u64), AllocError>
         requires roles { length roles.now ≡ length wants.now }
-        requires next { (plain self.old).next ≤ 1000000000 }
-        ensures acts { IfOk result (λ group. act (plain self.old) owner.now (Cmd.Submit priority wants.now roles.now body.now) ≡ done group (plain self.new)) }
-        ensures orderly { OnOk result (IsOrderly (plain self.new)) }
-        ensures tracked { OnOk result ((F : Farm) → Tracks F changes.old (plain self.old)
-            → Tracks F changes.new (plain self.new)) }
+        requires next { self.farm.next ≤ 1000000000 }
+        ensures { IfOk result (λ r. Acts self owner.now (Cmd.Submit priority wants.now roles.now body.now) r.1 r.0) }
     {
-        let group = self.next;
-        self.add_members(
-            changes,
-            group,
-            owner,
-            priority,
-            wants.items(),
-            roles.items(),
-            body,
-        )?;
-        self.next = group + wants.items().len() as u64;
-        Ok(group)
+        let group = self.tables.next;
+        let draft =
+            self.add_members(group, owner, priority, wants.items(), roles.items(), body)?;
+        let next = group + wants.items().len() as u64;
+        Ok((draft.with_next(next), group))
     }
 }

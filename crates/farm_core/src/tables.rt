@@ -1,5 +1,4 @@
-//! The tables of a farm, and the edits of them: one for each table. Each edit changes its table
-//! and logs the changed rows, so that the log, put into the first farm, always gives this one.
+//! The tables of a farm, and what is looked up in them.
 ghost use Rattle.std.specs.Prelude.{◌≡◌, OnOk};
 ghost use Rattle.std.specs.Option.{option_copied};
 ghost use Rattle.farm_types.specs.Table.{put, job_cmp};
@@ -92,72 +91,5 @@ impl Tables {
             None => None,
             Some(key) => self.kept.find(&call.caller, key),
         }
-    }
-
-    /// Puts a type.
-    pub fn put_type(&mut self, changes: &mut Changes, row: TypeRow) -> Result<(), AllocError>
-        requires orderly { IsOrderly (plain self.old) }
-        requires small { IsSmallType row }
-        ensures farm { OnOk result (plain self.new ≡ put_type (plain self.old) row) }
-        ensures orderly { OnOk result (IsOrderly (plain self.new)) }
-        ensures tracked { OnOk result ((F : Farm) → Tracks F changes.old (plain self.old)
-            → Tracks F changes.new (plain self.new)) }
-    {
-        changes.types.push(row.copy()?)?;
-        upsert(&mut self.types, row)
-    }
-
-    /// Puts a board.
-    pub fn put_board(&mut self, changes: &mut Changes, row: BoardRow) -> Result<(), AllocError>
-        requires orderly { IsOrderly (plain self.old) }
-        requires small { IsSmallBoard row }
-        ensures farm { OnOk result (plain self.new ≡ put_board (plain self.old) row) }
-        ensures orderly { OnOk result (IsOrderly (plain self.new)) }
-        ensures tracked { OnOk result ((F : Farm) → Tracks F changes.old (plain self.old)
-            → Tracks F changes.new (plain self.new)) }
-    {
-        changes.boards.push(row.copy()?)?;
-        upsert(&mut self.boards, row)
-    }
-
-    /// Puts a job. A row with the next number is added at the end, and moves none.
-    pub fn put_job(&mut self, changes: &mut Changes, row: JobRow) -> Result<(), AllocError>
-        requires orderly { IsOrderly (plain self.old) }
-        requires small { IsSmallJob row }
-        requires near { IsNear row }
-        ensures farm { OnOk result (plain self.new ≡ record (plain self.old) { jobs = put job_cmp (plain self.old).jobs row }) }
-        ensures orderly { OnOk result (IsOrderly (plain self.new)) }
-        ensures tracked { OnOk result ((F : Farm) → Tracks F changes.old (plain self.old)
-            → Tracks F changes.new (plain self.new)) }
-    {
-        changes.jobs.push(row.copy()?)?;
-        upsert(&mut self.jobs, row)
-    }
-
-    /// Puts a reservation. A row with the next number is added at the end, and moves none.
-    pub fn put_reservation(&mut self, changes: &mut Changes, row: ResRow) -> Result<(), AllocError>
-        requires orderly { IsOrderly (plain self.old) }
-        requires small { IsSmallRes row }
-        ensures farm { OnOk result (plain self.new ≡ put_res (plain self.old) row) }
-        ensures orderly { OnOk result (IsOrderly (plain self.new)) }
-        ensures tracked { OnOk result ((F : Farm) → Tracks F changes.old (plain self.old)
-            → Tracks F changes.new (plain self.new)) }
-    {
-        changes.reservations.push(row.copy()?)?;
-        upsert(&mut self.reservations, row)
-    }
-
-    /// Puts a kept reply.
-    #[tactic(auto, using(crate::proofs::Small::small_kept_push))]
-    pub fn put_kept(&mut self, changes: &mut Changes, row: KeptRow) -> Result<(), AllocError>
-        requires orderly { IsOrderly (plain self.old) }
-        requires small { IsSmallKept row }
-        ensures farm { OnOk result (plain self.new ≡ put_kept (plain self.old) row) }
-        ensures orderly { OnOk result (IsOrderly (plain self.new)) }
-        ensures tracked { OnOk result ((F : Farm) → Tracks F changes.old (plain self.old)
-            → Tracks F changes.new (plain self.new)) }
-    {
-        changes.kept.push(row.copy()?)?;
-        self.kept.put(row)
     }
 }

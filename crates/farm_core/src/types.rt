@@ -5,10 +5,12 @@ ghost use Rattle.farm_types.specs.Proper.{is_frequency};
 ghost use Rattle.farm_types.specs.Refuse.{first_code};
 ghost use Rattle.farm_types.specs.Change.{act, done};
 ghost use Rattle.farm_types.specs.declared.calls.Cmd.{Cmd};
+ghost use Rattle.farm_core.specs.Drafted.{Acts};
 ghost use Rattle.farm_core.specs.Plain.{plain};
 ghost use Rattle.farm_core.specs.Orderly.{IsOrderly};
 ghost use Rattle.farm_core.specs.Tracks.{Tracks};
 
+use crate::draft::Draft;
 use crate::tables::Tables;
 use farm_types::calls::Changes;
 use farm_types::refusal::TYPE_EXISTS;
@@ -27,26 +29,18 @@ impl Tables {
         }
         None
     }
+}
 
+impl Draft {
     /// Adds a type.
-    pub fn add_type(
-        &mut self,
-        changes: &mut Changes,
-        name: &Name,
-        check: Check,
-    ) -> Result<u64, AllocError>
-        requires orderly { IsOrderly (plain self.old) }
-        requires frequency { IsTrue (is_frequency check) }
-        ensures acts { IfOk result (λ n. act (plain self.old) [] (Cmd.AddType name.now check) ≡ done n (plain self.new)) }
-        ensures orderly { OnOk result (IsOrderly (plain self.new)) }
-        ensures tracked { OnOk result ((F : Farm) → Tracks F changes.old (plain self.old)
-            → Tracks F changes.new (plain self.new)) }
+    pub fn add_type(self, name: &Name, check: Check) -> Result<(Draft, u64), AllocError>
+        requires { IsTrue (is_frequency check) }
+        ensures { IfOk result (λ r. Acts self [] (Cmd.AddType name.now check) r.1 r.0) }
     {
         let row = TypeRow {
             name: name.copy()?,
             check,
         };
-        self.put_type(changes, row)?;
-        Ok(0)
+        Ok((self.put_type(row)?, 0))
     }
 }

@@ -1,38 +1,25 @@
-use Rattle.std.proofs.Common.{◌≡◌, ◌+◌, ◌∙◌, arith}
-use Rattle.farm_types.specs.Change.{act, moved}
+use Rattle.std.proofs.Common.{◌≡◌, ℕ, ◌+◌, ◌≤◌, ap, sym, ◌∙◌, subst, arith}
+use Rattle.farm_types.specs.Change.{act, keep, change, moved}
+use Rattle.farm_types.specs.Refuse.{moment}
 use Rattle.farm_types.specs.Farm.{Farm}
+use Rattle.farm_types.specs.Sound.{IsSound}
+use Rattle.farm_types.specs.declared.calls.Call.{Call}
 use Rattle.farm_core.specs.Plain.{plain}
-use Rattle.farm_core.specs.Tracks.{Tracks}
+use Rattle.farm_core.specs.Drafted.{Drafted}
+use Rattle.farm_core.specs.declared.tables.Tables.{Tables}
 use Rattle.farm_core.proofs.AcceptedCalls.{in_time, IsSmallCmd-accepted}
 use Rattle.farm_core.proofs.Sound.{IsOrderly-sound}
 use Rattle.farm_sound.proofs.Step.{acted_call, IsSound-moved_to}
 use Rattle.farm_core.proofs.tables.Tables.change.Goals as goal
 
--- the command's rows and the kept reply's are tracked, and the numbers are no rows
-tracked : (c : goal.After-self-2-1) → Tracks (plain c.args.self.now) c.keep.new.changes (plain c.keep.new.self)
-tracked c =
-    let F : Farm = plain c.args.self.now in
-    let s = c.no_changes-changes.ensures F in
-    let started : Tracks F c.no_changes-changes.result (record F { clock = c.max-self.result }) = record { types = s.types; boards = s.boards; jobs = s.jobs; reservations = s.reservations; kept = s.kept; small = s.small } in
-    c.in_ok-keep.ensures.tracked F (c.in_ok-reply.ensures.tracked F started)
+-- the tables that are taken out are those with the clock moved
+taken : {T : Tables} (self : Tables) (call : Call) (clock : ℕ) → T ≡ record self { clock = clock } → clock ≡ moment (plain self) call → plain T ≡ moved (plain self) call
+taken self call clock is at = ap plain is ∙ (λ i. record (plain self) { clock = at i })
 
-pub returns-clause-rows : goal.returns-clause-rows
-returns-clause-rows c =
-    let t = tracked c in
-    λ i. record { types = t.types i; boards = t.boards i; jobs = t.jobs i; reservations = t.reservations i; kept = t.kept i; clock = c.keep.new.self.clock; count = c.args.self.now.count + 1; next = c.keep.new.self.next }
-
-pub returns-clause-small : goal.returns-clause-small
-returns-clause-small c =
-    let small = (tracked c).small in
-    record { types = small.types; boards = small.boards; jobs = small.jobs; reservations = small.reservations; kept = small.kept }
-
-pub act-requires-clause-sound : goal.act-requires-clause-sound
-act-requires-clause-sound c = rw c.max-self.ensures (IsSound-moved_to (plain c.args.self.now) c.args.call.now c.requires.accepted c.requires.sound)
-
-pub act-requires-clause-orderly : goal.act-requires-clause-orderly
-act-requires-clause-orderly c =
+pub of-draft-requires : goal.of-draft-requires
+of-draft-requires c =
     let o = IsOrderly-sound (plain c.args.self.now) c.requires.sound in
-    record {
+    rw c.replace.ensures.value (record {
       types = o.types;
       boards = o.boards;
       jobs = o.jobs;
@@ -43,17 +30,44 @@ act-requires-clause-orderly c =
       small_boards = o.small_boards;
       small_jobs = o.small_jobs;
       small_reservations = o.small_reservations;
-    }
+    })
+
+pub act-requires-clause-sound : goal.act-requires-clause-sound
+act-requires-clause-sound c =
+    let started = ap (λ (D : Drafted). D.farm) c.of-draft.ensures ∙ taken c.args.self.now c.args.call.now c.max-self.result c.replace.ensures.value c.max-self.ensures in
+    subst IsSound (sym started) (IsSound-moved_to (plain c.args.self.now) c.args.call.now c.requires.accepted c.requires.sound)
 
 pub act-requires-clause-small : goal.act-requires-clause-small
 act-requires-clause-small c = IsSmallCmd-accepted (plain c.args.self.now) c.args.call.now c.requires.accepted c.requires.sound
 
 pub act-requires-clause-clock : goal.act-requires-clause-clock
-act-requires-clause-clock c = rw c.max-self.ensures (in_time (plain c.args.self.now) c.args.call.now c.requires.accepted c.requires.sound)
+act-requires-clause-clock c =
+    let started = ap (λ (D : Drafted). D.farm) c.of-draft.ensures ∙ taken c.args.self.now c.args.call.now c.max-self.result c.replace.ensures.value c.max-self.ensures in
+    subst (λ (F : Farm). F.clock ≤ 250000000000) (sym started) (in_time (plain c.args.self.now) c.args.call.now c.requires.accepted c.requires.sound)
 
-pub keep-requires-clause-small : goal.keep-requires-clause-small
-keep-requires-clause-small c =
-    let F : Farm = plain c.args.self.now in
-    let acted = acted_call F c.args.call.now c.requires.accepted c.requires.sound in
-    let same : c.in_ok-reply.reply ≡ (act (moved F c.args.call.now) c.args.call.now.caller c.args.call.now.cmd).reply = c.in_ok-reply.ensures.reply ∙ (λ i. (act (record F { clock = c.max-self.ensures i }) c.args.call.now.caller c.args.call.now.cmd).reply) in
+pub keep-requires : goal.keep-requires
+keep-requires c =
+    let k = c.args.call.now in
+    let started = ap (λ (D : Drafted). D.farm) c.of-draft.ensures ∙ taken c.args.self.now k c.max-self.result c.replace.ensures.value c.max-self.ensures in
+    let acted = acted_call (plain c.args.self.now) k c.requires.accepted c.requires.sound in
+    let same = c.in_ok-draft.ensures.reply ∙ ap (λ (F : Farm). (act F k.caller k.cmd).reply) started in
     rw same (omega (arith, acted.first), omega (arith, acted.second), omega (arith, acted.third))
+
+pub returns-clause-farm : goal.returns-clause-farm
+unfolding change
+returns-clause-farm c =
+    let k = c.args.call.now in
+    let F : Farm = plain c.args.self.now in
+    let started = ap (λ (D : Drafted). D.farm) c.of-draft.ensures ∙ taken c.args.self.now k c.max-self.result c.replace.ensures.value c.max-self.ensures in
+    let reply = c.in_ok-draft.ensures.reply ∙ ap (λ (F : Farm). (act F k.caller k.cmd).reply) started in
+    let acts = ap (λ (D : Drafted). D.farm) c.in_ok-draft.ensures.farm ∙ ap (λ (F : Farm). (act F k.caller k.cmd).farm) started in
+    let kept : plain c.into_parts-tables.result.0 ≡ keep k (act (moved F k) k.caller k.cmd).reply (act (moved F k) k.caller k.cmd).farm =
+    c.into_parts-tables.ensures.farm ∙ ap (λ (D : Drafted). D.farm) c.in_ok-draft-2.ensures ∙ (λ i. keep k (reply i) (acts i)) in
+    λ i. record (kept i) { count = F.count + 1 }
+
+pub returns-clause-reply : goal.returns-clause-reply
+unfolding change
+returns-clause-reply c =
+    let k = c.args.call.now in
+    let started = ap (λ (D : Drafted). D.farm) c.of-draft.ensures ∙ taken c.args.self.now k c.max-self.result c.replace.ensures.value c.max-self.ensures in
+    c.in_ok-draft.ensures.reply ∙ ap (λ (F : Farm). (act F k.caller k.cmd).reply) started

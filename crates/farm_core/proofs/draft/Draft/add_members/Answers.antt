@@ -1,0 +1,36 @@
+use Rattle.std.proofs.Common.{◌≡◌, ℕ, List, ◌+◌, ◌∷◌, [], get_or, drop, ap, sym, ◌∙◌, arith}
+use Rattle.farm_types.specs.Farm.{put_jobs}
+use Rattle.farm_types.specs.Change.{new_members}
+use Rattle.farm_types.specs.declared.rows.JobRow.{JobRow}
+use Rattle.farm_core.specs.Drafted.{Drafted, at_farm}
+use Rattle.farm_core.specs.Edits.{text_at}
+use Rattle.farm_core.proofs.Members.{text_next, member, members_more, members_end}
+use Rattle.farm_core.proofs.draft.Draft.add_members.Goals as goal
+
+-- the row that is put is the next member
+made : (c : goal.In_ok-draft) → c.in_ok-row.row ≡ member (c.args.group + c.loop-at.at) c.args.group c.args.owner.now c.args.priority (get_or c.args.wants.now c.loop-at.at c.index-wants-at.result) (get_or c.args.roles.now c.loop-at.at c.index-roles-at.result) (text_at c.loop-at.at c.args.body.now)
+made c =
+    c.in_ok-row.ensures
+    ∙ (λ i. member (c.args.group + c.loop-at.at) c.args.group c.args.owner.now c.args.priority (c.index-wants-at.is i) (c.index-roles-at.is i) (c.in_ok-text.ensures i))
+
+-- the members that are left behind it
+abbrev rest : (c : goal.In_ok-draft) → ℕ → List ℕ → List JobRow
+rest c number text = new_members c.args.group number c.args.owner.now c.args.priority (drop (c.loop-at.at + 1) c.args.wants.now) (drop (c.loop-at.at + 1) c.args.roles.now) text
+
+pub loop-at-preserved : goal.loop-at-preserved
+loop-at-preserved c =
+    let D : Drafted = c.loop-at.draft in
+    let n = c.loop-at.at in
+    let next : c.args.group + (n + 1) ≡ c.args.group + n + 1 = omega arith in
+    let more = members_more c.args.group c.args.owner.now c.args.priority c.args.wants.now c.args.roles.now n (c.args.group + n) (text_at n c.args.body.now) c.index-wants-at.result c.index-roles-at.result (omega arith) c.requires.roles in
+    (λ i. at_farm (put_jobs (c.in_ok-draft.ensures i).farm (rest c (next i) (text_next n c.args.body.now i))) (c.in_ok-draft.ensures i))
+    ∙ ap (λ row. at_farm (put_jobs D.farm (row ∷ rest c (c.args.group + n + 1) [])) D) (made c)
+    ∙ ap (λ rows. at_farm (put_jobs D.farm rows) D) (sym more)
+    ∙ c.loop-at.invariant
+
+pub returns : goal.returns
+returns c =
+    let D : Drafted = c.loop-at.draft in
+    let n = c.loop-at.at in
+    ap (λ rows. at_farm (put_jobs D.farm rows) D) (sym (members_end c.args.group c.args.owner.now c.args.priority c.args.wants.now c.args.roles.now n (c.args.group + n) (text_at n c.args.body.now) (omega arith)))
+    ∙ c.loop-at.invariant

@@ -1,0 +1,123 @@
+//! A draft: the tables on their way from one farm to another, and the rows that have changed so far.
+//! Each table has one edit, which logs the changed rows as well; no command writes a table otherwise.
+ghost use Rattle.std.specs.Prelude.{◌≡◌, IfOk};
+ghost use Rattle.farm_types.specs.Table.{put, job_cmp};
+ghost use Rattle.farm_types.specs.Farm.{Farm, put_type, put_board, put_res, put_kept};
+ghost use Rattle.farm_types.specs.Small.{IsSmallType, IsSmallBoard, IsSmallJob, IsSmallRes, IsSmallKept};
+ghost use Rattle.farm_core.specs.Plain.{plain};
+ghost use Rattle.farm_core.specs.Orderly.{IsOrderly, IsNear};
+ghost use Rattle.farm_core.specs.Tracks.{Tracks};
+ghost use Rattle.farm_core.specs.Drafted.{at_farm};
+
+use crate::tables::{Tables, no_changes};
+use farm_start::Start;
+use farm_types::calls::Changes;
+use farm_types::rows::{BoardRow, JobRow, KeptRow, ResRow, TypeRow};
+use farm_types::table::upsert;
+use std::alloc::AllocError;
+use std::marker::Model;
+
+/// The tables are in order, and the changed rows, put into the farm at the start, give them. A step
+/// takes the draft and gives it back: one that fails for want of memory leaves none.
+#[derive(Drop)]
+pub struct Draft {
+    /// The farm at the start, which only proofs read.
+    pub start: Start<Tables>,
+    pub tables: Tables,
+    pub changes: Changes,
+}
+
+impl Model for Draft {
+    ghost use Rattle.farm_core.specs.Plain.{plain};
+    ghost use Rattle.farm_core.specs.Drafted.{Drafted, IsWhole};
+
+    ghost Value = { Drafted };
+
+    ghost view = { λ d. record { start = plain d.start.value; farm = plain d.tables } };
+
+    ghost invariant = { λ d. IsWhole (plain d.start.value) d.changes (plain d.tables) };
+}
+
+impl Draft {
+    /// A draft in which nothing has changed.
+    pub fn of(tables: Tables) -> Draft
+        requires { IsOrderly (plain tables) }
+        ensures { result ≡ record { start = plain tables; farm = plain tables } }
+    {
+        let start = Start::note(&tables);
+        let changes = no_changes(*tables.types.allocator());
+        Draft {
+            start,
+            tables,
+            changes,
+        }
+    }
+
+    /// The tables, and the rows that have changed.
+    pub fn into_parts(self) -> (Tables, Changes)
+        ensures farm { plain result.0 ≡ self.farm }
+        ensures tracked { Tracks self.start result.1 self.farm }
+    {
+        (self.tables, self.changes)
+    }
+
+    /// The next job or reservation has that number.
+    pub fn with_next(mut self, next: u64) -> Draft
+        ensures { result ≡ at_farm (record self.farm { next = next }) self }
+    {
+        self.tables.next = next;
+        self
+    }
+
+    /// Puts a type.
+    pub fn put_type(mut self, row: TypeRow) -> Result<Draft, AllocError>
+        requires { IsSmallType row }
+        ensures { IfOk result (λ d. d ≡ at_farm (put_type self.farm row) self) }
+    {
+        self.changes.types.push(row.copy()?)?;
+        upsert(&mut self.tables.types, row)?;
+        Ok(self)
+    }
+
+    /// Puts a board.
+    pub fn put_board(mut self, row: BoardRow) -> Result<Draft, AllocError>
+        requires { IsSmallBoard row }
+        ensures { IfOk result (λ d. d ≡ at_farm (put_board self.farm row) self) }
+    {
+        self.changes.boards.push(row.copy()?)?;
+        upsert(&mut self.tables.boards, row)?;
+        Ok(self)
+    }
+
+    /// Puts a job. A row with the next number is added at the end, and moves none.
+    pub fn put_job(mut self, row: JobRow) -> Result<Draft, AllocError>
+        requires small { IsSmallJob row }
+        requires near { IsNear row }
+        ensures { IfOk result (λ d. d ≡ at_farm (record self.farm { jobs = put job_cmp self.farm.jobs row }) self) }
+    {
+        self.changes.jobs.push(row.copy()?)?;
+        upsert(&mut self.tables.jobs, row)?;
+        Ok(self)
+    }
+
+    /// Puts a reservation. A row with the next number is added at the end, and moves none.
+    pub fn put_reservation(mut self, row: ResRow) -> Result<Draft, AllocError>
+        requires { IsSmallRes row }
+        ensures { IfOk result (λ d. d ≡ at_farm (put_res self.farm row) self) }
+    {
+        self.changes.reservations.push(row.copy()?)?;
+        upsert(&mut self.tables.reservations, row)?;
+        Ok(self)
+    }
+
+    /// Puts a kept reply.
+    #[tactic(auto, using(crate::proofs::Small::small_kept_push))]
+    pub fn put_kept(mut self, row: KeptRow) -> Result<Draft, AllocError>
+        requires { IsSmallKept row }
+        ensures { IfOk result (λ d. d ≡ at_farm (put_kept self.farm row) self) }
+    {
+        self.changes.kept.push(row.copy()?)?;
+        self.tables.kept.put(row)?;
+        Ok(self)
+    }
+}
