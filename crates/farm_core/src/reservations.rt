@@ -150,8 +150,11 @@ impl Draft {
         requires { IsSmall number }
         ensures { IfOk result (λ r. Acts self [] (Cmd.CancelRes number) r.1 r.0) }
     {
-        let draft =
-            self.edit_reservation_and_board(number, ResEdit::Cancel(number), Becomes::Idle)?;
+        let draft = self.edit_reservation_and_board(
+            number,
+            ResEdit::Cancel(number),
+            Becomes::Idle,
+        )?;
         Ok((draft, number))
     }
 }

@@ -154,8 +154,7 @@ impl Draft {
         ensures { IfOk result (λ r. Acts self owner.now (Cmd.Submit priority wants.now roles.now body.now) r.1 r.0) }
     {
         let group = self.tables.next;
-        let draft =
-            self.add_members(group, owner, priority, wants.items(), roles.items(), body)?;
+        let draft = self.add_members(group, owner, priority, wants.items(), roles.items(), body)?;
         let next = group + wants.items().len() as u64;
         Ok((draft.with_next(next), group))
     }

@@ -1,5 +1,6 @@
 //! The value that something began with, which only proofs read.
 #![tactic(auto)]
+
 ghost use Rattle.std.specs.Prelude.{◌≡◌};
 ghost use Rattle.std.specs.Borrow.{ftrue};
 

@@ -25,7 +25,7 @@ returns c = λ b is.
     c.in_ok-draft.ensures ∙ ap (λ row. at_farm (record D.farm { jobs = put job_cmp D.farm.jobs row }) D) (c.in_ok-row.ensures ∙ (λ i. check_job (next i) (same i))) in
     let name = c.in_ok-name.ensures.same ∙ ap (λ (b : BoardRow). b.name) same in
     let taken = c.in_ok-draft-2.ensures
-        ∙ (λ i. at_farm (record (added i).farm { boards = change_where (λ (c : BoardRow). bytes_eq c.name (name i)) (held (Holder.Job (next i)) State.Reserved) (added i).farm.boards }) (added i)) in
+    ∙ (λ i. at_farm (record (added i).farm { boards = change_where (λ (c : BoardRow). bytes_eq c.name (name i)) (held (Holder.Job (next i)) State.Reserved) (added i).farm.boards }) (added i)) in
     c.with_next.ensures
     ∙ (λ i. at_farm (record (taken i).farm { next = next i + 1 }) (taken i))
     ∙ ap (λ v. at_farm (cond v (record D.farm {

@@ -15,9 +15,8 @@ returns c =
     let found = ap (λ (D : Drafted). job_of D.farm c.args.number) (sym c.self.view_is) ∙ sym c.in-Some.ensures.found in
     let clock : c.self.inside.tables.clock ≡ F.clock = ap (λ (D : Drafted). D.farm.clock) c.self.view_is in
     let made : c.in_ok-draft.draft.farm ≡ change_jobs (job_passes e) (job_changed e) (board_after (after j.checking (outcome_of j c.args.named) c.self.inside.tables.clock)) F =
-    rw (← c.outcome_of-outcome.ensures) (rw (← c.after.ensures) (ap (λ (D : Drafted). D.farm) c.in_ok-draft.ensures)) in
-    (
+    rw (← c.outcome_of-outcome.ensures) (rw (← c.after.ensures) (ap (λ (D : Drafted). D.farm) c.in_ok-draft.ensures)) in (
       finished F c.in_ok-draft.draft.farm c.args.number j c.args.named found c.in-Some.ensures.small.0
-      (made ∙ (λ i. change_jobs (job_passes e) (job_changed e) (board_after (after j.checking (outcome_of j c.args.named) (clock i))) F)),
+          (made ∙ (λ i. change_jobs (job_passes e) (job_changed e) (board_after (after j.checking (outcome_of j c.args.named) (clock i))) F)),
       ap (λ (D : Drafted). D.start) c.in_ok-draft.ensures,
     )

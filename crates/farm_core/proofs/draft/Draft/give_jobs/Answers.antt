@@ -1,6 +1,5 @@
 use Rattle.std.proofs.Common.{◌+◌, drop, refl, ap, sym, ◌∙◌, arith}
 use Rattle.std.specs.List.{fold, zip}
-use Rattle.farm_types.specs.Farm.{Farm}
 use Rattle.farm_core.specs.Serving.{give_named}
 use Rattle.farm_core.specs.Drafted.{Drafted, at_farm}
 use Rattle.farm_core.proofs.Serving.{pairs_more, pairs_end, small_at}

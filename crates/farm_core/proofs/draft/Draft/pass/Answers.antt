@@ -28,7 +28,7 @@ returns-clause-farm c =
     let checked = ap (λ (D : Drafted). D.farm) c.in_ok-draft-2.ensures.farm in
     let start = ap (λ (D : Drafted). D.start) c.in_ok-draft-3.ensures.farm ∙ ap (λ (D : Drafted). D.start) c.in_ok-draft-2.ensures.farm ∙ ap (λ (D : Drafted). D.start) c.in_ok-draft.ensures.farm in
     let farm = ap (λ (D : Drafted). D.farm) c.in_ok-draft-3.ensures.farm
-        ∙ ap (λ (s : Served). s.farm) (served_is c.args.self.farm c.in_ok-draft.draft.farm c.in_ok-draft-2.draft.farm ended checked) in
+    ∙ ap (λ (s : Served). s.farm) (served_is c.args.self.farm c.in_ok-draft.draft.farm c.in_ok-draft-2.draft.farm ended checked) in
     λ i. record { start = start i; farm = farm i }
 
 pub returns-clause-reply : goal.returns-clause-reply

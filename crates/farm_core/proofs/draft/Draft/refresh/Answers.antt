@@ -11,8 +11,7 @@ returns c =
     let F = c.args.self.farm in
     let clock : c.self.inside.tables.clock ≡ F.clock = ap (λ (D : Drafted). D.farm.clock) c.self.view_is in
     let made = ap (λ (D : Drafted). D.farm) c.in_ok-draft.ensures
-        ∙ (λ i. record F { reservations = change_where (λ (r : ResRow). r.number == c.args.number) (λ (r : ResRow). record r { deadline = clock i + 60 }) F.reservations }) in
-    (
+    ∙ (λ i. record F { reservations = change_where (λ (r : ResRow). r.number == c.args.number) (λ (r : ResRow). record r { deadline = clock i + 60 }) F.reservations }) in (
       ap (done c.args.number) (sym (reservations_alone F c.in_ok-draft.draft.farm (λ (r : ResRow). r.number == c.args.number) (λ (r : ResRow). record r { deadline = F.clock + 60 }) made)),
       ap (λ (D : Drafted). D.start) c.in_ok-draft.ensures,
     )

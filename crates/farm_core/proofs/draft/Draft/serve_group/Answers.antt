@@ -1,4 +1,4 @@
-use Rattle.std.proofs.Common.{◌≡◌, Some, ap, ◌∙◌, subst, map}
+use Rattle.std.proofs.Common.{◌≡◌, Some, ap, ◌∙◌, subst}
 use Rattle.std.specs.List.{fold, zip}
 use Rattle.std.specs.Option.{option_map}
 use Rattle.farm_types.specs.Farm.{Farm, members}
@@ -23,8 +23,7 @@ returns-in_ok-give_jobs-in-Some c = λ d of_group same asks.
     let picked : Some names ≡ option_map names_of (least (plain c.self.inside.tables).boards (is_free (plain c.self.inside.tables).types) (wants_of (members (plain c.self.inside.tables) c.args.group))) =
     let h = c.in_ok-pick_for_group.ensures in rw c.in-Some.is at h in
     let made : E.farm ≡ fold give_named F (zip numbers names) =
-    ap (λ (D : Drafted). D.farm) c.in_ok-give_jobs-in-Some.ensures ∙ (λ i. fold give_named F (zip (c.deref.ensures.value i) (c.deref-in-Some.ensures.value i))) in
-    (
+    ap (λ (D : Drafted). D.farm) c.in_ok-give_jobs-in-Some.ensures ∙ (λ i. fold give_named F (zip (c.deref.ensures.value i) (c.deref-in-Some.ensures.value i))) in (
       λ n. group_served F E.farm c.args.group d n names numbers of_group same asks
           (subst (λ (G : Farm). Some names ≡ option_map names_of (least G.boards (is_free G.types) (wants_of (members G c.args.group)))) here picked)
           (c.in_ok-numbers-in-Some.ensures ∙ ap numbers_of c.near-near.ensures ∙ ap (λ (G : Farm). numbers_of (members G c.args.group)) here)
