@@ -19,7 +19,8 @@ use Rattle.farm_types.specs.declared.rows.BoardRow.{BoardRow}
 use Rattle.farm_types.specs.declared.rows.JobRow.{JobRow}
 use Rattle.farm_types.specs.declared.rows.ResRow.{ResRow}
 use Rattle.farm_types.specs.declared.rows.KeptRow.{KeptRow}
-use Rattle.farm_store.specs.Columns.{rows_of, put_tables, by_first, by_two, type_columns, board_columns, job_columns, res_columns, kept_columns, meta_row, number_rows}
+use Rattle.farm_store.specs.Columns.{rows_of, by_first, by_two, type_columns, board_columns, job_columns, res_columns, kept_columns, meta_row, number_rows}
+use Rattle.farm_store.specs.Places.{put_tables}
 
 module _ {X Y : Type 0} (f : X → Y) (c : Y → Y → Ordering) (d : X → X → Ordering) (same : (a b : X) → c (f a) (f b) ≡ d a b) where
   map_put : (rows : List X) (x : X) → map f (put d rows x) ≡ put c (map f rows) (f x)

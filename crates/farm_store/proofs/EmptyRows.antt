@@ -2,8 +2,9 @@
 use Rattle.std.proofs.Common.{◌≡◌, [], ◌∷◌, codes}
 use Rattle.sqlite_value.proofs.OrderLemmas.{value_cmp-Text}
 use Rattle.farm_types.specs.Farm.{empty}
-use Rattle.farm_store.specs.Columns.{no_rows, rows_of, meta_row, number_rows, with_meta}
+use Rattle.farm_store.specs.Columns.{no_rows, rows_of, meta_row, number_rows}
+use Rattle.farm_store.specs.Places.{of_meta, put_at}
 
-pub empty_rows : with_meta (with_meta no_rows (number_rows 0 0 1)) (meta_row (codes "schema") 1 ∷ []) ≡ rows_of empty
+pub empty_rows : put_at of_meta (put_at of_meta no_rows (number_rows 0 0 1)) (meta_row (codes "schema") 1 ∷ []) ≡ rows_of empty
 unfolding rows_of
 empty_rows = simp value_cmp-Text

@@ -54,8 +54,9 @@ use Rattle.sqlite_rules.proofs.ListLemmas.{all_has, all_from}
 use Rattle.sqlite_rules.proofs.PlaceLemmas.{tied_same}
 use Rattle.sqlite_rules.proofs.TableLemmas.{int_is}
 use Rattle.farm_store.specs.Schema.{farm_schema, strict, meta_table}
-use Rattle.farm_store.specs.Columns.{Tables, by_first, meta_row, with_meta}
+use Rattle.farm_store.specs.Columns.{Tables, by_first, meta_row}
 use Rattle.farm_store.specs.Holds.{IsInside}
+use Rattle.farm_store.specs.Places.{of_meta, put_at}
 use Rattle.farm_store.specs.Replaces.{Replaces}
 use Rattle.farm_store.specs.Stored.{Differ, HasInt, Lists, unnumbered}
 use Rattle.farm_store.proofs.Sorted.{tie_same}
@@ -65,7 +66,7 @@ use Rattle.farm_store.proofs.PutLemmas.{eq_is, lists_put}
 use Rattle.farm_store.proofs.Replace.{went, same_value, cast_int, cast_null, from_put, clears}
 use Rattle.farm_store.proofs.OnConflict.{task, does}
 use Rattle.farm_store.proofs.OneRow.{Upserted}
-use Rattle.farm_store.proofs.Frames.{with_meta_put}
+use Rattle.farm_store.proofs.PutAt.{meta_known, stands_put}
 
 abbrev pub put_text : List ℕ
 put_text = codes "INSERT INTO meta VALUES (?1, ?2) ON CONFLICT (name) DO UPDATE SET value = excluded.value"
@@ -287,7 +288,7 @@ module _ (mode : Mode) (limit : Option ℕ) (db : Trees) (rows : List Row) (it :
   pub judge : (w : Written) → Upserts the_task Abort new db (clause ∷ []) (Ok w) → Makes w.trees
   judge w h = either h.0 h.1 w h.2
 
-pub puts : (old new : State) (name : List ℕ) (value : ℕ) (count : ℕ) (T : Tables) → IsInside old T → ExecutesInside 0 put_text (meta_row name value) old new (Ok count) → IsInside new (with_meta T (meta_row name value ∷ []))
+pub puts : (old new : State) (name : List ℕ) (value : ℕ) (count : ℕ) (T : Tables) → IsInside old T → ExecutesInside 0 put_text (meta_row name value) old new (Ok count) → IsInside new (put_at of_meta T (meta_row name value ∷ []))
 puts old new name value count T at ran =
     let see = at.shown ran.1.was_open in
     let x = meta_row name value in
@@ -299,10 +300,10 @@ puts old new name value count T at ran =
     let did = does old.step_limit (mode_of old) farm_schema (codes "meta") 8 table.columns None (1 ∷ []) ((1 ∷ []) ∷ []) (record { digits = 0 } ∷ []) x clause
     db (Int (next_rowid (db 8)) ∷ x) (Makes (mode_of old) old.step_limit db T.meta see.holds.meta name value) (judge (mode_of old) old.step_limit db T.meta see.holds.meta name value)
     5 refl terms 3 (Null ∷ x) refl (ap (with_rowid Chosen (db 8)) (casts name value)) sql run.tally new.now changed in
-    let upserted : Upserted by_first unnumbered 2 8 old new x = record {
+    let upserted : Upserted of_meta old new x = record {
       schema = did.0;
       listed = subst (AreListed (new.now.trees catalog_tree)) did.0 run.sound.lists.listed;
       others = did.1.replaces.others;
       lists = λ rows stored. lists_put first_total unnumbered 2 farm_schema table did.1.row x did.1.shows refl db new.now.trees did.1.clash rows stored did.1.replaces;
     } in
-    with_meta_put old new T x see upserted ran.1.mode
+    stands_put of_meta meta_known old new T x upserted see ran.1.mode

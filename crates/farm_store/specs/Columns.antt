@@ -6,8 +6,6 @@ use Rattle.sqlite.specs.Order.{Row, column}
 use Rattle.sqlite_value.specs.Order.{value_cmp}
 use Rattle.std.specs.declared.cmp.Ordering.{Ordering}
 use Rattle.std.specs.Ordering.{ordering_then}
-use Rattle.farm_types.specs.Table.{put_all}
-use Rattle.farm_types.specs.declared.calls.Changes.{Changes}
 use Rattle.farm_types.specs.Codes.{health_code, state_code, job_state_code, outcome_code, res_state_code}
 use Rattle.farm_types.specs.Farm.{Farm}
 use Rattle.farm_types.specs.Small.{every_of, held_by}
@@ -88,31 +86,6 @@ by_first a b = value_cmp (column a 0) (column b 0)
 
 abbrev pub by_two : Row → Row → Ordering
 by_two a b = ordering_then (value_cmp (column a 0) (column b 0)) (value_cmp (column a 1) (column b 1))
-
--- the tables with rows put: each in the place of the row with its key, or added in order of the keys
-abbrev pub with_types : Tables → List TypeRow → Tables
-with_types T rows = record T { types = put_all by_first T.types (map type_columns rows) }
-
-abbrev pub with_boards : Tables → List BoardRow → Tables
-with_boards T rows = record T { boards = put_all by_first T.boards (map board_columns rows) }
-
-abbrev pub with_jobs : Tables → List JobRow → Tables
-with_jobs T rows = record T { jobs = put_all by_first T.jobs (map job_columns rows) }
-
-abbrev pub with_reservations : Tables → List ResRow → Tables
-with_reservations T rows = record T { reservations = put_all by_first T.reservations (map res_columns rows) }
-
-abbrev pub with_kept : Tables → List KeptRow → Tables
-with_kept T rows = record T { kept = put_all by_two T.kept (map kept_columns rows) }
-
-abbrev pub with_meta : Tables → List Row → Tables
-with_meta T rows = record T { meta = put_all by_first T.meta rows }
-
--- the tables with all changed rows and the three numbers put
-abbrev pub put_tables : Tables → Changes → Tables
-put_tables T c =
-    with_meta (with_kept (with_reservations (with_jobs (with_boards (with_types T c.types.items) c.boards.items) c.jobs.items) c.reservations.items) c.kept.items)
-    (number_rows c.meta.clock c.meta.count c.meta.next)
 
 -- six tables without a row
 abbrev pub no_rows : Tables

@@ -6,19 +6,19 @@ use Rattle.sqlite.specs.State.{State, HasCleanDisk}
 use Rattle.sqlite_catalog.specs.Listing.{AreListed}
 use Rattle.sqlite_trees.specs.Objects.{catalog_tree}
 use Rattle.farm_store.specs.Schema.{farm_schema}
-use Rattle.farm_store.specs.Stored.{Lists, unnumbered, with_number}
-use Rattle.farm_store.specs.Columns.{Tables, rows_of, by_first, by_two}
+use Rattle.farm_store.specs.Columns.{Tables, rows_of}
+use Rattle.farm_store.specs.Places.{HoldsAt, of_types, of_boards, of_jobs, of_reservations, of_kept, of_meta}
 use Rattle.farm_types.specs.Farm.{Farm, empty}
 
 -- the trees list the farm's schema, and its tables have these rows
 pub record Holds (db : Trees) (T : Tables) : Type 0 where
   pub listed : AreListed (db catalog_tree) farm_schema
-  pub types : Lists by_first unnumbered 3 (db 0) T.types
-  pub boards : Lists by_first unnumbered 9 (db 2) T.boards
-  pub jobs : Lists by_first with_number 12 (db 4) T.jobs
-  pub reservations : Lists by_first with_number 7 (db 5) T.reservations
-  pub kept : Lists by_two unnumbered 6 (db 6) T.kept
-  pub meta : Lists by_first unnumbered 2 (db 8) T.meta
+  pub types : HoldsAt of_types db T
+  pub boards : HoldsAt of_boards db T
+  pub jobs : HoldsAt of_jobs db T
+  pub reservations : HoldsAt of_reservations db T
+  pub kept : HoldsAt of_kept db T
+  pub meta : HoldsAt of_meta db T
 
 -- a database that is the farm's, with these tables
 pub record ShowsTables (db : Database) (T : Tables) : Type 0 where

@@ -2,6 +2,7 @@ pub mod Columns
 pub mod Edits
 pub mod Faults
 pub mod Holds
+pub mod Places
 pub mod Readable
 pub mod Reading
 pub mod Replaces

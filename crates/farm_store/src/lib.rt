@@ -1,6 +1,6 @@
 //! The farm's six tables in a store of SQL.
 //!
-//! Read `specs/` in the order Columns, Schema, Stored, Holds, which say what a store holds; then Edits,
+//! Read `specs/` in the order Columns, Schema, Stored, Places, Holds, which say what a store holds; then Edits,
 //! Replaces, Texts of writing; then Readable, Reading of reading; Faults has the faults' numbers.
 #![tactic(auto)]
 

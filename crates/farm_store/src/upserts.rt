@@ -7,13 +7,14 @@ mod reservations;
 mod texts;
 mod types;
 
-ghost use Rattle.std.specs.Prelude.{◌≡◌, ◌≤◌, ◌⊎◌, false, IsTrue, Err, IfErr, OnOk};
+ghost use Rattle.std.specs.Prelude.{◌≡◌, ◌≤◌, ◌⊎◌, false, map, IsTrue, Err, IfErr, OnOk};
 ghost use Rattle.sqlite.specs.Held.{state};
 ghost use Rattle.sqlite.specs.State.{HasCleanDisk};
 ghost use Rattle.sqlite_trees.specs.View.{doubt};
 ghost use Rattle.farm_types.specs.Farm.{Farm, put_rows};
 ghost use Rattle.farm_types.specs.Small.{AreSmall};
-ghost use Rattle.farm_store.specs.Columns.{rows_of, with_types, with_boards, with_jobs};
+ghost use Rattle.farm_store.specs.Columns.{rows_of, type_columns, board_columns, job_columns};
+ghost use Rattle.farm_store.specs.Places.{of_boards, of_jobs, of_types, put_at};
 ghost use Rattle.farm_store.specs.Edits.{ChangesTables, CommitsNothing};
 ghost use Rattle.farm_store.specs.Holds.{IsInside, Stands, LeavesEither};
 ghost use Rattle.farm_store.specs.Texts.{AreBoardTexts, AreJobTexts, AreResTexts};
@@ -41,7 +42,8 @@ fn put_lab<S: Alter>(
     requires jobs { AreJobTexts texts.now.jobs.items changes.now.jobs.items }
     ensures same_reference { tx.new.conn.ghost_name ≡ tx.old.conn.ghost_name }
     ensures put { ChangesTables result (state S.Store tx.old.conn.now) (state S.Store tx.new.conn.now)
-        (λ T. with_jobs (with_boards (with_types T changes.now.types.items) changes.now.boards.items) changes.now.jobs.items) }
+        (λ T. put_at of_jobs (put_at of_boards (put_at of_types T (map type_columns changes.now.types.items)) (map board_columns changes.now.boards.items))
+        (map job_columns changes.now.jobs.items)) }
     ensures survives { CommitsNothing (state S.Store tx.old.conn.now) (state S.Store tx.new.conn.now) }
 {
     put_types(tx, &changes.types)?;

@@ -1,10 +1,11 @@
 //! The upsert of boards.
-ghost use Rattle.std.specs.Prelude.{◌≡◌, [], ◌∷◌};
+ghost use Rattle.std.specs.Prelude.{◌≡◌, [], ◌∷◌, map};
 ghost use Rattle.std.specs.List.{AllByRecursion};
 ghost use Rattle.sqlite.specs.Held.{state};
 ghost use Rattle.farm_types.specs.Small.{IsSmallBoard};
 ghost use Rattle.farm_types.specs.Tags.{tags_text};
-ghost use Rattle.farm_store.specs.Columns.{with_boards};
+ghost use Rattle.farm_store.specs.Columns.{board_columns};
+ghost use Rattle.farm_store.specs.Places.{of_boards, put_at};
 ghost use Rattle.farm_store.specs.Edits.{ChangesTables, CommitsNothing};
 ghost use Rattle.farm_store.specs.Texts.{AreBoardTexts};
 
@@ -16,7 +17,7 @@ fn put_board<S: Alter>(tx: &mut Transaction<'_, S>, row: &BoardRow, tags: &str) 
     requires small { IsSmallBoard row.now }
     requires tags { tags.now ≡ tags_text row.now.tags }
     ensures same_reference { tx.new.conn.ghost_name ≡ tx.old.conn.ghost_name }
-    ensures put { ChangesTables result (state S.Store tx.old.conn.now) (state S.Store tx.new.conn.now) (λ T. with_boards T (row.now ∷ [])) }
+    ensures put { ChangesTables result (state S.Store tx.old.conn.now) (state S.Store tx.new.conn.now) (λ T. put_at of_boards T (board_columns row.now ∷ [])) }
     ensures survives { CommitsNothing (state S.Store tx.old.conn.now) (state S.Store tx.new.conn.now) }
 {
     let columns = board_columns(row, tags);
@@ -35,7 +36,7 @@ pub(crate) fn put_boards<S: Alter>(
     requires small { AllByRecursion IsSmallBoard rows.now }
     requires texts { AreBoardTexts texts.now rows.now }
     ensures same_reference { tx.new.conn.ghost_name ≡ tx.old.conn.ghost_name }
-    ensures put { ChangesTables result (state S.Store tx.old.conn.now) (state S.Store tx.new.conn.now) (λ T. with_boards T rows.now) }
+    ensures put { ChangesTables result (state S.Store tx.old.conn.now) (state S.Store tx.new.conn.now) (λ T. put_at of_boards T (map board_columns rows.now)) }
     ensures survives { CommitsNothing (state S.Store tx.old.conn.now) (state S.Store tx.new.conn.now) }
 {
     for (row, tags) in rows.iter().zip(texts) {

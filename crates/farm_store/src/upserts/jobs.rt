@@ -1,10 +1,11 @@
 //! The upsert of jobs.
-ghost use Rattle.std.specs.Prelude.{◌≡◌, [], ◌∷◌};
+ghost use Rattle.std.specs.Prelude.{◌≡◌, [], ◌∷◌, map};
 ghost use Rattle.std.specs.List.{AllByRecursion};
 ghost use Rattle.sqlite.specs.Held.{state};
 ghost use Rattle.farm_types.specs.Small.{IsSmallJob};
 ghost use Rattle.farm_types.specs.Tags.{tags_text};
-ghost use Rattle.farm_store.specs.Columns.{with_jobs};
+ghost use Rattle.farm_store.specs.Columns.{job_columns};
+ghost use Rattle.farm_store.specs.Places.{of_jobs, put_at};
 ghost use Rattle.farm_store.specs.Edits.{ChangesTables, CommitsNothing};
 ghost use Rattle.farm_store.specs.Texts.{AreJobTexts};
 
@@ -16,7 +17,7 @@ fn put_job<S: Alter>(tx: &mut Transaction<'_, S>, row: &JobRow, tags: &str) -> R
     requires small { IsSmallJob row.now }
     requires tags { tags.now ≡ tags_text row.now.want.tags }
     ensures same_reference { tx.new.conn.ghost_name ≡ tx.old.conn.ghost_name }
-    ensures put { ChangesTables result (state S.Store tx.old.conn.now) (state S.Store tx.new.conn.now) (λ T. with_jobs T (row.now ∷ [])) }
+    ensures put { ChangesTables result (state S.Store tx.old.conn.now) (state S.Store tx.new.conn.now) (λ T. put_at of_jobs T (job_columns row.now ∷ [])) }
     ensures survives { CommitsNothing (state S.Store tx.old.conn.now) (state S.Store tx.new.conn.now) }
 {
     let columns = job_columns(row, tags);
@@ -35,7 +36,7 @@ pub(crate) fn put_jobs<S: Alter>(
     requires small { AllByRecursion IsSmallJob rows.now }
     requires texts { AreJobTexts texts.now rows.now }
     ensures same_reference { tx.new.conn.ghost_name ≡ tx.old.conn.ghost_name }
-    ensures put { ChangesTables result (state S.Store tx.old.conn.now) (state S.Store tx.new.conn.now) (λ T. with_jobs T rows.now) }
+    ensures put { ChangesTables result (state S.Store tx.old.conn.now) (state S.Store tx.new.conn.now) (λ T. put_at of_jobs T (map job_columns rows.now)) }
     ensures survives { CommitsNothing (state S.Store tx.old.conn.now) (state S.Store tx.new.conn.now) }
 {
     for (row, tags) in rows.iter().zip(texts) {

@@ -1,7 +1,8 @@
 //! The upsert of the farm's numbers.
 ghost use Rattle.std.specs.Prelude.{◌≡◌, [], ◌∷◌};
 ghost use Rattle.sqlite.specs.Held.{state};
-ghost use Rattle.farm_store.specs.Columns.{meta_row, number_rows, with_meta};
+ghost use Rattle.farm_store.specs.Columns.{meta_row, number_rows};
+ghost use Rattle.farm_store.specs.Places.{of_meta, put_at};
 ghost use Rattle.farm_store.specs.Edits.{ChangesTables, CommitsNothing, StaysOpen};
 ghost use Rattle.farm_types.specs.Small.{IsSmall};
 
@@ -16,7 +17,7 @@ pub(crate) fn put_number<S: Alter>(
 ) -> Result<(), Error>
     requires small { IsSmall value }
     ensures same_reference { tx.new.conn.ghost_name ≡ tx.old.conn.ghost_name }
-    ensures put { ChangesTables result (state S.Store tx.old.conn.now) (state S.Store tx.new.conn.now) (λ T. with_meta T (meta_row name.now value ∷ [])) }
+    ensures put { ChangesTables result (state S.Store tx.old.conn.now) (state S.Store tx.new.conn.now) (λ T. put_at of_meta T (meta_row name.now value ∷ [])) }
     ensures stays_open { StaysOpen result (state S.Store tx.old.conn.now) (state S.Store tx.new.conn.now) }
     ensures survives { CommitsNothing (state S.Store tx.old.conn.now) (state S.Store tx.new.conn.now) }
 {
@@ -37,7 +38,7 @@ pub(crate) fn put_numbers<S: Alter>(
     requires next { IsSmall numbers.next }
     ensures same_reference { tx.new.conn.ghost_name ≡ tx.old.conn.ghost_name }
     ensures put { ChangesTables result (state S.Store tx.old.conn.now) (state S.Store tx.new.conn.now)
-        (λ T. with_meta T (number_rows numbers.clock numbers.count numbers.next)) }
+        (λ T. put_at of_meta T (number_rows numbers.clock numbers.count numbers.next)) }
     ensures stays_open { StaysOpen result (state S.Store tx.old.conn.now) (state S.Store tx.new.conn.now) }
     ensures survives { CommitsNothing (state S.Store tx.old.conn.now) (state S.Store tx.new.conn.now) }
 {

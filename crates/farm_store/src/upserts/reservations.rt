@@ -1,10 +1,11 @@
 //! The upsert of reservations.
-ghost use Rattle.std.specs.Prelude.{◌≡◌, [], ◌∷◌};
+ghost use Rattle.std.specs.Prelude.{◌≡◌, [], ◌∷◌, map};
 ghost use Rattle.std.specs.List.{AllByRecursion};
 ghost use Rattle.sqlite.specs.Held.{state};
 ghost use Rattle.farm_types.specs.Small.{IsSmallRes};
 ghost use Rattle.farm_types.specs.Tags.{tags_text};
-ghost use Rattle.farm_store.specs.Columns.{with_reservations};
+ghost use Rattle.farm_store.specs.Columns.{res_columns};
+ghost use Rattle.farm_store.specs.Places.{of_reservations, put_at};
 ghost use Rattle.farm_store.specs.Edits.{ChangesTables, CommitsNothing};
 ghost use Rattle.farm_store.specs.Texts.{AreResTexts};
 
@@ -20,7 +21,7 @@ fn put_reservation<S: Alter>(
     requires small { IsSmallRes row.now }
     requires tags { tags.now ≡ tags_text row.now.want.tags }
     ensures same_reference { tx.new.conn.ghost_name ≡ tx.old.conn.ghost_name }
-    ensures put { ChangesTables result (state S.Store tx.old.conn.now) (state S.Store tx.new.conn.now) (λ T. with_reservations T (row.now ∷ [])) }
+    ensures put { ChangesTables result (state S.Store tx.old.conn.now) (state S.Store tx.new.conn.now) (λ T. put_at of_reservations T (res_columns row.now ∷ [])) }
     ensures survives { CommitsNothing (state S.Store tx.old.conn.now) (state S.Store tx.new.conn.now) }
 {
     let columns = res_columns(row, tags);
@@ -39,7 +40,7 @@ pub(crate) fn put_reservations<S: Alter>(
     requires small { AllByRecursion IsSmallRes rows.now }
     requires texts { AreResTexts texts.now rows.now }
     ensures same_reference { tx.new.conn.ghost_name ≡ tx.old.conn.ghost_name }
-    ensures put { ChangesTables result (state S.Store tx.old.conn.now) (state S.Store tx.new.conn.now) (λ T. with_reservations T rows.now) }
+    ensures put { ChangesTables result (state S.Store tx.old.conn.now) (state S.Store tx.new.conn.now) (λ T. put_at of_reservations T (map res_columns rows.now)) }
     ensures survives { CommitsNothing (state S.Store tx.old.conn.now) (state S.Store tx.new.conn.now) }
 {
     for (row, tags) in rows.iter().zip(texts) {

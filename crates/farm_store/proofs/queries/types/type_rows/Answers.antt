@@ -2,26 +2,26 @@ use Rattle.std.proofs.Common.{[], sym, subst}
 use Rattle.sqlite.specs.Held.{state}
 use Rattle.farm_store.specs.Holds.{ShowsTables}
 use Rattle.farm_store.proofs.Selects.{fails_keep, was_open}
-use Rattle.farm_store.proofs.SelectTypes.{select_text, selects}
+use Rattle.farm_store.proofs.RowSelects.{types_text, shows_types}
 use Rattle.farm_store.proofs.queries.types.type_rows.Goals as goal
 
 pub returns-in_err-rows-clause-kept : goal.returns-in_err-rows-clause-kept
 returns-in_err-rows-clause-kept g c clean T at shows still =
     let old = state g.S.Store c.args.tx.now.conn.now in
     let new = state g.S.Store c.query_all.new.self.conn.now in
-    let keeps = fails_keep select_text [] old new _ (c.in_err-rows.ensures.err clean) in
+    let keeps = fails_keep types_text [] old new _ (c.in_err-rows.ensures.err clean) in
     subst (λ d. ShowsTables d T) (sym (keeps.committed still)) (shows (keeps.was_open still))
 
 pub returns-clause-rows : goal.returns-clause-rows
 returns-clause-rows g c clean T at =
-    let got = selects (state g.S.Store c.args.tx.now.conn.now) (state g.S.Store c.query_all.new.self.conn.now) c.in_ok-rows.rows.items T at (c.in_ok-rows.ensures.ok clean) in
+    let got = shows_types (state g.S.Store c.args.tx.now.conn.now) (state g.S.Store c.query_all.new.self.conn.now) c.in_ok-rows.rows.items T at (c.in_ok-rows.ensures.ok clean) in
     (got.0, got.1, got.2.inside)
 
 pub returns-clause-kept : goal.returns-clause-kept
 returns-clause-kept g c clean T at shows still =
-    let got = selects (state g.S.Store c.args.tx.now.conn.now) (state g.S.Store c.query_all.new.self.conn.now) c.in_ok-rows.rows.items T at (c.in_ok-rows.ensures.ok clean) in
+    let got = shows_types (state g.S.Store c.args.tx.now.conn.now) (state g.S.Store c.query_all.new.self.conn.now) c.in_ok-rows.rows.items T at (c.in_ok-rows.ensures.ok clean) in
     subst (λ d. ShowsTables d T) (sym got.2.committed) (shows got.2.was_open)
 
 pub returns-clause-opened : goal.returns-clause-opened
 returns-clause-opened g c clean =
-    was_open select_text [] (state g.S.Store c.args.tx.now.conn.now) (state g.S.Store c.query_all.new.self.conn.now) c.in_ok-rows.rows.items (c.in_ok-rows.ensures.ok clean)
+    was_open types_text [] (state g.S.Store c.args.tx.now.conn.now) (state g.S.Store c.query_all.new.self.conn.now) c.in_ok-rows.rows.items (c.in_ok-rows.ensures.ok clean)

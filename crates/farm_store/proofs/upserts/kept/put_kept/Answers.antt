@@ -1,11 +1,12 @@
-use Rattle.std.proofs.Common.{◌<◌, [], ◌∷◌, take, length, sym, ap, subst, ◌∙◌, arith, rules}
+use Rattle.std.proofs.Common.{◌<◌, [], ◌∷◌, take, length, map, sym, ap, subst, ◌∙◌, arith, rules}
 use Rattle.std.proofs.lemmas.List.{take_all}
 use Rattle.sqlite.specs.State.{HasCleanDisk}
 use Rattle.sqlite.specs.Held.{state}
 use Rattle.sqlite.proofs.StateLemmas.{survives_then}
-use Rattle.farm_store.specs.Columns.{with_kept}
+use Rattle.farm_store.specs.Columns.{kept_columns}
+use Rattle.farm_store.specs.Places.{of_kept, put_at}
 use Rattle.farm_store.specs.Holds.{IsInside}
-use Rattle.farm_store.proofs.More.{kept_more}
+use Rattle.farm_store.proofs.PutAt.{kept_known, put_more}
 use Rattle.farm_store.proofs.upserts.kept.put_kept.Goals as goal
 
 pub loop-row-preserved : goal.loop-row-preserved
@@ -17,12 +18,12 @@ loop-row-preserved g c =
       same_reference = search rules;
       put = λ clean T begun.
           let early : HasCleanDisk (state g.S.Store c.loop-row.tx.conn.now) = omega (arith, c.put_reply.ensures.survives.clean) in
-          let after = c.in_ok-put_reply.ensures.put clean (with_kept T (take at rows)) (c.loop-row.invariant.put early T begun) in
+          let after = c.in_ok-put_reply.ensures.put clean (put_at of_kept T (map kept_columns (take at rows))) (c.loop-row.invariant.put early T begun) in
           let low : at < length rows = omega arith in
-          subst (IsInside new) (sym (kept_more T rows at c.row-item.result low ∙ ap (λ row. with_kept (with_kept T (take at rows)) (row ∷ [])) (sym c.row-item.is))) after;
+          subst (IsInside new) (sym (put_more of_kept kept_known.is kept_columns T rows at c.row-item.result low ∙ ap (λ row. put_at of_kept (put_at of_kept T (map kept_columns (take at rows))) (kept_columns row ∷ [])) (sym c.row-item.is))) after;
       survives = survives_then (state g.S.Store c.args.tx.now.conn.now) (state g.S.Store c.loop-row.tx.conn.now) new _ _ (λ _. ⊥) (λ _ db none. none) (λ _ db none. none) c.loop-row.invariant.survives c.put_reply.ensures.survives;
     }
 
 pub returns-clause-put : goal.returns-clause-put
 returns-clause-put g c clean T begun =
-    subst (λ rows. IsInside (state g.S.Store c.loop-row.tx.conn.now) (with_kept T rows)) (take_all c.loop-row.row-index c.args.rows.now (omega arith)) (c.loop-row.invariant.put clean T begun)
+    subst (λ rows. IsInside (state g.S.Store c.loop-row.tx.conn.now) (put_at of_kept T (map kept_columns rows))) (take_all c.loop-row.row-index c.args.rows.now (omega arith)) (c.loop-row.invariant.put clean T begun)

@@ -1,13 +1,14 @@
-use Rattle.std.proofs.Common.{◌≡◌, ◌+◌, [], ◌∷◌, ◌++◌, take, length, length-append, sym, ap, subst, ◌∙◌, arith, rules, string_bytes}
+use Rattle.std.proofs.Common.{◌≡◌, ◌+◌, [], ◌∷◌, ◌++◌, take, length, map, length-append, sym, ap, subst, ◌∙◌, arith, rules, string_bytes}
 use Rattle.std.proofs.lemmas.List.{take_all}
 use Rattle.std.proofs.lemmas.Slice.Zip.{zip_turn, zip_end, AllZip-long}
 use Rattle.sqlite.specs.State.{HasCleanDisk}
 use Rattle.sqlite.specs.Held.{state}
 use Rattle.sqlite.proofs.StateLemmas.{survives_then}
 use Rattle.farm_types.specs.Tags.{tags_text}
-use Rattle.farm_store.specs.Columns.{with_reservations}
+use Rattle.farm_store.specs.Columns.{res_columns}
+use Rattle.farm_store.specs.Places.{of_reservations, put_at}
 use Rattle.farm_store.specs.Holds.{IsInside}
-use Rattle.farm_store.proofs.More.{reservations_more}
+use Rattle.farm_store.proofs.PutAt.{reservations_known, put_more}
 use Rattle.farm_store.proofs.ZipAt.{zip_at}
 use Rattle.farm_store.proofs.upserts.reservations.put_reservations.Goals as goal
 
@@ -32,10 +33,10 @@ loop-row-preserved g c =
       same_reference = search rules;
       put = λ clean T begun.
           let early : HasCleanDisk (state g.S.Store c.loop-row.tx.conn.now) = omega (arith, c.put_reservation.ensures.survives.clean) in
-          let after = c.in_ok-put_reservation.ensures.put clean (with_reservations T (take at rows)) (c.loop-row.invariant.put early T begun) in
-          let more = subst (IsInside new) (sym (reservations_more T rows at row turn.0 ∙ ap (λ r. with_reservations (with_reservations T (take at rows)) (r ∷ [])) (sym (turn.2 row)))) after in
+          let after = c.in_ok-put_reservation.ensures.put clean (put_at of_reservations T (map res_columns (take at rows))) (c.loop-row.invariant.put early T begun) in
+          let more = subst (IsInside new) (sym (put_more of_reservations reservations_known.is res_columns T rows at row turn.0 ∙ ap (λ r. put_at of_reservations (put_at of_reservations T (map res_columns (take at rows))) (res_columns r ∷ [])) (sym (turn.2 row)))) after in
           let long : length (c.loop-row.yielded ++ (c.in-Some.row, c.in-Some.tags) ∷ []) ≡ at + 1 = length-append c.loop-row.yielded ((c.in-Some.row, c.in-Some.tags) ∷ []) in
-          subst (λ k. IsInside new (with_reservations T (take k rows))) (sym long) more;
+          subst (λ k. IsInside new (put_at of_reservations T (map res_columns (take k rows)))) (sym long) more;
       survives = survives_then (state g.S.Store c.args.tx.now.conn.now) (state g.S.Store c.loop-row.tx.conn.now) new _ _ (λ _. ⊥) (λ _ db none. none) (λ _ db none. none) c.loop-row.invariant.survives c.put_reservation.ensures.survives;
     }
 
@@ -45,4 +46,4 @@ returns-clause-put g c clean T begun =
     let end = zip_end rows c.args.texts.now c.loop-row.yielded c.into_iter-row-iterator.result c.loop-row.row-iterator c.next.new.self c.next.result (search rules) (search rules)
     c.loop-row.yielded_by (search rules) c.next.ensures.steps in
     let long = AllZip-long _ c.args.texts.now rows c.requires.texts in
-    subst (λ l. IsInside (state g.S.Store c.loop-row.tx.conn.now) (with_reservations T l)) (take_all (length c.loop-row.yielded) rows (omega (arith, end, long))) (c.loop-row.invariant.put clean T begun)
+    subst (λ l. IsInside (state g.S.Store c.loop-row.tx.conn.now) (put_at of_reservations T (map res_columns l))) (take_all (length c.loop-row.yielded) rows (omega (arith, end, long))) (c.loop-row.invariant.put clean T begun)

@@ -1,7 +1,8 @@
-use Rattle.std.proofs.Common.{◌≡◌, take}
+use Rattle.std.proofs.Common.{◌≡◌, take, map}
 use Rattle.sqlite.specs.State.{HasCleanDisk}
 use Rattle.sqlite.specs.Held.{state}
-use Rattle.farm_store.specs.Columns.{Tables, with_types}
+use Rattle.farm_store.specs.Columns.{Tables, type_columns}
+use Rattle.farm_store.specs.Places.{of_types, put_at}
 use Rattle.farm_store.specs.Edits.{CommitsNothing}
 use Rattle.farm_store.specs.Holds.{IsInside}
 use Rattle.farm_store.proofs.upserts.types.put_types.Given as goal
@@ -9,6 +10,6 @@ use Rattle.farm_store.proofs.upserts.types.put_types.Given as goal
 abbrev pub invariant-loop-row : goal.invariant-loop-row
 invariant-loop-row g l = record {
   same_reference : l.tx.conn.ghost_name ≡ l.fn.tx.conn.ghost_name;
-  put : HasCleanDisk (state g.S.Store l.tx.conn.now) → (T : Tables) → IsInside (state g.S.Store l.fn.tx.conn.now) T → IsInside (state g.S.Store l.tx.conn.now) (with_types T (take l.row-index l.rows));
+  put : HasCleanDisk (state g.S.Store l.tx.conn.now) → (T : Tables) → IsInside (state g.S.Store l.fn.tx.conn.now) T → IsInside (state g.S.Store l.tx.conn.now) (put_at of_types T (map type_columns (take l.row-index l.rows)));
   survives : CommitsNothing (state g.S.Store l.fn.tx.conn.now) (state g.S.Store l.tx.conn.now);
 }

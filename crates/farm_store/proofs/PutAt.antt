@@ -1,0 +1,131 @@
+-- Rows are put at one of the six places, and the others keep theirs.
+use Rattle.std.proofs.Common.{refl, ◌≡◌, ◌≢◌, ◌==◌, ◌⊎◌, inl, inr, ℕ, zero, suc, ◌+◌, ◌<◌, List, [], ◌∷◌, map, take, length, get_or, IsTrue, false, sym, ap, subst, ◌∙◌, arith, add-one}
+use Rattle.std.proofs.lemmas.Bool.Decides.{nat_tests}
+use Rattle.std.specs.Cmp.{IsTotalOrder}
+use Rattle.std.specs.List.{AllByRecursion}
+use Rattle.sqlite.specs.Order.{Row}
+use Rattle.sqlite.specs.State.{State}
+use Rattle.sqlite.specs.Tree.{Trees}
+use Rattle.farm_types.specs.Table.{put, put_all}
+use Rattle.farm_store.specs.Columns.{Tables}
+use Rattle.farm_store.specs.Holds.{Holds, ShowsTables, IsInside}
+use Rattle.farm_store.specs.Places.{Place, IsPlace, HoldsAt, put_at, of_types, of_boards, of_jobs, of_reservations, of_kept, of_meta}
+use Rattle.farm_store.proofs.Keys.{first_total, two_total}
+use Rattle.farm_store.proofs.OneRow.{Upserted}
+
+abbrev places : List Place
+places = of_types ∷ of_boards ∷ of_jobs ∷ of_reservations ∷ of_kept ∷ of_meta ∷ []
+
+-- the six in their order
+six : (P : Place → Type 0) → P of_types → P of_boards → P of_jobs → P of_reservations → P of_kept → P of_meta → AllByRecursion P places
+six P types boards jobs reservations kept meta = (types, (boards, (jobs, (reservations, (kept, (meta, tt))))))
+
+apart_trees : (m n : ℕ) → (m == n) ≡ false → m ≢ n
+apart_trees m n apart same = grind (arith, nat_tests)
+
+-- another place has another tree, and keeps its rows
+abbrev IsOther : Place → Place → Type 0
+IsOther p q = (q.tree ≢ p.tree) × ((T : Tables) (rows : List Row) → q.rows (p.replaced T rows) ≡ q.rows T)
+
+-- one of the six places
+pub record IsKnown (p : Place) : Type 0 where
+  pub is : IsPlace p
+  pub total : IsTotalOrder p.cmp
+  pub find : (db : Trees) (T : Tables) → Holds db T → HoldsAt p db T
+  pub others : AllByRecursion (λ q. (q ≡ p) ⊎ IsOther p q) places
+
+other : {p q : Place} → (q.tree == p.tree) ≡ false → ((T : Tables) (rows : List Row) → q.rows (p.replaced T rows) ≡ q.rows T) → (q ≡ p) ⊎ IsOther p q
+other {p} {q} apart keeps = inr ((λ same. apart_trees q.tree p.tree apart same), keeps)
+
+abbrev is_place : {p : Place} → ((T : Tables) (rows : List Row) → p.rows (p.replaced T rows) ≡ rows) → ((T : Tables) (rows more : List Row) → p.replaced (p.replaced T rows) more ≡ p.replaced T more) → IsPlace p
+is_place own over = record { own = own; over = over }
+
+pub types_known : IsKnown of_types
+types_known = record {
+  is = is_place (λ T rows. refl) (λ T rows more. refl);
+  total = first_total;
+  find = λ db T h. h.types;
+  others = six (λ q. (q ≡ of_types) ⊎ IsOther of_types q) (inl refl) (other refl (λ T rows. refl)) (other refl (λ T rows. refl)) (other refl (λ T rows. refl)) (other refl (λ T rows. refl)) (other refl (λ T rows. refl));
+}
+
+pub boards_known : IsKnown of_boards
+boards_known = record {
+  is = is_place (λ T rows. refl) (λ T rows more. refl);
+  total = first_total;
+  find = λ db T h. h.boards;
+  others = six (λ q. (q ≡ of_boards) ⊎ IsOther of_boards q) (other refl (λ T rows. refl)) (inl refl) (other refl (λ T rows. refl)) (other refl (λ T rows. refl)) (other refl (λ T rows. refl)) (other refl (λ T rows. refl));
+}
+
+pub jobs_known : IsKnown of_jobs
+jobs_known = record {
+  is = is_place (λ T rows. refl) (λ T rows more. refl);
+  total = first_total;
+  find = λ db T h. h.jobs;
+  others = six (λ q. (q ≡ of_jobs) ⊎ IsOther of_jobs q) (other refl (λ T rows. refl)) (other refl (λ T rows. refl)) (inl refl) (other refl (λ T rows. refl)) (other refl (λ T rows. refl)) (other refl (λ T rows. refl));
+}
+
+pub reservations_known : IsKnown of_reservations
+reservations_known = record {
+  is = is_place (λ T rows. refl) (λ T rows more. refl);
+  total = first_total;
+  find = λ db T h. h.reservations;
+  others = six (λ q. (q ≡ of_reservations) ⊎ IsOther of_reservations q) (other refl (λ T rows. refl)) (other refl (λ T rows. refl)) (other refl (λ T rows. refl)) (inl refl) (other refl (λ T rows. refl)) (other refl (λ T rows. refl));
+}
+
+pub kept_known : IsKnown of_kept
+kept_known = record {
+  is = is_place (λ T rows. refl) (λ T rows more. refl);
+  total = two_total;
+  find = λ db T h. h.kept;
+  others = six (λ q. (q ≡ of_kept) ⊎ IsOther of_kept q) (other refl (λ T rows. refl)) (other refl (λ T rows. refl)) (other refl (λ T rows. refl)) (other refl (λ T rows. refl)) (inl refl) (other refl (λ T rows. refl));
+}
+
+pub meta_known : IsKnown of_meta
+meta_known = record {
+  is = is_place (λ T rows. refl) (λ T rows more. refl);
+  total = first_total;
+  find = λ db T h. h.meta;
+  others = six (λ q. (q ≡ of_meta) ⊎ IsOther of_meta q) (other refl (λ T rows. refl)) (other refl (λ T rows. refl)) (other refl (λ T rows. refl)) (other refl (λ T rows. refl)) (other refl (λ T rows. refl)) (inl refl);
+}
+
+module _ (p : Place) (known : IsKnown p) (old new : State) (T : Tables) (x : Row) (did : Upserted p old new x) where
+  after : (q : Place) → (q ≡ p) ⊎ IsOther p q → (q.tree ≢ p.tree → new.now.trees q.tree ≡ old.now.trees q.tree) → HoldsAt q old.now.trees T → HoldsAt q new.now.trees (put_at p T (x ∷ []))
+  after q (inl same) still here =
+      let own : HoldsAt p old.now.trees T → HoldsAt p new.now.trees (put_at p T (x ∷ [])) = λ here. rw (known.is.own T (put p.cmp (p.rows T) x)) (did.lists (p.rows T) here) in
+      subst (λ (k : Place). HoldsAt k old.now.trees T → HoldsAt k new.now.trees (put_at p T (x ∷ []))) (sym same) own here
+  after q (inr apart) still here = rw (still apart.0, apart.1 T (put p.cmp (p.rows T) x)) here
+
+  all_after : (qs : List Place) → AllByRecursion (λ q. (q ≡ p) ⊎ IsOther p q) qs → AllByRecursion (λ q. q.tree ≢ p.tree → new.now.trees q.tree ≡ old.now.trees q.tree) qs
+      → AllByRecursion (λ q. HoldsAt q old.now.trees T) qs → AllByRecursion (λ q. HoldsAt q new.now.trees (put_at p T (x ∷ []))) qs
+  all_after [] others still here = tt
+  all_after (q ∷ qs) others still here = (after q others.0 still.0 here.0, all_after qs others.1 still.1 here.1)
+
+  pub stands_put : ShowsTables old.now T → IsTrue new.in_transaction → IsInside new (put_at p T (x ∷ []))
+  stands_put at inside =
+      let h = at.holds in
+      let now = all_after places known.others did.others (six (λ q. HoldsAt q old.now.trees T) h.types h.boards h.jobs h.reservations h.kept h.meta) in
+      record {
+        inside = inside;
+        shown = λ still_open. record {
+          schema = did.schema;
+          holds = record { listed = did.listed; types = now.0; boards = now.1.0; jobs = now.1.1.0; reservations = now.1.1.1.0; kept = now.1.1.1.1.0; meta = now.1.1.1.1.1.0 };
+        };
+      }
+
+-- ---- one row after another
+
+module _ {X : Type 0} (p : Place) (is : IsPlace p) (columns : X → Row) where
+  one_more : (rows : List X) (i : ℕ) (d : X) (now : List Row) → i < length rows
+      → put_all p.cmp now (map columns (take (suc i) rows)) ≡ put p.cmp (put_all p.cmp now (map columns (take i rows))) (columns (get_or rows i d))
+  one_more [] i d now low = absurd (omega arith)
+  one_more (x ∷ rows) zero d now low = refl
+  one_more (x ∷ rows) (suc i) d now low = one_more rows i d (put p.cmp now (columns x)) (omega arith)
+
+  -- the first rows, and then the next one
+  pub put_more : (T : Tables) (rows : List X) (i : ℕ) (d : X) → i < length rows
+      → put_at p T (map columns (take (i + 1) rows)) ≡ put_at p (put_at p T (map columns (take i rows))) (columns (get_or rows i d) ∷ [])
+  put_more T rows i d low =
+      let first = put_all p.cmp (p.rows T) (map columns (take i rows)) in
+      let x = columns (get_or rows i d) in
+      ap (λ k. put_at p T (map columns (take k rows))) (add-one i) ∙ ap (p.replaced T) (one_more rows i d (p.rows T) low)
+      ∙ sym (is.over T first (put p.cmp (p.rows (p.replaced T first)) x) ∙ ap (λ l. p.replaced T (put p.cmp l x)) (is.own T first))

@@ -1,0 +1,209 @@
+-- The statement that puts a row into each table, and what it makes of the tables.
+use Rattle.std.proofs.Common.{refl, Bool, true, false, ◌&&◌, ◌≡◌, ◌∙◌, ℕ, ℤ, suc, pos, List, [], ◌∷◌, ◌++◌, ◌/◌, drop, length, codes, None, Some, Ok, slice_get, ap, ap₂, is_eq}
+use Rattle.std.proofs.lemmas.Bool.{false≢true, and_parts}
+use Rattle.std.specs.List.{AllByRecursion}
+use Rattle.sqlite.specs.declared.types.Value.{Value}
+use Rattle.sqlite.specs.declared.types.Value.TheVariants.{Null, Int}
+use Rattle.sqlite.specs.declared.types.Value.TheVariants as value
+use Rattle.sqlite.specs.Order.{Row}
+use Rattle.sqlite.specs.Table.{Table}
+use Rattle.sqlite.specs.Term.{Term, lit, col}
+use Rattle.sqlite.specs.Source.TheVariants.{Values}
+use Rattle.sqlite.specs.Command.TheVariants.{InsertOr}
+use Rattle.sqlite.specs.Listing.{understood}
+use Rattle.sqlite.specs.Cast.{cast, cast_all, cast_row}
+use Rattle.sqlite.specs.Edit.{with_rowid}
+use Rattle.sqlite.specs.Effect.{value_rows}
+use Rattle.sqlite.specs.Rows.{mended}
+use Rattle.sqlite.specs.Rowids.TheVariants.{Chosen}
+use Rattle.sqlite.specs.State.{State, ExecutesInside}
+use Rattle.sqlite.proofs.Callers.{IsPlain, command_of}
+use Rattle.sqlite_tied.specs.Compute.{everything}
+use Rattle.sqlite_trees.specs.Tree.{IsTable}
+use Rattle.sqlite_schema.specs.declared.schema.Column.{Column}
+use Rattle.sqlite_schema.specs.declared.schema.Keys.{Keys}
+use Rattle.sqlite_schema.specs.declared.schema.Kind.{Kind}
+use Rattle.sqlite_schema.specs.declared.schema.Kind.TheVariants.{Integer, Text}
+use Rattle.sqlite_schema.specs.declared.command.Conflict.TheVariants.{Replace}
+use Rattle.sqlite_rules.specs.Action.{works}
+use Rattle.sqlite_rules.specs.Edit.{next_rowid}
+use Rattle.sqlite_rules.specs.Keys.{conflicts}
+use Rattle.sqlite_rules.specs.Lists.{Has}
+use Rattle.farm_types.specs.declared.rows.TypeRow.{TypeRow}
+use Rattle.farm_types.specs.declared.rows.BoardRow.{BoardRow}
+use Rattle.farm_types.specs.declared.rows.JobRow.{JobRow}
+use Rattle.farm_types.specs.declared.rows.ResRow.{ResRow}
+use Rattle.farm_types.specs.declared.rows.KeptRow.{KeptRow}
+use Rattle.farm_store.specs.Schema.{farm_schema, strict, types_table, boards_table, jobs_table, reservations_table, kept_table}
+use Rattle.farm_store.specs.Columns.{Tables, type_columns, board_columns, job_columns, res_columns, kept_columns}
+use Rattle.farm_store.specs.Holds.{IsInside}
+use Rattle.farm_store.specs.Places.{Place, put_at, of_types, of_boards, of_jobs, of_reservations, of_kept}
+use Rattle.farm_store.specs.Stored.{HasInt, IsWide}
+use Rattle.farm_store.proofs.Replace.{cast_int, cast_null}
+use Rattle.farm_store.proofs.Keys.{by_next, by_next_two, by_rowid}
+use Rattle.farm_store.proofs.OneRow.{upserted}
+use Rattle.farm_store.proofs.PutAt.{IsKnown, stands_put, types_known, boards_known, jobs_known, reservations_known, kept_known}
+
+-- a column of this kind stores the value as it is
+abbrev fits : Kind → Value → Bool
+fits Integer (Int n) = true
+fits Integer Null = true
+fits Text (value.Text t) = true
+fits kind v = false
+
+abbrev all_fit : List Column → Row → Bool
+all_fit [] vs = true
+all_fit (c ∷ cs) [] = true
+all_fit (c ∷ cs) (v ∷ vs) = fits c.kind v && all_fit cs vs
+
+stays : (kind : Kind) (v : Value) → fits kind v ≡ true → cast kind v ≡ v
+stays Integer (Int n) fit = cast_int n
+stays Integer Null fit = cast_null
+stays Text (value.Text t) fit = refl
+stays kind v fit = absurd (false≢true fit)
+
+all_stay : (cs : List Column) (vs : Row) → all_fit cs vs ≡ true → cast_all cs vs ≡ vs
+all_stay [] vs fit = refl
+all_stay (c ∷ cs) [] fit = refl
+all_stay (c ∷ cs) (v ∷ vs) fit = let both = and_parts (fits c.kind v) (all_fit cs vs) fit in ap₂ ◌∷◌ (stays c.kind v both.0) (all_stay cs vs both.1)
+
+-- the text puts such a row at the place
+abbrev Puts : Place → List ℕ → Row → Type 1
+Puts p text x = (old new : State) (count : ℕ) (T : Tables) → IsInside old T → ExecutesInside 0 text x old new (Ok count) → IsInside new (put_at p T (x ∷ []))
+
+module _ (p : Place) (known : IsKnown p) (still : (keys : Keys) (olds news : List Row) → works farm_schema keys 0 p.tree olds news ≡ []) (name : List ℕ) (columns : List Column) (at : ℕ) (text : List ℕ) (terms : List Term)
+    (plain : IsPlain (understood farm_schema text)) where
+  -- a table that is keyed by columns: the store chooses the rowid
+  module _ (key : List ℕ) (x : Row) where
+    abbrev keyed_table : Table
+    keyed_table = strict name p.tree columns None key (key ∷ []) (record { digits = 0 } ∷ [])
+
+    keyed_puts : slice_get farm_schema.tables at ≡ Some keyed_table → command_of (understood farm_schema text) ≡ InsertOr at Replace (Values terms (suc p.width)) [] → all_fit columns x ≡ true → IsWide p.width x
+        → value_rows (x ++ []) (suc p.width) (length terms / suc p.width) terms ≡ (Null ∷ x) ∷ [] → mended Replace keyed_table (Null ∷ x) ≡ Null ∷ x → ((id : ℤ) → p.show (Int id ∷ x) ≡ x)
+        → ((raws : List Row) → IsTable raws → AllByRecursion HasInt raws → (raw : Row) → Has raws raw → conflicts None farm_schema.indexes keyed_table (Int (next_rowid raws) ∷ x) raw ≡ is_eq (p.cmp (p.show raw) x))
+        → Puts p text x
+    keyed_puts there is fit wide source mends shows clash old new count T inside ran =
+        let see = inside.shown ran.1.was_open in
+        let raws = old.now.trees p.tree in
+        let here = known.find old.now.trees T see.holds in
+        let casts : cast_row keyed_table (mended Replace keyed_table (Null ∷ x)) ≡ Null ∷ x = ap (cast_row keyed_table) mends ∙ ap₂ ◌∷◌ cast_null (all_stay columns x fit) in
+        let stays : cast_row keyed_table (Int (next_rowid raws) ∷ x) ≡ Int (next_rowid raws) ∷ x = ap₂ ◌∷◌ (cast_int (next_rowid raws)) (all_stay columns x fit) in
+        let did = upserted p known.total name columns None key (key ∷ []) (record { digits = 0 } ∷ []) at still there text terms (suc p.width) is plain
+        old new x (Null ∷ x) (Int (next_rowid raws) ∷ x) x source (ap (with_rowid Chosen raws) casts) stays refl (shows (next_rowid raws)) wide (clash raws here.ordered here.keyed) see.schema count ran.0 (p.rows T) here in
+        stands_put p known old new T x did see ran.1.mode
+
+  -- a table whose first column is the rowid
+  module _ (n : ℤ) (rest : Row) where
+    abbrev x : Row
+    x = Int n ∷ rest
+
+    abbrev stored : Row
+    stored = Int n ∷ Null ∷ rest
+
+    abbrev numbered_table : Table
+    numbered_table = strict name p.tree columns (Some 0) (0 ∷ []) [] []
+
+    numbered_puts : slice_get farm_schema.tables at ≡ Some numbered_table → command_of (understood farm_schema text) ≡ InsertOr at Replace (Values terms (suc p.width)) [] → all_fit columns (Null ∷ rest) ≡ true → IsWide p.width x
+        → value_rows (x ++ []) (suc p.width) (length terms / suc p.width) terms ≡ stored ∷ [] → mended Replace numbered_table stored ≡ stored → p.show stored ≡ x
+        → ((raw : Row) → conflicts None farm_schema.indexes numbered_table stored raw ≡ is_eq (p.cmp (p.show raw) x)) → Puts p text x
+    numbered_puts there is fit wide source mends shows clash old new count T inside ran =
+        let see = inside.shown ran.1.was_open in
+        let raws = old.now.trees p.tree in
+        let stays : cast_row numbered_table stored ≡ stored = ap₂ ◌∷◌ (cast_int n) (all_stay columns (Null ∷ rest) fit) in
+        let did = upserted p known.total name columns (Some 0) (0 ∷ []) [] [] at still there text terms (suc p.width) is plain
+        old new x stored stored x source (ap (with_rowid Chosen raws) (ap (cast_row numbered_table) mends ∙ stays)) stays refl shows wide (λ raw there. clash raw) see.schema count ran.0 (p.rows T)
+        (known.find old.now.trees T see.holds) in
+        stands_put p known old new T x did see ran.1.mode
+
+-- ---- the texts
+
+abbrev types_text : List ℕ
+types_text = codes "INSERT OR REPLACE INTO types VALUES (?1, ?2, ?3)"
+
+abbrev types_terms : List Term
+types_terms = lit Null ∷ col 0 0 ∷ col 0 1 ∷ col 0 2 ∷ []
+
+types_is : command_of (understood farm_schema types_text) ≡ InsertOr 0 Replace (Values types_terms 4) []
+unfolding understood everything
+types_is = refl
+
+types_plain : IsPlain (understood farm_schema types_text)
+unfolding understood everything
+types_plain = (refl, refl)
+
+pub puts_type : (r : TypeRow) → Puts of_types types_text (type_columns r)
+puts_type r = keyed_puts of_types types_known (λ keys olds news. refl) (codes "types") types_table.columns 0 types_text types_terms types_plain (1 ∷ []) (type_columns r) refl types_is
+    refl refl refl refl (λ id. refl) (λ raws up ints. by_next raws (type_columns r) up ints refl)
+
+abbrev boards_text : List ℕ
+boards_text = codes "INSERT OR REPLACE INTO boards VALUES (?1, ?2, ?3, ?4, ?5, ?6, ?7, ?8, ?9)"
+
+abbrev boards_terms : List Term
+boards_terms = lit Null ∷ col 0 0 ∷ col 0 1 ∷ col 0 2 ∷ col 0 3 ∷ col 0 4 ∷ col 0 5 ∷ col 0 6 ∷ col 0 7 ∷ col 0 8 ∷ []
+
+boards_is : command_of (understood farm_schema boards_text) ≡ InsertOr 1 Replace (Values boards_terms 10) []
+unfolding understood everything
+boards_is = refl
+
+boards_plain : IsPlain (understood farm_schema boards_text)
+unfolding understood everything
+boards_plain = (refl, refl)
+
+pub puts_board : (r : BoardRow) → Puts of_boards boards_text (board_columns r)
+puts_board r = keyed_puts of_boards boards_known (λ keys olds news. refl) (codes "boards") boards_table.columns 1 boards_text boards_terms boards_plain (1 ∷ []) (board_columns r) refl boards_is
+    refl refl refl refl (λ id. refl) (λ raws up ints. by_next raws (board_columns r) up ints refl)
+
+abbrev jobs_text : List ℕ
+jobs_text = codes "INSERT OR REPLACE INTO jobs VALUES (?1, ?2, ?3, ?4, ?5, ?6, ?7, ?8, ?9, ?10, ?11, ?12)"
+
+abbrev jobs_terms : List Term
+jobs_terms = col 0 0 ∷ lit Null ∷ col 0 1 ∷ col 0 2 ∷ col 0 3 ∷ col 0 4 ∷ col 0 5 ∷ col 0 6 ∷ col 0 7 ∷ col 0 8 ∷ col 0 9 ∷ col 0 10 ∷ col 0 11 ∷ []
+
+jobs_is : command_of (understood farm_schema jobs_text) ≡ InsertOr 2 Replace (Values jobs_terms 13) []
+unfolding understood everything
+jobs_is = refl
+
+jobs_plain : IsPlain (understood farm_schema jobs_text)
+unfolding understood everything
+jobs_plain = (refl, refl)
+
+pub puts_job : (r : JobRow) → Puts of_jobs jobs_text (job_columns r)
+puts_job r = numbered_puts of_jobs jobs_known (λ keys olds news. refl) (codes "jobs") jobs_table.columns 2 jobs_text jobs_terms jobs_plain (pos r.number) (drop 1 (job_columns r)) refl jobs_is
+    refl refl refl refl refl (λ raw. by_rowid (pos r.number) (Null ∷ drop 1 (job_columns r)) (job_columns r) raw refl)
+
+abbrev reservations_text : List ℕ
+reservations_text = codes "INSERT OR REPLACE INTO reservations VALUES (?1, ?2, ?3, ?4, ?5, ?6, ?7)"
+
+abbrev reservations_terms : List Term
+reservations_terms = col 0 0 ∷ lit Null ∷ col 0 1 ∷ col 0 2 ∷ col 0 3 ∷ col 0 4 ∷ col 0 5 ∷ col 0 6 ∷ []
+
+reservations_is : command_of (understood farm_schema reservations_text) ≡ InsertOr 3 Replace (Values reservations_terms 8) []
+unfolding understood everything
+reservations_is = refl
+
+reservations_plain : IsPlain (understood farm_schema reservations_text)
+unfolding understood everything
+reservations_plain = (refl, refl)
+
+pub puts_reservation : (r : ResRow) → Puts of_reservations reservations_text (res_columns r)
+puts_reservation r = numbered_puts of_reservations reservations_known (λ keys olds news. refl) (codes "reservations") reservations_table.columns 3 reservations_text reservations_terms reservations_plain
+    (pos r.number) (drop 1 (res_columns r)) refl reservations_is
+    refl refl refl refl refl (λ raw. by_rowid (pos r.number) (Null ∷ drop 1 (res_columns r)) (res_columns r) raw refl)
+
+abbrev kept_text : List ℕ
+kept_text = codes "INSERT OR REPLACE INTO kept VALUES (?1, ?2, ?3, ?4, ?5, ?6)"
+
+abbrev kept_terms : List Term
+kept_terms = lit Null ∷ col 0 0 ∷ col 0 1 ∷ col 0 2 ∷ col 0 3 ∷ col 0 4 ∷ col 0 5 ∷ []
+
+kept_is : command_of (understood farm_schema kept_text) ≡ InsertOr 4 Replace (Values kept_terms 7) []
+unfolding understood everything
+kept_is = refl
+
+kept_plain : IsPlain (understood farm_schema kept_text)
+unfolding understood everything
+kept_plain = (refl, refl)
+
+pub puts_reply : (r : KeptRow) → Puts of_kept kept_text (kept_columns r)
+puts_reply r = keyed_puts of_kept kept_known (λ keys olds news. refl) (codes "kept") kept_table.columns 4 kept_text kept_terms kept_plain (1 ∷ 2 ∷ []) (kept_columns r) refl kept_is
+    refl refl refl refl (λ id. refl) (λ raws up ints. by_next_two raws (kept_columns r) up ints refl refl)
