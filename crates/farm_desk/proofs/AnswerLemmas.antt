@@ -14,8 +14,9 @@ use Rattle.farm_keep.specs.declared.fault.KeepFault.{KeepFault}
 use Rattle.farm_wire.specs.Reading.{Denial}
 use Rattle.farm_wire.specs.Replies.{reply_bytes}
 use Rattle.farm_wire.specs.declared.ask.Ask.{Ask}
+use Rattle.farm_wire.specs.declared.ask.View.{View}
 use Rattle.farm_wire.specs.declared.answers.Out.{Out}
-use Rattle.farm_desk.specs.Answers.{IsView, IsLook, Says, denied, refusal, replied}
+use Rattle.farm_desk.specs.Answers.{IsView, Says, denied, refusal, replied}
 use Rattle.farm_desk.specs.Due.{Closes, IsDueTo, RunsOut}
 use Rattle.farm_desk.specs.Made.{IsMadeOf, IsMadeOfOne}
 use Rattle.farm_desk.specs.declared.fault.DeskFault.{DeskFault}
@@ -38,21 +39,11 @@ pub short_of_all : (P : Out → Type 0) (bytes : List ℕ) (end : Result ℕ Des
 short_of_all P bytes end says ends = subst (IsMadeOfOne P bytes) (sym ends) (record { fault_is = refl; bytes_are = says })
 
 -- a view that was shown, or for which there was no memory
-pub view_is_due : {S : Type 0} (g : Ghosts S) (k : Kept S) (view : Ask) (bytes : List ℕ) (end : Result ℕ DeskFault)
-    → IsLook view → k.is_open ≡ true → IsMadeOfOne (IsView view k.farm.farm) bytes end → IsDueTo g k k (Ok view) bytes end
-view_is_due g k (Ask.Call call) bytes end look opened made = absurd look
-view_is_due g k Ask.Types bytes (Ok status) look opened made = record { was_open = opened; out = made.0; shows = made.1; says = made.2; rests = refl }
-view_is_due g k Ask.Boards bytes (Ok status) look opened made = record { was_open = opened; out = made.0; shows = made.1; says = made.2; rests = refl }
-view_is_due g k Ask.Queue bytes (Ok status) look opened made = record { was_open = opened; out = made.0; shows = made.1; says = made.2; rests = refl }
-view_is_due g k Ask.Reservations bytes (Ok status) look opened made = record { was_open = opened; out = made.0; shows = made.1; says = made.2; rests = refl }
-view_is_due g k Ask.Status bytes (Ok status) look opened made = record { was_open = opened; out = made.0; shows = made.1; says = made.2; rests = refl }
-view_is_due g k (Ask.Job number) bytes (Ok status) look opened made = record { was_open = opened; out = made.0; shows = made.1; says = made.2; rests = refl }
-view_is_due g k Ask.Types bytes (Err fault) look opened made = due_when_short g k k (Ok Ask.Types) bytes fault made.fault_is (record { says = made.bytes_are; was_open = opened; stays_open = refl; farm = refl })
-view_is_due g k Ask.Boards bytes (Err fault) look opened made = due_when_short g k k (Ok Ask.Boards) bytes fault made.fault_is (record { says = made.bytes_are; was_open = opened; stays_open = refl; farm = refl })
-view_is_due g k Ask.Queue bytes (Err fault) look opened made = due_when_short g k k (Ok Ask.Queue) bytes fault made.fault_is (record { says = made.bytes_are; was_open = opened; stays_open = refl; farm = refl })
-view_is_due g k Ask.Reservations bytes (Err fault) look opened made = due_when_short g k k (Ok Ask.Reservations) bytes fault made.fault_is (record { says = made.bytes_are; was_open = opened; stays_open = refl; farm = refl })
-view_is_due g k Ask.Status bytes (Err fault) look opened made = due_when_short g k k (Ok Ask.Status) bytes fault made.fault_is (record { says = made.bytes_are; was_open = opened; stays_open = refl; farm = refl })
-view_is_due g k (Ask.Job number) bytes (Err fault) look opened made = due_when_short g k k (Ok (Ask.Job number)) bytes fault made.fault_is (record { says = made.bytes_are; was_open = opened; stays_open = refl; farm = refl })
+pub view_is_due : {S : Type 0} (g : Ghosts S) (k : Kept S) (view : View) (bytes : List ℕ) (end : Result ℕ DeskFault)
+    → k.is_open ≡ true → IsMadeOfOne (IsView view k.farm.farm) bytes end → IsDueTo g k k (Ok (Ask.View view)) bytes end
+view_is_due g k view bytes (Ok status) opened made = record { was_open = opened; out = made.0; shows = made.1; says = made.2; rests = refl }
+view_is_due g k view bytes (Err fault) opened made =
+    due_when_short g k k (Ok (Ask.View view)) bytes fault made.fault_is (record { says = made.bytes_are; was_open = opened; stays_open = refl; farm = refl })
 
 -- a denial that was made, or for which there was no memory
 pub denial_is_due : {S : Type 0} (g : Ghosts S) (k : Kept S) (why : Denial) (bytes : List ℕ) (end : Result ℕ DeskFault)

@@ -18,6 +18,7 @@ use Rattle.farm_keep.specs.Restarts.{again}
 use Rattle.farm_keep.proofs.KeptLemmas.{again_kept}
 use Rattle.farm_wire.specs.Reading.{Denial}
 use Rattle.farm_wire.specs.declared.ask.Ask.{Ask}
+use Rattle.farm_wire.specs.declared.ask.View.{View}
 use Rattle.farm_wire.specs.declared.answers.Out.{Out}
 use Rattle.farm_desk.specs.Heard.{Asks, Hears}
 use Rattle.farm_desk.specs.Answers.{Answers, Says, Shows, IsView, denied, replied}
@@ -118,7 +119,7 @@ resting g old new rests =
       stands = λ keeps. subst (λ k. Keeps g k) (sym rests) keeps;
     }
 
-shown : {S : Type 0} (g : Ghosts S) (old new : Kept S) (view : Ask) (bytes : List ℕ) (status : ℕ)
+shown : {S : Type 0} (g : Ghosts S) (old new : Kept S) (view : View) (bytes : List ℕ) (status : ℕ)
     → Shows old new view bytes status → (out : Out) × IsView view old.farm.farm out × Says out bytes status × Reaches g old new []
 shown g old new view bytes status a = (a.out, a.shows, a.says, resting g old new a.rests)
 
@@ -133,7 +134,7 @@ reached g old new (Ok (Ask.Call call)) bytes status a =
       says = a.says;
       reaches = record { opened = a.stays_open ∙ sym a.was_open; farm = a.farm; stands = a.stands };
     }
-reached g old new (Ok view) bytes status a =
+reached g old new (Ok (Ask.View view)) bytes status a =
     record { out = a.out; machine = a.shows; says = a.says; reaches = resting g old new a.rests }
 
 -- ---- known bytes

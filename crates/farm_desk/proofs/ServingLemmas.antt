@@ -47,24 +47,14 @@ answered : {S : Type 0} (g : Ghosts S) (old new : Kept S) (what : Result Ask Den
 answered g old new (Err why) bytes status opened due = rests g old new 1 opened due.rests
 answered g old new (Ok (Ask.Call call)) bytes status opened due =
     serves_call g old new call opened (due.stays_open ∙ sym due.was_open) due.farm due.stands
-answered g old new (Ok Ask.Types) bytes status opened due = rests g old new 1 opened due.rests
-answered g old new (Ok Ask.Boards) bytes status opened due = rests g old new 1 opened due.rests
-answered g old new (Ok Ask.Queue) bytes status opened due = rests g old new 1 opened due.rests
-answered g old new (Ok Ask.Reservations) bytes status opened due = rests g old new 1 opened due.rests
-answered g old new (Ok Ask.Status) bytes status opened due = rests g old new 1 opened due.rests
-answered g old new (Ok (Ask.Job number)) bytes status opened due = rests g old new 1 opened due.rests
+answered g old new (Ok (Ask.View view)) bytes status opened due = rests g old new 1 opened due.rests
 
 ran_out : {S : Type 0} (g : Ghosts S) (old new : Kept S) (what : Result Ask Denial)
     → old.is_open ≡ true → new.is_open ≡ old.is_open → RestsOrIsDone g old new what → Serves g old new 1
 ran_out g old new (Err why) opened stays same = rests g old new 1 opened same
 ran_out g old new (Ok (Ask.Call call)) opened stays (inl same) = rests g old new 1 opened same
 ran_out g old new (Ok (Ask.Call call)) opened stays (inr done) = serves_call g old new call opened stays done.farm done.stands
-ran_out g old new (Ok Ask.Types) opened stays same = rests g old new 1 opened same
-ran_out g old new (Ok Ask.Boards) opened stays same = rests g old new 1 opened same
-ran_out g old new (Ok Ask.Queue) opened stays same = rests g old new 1 opened same
-ran_out g old new (Ok Ask.Reservations) opened stays same = rests g old new 1 opened same
-ran_out g old new (Ok Ask.Status) opened stays same = rests g old new 1 opened same
-ran_out g old new (Ok (Ask.Job number)) opened stays same = rests g old new 1 opened same
+ran_out g old new (Ok (Ask.View view)) opened stays same = rests g old new 1 opened same
 
 -- what the keeper's fault is told as
 abbrev given : KeepFault → Result ℕ DeskFault
@@ -93,18 +83,8 @@ closed g old new (Ask.Call call) KeepFault.Store bytes due = record {
   change = due.cause.change;
   leaves = due.cause.leaves;
 }
-closed g old new Ask.Types KeepFault.NoMemory bytes due = absurd due.cause
-closed g old new Ask.Boards KeepFault.NoMemory bytes due = absurd due.cause
-closed g old new Ask.Queue KeepFault.NoMemory bytes due = absurd due.cause
-closed g old new Ask.Reservations KeepFault.NoMemory bytes due = absurd due.cause
-closed g old new Ask.Status KeepFault.NoMemory bytes due = absurd due.cause
-closed g old new (Ask.Job number) KeepFault.NoMemory bytes due = absurd due.cause
-closed g old new Ask.Types KeepFault.Store bytes due = absurd due.cause
-closed g old new Ask.Boards KeepFault.Store bytes due = absurd due.cause
-closed g old new Ask.Queue KeepFault.Store bytes due = absurd due.cause
-closed g old new Ask.Reservations KeepFault.Store bytes due = absurd due.cause
-closed g old new Ask.Status KeepFault.Store bytes due = absurd due.cause
-closed g old new (Ask.Job number) KeepFault.Store bytes due = absurd due.cause
+closed g old new (Ask.View view) KeepFault.NoMemory bytes due = absurd due.cause
+closed g old new (Ask.View view) KeepFault.Store bytes due = absurd due.cause
 
 closed_if_asked : {S : Type 0} (g : Ghosts S) (old new : Kept S) (what : Result Ask Denial) (fault : KeepFault) (bytes : List ℕ)
     → ClosesIfAsked g old new what fault bytes → ServesUntil g old new 1 (given fault)

@@ -16,6 +16,7 @@ use Rattle.farm_keep.specs.Kept.{Kept, Keeps}
 use Rattle.farm_wire.specs.Reading.{Denial, refused, other_methods}
 use Rattle.farm_wire.specs.Replies.{reply_bytes, status_or}
 use Rattle.farm_wire.specs.declared.ask.Ask.{Ask}
+use Rattle.farm_wire.specs.declared.ask.View.{View}
 use Rattle.farm_wire.specs.declared.answers.Out.{Out}
 
 -- ---- which answer it is
@@ -33,11 +34,6 @@ abbrev pub replied : ℕ → Answered → Out
 replied kind (Changed reply) = Out.Reply kind reply
 replied kind (Repeated reply) = Out.Reply kind reply
 replied kind (Denied code) = refusal code
-
--- no call, but a view
-abbrev pub IsLook : Ask → Type 0
-IsLook (Ask.Call call) = ⊥
-IsLook view = Unit {0}
 
 -- the answer lists these rows
 abbrev pub ListsTypes : List TypeRow → Out → Type 0
@@ -63,14 +59,13 @@ ShowsJob (Some job) out = ⊥
 ShowsJob None out = out ≡ refusal NO_JOB
 
 -- the answer shows what the view asks for, of that farm
-abbrev pub IsView : Ask → Farm → Out → Type 0
-IsView Ask.Types F out = ListsTypes F.types out
-IsView Ask.Boards F out = ListsBoards F.boards out
-IsView Ask.Reservations F out = ListsReservations F.reservations out
-IsView Ask.Queue F out = ListsClaims (map shown_claim (queue F)) out
-IsView Ask.Status F out = out ≡ Out.Status (status_of F)
-IsView (Ask.Job number) F out = ShowsJob (job_of F number) out
-IsView (Ask.Call call) F out = ⊥
+abbrev pub IsView : View → Farm → Out → Type 0
+IsView View.Types F out = ListsTypes F.types out
+IsView View.Boards F out = ListsBoards F.boards out
+IsView View.Reservations F out = ListsReservations F.reservations out
+IsView View.Queue F out = ListsClaims (map shown_claim (queue F)) out
+IsView View.Status F out = out ≡ Out.Status (status_of F)
+IsView (View.Job number) F out = ShowsJob (job_of F number) out
 
 -- its HTTP status
 abbrev pub http_status : Out → ℕ
@@ -99,7 +94,7 @@ pub record Does {S : Type 0} (g : Ghosts S) (old new : Kept S) (call : Call) (by
   pub stands : Keeps g old → Keeps g new
 
 -- the view is shown, and the keeper stays as it was
-pub record Shows {S : Type 0} (old new : Kept S) (view : Ask) (bytes : List ℕ) (status : ℕ) : Type 0 where
+pub record Shows {S : Type 0} (old new : Kept S) (view : View) (bytes : List ℕ) (status : ℕ) : Type 0 where
   pub was_open : old.is_open ≡ true
   pub out : Out
   pub shows : IsView view old.farm.farm out
@@ -110,4 +105,4 @@ pub record Shows {S : Type 0} (old new : Kept S) (view : Ask) (bytes : List ℕ)
 abbrev pub Answers : {S : Type 0} → Ghosts S → Kept S → Kept S → Result Ask Denial → List ℕ → ℕ → Type 0
 Answers g old new (Err why) bytes status = Refuses old new why bytes status
 Answers g old new (Ok (Ask.Call call)) bytes status = Does g old new call bytes status
-Answers g old new (Ok view) bytes status = Shows old new view bytes status
+Answers g old new (Ok (Ask.View view)) bytes status = Shows old new view bytes status

@@ -112,7 +112,7 @@ calls_of exchanges = flat_map (λ x. calls_in x.asked) exchanges
 abbrev pub MachineSays : Farm → Result Ask Denial → Out → Type 0
 MachineSays F (Err why) out = out ≡ denied why
 MachineSays F (Ok (Ask.Call call)) out = out ≡ replied (kind_of call.cmd) (answer F call)
-MachineSays F (Ok view) out = IsView view F out
+MachineSays F (Ok (Ask.View view)) out = IsView view F out
 
 -- each is told what the machine says of the farm after the calls before it
 abbrev pub AreTold : Farm → List Exchange → Type 0

@@ -6,7 +6,7 @@ ghost use Rattle.farm_core.specs.Answers.{shown as told};
 ghost use Rattle.farm_types.specs.Farm.{job_of};
 ghost use Rattle.farm_types.specs.Pick.{queue, shown_claim};
 ghost use Rattle.farm_types.specs.Refuse.{kind_of};
-ghost use Rattle.farm_desk.specs.Answers.{replied, IsView, IsLook, ListsClaims, ShowsJob};
+ghost use Rattle.farm_desk.specs.Answers.{replied, IsView, ListsClaims, ShowsJob};
 ghost use Rattle.farm_desk.specs.Due.{IsDueTo};
 ghost use Rattle.farm_desk.specs.Made.{IsMadeOfOne, bytes_in};
 ghost use Rattle.farm_wire.specs.declared.ask.Ask.{Ask as Asking};
@@ -17,7 +17,7 @@ use farm_keep::{KeepFault, Keeper};
 use farm_types::calls::{Answer, Call};
 use farm_types::refusal::{NO_JOB, Refusal};
 use farm_wire::answers::Out;
-use farm_wire::ask::Ask;
+use farm_wire::ask::{Ask, View};
 use sqlite::Alter;
 use std::alloc::Global;
 
@@ -28,7 +28,7 @@ pub(crate) fn due_to<S: Alter>(alloc: Global, keeper: &mut Keeper<S>, ask: &Ask)
 {
     match ask {
         Ask::Call(call) => due_to_call(alloc, keeper, call),
-        _ => due_to_view(alloc, keeper, ask),
+        Ask::View(view) => due_to_view(alloc, keeper, *view),
     }
 }
 
@@ -54,9 +54,8 @@ fn reply_of(call: &Call, answer: &Answer) -> Out<'static>
 }
 
 /// The answer due to a view of an open keeper's farm.
-fn due_to_view<S: Alter>(alloc: Global, keeper: &Keeper<S>, view: &Ask) -> Due
-    requires { IsLook view.now }
-    ensures { IsDueTo S.Store keeper.now keeper.now (Ok view.now) (bytes_in result.bytes) result.end }
+fn due_to_view<S: Alter>(alloc: Global, keeper: &Keeper<S>, view: View) -> Due
+    ensures { IsDueTo S.Store keeper.now keeper.now (Ok (Asking.View view)) (bytes_in result.bytes) result.end }
 {
     match keeper.farm() {
         Some(farm) => show(alloc, farm, view),
@@ -65,19 +64,17 @@ fn due_to_view<S: Alter>(alloc: Global, keeper: &Keeper<S>, view: &Ask) -> Due
 }
 
 /// What a view shows of a farm.
-fn show(alloc: Global, farm: &Farm, view: &Ask) -> Due
-    requires working { farm.now.failed ≡ false }
-    requires look { IsLook view.now }
-    ensures { IsMadeOfOne (IsView view.now farm.now.farm) (bytes_in result.bytes) result.end }
+fn show(alloc: Global, farm: &Farm, view: View) -> Due
+    requires { farm.now.failed ≡ false }
+    ensures { IsMadeOfOne (IsView view farm.now.farm) (bytes_in result.bytes) result.end }
 {
     match view {
-        Ask::Types => Due::of(alloc, &Out::Types(farm.types())),
-        Ask::Boards => Due::of(alloc, &Out::Boards(farm.boards())),
-        Ask::Status => Due::of(alloc, &Out::Status(farm.status())),
-        Ask::Reservations => Due::of(alloc, &Out::Reservations(farm.reservations())),
-        Ask::Job(number) => show_job(alloc, farm, *number),
-        Ask::Queue => show_queue(alloc, farm),
-        Ask::Call(_) => unreachable!(),
+        View::Types => Due::of(alloc, &Out::Types(farm.types())),
+        View::Boards => Due::of(alloc, &Out::Boards(farm.boards())),
+        View::Status => Due::of(alloc, &Out::Status(farm.status())),
+        View::Reservations => Due::of(alloc, &Out::Reservations(farm.reservations())),
+        View::Job(number) => show_job(alloc, farm, number),
+        View::Queue => show_queue(alloc, farm),
     }
 }
 

@@ -7,7 +7,9 @@ use Rattle.matchit.specs.Seek.{step, own, has_slash, cuts, longest_suffix, with_
 use Rattle.matchit.specs.Route.{scan}
 use Rattle.std.proofs.lemmas.Bool.Decides.{nat_tests}
 use Rattle.farm_wire.specs.Places.{rows, place_at}
+use Rattle.farm_wire.specs.declared.place.CommandKind.{CommandKind}
 use Rattle.farm_wire.specs.declared.place.Place.{Place}
+use Rattle.farm_wire.specs.declared.place.ViewKind.{ViewKind}
 use Rattle.farm_wire.proofs.RouteLemmas.{steps, seek_word, seek_end, last_param, middle_param, whole_segment, cut_segment, no_cut, slash_cut}
 
 -- behind the front only a parameter goes on, and what follows it begins with a slash
@@ -49,7 +51,7 @@ reservation_fork b s small =
     record { no_word = rw other refl; slash = rw cut refl }
 
 -- any segment behind `/jobs/` leads to the job
-pub job_place : (b : ℕ) (s : List ℕ) → b < 256 → has_slash (b ∷ s) ≡ false → place_at (codes "/jobs/" ++ (b ∷ s)) ≡ Some Place.Job
+pub job_place : (b : ℕ) (s : List ℕ) → b < 256 → has_slash (b ∷ s) ≡ false → place_at (codes "/jobs/" ++ (b ∷ s)) ≡ Some (Place.Get ViewKind.Job)
 unfolding rows scan
 job_place b s small none =
     let other : nat_eq 256 b ≡ false = grind (arith, nat_tests) in
@@ -58,38 +60,38 @@ job_place b s small none =
     (last_param (steps (codes "/jobs/") rows) b s _ (rw other refl)
     (ap (λ l. longest_suffix l (step 256 (steps (codes "/jobs/") rows))) (whole_segment (b ∷ s) none) ∙ rw cut refl) none refl))
 
-pub board_tags_place : (b : ℕ) (s : List ℕ) → b < 256 → has_slash (b ∷ s) ≡ false → place_at (codes "/boards/" ++ ((b ∷ s) ++ codes "/tags")) ≡ Some Place.BoardTags
+pub board_tags_place : (b : ℕ) (s : List ℕ) → b < 256 → has_slash (b ∷ s) ≡ false → place_at (codes "/boards/" ++ ((b ∷ s) ++ codes "/tags")) ≡ Some (Place.Post CommandKind.SetTags)
 unfolding rows scan
 board_tags_place b s small none = between_place (codes "/boards/") (codes "tags") _ b s none (board_fork b s small) refl
 
-pub board_health_place : (b : ℕ) (s : List ℕ) → b < 256 → has_slash (b ∷ s) ≡ false → place_at (codes "/boards/" ++ ((b ∷ s) ++ codes "/health")) ≡ Some Place.BoardHealth
+pub board_health_place : (b : ℕ) (s : List ℕ) → b < 256 → has_slash (b ∷ s) ≡ false → place_at (codes "/boards/" ++ ((b ∷ s) ++ codes "/health")) ≡ Some (Place.Post CommandKind.SetHealth)
 unfolding rows scan
 board_health_place b s small none = between_place (codes "/boards/") (codes "health") _ b s none (board_fork b s small) refl
 
-pub job_cancel_place : (b : ℕ) (s : List ℕ) → b < 256 → has_slash (b ∷ s) ≡ false → place_at (codes "/jobs/" ++ ((b ∷ s) ++ codes "/cancel")) ≡ Some Place.JobCancel
+pub job_cancel_place : (b : ℕ) (s : List ℕ) → b < 256 → has_slash (b ∷ s) ≡ false → place_at (codes "/jobs/" ++ ((b ∷ s) ++ codes "/cancel")) ≡ Some (Place.Post CommandKind.Cancel)
 unfolding rows scan
 job_cancel_place b s small none = between_place (codes "/jobs/") (codes "cancel") _ b s none (job_fork b s small) refl
 
-pub job_start_place : (b : ℕ) (s : List ℕ) → b < 256 → has_slash (b ∷ s) ≡ false → place_at (codes "/jobs/" ++ ((b ∷ s) ++ codes "/start")) ≡ Some Place.JobStart
+pub job_start_place : (b : ℕ) (s : List ℕ) → b < 256 → has_slash (b ∷ s) ≡ false → place_at (codes "/jobs/" ++ ((b ∷ s) ++ codes "/start")) ≡ Some (Place.Post CommandKind.Start)
 unfolding rows scan
 job_start_place b s small none = between_place (codes "/jobs/") (codes "start") _ b s none (job_fork b s small) refl
 
-pub job_finish_place : (b : ℕ) (s : List ℕ) → b < 256 → has_slash (b ∷ s) ≡ false → place_at (codes "/jobs/" ++ ((b ∷ s) ++ codes "/finish")) ≡ Some Place.JobFinish
+pub job_finish_place : (b : ℕ) (s : List ℕ) → b < 256 → has_slash (b ∷ s) ≡ false → place_at (codes "/jobs/" ++ ((b ∷ s) ++ codes "/finish")) ≡ Some (Place.Post CommandKind.Finish)
 unfolding rows scan
 job_finish_place b s small none = between_place (codes "/jobs/") (codes "finish") _ b s none (job_fork b s small) refl
 
-pub reservation_acquire_place : (b : ℕ) (s : List ℕ) → b < 256 → has_slash (b ∷ s) ≡ false → place_at (codes "/reservations/" ++ ((b ∷ s) ++ codes "/acquire")) ≡ Some Place.ReservationAcquire
+pub reservation_acquire_place : (b : ℕ) (s : List ℕ) → b < 256 → has_slash (b ∷ s) ≡ false → place_at (codes "/reservations/" ++ ((b ∷ s) ++ codes "/acquire")) ≡ Some (Place.Post CommandKind.Acquire)
 unfolding rows scan
 reservation_acquire_place b s small none = between_place (codes "/reservations/") (codes "acquire") _ b s none (reservation_fork b s small) refl
 
-pub reservation_release_place : (b : ℕ) (s : List ℕ) → b < 256 → has_slash (b ∷ s) ≡ false → place_at (codes "/reservations/" ++ ((b ∷ s) ++ codes "/release")) ≡ Some Place.ReservationRelease
+pub reservation_release_place : (b : ℕ) (s : List ℕ) → b < 256 → has_slash (b ∷ s) ≡ false → place_at (codes "/reservations/" ++ ((b ∷ s) ++ codes "/release")) ≡ Some (Place.Post CommandKind.Release)
 unfolding rows scan
 reservation_release_place b s small none = between_place (codes "/reservations/") (codes "release") _ b s none (reservation_fork b s small) refl
 
-pub reservation_refresh_place : (b : ℕ) (s : List ℕ) → b < 256 → has_slash (b ∷ s) ≡ false → place_at (codes "/reservations/" ++ ((b ∷ s) ++ codes "/refresh")) ≡ Some Place.ReservationRefresh
+pub reservation_refresh_place : (b : ℕ) (s : List ℕ) → b < 256 → has_slash (b ∷ s) ≡ false → place_at (codes "/reservations/" ++ ((b ∷ s) ++ codes "/refresh")) ≡ Some (Place.Post CommandKind.Refresh)
 unfolding rows scan
 reservation_refresh_place b s small none = between_place (codes "/reservations/") (codes "refresh") _ b s none (reservation_fork b s small) refl
 
-pub reservation_cancel_place : (b : ℕ) (s : List ℕ) → b < 256 → has_slash (b ∷ s) ≡ false → place_at (codes "/reservations/" ++ ((b ∷ s) ++ codes "/cancel")) ≡ Some Place.ReservationCancel
+pub reservation_cancel_place : (b : ℕ) (s : List ℕ) → b < 256 → has_slash (b ∷ s) ≡ false → place_at (codes "/reservations/" ++ ((b ∷ s) ++ codes "/cancel")) ≡ Some (Place.Post CommandKind.CancelReservation)
 unfolding rows scan
 reservation_cancel_place b s small none = between_place (codes "/reservations/") (codes "cancel") _ b s none (reservation_fork b s small) refl

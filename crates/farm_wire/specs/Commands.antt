@@ -8,12 +8,12 @@ use Rattle.farm_types.specs.declared.rows.Check.{Check}
 use Rattle.farm_types.specs.declared.calls.Cmd.{Cmd}
 use Rattle.farm_types.specs.declared.rows.Health.{Health}
 use Rattle.farm_types.specs.declared.rows.Outcome.{Outcome}
-use Rattle.farm_types.specs.declared.refusal.TheConstants.{BAD_REQUEST, BAD_PRIORITY, NO_ROUTE}
+use Rattle.farm_types.specs.declared.refusal.TheConstants.{BAD_REQUEST, BAD_PRIORITY}
 use Rattle.farm_jobfile.specs.Job.{job}
 use Rattle.farm_wire.specs.Reading.{◌>>=◌, by_number}
 use Rattle.farm_wire.specs.Fields.{object_in, text_in, name_in, tags_from, tags_in, board_tags}
 use Rattle.farm_wire.specs.Parameters.{board_in, job_in, reservation_in}
-use Rattle.farm_wire.specs.declared.place.Place.{Place}
+use Rattle.farm_wire.specs.declared.place.CommandKind.{CommandKind}
 use Rattle.farm_wire.specs.declared.type_body.CheckUnit.{CheckUnit}
 
 -- ---- types
@@ -173,20 +173,19 @@ reserve body = do
 
 -- ---- all
 
--- the command that a path and a body spell
-unfoldable pub command_in : Place → List ℕ → List ℕ → Result Cmd ℕ
-command_in Place.Types path body = add_type body
-command_in Place.Boards path body = add_board body
-command_in Place.BoardTags path body = set_tags path body
-command_in Place.BoardHealth path body = set_health path body
-command_in Place.Jobs path body = submit body
-command_in Place.JobCancel path body = job_in path >>= λ n. Ok (Cmd.Cancel n)
-command_in Place.JobStart path body = job_in path >>= λ n. Ok (Cmd.Start n)
-command_in Place.JobFinish path body = finish path body
-command_in Place.Reservations path body = reserve body
-command_in Place.ReservationAcquire path body = reservation_in path >>= λ n. Ok (Cmd.Acquire n)
-command_in Place.ReservationRelease path body = reservation_in path >>= λ n. Ok (Cmd.Release n)
-command_in Place.ReservationRefresh path body = reservation_in path >>= λ n. Ok (Cmd.Refresh n)
-command_in Place.ReservationCancel path body = reservation_in path >>= λ n. Ok (Cmd.CancelRes n)
-command_in Place.Pass path body = Ok Cmd.Pass
-command_in place path body = Err NO_ROUTE
+-- the command of a kind that a path and a body spell
+unfoldable pub command_in : CommandKind → List ℕ → List ℕ → Result Cmd ℕ
+command_in CommandKind.AddType path body = add_type body
+command_in CommandKind.AddBoard path body = add_board body
+command_in CommandKind.SetTags path body = set_tags path body
+command_in CommandKind.SetHealth path body = set_health path body
+command_in CommandKind.Submit path body = submit body
+command_in CommandKind.Cancel path body = job_in path >>= λ n. Ok (Cmd.Cancel n)
+command_in CommandKind.Start path body = job_in path >>= λ n. Ok (Cmd.Start n)
+command_in CommandKind.Finish path body = finish path body
+command_in CommandKind.Reserve path body = reserve body
+command_in CommandKind.Acquire path body = reservation_in path >>= λ n. Ok (Cmd.Acquire n)
+command_in CommandKind.Release path body = reservation_in path >>= λ n. Ok (Cmd.Release n)
+command_in CommandKind.Refresh path body = reservation_in path >>= λ n. Ok (Cmd.Refresh n)
+command_in CommandKind.CancelReservation path body = reservation_in path >>= λ n. Ok (Cmd.CancelRes n)
+command_in CommandKind.Pass path body = Ok Cmd.Pass

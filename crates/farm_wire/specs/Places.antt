@@ -1,7 +1,7 @@
 -- The paths: where each leads, as `matchit` finds it, and which methods it has.
-use Rattle.std.specs.Prelude.{◌≡◌, ℕ, ◌<◌, false, List, [], ◌∷◌, ◌++◌, Option, Some, None, Result, Ok, Err, codes, if◌then◌else◌}
+use Rattle.std.specs.Prelude.{◌≡◌, ℕ, ◌<◌, Bool, true, false, List, [], ◌∷◌, ◌++◌, Option, Some, None, Result, Ok, Err, codes, if◌then◌else◌}
 use Rattle.std.specs.List.{before_first}
-use Rattle.std.specs.Option.{option_map, option_or}
+use Rattle.std.specs.Option.{option_map}
 use Rattle.std.specs.Str.{is_utf8, bytes_eq}
 use Rattle.std.specs.Prelude.{◌==◌}
 use Rattle.matchit.specs.Rows.{RowsOf}
@@ -13,39 +13,37 @@ use Rattle.matchit.specs.declared.error.InsertError.{InsertError}
 use Rattle.farm_types.specs.declared.refusal.TheConstants.{BAD_REQUEST, NO_ROUTE}
 use Rattle.farm_wire.specs.declared.place.Place.{Place}
 use Rattle.farm_wire.specs.declared.allowed.Allowed.{Allowed}
-use Rattle.farm_wire.specs.declared.allowed.Method.{Method}
+use Rattle.farm_wire.specs.declared.place.CommandKind.{CommandKind}
+use Rattle.farm_wire.specs.declared.place.Endpoint.{Endpoint}
+use Rattle.farm_wire.specs.declared.place.ViewKind.{ViewKind}
 
 -- each path with its place
 abbrev pub table : List (List ℕ × Place)
 table =
-    (codes "/types", Place.Types)
-    ∷ (codes "/boards", Place.Boards)
-    ∷ (codes "/boards/{name}/tags", Place.BoardTags)
-    ∷ (codes "/boards/{name}/health", Place.BoardHealth)
-    ∷ (codes "/jobs", Place.Jobs)
-    ∷ (codes "/jobs/{n}", Place.Job)
-    ∷ (codes "/jobs/{n}/cancel", Place.JobCancel)
-    ∷ (codes "/jobs/{n}/start", Place.JobStart)
-    ∷ (codes "/jobs/{n}/finish", Place.JobFinish)
-    ∷ (codes "/reservations", Place.Reservations)
-    ∷ (codes "/reservations/{n}/acquire", Place.ReservationAcquire)
-    ∷ (codes "/reservations/{n}/release", Place.ReservationRelease)
-    ∷ (codes "/reservations/{n}/refresh", Place.ReservationRefresh)
-    ∷ (codes "/reservations/{n}/cancel", Place.ReservationCancel)
-    ∷ (codes "/pass", Place.Pass)
-    ∷ (codes "/queue", Place.Queue)
-    ∷ (codes "/status", Place.Status)
+    (codes "/types", Place.GetPost ViewKind.Types CommandKind.AddType)
+    ∷ (codes "/boards", Place.GetPost ViewKind.Boards CommandKind.AddBoard)
+    ∷ (codes "/boards/{name}/tags", Place.Post CommandKind.SetTags)
+    ∷ (codes "/boards/{name}/health", Place.Post CommandKind.SetHealth)
+    ∷ (codes "/jobs", Place.Post CommandKind.Submit)
+    ∷ (codes "/jobs/{n}", Place.Get ViewKind.Job)
+    ∷ (codes "/jobs/{n}/cancel", Place.Post CommandKind.Cancel)
+    ∷ (codes "/jobs/{n}/start", Place.Post CommandKind.Start)
+    ∷ (codes "/jobs/{n}/finish", Place.Post CommandKind.Finish)
+    ∷ (codes "/reservations", Place.GetPost ViewKind.Reservations CommandKind.Reserve)
+    ∷ (codes "/reservations/{n}/acquire", Place.Post CommandKind.Acquire)
+    ∷ (codes "/reservations/{n}/release", Place.Post CommandKind.Release)
+    ∷ (codes "/reservations/{n}/refresh", Place.Post CommandKind.Refresh)
+    ∷ (codes "/reservations/{n}/cancel", Place.Post CommandKind.CancelReservation)
+    ∷ (codes "/pass", Place.Post CommandKind.Pass)
+    ∷ (codes "/queue", Place.Get ViewKind.Queue)
+    ∷ (codes "/status", Place.Get ViewKind.Status)
     ∷ []
 
 -- the methods of its path
 abbrev pub allowed_at : Place → Allowed
-allowed_at Place.Types = Allowed.GetPost
-allowed_at Place.Boards = Allowed.GetPost
-allowed_at Place.Reservations = Allowed.GetPost
-allowed_at Place.Job = Allowed.Get
-allowed_at Place.Queue = Allowed.Get
-allowed_at Place.Status = Allowed.Get
-allowed_at place = Allowed.Post
+allowed_at (Place.Get view) = Allowed.Get
+allowed_at (Place.Post command) = Allowed.Post
+allowed_at (Place.GetPost view command) = Allowed.GetPost
 
 -- the router's rows with one more route
 abbrev pub with_route : Result Scan InsertError → Place → RowsOf (RouteOf Place) → RowsOf (RouteOf Place)
@@ -77,17 +75,22 @@ place_or (Some place) = Ok place
 unfoldable pub place_in : List ℕ → Result Place ℕ
 place_in path = place_or (place_at path)
 
-abbrev pub get_in : List ℕ → Option Method
-get_in bytes = if bytes_eq bytes (codes "GET") then Some Method.Get else None
+abbrev pub is_get : List ℕ → Bool
+is_get method = bytes_eq method (codes "GET")
 
-abbrev pub post_in : List ℕ → Option Method
-post_in bytes = if bytes_eq bytes (codes "POST") then Some Method.Post else None
+abbrev pub is_post : List ℕ → Bool
+is_post method = bytes_eq method (codes "POST")
 
--- the method that the bytes name, if it is one of these
-abbrev pub method_among : Allowed → List ℕ → Option Method
-method_among Allowed.Get bytes = get_in bytes
-method_among Allowed.Post bytes = post_in bytes
-method_among Allowed.GetPost bytes = option_or (get_in bytes) (post_in bytes)
+abbrev pub endpoint_if : Bool → Endpoint → Option Endpoint → Option Endpoint
+endpoint_if true endpoint other = Some endpoint
+endpoint_if false endpoint other = other
+
+-- what a method leads to, if the path has it
+abbrev pub endpoint_at : Place → List ℕ → Option Endpoint
+endpoint_at (Place.Get view) method = endpoint_if (is_get method) (Endpoint.View view) None
+endpoint_at (Place.Post command) method = endpoint_if (is_post method) (Endpoint.Command command) None
+endpoint_at (Place.GetPost view command) method =
+    endpoint_if (is_get method) (Endpoint.View view) (endpoint_if (is_post method) (Endpoint.Command command) None)
 
 -- the value of the field `allow`
 abbrev pub allow_text : Allowed → List ℕ

@@ -5,6 +5,12 @@ use farm_types::calls::Call;
 #[derive(Debug, Drop)]
 pub enum Ask {
     Call(Call),
+    View(View),
+}
+
+/// A view of the farm: one of its tables, its queue, its numbers, or the job of a number.
+#[derive(Clone, Copy, Debug, PartialEq, Eq)]
+pub enum View {
     Types,
     Boards,
     Queue,

@@ -5,18 +5,17 @@ ghost use Rattle.farm_types.specs.Proper.{is_proper_cmd};
 ghost use Rattle.farm_types.specs.Reads.{Reads};
 ghost use Rattle.farm_http.specs.Request.{Request};
 ghost use Rattle.farm_http.specs.Requests.{Spells};
-ghost use Rattle.farm_wire.specs.Asked.{ask, asked, asked_by, call_in, view_in, method_in};
+ghost use Rattle.farm_wire.specs.Asked.{ask, asked, asked_at, call_in, view_in, endpoint_in};
 ghost use Rattle.farm_wire.specs.Commands.{command_in};
 ghost use Rattle.farm_wire.specs.Places.{rows, path_in, place_in};
 ghost use Rattle.farm_wire.specs.Reading.{Meets, or_refused};
 
-use crate::allowed::{Allowed, Method};
-use crate::ask::Ask;
+use crate::ask::{Ask, View};
 use crate::board_body::{add_board_of, set_health_of, set_tags_of};
 use crate::fault::AskFault;
 use crate::job_body::{finish_of, submit_of};
 use crate::parameter::{job_of, reservation_of};
-use crate::place::Place;
+use crate::place::{CommandKind, Endpoint, Place, ViewKind};
 use crate::reserve_body::reserve_of;
 use crate::router::all_paths;
 use crate::sender::{caller_of, key_of};
@@ -59,8 +58,8 @@ impl Asks {
     {
         let path = path_of(parts.target())?;
         let place = self.place(path)?;
-        let method = method_of(place.allowed(), parts.method())?;
-        match asked_by(alloc, method, place, path, parts, now) {
+        let endpoint = endpoint_of(place, parts.method())?;
+        match asked_at(alloc, endpoint, path, parts, now) {
             Ok(ask) => Ok(ask),
             Err(WordFault::Refused(refusal)) => Err(AskFault::Refused(refusal)),
             Err(WordFault::NoMemory) => Err(AskFault::NoMemory),
@@ -113,89 +112,86 @@ fn before_query(target: &str) -> &str
     }
 }
 
-/// The method, where the path has it.
-#[tactic(auto, unfolding(crate::specs::Asked::method_in))]
-fn method_of(allowed: Allowed, bytes: &[u8]) -> Result<Method, AskFault>
-    ensures method { Meets (λ method. method) result (method_in allowed bytes.now) }
+/// What the method leads to, where the path has it.
+#[tactic(auto, unfolding(crate::specs::Asked::endpoint_in))]
+fn endpoint_of(place: Place, method: &[u8]) -> Result<Endpoint, AskFault>
+    ensures { Meets (λ endpoint. endpoint) result (endpoint_in place method.now) }
 {
-    match allowed.method(bytes) {
-        Some(method) => Ok(method),
-        None => Err(AskFault::Method(allowed)),
+    match place.endpoint(method) {
+        Some(endpoint) => Ok(endpoint),
+        None => Err(AskFault::Method(place.allowed())),
     }
 }
 
-/// What a request with that method asks of a path.
-#[tactic(auto, unfolding(crate::specs::Asked::asked_by))]
-fn asked_by(
+/// What a request asks of a path whose method leads there.
+#[tactic(auto, unfolding(crate::specs::Asked::asked_at))]
+fn asked_at(
     alloc: Global,
-    method: Method,
-    place: Place,
+    endpoint: Endpoint,
     path: &str,
     parts: &Parts<'_>,
     now: u64,
 ) -> Result<Ask, WordFault>
-    ensures { Reads asked result (asked_by method place path.now parts.now now) }
+    ensures { Reads asked result (asked_at endpoint path.now parts.now now) }
 {
-    match method {
-        Method::Get => view_of(place, path),
-        Method::Post => call_of(alloc, place, path, parts, now),
+    match endpoint {
+        Endpoint::View(kind) => Ok(Ask::View(view_of(kind, path)?)),
+        Endpoint::Command(kind) => call_of(alloc, kind, path, parts, now),
     }
 }
 
 /// The view at a path.
 #[tactic(auto, unfolding(crate::specs::Asked::view_in))]
-fn view_of(place: Place, path: &str) -> Result<Ask, WordFault>
-    ensures { Reads asked result (view_in place path.now) }
+fn view_of(kind: ViewKind, path: &str) -> Result<View, WordFault>
+    ensures { Reads (λ view. view) result (view_in kind path.now) }
 {
-    match place {
-        Place::Types => Ok(Ask::Types),
-        Place::Boards => Ok(Ask::Boards),
-        Place::Queue => Ok(Ask::Queue),
-        Place::Reservations => Ok(Ask::Reservations),
-        Place::Status => Ok(Ask::Status),
-        Place::Job => Ok(Ask::Job(job_of(path)?)),
-        _ => Err(WordFault::Refused(Refusal { code: NO_ROUTE })),
-    }
+    Ok(match kind {
+        ViewKind::Types => View::Types,
+        ViewKind::Boards => View::Boards,
+        ViewKind::Queue => View::Queue,
+        ViewKind::Reservations => View::Reservations,
+        ViewKind::Status => View::Status,
+        ViewKind::Job => View::Job(job_of(path)?),
+    })
 }
 
 /// The call of a request, its caller looked at first and its body last.
 #[tactic(auto, unfolding(crate::specs::Asked::call_in))]
 fn call_of(
     alloc: Global,
-    place: Place,
+    kind: CommandKind,
     path: &str,
     parts: &Parts<'_>,
     now: u64,
 ) -> Result<Ask, WordFault>
-    ensures { Reads asked result (call_in place path.now parts.now now) }
+    ensures { Reads asked result (call_in kind path.now parts.now now) }
 {
     let caller = caller_of(alloc, parts)?;
     let key = key_of(alloc, parts)?;
-    let cmd = command_of(alloc, place, path, parts.body())?;
+    let cmd = command_of(alloc, kind, path, parts.body())?;
     Ok(Ask::Call(Call::new(caller, key, now, cmd)))
 }
 
-/// The command that a path and a body spell.
+/// The command of a kind that a path and a body spell.
 #[tactic(auto, unfolding(crate::specs::Commands::command_in, farm_types::specs::Proper::is_proper_cmd))]
-fn command_of(alloc: Global, place: Place, path: &str, body: &[u8]) -> Result<Cmd, WordFault>
-    ensures meaning { Reads (λ cmd. cmd) result (command_in place path.now body.now) }
+fn command_of(alloc: Global, kind: CommandKind, path: &str, body: &[u8]) -> Result<Cmd, WordFault>
+    ensures meaning { Reads (λ cmd. cmd) result (command_in kind path.now body.now) }
     ensures proper { IfOk result (λ cmd. IsTrue (is_proper_cmd cmd)) }
 {
-    match place {
-        Place::Types => add_type_of(alloc, body),
-        Place::Boards => add_board_of(alloc, body),
-        Place::BoardTags => set_tags_of(alloc, path, body),
-        Place::BoardHealth => set_health_of(alloc, path, body),
-        Place::Jobs => submit_of(alloc, body),
-        Place::JobCancel => Ok(Cmd::Cancel(job_of(path)?)),
-        Place::JobStart => Ok(Cmd::Start(job_of(path)?)),
-        Place::JobFinish => finish_of(alloc, path, body),
-        Place::Reservations => reserve_of(alloc, body),
-        Place::ReservationAcquire => Ok(Cmd::Acquire(reservation_of(path)?)),
-        Place::ReservationRelease => Ok(Cmd::Release(reservation_of(path)?)),
-        Place::ReservationRefresh => Ok(Cmd::Refresh(reservation_of(path)?)),
-        Place::ReservationCancel => Ok(Cmd::CancelRes(reservation_of(path)?)),
-        Place::Pass => Ok(Cmd::Pass),
-        _ => Err(WordFault::Refused(Refusal { code: NO_ROUTE })),
+    match kind {
+        CommandKind::AddType => add_type_of(alloc, body),
+        CommandKind::AddBoard => add_board_of(alloc, body),
+        CommandKind::SetTags => set_tags_of(alloc, path, body),
+        CommandKind::SetHealth => set_health_of(alloc, path, body),
+        CommandKind::Submit => submit_of(alloc, body),
+        CommandKind::Cancel => Ok(Cmd::Cancel(job_of(path)?)),
+        CommandKind::Start => Ok(Cmd::Start(job_of(path)?)),
+        CommandKind::Finish => finish_of(alloc, path, body),
+        CommandKind::Reserve => reserve_of(alloc, body),
+        CommandKind::Acquire => Ok(Cmd::Acquire(reservation_of(path)?)),
+        CommandKind::Release => Ok(Cmd::Release(reservation_of(path)?)),
+        CommandKind::Refresh => Ok(Cmd::Refresh(reservation_of(path)?)),
+        CommandKind::CancelReservation => Ok(Cmd::CancelRes(reservation_of(path)?)),
+        CommandKind::Pass => Ok(Cmd::Pass),
     }
 }

@@ -3,29 +3,50 @@ ghost use Rattle.std.specs.Prelude.{◌≡◌, IfOk, OnOk, map, []};
 ghost use Rattle.matchit.specs.Route.{parse_route};
 ghost use Rattle.farm_wire.specs.Places.{rows, with_route, with_routes};
 
-use crate::place::Place;
+use crate::place::{CommandKind, Place, ViewKind};
 use matchit::Router;
 use std::alloc::{AllocError, Global};
 
 /// Each path with its place. A parameter is one segment of at least one byte.
 const TABLE: [(&str, Place); 17] = [
-    ("/types", Place::Types),
-    ("/boards", Place::Boards),
-    ("/boards/{name}/tags", Place::BoardTags),
-    ("/boards/{name}/health", Place::BoardHealth),
-    ("/jobs", Place::Jobs),
-    ("/jobs/{n}", Place::Job),
-    ("/jobs/{n}/cancel", Place::JobCancel),
-    ("/jobs/{n}/start", Place::JobStart),
-    ("/jobs/{n}/finish", Place::JobFinish),
-    ("/reservations", Place::Reservations),
-    ("/reservations/{n}/acquire", Place::ReservationAcquire),
-    ("/reservations/{n}/release", Place::ReservationRelease),
-    ("/reservations/{n}/refresh", Place::ReservationRefresh),
-    ("/reservations/{n}/cancel", Place::ReservationCancel),
-    ("/pass", Place::Pass),
-    ("/queue", Place::Queue),
-    ("/status", Place::Status),
+    (
+        "/types",
+        Place::GetPost(ViewKind::Types, CommandKind::AddType),
+    ),
+    (
+        "/boards",
+        Place::GetPost(ViewKind::Boards, CommandKind::AddBoard),
+    ),
+    ("/boards/{name}/tags", Place::Post(CommandKind::SetTags)),
+    ("/boards/{name}/health", Place::Post(CommandKind::SetHealth)),
+    ("/jobs", Place::Post(CommandKind::Submit)),
+    ("/jobs/{n}", Place::Get(ViewKind::Job)),
+    ("/jobs/{n}/cancel", Place::Post(CommandKind::Cancel)),
+    ("/jobs/{n}/start", Place::Post(CommandKind::Start)),
+    ("/jobs/{n}/finish", Place::Post(CommandKind::Finish)),
+    (
+        "/reservations",
+        Place::GetPost(ViewKind::Reservations, CommandKind::Reserve),
+    ),
+    (
+        "/reservations/{n}/acquire",
+        Place::Post(CommandKind::Acquire),
+    ),
+    (
+        "/reservations/{n}/release",
+        Place::Post(CommandKind::Release),
+    ),
+    (
+        "/reservations/{n}/refresh",
+        Place::Post(CommandKind::Refresh),
+    ),
+    (
+        "/reservations/{n}/cancel",
+        Place::Post(CommandKind::CancelReservation),
+    ),
+    ("/pass", Place::Post(CommandKind::Pass)),
+    ("/queue", Place::Get(ViewKind::Queue)),
+    ("/status", Place::Get(ViewKind::Status)),
 ];
 
 /// Adds a path. No two paths of the table conflict, so that only memory can be wanting.
