@@ -1,6 +1,8 @@
 -- What reading a request gives: a value, or why it asks nothing.
 use Rattle.std.specs.Prelude.{◌≡◌, ℕ, Result, Ok, Err}
-use Rattle.farm_jobfile.specs.Reading.{Fault, number_of}
+use Rattle.farm_types.specs.declared.fault.WordFault.{WordFault}
+use Rattle.farm_jobfile.specs.Reading.{Fault, code_of_kind, number_of}
+use Rattle.farm_jobfile.specs.declared.fault.FileFault.{FileFault}
 use Rattle.farm_wire.specs.declared.allowed.Allowed.{Allowed}
 use Rattle.farm_wire.specs.declared.fault.AskFault.{AskFault}
 
@@ -24,6 +26,17 @@ pub data Denial : Type 0 where
 abbrev pub or_refused : {A : Type 0} → Result A ℕ → Result A Denial
 or_refused (Ok x) = Ok x
 or_refused (Err code) = Err (refused code)
+
+-- a job file that isn't read, as a word that isn't: a bad file is refused as one
+abbrev pub fault_of_file : FileFault → WordFault
+fault_of_file (FileFault.Bad kind reason) = WordFault.Refused (record { code = code_of_kind kind })
+fault_of_file (FileFault.Word refusal) = WordFault.Refused refusal
+fault_of_file FileFault.NoMemory = WordFault.NoMemory
+
+-- a word that isn't read, as why a request asks nothing
+abbrev pub fault_of_word : WordFault → AskFault
+fault_of_word (WordFault.Refused refusal) = AskFault.Refused refusal
+fault_of_word WordFault.NoMemory = AskFault.NoMemory
 
 -- the fault is that denial, unless memory ran out
 abbrev pub Denies : {Y : Type 0} → AskFault → Result Y Denial → Type 0

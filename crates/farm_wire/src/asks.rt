@@ -59,11 +59,7 @@ impl Asks {
         let path = path_of(parts.target())?;
         let place = self.place(path)?;
         let endpoint = endpoint_of(place, parts.method())?;
-        match asked_at(alloc, endpoint, path, parts, now) {
-            Ok(ask) => Ok(ask),
-            Err(WordFault::Refused(refusal)) => Err(AskFault::Refused(refusal)),
-            Err(WordFault::NoMemory) => Err(AskFault::NoMemory),
-        }
+        Ok(asked_at(alloc, endpoint, path, parts, now)?)
     }
 
     /// Where a path leads.
@@ -85,10 +81,7 @@ impl Ask {
         ensures { (request : Request) → Spells taken.now.bytes.items taken.now.head request
             → Meets asked result (ask request now) }
     {
-        match Asks::new(alloc) {
-            Ok(asks) => asks.ask(alloc, taken, now),
-            Err(_) => Err(AskFault::NoMemory),
-        }
+        Asks::new(alloc)?.ask(alloc, taken, now)
     }
 }
 

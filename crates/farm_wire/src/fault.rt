@@ -1,6 +1,10 @@
 //! Why a request asks nothing.
+ghost use Rattle.std.specs.Prelude.{◌≡◌};
+
 use crate::allowed::Allowed;
+use farm_types::fault::WordFault;
 use farm_types::refusal::Refusal;
+use std::alloc::AllocError;
 use thiserror::Error;
 
 /// Why a request asks nothing.
@@ -15,4 +19,27 @@ pub enum AskFault {
     /// Memory ran out, and nothing is known of the request.
     #[error("no memory")]
     NoMemory,
+}
+
+impl From<WordFault> for AskFault {
+    ghost use Rattle.farm_wire.specs.Reading.{fault_of_word};
+
+    ghost from_gives = { λ fault e. e ≡ fault_of_word fault };
+
+    fn from(fault: WordFault) -> AskFault {
+        match fault {
+            WordFault::Refused(refusal) => AskFault::Refused(refusal),
+            WordFault::NoMemory => AskFault::NoMemory,
+        }
+    }
+}
+
+impl From<AllocError> for AskFault {
+    ghost use Rattle.farm_wire.specs.declared.fault.AskFault.TheVariants.{NoMemory};
+
+    ghost from_gives = { λ _ e. e ≡ NoMemory };
+
+    fn from(_none: AllocError) -> AskFault {
+        AskFault::NoMemory
+    }
 }

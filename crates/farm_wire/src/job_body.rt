@@ -5,6 +5,7 @@ ghost use Rattle.farm_types.specs.Codes.{same_outcome};
 ghost use Rattle.farm_types.specs.Proper.{is_proper_cmd};
 ghost use Rattle.farm_types.specs.Reads.{Reads};
 ghost use Rattle.farm_wire.specs.Commands.{outcome_or, finish, submit};
+ghost use Rattle.farm_wire.specs.Reading.{fault_of_file};
 ghost use Rattle.farm_types.specs.declared.rows.Outcome.{Outcome};
 
 use crate::fields::text_of;
@@ -38,13 +39,17 @@ pub(crate) fn submit_of(alloc: Global, body: &[u8]) -> Result<Cmd, WordFault>
     ensures meaning { Reads (λ cmd. cmd) result (submit body.now) }
     ensures proper { IfOk result (λ cmd. IsTrue (is_proper_cmd cmd)) }
 {
-    match farm_jobfile::job_of(alloc, body) {
-        Ok(cmd) => Ok(cmd),
-        Err(FileFault::Bad { kind, .. }) => {
-            Err(WordFault::Refused(Refusal { code: kind.code() }))
-        }
-        Err(FileFault::Word(refusal)) => Err(WordFault::Refused(refusal)),
-        Err(FileFault::NoMemory) => Err(WordFault::NoMemory),
+    farm_jobfile::job_of(alloc, body).map_err(word_fault)
+}
+
+/// Why a job file is not read, as of a word: a bad file is refused as one.
+fn word_fault(fault: FileFault) -> WordFault
+    ensures { result ≡ fault_of_file fault }
+{
+    match fault {
+        FileFault::Bad { kind, .. } => WordFault::Refused(Refusal { code: kind.code() }),
+        FileFault::Word(refusal) => WordFault::Refused(refusal),
+        FileFault::NoMemory => WordFault::NoMemory,
     }
 }
 

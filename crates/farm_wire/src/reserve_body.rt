@@ -26,10 +26,7 @@ fn priority_of(number: u64) -> Result<Priority, WordFault>
     ensures reads { Reads (λ priority. priority) result (priority_number (Some number)) }
     ensures memory { result ≢ Err WordFault.NoMemory }
 {
-    match Priority::of(number) {
-        Ok(priority) => Ok(priority),
-        Err(refusal) => Err(WordFault::Refused(refusal)),
-    }
+    Priority::of(number).map_err(WordFault::Refused)
 }
 
 /// The priority that a word names.
