@@ -1,5 +1,5 @@
 -- A head and a body behind it.
-use Rattle.std.proofs.Common.{◌≡◌, ℕ, ◌+◌, ◌≤◌, List, ◌++◌, length, take, drop, ap, sym, subst, ◌∙◌, append-nil, length-append, arith, Ok, inr}
+use Rattle.std.proofs.Common.{◌≡◌, ℕ, ◌+◌, ◌≤◌, List, ◌++◌, length, take, drop, ap, sym, subst, ◌∙◌, append-nil, length-append, arith, Ok, inl, inr}
 use Rattle.std.proofs.lemmas.List.{length-take-le, drop_at, take_all, take-append-le}
 use Rattle.std.proofs.lemmas.Slice.{take-put_mid}
 use Rattle.std.proofs.Math.Seq.{take-append_seam}
@@ -8,7 +8,7 @@ use Rattle.httparse.specs.Grammar.{RequestHead, print_request}
 use Rattle.farm_http.specs.Fields.{body_length}
 use Rattle.farm_http.specs.Heads.{IsHead}
 use Rattle.farm_http.specs.Requests.{IsRequestOf}
-use Rattle.farm_http.specs.Faults.{BodyFails, Fails}
+use Rattle.farm_http.specs.Faults.{BodyFails, HeadFails, Fails}
 use Rattle.farm_http.specs.declared.fault.WireFault.{WireFault}
 use Rattle.farm_http.specs.declared.fault.WireFault.TheVariants.{NoMemory, Read, Write, Refused}
 
@@ -71,3 +71,14 @@ pub front_is_head : (bytes : List ℕ) (head : ℕ) (h : RequestHead) → IsRequ
 front_is_head bytes head h is =
     let cut : take head bytes ≡ print_request h = ap (λ n. take n bytes) is.head_is ∙ ap (take (length (print_request h))) is.whole ∙ take-append_seam (print_request h) (drop head bytes) in
     subst (λ l. IsHead l h) (sym cut) is.front
+
+-- it is the head that the request was made of
+pub front_same : (bytes front : List ℕ) (head : ℕ) (h : RequestHead) → IsHead front h → IsRequestOf bytes head h → front ≡ take head bytes
+front_same bytes front head h is whole = head_text front h is ∙ sym (head_text (take head bytes) h (front_is_head bytes head h whole))
+
+-- a head that fails makes its request fail
+pub head_fails : (used : List ℕ) (AtEnd Spent : Type 0) (e : WireFault) → HeadFails used AtEnd Spent e → Fails used AtEnd Spent e
+head_fails used AtEnd Spent NoMemory f = absurd f
+head_fails used AtEnd Spent Read f = f
+head_fails used AtEnd Spent Write f = f
+head_fails used AtEnd Spent (Refused r) f = inl f

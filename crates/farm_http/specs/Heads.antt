@@ -2,7 +2,9 @@
 use Rattle.std.specs.Prelude.{◌≡◌, ℕ, ◌+◌, ◌-◌, ◌<◌, ◌≤◌, ◌⊎◌, Bool, true, false, List, [], ◌∷◌, ◌++◌, length, take, slice_index}
 use Rattle.httparse.specs.Ascii.{line_feed}
 use Rattle.httparse.specs.Grammar.{RequestHead, ReadsRequest, HasNoRequest, MayBecomeRequest}
-use Rattle.httparse.specs.Spans.{RequestOverflows}
+use Rattle.httparse.specs.Spans.{IsRequestAt, IsRequestWithin, RequestOverflows}
+use Rattle.httparse.specs.declared.spans.HeaderSpan.{HeaderSpan}
+use Rattle.httparse.specs.declared.spans.RequestSpans.{RequestSpans}
 use Rattle.farm_types.specs.declared.refusal.TheConstants.{BAD_REQUEST, TOO_LARGE}
 use Rattle.farm_http.specs.declared.limits.TheConstants.{MAX_HEAD, MAX_FIELDS}
 
@@ -16,6 +18,11 @@ pub record IsHead (bytes : List ℕ) (h : RequestHead) : Type 0 where
 pub record IsOpen (front : List ℕ) : Type 0 where
   pub none : HasNoRequest front
   pub more : MayBecomeRequest front
+
+-- the spans are those of the parts of each head that the bytes are, and lie in them
+pub record AreSpansOf (bytes : List ℕ) (headers : List HeaderSpan) (spans : RequestSpans) : Type 0 where
+  pub within : IsRequestWithin bytes headers spans
+  pub parts : (h : RequestHead) → IsHead bytes h → IsRequestAt bytes headers spans h
 
 -- each prefix that ends in one of the first n bytes, a line feed, is open
 abbrev pub OpenBelow : ℕ → List ℕ → Type 0

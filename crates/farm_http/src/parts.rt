@@ -8,10 +8,8 @@ ghost use Rattle.farm_http.specs.Request.{Request};
 ghost use Rattle.farm_http.specs.Requests.{Spells};
 
 use crate::fields::{Repeated, find};
-use crate::limits::MAX_FIELDS;
 use crate::taken::Taken;
-use httparse::Status;
-use httparse::spans::{EMPTY_HEADER_SPAN, HeaderSpan, RequestSpans, parse_request};
+use httparse::spans::{HeaderSpan, RequestSpans};
 use std::marker::Model;
 
 /// A request by its parts, each lent from the bytes that were taken.
@@ -20,7 +18,7 @@ pub struct Parts<'a> {
     head: &'a [u8],
     body: &'a [u8],
     spans: RequestSpans,
-    headers: [HeaderSpan; MAX_FIELDS],
+    headers: &'a [HeaderSpan],
 }
 
 impl<'a> Model for Parts<'a> {
@@ -33,40 +31,24 @@ impl<'a> Model for Parts<'a> {
     ghost view = { λ p. record {
       method = span_bytes p.head.now p.spans.method;
       target = span_bytes p.head.now p.spans.path;
-      fields = map (header_bytes p.head.now) (take p.spans.headers p.headers);
+      fields = map (header_bytes p.head.now) (take p.spans.headers p.headers.now);
       body = p.body.now;
     } };
 
-    ghost invariant = { λ p. IsRequestWithin p.head.now p.headers p.spans };
+    ghost invariant = { λ p. IsRequestWithin p.head.now p.headers.now p.spans };
 }
 
-/// The parts of what was taken. Reads the head once more, in one pass.
+/// The parts of what was taken. Reads none of its bytes.
 pub fn parts_of(taken: &Taken) -> Parts<'_>
     ensures { (request : Request) → Spells taken.now.bytes.items taken.now.head request
         → result ≡ request }
 {
     let (head, body) = taken.bytes.as_slice().split_at(taken.head);
-    let mut headers = [EMPTY_HEADER_SPAN; MAX_FIELDS];
-    let spans = spans_of(head, &mut headers);
     Parts {
         head,
         body,
-        spans,
-        headers,
-    }
-}
-
-/// Where the parts of a head are.
-pub(crate) fn spans_of(head: &[u8], headers: &mut [HeaderSpan]) -> RequestSpans
-    requires head { ∥ ((h : RequestHead) × IsHead head.now h) ∥₁ }
-    requires room { length headers.old ≡ MAX_FIELDS }
-    ensures within { IsRequestWithin head.now headers.new result }
-    ensures parts { (h : RequestHead) → IsHead head.now h
-        → IsRequestAt head.now headers.new result h }
-{
-    match parse_request(head, headers) {
-        Ok(Status::Complete(spans)) => spans,
-        _ => unreachable!(),
+        spans: taken.spans,
+        headers: &taken.headers[..],
     }
 }
 

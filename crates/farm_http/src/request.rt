@@ -1,10 +1,10 @@
 //! Reading one request.
-ghost use Rattle.std.specs.Prelude.{◌≡◌, ℕ, ◌+◌, ◌-◌, ◌<◌, ◌≤◌, ◌∷◌, length, [], vec_capacity, false, ⊤, List, IsTrue, IfOk, IfErr, IfSome, OnOk, OnErr, IsErrOf};
+ghost use Rattle.std.specs.Prelude.{◌≡◌, ℕ, ◌+◌, ◌-◌, ◌<◌, ◌≤◌, ◌∷◌, length, [], take, is_some, vec_capacity, false, ⊤, List, IsTrue, IfOk, IfErr, IfSome, OnOk, OnErr, IsErrOf};
 ghost use Rattle.std.specs.Io.KnownBytes.{Consumes, IsAtEnd, Keeps};
 ghost use Rattle.httparse.specs.Grammar.{RequestHead};
 ghost use Rattle.farm_http.specs.Fields.{body_length, numbered};
 ghost use Rattle.farm_http.specs.Faults.{HeadFails, BodyFails, FailsAfter, TakesFrom};
-ghost use Rattle.farm_http.specs.Heads.{IsHead, IsHopeless, OpenBelow, TellsHead};
+ghost use Rattle.farm_http.specs.Heads.{IsHead, IsHopeless, OpenBelow, TellsHead, AreSpansOf};
 ghost use Rattle.farm_http.specs.Counts.{unread, reader_of, reading_of, IsSameReader, IsSpent};
 ghost use Rattle.farm_http.specs.Requests.{IsRequest};
 
@@ -12,12 +12,11 @@ use crate::counted_reader::CountedReader;
 use crate::fault::WireFault;
 use crate::fields::declared_among;
 use crate::limits::{MAX_BODY, MAX_FIELDS, MAX_HEAD, MAX_TURNS};
-use crate::parts::spans_of;
 use crate::read_some::read_some;
 use crate::taken::Taken;
 use farm_types::refusal::{BAD_REQUEST, Refusal, TOO_LARGE};
 use httparse::Status;
-use httparse::spans::{EMPTY_HEADER_SPAN, HeaderSpan, parse_request};
+use httparse::spans::{EMPTY_HEADER_SPAN, HeaderSpan, RequestSpans, parse_request};
 use std::alloc::Global;
 use std::io::Read;
 
@@ -85,42 +84,53 @@ fn take_request<R: Read>(
     let Ok(mut bytes) = Vec::with_capacity(alloc, MAX_HEAD + MAX_BODY) else {
         return Err(WireFault::NoMemory);
     };
-    let head = fill(reader, &mut bytes)?;
-    Ok(Taken { bytes, head })
+    let mut headers = [EMPTY_HEADER_SPAN; MAX_FIELDS];
+    let (head, spans) = fill(reader, &mut bytes, &mut headers)?;
+    Ok(Taken {
+        bytes,
+        head,
+        spans,
+        headers,
+    })
 }
 
-/// Reads a request into bytes that have room for it, and gives the length of its head. Only as many
-/// bytes are cleared as the body has.
-fn fill<R: Read>(reader: &mut CountedReader<'_, R>, bytes: &mut Vec<u8>) -> Result<usize, WireFault>
+/// Reads a request into bytes that have room for it, and gives the length of its head and where the
+/// head's parts are. Only as many bytes are cleared as the body has.
+fn fill<R: Read>(
+    reader: &mut CountedReader<'_, R>,
+    bytes: &mut Vec<u8>,
+    headers: &mut [HeaderSpan],
+) -> Result<(usize, RequestSpans), WireFault>
     requires empty { bytes.old.items ≡ [] }
+    requires fields { length headers.old ≡ MAX_FIELDS }
     requires room { MAX_HEAD + MAX_BODY ≤ vec_capacity bytes.old }
     requires fresh { reading_of reader.old ≡ unread }
     ensures same { IsSameReader reader.old reader.new }
-    ensures request { IfOk result (λ n. IsRequest bytes.new.items n) }
-    ensures taken { IfOk result
-        (λ n. Consumes (R.remaining (reader_of reader.old)) (R.remaining (reader_of reader.new)) bytes.new.items) }
+    ensures request { IfOk result (λ found. IsRequest bytes.new.items found.0) }
+    ensures spans { IfOk result (λ found. AreSpansOf (take found.0 bytes.new.items) headers.new found.1) }
+    ensures taken { OnOk result
+        (Consumes (R.remaining (reader_of reader.old)) (R.remaining (reader_of reader.new)) bytes.new.items) }
     ensures fault { IfErr result
         (FailsAfter (R.remaining (reader_of reader.old)) (R.remaining (reader_of reader.new)) (IsSpent (reading_of reader.new))) }
     ensures failed { IsTrue (reading_of reader.new).failed → IsErrOf result WireFault.Read }
     ensures turns { (reading_of reader.new).calls ≤ MAX_TURNS }
 {
-    let mut headers = [EMPTY_HEADER_SPAN; MAX_FIELDS];
-    read_head(reader, bytes, &mut headers)?;
+    let spans = read_head(reader, bytes, headers)?;
     let head = bytes.len();
-    let body = length_after(bytes.as_slice())?;
+    let body = length_after(bytes.as_slice(), headers, spans)?;
     let Ok(()) = bytes.resize(head + body, 0) else {
         return Err(WireFault::NoMemory);
     };
     read_body(reader, &mut bytes[head..])?;
-    Ok(head)
+    Ok((head, spans))
 }
 
-/// Reads a head into bytes that have room for it.
+/// Reads a head into bytes that have room for it, and gives where its parts are.
 fn read_head<R: Read>(
     reader: &mut CountedReader<'_, R>,
     bytes: &mut Vec<u8>,
     headers: &mut [HeaderSpan],
-) -> Result<(), WireFault>
+) -> Result<RequestSpans, WireFault>
     requires empty { bytes.old.items ≡ [] }
     requires room { MAX_HEAD ≤ vec_capacity bytes.old }
     requires fields { length headers.old ≡ MAX_FIELDS }
@@ -129,6 +139,7 @@ fn read_head<R: Read>(
     ensures capacity { vec_capacity bytes.old ≤ vec_capacity bytes.new }
     ensures within { OnOk result (length bytes.new.items ≤ MAX_HEAD) }
     ensures head { OnOk result ((h : RequestHead) × IsHead bytes.new.items h) }
+    ensures spans { IfOk result (AreSpansOf bytes.new.items headers.new) }
     ensures bytes { OnOk result
         (Consumes (R.remaining (reader_of reader.old)) (R.remaining (reader_of reader.new)) bytes.new.items) }
     ensures fault { IfErr result (λ e. (used : List ℕ)
@@ -140,8 +151,8 @@ fn read_head<R: Read>(
     while bytes.len() < MAX_HEAD {
         let byte = read_byte(reader)?;
         bytes.push_reserved(byte);
-        if is_head(bytes.as_slice(), headers)? {
-            return Ok(());
+        if let Some(spans) = spans_of(bytes.as_slice(), headers)? {
+            return Ok(spans);
         }
     }
     Err(WireFault::Refused(Refusal { code: TOO_LARGE }))
@@ -168,35 +179,34 @@ fn read_byte<R: Read>(reader: &mut CountedReader<'_, R>) -> Result<u8, WireFault
     Ok(byte[0])
 }
 
-/// Whether bytes are a head, where no line before their last ends one. Refused are bytes that no
-/// head begins with.
-fn is_head(bytes: &[u8], headers: &mut [HeaderSpan]) -> Result<bool, Refusal>
+/// Where the parts of a head are, if the bytes are one, where no line before their last ends one.
+/// Refused are bytes that no head begins with.
+fn spans_of(bytes: &[u8], headers: &mut [HeaderSpan]) -> Result<Option<RequestSpans>, Refusal>
     requires fields { length headers.old ≡ MAX_FIELDS }
     requires some { 0 < length bytes.now }
     requires short { length bytes.now ≤ MAX_HEAD }
     requires open_lines { OpenBelow (length bytes.now - 1) bytes.now }
-    ensures told { IfOk result (TellsHead bytes.now) }
+    ensures told { IfOk result (λ found. TellsHead bytes.now (is_some found)) }
+    ensures spans { IfOk result (λ found. IfSome found (AreSpansOf bytes.now headers.new)) }
     ensures refused { IfErr result (λ refusal. IsHopeless bytes.now refusal.code) }
 {
     let last = bytes[bytes.len() - 1];
     if last != b'\n' {
-        return Ok(false);
+        return Ok(None);
     }
     match parse_request(bytes, headers) {
-        Ok(Status::Complete(_)) => Ok(true),
-        Ok(Status::Partial) => Ok(false),
+        Ok(Status::Complete(spans)) => Ok(Some(spans)),
+        Ok(Status::Partial) => Ok(None),
         Err(_) => Err(Refusal { code: BAD_REQUEST }),
     }
 }
 
-/// How long the body is that follows a head.
-fn length_after(head: &[u8]) -> Result<usize, Refusal>
-    requires { ∥ ((h : RequestHead) × IsHead head.now h) ∥₁ }
+/// How long the body is that follows a head with these parts.
+fn length_after(head: &[u8], headers: &[HeaderSpan], spans: RequestSpans) -> Result<usize, Refusal>
+    requires { AreSpansOf head.now headers.now spans }
     ensures length { (h : RequestHead) → IsHead head.now h → numbered result ≡ body_length h }
     ensures small { IfOk result (λ n. n ≤ MAX_BODY) }
 {
-    let mut headers = [EMPTY_HEADER_SPAN; MAX_FIELDS];
-    let spans = spans_of(head, &mut headers);
     declared_among(head, &headers[..spans.headers])
 }
 

@@ -1,17 +1,17 @@
 -- Words that are never refused, and one more call of a lab file.
-use Rattle.std.proofs.Common.{◌≡◌, ℕ, ◌+◌, ◌≤◌, ◌&&◌, Bool, true, false, List, [], ◌∷◌, ◌++◌, length, map, ap, sym, ◌∙◌, refl, arith, append_assoc, length-append, codes, Ok, Err}
+use Rattle.std.proofs.Common.{◌≡◌, ℕ, ◌+◌, ◌≤◌, ◌&&◌, Bool, true, false, List, [], ◌∷◌, ◌++◌, length, ap, sym, ◌∙◌, refl, arith, append_assoc, length-append, codes, Ok, Err}
 use Rattle.std.specs.Prelude.{nat_le, Result}
 use Rattle.std.specs.List.{list_all}
 use Rattle.std.proofs.lemmas.Bool.Decides.{nat_tests}
 use Rattle.std.proofs.lemmas.List.Folds.{list_all-append}
 use Rattle.toml.specs.Data.{Data, Members, member}
 use Rattle.farm_types.specs.Words.{is_word, is_name_byte, word_or}
-use Rattle.farm_types.specs.Reads.{Refuses}
 use Rattle.farm_types.specs.declared.fault.WordFault.{WordFault}
 use Rattle.farm_types.specs.declared.fault.WordFault.TheVariants.{Refused, NoMemory}
 use Rattle.farm_types.specs.declared.refusal.Refusal.{Refusal}
 use Rattle.farm_types.proofs.WordLemmas.{and_parts}
-use Rattle.farm_jobfile.specs.Reading.{◌>>=◌, Fault}
+use Rattle.farm_types.specs.Reads.{◌>>=◌, Refuses}
+use Rattle.farm_jobfile.specs.Reading.{Fault}
 use Rattle.farm_jobfile.specs.Lab.{Entry, each}
 
 -- a word is not refused

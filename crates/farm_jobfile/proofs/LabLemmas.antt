@@ -6,7 +6,8 @@ use Rattle.std.proofs.lemmas.List.Elements.{All-cons}
 use Rattle.toml.specs.Data.{Data, Members, no_members, member, get, as_table}
 use Rattle.farm_types.specs.declared.calls.Call.{Call}
 use Rattle.farm_types.specs.declared.calls.Cmd.{Cmd}
-use Rattle.farm_jobfile.specs.Reading.{◌>>=◌, Fault, Spells, kind_or}
+use Rattle.farm_types.specs.Reads.{◌>>=◌}
+use Rattle.farm_jobfile.specs.Reading.{Fault, Spells, kind_or}
 use Rattle.farm_jobfile.specs.Fields.{name_or, name_in, tags_in}
 use Rattle.farm_jobfile.specs.Lab.{Entry, entry_of, asks, check_in, own_tags, type_in, board_in, each, section, calls_in, IsAddition}
 use Rattle.farm_jobfile.specs.declared.fault.FileKind.TheVariants.{LabFile}

@@ -1,10 +1,11 @@
 -- The words of a file: each value has its kind, and then its word.
-use Rattle.std.specs.Prelude.{ℕ, ℤ, pos, negsuc, List, [], ◌∷◌, length, nat_lt, Option, Some, None, Result, Ok, Err, codes, if◌then◌else◌}
+use Rattle.std.specs.Prelude.{ℕ, ℤ, pos, negsuc, List, [], ◌∷◌, Option, Some, None, Result, Ok, codes}
 use Rattle.toml.specs.Data.{Data, Items, no_items, item, get, as_str, as_array}
 use Rattle.farm_types.specs.Words.{is_word, word_or}
-use Rattle.farm_types.specs.Tags.{tags_of, list_of_tags}
-use Rattle.farm_types.specs.declared.refusal.TheConstants.{BAD_NAME, BAD_COUNT}
-use Rattle.farm_jobfile.specs.Reading.{◌>>=◌, Fault, or_word, there_or, kind_or}
+use Rattle.farm_types.specs.Tags.{tags_among}
+use Rattle.farm_types.specs.declared.refusal.TheConstants.{BAD_NAME}
+use Rattle.farm_types.specs.Reads.{◌>>=◌}
+use Rattle.farm_jobfile.specs.Reading.{Fault, or_word, there_or, kind_or}
 use Rattle.farm_jobfile.specs.declared.fault.FileKind.{FileKind}
 
 -- a number that is not below zero
@@ -32,10 +33,6 @@ name_in file key d = do
 abbrev pub texts_in : FileKind → Items → Result (List (List ℕ)) Fault
 texts_in file no_items = Ok []
 texts_in file (item d rest) = kind_or file (as_str d) >>= λ text. texts_in file rest >>= λ texts. Ok (text ∷ texts)
-
--- at most sixteen tags, put in order
-unfoldable pub tags_among : List (List ℕ) → Result (List (List ℕ)) ℕ
-tags_among texts = if nat_lt 16 (length texts) then Err BAD_COUNT else list_of_tags texts >>= tags_of
 
 -- the tags that a value spells: its kinds are looked at first, then the count, then each tag
 unfoldable pub tags_from : FileKind → Data → Result (List (List ℕ)) Fault

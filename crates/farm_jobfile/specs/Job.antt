@@ -1,15 +1,16 @@
 -- The command that a job file spells.
 use Rattle.std.specs.Prelude.{ℕ, ℤ, List, [], ◌∷◌, ◌++◌, ◌&&◌, Bool, true, map, replicate, nat_le, Option, Some, None, is_some, Result, Ok, Err, codes, if◌then◌else◌}
-use Rattle.std.specs.Str.{bytes_eq}
 use Rattle.toml.specs.Data.{Data, Members, no_members, member, get, as_str, as_integer, as_float, as_table}
 use Rattle.std.specs.Option.{option_map_or}
 use Rattle.farm_types.specs.Words.{is_word}
 use Rattle.farm_types.specs.Limits.{is_priority, are_few_wants}
+use Rattle.farm_types.specs.Called.{medium, priority_called}
 use Rattle.farm_types.specs.Proper.{is_want}
 use Rattle.farm_types.specs.declared.rows.Want.{Want}
 use Rattle.farm_types.specs.declared.calls.Cmd.{Cmd}
 use Rattle.farm_types.specs.declared.refusal.TheConstants.{BAD_COUNT, BAD_PRIORITY}
-use Rattle.farm_jobfile.specs.Reading.{◌>>=◌, Fault, bad, word, there_or, kind_or}
+use Rattle.farm_types.specs.Reads.{◌>>=◌}
+use Rattle.farm_jobfile.specs.Reading.{Fault, bad, word, there_or, kind_or}
 use Rattle.farm_jobfile.specs.Document.{text_in, tree_in}
 use Rattle.farm_jobfile.specs.Fields.{natural, name_or, name_from, name_in, tags_in}
 use Rattle.farm_jobfile.specs.declared.fault.FileKind.TheVariants.{JobFile}
@@ -37,24 +38,23 @@ abbrev pub priority_or : Option ℕ → Result ℕ Fault
 priority_or None = Err (word BAD_PRIORITY)
 priority_or (Some n) = if is_priority n then Ok n else Err (word BAD_PRIORITY)
 
--- one of three words
-abbrev pub priority_word : List ℕ → Result ℕ Fault
-priority_word text =
-    if bytes_eq text (codes "low") then Ok 0
-    else (if bytes_eq text (codes "medium") then Ok 50 else (if bytes_eq text (codes "high") then Ok 100 else Err (word BAD_PRIORITY)))
+-- what a word names
+abbrev pub named_or : Option ℕ → Result ℕ Fault
+named_or None = Err (word BAD_PRIORITY)
+named_or (Some n) = Ok n
 
 -- a text, a whole number, another number, or another kind
 abbrev pub priority_by : Option (List ℕ) → Option ℤ → Bool → Result ℕ Fault
-priority_by (Some text) number is_float = priority_word text
+priority_by (Some text) number is_float = named_or (priority_called text)
 priority_by None (Some number) is_float = priority_or (natural number)
 priority_by None None is_float = if is_float then Err (word BAD_PRIORITY) else Err (bad JobFile Reason.WrongKind)
 
 unfoldable pub priority_from : Data → Result ℕ Fault
 priority_from d = priority_by (as_str d) (as_integer d) (is_some (as_float d))
 
--- absent means 50
+-- absent means medium
 abbrev pub priority_at : Option Data → Result ℕ Fault
-priority_at None = Ok 50
+priority_at None = Ok medium
 priority_at (Some d) = priority_from d
 
 -- the priority under the key `priority`

@@ -1,18 +1,20 @@
 -- The calls that a lab file spells.
-use Rattle.std.specs.Prelude.{ℕ, List, [], ◌∷◌, ◌++◌, ◌&&◌, nat_le, Option, Some, None, Result, Ok, Err, codes, if◌then◌else◌}
-use Rattle.std.specs.Str.{bytes_eq}
+use Rattle.std.specs.Prelude.{ℕ, List, [], ◌∷◌, ◌++◌, Option, Some, None, option_and_then, Result, Ok, Err, codes, if◌then◌else◌}
 use Rattle.toml.specs.Data.{Data, Members, no_members, member, get, as_str, as_integer, as_table}
 use Rattle.farm_types.specs.Proper.{has_no_name_tag}
+use Rattle.farm_types.specs.Limits.{is_every}
+use Rattle.farm_types.specs.Called.{unit_called, check_by}
+use Rattle.farm_types.specs.declared.called.CheckUnit.{CheckUnit}
 use Rattle.farm_types.specs.declared.rows.Check.{Check}
 use Rattle.farm_types.specs.declared.calls.Cmd.{Cmd}
 use Rattle.farm_types.specs.declared.calls.Call.{Call}
 use Rattle.farm_types.specs.declared.refusal.TheConstants.{BAD_TAG}
-use Rattle.farm_jobfile.specs.Reading.{◌>>=◌, Fault, bad, word, there_or, kind_or}
+use Rattle.farm_types.specs.Reads.{◌>>=◌}
+use Rattle.farm_jobfile.specs.Reading.{Fault, bad, word, there_or, kind_or}
 use Rattle.farm_jobfile.specs.Document.{text_in, tree_in}
 use Rattle.farm_jobfile.specs.Fields.{natural, name_or, name_in, tags_in}
 use Rattle.farm_jobfile.specs.declared.fault.FileKind.TheVariants.{LabFile}
 use Rattle.farm_jobfile.specs.declared.fault.Reason.{Reason}
-use Rattle.farm_jobfile.specs.declared.types.CheckUnit.{CheckUnit}
 
 -- who gives a command, at what moment, and the key under which its reply is kept
 pub record Entry : Type 0 where
@@ -31,17 +33,10 @@ asks prefix name now cmd = record { caller = codes "admin"; key = Some (prefix +
 
 -- ---- types
 
--- one of three words
-abbrev pub unit_or : List ℕ → Result CheckUnit Fault
-unit_or text =
-    if bytes_eq text (codes "none") then Ok CheckUnit.None
-    else (if bytes_eq text (codes "hours") then Ok CheckUnit.Hours
-    else (if bytes_eq text (codes "jobs") then Ok CheckUnit.Jobs else Err (bad LabFile Reason.WrongKind)))
-
--- absent means none
+-- a unit's word; absent means none
 abbrev pub unit_at : Option Data → Result CheckUnit Fault
 unit_at None = Ok CheckUnit.None
-unit_at (Some d) = kind_or LabFile (as_str d) >>= unit_or
+unit_at (Some d) = kind_or LabFile (option_and_then unit_called (as_str d))
 
 -- the unit under the key `check`
 unfoldable pub unit_in : Data → Result CheckUnit Fault
@@ -50,7 +45,7 @@ unit_in d = unit_at (get (codes "check") d)
 -- 1 to 10,000
 abbrev pub every_or : Option ℕ → Result ℕ Fault
 every_or None = Err (bad LabFile Reason.WrongKind)
-every_or (Some n) = if nat_le 1 n && nat_le n 10000 then Ok n else Err (bad LabFile Reason.WrongKind)
+every_or (Some n) = if is_every n then Ok n else Err (bad LabFile Reason.WrongKind)
 
 -- the frequency under the key `every`
 unfoldable pub every_in : Data → Result ℕ Fault
@@ -59,12 +54,7 @@ every_in d = do
   number ← kind_or LabFile (as_integer field)
   every_or (natural number)
 
--- the frequency counts where there is a unit
-abbrev pub check_by : CheckUnit → Result ℕ Fault → Result Check Fault
-check_by CheckUnit.None every = Ok Check.Never
-check_by CheckUnit.Hours every = every >>= λ n. Ok (Check.Hours n)
-check_by CheckUnit.Jobs every = every >>= λ n. Ok (Check.Jobs n)
-
+-- the check that the two keys spell
 unfoldable pub check_in : Data → Result Check Fault
 check_in d = unit_in d >>= λ unit. check_by unit (every_in d)
 

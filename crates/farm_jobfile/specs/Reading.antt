@@ -21,12 +21,6 @@ abbrev pub of_word : WordFault → FileFault
 of_word (WordFault.Refused refusal) = FileFault.Word refusal
 of_word WordFault.NoMemory = FileFault.NoMemory
 
--- one reading after another: the first fault stands
-infixl 10 ◌>>=◌
-abbrev pub ◌>>=◌ : {A B E : Type 0} → Result A E → (A → Result B E) → Result B E
-(Ok x) >>= f = f x
-(Err e) >>= f = Err e
-
 -- a fault that a text has: the file is bad, or one of its words is refused with a number
 pub data Fault : Type 0 where
   bad : FileKind → Reason → Fault

@@ -2,16 +2,12 @@
 ghost use Rattle.std.specs.Prelude.{◌≡◌, ◌≢◌, map, Err, IsOk};
 ghost use Rattle.toml.specs.Data.{as_table};
 ghost use Rattle.toml.specs.View.{view, items_view, table_view};
-ghost use Rattle.farm_types.specs.Reads.{Reads};
-ghost use Rattle.farm_types.specs.Tags.{list_of_tags};
 ghost use Rattle.farm_jobfile.specs.Reading.{Spells, kind_or};
-ghost use Rattle.farm_jobfile.specs.Fields.{name_or, name_from, name_in, texts_in, tags_among, tags_from, tags_in};
+ghost use Rattle.farm_jobfile.specs.Fields.{name_or, name_from, name_in, texts_in, tags_from, tags_in};
 
 use crate::fault::{FileFault, FileKind, Reason};
 use farm_types::fault::WordFault;
-use farm_types::refusal::{BAD_COUNT, Refusal};
-use farm_types::tags::MOST_TAGS;
-use farm_types::words::{Name, Tag, Tags};
+use farm_types::words::{Name, Tags};
 use std::alloc::Global;
 use toml::{Table, Value};
 
@@ -68,7 +64,7 @@ pub(crate) fn name_at(
 }
 
 /// The texts of an array's items.
-fn texts_of(alloc: Global, file: FileKind, items: &[Value]) -> Result<Vec<&str>, FileFault>
+fn texts_of(alloc: Global, file: FileKind, items: &[Value]) -> Result<Vec<&[u8]>, FileFault>
     ensures { Spells (λ texts. map (λ text. text.now) texts.items) result (texts_in file (items_view items.now)) }
 {
     let mut texts = Vec::new(alloc);
@@ -76,34 +72,9 @@ fn texts_of(alloc: Global, file: FileKind, items: &[Value]) -> Result<Vec<&str>,
         let Some(text) = item.as_str() else {
             return Err(file.bad(Reason::WrongKind));
         };
-        texts.push(text)?;
+        texts.push(text.as_bytes())?;
     }
     Ok(texts)
-}
-
-/// The tag that each text spells.
-fn list_of(alloc: Global, texts: &[&str]) -> Result<Vec<Tag>, WordFault>
-    ensures { Reads (λ tags. tags.items) result (list_of_tags (map (λ text. text.now) texts.now)) }
-{
-    let mut items = Vec::new(alloc);
-    for text in texts {
-        match Tag::parse(alloc, text.as_bytes()) {
-            Ok(tag) => items.push(tag)?,
-            Err(fault) => return Err(fault),
-        }
-    }
-    Ok(items)
-}
-
-/// The tags that texts spell: more than sixteen are too many, whatever they are.
-#[tactic(auto, unfolding(crate::specs::Fields::tags_among))]
-fn tags_among(alloc: Global, texts: &[&str]) -> Result<Tags, WordFault>
-    ensures { Reads (λ tags. tags) result (tags_among (map (λ text. text.now) texts.now)) }
-{
-    if texts.len() > MOST_TAGS {
-        return Err(WordFault::Refused(Refusal { code: BAD_COUNT }));
-    }
-    Tags::of(alloc, list_of(alloc, texts)?.as_slice())
 }
 
 /// The tags that a value spells, an array of texts.
@@ -115,7 +86,7 @@ pub(crate) fn tags_from(alloc: Global, file: FileKind, value: &Value) -> Result<
         return Err(file.bad(Reason::WrongKind));
     };
     let texts = texts_of(alloc, file, items.as_slice())?;
-    match tags_among(alloc, texts.as_slice()) {
+    match Tags::among(alloc, texts.as_slice()) {
         Ok(tags) => Ok(tags),
         Err(WordFault::Refused(refusal)) => Err(FileFault::Word(refusal)),
         Err(WordFault::NoMemory) => Err(FileFault::NoMemory),

@@ -1,21 +1,15 @@
 //! The priority of a job file.
 ghost use Rattle.std.specs.Prelude.{◌≢◌, Some, Err};
 ghost use Rattle.toml.specs.View.{view};
+ghost use Rattle.farm_types.specs.Called.{priority_called};
 ghost use Rattle.farm_jobfile.specs.Reading.{Spells};
-ghost use Rattle.farm_jobfile.specs.Job.{priority_or, priority_word, priority_from, priority_in};
+ghost use Rattle.farm_jobfile.specs.Job.{priority_or, named_or, priority_from, priority_in};
 
 use crate::fault::{FileFault, FileKind, Reason};
 use crate::whole::natural;
 use farm_types::refusal::{BAD_PRIORITY, Refusal};
 use farm_types::words::Priority;
 use toml::Value;
-
-/// The priorities that LAVA calls low, medium and high. Medium is also what an absent one means.
-const LOW: u64 = 0;
-
-const MEDIUM: u64 = 50;
-
-const HIGH: u64 = 100;
 
 /// The priority of that number.
 fn priority_of(number: u64) -> Result<Priority, FileFault>
@@ -30,14 +24,12 @@ fn priority_of(number: u64) -> Result<Priority, FileFault>
 
 /// The priority that a word names.
 fn named_priority(text: &str) -> Result<Priority, FileFault>
-    ensures spells { Spells (λ priority. priority) result (priority_word text.now) }
+    ensures spells { Spells (λ priority. priority) result (named_or (priority_called text.now)) }
     ensures memory { result ≢ Err FileFault.NoMemory }
 {
-    match text {
-        "low" => priority_of(LOW),
-        "medium" => priority_of(MEDIUM),
-        "high" => priority_of(HIGH),
-        _ => Err(FileFault::Word(Refusal { code: BAD_PRIORITY })),
+    match Priority::called(text) {
+        Some(priority) => Ok(priority),
+        None => Err(FileFault::Word(Refusal { code: BAD_PRIORITY })),
     }
 }
 
@@ -70,6 +62,6 @@ pub(crate) fn priority_at(value: &Value) -> Result<Priority, FileFault>
 {
     match value.get("priority") {
         Some(field) => priority_from(field),
-        None => priority_of(MEDIUM),
+        None => Ok(Priority::medium()),
     }
 }

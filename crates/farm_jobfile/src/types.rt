@@ -1,42 +1,20 @@
 //! The types of a lab file.
-ghost use Rattle.std.specs.Prelude.{◌≡◌, ◌≢◌, ◌&&◌, map, nat_le, Err, IsTrue, IfOk};
+ghost use Rattle.std.specs.Prelude.{◌≡◌, ◌≢◌, map, Err, IsTrue, IfOk};
 ghost use Rattle.toml.specs.View.{view, table_view};
+ghost use Rattle.farm_types.specs.Limits.{is_every};
 ghost use Rattle.farm_types.specs.Proper.{is_frequency};
 ghost use Rattle.farm_jobfile.specs.Reading.{Spells};
-ghost use Rattle.farm_jobfile.specs.Lab.{entry_of, unit_or, unit_in, every_in, check_in, type_in, each};
+ghost use Rattle.farm_jobfile.specs.Lab.{entry_of, unit_in, every_in, check_in, type_in, each};
 
 use crate::call::call_of;
 use crate::fault::{FileFault, FileKind, Reason};
 use crate::fields::{name_of, table_of};
 use crate::whole::natural;
+use farm_types::called::{CheckUnit, is_every};
 use farm_types::calls::{Call, Cmd};
 use farm_types::rows::Check;
 use std::alloc::Global;
 use toml::{Table, Value};
-
-/// The most hours or jobs between two checks.
-pub const LONGEST_EVERY: u64 = 10_000;
-
-/// What a check's frequency counts.
-#[derive(Clone, Copy, Debug, PartialEq, Eq)]
-pub enum CheckUnit {
-    None,
-    Hours,
-    Jobs,
-}
-
-/// The unit that a word names.
-fn named_unit(text: &str) -> Result<CheckUnit, FileFault>
-    ensures spells { Spells (λ unit. unit) result (unit_or text.now) }
-    ensures memory { result ≢ Err FileFault.NoMemory }
-{
-    match text {
-        "none" => Ok(CheckUnit::None),
-        "hours" => Ok(CheckUnit::Hours),
-        "jobs" => Ok(CheckUnit::Jobs),
-        _ => Err(FileKind::LabFile.bad(Reason::WrongKind)),
-    }
-}
 
 /// The unit under the key `check`; absent means none.
 #[tactic(auto, unfolding(crate::specs::Lab::unit_in))]
@@ -47,8 +25,8 @@ fn unit_of(value: &Value) -> Result<CheckUnit, FileFault>
     let Some(field) = value.get("check") else {
         return Ok(CheckUnit::None);
     };
-    match field.as_str() {
-        Some(text) => named_unit(text),
+    match field.as_str().and_then(CheckUnit::called) {
+        Some(unit) => Ok(unit),
         None => Err(FileKind::LabFile.bad(Reason::WrongKind)),
     }
 }
@@ -57,7 +35,7 @@ fn unit_of(value: &Value) -> Result<CheckUnit, FileFault>
 #[tactic(auto, unfolding(crate::specs::Lab::every_in))]
 fn every_of(value: &Value) -> Result<u64, FileFault>
     ensures every { Spells (λ every. every) result (every_in (view value.now)) }
-    ensures range { IfOk result (λ every. IsTrue (nat_le 1 every && nat_le every 10000)) }
+    ensures range { IfOk result (λ every. IsTrue (is_every every)) }
     ensures memory { result ≢ Err FileFault.NoMemory }
 {
     let Some(field) = value.get("every") else {
@@ -67,7 +45,7 @@ fn every_of(value: &Value) -> Result<u64, FileFault>
         return Err(FileKind::LabFile.bad(Reason::WrongKind));
     };
     match natural(number) {
-        Some(every) if every >= 1 && every <= LONGEST_EVERY => Ok(every),
+        Some(every) if is_every(every) => Ok(every),
         _ => Err(FileKind::LabFile.bad(Reason::WrongKind)),
     }
 }

@@ -1,10 +1,11 @@
 -- The lines of the reports, and a report as its lines.
 use Rattle.std.specs.Prelude.{◌≡◌, ℕ, ℤ, List, [], ◌∷◌, ◌++◌, decimal, flat_map, unwrap_or}
+use Rattle.farm_types.specs.Called.{claim_word, holder_text}
 use Rattle.farm_types.specs.Codes.{health_word, res_state_word, state_word}
 use Rattle.farm_types.specs.declared.claims.Claim.{Claim}
 use Rattle.farm_types.specs.declared.rows.BoardRow.{BoardRow}
 use Rattle.farm_types.specs.declared.rows.ResRow.{ResRow}
-use Rattle.farm_report.specs.Columns.{claim_word, holder_text, left, right, spaced}
+use Rattle.farm_report.specs.Columns.{left, right, spaced}
 use Rattle.farm_report.specs.Moments.{ShowsCheck, ShowsMoment}
 
 -- a claim: priority, number, kind, number of wants and owner
@@ -51,5 +52,6 @@ IsReservationLine ahead row line = (deadline : List ℕ) × ShowsMoment ahead ro
 -- a text of lines, one for each row in order, each with a line feed behind it
 abbrev pub AreLines : {R : Type 0} → (R → List ℕ → Type 0) → List R → List ℕ → Type 0
 AreLines IsLine [] text = text ≡ []
-AreLines IsLine (row ∷ rows) text = (line rest : List ℕ) × IsLine row line × AreLines IsLine rows rest
+AreLines IsLine (row ∷ rows) text = (line rest : List ℕ) × IsLine row line
+    × AreLines IsLine rows rest
     × (text ≡ line ++ 10 ∷ rest)

@@ -5,7 +5,7 @@ ghost use Rattle.farm_report.specs.Lines.{AreLines, IsBoardLine};
 ghost use Rattle.farm_report.specs.declared.fault.ReportFault.TheVariants.{BadMoment};
 ghost use Rattle.farm_report.specs.declared.moment.TheConstants.{LAST_SECOND};
 
-use crate::columns::{holder_text, left, push_line};
+use crate::columns::{left, push_line};
 use crate::fault::ReportFault;
 use crate::moment::check_text;
 use farm_core::farm::Farm;
@@ -44,7 +44,7 @@ fn board_line(alloc: Global, row: &BoardRow, zone: Offset) -> Result<String, Rep
 {
     let health = left(alloc, row.health.word(), 11)?;
     let state = left(alloc, row.state.word(), 8)?;
-    let holder = left(alloc, holder_text(alloc, row.holder)?.as_str(), 21)?;
+    let holder = left(alloc, row.holder.text(alloc)?.as_str(), 21)?;
     let check = left(alloc, check_text(alloc, row.last_check, zone)?.as_str(), 19)?;
     let (name, kind) = (row.name.as_str(), row.kind.as_str());
     Ok(format!(in alloc; "{health} {state} {holder} {check} {name} {kind}")?)

@@ -3,7 +3,7 @@ ghost use Rattle.std.specs.Prelude.{◌≡◌, IfOk, false, map, string_bytes};
 ghost use Rattle.farm_types.specs.Pick.{queue, shown_claim};
 ghost use Rattle.farm_report.specs.Lines.{claim_line, claims_text};
 
-use crate::columns::{claim_word, left, push_line, right};
+use crate::columns::{left, push_line, right};
 use farm_core::farm::Farm;
 use farm_types::claims::Claim;
 use std::alloc::{AllocError, Global};
@@ -35,7 +35,7 @@ fn claim_line(alloc: Global, claim: &Claim) -> Result<String, AllocError>
 {
     let priority = right(alloc, claim.priority.get(), 3)?;
     let number = right(alloc, claim.number, 9)?;
-    let kind = left(alloc, claim_word(claim.kind), 11)?;
+    let kind = left(alloc, claim.kind.word(), 11)?;
     let boards = claim.boards;
     let owner = claim.owner.as_str();
     format!(in alloc; "{priority} {number} {kind} {boards} {owner}")

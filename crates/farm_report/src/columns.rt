@@ -1,9 +1,7 @@
 //! The columns of a line.
 ghost use Rattle.std.specs.Prelude.{◌≡◌, ◌∷◌, [], ◌++◌, IfOk, OnOk, string_bytes};
-ghost use Rattle.farm_report.specs.Columns.{claim_word, holder_text, left, right};
+ghost use Rattle.farm_report.specs.Columns.{left, right};
 
-use farm_types::claims::ClaimKind;
-use farm_types::rows::Holder;
 use std::alloc::{AllocError, Global};
 
 /// A text at the left of a column of that width.
@@ -21,27 +19,6 @@ pub(crate) fn right(alloc: Global, number: u64, width: usize) -> Result<String, 
     let digits = format!(in alloc; "{number}")?;
     let gap = " ".repeat(alloc, width.saturating_sub(digits.len()))?;
     format!(in alloc; "{gap}{digits}")
-}
-
-/// Who holds a board: `none`, `job 1` or `reservation 1`.
-pub(crate) fn holder_text(alloc: Global, holder: Holder) -> Result<String, AllocError>
-    ensures { IfOk result (λ text. string_bytes text ≡ holder_text holder) }
-{
-    match holder {
-        Holder::Nobody => String::from_str(alloc, "none"),
-        Holder::Job(number) => format!(in alloc; "job {number}"),
-        Holder::Res(number) => format!(in alloc; "reservation {number}"),
-    }
-}
-
-/// The word for who waits.
-pub(crate) fn claim_word(kind: ClaimKind) -> &'static str
-    ensures { result.now ≡ claim_word kind }
-{
-    match kind {
-        ClaimKind::Group => "group",
-        ClaimKind::Reservation => "reservation",
-    }
 }
 
 /// Adds a line to a text, with a line feed behind it.

@@ -39,7 +39,8 @@ fn reservation_lines(alloc: Global, rows: &[ResRow], zone: Offset) -> Result<Str
 }
 
 fn reservation_line(alloc: Global, row: &ResRow, zone: Offset) -> Result<String, ReportFault>
-    ensures line { IfOk result (λ line. IsReservationLine zone.seconds row.now (string_bytes line)) }
+    ensures line { IfOk result (λ line. IsReservationLine zone.seconds row.now
+        (string_bytes line)) }
     ensures fault { result ≡ Err BadMoment → LAST_SECOND < row.now.deadline }
 {
     let number = right(alloc, row.number, 9)?;

@@ -26,7 +26,8 @@ const MOST_OF_KIND: usize = 64;
 pub fn is_type_row(row: &TypeRow) -> bool
     ensures { IsTrue result ↔ IsTypeRow row.now }
 {
-    row.name.is_name() && row.check.is_frequency()
+    let _name = row.name.as_str();
+    row.check.is_frequency()
 }
 
 /// The lines on a board.
@@ -34,9 +35,8 @@ pub fn is_board_row(rows: &Rows, row: &BoardRow) -> bool
     requires { IsStrictlySortedBy type_cmp rows.now.types.items }
     ensures { IsTrue result ↔ IsBoardRow (farm_of rows.now) row.now }
 {
-    row.name.is_name()
-        && type_of(rows.types.as_slice(), &row.kind).is_some()
-        && row.tags.are_tags()
+    let (_name, _tags) = (row.name.as_str(), row.tags.items());
+    type_of(rows.types.as_slice(), &row.kind).is_some()
         && row.tags.has_no_name_tag()
         && row.jobs_since <= MOST_USES
         && row.last_check <= rows.meta.clock

@@ -7,7 +7,7 @@ ghost use Rattle.farm_types.specs.Sound.{IsJobRow, IsCheck, Follows, job_gives, 
 ghost use Rattle.farm_sound.specs.Told.{IsOrdered, IsJobNumbered, IsJobWorded, IsJobPlaced, IsJobGrouped, IsInStep, IsSaidOfJob};
 
 use crate::seek::{board_of, job_of, res_of};
-use crate::want::{is_role, is_want, names_board, names_type};
+use crate::want::{names_board, names_type, tell_role, tell_want};
 use farm_types::calls::Rows;
 use farm_types::priority::HIGHEST_PRIORITY;
 use farm_types::rows::{Holder, JobRow, JobState, State};
@@ -57,13 +57,10 @@ fn is_worded(rows: &Rows, row: &JobRow) -> bool
     requires { IsStrictlySortedBy type_cmp rows.now.types.items }
     ensures { IsTrue result ↔ IsJobWorded (farm_of rows.now) row.now }
 {
-    row.owner.is_name()
-        && row.priority.get() <= HIGHEST_PRIORITY
-        && is_want(&row.want)
-        && names_type(rows, &row.want.kind)
-        && is_role(&row.role)
-        && row.body.len() <= LONGEST_BODY
-        && row.body.is_text()
+    let (_owner, _priority, _body) = (row.owner.as_str(), row.priority.get(), row.body.as_str());
+    tell_want(&row.want);
+    tell_role(&row.role);
+    names_type(rows, &row.want.kind) && row.body.len() <= LONGEST_BODY
 }
 
 /// The lines on a job's state, outcome and board.

@@ -7,9 +7,8 @@ ghost use Rattle.farm_types.specs.Sound.{IsResRow, res_gives};
 ghost use Rattle.farm_sound.specs.Told.{IsSaidOfRes};
 
 use crate::seek::board_of;
-use crate::want::{is_want, names_board};
+use crate::want::{names_board, tell_want};
 use farm_types::calls::Rows;
-use farm_types::priority::HIGHEST_PRIORITY;
 use farm_types::rows::{Holder, ResRow, ResState, State};
 
 /// How long a reservation lives without a refresh, in seconds.
@@ -32,11 +31,10 @@ pub fn is_res_row(rows: &Rows, row: &ResRow) -> bool
     requires clock { rows.now.meta.clock ≤ 250000000000 }
     ensures { IsTrue result ↔ IsResRow (farm_of rows.now) row.now }
 {
+    let (_owner, _priority) = (row.owner.as_str(), row.priority.get());
+    tell_want(&row.want);
     1 <= row.number
         && row.number < rows.meta.next
-        && row.owner.is_name()
-        && row.priority.get() <= HIGHEST_PRIORITY
-        && is_want(&row.want)
         && row.want.kind.is_none()
         && row.deadline <= rows.meta.clock + LEASE_SECONDS
         && names_board(rows, &row.board)

@@ -67,9 +67,8 @@ fn is_few(rows: &Rows) -> bool
 fn is_kept_row(row: &KeptRow) -> bool
     ensures { IsTrue result ↔ IsKeptRow row.now }
 {
-    row.caller.is_name()
-        && row.key.is_key()
-        && 1 <= row.kind
+    let (_caller, _key) = (row.caller.as_str(), row.key.as_str());
+    1 <= row.kind
         && row.kind <= COMMAND_KINDS
         && row.reply.0 <= HIGHEST_NUMBER
         && row.reply.1 <= HIGHEST_NUMBER

@@ -1,4 +1,4 @@
-//! The words of a row that are words by their types, and the names that it gives of other rows.
+//! What the words of a row tell by their types, and the names that it gives of other rows.
 ghost use Rattle.std.specs.Prelude.{◌≡◌, ◌↔◌, IsTrue, IsSome, IfSome, IsSomeAnd, Some};
 ghost use Rattle.std.specs.List.Sorted.{IsStrictlySortedBy};
 ghost use Rattle.farm_types.specs.Words.{IsName};
@@ -12,23 +12,22 @@ use farm_types::calls::Rows;
 use farm_types::rows::Want;
 use farm_types::words::Name;
 
-/// Whether a want names a type, if it names one, and tags.
-pub fn is_want(want: &Want) -> bool
-    ensures { result ≡ is_want want.now }
+/// A want names a type, if it names one, and tags.
+pub(crate) fn tell_want(want: &Want)
+    ensures { IsTrue (is_want want.now) }
 {
-    match &want.kind {
-        None => want.tags.are_tags(),
-        Some(kind) => kind.is_name() && want.tags.are_tags(),
+    let _tags = want.tags.items();
+    if let Some(kind) = &want.kind {
+        let _kind = kind.as_str();
     }
 }
 
-/// Whether a role, if there is one, is a name.
-pub fn is_role(role: &Option<Name>) -> bool
-    ensures { IsTrue result ↔ IfSome role.now IsName }
+/// A role, if there is one, is a name.
+pub(crate) fn tell_role(role: &Option<Name>)
+    ensures { IfSome role.now IsName }
 {
-    match role {
-        None => true,
-        Some(name) => name.is_name(),
+    if let Some(name) = role {
+        let _name = name.as_str();
     }
 }
 

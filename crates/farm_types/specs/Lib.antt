@@ -3,6 +3,7 @@ pub mod Codes
 pub mod Refusals
 pub mod Reads
 pub mod Limits
+pub mod Called
 pub mod Proper
 pub mod Table
 pub mod Tags

@@ -9,13 +9,13 @@ use Rattle.farm_types.specs.Codes.{same_outcome}
 use Rattle.farm_types.specs.declared.rows.Outcome.{Outcome}
 use Rattle.farm_types.specs.declared.rows.Check.{Check}
 use Rattle.farm_types.specs.declared.calls.Cmd.{Cmd}
-pub use Rattle.farm_types.specs.Limits.{is_priority, are_few_wants}
+pub use Rattle.farm_types.specs.Limits.{is_priority, is_every, are_few_wants}
 
--- a check's frequency is 1 to 10,000
+-- the check's frequency is one
 abbrev pub is_frequency : Check → Bool
 is_frequency Check.Never = true
-is_frequency (Check.Hours n) = nat_le 1 n && nat_le n 10000
-is_frequency (Check.Jobs n) = nat_le 1 n && nat_le n 10000
+is_frequency (Check.Hours n) = is_every n
+is_frequency (Check.Jobs n) = is_every n
 
 -- no tag has the key `name`, which each board carries by itself
 abbrev pub has_no_name_tag : List (List ℕ) → Bool

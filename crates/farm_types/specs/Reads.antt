@@ -3,6 +3,12 @@ use Rattle.std.specs.Prelude.{◌≡◌, ℕ, Result, Ok, Err}
 use Rattle.farm_types.specs.declared.fault.WordFault.{WordFault}
 use Rattle.farm_types.specs.declared.fault.WordFault.TheVariants.{Refused, NoMemory}
 
+-- one reading after another: the first fault stands
+infixl 10 ◌>>=◌
+abbrev pub ◌>>=◌ : {A B E : Type 0} → Result A E → (A → Result B E) → Result B E
+(Ok x) >>= f = f x
+(Err e) >>= f = Err e
+
 -- the refusal is the spelled one, unless memory ran out
 abbrev pub Refuses : {Y : Type 0} → WordFault → Result Y ℕ → Type 0
 Refuses NoMemory spelled = Unit {0}

@@ -3,6 +3,7 @@ use Rattle.std.specs.Prelude.{ℕ, ◌==◌, ◌&&◌, nat_lt, List, [], ◌∷�
 use Rattle.std.specs.List.{list_all, join_with_byte, slice_split}
 use Rattle.farm_types.specs.Words.{is_tag, rise, text_cmp}
 use Rattle.farm_types.specs.Table.{put_all}
+use Rattle.farm_types.specs.Reads.{◌>>=◌}
 use Rattle.farm_types.specs.declared.refusal.TheConstants.{BAD_COUNT, BAD_TAG}
 
 -- tags from outside have any order and doubles: at most sixteen, they are put in order, each once
@@ -21,6 +22,10 @@ tag_parts (c ∷ text) = slice_split (λ byte. byte == 44) (c ∷ text)
 -- the parts, where each is a tag
 abbrev pub list_of_tags : List (List ℕ) → Result (List (List ℕ)) ℕ
 list_of_tags parts = if list_all is_tag parts then Ok parts else Err BAD_TAG
+
+-- the tags that texts spell: at most sixteen, they are put in order, each once
+unfoldable pub tags_among : List (List ℕ) → Result (List (List ℕ)) ℕ
+tags_among texts = if nat_lt 16 (length texts) then Err BAD_COUNT else list_of_tags texts >>= tags_of
 
 -- the tags that a text spells, where it is their canonical text
 unfoldable pub tags_read : List ℕ → Result (List (List ℕ)) ℕ

@@ -1,11 +1,12 @@
 //! The words, rows, calls and refusals of the board farm, and in `specs/` the whole machine.
 //!
-//! Read `specs/` in the order Words, Table, Tags, Reads, Codes, Refusals, Limits, Proper, Farm, Pick,
-//! Pass, Refuse, Change, Machine, Sound, Small; then the scripts that are computed from them: Worked,
-//! WorkedJobs, WorkedChecks, WorkedReservations, WorkedWhole.
+//! Read `specs/` in the order Words, Table, Reads, Tags, Codes, Called, Refusals, Limits, Proper, Farm,
+//! Pick, Pass, Refuse, Change, Machine, Sound, Small; then the scripts that are computed from them:
+//! Worked, WorkedJobs, WorkedChecks, WorkedReservations, WorkedWhole.
 #![tactic(auto)]
 
 pub mod asked;
+pub mod called;
 pub mod calls;
 pub mod claims;
 pub mod codes;

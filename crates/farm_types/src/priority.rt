@@ -1,12 +1,20 @@
 //! Priorities.
 ghost use Rattle.std.specs.Prelude.{◌≡◌, ◌≤◌, ◌<◌, MatchResult, IsTrue};
 ghost use Rattle.farm_types.specs.Limits.{is_priority};
+ghost use Rattle.farm_types.specs.Called.{medium, priority_called};
 
 use crate::refusal::{BAD_PRIORITY, Refusal};
 use std::marker::Model;
 
-/// The highest priority. LAVA's words low, medium and high are 0, 50 and 100.
+/// The highest priority.
 pub const HIGHEST_PRIORITY: u64 = 100;
+
+/// The priorities that LAVA calls low, medium and high. Medium is also what an absent one means.
+const LOW: u64 = 0;
+
+const MEDIUM: u64 = 50;
+
+const HIGH: u64 = HIGHEST_PRIORITY;
 
 /// A priority from 0 to 100; the higher goes first.
 #[derive(Clone, Copy, Debug, PartialEq, Eq)]
@@ -36,6 +44,25 @@ impl Priority {
             return Err(Refusal { code: BAD_PRIORITY });
         }
         Ok(Priority { number })
+    }
+
+    /// The priority of a claim that names none.
+    pub fn medium() -> Priority
+        ensures { result ≡ medium }
+    {
+        Priority { number: MEDIUM }
+    }
+
+    /// The priority that one of LAVA's words `low`, `medium` and `high` names; none for other words.
+    pub fn called(text: &str) -> Option<Priority>
+        ensures { result ≡ priority_called text.now }
+    {
+        match text {
+            "low" => Some(Priority { number: LOW }),
+            "medium" => Some(Priority::medium()),
+            "high" => Some(Priority { number: HIGH }),
+            _ => None,
+        }
     }
 
     /// The number.

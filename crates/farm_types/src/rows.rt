@@ -2,6 +2,7 @@
 ghost use Rattle.std.specs.Prelude.{◌≡◌, IfOk};
 ghost use Rattle.farm_types.specs.Proper.{is_frequency};
 
+use crate::called::is_every;
 use crate::words::{Body, Key, Name, Priority, Tags};
 use std::alloc::AllocError;
 
@@ -152,8 +153,8 @@ impl Check {
     {
         match self {
             Check::Never => true,
-            Check::Hours(n) => 1 <= n && n <= 10_000,
-            Check::Jobs(n) => 1 <= n && n <= 10_000,
+            Check::Hours(n) => is_every(n),
+            Check::Jobs(n) => is_every(n),
         }
     }
 }

@@ -3,7 +3,7 @@ ghost use Rattle.std.specs.Prelude.{◌≡◌, ◌↔◌, ◌==◌, ◌&&◌, �
 ghost use Rattle.std.specs.List.{list_any, list_all, position, slice_split};
 ghost use Rattle.std.specs.Str.{bytes_eq};
 ghost use Rattle.farm_types.specs.Words.{IsTag, IsTags, is_word, is_tag, is_tags, tag_key, rise, text_cmp, word_or};
-ghost use Rattle.farm_types.specs.Tags.{tags_text, tags_read, tags_of, tag_parts, list_of_tags};
+ghost use Rattle.farm_types.specs.Tags.{tags_text, tags_read, tags_of, tags_among, tag_parts, list_of_tags};
 ghost use Rattle.farm_types.specs.Proper.{has_no_name_tag};
 ghost use Rattle.farm_types.specs.Reads.{Reads};
 
@@ -221,14 +221,6 @@ impl Tags {
         }
     }
 
-    /// Whether they are tags: they always are.
-    pub fn are_tags(&self) -> bool
-        ensures { result ≡ is_tags self.now }
-    {
-        let _ = &self.items;
-        true
-    }
-
     /// Whether there are none.
     pub fn is_empty(&self) -> bool
         ensures { IsTrue result ↔ (self.now ≡ []) }
@@ -265,6 +257,18 @@ impl Tags {
             upsert(&mut items, tag.copy()?)?;
         }
         Ok(Tags { items })
+    }
+
+    /// The tags that texts spell, in any order and with doubles: refused as a bad count where there
+    /// are more than sixteen texts, whatever they are, else as a bad tag, or for memory.
+    #[tactic(auto, unfolding(crate::specs::Tags::tags_among))]
+    pub fn among(alloc: Global, texts: &[&[u8]]) -> Result<Tags, WordFault>
+        ensures { Reads (λ tags. tags) result (tags_among (map (λ text. text.now) texts.now)) }
+    {
+        if texts.len() > MOST_TAGS {
+            return Err(WordFault::Refused(Refusal { code: BAD_COUNT }));
+        }
+        Tags::of(alloc, tags_in(alloc, texts)?.as_slice())
     }
 
     #[tactic(auto, unfolding(crate::specs::Tags::tags_read))]

@@ -98,14 +98,6 @@ impl Name {
         self.text.as_str()
     }
 
-    /// Whether it is a name: each is.
-    pub fn is_name(&self) -> bool
-        ensures { result ≡ is_word 48 self.now }
-    {
-        let _ = &self.text;
-        true
-    }
-
     /// An equal name.
     pub fn copy(&self) -> Result<Name, AllocError>
         ensures same { IfOk result (λ name. name ≡ self.now) }
@@ -169,14 +161,6 @@ impl Key {
         ensures key { IsKey self.now }
     {
         self.text.as_str()
-    }
-
-    /// Whether it is a key: each is.
-    pub fn is_key(&self) -> bool
-        ensures { result ≡ is_word 64 self.now }
-    {
-        let _ = &self.text;
-        true
     }
 
     /// An equal key.
@@ -247,14 +231,6 @@ impl Body {
         ensures utf8 { IsText self.now }
     {
         self.text.as_str()
-    }
-
-    /// Whether it is UTF-8: each is.
-    pub fn is_text(&self) -> bool
-        ensures { result ≡ is_utf8 self.now }
-    {
-        let _ = &self.text;
-        true
     }
 
     /// Whether there is none.

@@ -2,7 +2,8 @@
 use Rattle.std.specs.Prelude.{ℕ, List, Option, Some, None, Result, Ok, Err}
 use Rattle.farm_types.specs.declared.calls.Cmd.{Cmd}
 use Rattle.farm_http.specs.Request.{Request}
-use Rattle.farm_wire.specs.Reading.{◌>>=◌, Denial, other_methods, or_refused}
+use Rattle.farm_types.specs.Reads.{◌>>=◌}
+use Rattle.farm_wire.specs.Reading.{Denial, other_methods, or_refused}
 use Rattle.farm_wire.specs.Places.{path_in, place_in, allowed_at, endpoint_at}
 use Rattle.farm_wire.specs.Sender.{caller_in, key_in}
 use Rattle.farm_wire.specs.Parameters.{job_in}

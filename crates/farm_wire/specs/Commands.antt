@@ -1,33 +1,54 @@
 -- The commands that paths and bodies spell.
-use Rattle.std.specs.Prelude.{ℕ, List, [], ◌&&◌, nat_le, Option, Some, None, option_and_then, Result, Ok, Err, codes, if◌then◌else◌}
-use Rattle.std.specs.Str.{bytes_eq}
+use Rattle.std.specs.Prelude.{
+  ℕ,
+  List,
+  [],
+  Option,
+  Some,
+  None,
+  option_and_then,
+  Result,
+  Ok,
+  Err,
+  codes,
+  if◌then◌else◌,
+}
 use Rattle.serde_json.specs.Data.{Num, Data}
 use Rattle.serde_json.specs.Find.{get, as_str, as_number, as_u64}
-use Rattle.farm_types.specs.Limits.{is_priority}
+use Rattle.farm_types.specs.Limits.{is_priority, is_every}
+use Rattle.farm_types.specs.Called.{
+  health_called,
+  outcome_called,
+  medium,
+  priority_called,
+  unit_called,
+  check_by,
+}
+use Rattle.farm_types.specs.declared.called.CheckUnit.{CheckUnit}
 use Rattle.farm_types.specs.declared.rows.Check.{Check}
 use Rattle.farm_types.specs.declared.calls.Cmd.{Cmd}
-use Rattle.farm_types.specs.declared.rows.Health.{Health}
-use Rattle.farm_types.specs.declared.rows.Outcome.{Outcome}
 use Rattle.farm_types.specs.declared.refusal.TheConstants.{BAD_REQUEST, BAD_PRIORITY}
 use Rattle.farm_jobfile.specs.Job.{job}
-use Rattle.farm_wire.specs.Reading.{◌>>=◌, by_number}
-use Rattle.farm_wire.specs.Fields.{object_in, text_in, name_in, tags_from, tags_in, board_tags}
+use Rattle.farm_types.specs.Reads.{◌>>=◌}
+use Rattle.farm_wire.specs.Reading.{by_number}
+use Rattle.farm_wire.specs.Fields.{
+  there_or,
+  object_in,
+  text_in,
+  name_in,
+  tags_from,
+  tags_in,
+  board_tags,
+}
 use Rattle.farm_wire.specs.Parameters.{board_in, job_in, reservation_in}
 use Rattle.farm_wire.specs.declared.place.CommandKind.{CommandKind}
-use Rattle.farm_wire.specs.declared.type_body.CheckUnit.{CheckUnit}
 
 -- ---- types
 
--- one of three words; absent means none
-abbrev pub unit_or : Option (List ℕ) → Result CheckUnit ℕ
-unit_or None = Err BAD_REQUEST
-unit_or (Some text) =
-    if bytes_eq text (codes "none") then Ok CheckUnit.None
-    else (if bytes_eq text (codes "hours") then Ok CheckUnit.Hours else (if bytes_eq text (codes "jobs") then Ok CheckUnit.Jobs else Err BAD_REQUEST))
-
+-- a unit's word; absent means none
 abbrev pub unit_at : Option Data → Result CheckUnit ℕ
 unit_at None = Ok CheckUnit.None
-unit_at (Some d) = unit_or (as_str d)
+unit_at (Some d) = there_or (option_and_then unit_called (as_str d))
 
 -- the unit under the key `check`
 unfoldable pub unit_in : Data → Result CheckUnit ℕ
@@ -36,18 +57,13 @@ unit_in d = unit_at (get (codes "check") d)
 -- 1 to 10,000
 abbrev pub every_or : Option ℕ → Result ℕ ℕ
 every_or None = Err BAD_REQUEST
-every_or (Some n) = if nat_le 1 n && nat_le n 10000 then Ok n else Err BAD_REQUEST
+every_or (Some n) = if is_every n then Ok n else Err BAD_REQUEST
 
 -- the frequency under the key `every`
 unfoldable pub every_in : Data → Result ℕ ℕ
 every_in d = every_or (option_and_then as_u64 (option_and_then as_number (get (codes "every") d)))
 
--- the frequency counts where there is a unit
-abbrev pub check_by : CheckUnit → Result ℕ ℕ → Result Check ℕ
-check_by CheckUnit.None every = Ok Check.Never
-check_by CheckUnit.Hours every = every >>= λ n. Ok (Check.Hours n)
-check_by CheckUnit.Jobs every = every >>= λ n. Ok (Check.Jobs n)
-
+-- the check that the two keys spell
 unfoldable pub check_in : Data → Result Check ℕ
 check_in d = unit_in d >>= λ u. check_by u (every_in d)
 
@@ -88,23 +104,13 @@ set_tags path body = do
   own ← board_tags tags
   Ok (Cmd.SetTags name own)
 
--- one of five words
-abbrev pub health_or : List ℕ → Result Health ℕ
-health_or text =
-    if bytes_eq text (codes "Good") then Ok Health.Good
-    else if bytes_eq text (codes "Bad") then Ok Health.Bad
-    else if bytes_eq text (codes "Unknown") then Ok Health.Unknown
-    else if bytes_eq text (codes "Maintenance") then Ok Health.Maintenance
-    else if bytes_eq text (codes "Retired") then Ok Health.Retired
-    else Err BAD_REQUEST
-
 -- the health that the board of a path gets
 unfoldable pub set_health : List ℕ → List ℕ → Result Cmd ℕ
 set_health path body = do
   name ← board_in path
   d ← object_in body
   text ← text_in (codes "health") d
-  health ← health_or text
+  health ← there_or (health_called text)
   Ok (Cmd.SetHealth name health)
 
 -- ---- jobs
@@ -113,21 +119,13 @@ set_health path body = do
 unfoldable pub submit : List ℕ → Result Cmd ℕ
 submit body = by_number (job body)
 
--- one of three words
-abbrev pub outcome_or : List ℕ → Result Outcome ℕ
-outcome_or text =
-    if bytes_eq text (codes "Complete") then Ok Outcome.Complete
-    else if bytes_eq text (codes "Incomplete") then Ok Outcome.Incomplete
-    else if bytes_eq text (codes "Infra") then Ok Outcome.Infra
-    else Err BAD_REQUEST
-
 -- the end of the job that a path names
 unfoldable pub finish : List ℕ → List ℕ → Result Cmd ℕ
 finish path body = do
   number ← job_in path
   d ← object_in body
   text ← text_in (codes "outcome") d
-  outcome ← outcome_or text
+  outcome ← there_or (outcome_called text)
   Ok (Cmd.Finish number outcome)
 
 -- ---- reservations
@@ -137,26 +135,23 @@ abbrev pub priority_number : Option ℕ → Result ℕ ℕ
 priority_number None = Err BAD_PRIORITY
 priority_number (Some n) = if is_priority n then Ok n else Err BAD_PRIORITY
 
--- one of three words
-abbrev pub priority_word : List ℕ → Result ℕ ℕ
-priority_word text =
-    if bytes_eq text (codes "low") then Ok 0
-    else if bytes_eq text (codes "medium") then Ok 50
-    else if bytes_eq text (codes "high") then Ok 100
-    else Err BAD_PRIORITY
+-- what a word names
+abbrev pub named_or : Option ℕ → Result ℕ ℕ
+named_or None = Err BAD_PRIORITY
+named_or (Some n) = Ok n
 
 -- a text, a number, or another kind
 abbrev pub priority_by : Option (List ℕ) → Option Num → Result ℕ ℕ
-priority_by (Some text) n = priority_word text
+priority_by (Some text) n = named_or (priority_called text)
 priority_by None (Some n) = priority_number (as_u64 n)
 priority_by None None = Err BAD_REQUEST
 
 unfoldable pub priority_from : Data → Result ℕ ℕ
 priority_from d = priority_by (as_str d) (as_number d)
 
--- absent means 50
+-- absent means medium
 abbrev pub priority_or : Option Data → Result ℕ ℕ
-priority_or None = Ok 50
+priority_or None = Ok medium
 priority_or (Some d) = priority_from d
 
 -- the priority under the key `priority`
@@ -187,5 +182,6 @@ command_in CommandKind.Reserve path body = reserve body
 command_in CommandKind.Acquire path body = reservation_in path >>= λ n. Ok (Cmd.Acquire n)
 command_in CommandKind.Release path body = reservation_in path >>= λ n. Ok (Cmd.Release n)
 command_in CommandKind.Refresh path body = reservation_in path >>= λ n. Ok (Cmd.Refresh n)
-command_in CommandKind.CancelReservation path body = reservation_in path >>= λ n. Ok (Cmd.CancelRes n)
+command_in CommandKind.CancelReservation path body = reservation_in path >>= λ n.
+    Ok (Cmd.CancelRes n)
 command_in CommandKind.Pass path body = Ok Cmd.Pass

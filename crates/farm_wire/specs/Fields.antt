@@ -1,14 +1,36 @@
 -- The members of a JSON body (RFC 8259): each has its kind, and then its word.
-use Rattle.std.specs.Prelude.{ℕ, List, [], ◌∷◌, length, nat_lt, Option, Some, None, is_some, option_and_then, Result, Ok, Err, codes, if◌then◌else◌}
+use Rattle.std.specs.Prelude.{
+  ℕ,
+  List,
+  [],
+  ◌∷◌,
+  length,
+  nat_lt,
+  Option,
+  Some,
+  None,
+  is_some,
+  option_and_then,
+  Result,
+  Ok,
+  Err,
+  codes,
+  if◌then◌else◌,
+}
 use Rattle.std.specs.Str.{is_utf8}
 use Rattle.serde_json.specs.Data.{Data, Items, no_items, item}
 use Rattle.serde_json.specs.Read.{read}
 use Rattle.serde_json.specs.Find.{get, as_str, as_array, as_object}
 use Rattle.farm_types.specs.Words.{is_word, word_or}
-use Rattle.farm_types.specs.Tags.{tags_of, list_of_tags}
+use Rattle.farm_types.specs.Tags.{tags_among}
 use Rattle.farm_types.specs.Proper.{has_no_name_tag}
-use Rattle.farm_types.specs.declared.refusal.TheConstants.{BAD_REQUEST, BAD_NAME, BAD_COUNT, BAD_TAG}
-use Rattle.farm_wire.specs.Reading.{◌>>=◌}
+use Rattle.farm_types.specs.declared.refusal.TheConstants.{
+  BAD_REQUEST,
+  BAD_NAME,
+  BAD_COUNT,
+  BAD_TAG,
+}
+use Rattle.farm_types.specs.Reads.{◌>>=◌}
 
 -- an object, or nothing that can be read
 abbrev pub object_or : Option Data → Result Data ℕ
@@ -42,10 +64,6 @@ name_in key d = do
 abbrev pub texts_in : Items → Result (List (List ℕ)) ℕ
 texts_in no_items = Ok []
 texts_in (item d ds) = there_or (as_str d) >>= λ text. texts_in ds >>= λ texts. Ok (text ∷ texts)
-
--- at most sixteen tags, put in order
-unfoldable pub tags_among : List (List ℕ) → Result (List (List ℕ)) ℕ
-tags_among texts = if nat_lt 16 (length texts) then Err BAD_COUNT else list_of_tags texts >>= tags_of
 
 -- the tags that a value spells: its kinds are looked at first, then the count, then each tag
 unfoldable pub tags_from : Data → Result (List (List ℕ)) ℕ

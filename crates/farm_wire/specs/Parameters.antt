@@ -1,5 +1,24 @@
 -- The parameter of a path: a board's name, or the number of a job or a reservation.
-use Rattle.std.specs.Prelude.{ℕ, ◌==◌, ◌&&◌, Bool, false, not, nat_lt, nat_le, List, [], ◌∷◌, length, drop, Result, Ok, Err, codes, if◌then◌else◌}
+use Rattle.std.specs.Prelude.{
+  ℕ,
+  ◌==◌,
+  ◌&&◌,
+  Bool,
+  false,
+  not,
+  nat_lt,
+  nat_le,
+  List,
+  [],
+  ◌∷◌,
+  length,
+  drop,
+  Result,
+  Ok,
+  Err,
+  codes,
+  if◌then◌else◌,
+}
 use Rattle.std.specs.Char.{is_ascii_digit}
 use Rattle.std.specs.List.{before_first, list_all}
 use Rattle.std.specs.Str.Parse.{digits_value}
@@ -17,12 +36,14 @@ begins_with_zero (x ∷ text) = x == 48
 
 -- digits that begin with 1 to 9
 abbrev pub is_number : List ℕ → Bool
-is_number text = nat_lt 0 (length text) && (not (begins_with_zero text) && list_all is_ascii_digit text)
+is_number text =
+    nat_lt 0 (length text) && (not (begins_with_zero text) && list_all is_ascii_digit text)
 
 -- one to nine digits that begin with 1 to 9
 unfoldable pub number_in : List ℕ → Result ℕ ℕ
 number_in text =
-    if is_number text && nat_le (digits_value 10 text) LARGEST_NUMBER then Ok (digits_value 10 text) else Err BAD_REQUEST
+    if is_number text && nat_le (digits_value 10 text) LARGEST_NUMBER then Ok (digits_value 10 text)
+    else Err BAD_REQUEST
 
 -- the board that a path names, and the job, and the reservation
 unfoldable pub board_in : List ℕ → Result (List ℕ) ℕ

@@ -1,5 +1,24 @@
 -- The paths: where each leads, as `matchit` finds it, and which methods it has.
-use Rattle.std.specs.Prelude.{◌≡◌, ℕ, ◌<◌, Bool, true, false, List, [], ◌∷◌, ◌++◌, Option, Some, None, Result, Ok, Err, codes, if◌then◌else◌}
+use Rattle.std.specs.Prelude.{
+  ◌≡◌,
+  ℕ,
+  ◌<◌,
+  Bool,
+  true,
+  false,
+  List,
+  [],
+  ◌∷◌,
+  ◌++◌,
+  Option,
+  Some,
+  None,
+  Result,
+  Ok,
+  Err,
+  codes,
+  if◌then◌else◌,
+}
 use Rattle.std.specs.List.{before_first}
 use Rattle.std.specs.Option.{option_map}
 use Rattle.std.specs.Str.{is_utf8, bytes_eq}
@@ -46,7 +65,8 @@ allowed_at (Place.Post command) = Allowed.Post
 allowed_at (Place.GetPost view command) = Allowed.GetPost
 
 -- the router's rows with one more route
-abbrev pub with_route : Result Scan InsertError → Place → RowsOf (RouteOf Place) → RowsOf (RouteOf Place)
+abbrev pub with_route : Result Scan InsertError → Place → RowsOf (RouteOf Place)
+    → RowsOf (RouteOf Place)
 with_route (Ok s) place old = placed (s.pattern, route_from s place) old
 with_route (Err e) place old = old
 
@@ -88,9 +108,11 @@ endpoint_if false endpoint other = other
 -- what a method leads to, if the path has it
 abbrev pub endpoint_at : Place → List ℕ → Option Endpoint
 endpoint_at (Place.Get view) method = endpoint_if (is_get method) (Endpoint.View view) None
-endpoint_at (Place.Post command) method = endpoint_if (is_post method) (Endpoint.Command command) None
+endpoint_at (Place.Post command) method =
+    endpoint_if (is_post method) (Endpoint.Command command) None
 endpoint_at (Place.GetPost view command) method =
-    endpoint_if (is_get method) (Endpoint.View view) (endpoint_if (is_post method) (Endpoint.Command command) None)
+    endpoint_if (is_get method) (Endpoint.View view)
+    (endpoint_if (is_post method) (Endpoint.Command command) None)
 
 -- the value of the field `allow`
 abbrev pub allow_text : Allowed → List ℕ
@@ -98,6 +120,8 @@ allow_text Allowed.Get = codes "GET"
 allow_text Allowed.Post = codes "POST"
 allow_text Allowed.GetPost = codes "GET, POST"
 
--- whatever stands for the parameter, one byte at least and no slash, the path between front and back leads there
+-- whatever stands for the parameter, one byte at least and no slash, the path between front and
+-- back leads there
 abbrev pub LeadsTo : List ℕ → List ℕ → Place → Type 0
-LeadsTo front back place = (b : ℕ) (s : List ℕ) → b < 256 → has_slash (b ∷ s) ≡ false → place_at (front ++ ((b ∷ s) ++ back)) ≡ Some place
+LeadsTo front back place = (b : ℕ) (s : List ℕ) → b < 256 → has_slash (b ∷ s) ≡ false
+    → place_at (front ++ ((b ∷ s) ++ back)) ≡ Some place

@@ -6,12 +6,6 @@ use Rattle.farm_jobfile.specs.declared.fault.FileFault.{FileFault}
 use Rattle.farm_wire.specs.declared.allowed.Allowed.{Allowed}
 use Rattle.farm_wire.specs.declared.fault.AskFault.{AskFault}
 
--- one reading after another: the first refusal stands
-infixl 10 ◌>>=◌
-abbrev pub ◌>>=◌ : {A B E : Type 0} → Result A E → (A → Result B E) → Result B E
-(Ok x) >>= f = f x
-(Err e) >>= f = Err e
-
 -- a fault of a file by its number alone
 abbrev pub by_number : {A : Type 0} → Result A Fault → Result A ℕ
 by_number (Ok x) = Ok x

@@ -5,7 +5,17 @@ use Rattle.serde_json.specs.Written.{compact_text}
 use Rattle.farm_types.specs.Refusals.{status_of, reason_of}
 use Rattle.farm_types.specs.declared.refusal.TheConstants.{WRONG_METHOD}
 use Rattle.farm_wire.specs.Places.{allow_text}
-use Rattle.farm_wire.specs.Shown.{listing, reply_data, refusal_data, type_data, board_data, claim_data, res_data, job_data, status_data}
+use Rattle.farm_wire.specs.Shown.{
+  listing,
+  reply_data,
+  refusal_data,
+  type_data,
+  board_data,
+  claim_data,
+  res_data,
+  job_data,
+  status_data,
+}
 use Rattle.farm_wire.specs.declared.allowed.Allowed.{Allowed}
 use Rattle.farm_wire.specs.declared.answers.Out.{Out}
 
@@ -31,7 +41,8 @@ status_or code = unwrap_or (status_of code) 503
 -- a wrong method, with a field that names the right ones
 abbrev pub method_text : Allowed → List ℕ
 method_text allowed =
-    answer_text 405 (codes "allow: " ++ (allow_text allowed ++ codes "\r\n")) (compact_text (refusal_data WRONG_METHOD))
+    answer_text 405 (codes "allow: " ++ (allow_text allowed ++ codes "\r\n"))
+    (compact_text (refusal_data WRONG_METHOD))
 
 -- the bytes of an answer
 unfoldable pub reply_bytes : Out → List ℕ
@@ -41,6 +52,7 @@ reply_bytes (Out.Method allowed) = method_text allowed
 reply_bytes (Out.Types rows) = plain 200 (listing (codes "types") (map type_data rows.now))
 reply_bytes (Out.Boards rows) = plain 200 (listing (codes "boards") (map board_data rows.now))
 reply_bytes (Out.Queue claims) = plain 200 (listing (codes "queue") (map claim_data claims.now))
-reply_bytes (Out.Reservations rows) = plain 200 (listing (codes "reservations") (map res_data rows.now))
+reply_bytes (Out.Reservations rows) =
+    plain 200 (listing (codes "reservations") (map res_data rows.now))
 reply_bytes (Out.Job row) = plain 200 (job_data row.now)
 reply_bytes (Out.Status status) = plain 200 (status_data status)

@@ -3,7 +3,7 @@ use Rattle.std.specs.Prelude.{ℕ, List, Option, Some, None, Result, Ok, Err, co
 use Rattle.farm_types.specs.Words.{is_word, word_or}
 use Rattle.farm_types.specs.declared.refusal.TheConstants.{BAD_REQUEST, BAD_NAME, BAD_KEY}
 use Rattle.farm_http.specs.Fields.{Lookup, absent, several, one, field_of}
-use Rattle.farm_wire.specs.Reading.{◌>>=◌}
+use Rattle.farm_types.specs.Reads.{◌>>=◌}
 
 -- the caller's name stands once
 abbrev pub caller_or : Lookup → Result (List ℕ) ℕ

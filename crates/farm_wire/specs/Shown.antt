@@ -1,20 +1,46 @@
 -- The JSON of answers (RFC 8259). Keys stand in byte order.
-use Rattle.std.specs.Prelude.{ℕ, ◌==◌, Bool, unwrap_or, List, [], ◌∷◌, ◌++◌, map, decimal, codes, Option, if◌then◌else◌}
+use Rattle.std.specs.Prelude.{
+  ℕ,
+  ◌==◌,
+  Bool,
+  unwrap_or,
+  List,
+  [],
+  ◌∷◌,
+  map,
+  codes,
+  Option,
+  if◌then◌else◌,
+}
 use Rattle.std.specs.Option.{option_map}
-use Rattle.serde_json.specs.Data.{Data, number, unsigned, string, array, object, Members, member, no_members}
+use Rattle.serde_json.specs.Data.{
+  Data,
+  number,
+  unsigned,
+  string,
+  array,
+  object,
+  Members,
+  member,
+  no_members,
+}
 use Rattle.serde_json.specs.View.{items_of}
-use Rattle.farm_types.specs.Codes.{health_word, state_word, job_state_word, outcome_word, res_state_word}
+use Rattle.farm_types.specs.Called.{unit_of, unit_word, holder_text, claim_word}
+use Rattle.farm_types.specs.Codes.{
+  health_word,
+  state_word,
+  job_state_word,
+  outcome_word,
+  res_state_word,
+}
 use Rattle.farm_types.specs.Small.{every_of}
 use Rattle.farm_types.specs.Refusals.{text_of}
-use Rattle.farm_types.specs.declared.rows.Check.{Check}
-use Rattle.farm_types.specs.declared.rows.Holder.{Holder}
 use Rattle.farm_types.specs.declared.rows.TypeRow.{TypeRow}
 use Rattle.farm_types.specs.declared.rows.BoardRow.{BoardRow}
 use Rattle.farm_types.specs.declared.rows.Reply.{Reply}
 use Rattle.farm_types.specs.declared.rows.JobRow.{JobRow}
 use Rattle.farm_types.specs.declared.rows.ResRow.{ResRow}
 use Rattle.farm_types.specs.declared.claims.Claim.{Claim}
-use Rattle.farm_types.specs.declared.claims.ClaimKind.{ClaimKind}
 use Rattle.farm_types.specs.declared.claims.Status.{Status}
 
 -- an object with these members
@@ -39,32 +65,21 @@ listing key rows = fields ((key, array (items_of rows)) ∷ [])
 abbrev pub reply_data : ℕ → Reply → Data
 reply_data kind reply =
     if kind == 14
-    then fields ((codes "checks", count reply.0) ∷ (codes "expired", count reply.1) ∷ (codes "served", count reply.2) ∷ [])
+    then fields ((codes "checks", count reply.0) ∷ (codes "expired", count reply.1)
+    ∷ (codes "served", count reply.2) ∷ [])
     else fields ((codes "number", count reply.0) ∷ [])
 
 abbrev pub refusal_data : ℕ → Data
 refusal_data code = fields ((codes "code", count code) ∷ (codes "text", string (text_of code)) ∷ [])
 
--- how often a type's boards are checked
-abbrev pub check_word : Check → List ℕ
-check_word Check.Never = codes "none"
-check_word (Check.Hours n) = codes "hours"
-check_word (Check.Jobs n) = codes "jobs"
-
 abbrev pub type_data : TypeRow → Data
 type_data row =
     fields (
-    (codes "check", string (check_word row.check))
+    (codes "check", string (unit_word (unit_of row.check)))
     ∷ (codes "every", count (every_of row.check))
     ∷ (codes "name", string row.name)
     ∷ []
     )
-
--- who holds a board
-abbrev pub holder_text : Holder → List ℕ
-holder_text Holder.Nobody = codes "none"
-holder_text (Holder.Job n) = codes "job " ++ decimal n
-holder_text (Holder.Res n) = codes "reservation " ++ decimal n
 
 abbrev pub board_data : BoardRow → Data
 board_data row =
@@ -96,10 +111,6 @@ status_data status =
 -- a word that isn't there shows as the empty text
 abbrev pub word_or_none : Option (List ℕ) → Data
 word_or_none word = string (unwrap_or word [])
-
-abbrev pub claim_word : ClaimKind → List ℕ
-claim_word ClaimKind.Group = codes "group"
-claim_word ClaimKind.Reservation = codes "reservation"
 
 -- a claim, with its number of wants
 abbrev pub claim_data : Claim → Data

@@ -78,7 +78,8 @@ fn listing_value<R: Shown>(alloc: Global, key: &str, rows: &[R]) -> Result<Value
 /// A head and the text of a value behind it.
 fn answer_of(alloc: Global, status: u16, more: &str, value: &Value) -> Result<Vec<u8>, AllocError>
     requires { has_float (view value.now) ≡ false }
-    ensures { IfOk result (λ b. b.items ≡ answer_text status more.now (compact_text (view value.now))) }
+    ensures { IfOk result (λ b. b.items ≡ answer_text status more.now
+        (compact_text (view value.now))) }
 {
     let body = value.to_vec(alloc)?;
     let mut bytes = head(alloc, status, more, body.len())?.into_bytes();
@@ -102,7 +103,8 @@ fn row_answer<R: Shown>(alloc: Global, row: &R) -> Result<Vec<u8>, AllocError>
 
 /// The answer of a refusal.
 fn refusal_answer(alloc: Global, refusal: Refusal) -> Result<Vec<u8>, AllocError>
-    ensures { IfOk result (λ b. b.items ≡ plain (status_or refusal.code) (refusal_data refusal.code)) }
+    ensures { IfOk result (λ b. b.items ≡ plain (status_or refusal.code)
+        (refusal_data refusal.code)) }
 {
     let status = refusal.status().unwrap_or(UNAVAILABLE);
     answer_of(alloc, status, "", &refusal_value(alloc, refusal)?)

@@ -75,8 +75,9 @@ impl Asks {
 }
 
 impl Ask {
-    /// What one request asks, by a router of its own, which takes 15 to 20 us to build (an optimized
-    /// build on a Xeon). By a lent one, `Asks::ask`, a request without a body takes 0.2 to 0.4 us.
+    /// What one request asks, by a router of its own, which takes 15 to 20 us to build (an
+    /// optimized build on a Xeon). By a lent one, `Asks::ask`, a request without a body takes 0.2
+    /// to 0.4 us.
     pub fn of(alloc: Global, taken: &Taken, now: u64) -> Result<Ask, AskFault>
         ensures { (request : Request) → Spells taken.now.bytes.items taken.now.head request
             → Meets asked result (ask request now) }

@@ -1,22 +1,10 @@
 //! Claims and reservations as JSON.
-ghost use Rattle.std.specs.Prelude.{◌≡◌};
-ghost use Rattle.farm_wire.specs.Shown.{claim_word};
 
 use crate::shown::{Shown, name_value, tags_value, text_value};
-use farm_types::claims::{Claim, ClaimKind};
+use farm_types::claims::Claim;
 use farm_types::rows::ResRow;
 use serde_json::{Value, json};
 use std::alloc::{AllocError, Global};
-
-/// The word for who waits.
-fn claim_word(kind: ClaimKind) -> &'static str
-    ensures { result.now ≡ claim_word kind }
-{
-    match kind {
-        ClaimKind::Group => "group",
-        ClaimKind::Reservation => "reservation",
-    }
-}
 
 impl Shown for Claim {
     ghost use Rattle.std.specs.Prelude.{refl};
@@ -25,7 +13,7 @@ impl Shown for Claim {
     ghost json = { claim_data };
 
     fn value(&self, alloc: Global) -> Result<Value, AllocError> {
-        let kind = text_value(alloc, claim_word(self.kind))?;
+        let kind = text_value(alloc, self.kind.word())?;
         let owner = text_value(alloc, self.owner.as_str())?;
         json!(in alloc; {
             "boards": self.boards, "kind": kind, "number": self.number, "owner": owner,

@@ -3,13 +3,11 @@ ghost use Rattle.std.specs.Prelude.{◌≡◌, ◌≢◌, map, codes, Err, IsTru
 ghost use Rattle.farm_types.specs.Proper.{has_no_name_tag};
 ghost use Rattle.serde_json.specs.View.{view, items_view};
 ghost use Rattle.farm_types.specs.Reads.{Reads};
-ghost use Rattle.farm_types.specs.Tags.{list_of_tags};
-ghost use Rattle.farm_wire.specs.Fields.{text_in, name_in, texts_in, tags_among, tags_from, tags_in, board_tags};
+ghost use Rattle.farm_wire.specs.Fields.{text_in, name_in, texts_in, tags_from, tags_in, board_tags};
 
 use farm_types::fault::WordFault;
-use farm_types::refusal::{BAD_COUNT, BAD_REQUEST, BAD_TAG, Refusal};
-use farm_types::tags::MOST_TAGS;
-use farm_types::words::{Name, Tag, Tags};
+use farm_types::refusal::{BAD_REQUEST, BAD_TAG, Refusal};
+use farm_types::words::{Name, Tags};
 use serde_json::Value;
 use std::alloc::Global;
 
@@ -35,42 +33,18 @@ pub(crate) fn name_of(alloc: Global, value: &Value, key: &str) -> Result<Name, W
 }
 
 /// The texts of an array's items.
-fn texts_of(alloc: Global, items: &[Value]) -> Result<Vec<&str>, WordFault>
-    ensures { Reads (λ texts. map (λ text. text.now) texts.items) result (texts_in (items_view items.now)) }
+fn texts_of(alloc: Global, items: &[Value]) -> Result<Vec<&[u8]>, WordFault>
+    ensures { Reads (λ texts. map (λ text. text.now) texts.items) result
+        (texts_in (items_view items.now)) }
 {
     let mut texts = Vec::new(alloc);
     for item in items {
         let Some(text) = item.as_str() else {
             return Err(WordFault::Refused(Refusal { code: BAD_REQUEST }));
         };
-        texts.push(text)?;
+        texts.push(text.as_bytes())?;
     }
     Ok(texts)
-}
-
-/// The tag that each text spells.
-fn list_of(alloc: Global, texts: &[&str]) -> Result<Vec<Tag>, WordFault>
-    ensures { Reads (λ tags. tags.items) result (list_of_tags (map (λ text. text.now) texts.now)) }
-{
-    let mut items = Vec::new(alloc);
-    for text in texts {
-        match Tag::parse(alloc, text.as_bytes()) {
-            Ok(tag) => items.push(tag)?,
-            Err(fault) => return Err(fault),
-        }
-    }
-    Ok(items)
-}
-
-/// The tags that texts spell: more than sixteen are too many, whatever they are.
-#[tactic(auto, unfolding(crate::specs::Fields::tags_among))]
-fn tags_among(alloc: Global, texts: &[&str]) -> Result<Tags, WordFault>
-    ensures { Reads (λ tags. tags) result (tags_among (map (λ text. text.now) texts.now)) }
-{
-    if texts.len() > MOST_TAGS {
-        return Err(WordFault::Refused(Refusal { code: BAD_COUNT }));
-    }
-    Tags::of(alloc, list_of(alloc, texts)?.as_slice())
 }
 
 /// The tags that a value spells, an array of texts.
@@ -82,7 +56,7 @@ pub(crate) fn tags_from(alloc: Global, value: &Value) -> Result<Tags, WordFault>
         return Err(WordFault::Refused(Refusal { code: BAD_REQUEST }));
     };
     let texts = texts_of(alloc, items.as_slice())?;
-    tags_among(alloc, texts.as_slice())
+    Tags::among(alloc, texts.as_slice())
 }
 
 /// The tags under the key `tags`, which must be there.

@@ -2,9 +2,11 @@
 ghost use Rattle.std.specs.Prelude.{◌≡◌, ◌≢◌, Err, IsTrue, IfOk, false};
 ghost use Rattle.serde_json.specs.View.{view};
 ghost use Rattle.farm_types.specs.Codes.{same_outcome};
+ghost use Rattle.farm_types.specs.Called.{outcome_called};
+ghost use Rattle.farm_wire.specs.Fields.{there_or};
 ghost use Rattle.farm_types.specs.Proper.{is_proper_cmd};
 ghost use Rattle.farm_types.specs.Reads.{Reads};
-ghost use Rattle.farm_wire.specs.Commands.{outcome_or, finish, submit};
+ghost use Rattle.farm_wire.specs.Commands.{finish, submit};
 ghost use Rattle.farm_wire.specs.Reading.{fault_of_file};
 ghost use Rattle.farm_types.specs.declared.rows.Outcome.{Outcome};
 
@@ -20,15 +22,13 @@ use std::alloc::Global;
 
 /// The outcome that a word names. A job is canceled by a command of its own, not by its end.
 fn outcome_of(text: &str) -> Result<Outcome, WordFault>
-    ensures outcome { Reads (λ outcome. outcome) result (outcome_or text.now) }
+    ensures outcome { Reads (λ outcome. outcome) result (there_or (outcome_called text.now)) }
     ensures ended { IfOk result (λ outcome. same_outcome outcome Outcome.Canceled ≡ false) }
     ensures memory { result ≢ Err WordFault.NoMemory }
 {
-    match text {
-        "Complete" => Ok(Outcome::Complete),
-        "Incomplete" => Ok(Outcome::Incomplete),
-        "Infra" => Ok(Outcome::Infra),
-        _ => Err(WordFault::Refused(Refusal { code: BAD_REQUEST })),
+    match Outcome::called(text) {
+        Some(outcome) => Ok(outcome),
+        None => Err(WordFault::Refused(Refusal { code: BAD_REQUEST })),
     }
 }
 

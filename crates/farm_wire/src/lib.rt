@@ -1,11 +1,11 @@
 //! What HTTP requests ask of the farm, and the bytes of its answers.
 //!
 //! A request becomes a call of the farm or a view (`ask`), an answer becomes a status line, fields
-//! and JSON text (`answers`). Reading requests and writing answers whole is `farm_http`'s; its public
-//! names stand here again, so that a server needs this crate alone.
+//! and JSON text (`answers`). Reading requests and writing answers whole is `farm_http`'s; its
+//! public names stand here again, so that a server needs this crate alone.
 //!
-//! Read `specs/` in the order Reading, Places, Sender, Fields, Parameters, Commands, Asked; then Shown,
-//! JobWords, Whole, Replies.
+//! Read `specs/` in the order Reading, Places, Sender, Fields, Parameters, Commands, Asked; then
+//! Shown, JobWords, Whole, Replies.
 #![tactic(auto)]
 
 pub mod allowed;

@@ -61,7 +61,8 @@ impl Place {
         }
     }
 
-    /// What the method of these bytes leads to, if its path has that method. A method's case matters.
+    /// What the method of these bytes leads to, if its path has that method. A method's case
+    /// matters.
     pub fn endpoint(self, method: &[u8]) -> Option<Endpoint>
         ensures { result ≡ endpoint_at self method.now }
     {

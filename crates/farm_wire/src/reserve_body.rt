@@ -1,9 +1,10 @@
 //! The body that reserves a board.
 ghost use Rattle.std.specs.Prelude.{◌≢◌, Err, IsTrue, IfOk, Option, ℕ};
 ghost use Rattle.serde_json.specs.View.{view};
+ghost use Rattle.farm_types.specs.Called.{priority_called};
 ghost use Rattle.farm_types.specs.Proper.{is_proper_cmd};
 ghost use Rattle.farm_types.specs.Reads.{Reads};
-ghost use Rattle.farm_wire.specs.Commands.{priority_word, priority_number, priority_from, priority_in, reserve};
+ghost use Rattle.farm_wire.specs.Commands.{named_or, priority_number, priority_from, priority_in, reserve};
 
 use crate::fields::tags_of;
 use crate::object::object_of;
@@ -13,13 +14,6 @@ use farm_types::refusal::{BAD_PRIORITY, BAD_REQUEST, Refusal};
 use farm_types::words::Priority;
 use serde_json::Value;
 use std::alloc::Global;
-
-/// The priorities that LAVA calls low, medium and high. Medium is also what an absent one means.
-const LOW: u64 = 0;
-
-const MEDIUM: u64 = 50;
-
-const HIGH: u64 = 100;
 
 /// The priority of that number.
 fn priority_of(number: u64) -> Result<Priority, WordFault>
@@ -31,14 +25,12 @@ fn priority_of(number: u64) -> Result<Priority, WordFault>
 
 /// The priority that a word names.
 fn named_priority(text: &str) -> Result<Priority, WordFault>
-    ensures reads { Reads (λ priority. priority) result (priority_word text.now) }
+    ensures reads { Reads (λ priority. priority) result (named_or (priority_called text.now)) }
     ensures memory { result ≢ Err WordFault.NoMemory }
 {
-    match text {
-        "low" => priority_of(LOW),
-        "medium" => priority_of(MEDIUM),
-        "high" => priority_of(HIGH),
-        _ => Err(WordFault::Refused(Refusal { code: BAD_PRIORITY })),
+    match Priority::called(text) {
+        Some(priority) => Ok(priority),
+        None => Err(WordFault::Refused(Refusal { code: BAD_PRIORITY })),
     }
 }
 
@@ -68,7 +60,7 @@ fn priority_in(value: &Value) -> Result<Priority, WordFault>
 {
     match value.get("priority") {
         Some(field) => priority_from(field),
-        None => priority_of(MEDIUM),
+        None => Ok(Priority::medium()),
     }
 }
 

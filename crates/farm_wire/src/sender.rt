@@ -9,8 +9,8 @@ use farm_types::refusal::{BAD_REQUEST, Refusal};
 use farm_types::words::{Key, Name};
 use std::alloc::Global;
 
-/// The name in the field `x-user`, which must stand there once; memory is wanted only where there is
-/// one.
+/// The name in the field `x-user`, which must stand there once; memory is wanted only where there
+/// is one.
 #[tactic(auto, unfolding(crate::specs::Sender::caller_in))]
 pub(crate) fn caller_of(alloc: Global, parts: &Parts<'_>) -> Result<Name, WordFault>
     ensures reads { Reads (λ name. name) result (caller_in parts.now.fields) }
@@ -22,7 +22,8 @@ pub(crate) fn caller_of(alloc: Global, parts: &Parts<'_>) -> Result<Name, WordFa
     }
 }
 
-/// The key in the field `x-key`, which may stand there once; memory is wanted only where there is one.
+/// The key in the field `x-key`, which may stand there once; memory is wanted only where there is
+/// one.
 #[tactic(auto, unfolding(crate::specs::Sender::key_in))]
 pub(crate) fn key_of(alloc: Global, parts: &Parts<'_>) -> Result<Option<Key>, WordFault>
     ensures reads { Reads (λ key. key) result (key_in parts.now.fields) }

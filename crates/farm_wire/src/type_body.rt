@@ -1,29 +1,20 @@
 //! The body that adds a type.
-ghost use Rattle.std.specs.Prelude.{◌≢◌, ◌&&◌, Err, IsTrue, IfOk, nat_le};
+ghost use Rattle.std.specs.Prelude.{◌≢◌, Err, IsTrue, IfOk};
 ghost use Rattle.serde_json.specs.View.{view};
+ghost use Rattle.farm_types.specs.Limits.{is_every};
 ghost use Rattle.farm_types.specs.Proper.{is_frequency, is_proper_cmd};
 ghost use Rattle.farm_types.specs.Reads.{Reads};
 ghost use Rattle.farm_wire.specs.Commands.{unit_in, every_in, check_in, add_type};
 
 use crate::fields::name_of;
 use crate::object::object_of;
+use farm_types::called::{CheckUnit, is_every};
 use farm_types::calls::Cmd;
 use farm_types::fault::WordFault;
 use farm_types::refusal::{BAD_REQUEST, Refusal};
 use farm_types::rows::Check;
 use serde_json::Value;
 use std::alloc::Global;
-
-/// The most hours or jobs between two checks.
-pub const LONGEST_EVERY: u64 = 10_000;
-
-/// What a check's frequency counts.
-#[derive(Clone, Copy, Debug, PartialEq, Eq)]
-pub enum CheckUnit {
-    None,
-    Hours,
-    Jobs,
-}
 
 /// The unit under the key `check`.
 #[tactic(auto, unfolding(crate::specs::Commands::unit_in))]
@@ -34,11 +25,9 @@ fn unit_of(value: &Value) -> Result<CheckUnit, WordFault>
     let Some(field) = value.get("check") else {
         return Ok(CheckUnit::None);
     };
-    match field.as_str() {
-        Some("none") => Ok(CheckUnit::None),
-        Some("hours") => Ok(CheckUnit::Hours),
-        Some("jobs") => Ok(CheckUnit::Jobs),
-        _ => Err(WordFault::Refused(Refusal { code: BAD_REQUEST })),
+    match field.as_str().and_then(CheckUnit::called) {
+        Some(unit) => Ok(unit),
+        None => Err(WordFault::Refused(Refusal { code: BAD_REQUEST })),
     }
 }
 
@@ -46,11 +35,11 @@ fn unit_of(value: &Value) -> Result<CheckUnit, WordFault>
 #[tactic(auto, unfolding(crate::specs::Commands::every_in))]
 fn every_of(value: &Value) -> Result<u64, WordFault>
     ensures every { Reads (λ every. every) result (every_in (view value.now)) }
-    ensures range { IfOk result (λ every. IsTrue (nat_le 1 every && nat_le every 10000)) }
+    ensures range { IfOk result (λ every. IsTrue (is_every every)) }
     ensures memory { result ≢ Err WordFault.NoMemory }
 {
     match value.get("every").and_then(Value::as_u64) {
-        Some(every) if every >= 1 && every <= LONGEST_EVERY => Ok(every),
+        Some(every) if is_every(every) => Ok(every),
         _ => Err(WordFault::Refused(Refusal { code: BAD_REQUEST })),
     }
 }

@@ -1,23 +1,11 @@
 //! Types as JSON.
 ghost use Rattle.std.specs.Prelude.{◌≡◌};
 ghost use Rattle.farm_types.specs.Small.{every_of};
-ghost use Rattle.farm_wire.specs.Shown.{check_word};
 
 use crate::shown::{Shown, text_value};
 use farm_types::rows::{Check, TypeRow};
 use serde_json::{Value, json};
 use std::alloc::{AllocError, Global};
-
-/// The word for what a check counts.
-fn check_word(check: Check) -> &'static str
-    ensures { result.now ≡ check_word check }
-{
-    match check {
-        Check::Never => "none",
-        Check::Hours(_) => "hours",
-        Check::Jobs(_) => "jobs",
-    }
-}
 
 /// A check's frequency, and 0 without a check.
 fn every_of(check: Check) -> u64
@@ -36,7 +24,7 @@ impl Shown for TypeRow {
     ghost json = { type_data };
 
     fn value(&self, alloc: Global) -> Result<Value, AllocError> {
-        let check = text_value(alloc, check_word(self.check))?;
+        let check = text_value(alloc, self.check.unit().word())?;
         let every = every_of(self.check);
         let name = text_value(alloc, self.name.as_str())?;
         json!(in alloc; {"check": check, "every": every, "name": name})

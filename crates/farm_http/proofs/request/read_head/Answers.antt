@@ -1,16 +1,15 @@
 -- A byte that doesn't come, a line that no head has, a line that ends a head, and one that does not.
-use Rattle.std.proofs.Common.{◌≡◌, ◌∷◌, [], length, true, ◌+◌, ◌<◌, arith, rules, ap, subst, ◌∙◌, length-append, inl, inr}
+use Rattle.std.proofs.Common.{◌≡◌, ◌∷◌, [], length, ◌+◌, ◌<◌, arith, rules, ap, subst, ◌∙◌, length-append, inl, inr}
 use Rattle.std.proofs.KnownBytes.{Consumes-kept}
 use Rattle.std.proofs.lemmas.Result.{err_from_is_err_and}
 use Rattle.std.specs.Io.KnownBytes.{IsAtEnd}
-use Rattle.httparse.specs.Grammar.{RequestHead}
-use Rattle.farm_http.specs.Heads.{IsHead, OpenBelow, TellsHead}
+use Rattle.farm_http.specs.Heads.{OpenBelow}
 use Rattle.farm_http.specs.Counts.{reader_of, reading_of, IsSpent}
 use Rattle.farm_http.proofs.HeadLemmas.{byte_fails, open_pushed, read_more}
 use Rattle.farm_http.proofs.request.read_head.Goals as goal
 
-pub is_head-requires-clause-open_lines : goal.is_head-requires-clause-open_lines
-is_head-requires-clause-open_lines g c =
+pub spans_of-requires-clause-open_lines : goal.spans_of-requires-clause-open_lines
+spans_of-requires-clause-open_lines g c =
     open_pushed c.loop-reader.bytes.items c.as_slice.result.now c.in_ok-byte.byte (c.as_slice.ensures.value ∙ c.push_reserved.ensures.items) c.loop-reader.invariant.open_lines
 
 pub returns-in_err-byte-clause-fault : goal.returns-in_err-byte-clause-fault
@@ -24,22 +23,21 @@ returns-in_err-byte-clause-fault g c =
       byte_fails old (IsAtEnd (g.R.Read.remaining (reader_of c.read_byte.new.reader))) (IsSpent (reading_of c.read_byte.new.reader)) c.in_err-byte.field-0.0 short c.loop-reader.invariant.open_lines c.in_err-byte.ensures.fault,
     )
 
-pub returns-in_err-is_head-clause-fault : goal.returns-in_err-is_head-clause-fault
-returns-in_err-is_head-clause-fault g c =
-    let p = err_from_is_err_and c.from_residual-in_err-is_head.result c.from_residual-in_err-is_head.ensures.1 in
+pub returns-in_err-spans-clause-fault : goal.returns-in_err-spans-clause-fault
+returns-in_err-spans-clause-fault g c =
+    let p = err_from_is_err_and c.from_residual-in_err-spans.result c.from_residual-in_err-spans.ensures.1 in
     let old = c.loop-reader.bytes.items in
     let all = c.as_slice.result.now in
     let is = c.as_slice.ensures.value ∙ c.push_reserved.ensures.items in
     rw (p.1, p.2) (
       all,
       read_more _ _ _ old all c.in_ok-byte.byte is c.loop-reader.invariant.taken c.in_ok-byte.ensures.byte,
-      inr (inl c.in_err-is_head.ensures.refused),
+      inr (inl c.in_err-spans.ensures.refused),
     )
 
-pub returns-then-branch-clause-head : goal.returns-then-branch-clause-head
-returns-then-branch-clause-head g c =
-    let found : TellsHead c.as_slice.result.now true = subst (TellsHead c.as_slice.result.now) c.if-branch.true c.in_ok-is_head.ensures.told in
-    subst (λ l. (h : RequestHead) × IsHead l h) c.as_slice.ensures.value found
+pub returns-in-Some-clause-bytes : goal.returns-in-Some-clause-bytes
+returns-in-Some-clause-bytes g c =
+    read_more _ _ _ c.loop-reader.bytes.items c.push_reserved.new.self.items c.in_ok-byte.byte c.push_reserved.ensures.items c.loop-reader.invariant.taken c.in_ok-byte.ensures.byte
 
 pub loop-reader-preserved : goal.loop-reader-preserved
 loop-reader-preserved g c =
@@ -47,7 +45,7 @@ loop-reader-preserved g c =
     let all = c.push_reserved.new.self.items in
     let is = c.push_reserved.ensures.items in
     let long : length all ≡ length old + 1 = ap length is ∙ length-append old (c.in_ok-byte.byte ∷ []) in
-    let lines : OpenBelow (length c.as_slice.result.now) c.as_slice.result.now = subst (TellsHead c.as_slice.result.now) c.if-branch.false c.in_ok-is_head.ensures.told in
+    let lines : OpenBelow (length c.as_slice.result.now) c.as_slice.result.now = rw c.in_default.is at c.in_ok-spans.ensures.told in
     record {
       short = omega (arith, long);
       capacity = omega arith;

@@ -1,6 +1,6 @@
 use Rattle.std.proofs.Common.{◌≡◌, ◌++◌, map, Ok}
 use Rattle.toml.specs.View.{members_view}
-use Rattle.farm_jobfile.specs.Reading.{◌>>=◌}
+use Rattle.farm_types.specs.Reads.{◌>>=◌}
 use Rattle.farm_jobfile.specs.Lab.{each, entry_of, board_in}
 use Rattle.farm_jobfile.proofs.boards.boards_of.Given as goal
 

@@ -1,6 +1,6 @@
 use Rattle.std.proofs.Common.{◌≡◌, ◌++◌, Ok}
 use Rattle.toml.specs.View.{members_view}
-use Rattle.farm_jobfile.specs.Reading.{◌>>=◌}
+use Rattle.farm_types.specs.Reads.{◌>>=◌}
 use Rattle.farm_jobfile.specs.Job.{roles_in}
 use Rattle.farm_jobfile.proofs.roles.roles_of.Given as goal
 

@@ -2,7 +2,7 @@
 use Rattle.std.proofs.Common.{ℕ, refl, subst, arith}
 use Rattle.httparse.specs.Spans.{RequestOverflows}
 use Rattle.farm_http.proofs.HeadLemmas.{head_of, open_more, ends_line}
-use Rattle.farm_http.proofs.request.is_head.Goals as goal
+use Rattle.farm_http.proofs.request.spans_of.Goals as goal
 
 pub returns-then-last-ne10-clause-told : goal.returns-then-last-ne10-clause-told
 returns-then-last-ne10-clause-told c =
