@@ -9,9 +9,10 @@ pub mod PutAt
 pub mod RowPuts
 pub mod PutMeta
 pub mod Commits
+pub mod GoingOn
 pub mod EmptyRows
 pub mod SmallCodes
-pub mod ZipAt
+pub mod Through
 pub mod Commute
 pub mod Loads
 pub mod ColumnsFrom

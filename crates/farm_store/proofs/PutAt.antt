@@ -37,12 +37,13 @@ pub record IsKnown (p : Place) : Type 0 where
 other : {p q : Place} → (q.tree == p.tree) ≡ false → ((T : Tables) (rows : List Row) → q.rows (p.replaced T rows) ≡ q.rows T) → (q ≡ p) ⊎ IsOther p q
 other {p} {q} apart keeps = inr ((λ same. apart_trees q.tree p.tree apart same), keeps)
 
-abbrev is_place : {p : Place} → ((T : Tables) (rows : List Row) → p.rows (p.replaced T rows) ≡ rows) → ((T : Tables) (rows more : List Row) → p.replaced (p.replaced T rows) more ≡ p.replaced T more) → IsPlace p
-is_place own over = record { own = own; over = over }
+abbrev is_place : {p : Place} → ((T : Tables) (rows : List Row) → p.rows (p.replaced T rows) ≡ rows) → ((T : Tables) (rows more : List Row) → p.replaced (p.replaced T rows) more ≡ p.replaced T more)
+    → ((T : Tables) → p.replaced T (p.rows T) ≡ T) → IsPlace p
+is_place own over same = record { own = own; over = over; same = same }
 
 pub types_known : IsKnown of_types
 types_known = record {
-  is = is_place (λ T rows. refl) (λ T rows more. refl);
+  is = is_place (λ T rows. refl) (λ T rows more. refl) (λ T. refl);
   total = first_total;
   find = λ db T h. h.types;
   others = six (λ q. (q ≡ of_types) ⊎ IsOther of_types q) (inl refl) (other refl (λ T rows. refl)) (other refl (λ T rows. refl)) (other refl (λ T rows. refl)) (other refl (λ T rows. refl)) (other refl (λ T rows. refl));
@@ -50,7 +51,7 @@ types_known = record {
 
 pub boards_known : IsKnown of_boards
 boards_known = record {
-  is = is_place (λ T rows. refl) (λ T rows more. refl);
+  is = is_place (λ T rows. refl) (λ T rows more. refl) (λ T. refl);
   total = first_total;
   find = λ db T h. h.boards;
   others = six (λ q. (q ≡ of_boards) ⊎ IsOther of_boards q) (other refl (λ T rows. refl)) (inl refl) (other refl (λ T rows. refl)) (other refl (λ T rows. refl)) (other refl (λ T rows. refl)) (other refl (λ T rows. refl));
@@ -58,7 +59,7 @@ boards_known = record {
 
 pub jobs_known : IsKnown of_jobs
 jobs_known = record {
-  is = is_place (λ T rows. refl) (λ T rows more. refl);
+  is = is_place (λ T rows. refl) (λ T rows more. refl) (λ T. refl);
   total = first_total;
   find = λ db T h. h.jobs;
   others = six (λ q. (q ≡ of_jobs) ⊎ IsOther of_jobs q) (other refl (λ T rows. refl)) (other refl (λ T rows. refl)) (inl refl) (other refl (λ T rows. refl)) (other refl (λ T rows. refl)) (other refl (λ T rows. refl));
@@ -66,7 +67,7 @@ jobs_known = record {
 
 pub reservations_known : IsKnown of_reservations
 reservations_known = record {
-  is = is_place (λ T rows. refl) (λ T rows more. refl);
+  is = is_place (λ T rows. refl) (λ T rows more. refl) (λ T. refl);
   total = first_total;
   find = λ db T h. h.reservations;
   others = six (λ q. (q ≡ of_reservations) ⊎ IsOther of_reservations q) (other refl (λ T rows. refl)) (other refl (λ T rows. refl)) (other refl (λ T rows. refl)) (inl refl) (other refl (λ T rows. refl)) (other refl (λ T rows. refl));
@@ -74,7 +75,7 @@ reservations_known = record {
 
 pub kept_known : IsKnown of_kept
 kept_known = record {
-  is = is_place (λ T rows. refl) (λ T rows more. refl);
+  is = is_place (λ T rows. refl) (λ T rows more. refl) (λ T. refl);
   total = two_total;
   find = λ db T h. h.kept;
   others = six (λ q. (q ≡ of_kept) ⊎ IsOther of_kept q) (other refl (λ T rows. refl)) (other refl (λ T rows. refl)) (other refl (λ T rows. refl)) (other refl (λ T rows. refl)) (inl refl) (other refl (λ T rows. refl));
@@ -82,7 +83,7 @@ kept_known = record {
 
 pub meta_known : IsKnown of_meta
 meta_known = record {
-  is = is_place (λ T rows. refl) (λ T rows more. refl);
+  is = is_place (λ T rows. refl) (λ T rows more. refl) (λ T. refl);
   total = first_total;
   find = λ db T h. h.meta;
   others = six (λ q. (q ≡ of_meta) ⊎ IsOther of_meta q) (other refl (λ T rows. refl)) (other refl (λ T rows. refl)) (other refl (λ T rows. refl)) (other refl (λ T rows. refl)) (other refl (λ T rows. refl)) (inl refl);

@@ -1,10 +1,11 @@
 -- What a store holds, and what a stop may leave of it.
-use Rattle.std.specs.Prelude.{◌≡◌, ◌⊎◌, false, IsTrue}
+use Rattle.std.specs.Prelude.{◌≡◌, ◌≤◌, ◌⊎◌, false, IsTrue}
 use Rattle.sqlite.specs.Effect.{Database}
 use Rattle.sqlite.specs.Tree.{Trees}
 use Rattle.sqlite.specs.State.{State, HasCleanDisk}
 use Rattle.sqlite_catalog.specs.Listing.{AreListed}
 use Rattle.sqlite_trees.specs.Objects.{catalog_tree}
+use Rattle.sqlite_trees.specs.View.{doubt}
 use Rattle.farm_store.specs.Schema.{farm_schema}
 use Rattle.farm_store.specs.Columns.{Tables, rows_of}
 use Rattle.farm_store.specs.Places.{HoldsAt, of_types, of_boards, of_jobs, of_reservations, of_kept, of_meta}
@@ -44,6 +45,10 @@ LeavesEither s R T = (db : Trees) → s.may_leave db → Holds db R ⊎ Holds db
 -- a stop now leaves no more than a stop then
 abbrev pub LeavesNoMore : State → State → Type 0
 LeavesNoMore old new = (db : Trees) → new.may_leave db → old.may_leave db
+
+-- once the disk has returned what was not written, that is not forgotten: a connection that is clean now was clean then
+abbrev pub KeepsDoubt : State → State → Type 0
+KeepsDoubt old new = doubt old.is_clean ≤ doubt new.is_clean
 
 -- the connection stands for the farm, where its disk has returned what was written
 abbrev pub StandsFor : State → Farm → Type 0

@@ -50,7 +50,8 @@ put_tables T c =
     (map type_columns c.types.items)) (map board_columns c.boards.items)) (map job_columns c.jobs.items)) (map res_columns c.reservations.items)) (map kept_columns c.kept.items))
     (number_rows c.meta.clock c.meta.count c.meta.next)
 
--- rows put at this place are those that stand there, also over others
+-- rows put at this place are those that stand there, also over others; those that stand there already change nothing
 pub record IsPlace (p : Place) : Type 0 where
   pub own : (T : Tables) (rows : List Row) → p.rows (p.replaced T rows) ≡ rows
   pub over : (T : Tables) (rows more : List Row) → p.replaced (p.replaced T rows) more ≡ p.replaced T more
+  pub same : (T : Tables) → p.replaced T (p.rows T) ≡ T

@@ -7,14 +7,13 @@ mod meta;
 mod reservations;
 mod types;
 
-ghost use Rattle.std.specs.Prelude.{◌≡◌, ◌≤◌, false, Err, IfOk, IsTrue, OnOk};
+ghost use Rattle.std.specs.Prelude.{◌≡◌, false, Err, IfOk, IsTrue, OnOk};
 ghost use Rattle.sqlite.specs.Held.{state};
 ghost use Rattle.sqlite.specs.State.{HasCleanDisk};
-ghost use Rattle.sqlite_trees.specs.View.{doubt};
 ghost use Rattle.farm_types.specs.Farm.{Farm, farm_of};
 ghost use Rattle.farm_store.specs.Columns.{Tables, rows_of};
-ghost use Rattle.farm_store.specs.Edits.{CommitsNothing};
-ghost use Rattle.farm_store.specs.Holds.{IsInside, Stands, LeavesNoMore};
+ghost use Rattle.farm_store.specs.Edits.{GoesOn};
+ghost use Rattle.farm_store.specs.Holds.{IsInside, KeepsDoubt, Stands, LeavesNoMore};
 ghost use Rattle.farm_store.specs.Readable.{IsReadable};
 ghost use Rattle.farm_store.specs.Reading.{CommitShows, ReadsFarm};
 ghost use Rattle.farm_store.specs.Schema.{farm_schema};
@@ -33,12 +32,11 @@ use std::alloc::Global;
 
 /// Each table by its query.
 fn read_all<S: Alter>(alloc: Global, tx: &mut Transaction<'_, S>) -> Result<Rows, StoreFault>
-    ensures same_reference { tx.new.conn.ghost_name ≡ tx.old.conn.ghost_name }
+    ensures goes_on { GoesOn S.Store tx.old tx.new }
     ensures read { HasCleanDisk (state S.Store tx.new.conn.now) → (T : Tables) → IsInside (state S.Store tx.old.conn.now) T → ReadsFarm result T }
     ensures opened { HasCleanDisk (state S.Store tx.new.conn.now) → OnOk result (IsTrue (state S.Store tx.old.conn.now).is_open) }
     ensures kept { HasCleanDisk (state S.Store tx.new.conn.now) → (T : Tables) → IsInside (state S.Store tx.old.conn.now) T
         → CommitShows (state S.Store tx.old.conn.now) T → CommitShows (state S.Store tx.new.conn.now) T }
-    ensures survives { CommitsNothing (state S.Store tx.old.conn.now) (state S.Store tx.new.conn.now) }
 {
     Ok(Rows {
         types: read_types(alloc, tx)?,
@@ -54,7 +52,7 @@ fn read_all<S: Alter>(alloc: Global, tx: &mut Transaction<'_, S>) -> Result<Rows
 fn load_any<S: Alter>(alloc: Global, conn: &mut Connection<S>) -> Result<Rows, StoreFault>
     requires autocommit { conn.old.in_transaction ≡ false }
     ensures autocommit { conn.new.in_transaction ≡ false }
-    ensures clean { doubt (state S.Store conn.old).is_clean ≤ doubt (state S.Store conn.new).is_clean }
+    ensures clean { KeepsDoubt (state S.Store conn.old) (state S.Store conn.new) }
     ensures left { HasCleanDisk (state S.Store conn.new) → LeavesNoMore (state S.Store conn.old) (state S.Store conn.new) }
     ensures stands { HasCleanDisk (state S.Store conn.new) → (T : Tables) → Stands (state S.Store conn.old) T → Stands (state S.Store conn.new) T }
     ensures rows { HasCleanDisk (state S.Store conn.new) → IfOk result (λ rows. (T : Tables) → Stands (state S.Store conn.old) T → rows_of (farm_of rows) ≡ T) }
@@ -79,7 +77,7 @@ fn load_any<S: Alter>(alloc: Global, conn: &mut Connection<S>) -> Result<Rows, S
 pub fn load<S: Alter>(alloc: Global, conn: &mut Connection<S>) -> Result<Rows, StoreFault>
     requires autocommit { conn.old.in_transaction ≡ false }
     ensures autocommit { conn.new.in_transaction ≡ false }
-    ensures clean { doubt (state S.Store conn.old).is_clean ≤ doubt (state S.Store conn.new).is_clean }
+    ensures clean { KeepsDoubt (state S.Store conn.old) (state S.Store conn.new) }
     ensures left { HasCleanDisk (state S.Store conn.new) → LeavesNoMore (state S.Store conn.old) (state S.Store conn.new) }
     ensures stands { HasCleanDisk (state S.Store conn.new) → (T : Tables) → Stands (state S.Store conn.old) T → Stands (state S.Store conn.new) T }
     ensures rows { HasCleanDisk (state S.Store conn.new) → IfOk result (λ rows. (T : Tables) → Stands (state S.Store conn.old) T → rows_of (farm_of rows) ≡ T) }

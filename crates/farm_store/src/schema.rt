@@ -1,13 +1,12 @@
 //! The tables of the empty farm.
-ghost use Rattle.std.specs.Prelude.{◌≡◌, ◌≤◌, ◌⊎◌, false, IsTrue, IfErr, OnOk};
+ghost use Rattle.std.specs.Prelude.{◌≡◌, ◌⊎◌, false, IsTrue, IfErr, OnOk};
 ghost use Rattle.sqlite.specs.Held.{state};
 ghost use Rattle.sqlite.specs.State.{HasCleanDisk, KeepsCommit};
 ghost use Rattle.sqlite.specs.Tree.{Trees};
-ghost use Rattle.sqlite_trees.specs.View.{doubt};
 ghost use Rattle.farm_types.specs.Farm.{empty};
 ghost use Rattle.farm_store.specs.Columns.{Tables, no_rows, rows_of};
-ghost use Rattle.farm_store.specs.Edits.{CommitsNothing, Ran, StaysOpen};
-ghost use Rattle.farm_store.specs.Holds.{IsInside, IsMadeIn, Stands};
+ghost use Rattle.farm_store.specs.Edits.{GoesOn, Ran, StaysOpen};
+ghost use Rattle.farm_store.specs.Holds.{IsInside, IsMadeIn, KeepsDoubt, Stands};
 ghost use Rattle.farm_store.specs.Reading.{CommitShows};
 ghost use Rattle.farm_store.specs.Schema.{no_schema};
 
@@ -21,25 +20,23 @@ use sqlite::{Alter, Connection, Error, Transaction};
 pub(crate) const SCHEMA: u64 = 1;
 
 fn make<S: Alter>(tx: &mut Transaction<'_, S>, sql: &str) -> Result<(), Error>
-    ensures same_reference { tx.new.conn.ghost_name ≡ tx.old.conn.ghost_name }
+    ensures goes_on { GoesOn S.Store tx.old tx.new }
     ensures ran { HasCleanDisk (state S.Store tx.new.conn.now) → OnOk result (IsTrue (state S.Store tx.old.conn.now).in_transaction
         → Ran sql.now (state S.Store tx.old.conn.now) (state S.Store tx.new.conn.now)) }
     ensures kept { HasCleanDisk (state S.Store tx.new.conn.now) → IsTrue (state S.Store tx.old.conn.now).in_transaction
         → KeepsCommit (state S.Store tx.old.conn.now) (state S.Store tx.new.conn.now) }
-    ensures survives { CommitsNothing (state S.Store tx.old.conn.now) (state S.Store tx.new.conn.now) }
 {
     tx.execute(sql, &[])?;
     Ok(())
 }
 
 fn make_all<S: Alter>(tx: &mut Transaction<'_, S>) -> Result<(), Error>
-    ensures same_reference { tx.new.conn.ghost_name ≡ tx.old.conn.ghost_name }
+    ensures goes_on { GoesOn S.Store tx.old tx.new }
     ensures made { HasCleanDisk (state S.Store tx.new.conn.now) → OnOk result (IsTrue (state S.Store tx.old.conn.now).in_transaction
         → (state S.Store tx.old.conn.now).now.schema ≡ no_schema → IsInside (state S.Store tx.new.conn.now) no_rows) }
     ensures refused { HasCleanDisk (state S.Store tx.new.conn.now) → OnOk result ((T : Tables) → ¬ IsInside (state S.Store tx.old.conn.now) T) }
     ensures kept { HasCleanDisk (state S.Store tx.new.conn.now) → (T : Tables) → IsInside (state S.Store tx.old.conn.now) T
         → CommitShows (state S.Store tx.old.conn.now) T → CommitShows (state S.Store tx.new.conn.now) T }
-    ensures survives { CommitsNothing (state S.Store tx.old.conn.now) (state S.Store tx.new.conn.now) }
 {
     make(
         tx,
@@ -70,11 +67,10 @@ fn make_all<S: Alter>(tx: &mut Transaction<'_, S>) -> Result<(), Error>
 
 /// No command was accepted at moment 0, and the first number is 1.
 fn put_first_numbers<S: Alter>(tx: &mut Transaction<'_, S>) -> Result<(), Error>
-    ensures same_reference { tx.new.conn.ghost_name ≡ tx.old.conn.ghost_name }
+    ensures goes_on { GoesOn S.Store tx.old tx.new }
     ensures put { HasCleanDisk (state S.Store tx.new.conn.now) → OnOk result (IsInside (state S.Store tx.old.conn.now) no_rows
         → IsInside (state S.Store tx.new.conn.now) (rows_of empty)) }
     ensures stays_open { StaysOpen result (state S.Store tx.old.conn.now) (state S.Store tx.new.conn.now) }
-    ensures survives { CommitsNothing (state S.Store tx.old.conn.now) (state S.Store tx.new.conn.now) }
 {
     let first = MetaRow {
         clock: 0,
@@ -94,7 +90,7 @@ fn put_first_numbers<S: Alter>(tx: &mut Transaction<'_, S>) -> Result<(), Error>
 pub fn create<S: Alter>(conn: &mut Connection<S>) -> Result<(), StoreFault>
     requires autocommit { conn.old.in_transaction ≡ false }
     ensures autocommit { conn.new.in_transaction ≡ false }
-    ensures clean { doubt (state S.Store conn.old).is_clean ≤ doubt (state S.Store conn.new).is_clean }
+    ensures clean { KeepsDoubt (state S.Store conn.old) (state S.Store conn.new) }
     ensures ok { HasCleanDisk (state S.Store conn.new) → OnOk result (Stands (state S.Store conn.new) (rows_of empty)) }
     ensures refused { HasCleanDisk (state S.Store conn.new) → OnOk result ((T : Tables) → ¬ Stands (state S.Store conn.old) T) }
     ensures bare { OnOk result ((state S.Store conn.old).now.schema ≡ no_schema) }

@@ -4,28 +4,25 @@ mod jobs;
 mod kept;
 mod meta;
 mod reservations;
+mod rows;
+mod tagged;
 mod texts;
 mod types;
 
-ghost use Rattle.std.specs.Prelude.{◌≡◌, ◌≤◌, ◌⊎◌, false, map, IsTrue, Err, IfErr, OnOk};
+ghost use Rattle.std.specs.Prelude.{◌≡◌, ◌⊎◌, false, map, IsTrue, Err, IfErr, OnOk};
 ghost use Rattle.sqlite.specs.Held.{state};
 ghost use Rattle.sqlite.specs.State.{HasCleanDisk};
-ghost use Rattle.sqlite_trees.specs.View.{doubt};
 ghost use Rattle.farm_types.specs.Farm.{Farm, put_rows};
 ghost use Rattle.farm_types.specs.Small.{AreSmall};
 ghost use Rattle.farm_store.specs.Columns.{rows_of, type_columns, board_columns, job_columns};
 ghost use Rattle.farm_store.specs.Places.{of_boards, of_jobs, of_types, put_at};
-ghost use Rattle.farm_store.specs.Edits.{ChangesTables, CommitsNothing};
-ghost use Rattle.farm_store.specs.Holds.{IsInside, Stands, LeavesEither};
-ghost use Rattle.farm_store.specs.Texts.{AreBoardTexts, AreJobTexts, AreResTexts};
+ghost use Rattle.farm_store.specs.Edits.{ChangesTables, GoesOn};
+ghost use Rattle.farm_store.specs.Holds.{IsInside, KeepsDoubt, Stands, LeavesEither};
+ghost use Rattle.farm_store.specs.Texts.{AreBeside};
 
 use crate::fault::StoreFault;
-use crate::upserts::boards::put_boards;
-use crate::upserts::jobs::put_jobs;
-use crate::upserts::kept::put_kept;
-use crate::upserts::reservations::put_reservations;
+use crate::upserts::rows::put_rows;
 use crate::upserts::texts::Texts;
-use crate::upserts::types::put_types;
 use farm_types::calls::Changes;
 pub(crate) use meta::{put_number, put_numbers};
 use sqlite::{Alter, Connection, Error, Transaction};
@@ -35,20 +32,19 @@ use std::alloc::Global;
 fn put_lab<S: Alter>(
     tx: &mut Transaction<'_, S>,
     changes: &Changes,
-    texts: &Texts,
+    texts: &Texts<'_>,
 ) -> Result<(), Error>
     requires small { AreSmall changes.now }
-    requires boards { AreBoardTexts texts.now.boards.items changes.now.boards.items }
-    requires jobs { AreJobTexts texts.now.jobs.items changes.now.jobs.items }
-    ensures same_reference { tx.new.conn.ghost_name ≡ tx.old.conn.ghost_name }
+    requires boards { AreBeside texts.now.boards.items changes.now.boards.items }
+    requires jobs { AreBeside texts.now.jobs.items changes.now.jobs.items }
+    ensures goes_on { GoesOn S.Store tx.old tx.new }
     ensures put { ChangesTables result (state S.Store tx.old.conn.now) (state S.Store tx.new.conn.now)
         (λ T. put_at of_jobs (put_at of_boards (put_at of_types T (map type_columns changes.now.types.items)) (map board_columns changes.now.boards.items))
         (map job_columns changes.now.jobs.items)) }
-    ensures survives { CommitsNothing (state S.Store tx.old.conn.now) (state S.Store tx.new.conn.now) }
 {
-    put_types(tx, &changes.types)?;
-    put_boards(tx, &changes.boards, &texts.boards)?;
-    put_jobs(tx, &changes.jobs, &texts.jobs)?;
+    put_rows(tx, &changes.types)?;
+    put_rows(tx, &texts.boards)?;
+    put_rows(tx, &texts.jobs)?;
     Ok(())
 }
 
@@ -56,20 +52,19 @@ fn put_lab<S: Alter>(
 fn put_all<S: Alter>(
     tx: &mut Transaction<'_, S>,
     changes: &Changes,
-    texts: &Texts,
+    texts: &Texts<'_>,
 ) -> Result<(), Error>
     requires small { AreSmall changes.now }
-    requires boards { AreBoardTexts texts.now.boards.items changes.now.boards.items }
-    requires jobs { AreJobTexts texts.now.jobs.items changes.now.jobs.items }
-    requires reservations { AreResTexts texts.now.reservations.items changes.now.reservations.items }
-    ensures same_reference { tx.new.conn.ghost_name ≡ tx.old.conn.ghost_name }
+    requires boards { AreBeside texts.now.boards.items changes.now.boards.items }
+    requires jobs { AreBeside texts.now.jobs.items changes.now.jobs.items }
+    requires reservations { AreBeside texts.now.reservations.items changes.now.reservations.items }
+    ensures goes_on { GoesOn S.Store tx.old tx.new }
     ensures put { HasCleanDisk (state S.Store tx.new.conn.now) → OnOk result ((F : Farm) → IsInside (state S.Store tx.old.conn.now) (rows_of F)
         → IsInside (state S.Store tx.new.conn.now) (rows_of (put_rows F changes.now)) × IsTrue (state S.Store tx.new.conn.now).is_open) }
-    ensures survives { CommitsNothing (state S.Store tx.old.conn.now) (state S.Store tx.new.conn.now) }
 {
     put_lab(tx, changes, texts)?;
-    put_reservations(tx, &changes.reservations, &texts.reservations)?;
-    put_kept(tx, &changes.kept)?;
+    put_rows(tx, &texts.reservations)?;
+    put_rows(tx, &changes.kept)?;
     put_numbers(tx, changes.meta)?;
     Ok(())
 }
@@ -87,7 +82,7 @@ pub fn put<S: Alter>(
     requires autocommit { conn.old.in_transaction ≡ false }
     requires small { AreSmall changes.now }
     ensures autocommit { conn.new.in_transaction ≡ false }
-    ensures clean { doubt (state S.Store conn.old).is_clean ≤ doubt (state S.Store conn.new).is_clean }
+    ensures clean { KeepsDoubt (state S.Store conn.old) (state S.Store conn.new) }
     ensures ok { HasCleanDisk (state S.Store conn.new) → OnOk result ((F : Farm) → Stands (state S.Store conn.old) (rows_of F)
         → Stands (state S.Store conn.new) (rows_of (put_rows F changes.now))) }
     ensures stop { HasCleanDisk (state S.Store conn.new) → (F : Farm) → Stands (state S.Store conn.old) (rows_of F)

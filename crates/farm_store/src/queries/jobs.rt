@@ -4,7 +4,7 @@ ghost use Rattle.std.specs.List.{AllByRecursion};
 ghost use Rattle.sqlite.specs.Held.{state};
 ghost use Rattle.sqlite.specs.State.{HasCleanDisk};
 ghost use Rattle.farm_store.specs.Columns.{Tables, job_columns};
-ghost use Rattle.farm_store.specs.Edits.{CommitsNothing};
+ghost use Rattle.farm_store.specs.Edits.{GoesOn};
 ghost use Rattle.farm_store.specs.Holds.{IsInside};
 ghost use Rattle.farm_store.specs.Readable.{IsReadableJob};
 ghost use Rattle.farm_store.specs.Reading.{CommitShows, ReadsAll, ReadsAs};
@@ -51,12 +51,11 @@ fn jobs_of(alloc: Global, rows: &[Row]) -> Result<Vec<JobRow>, StoreFault>
 }
 
 fn job_rows<S: Alter>(tx: &mut Transaction<'_, S>) -> Result<Vec<Row>, Error>
-    ensures same_reference { tx.new.conn.ghost_name ≡ tx.old.conn.ghost_name }
+    ensures goes_on { GoesOn S.Store tx.old tx.new }
     ensures rows { HasCleanDisk (state S.Store tx.new.conn.now) → IfOk result (λ rows. (T : Tables) → IsInside (state S.Store tx.old.conn.now) T
         → (rows.items ≡ T.jobs) × AllByRecursion (IsWide 12) rows.items × IsInside (state S.Store tx.new.conn.now) T) }
     ensures kept { HasCleanDisk (state S.Store tx.new.conn.now) → (T : Tables) → IsInside (state S.Store tx.old.conn.now) T
         → CommitShows (state S.Store tx.old.conn.now) T → CommitShows (state S.Store tx.new.conn.now) T }
-    ensures survives { CommitsNothing (state S.Store tx.old.conn.now) (state S.Store tx.new.conn.now) }
 {
     let rows = tx.query_all(
         "SELECT number, grp, checking, owner, priority, kind, tags, role, state, outcome, board, body FROM jobs ORDER BY number",
@@ -70,14 +69,13 @@ pub(crate) fn read_jobs<S: Alter>(
     alloc: Global,
     tx: &mut Transaction<'_, S>,
 ) -> Result<Vec<JobRow>, StoreFault>
-    ensures same_reference { tx.new.conn.ghost_name ≡ tx.old.conn.ghost_name }
+    ensures goes_on { GoesOn S.Store tx.old tx.new }
     ensures read { HasCleanDisk (state S.Store tx.new.conn.now) → (T : Tables) → IsInside (state S.Store tx.old.conn.now) T
         → ReadsAll result (λ jobs. jobs.items) IsReadableJob job_columns T.jobs }
     ensures inside { HasCleanDisk (state S.Store tx.new.conn.now) → OnOk result ((T : Tables) → IsInside (state S.Store tx.old.conn.now) T
         → IsInside (state S.Store tx.new.conn.now) T) }
     ensures kept { HasCleanDisk (state S.Store tx.new.conn.now) → (T : Tables) → IsInside (state S.Store tx.old.conn.now) T
         → CommitShows (state S.Store tx.old.conn.now) T → CommitShows (state S.Store tx.new.conn.now) T }
-    ensures survives { CommitsNothing (state S.Store tx.old.conn.now) (state S.Store tx.new.conn.now) }
 {
     let rows = job_rows(tx)?;
     jobs_of(alloc, &rows)

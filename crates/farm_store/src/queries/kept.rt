@@ -4,7 +4,7 @@ ghost use Rattle.std.specs.List.{AllByRecursion};
 ghost use Rattle.sqlite.specs.Held.{state};
 ghost use Rattle.sqlite.specs.State.{HasCleanDisk};
 ghost use Rattle.farm_store.specs.Columns.{Tables, kept_columns};
-ghost use Rattle.farm_store.specs.Edits.{CommitsNothing};
+ghost use Rattle.farm_store.specs.Edits.{GoesOn};
 ghost use Rattle.farm_store.specs.Holds.{IsInside};
 ghost use Rattle.farm_store.specs.Readable.{IsReadableKept};
 ghost use Rattle.farm_store.specs.Reading.{CommitShows, ReadsAll, ReadsAs};
@@ -38,12 +38,11 @@ fn replies_of(alloc: Global, rows: &[Row]) -> Result<Vec<KeptRow>, StoreFault>
 }
 
 fn reply_rows<S: Alter>(tx: &mut Transaction<'_, S>) -> Result<Vec<Row>, Error>
-    ensures same_reference { tx.new.conn.ghost_name ≡ tx.old.conn.ghost_name }
+    ensures goes_on { GoesOn S.Store tx.old tx.new }
     ensures rows { HasCleanDisk (state S.Store tx.new.conn.now) → IfOk result (λ rows. (T : Tables) → IsInside (state S.Store tx.old.conn.now) T
         → (rows.items ≡ T.kept) × AllByRecursion (IsWide 6) rows.items × IsInside (state S.Store tx.new.conn.now) T) }
     ensures kept { HasCleanDisk (state S.Store tx.new.conn.now) → (T : Tables) → IsInside (state S.Store tx.old.conn.now) T
         → CommitShows (state S.Store tx.old.conn.now) T → CommitShows (state S.Store tx.new.conn.now) T }
-    ensures survives { CommitsNothing (state S.Store tx.old.conn.now) (state S.Store tx.new.conn.now) }
 {
     let rows = tx.query_all(
         "SELECT caller, ckey, kind, a, b, c FROM kept ORDER BY caller, ckey",
@@ -57,14 +56,13 @@ pub(crate) fn read_replies<S: Alter>(
     alloc: Global,
     tx: &mut Transaction<'_, S>,
 ) -> Result<Vec<KeptRow>, StoreFault>
-    ensures same_reference { tx.new.conn.ghost_name ≡ tx.old.conn.ghost_name }
+    ensures goes_on { GoesOn S.Store tx.old tx.new }
     ensures read { HasCleanDisk (state S.Store tx.new.conn.now) → (T : Tables) → IsInside (state S.Store tx.old.conn.now) T
         → ReadsAll result (λ replies. replies.items) IsReadableKept kept_columns T.kept }
     ensures inside { HasCleanDisk (state S.Store tx.new.conn.now) → OnOk result ((T : Tables) → IsInside (state S.Store tx.old.conn.now) T
         → IsInside (state S.Store tx.new.conn.now) T) }
     ensures kept { HasCleanDisk (state S.Store tx.new.conn.now) → (T : Tables) → IsInside (state S.Store tx.old.conn.now) T
         → CommitShows (state S.Store tx.old.conn.now) T → CommitShows (state S.Store tx.new.conn.now) T }
-    ensures survives { CommitsNothing (state S.Store tx.old.conn.now) (state S.Store tx.new.conn.now) }
 {
     let rows = reply_rows(tx)?;
     replies_of(alloc, &rows)

@@ -1,61 +1,42 @@
 //! The texts of tags, made before a transaction begins.
-ghost use Rattle.std.specs.Prelude.{◌≡◌, IfOk, string_bytes};
-ghost use Rattle.std.specs.List.{AllZip};
-ghost use Rattle.farm_types.specs.Tags.{tags_text};
-ghost use Rattle.farm_store.specs.Texts.{AreBoardTexts, AreJobTexts, AreResTexts};
+ghost use Rattle.std.specs.Prelude.{IfOk};
+ghost use Rattle.farm_store.specs.Texts.{AreBeside};
 
+use crate::upserts::tagged::{HasTags, Tagged};
 use farm_types::calls::Changes;
 use farm_types::rows::{BoardRow, JobRow, ResRow};
 use std::alloc::{AllocError, Global};
 
-/// The text of each changed row's tags.
-#[derive(Debug, Drop)]
-pub(crate) struct Texts {
-    pub(crate) boards: Vec<String>,
-    pub(crate) jobs: Vec<String>,
-    pub(crate) reservations: Vec<String>,
-}
-
-fn board_texts(alloc: Global, rows: &[BoardRow]) -> Result<Vec<String>, AllocError>
-    ensures { IfOk result (λ texts. AreBoardTexts texts.items rows.now) }
+/// Each row beside the text of its tags.
+fn tagged_rows<R: HasTags>(alloc: Global, rows: &[R]) -> Result<Vec<Tagged<'_, R>>, AllocError>
+    ensures { IfOk result (λ tagged. AreBeside tagged.items rows.now) }
 {
-    let mut texts = Vec::new(alloc);
+    let mut tagged = Vec::new(alloc);
     for row in rows {
-        texts.push(row.tags.text()?)?;
+        let text = row.tags().text()?;
+        tagged.push(Tagged { row, text })?;
     }
-    Ok(texts)
+    Ok(tagged)
 }
 
-fn job_texts(alloc: Global, rows: &[JobRow]) -> Result<Vec<String>, AllocError>
-    ensures { IfOk result (λ texts. AreJobTexts texts.items rows.now) }
-{
-    let mut texts = Vec::new(alloc);
-    for row in rows {
-        texts.push(row.want.tags.text()?)?;
-    }
-    Ok(texts)
+/// The changed rows that have tags.
+#[derive(Drop)]
+pub(crate) struct Texts<'a> {
+    pub(crate) boards: Vec<Tagged<'a, BoardRow>>,
+    pub(crate) jobs: Vec<Tagged<'a, JobRow>>,
+    pub(crate) reservations: Vec<Tagged<'a, ResRow>>,
 }
 
-fn res_texts(alloc: Global, rows: &[ResRow]) -> Result<Vec<String>, AllocError>
-    ensures { IfOk result (λ texts. AreResTexts texts.items rows.now) }
-{
-    let mut texts = Vec::new(alloc);
-    for row in rows {
-        texts.push(row.want.tags.text()?)?;
-    }
-    Ok(texts)
-}
-
-impl Texts {
-    pub(crate) fn of(alloc: Global, changes: &Changes) -> Result<Texts, AllocError>
-        ensures boards { IfOk result (λ texts. AreBoardTexts texts.boards.items changes.now.boards.items) }
-        ensures jobs { IfOk result (λ texts. AreJobTexts texts.jobs.items changes.now.jobs.items) }
-        ensures reservations { IfOk result (λ texts. AreResTexts texts.reservations.items changes.now.reservations.items) }
+impl<'a> Texts<'a> {
+    pub(crate) fn of(alloc: Global, changes: &'a Changes) -> Result<Texts<'a>, AllocError>
+        ensures boards { IfOk result (λ texts. AreBeside texts.boards.items changes.now.boards.items) }
+        ensures jobs { IfOk result (λ texts. AreBeside texts.jobs.items changes.now.jobs.items) }
+        ensures reservations { IfOk result (λ texts. AreBeside texts.reservations.items changes.now.reservations.items) }
     {
         Ok(Texts {
-            boards: board_texts(alloc, &changes.boards)?,
-            jobs: job_texts(alloc, &changes.jobs)?,
-            reservations: res_texts(alloc, &changes.reservations)?,
+            boards: tagged_rows(alloc, &changes.boards)?,
+            jobs: tagged_rows(alloc, &changes.jobs)?,
+            reservations: tagged_rows(alloc, &changes.reservations)?,
         })
     }
 }

@@ -21,7 +21,7 @@ returns-clause-stands g c clean T at =
     let inside = begun g.S.Store c.args.conn.now c.transaction-tx.result.conn.now is T at in
     let shows = c.read_all-rows.ensures.kept early T inside (begun_commit g.S.Store c.args.conn.now c.transaction-tx.result.conn.now is T at) in
     let stands : Stands (state g.S.Store end) T = rolled_back read (state g.S.Store end) T shows (c.rollback.ensures.undone late) (λ db may.
-    at.left db (subst (λ h. g.S.Store.recovers h.store db) {y = record c.args.conn.now { in_transaction = true }} is (left_before begin read c.read_all-rows.ensures.survives early db (left_before read (state g.S.Store end) c.rollback.ensures.survives late db may)))) in
+    at.left db (subst (λ h. g.S.Store.recovers h.store db) {y = record c.args.conn.now { in_transaction = true }} is (left_before begin read c.read_all-rows.ensures.goes_on.survives early db (left_before read (state g.S.Store end) c.rollback.ensures.survives late db may)))) in
     search rules
 
 pub returns-clause-rows : goal.returns-clause-rows

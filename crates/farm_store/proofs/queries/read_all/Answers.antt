@@ -1,8 +1,6 @@
-use Rattle.std.proofs.Common.{arith}
-use Rattle.sqlite.specs.Held.{state}
-use Rattle.sqlite.specs.State.{HasCleanDisk}
 use Rattle.farm_types.specs.declared.calls.Rows.{Rows}
 use Rattle.farm_store.proofs.ReadFarm.{reads, refuses_farm, types_in, boards_in, jobs_in, reservations_in, kept_in, meta_in}
+use Rattle.farm_store.proofs.GoingOn.{was_clean}
 use Rattle.farm_store.proofs.queries.read_all.Goals as goal
 
 pub returns-in_err-read_types-clause-read : goal.returns-in_err-read_types-clause-read
@@ -12,22 +10,22 @@ returns-in_err-read_types-clause-read g c clean T at =
 
 pub returns-in_err-read_boards-clause-read : goal.returns-in_err-read_boards-clause-read
 returns-in_err-read_boards-clause-read g c clean T at =
-    let clean_types : HasCleanDisk (state g.S.Store c.read_types.new.tx.conn.now) = omega (arith, c.read_boards.ensures.survives.clean) in
+    let clean_types = was_clean c.read_boards.ensures.goes_on clean in
     let at_types = c.in_ok-read_types.ensures.inside clean_types T at in
     let refused = c.in_err-read_boards.ensures.read clean T at_types in
     refuses_farm c.from_residual-in_err-read_boards.result T c.in_err-read_boards.field-0.0 c.from_residual-in_err-read_boards.ensures.1 refused.0 (λ bad F good is. refused.1 bad F.boards good.boards (boards_in F T is))
 
 pub returns-in_err-read_boards-clause-kept : goal.returns-in_err-read_boards-clause-kept
 returns-in_err-read_boards-clause-kept g c clean T at shows =
-    let clean_types : HasCleanDisk (state g.S.Store c.read_types.new.tx.conn.now) = omega (arith, c.read_boards.ensures.survives.clean) in
+    let clean_types = was_clean c.read_boards.ensures.goes_on clean in
     let at_types = c.in_ok-read_types.ensures.inside clean_types T at in
     let shows_types = c.in_ok-read_types.ensures.kept clean_types T at shows in
     c.in_err-read_boards.ensures.kept clean T at_types shows_types
 
 pub returns-in_err-read_jobs-clause-read : goal.returns-in_err-read_jobs-clause-read
 returns-in_err-read_jobs-clause-read g c clean T at =
-    let clean_boards : HasCleanDisk (state g.S.Store c.read_boards.new.tx.conn.now) = omega (arith, c.read_jobs.ensures.survives.clean) in
-    let clean_types : HasCleanDisk (state g.S.Store c.read_types.new.tx.conn.now) = omega (arith, c.read_boards.ensures.survives.clean) in
+    let clean_boards = was_clean c.read_jobs.ensures.goes_on clean in
+    let clean_types = was_clean c.read_boards.ensures.goes_on clean_boards in
     let at_types = c.in_ok-read_types.ensures.inside clean_types T at in
     let at_boards = c.in_ok-read_boards.ensures.inside clean_boards T at_types in
     let refused = c.in_err-read_jobs.ensures.read clean T at_boards in
@@ -35,8 +33,8 @@ returns-in_err-read_jobs-clause-read g c clean T at =
 
 pub returns-in_err-read_jobs-clause-kept : goal.returns-in_err-read_jobs-clause-kept
 returns-in_err-read_jobs-clause-kept g c clean T at shows =
-    let clean_boards : HasCleanDisk (state g.S.Store c.read_boards.new.tx.conn.now) = omega (arith, c.read_jobs.ensures.survives.clean) in
-    let clean_types : HasCleanDisk (state g.S.Store c.read_types.new.tx.conn.now) = omega (arith, c.read_boards.ensures.survives.clean) in
+    let clean_boards = was_clean c.read_jobs.ensures.goes_on clean in
+    let clean_types = was_clean c.read_boards.ensures.goes_on clean_boards in
     let at_types = c.in_ok-read_types.ensures.inside clean_types T at in
     let at_boards = c.in_ok-read_boards.ensures.inside clean_boards T at_types in
     let shows_types = c.in_ok-read_types.ensures.kept clean_types T at shows in
@@ -45,9 +43,9 @@ returns-in_err-read_jobs-clause-kept g c clean T at shows =
 
 pub returns-in_err-read_reservations-clause-read : goal.returns-in_err-read_reservations-clause-read
 returns-in_err-read_reservations-clause-read g c clean T at =
-    let clean_jobs : HasCleanDisk (state g.S.Store c.read_jobs.new.tx.conn.now) = omega (arith, c.read_reservations.ensures.survives.clean) in
-    let clean_boards : HasCleanDisk (state g.S.Store c.read_boards.new.tx.conn.now) = omega (arith, c.read_jobs.ensures.survives.clean) in
-    let clean_types : HasCleanDisk (state g.S.Store c.read_types.new.tx.conn.now) = omega (arith, c.read_boards.ensures.survives.clean) in
+    let clean_jobs = was_clean c.read_reservations.ensures.goes_on clean in
+    let clean_boards = was_clean c.read_jobs.ensures.goes_on clean_jobs in
+    let clean_types = was_clean c.read_boards.ensures.goes_on clean_boards in
     let at_types = c.in_ok-read_types.ensures.inside clean_types T at in
     let at_boards = c.in_ok-read_boards.ensures.inside clean_boards T at_types in
     let at_jobs = c.in_ok-read_jobs.ensures.inside clean_jobs T at_boards in
@@ -56,9 +54,9 @@ returns-in_err-read_reservations-clause-read g c clean T at =
 
 pub returns-in_err-read_reservations-clause-kept : goal.returns-in_err-read_reservations-clause-kept
 returns-in_err-read_reservations-clause-kept g c clean T at shows =
-    let clean_jobs : HasCleanDisk (state g.S.Store c.read_jobs.new.tx.conn.now) = omega (arith, c.read_reservations.ensures.survives.clean) in
-    let clean_boards : HasCleanDisk (state g.S.Store c.read_boards.new.tx.conn.now) = omega (arith, c.read_jobs.ensures.survives.clean) in
-    let clean_types : HasCleanDisk (state g.S.Store c.read_types.new.tx.conn.now) = omega (arith, c.read_boards.ensures.survives.clean) in
+    let clean_jobs = was_clean c.read_reservations.ensures.goes_on clean in
+    let clean_boards = was_clean c.read_jobs.ensures.goes_on clean_jobs in
+    let clean_types = was_clean c.read_boards.ensures.goes_on clean_boards in
     let at_types = c.in_ok-read_types.ensures.inside clean_types T at in
     let at_boards = c.in_ok-read_boards.ensures.inside clean_boards T at_types in
     let at_jobs = c.in_ok-read_jobs.ensures.inside clean_jobs T at_boards in
@@ -69,10 +67,10 @@ returns-in_err-read_reservations-clause-kept g c clean T at shows =
 
 pub returns-in_err-read_replies-clause-read : goal.returns-in_err-read_replies-clause-read
 returns-in_err-read_replies-clause-read g c clean T at =
-    let clean_reservations : HasCleanDisk (state g.S.Store c.read_reservations.new.tx.conn.now) = omega (arith, c.read_replies.ensures.survives.clean) in
-    let clean_jobs : HasCleanDisk (state g.S.Store c.read_jobs.new.tx.conn.now) = omega (arith, c.read_reservations.ensures.survives.clean) in
-    let clean_boards : HasCleanDisk (state g.S.Store c.read_boards.new.tx.conn.now) = omega (arith, c.read_jobs.ensures.survives.clean) in
-    let clean_types : HasCleanDisk (state g.S.Store c.read_types.new.tx.conn.now) = omega (arith, c.read_boards.ensures.survives.clean) in
+    let clean_reservations = was_clean c.read_replies.ensures.goes_on clean in
+    let clean_jobs = was_clean c.read_reservations.ensures.goes_on clean_reservations in
+    let clean_boards = was_clean c.read_jobs.ensures.goes_on clean_jobs in
+    let clean_types = was_clean c.read_boards.ensures.goes_on clean_boards in
     let at_types = c.in_ok-read_types.ensures.inside clean_types T at in
     let at_boards = c.in_ok-read_boards.ensures.inside clean_boards T at_types in
     let at_jobs = c.in_ok-read_jobs.ensures.inside clean_jobs T at_boards in
@@ -82,10 +80,10 @@ returns-in_err-read_replies-clause-read g c clean T at =
 
 pub returns-in_err-read_replies-clause-kept : goal.returns-in_err-read_replies-clause-kept
 returns-in_err-read_replies-clause-kept g c clean T at shows =
-    let clean_reservations : HasCleanDisk (state g.S.Store c.read_reservations.new.tx.conn.now) = omega (arith, c.read_replies.ensures.survives.clean) in
-    let clean_jobs : HasCleanDisk (state g.S.Store c.read_jobs.new.tx.conn.now) = omega (arith, c.read_reservations.ensures.survives.clean) in
-    let clean_boards : HasCleanDisk (state g.S.Store c.read_boards.new.tx.conn.now) = omega (arith, c.read_jobs.ensures.survives.clean) in
-    let clean_types : HasCleanDisk (state g.S.Store c.read_types.new.tx.conn.now) = omega (arith, c.read_boards.ensures.survives.clean) in
+    let clean_reservations = was_clean c.read_replies.ensures.goes_on clean in
+    let clean_jobs = was_clean c.read_reservations.ensures.goes_on clean_reservations in
+    let clean_boards = was_clean c.read_jobs.ensures.goes_on clean_jobs in
+    let clean_types = was_clean c.read_boards.ensures.goes_on clean_boards in
     let at_types = c.in_ok-read_types.ensures.inside clean_types T at in
     let at_boards = c.in_ok-read_boards.ensures.inside clean_boards T at_types in
     let at_jobs = c.in_ok-read_jobs.ensures.inside clean_jobs T at_boards in
@@ -98,11 +96,11 @@ returns-in_err-read_replies-clause-kept g c clean T at shows =
 
 pub returns-in_err-read_numbers-clause-read : goal.returns-in_err-read_numbers-clause-read
 returns-in_err-read_numbers-clause-read g c clean T at =
-    let clean_kept : HasCleanDisk (state g.S.Store c.read_replies.new.tx.conn.now) = omega (arith, c.read_numbers.ensures.survives.clean) in
-    let clean_reservations : HasCleanDisk (state g.S.Store c.read_reservations.new.tx.conn.now) = omega (arith, c.read_replies.ensures.survives.clean) in
-    let clean_jobs : HasCleanDisk (state g.S.Store c.read_jobs.new.tx.conn.now) = omega (arith, c.read_reservations.ensures.survives.clean) in
-    let clean_boards : HasCleanDisk (state g.S.Store c.read_boards.new.tx.conn.now) = omega (arith, c.read_jobs.ensures.survives.clean) in
-    let clean_types : HasCleanDisk (state g.S.Store c.read_types.new.tx.conn.now) = omega (arith, c.read_boards.ensures.survives.clean) in
+    let clean_kept = was_clean c.read_numbers.ensures.goes_on clean in
+    let clean_reservations = was_clean c.read_replies.ensures.goes_on clean_kept in
+    let clean_jobs = was_clean c.read_reservations.ensures.goes_on clean_reservations in
+    let clean_boards = was_clean c.read_jobs.ensures.goes_on clean_jobs in
+    let clean_types = was_clean c.read_boards.ensures.goes_on clean_boards in
     let at_types = c.in_ok-read_types.ensures.inside clean_types T at in
     let at_boards = c.in_ok-read_boards.ensures.inside clean_boards T at_types in
     let at_jobs = c.in_ok-read_jobs.ensures.inside clean_jobs T at_boards in
@@ -113,11 +111,11 @@ returns-in_err-read_numbers-clause-read g c clean T at =
 
 pub returns-in_err-read_numbers-clause-kept : goal.returns-in_err-read_numbers-clause-kept
 returns-in_err-read_numbers-clause-kept g c clean T at shows =
-    let clean_kept : HasCleanDisk (state g.S.Store c.read_replies.new.tx.conn.now) = omega (arith, c.read_numbers.ensures.survives.clean) in
-    let clean_reservations : HasCleanDisk (state g.S.Store c.read_reservations.new.tx.conn.now) = omega (arith, c.read_replies.ensures.survives.clean) in
-    let clean_jobs : HasCleanDisk (state g.S.Store c.read_jobs.new.tx.conn.now) = omega (arith, c.read_reservations.ensures.survives.clean) in
-    let clean_boards : HasCleanDisk (state g.S.Store c.read_boards.new.tx.conn.now) = omega (arith, c.read_jobs.ensures.survives.clean) in
-    let clean_types : HasCleanDisk (state g.S.Store c.read_types.new.tx.conn.now) = omega (arith, c.read_boards.ensures.survives.clean) in
+    let clean_kept = was_clean c.read_numbers.ensures.goes_on clean in
+    let clean_reservations = was_clean c.read_replies.ensures.goes_on clean_kept in
+    let clean_jobs = was_clean c.read_reservations.ensures.goes_on clean_reservations in
+    let clean_boards = was_clean c.read_jobs.ensures.goes_on clean_jobs in
+    let clean_types = was_clean c.read_boards.ensures.goes_on clean_boards in
     let at_types = c.in_ok-read_types.ensures.inside clean_types T at in
     let at_boards = c.in_ok-read_boards.ensures.inside clean_boards T at_types in
     let at_jobs = c.in_ok-read_jobs.ensures.inside clean_jobs T at_boards in
@@ -132,11 +130,11 @@ returns-in_err-read_numbers-clause-kept g c clean T at shows =
 
 pub returns-clause-read : goal.returns-clause-read
 returns-clause-read g c clean T at =
-    let clean_kept : HasCleanDisk (state g.S.Store c.read_replies.new.tx.conn.now) = omega (arith, c.read_numbers.ensures.survives.clean) in
-    let clean_reservations : HasCleanDisk (state g.S.Store c.read_reservations.new.tx.conn.now) = omega (arith, c.read_replies.ensures.survives.clean) in
-    let clean_jobs : HasCleanDisk (state g.S.Store c.read_jobs.new.tx.conn.now) = omega (arith, c.read_reservations.ensures.survives.clean) in
-    let clean_boards : HasCleanDisk (state g.S.Store c.read_boards.new.tx.conn.now) = omega (arith, c.read_jobs.ensures.survives.clean) in
-    let clean_types : HasCleanDisk (state g.S.Store c.read_types.new.tx.conn.now) = omega (arith, c.read_boards.ensures.survives.clean) in
+    let clean_kept = was_clean c.read_numbers.ensures.goes_on clean in
+    let clean_reservations = was_clean c.read_replies.ensures.goes_on clean_kept in
+    let clean_jobs = was_clean c.read_reservations.ensures.goes_on clean_reservations in
+    let clean_boards = was_clean c.read_jobs.ensures.goes_on clean_jobs in
+    let clean_types = was_clean c.read_boards.ensures.goes_on clean_boards in
     let at_types = c.in_ok-read_types.ensures.inside clean_types T at in
     let at_boards = c.in_ok-read_boards.ensures.inside clean_boards T at_types in
     let at_jobs = c.in_ok-read_jobs.ensures.inside clean_jobs T at_boards in
@@ -160,11 +158,11 @@ returns-clause-read g c clean T at =
 
 pub returns-clause-kept : goal.returns-clause-kept
 returns-clause-kept g c clean T at shows =
-    let clean_kept : HasCleanDisk (state g.S.Store c.read_replies.new.tx.conn.now) = omega (arith, c.read_numbers.ensures.survives.clean) in
-    let clean_reservations : HasCleanDisk (state g.S.Store c.read_reservations.new.tx.conn.now) = omega (arith, c.read_replies.ensures.survives.clean) in
-    let clean_jobs : HasCleanDisk (state g.S.Store c.read_jobs.new.tx.conn.now) = omega (arith, c.read_reservations.ensures.survives.clean) in
-    let clean_boards : HasCleanDisk (state g.S.Store c.read_boards.new.tx.conn.now) = omega (arith, c.read_jobs.ensures.survives.clean) in
-    let clean_types : HasCleanDisk (state g.S.Store c.read_types.new.tx.conn.now) = omega (arith, c.read_boards.ensures.survives.clean) in
+    let clean_kept = was_clean c.read_numbers.ensures.goes_on clean in
+    let clean_reservations = was_clean c.read_replies.ensures.goes_on clean_kept in
+    let clean_jobs = was_clean c.read_reservations.ensures.goes_on clean_reservations in
+    let clean_boards = was_clean c.read_jobs.ensures.goes_on clean_jobs in
+    let clean_types = was_clean c.read_boards.ensures.goes_on clean_boards in
     let at_types = c.in_ok-read_types.ensures.inside clean_types T at in
     let at_boards = c.in_ok-read_boards.ensures.inside clean_boards T at_types in
     let at_jobs = c.in_ok-read_jobs.ensures.inside clean_jobs T at_boards in
@@ -179,9 +177,9 @@ returns-clause-kept g c clean T at shows =
 
 pub returns-clause-opened : goal.returns-clause-opened
 returns-clause-opened g c clean =
-    let clean_kept : HasCleanDisk (state g.S.Store c.read_replies.new.tx.conn.now) = omega (arith, c.read_numbers.ensures.survives.clean) in
-    let clean_reservations : HasCleanDisk (state g.S.Store c.read_reservations.new.tx.conn.now) = omega (arith, c.read_replies.ensures.survives.clean) in
-    let clean_jobs : HasCleanDisk (state g.S.Store c.read_jobs.new.tx.conn.now) = omega (arith, c.read_reservations.ensures.survives.clean) in
-    let clean_boards : HasCleanDisk (state g.S.Store c.read_boards.new.tx.conn.now) = omega (arith, c.read_jobs.ensures.survives.clean) in
-    let clean_types : HasCleanDisk (state g.S.Store c.read_types.new.tx.conn.now) = omega (arith, c.read_boards.ensures.survives.clean) in
+    let clean_kept = was_clean c.read_numbers.ensures.goes_on clean in
+    let clean_reservations = was_clean c.read_replies.ensures.goes_on clean_kept in
+    let clean_jobs = was_clean c.read_reservations.ensures.goes_on clean_reservations in
+    let clean_boards = was_clean c.read_jobs.ensures.goes_on clean_jobs in
+    let clean_types = was_clean c.read_boards.ensures.goes_on clean_boards in
     c.in_ok-read_types.ensures.opened clean_types

@@ -7,6 +7,7 @@ use Rattle.farm_store.specs.Columns.{no_rows, rows_of}
 use Rattle.farm_store.specs.Holds.{Holds, IsInside, Stands}
 use Rattle.farm_store.specs.Schema.{no_schema}
 use Rattle.farm_store.proofs.Commits.{begun, begun_commit, committed, left_before, rolled_back}
+use Rattle.farm_store.proofs.GoingOn.{was_clean}
 use Rattle.farm_store.proofs.schema.create.Goals as goal
 
 pub returns-in_err-commit-clause-stop : goal.returns-in_err-commit-clause-stop
@@ -17,12 +18,12 @@ returns-in_err-commit-clause-stop g c clean db may =
     let made = state g.S.Store c.make_all.new.tx.conn.now in
     let begin = state g.S.Store c.transaction-tx.result.conn.now in
     let filled_clean : HasCleanDisk filled = omega (arith, c.commit.ensures.survives.clean) in
-    let made_clean : HasCleanDisk made = omega (arith, c.put_first_numbers.ensures.survives.clean) in
+    let made_clean = was_clean c.put_first_numbers.ensures.goes_on filled_clean in
     let is = c.transaction-tx.ensures.begun in
     let leaves : g.S.Store.recovers end.store db = search rules in
     elim (c.commit.ensures.survives.crash late db leaves) [
       | inl earlier ↦
-          let before = left_before begin made c.make_all.ensures.survives made_clean db (left_before made filled c.put_first_numbers.ensures.survives filled_clean db earlier) in
+          let before = left_before begin made c.make_all.ensures.goes_on.survives made_clean db (left_before made filled c.put_first_numbers.ensures.goes_on.survives filled_clean db earlier) in
           inl (subst (λ h. g.S.Store.recovers h.store db) {y = record c.args.conn.now { in_transaction = true }} is before)
       | inr now ↦ inr (record {
         free = λ T at. c.in_ok-make_all.ensures.refused made_clean T (begun g.S.Store c.args.conn.now c.transaction-tx.result.conn.now is T at);
@@ -43,12 +44,12 @@ returns-clause-stop g c clean db may =
     let made = state g.S.Store c.make_all.new.tx.conn.now in
     let begin = state g.S.Store c.transaction-tx.result.conn.now in
     let filled_clean : HasCleanDisk filled = omega (arith, c.commit.ensures.survives.clean) in
-    let made_clean : HasCleanDisk made = omega (arith, c.put_first_numbers.ensures.survives.clean) in
+    let made_clean = was_clean c.put_first_numbers.ensures.goes_on filled_clean in
     let is = c.transaction-tx.ensures.begun in
     let leaves : g.S.Store.recovers end.store db = search rules in
     elim (c.commit.ensures.survives.crash late db leaves) [
       | inl earlier ↦
-          let before = left_before begin made c.make_all.ensures.survives made_clean db (left_before made filled c.put_first_numbers.ensures.survives filled_clean db earlier) in
+          let before = left_before begin made c.make_all.ensures.goes_on.survives made_clean db (left_before made filled c.put_first_numbers.ensures.goes_on.survives filled_clean db earlier) in
           inl (subst (λ h. g.S.Store.recovers h.store db) {y = record c.args.conn.now { in_transaction = true }} is before)
       | inr now ↦ inr (record {
         free = λ T at. c.in_ok-make_all.ensures.refused made_clean T (begun g.S.Store c.args.conn.now c.transaction-tx.result.conn.now is T at);
@@ -69,7 +70,7 @@ returns-clause-ok g c clean =
     let filled = state g.S.Store c.put_first_numbers.new.tx.conn.now in
     let made = state g.S.Store c.make_all.new.tx.conn.now in
     let filled_clean : HasCleanDisk filled = omega (arith, c.commit.ensures.survives.clean) in
-    let made_clean : HasCleanDisk made = omega (arith, c.put_first_numbers.ensures.survives.clean) in
+    let made_clean = was_clean c.put_first_numbers.ensures.goes_on filled_clean in
     let is = c.transaction-tx.ensures.begun in
     let inside = c.in_ok-put_first_numbers.ensures.put filled_clean (c.in_ok-make_all.ensures.made made_clean (rw is refl) (rw is has)) in
     let ok = c.in_ok-commit.ensures.ok late in
@@ -84,7 +85,7 @@ returns-clause-refused g c clean T at =
     let made = state g.S.Store c.make_all.new.tx.conn.now in
     let begin = state g.S.Store c.transaction-tx.result.conn.now in
     let filled_clean : HasCleanDisk filled = omega (arith, c.commit.ensures.survives.clean) in
-    let made_clean : HasCleanDisk made = omega (arith, c.put_first_numbers.ensures.survives.clean) in
+    let made_clean = was_clean c.put_first_numbers.ensures.goes_on filled_clean in
     let is = c.transaction-tx.ensures.begun in
     c.in_ok-make_all.ensures.refused made_clean T (begun g.S.Store c.args.conn.now c.transaction-tx.result.conn.now is T at)
 
@@ -96,7 +97,7 @@ returns-clause-stands g c clean T at =
     let made = state g.S.Store c.make_all.new.tx.conn.now in
     let begin = state g.S.Store c.transaction-tx.result.conn.now in
     let filled_clean : HasCleanDisk filled = omega (arith, c.commit.ensures.survives.clean) in
-    let made_clean : HasCleanDisk made = omega (arith, c.put_first_numbers.ensures.survives.clean) in
+    let made_clean = was_clean c.put_first_numbers.ensures.goes_on filled_clean in
     let is = c.transaction-tx.ensures.begun in
     absurd (c.in_ok-make_all.ensures.refused made_clean T (begun g.S.Store c.args.conn.now c.transaction-tx.result.conn.now is T at))
 
@@ -108,7 +109,7 @@ returns-in_err-commit-clause-stands g c clean T at =
     let made = state g.S.Store c.make_all.new.tx.conn.now in
     let begin = state g.S.Store c.transaction-tx.result.conn.now in
     let filled_clean : HasCleanDisk filled = omega (arith, c.commit.ensures.survives.clean) in
-    let made_clean : HasCleanDisk made = omega (arith, c.put_first_numbers.ensures.survives.clean) in
+    let made_clean = was_clean c.put_first_numbers.ensures.goes_on filled_clean in
     let is = c.transaction-tx.ensures.begun in
     absurd (c.in_ok-make_all.ensures.refused made_clean T (begun g.S.Store c.args.conn.now c.transaction-tx.result.conn.now is T at))
 
@@ -117,7 +118,7 @@ returns-in_err-put_first_numbers-clause-stands g c clean T at =
     let drop = c.drop-tx-in_err-put_first_numbers in
     let late : HasCleanDisk (state g.S.Store drop.new.self.0) = search rules in
     let filled_clean : HasCleanDisk (state g.S.Store c.put_first_numbers.new.tx.conn.now) = omega (arith, drop.ensures.survives.clean) in
-    let made_clean : HasCleanDisk (state g.S.Store c.make_all.new.tx.conn.now) = omega (arith, c.put_first_numbers.ensures.survives.clean) in
+    let made_clean = was_clean c.put_first_numbers.ensures.goes_on filled_clean in
     absurd (c.in_ok-make_all.ensures.refused made_clean T (begun g.S.Store c.args.conn.now c.transaction-tx.result.conn.now c.transaction-tx.ensures.begun T at))
 
 pub returns-in_err-make_all-clause-stands : goal.returns-in_err-make_all-clause-stands
@@ -131,5 +132,5 @@ returns-in_err-make_all-clause-stands g c clean T at =
     let inside = begun g.S.Store c.args.conn.now c.transaction-tx.result.conn.now is T at in
     let shows = c.make_all.ensures.kept early T inside (begun_commit g.S.Store c.args.conn.now c.transaction-tx.result.conn.now is T at) in
     let stands : Stands (state g.S.Store end) T = rolled_back made (state g.S.Store end) T shows (c.drop-tx.ensures.undone late) (λ db may.
-    at.left db (subst (λ h. g.S.Store.recovers h.store db) {y = record c.args.conn.now { in_transaction = true }} is (left_before begin made c.make_all.ensures.survives early db (left_before made (state g.S.Store end) c.drop-tx.ensures.survives late db may)))) in
+    at.left db (subst (λ h. g.S.Store.recovers h.store db) {y = record c.args.conn.now { in_transaction = true }} is (left_before begin made c.make_all.ensures.goes_on.survives early db (left_before made (state g.S.Store end) c.drop-tx.ensures.survives late db may)))) in
     search rules

@@ -1,17 +1,17 @@
-use Rattle.std.proofs.Common.{sym, subst, arith}
+use Rattle.std.proofs.Common.{sym, subst}
 use Rattle.farm_store.specs.Holds.{ShowsTables}
 use Rattle.sqlite.specs.Held.{state}
-use Rattle.sqlite.specs.State.{HasCleanDisk}
 use Rattle.farm_store.proofs.Creates.{makes_all, tables_taken}
+use Rattle.farm_store.proofs.GoingOn.{was_clean}
 use Rattle.farm_store.proofs.schema.make_all.Goals as goal
 
 pub returns-clause-made : goal.returns-clause-made
 returns-clause-made g c clean inside has =
-    let late5 : HasCleanDisk (state g.S.Store c.make-5.new.tx.conn.now) = omega (arith, c.make-6.ensures.survives.clean) in
-    let late4 : HasCleanDisk (state g.S.Store c.make-4.new.tx.conn.now) = omega (arith, c.make-5.ensures.survives.clean) in
-    let late3 : HasCleanDisk (state g.S.Store c.make-3.new.tx.conn.now) = omega (arith, c.make-4.ensures.survives.clean) in
-    let late2 : HasCleanDisk (state g.S.Store c.make-2.new.tx.conn.now) = omega (arith, c.make-3.ensures.survives.clean) in
-    let late1 : HasCleanDisk (state g.S.Store c.make.new.tx.conn.now) = omega (arith, c.make-2.ensures.survives.clean) in
+    let late5 = was_clean c.make-6.ensures.goes_on clean in
+    let late4 = was_clean c.make-5.ensures.goes_on late5 in
+    let late3 = was_clean c.make-4.ensures.goes_on late4 in
+    let late2 = was_clean c.make-3.ensures.goes_on late3 in
+    let late1 = was_clean c.make-2.ensures.goes_on late2 in
     let one = c.in_ok-make.ensures.ran late1 inside in
     let two = c.in_ok-make-2.ensures.ran late2 one.4 in
     let three = c.in_ok-make-3.ensures.ran late3 two.4 in
@@ -23,27 +23,27 @@ returns-clause-made g c clean inside has =
 
 pub returns-in_err-make-2-clause-kept : goal.returns-in_err-make-2-clause-kept
 returns-in_err-make-2-clause-kept g c clean T at =
-    let late : HasCleanDisk (state g.S.Store c.make.new.tx.conn.now) = omega (arith, c.make-2.ensures.survives.clean) in
+    let late = was_clean c.make-2.ensures.goes_on clean in
     absurd (tables_taken (state g.S.Store c.args.tx.now.conn.now) (state g.S.Store c.make.new.tx.conn.now) T at (c.in_ok-make.ensures.ran late at.inside))
 
 pub returns-in_err-make-3-clause-kept : goal.returns-in_err-make-3-clause-kept
 returns-in_err-make-3-clause-kept g c clean T at =
-    let late : HasCleanDisk (state g.S.Store c.make.new.tx.conn.now) = omega (arith, c.make-2.ensures.survives.clean, c.make-3.ensures.survives.clean) in
+    let late = was_clean c.make-2.ensures.goes_on (was_clean c.make-3.ensures.goes_on clean) in
     absurd (tables_taken (state g.S.Store c.args.tx.now.conn.now) (state g.S.Store c.make.new.tx.conn.now) T at (c.in_ok-make.ensures.ran late at.inside))
 
 pub returns-in_err-make-4-clause-kept : goal.returns-in_err-make-4-clause-kept
 returns-in_err-make-4-clause-kept g c clean T at =
-    let late : HasCleanDisk (state g.S.Store c.make.new.tx.conn.now) = omega (arith, c.make-2.ensures.survives.clean, c.make-3.ensures.survives.clean, c.make-4.ensures.survives.clean) in
+    let late = was_clean c.make-2.ensures.goes_on (was_clean c.make-3.ensures.goes_on (was_clean c.make-4.ensures.goes_on clean)) in
     absurd (tables_taken (state g.S.Store c.args.tx.now.conn.now) (state g.S.Store c.make.new.tx.conn.now) T at (c.in_ok-make.ensures.ran late at.inside))
 
 pub returns-in_err-make-5-clause-kept : goal.returns-in_err-make-5-clause-kept
 returns-in_err-make-5-clause-kept g c clean T at =
-    let late : HasCleanDisk (state g.S.Store c.make.new.tx.conn.now) = omega (arith, c.make-2.ensures.survives.clean, c.make-3.ensures.survives.clean, c.make-4.ensures.survives.clean, c.make-5.ensures.survives.clean) in
+    let late = was_clean c.make-2.ensures.goes_on (was_clean c.make-3.ensures.goes_on (was_clean c.make-4.ensures.goes_on (was_clean c.make-5.ensures.goes_on clean))) in
     absurd (tables_taken (state g.S.Store c.args.tx.now.conn.now) (state g.S.Store c.make.new.tx.conn.now) T at (c.in_ok-make.ensures.ran late at.inside))
 
 pub returns-in_err-make-6-clause-kept : goal.returns-in_err-make-6-clause-kept
 returns-in_err-make-6-clause-kept g c clean T at =
-    let late : HasCleanDisk (state g.S.Store c.make.new.tx.conn.now) = omega (arith, c.make-2.ensures.survives.clean, c.make-3.ensures.survives.clean, c.make-4.ensures.survives.clean, c.make-5.ensures.survives.clean, c.make-6.ensures.survives.clean) in
+    let late = was_clean c.make-2.ensures.goes_on (was_clean c.make-3.ensures.goes_on (was_clean c.make-4.ensures.goes_on (was_clean c.make-5.ensures.goes_on (was_clean c.make-6.ensures.goes_on clean)))) in
     absurd (tables_taken (state g.S.Store c.args.tx.now.conn.now) (state g.S.Store c.make.new.tx.conn.now) T at (c.in_ok-make.ensures.ran late at.inside))
 
 pub returns-in_err-make-clause-kept : goal.returns-in_err-make-clause-kept
@@ -53,10 +53,10 @@ returns-in_err-make-clause-kept g c clean T at shows still =
 
 pub returns-clause-kept : goal.returns-clause-kept
 returns-clause-kept g c clean T at =
-    let late : HasCleanDisk (state g.S.Store c.make.new.tx.conn.now) = omega (arith, c.make-2.ensures.survives.clean, c.make-3.ensures.survives.clean, c.make-4.ensures.survives.clean, c.make-5.ensures.survives.clean, c.make-6.ensures.survives.clean) in
+    let late = was_clean c.make-2.ensures.goes_on (was_clean c.make-3.ensures.goes_on (was_clean c.make-4.ensures.goes_on (was_clean c.make-5.ensures.goes_on (was_clean c.make-6.ensures.goes_on clean)))) in
     absurd (tables_taken (state g.S.Store c.args.tx.now.conn.now) (state g.S.Store c.make.new.tx.conn.now) T at (c.in_ok-make.ensures.ran late at.inside))
 
 pub returns-clause-refused : goal.returns-clause-refused
 returns-clause-refused g c clean T at =
-    let late : HasCleanDisk (state g.S.Store c.make.new.tx.conn.now) = omega (arith, c.make-2.ensures.survives.clean, c.make-3.ensures.survives.clean, c.make-4.ensures.survives.clean, c.make-5.ensures.survives.clean, c.make-6.ensures.survives.clean) in
+    let late = was_clean c.make-2.ensures.goes_on (was_clean c.make-3.ensures.goes_on (was_clean c.make-4.ensures.goes_on (was_clean c.make-5.ensures.goes_on (was_clean c.make-6.ensures.goes_on clean)))) in
     tables_taken (state g.S.Store c.args.tx.now.conn.now) (state g.S.Store c.make.new.tx.conn.now) T at (c.in_ok-make.ensures.ran late at.inside)
