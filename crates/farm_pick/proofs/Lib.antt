@@ -7,3 +7,16 @@ pub mod Answering
 pub mod BoardsAt
 pub mod Ordered
 pub mod Queued
+pub mod Closed
+pub mod Later
+pub mod Merging
+pub mod Entries
+pub mod Keeping
+pub mod Calls
+pub mod First
+pub mod Shown
+pub mod Apart
+pub mod Taken
+pub mod Headed
+pub mod Listed
+pub mod Bridge

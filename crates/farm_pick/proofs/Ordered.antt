@@ -1,4 +1,4 @@
--- A list in strict order is the only sorted list of its elements.
+-- A list in strict order is the only sorted list of its elements, and two of the same elements are one.
 use Rattle.std.proofs.Common.{◌≡◌, ◌⊎◌, inl, inr, ◌+◌, List, [], ◌∷◌, get_or, Bool, false, sym, ap, ◌∙◌, refl, subst, arith}
 use mathlib.Core.Bool.{true≢false}
 use denote.Ref.{Bor}
@@ -19,7 +19,7 @@ use Rattle.farm_types.proofs.Put.{AllByRecursion-weaker}
 use Rattle.farm_sound.proofs.Lists.{among_has}
 
 module _ {R : Type 0} (cmp : R → R → Ordering) (total : IsTotalOrder cmp) where
-  not_below_itself : (x : R) → cmp x x ≡ Less → ⊥
+  pub not_below_itself : (x : R) → cmp x x ≡ Less → ⊥
   not_below_itself x less = let flipped : Less ≡ Greater = sym less ∙ total.antisymm x x ∙ ap ordering_reverse less in cc
 
   -- ---- lists in strict order that have the same elements
@@ -41,7 +41,8 @@ module _ {R : Type 0} (cmp : R → R → Ordering) (total : IsTotalOrder cmp) wh
       by (inl same) = absurd (not_below_itself x (subst (λ w. cmp x w ≡ Less) same above.0))
       by (inr at) = at
 
-  same_elements : (xs ys : List R) → IsStrictlySortedBy cmp xs → IsStrictlySortedBy cmp ys
+  -- two lists in strict order that have the same elements are one
+  pub same_elements : (xs ys : List R) → IsStrictlySortedBy cmp xs → IsStrictlySortedBy cmp ys
       → AllByRecursion (λ x. Among x ys) xs → AllByRecursion (λ y. Among y xs) ys → xs ≡ ys
   unfolding IsStrictlySortedBy
   same_elements [] [] rise rises here there = refl

@@ -2,3 +2,8 @@ pub mod Test
 pub mod Choice
 pub mod Least
 pub mod Queue
+pub mod Queued
+pub mod Merged
+pub mod Heads
+pub mod Kept
+pub mod Fitting

@@ -52,7 +52,7 @@ pub fn carries_all(board: &BoardRow, tags: &[Tag]) -> bool
 }
 
 /// Whether the board is of the type that the want names, if it names one, and has each of its tags.
-fn fits(board: &BoardRow, want: &Want) -> bool
+pub fn fits(board: &BoardRow, want: &Want) -> bool
     ensures { result ≡ fits board.now want.now }
 {
     is_of_kind(board, &want.kind) && carries_all(board, want.tags.items())

@@ -1,23 +1,35 @@
-//! Which boards are given to a claim, and which claim goes first. Only the queue takes memory.
+//! Which boards are given to a claim, and which claim goes first. Only `queue_of` and the
+//! queues take memory.
 //!
-//! Read `specs/` in the order Test, Choice, Least, Queue.
+//! Read `specs/` in the order Test, Choice, Least, Queue for the least list and the queue of a farm's
+//! rows; then Queued, what stands in the queues that are kept, and Merged, the pass over them; then
+//! Kept, how they are kept, Heads, how their first claims are found, and Fitting.
 #![tactic(auto)]
 
 mod candidates;
 mod choose;
 mod fit;
 mod free;
+mod heads;
+mod idle;
+mod idle_search;
+mod kind;
 mod laws;
 mod order;
 mod picked;
 mod queue;
+mod queues;
 mod search;
+mod spot;
+mod waiting;
 
 pub use candidates::Candidates;
 pub use fit::carries_all;
 pub use free::Free;
-pub use laws::{least_is_least, one_least};
+pub use heads::Heads;
+pub use laws::{least_is_least, merging_serves, one_least, unmet_is_skipped, unmet_stays};
 pub use order::{before, queue_order};
 pub use picked::Picked;
 pub use queue::queue_of;
+pub use queues::Queues;
 pub use search::{least, least_of};

@@ -1,0 +1,144 @@
+-- The heads of the queues, one after the other, as callers see them.
+use Rattle.std.proofs.Common.{◌≡◌, ◌∙◌, ◌&&◌, ◌||◌, ◌==◌, ◌≤◌, ◌<◌, ◌+◌, ◌-◌, ℕ, zero, suc, List, [], ◌∷◌, length, map, Bool, true, false, Option, None, refl, sym, ap, subst, arith}
+use mathlib.Core.Bool.{true≢false}
+use Rattle.std.specs.List.{AllByRecursion, cons_option, filter_map, list_any, range_with_len}
+use Rattle.farm_types.specs.Sound.{EachTwo}
+use Rattle.farm_types.specs.declared.claims.Claim.{Claim}
+use Rattle.farm_sound.proofs.Own.{differs_more, itself}
+use Rattle.farm_sound.proofs.Tests.{both, same_number}
+use Rattle.farm_sound.proofs.Where.{AllByRecursion-map}
+use Rattle.farm_pick.specs.Queued.{AreKindsOf, Lists, Queued, head_of, is_open, same_kind}
+use Rattle.farm_pick.specs.Kept.{IsKeyed, IsWell, kind_at, queued_cmp, shown_claims, shown_entry, shown_idle}
+use Rattle.farm_pick.specs.Heads.{AreHeads, IsHead, head_in, heads_from, is_later, queue_open}
+use Rattle.farm_pick.specs.declared.idle.IdleRow.{IdleRow}
+use Rattle.farm_pick.specs.declared.spot.Place.{Place}
+use Rattle.farm_pick.specs.declared.spot.Spot.{Spot}
+use Rattle.farm_pick.proofs.Apart.{same_kinds, same_open}
+use Rattle.farm_pick.proofs.Entries.{all_put}
+use Rattle.farm_pick.proofs.First.{first_alone, none_alone}
+use Rattle.farm_pick.proofs.Keeping.{queued_total}
+use Rattle.farm_pick.proofs.Shown.{first_shown}
+
+-- ---- the head of one queue
+
+module _ (kinds : List (List ℕ)) (es : List (Spot × Claim)) (rows : List IdleRow) (are : AreHeads kinds es rows) (all : Bool) (last : Spot)
+    (low : last.queue ≤ length kinds) where
+  abbrev looked_at : ℕ → Bool
+  looked_at q = (all || queue_open rows q) && (q == last.queue)
+
+  abbrev opens : Option (List ℕ) → Bool
+  opens k = (all || is_open (map (shown_idle kinds) rows) k) && same_kind (kind_at kinds last.queue) k
+
+  same_test : (q : ℕ) → q ≤ length kinds → looked_at q ≡ opens (kind_at kinds q)
+  same_test q here =
+      ap (λ v. (all || v) && (q == last.queue)) (same_open kinds are.idle.apart rows are.idle.each q here)
+      ∙ ap (λ v. (all || is_open (map (shown_idle kinds) rows) (kind_at kinds q)) && v) (same_kinds kinds are.idle.apart last.queue q low here)
+
+  alone : (q : ℕ) → looked_at q ≡ true → q ≡ last.queue
+  alone q is = same_number q last.queue (both (all || queue_open rows q) (q == last.queue) is).1
+
+  pub head_seen : (o : Option Claim) → (all || queue_open rows last.queue) ≡ true → IsHead es last o → o ≡ head_in kinds es rows all last
+  head_seen o is head =
+      first_shown kinds es are.keyed are.apart last looked_at opens same_test o
+      (first_alone kinds es are.keyed looked_at last last.queue (length kinds + 1) (omega arith) alone o
+      (ap (λ v. v && (last.queue == last.queue)) is ∙ itself last.queue) head)
+
+  pub head_unseen : (all || queue_open rows last.queue) ≡ false → None ≡ head_in kinds es rows all last
+  head_unseen is =
+      first_shown kinds es are.keyed are.apart last looked_at opens same_test None
+      (none_alone kinds es are.keyed looked_at last last.queue (length kinds + 1) (omega arith) alone
+      (ap (λ v. v && (last.queue == last.queue)) is))
+
+-- ---- one queue after the other
+
+module _ (kinds : List (List ℕ)) (es : List (Spot × Claim)) (rows : List IdleRow) (all : Bool) (last : Spot) where
+  abbrev head_at : ℕ → Option Claim
+  head_at q = head_in kinds es rows all (record last { queue = q })
+
+  pub heads_on : (queue : ℕ) → queue ≤ length kinds → heads_from kinds es rows all last queue ≡ cons_option (head_at queue) (heads_from kinds es rows all last (queue + 1))
+  heads_on queue low =
+      let one : length kinds + 1 - queue ≡ suc (length kinds + 1 - (queue + 1)) = omega arith in
+      ap (λ n. filter_map head_at (range_with_len queue n)) one
+
+  pub heads_end : (queue : ℕ) → length kinds < queue → heads_from kinds es rows all last queue ≡ []
+  heads_end queue high =
+      let none : length kinds + 1 - queue ≡ 0 = omega arith in
+      ap (λ n. filter_map head_at (range_with_len queue n)) none
+
+-- ---- and by their types
+
+filter_map_map : {A B C : Type 0} (f : B → Option C) (g : A → B) (xs : List A) → filter_map (λ x. f (g x)) xs ≡ filter_map f (map g xs)
+filter_map_map f g [] = refl
+filter_map_map f g (x ∷ xs) = ap (cons_option (f (g x))) (filter_map_map f g xs)
+
+module _ (kinds : List (List ℕ)) (es : List (Spot × Claim)) (rows : List IdleRow) (are : AreHeads kinds es rows) where
+  abbrev kinds_from : ℕ → ℕ → List (Option (List ℕ))
+  kinds_from a n = map (kind_at kinds) (range_with_len a n)
+
+  others : (a b n : ℕ) → a < b → b + n ≤ length kinds + 1 → AllByRecursion (λ k. same_kind (kind_at kinds a) k ≡ false) (kinds_from b n)
+  others a b zero less low = tt
+  others a b (suc n) less low =
+      (sym (same_kinds kinds are.idle.apart a b (omega arith) (omega arith)) ∙ differs_more b a less, others a (b + 1) n (omega arith) (omega arith))
+
+  each_apart : (a n : ℕ) → a + n ≤ length kinds + 1 → EachTwo (λ j k. same_kind j k ≡ false) (kinds_from a n)
+  each_apart a zero low = tt
+  each_apart a (suc n) low = (others a (a + 1) n (omega arith) (omega arith), each_apart (a + 1) n (omega arith))
+
+  is_there : (q a n : ℕ) → a ≤ q → q < a + n → a + n ≤ length kinds + 1 → list_any (λ k. same_kind k (kind_at kinds q)) (kinds_from a n) ≡ true
+  is_there q a zero from below low = absurd (omega arith)
+  is_there q a (suc n) from below low = by (q == a) refl (λ up. is_there q (a + 1) n up (omega arith) (omega arith))
+    where
+      here : (v : Bool) → (q == a) ≡ v → same_kind (kind_at kinds a) (kind_at kinds q) ≡ v
+      here v is = sym (same_kinds kinds are.idle.apart a q (omega arith) (omega arith)) ∙ is
+
+      or_true : (v : Bool) → (v || true) ≡ true
+      or_true true = refl
+      or_true false = refl
+
+      by : (v : Bool) → (q == a) ≡ v → (a + 1 ≤ q → list_any (λ k. same_kind k (kind_at kinds q)) (kinds_from (a + 1) n) ≡ true)
+          → (same_kind (kind_at kinds a) (kind_at kinds q) || list_any (λ k. same_kind k (kind_at kinds q)) (kinds_from (a + 1) n)) ≡ true
+      by true is rest = ap (λ v. v || list_any (λ k. same_kind k (kind_at kinds q)) (kinds_from (a + 1) n)) (here true is)
+      by false is rest =
+          let other : q ≡ a → ⊥ = λ same. true≢false (sym (ap (λ m. q == m) (sym same) ∙ itself q) ∙ is) in
+          ap (λ v. same_kind (kind_at kinds a) (kind_at kinds q) || v) (rest (omega arith)) ∙ or_true (same_kind (kind_at kinds a) (kind_at kinds q))
+
+  pub are_kinds : AreKindsOf (shown_claims kinds es) (kinds_from 0 (length kinds + 1))
+  are_kinds = record {
+    apart = each_apart 0 (length kinds + 1) (omega arith);
+    each = all_put queued_cmp queued_total IsThere (map (shown_entry kinds) es) [] tt
+        (AllByRecursion-map (IsKeyed kinds) IsThere (shown_entry kinds)
+        (λ e k. is_there e.0.queue 0 (length kinds + 1) (omega arith) (let low = k.queue in omega (arith, low)) (omega arith)) es are.keyed);
+  }
+    where
+      IsThere : Queued → Type 0
+      IsThere x = list_any (λ k. same_kind k x.kind) (kinds_from 0 (length kinds + 1)) ≡ true
+
+pub heads_of_well : (kinds : List (List ℕ)) (es : List (Spot × Claim)) (ps : List (ℕ × Place)) (rows : List IdleRow) → IsWell kinds es ps rows → AreHeads kinds es rows
+heads_of_well kinds es ps rows well = record { keyed = well.queues.keyed; apart = well.queues.apart; idle = well.free }
+
+pub heads_well : (kinds : List (List ℕ)) (es : List (Spot × Claim)) (ps : List (ℕ × Place)) (rows : List IdleRow) → IsWell kinds es ps rows → (ks : List (List ℕ)) → ks ≡ kinds
+    → (rs : List IdleRow) → rs ≡ rows → AreHeads ks es rs
+heads_well kinds es ps rows well ks kinds_are rs rows_are =
+    subst (λ k. AreHeads k es rs) (sym kinds_are) (subst (λ xs. AreHeads kinds es xs) (sym rows_are) (heads_of_well kinds es ps rows well))
+
+-- what the heads of queues show, as callers see it
+abbrev ShowsHeads : Lists → Bool → Spot → List Claim → Type 0
+ShowsHeads seen all last heads =
+    (kinds : List (Option (List ℕ))) × AreKindsOf seen.claims kinds
+    × (heads ≡ filter_map (head_of (is_later last) (λ k. all || is_open seen.boards k) seen.claims) kinds)
+
+pub heads_seen : (kinds : List (List ℕ)) (es : List (Spot × Claim)) (ps : List (ℕ × Place)) (rows : List IdleRow) → IsWell kinds es ps rows → (all : Bool) (seen : Lists)
+    → record { claims = shown_claims kinds es; boards = map (shown_idle kinds) rows } ≡ seen → (r last : Spot) → r ≡ last → (ks : List (List ℕ)) → ks ≡ kinds
+    → (rs : List IdleRow) → rs ≡ rows → (o : List Claim) → o ≡ heads_from ks es rs all r 0 → ShowsHeads seen all last o
+heads_seen kinds es ps rows well all seen view r last is ks kinds_are rs rows_are o heads =
+    subst (λ s. ShowsHeads s all last o) view (
+      map (kind_at kinds) (range_with_len 0 (length kinds + 1)),
+      are_kinds kinds es rows (heads_of_well kinds es ps rows well),
+      heads
+          ∙ ap (λ k. heads_from k es rs all r 0) kinds_are ∙ ap (λ xs. heads_from kinds es xs all r 0) rows_are ∙ ap (λ l. heads_from kinds es rows all l 0) is
+          ∙ ap (λ n. filter_map (λ q. head_in kinds es rows all (record last { queue = q })) (range_with_len 0 n)) whole
+          ∙ filter_map_map (head_of (is_later last) (λ k. all || is_open (map (shown_idle kinds) rows) k) (shown_claims kinds es)) (kind_at kinds) (range_with_len 0 (length kinds + 1)),
+    )
+  where
+    whole : length kinds + 1 - 0 ≡ length kinds + 1
+    whole = omega arith

@@ -1,0 +1,295 @@
+-- Free boards by their rows, and the short list that they give.
+use Rattle.std.proofs.Common.{◌≡◌, ◌∙◌, ◌&&◌, ◌||◌, ◌==◌, ◌<◌, ◌≤◌, ◌+◌, ◌-◌, ◌⊎◌, ℕ, zero, suc, List, [], ◌∷◌, ◌++◌, length, map, drop, get_or, filter, Bool, true, false, cond, Option, Some, None, inl, inr, refl, sym, ap, subst, arith, add-one, drop-cons}
+use mathlib.Core.Bool.{true≢false, false≢true}
+use Rattle.std.specs.Prelude.{slice_get, unwrap_or}
+use Rattle.std.specs.List.{AllByRecursion, find}
+use Rattle.std.specs.List.Sorted.{IsStrictlySortedBy}
+use Rattle.std.specs.Option.{option_map_or}
+use Rattle.std.specs.Str.{bytes_eq}
+use Rattle.std.proofs.lemmas.Bool.{cases_lt, cases_order}
+use Rattle.std.proofs.lemmas.List.{drop-drop, drop_all}
+use Rattle.std.proofs.lemmas.Option.{slice_get-get_or}
+use Rattle.std.proofs.lemmas.Slice.Eq.{bytes_eq-Decides}
+use Rattle.farm_types.specs.Table.{board_cmp}
+use Rattle.farm_types.specs.Pick.{fits}
+use Rattle.farm_types.specs.declared.rows.BoardRow.{BoardRow}
+use Rattle.farm_types.specs.declared.rows.Want.{Want}
+use Rattle.farm_types.proofs.Put.{found_passes}
+use Rattle.farm_sound.proofs.Own.{text_itself}
+use Rattle.farm_sound.proofs.Tests.{both}
+use Rattle.farm_pick.specs.Choice.{IsShortlist, candidate_at}
+use Rattle.farm_pick.specs.Fitting.{named_at}
+use Rattle.farm_pick.specs.Kept.{IsIdle, kind_at, shown_idle}
+use Rattle.farm_pick.specs.Queued.{IdleBoard, idle_board}
+use Rattle.farm_pick.specs.declared.idle.IdleRow.{IdleRow}
+use Rattle.farm_pick.proofs.Choices.{IsShortlistBelow, all_weaker, shortlist_full, shortlist_past, shortlist_whole, shortlist_with}
+use Rattle.farm_pick.proofs.Places.{names_differ, same_from_some}
+
+-- ---- the board of a name
+
+module _ (boards : List BoardRow) (sorted : IsStrictlySortedBy board_cmp boards) (name : List ℕ) (want : Want) where
+  abbrev has_name : BoardRow → Bool
+  has_name b = bytes_eq b.name name
+
+  -- the board that is found, if it fits
+  pub named_here : (p : ℕ) → p < length boards → ((d : BoardRow) → find has_name boards ≡ Some (get_or boards p d)) → (b : BoardRow) → b ≡ get_or boards p b
+      → fits b want ≡ true → named_at boards name want p ≡ true
+  named_here p low found b is fit =
+      ap (λ o. option_map_or (λ b. has_name b && fits b want) o false) (slice_get-get_or boards p b low ∙ ap Some (sym is))
+      ∙ ap (λ v. v && fits b want) (ap has_name is ∙ found_passes has_name (get_or boards p b) boards (found b)) ∙ fit
+
+  -- what stands at a place
+  named_by : (o : Option BoardRow) → ((b : BoardRow) → o ≡ Some b → (has_name b && fits b want) ≡ false) → option_map_or (λ b. has_name b && fits b want) o false ≡ false
+  named_by None none = refl
+  named_by (Some b) none = none b refl
+
+  and_false : (a b : Bool) → (a ≡ true → b ≡ false) → (a && b) ≡ false
+  and_false true b f = f refl
+  and_false false b f = refl
+
+  pub none_fits : (p : ℕ) → p < length boards → ((d : BoardRow) → find has_name boards ≡ Some (get_or boards p d)) → (b : BoardRow) → b ≡ get_or boards p b
+      → fits b want ≡ false → (q : ℕ) → named_at boards name want q ≡ false
+  none_fits p low found b is unfit q = named_by (slice_get boards q) (λ c at. and_false (has_name c) (fits c want) (λ same. by c at same (cases_order p q)))
+    where
+      here : slice_get boards p ≡ Some b
+      here = slice_get-get_or boards p b low ∙ ap Some (sym is)
+
+      mine : bytes_eq b.name name ≡ true
+      mine = ap has_name is ∙ found_passes has_name (get_or boards p b) boards (found b)
+
+      apart : (c : BoardRow) → slice_get boards q ≡ Some c → has_name c ≡ true → (p ≡ q → ⊥) → ⊥
+      apart c at same other =
+          let one : b.name ≡ c.name = (bytes_eq-Decides b.name name).0 mine ∙ sym ((bytes_eq-Decides c.name name).0 same) in
+          true≢false (sym (ap (bytes_eq b.name) (sym one) ∙ text_itself b.name) ∙ names_differ boards sorted p q b c here at other)
+
+      by : (c : BoardRow) → slice_get boards q ≡ Some c → has_name c ≡ true → (p ≡ q) ⊎ ((p < q) ⊎ (q < p)) → fits c want ≡ false
+      by c at same (inl is) = ap (λ (x : BoardRow). fits x want) (same_from_some c b (sym at ∙ ap (slice_get boards) (sym is) ∙ here)) ∙ unfit
+      by c at same (inr (inl less)) = absurd (apart c at same (λ e. let n : p < p = omega arith in absurd (omega arith)))
+      by c at same (inr (inr less)) = absurd (apart c at same (λ e. let n : p < p = omega arith in absurd (omega arith)))
+
+  none_has : (rows : List BoardRow) → find has_name rows ≡ None → (q : ℕ) (c : BoardRow) → slice_get rows q ≡ Some c → has_name c ≡ false
+  none_has [] none q c at = cc
+  none_has (r ∷ rows) none q c at = by (has_name r) refl none (λ more m here. none_has rows more m c here) q at
+    where
+      by : (v : Bool) → has_name r ≡ v → cond v (Some r) (find has_name rows) ≡ None
+          → (find has_name rows ≡ None → (m : ℕ) → slice_get rows m ≡ Some c → has_name c ≡ false)
+          → (q : ℕ) → slice_get (r ∷ rows) q ≡ Some c → has_name c ≡ false
+      by true is here rest q at = cc
+      by false is here rest zero at = ap has_name (sym (same_from_some r c at)) ∙ is
+      by false is here rest (suc q) at = rest here q at
+
+  pub none_named : find has_name boards ≡ None → (q : ℕ) → named_at boards name want q ≡ false
+  none_named none q = named_by (slice_get boards q) (λ c at. ap (λ v. v && fits c want) (none_has boards none q c at))
+
+-- ---- the next free board
+
+module _ (free : BoardRow → Bool) where
+  -- of the boards from a place on the first that is free
+  record IsNext (x : IdleBoard) (xs : List IdleBoard) (bs : List BoardRow) : Type 0 where
+    at : ℕ
+    board : BoardRow
+    here : slice_get bs at ≡ Some board
+    passes : free board ≡ true
+    shows : idle_board board ≡ x
+    before : (m : ℕ) (c : BoardRow) → m < at → slice_get bs m ≡ Some c → free c ≡ false
+    rest : xs ≡ map idle_board (filter free (drop (suc at) bs))
+
+  next_free : (x : IdleBoard) (xs : List IdleBoard) (bs : List BoardRow) → x ∷ xs ≡ map idle_board (filter free bs) → IsNext x xs bs
+  next_free x xs [] is = cc
+  next_free x xs (c ∷ bs) is = by (free c) refl is (λ more. next_free x xs bs more)
+    where
+      by : (v : Bool) → free c ≡ v → x ∷ xs ≡ map idle_board (cond v (c ∷ filter free bs) (filter free bs)) → (x ∷ xs ≡ map idle_board (filter free bs) → IsNext x xs bs)
+          → IsNext x xs (c ∷ bs)
+      by true has here more =
+          let first : x ≡ idle_board c = cc in
+          let others : xs ≡ map idle_board (filter free bs) = cc in
+          record { at = 0; board = c; here = refl; passes = has; shows = sym first; before = λ m d less at. absurd (omega arith); rest = others }
+      by false has here more =
+          let next = more here in
+          record {
+            at = suc next.at;
+            board = next.board;
+            here = next.here;
+            passes = next.passes;
+            shows = next.shows;
+            before = λ m d less at. earlier m d less at;
+            rest = next.rest;
+          }
+        where
+          earlier : (m : ℕ) (d : BoardRow) → m < suc (more here).at → slice_get (c ∷ bs) m ≡ Some d → free d ≡ false
+          earlier zero d less at = ap free (sym (same_from_some c d at)) ∙ has
+          earlier (suc m) d less at = (more here).before m d (omega arith) at
+
+  none_free : (bs : List BoardRow) → [] ≡ map idle_board (filter free bs) → (m : ℕ) (c : BoardRow) → slice_get bs m ≡ Some c → free c ≡ false
+  none_free [] is m c at = cc
+  none_free (b ∷ bs) is m c at = by (free b) refl is (λ more n here. none_free bs more n c here) m at
+    where
+      by : (v : Bool) → free b ≡ v → [] ≡ map idle_board (cond v (b ∷ filter free bs) (filter free bs))
+          → ([] ≡ map idle_board (filter free bs) → (n : ℕ) → slice_get bs n ≡ Some c → free c ≡ false)
+          → (m : ℕ) → slice_get (b ∷ bs) m ≡ Some c → free c ≡ false
+      by true has here rest m at = cc
+      by false has here rest zero at = ap free (sym (same_from_some b c at)) ∙ has
+      by false has here rest (suc m) at = rest here m at
+
+slice_get-drop : {X : Type 0} (xs : List X) (n m : ℕ) → slice_get (drop n xs) m ≡ slice_get xs (n + m)
+slice_get-drop xs zero m = let none : m ≡ 0 + m = omega arith in ap (slice_get xs) none
+slice_get-drop [] (suc n) m = refl
+slice_get-drop (x ∷ xs) (suc n) m =
+    let up : suc (n + m) ≡ suc n + m = omega arith in
+    slice_get-drop xs n m ∙ ap (slice_get (x ∷ xs)) up
+
+idle_at : {X : Type 0} (P : X → Type 0) (xs : List X) (k : ℕ) (x : X) → AllByRecursion P xs → k < length xs → x ≡ get_or xs k x → P x
+idle_at P [] k x all low is = absurd (omega arith)
+idle_at P (y ∷ xs) zero x all low is = subst P (sym is) all.0
+idle_at P (y ∷ xs) (suc k) x all low is = idle_at P xs k x all.1 (omega arith) is
+
+-- ---- the short list
+
+module _ (kinds : List (List ℕ)) (rows : List IdleRow) (boards : List BoardRow) (free : BoardRow → Bool) (want : Want) (limit : ℕ) where
+  abbrev test : ℕ → Bool
+  test = candidate_at boards free want
+
+  -- after k rows: the short list of the places below one, from which on the other rows' boards stand
+  pub record IsListed (k : ℕ) (xs : List ℕ) : Type 0 where
+    pub at : ℕ
+    pub part : IsShortlistBelow test limit at xs
+    pub rest : map (shown_idle kinds) (drop k rows) ≡ map idle_board (filter free (drop at boards))
+
+  pub none_listed : map (shown_idle kinds) rows ≡ map idle_board (filter free boards) → (xs : List ℕ) → xs ≡ [] → IsListed 0 xs
+  none_listed is xs none = rw none (record {
+    at = 0;
+    part = record { short = omega arith; ascends = tt; pass = tt; below = tt; first = λ x less passes. absurd (omega arith) };
+    rest = is;
+  })
+
+  test_free : (o : Option BoardRow) → ((c : BoardRow) → o ≡ Some c → free c ≡ false) → option_map_or (λ c. fits c want && free c) o false ≡ false
+  test_free None none = refl
+  test_free (Some c) none = ap (λ v. fits c want && v) (none c refl) ∙ and_none (fits c want)
+    where
+      and_none : (v : Bool) → (v && false) ≡ false
+      and_none true = refl
+      and_none false = refl
+
+  -- a short list reaches as far as no place passes
+  further : (i j : ℕ) (xs : List ℕ) → i ≤ j → ((x : ℕ) → i ≤ x → x < j → test x ≡ false) → IsShortlistBelow test limit i xs → IsShortlistBelow test limit j xs
+  further i j xs le none part = record {
+    short = part.short;
+    ascends = part.ascends;
+    pass = part.pass;
+    below = all_weaker (λ x. x < i) (λ x. x < j) xs (λ x less. omega arith) part.below;
+    first = λ x less passes. elim (cases_lt x i) [
+      | inl early ↦ part.first x early passes
+      | inr late ↦ absurd (true≢false (sym passes ∙ none x late less))
+    ];
+  }
+
+  module _ (k : ℕ) (xs : List ℕ) (listed : IsListed k xs) (low : k < length rows) (row : IdleRow) (is : row ≡ get_or rows k row) where
+    abbrev next : IsNext free (shown_idle kinds row) (map (shown_idle kinds) (drop (suc k) rows)) (drop listed.at boards)
+    next = next_free free (shown_idle kinds row) (map (shown_idle kinds) (drop (suc k) rows)) (drop listed.at boards)
+        (sym (ap (map (shown_idle kinds)) (drop-cons rows k row low ∙ ap (λ r. r ∷ drop (suc k) rows) (sym is))) ∙ listed.rest)
+
+    abbrev place : ℕ
+    place = listed.at + next.at
+
+    board_here : slice_get boards place ≡ Some next.board
+    board_here = sym (slice_get-drop boards listed.at next.at) ∙ next.here
+
+    named : next.board.name ≡ row.name
+    named = ap (λ (b : IdleBoard). b.name) next.shows
+
+    of_kind : next.board.kind ≡ unwrap_or (kind_at kinds row.queue) []
+    of_kind = ap (λ (b : IdleBoard). b.kind) next.shows
+
+    name_is : bytes_eq next.board.name row.name ≡ true
+    name_is = ap (bytes_eq next.board.name) (sym named) ∙ text_itself next.board.name
+
+    test_is : test place ≡ fits next.board want
+    test_is =
+        ap (λ o. option_map_or (λ b. fits b want && free b) o false) board_here ∙ ap (λ v. fits next.board want && v) next.passes
+        ∙ and_one (fits next.board want)
+      where
+        and_one : (v : Bool) → (v && true) ≡ v
+        and_one true = refl
+        and_one false = refl
+
+    up_to : IsShortlistBelow test limit place xs
+    up_to = further listed.at place xs (omega arith) (λ x late less. test_free (slice_get boards x) (λ c at. none x late less c at)) listed.part
+      where
+        none : (x : ℕ) → listed.at ≤ x → x < place → (c : BoardRow) → slice_get boards x ≡ Some c → free c ≡ false
+        none x late less c at =
+            let one : listed.at + (x - listed.at) ≡ x = omega arith in
+            next.before (x - listed.at) c (omega arith) (slice_get-drop boards listed.at (x - listed.at) ∙ ap (slice_get boards) one ∙ at)
+
+    others : map (shown_idle kinds) (drop (k + 1) rows) ≡ map idle_board (filter free (drop (place + 1) boards))
+    others =
+        let one : listed.at + suc next.at ≡ place + 1 = omega arith in
+        rw add-one (next.rest ∙ ap (λ bs. map idle_board (filter free bs)) (drop-drop (suc next.at) listed.at boards ∙ ap (λ n. drop n boards) one))
+
+    -- a row whose board doesn't fit, or is of another type
+    module _ (idle : AllByRecursion (IsIdle kinds) rows) (queue : ℕ)
+        (asks : (q : ℕ) → 1 ≤ q → q ≤ length kinds
+        → ((queue == 0) || (q == queue)) ≡ option_map_or (λ k. bytes_eq (unwrap_or (kind_at kinds q) []) k) want.kind true)
+        (none : ((queue == 0) || (row.queue == queue)) ≡ true → (p : ℕ) → named_at boards row.name want p ≡ false) where
+      asked : fits next.board want ≡ true → ((queue == 0) || (row.queue == queue)) ≡ true
+      asked fit =
+          let mine = idle_at (IsIdle kinds) rows k row idle low is in
+          asks row.queue mine.low mine.high ∙ ap (λ (of : List ℕ). option_map_or (λ k. bytes_eq of k) want.kind true) (sym of_kind)
+          ∙ (both (option_map_or (λ k. bytes_eq next.board.kind k) want.kind true) _ fit).0
+
+      unfit : (v : Bool) → fits next.board want ≡ v → fits next.board want ≡ false
+      unfit false is = is
+      unfit true is = absurd (true≢false (sym (ap (λ o. option_map_or (λ b. bytes_eq b.name row.name && fits b want) o false) board_here
+          ∙ ap (λ v. v && fits next.board want) name_is ∙ is) ∙ none (asked is) place))
+
+      pub listed_past : IsListed (k + 1) xs
+      listed_past = record {
+        at = place + 1;
+        part = shortlist_past test limit place xs up_to place (test_is ∙ unfit (fits next.board want) refl) refl;
+        rest = others;
+      }
+
+    module _ (sorted : IsStrictlySortedBy board_cmp boards) (p : ℕ) (here : named_at boards row.name want p ≡ true) where
+      found_at : (o : Option BoardRow) → option_map_or (λ b. bytes_eq b.name row.name && fits b want) o false ≡ true
+          → (b : BoardRow) × (o ≡ Some b) × (bytes_eq b.name row.name ≡ true) × (fits b want ≡ true)
+      found_at None is = absurd (false≢true is)
+      found_at (Some b) is = let two = both (bytes_eq b.name row.name) (fits b want) is in (b, refl, two.0, two.1)
+
+      one_place : p ≡ place
+      one_place = by (cases_order p place)
+        where
+          b : (b : BoardRow) × (slice_get boards p ≡ Some b) × (bytes_eq b.name row.name ≡ true) × (fits b want ≡ true)
+          b = found_at (slice_get boards p) here
+
+          apart : (p ≡ place → ⊥) → ⊥
+          apart other =
+              let same : b.0.name ≡ next.board.name = (bytes_eq-Decides b.0.name row.name).0 b.2 ∙ sym named in
+              true≢false (sym (ap (bytes_eq b.0.name) (sym same) ∙ text_itself b.0.name) ∙ names_differ boards sorted p place b.0 next.board b.1 board_here other)
+
+          by : (p ≡ place) ⊎ ((p < place) ⊎ (place < p)) → p ≡ place
+          by (inl same) = same
+          by (inr (inl less)) = absurd (apart (λ e. absurd (omega arith)))
+          by (inr (inr less)) = absurd (apart (λ e. absurd (omega arith)))
+
+      passes_here : test p ≡ true
+      passes_here =
+          let b = found_at (slice_get boards p) here in
+          let same : b.0 ≡ next.board = same_from_some b.0 next.board (sym b.1 ∙ ap (slice_get boards) one_place ∙ board_here) in
+          ap test one_place ∙ test_is ∙ ap (λ (c : BoardRow). fits c want) (sym same) ∙ b.3
+
+      pub listed_with : length xs < limit → IsListed (k + 1) (xs ++ p ∷ [])
+      listed_with room = record { at = place + 1; part = shortlist_with test limit place xs up_to p passes_here one_place room; rest = others }
+
+  pub listed_full : (k : ℕ) (xs : List ℕ) → IsListed k xs → limit ≤ length xs → IsShortlist test limit xs
+  listed_full k xs listed full = shortlist_full test limit listed.at xs listed.part full
+
+  pub listed_whole : (k : ℕ) (xs : List ℕ) → IsListed k xs → length rows ≤ k → IsShortlist test limit xs
+  listed_whole k xs listed high = shortlist_whole test limit listed.at xs listed.part (λ x passes. elim (cases_lt x listed.at) [
+    | inl less ↦ less
+    | inr late ↦ absurd (true≢false (sym passes ∙ test_free (slice_get boards x) (λ c at. none x late c at)))
+  ])
+    where
+      none : (x : ℕ) → listed.at ≤ x → (c : BoardRow) → slice_get boards x ≡ Some c → free c ≡ false
+      none x late c at =
+          let one : listed.at + (x - listed.at) ≡ x = omega arith in
+          none_free free (drop listed.at boards) (sym (ap (map (shown_idle kinds)) (drop_all k rows high)) ∙ listed.rest) (x - listed.at) c
+          (slice_get-drop boards listed.at (x - listed.at) ∙ ap (slice_get boards) one ∙ at)

@@ -1,0 +1,178 @@
+-- The first claim of the queues, as callers see it.
+use Rattle.std.proofs.Common.{◌≡◌, ◌∙◌, ◌&&◌, ◌||◌, ◌≤◌, ◌+◌, ℕ, List, [], ◌∷◌, length, map, Bool, true, false, cond, Option, Some, None, IsSome, is_some, inl, inr, refl, sym, ap, subst, arith}
+use mathlib.Core.Bool.{true≢false, false≢true}
+use Rattle.std.specs.Cmp.{IsTotalOrder}
+use Rattle.std.specs.List.{AllByRecursion, find}
+use Rattle.std.specs.List.Sorted.{IsStrictlySortedBy}
+use Rattle.std.specs.Option.{option_map}
+use Rattle.std.specs.Map.{lookup}
+use Rattle.std.specs.Ordering.{is_eq, is_lt, nat_cmp, ordering_then}
+use Rattle.std.specs.declared.cmp.Ordering.{Ordering}
+use Rattle.std.specs.declared.cmp.Ordering.TheVariants.{Equal, Greater, Less}
+use Rattle.farm_types.specs.Pick.{Among}
+use Rattle.farm_types.specs.Sound.{EachTwo}
+use Rattle.farm_types.specs.Table.{put, put_all}
+use Rattle.farm_types.specs.declared.claims.Claim.{Claim}
+use Rattle.farm_types.proofs.Put.{put_sorted}
+use Rattle.farm_sound.proofs.Lists.{among_has}
+use Rattle.farm_sound.proofs.Tests.{both}
+use Rattle.farm_pick.specs.Queued.{Lists, Queued, is_open}
+use Rattle.farm_pick.specs.declared.idle.IdleRow.{IdleRow}
+use Rattle.farm_pick.proofs.Apart.{same_open}
+use Rattle.farm_pick.specs.Kept.{spot_cmp, queued_cmp, kind_at, shown_entry, shown_claims, claim_at, IsKeyed, IsWell, shown_idle}
+use Rattle.farm_pick.specs.Heads.{IsFirst, is_later, queue_open, rank_cmp, rank_of_claim}
+use Rattle.farm_pick.specs.declared.spot.Spot.{Spot}
+use Rattle.farm_pick.specs.declared.spot.Place.{Place}
+use Rattle.farm_pick.proofs.Entries.{all_put, all_among}
+use Rattle.farm_pick.proofs.Keeping.{queued_total, shown_apart, tie, tied}
+use Rattle.farm_pick.proofs.First.{IsRanked, found_entry, ranked_at, shown_rank}
+
+-- ---- the first of a list in strict order that passes
+
+module _ {R : Type 0} (cmp : R → R → Ordering) (total : IsTotalOrder cmp) (test : R → Bool) where
+  pub find_none : (xs : List R) → ((x : R) → Among x xs → test x ≡ true → ⊥) → find test xs ≡ None
+  find_none [] none = refl
+  find_none (x ∷ xs) none = by (test x) refl (find_none xs (λ y at. none y (inr at)))
+    where
+      by : (v : Bool) → test x ≡ v → find test xs ≡ None → cond v (Some x) (find test xs) ≡ None
+      by true is rest = absurd (none x (inl refl) is)
+      by false is rest = rest
+
+  pub find_first : (c : R) (xs : List R) → IsStrictlySortedBy cmp xs → Among c xs → test c ≡ true → ((x : R) → Among x xs → test x ≡ true → cmp x c ≡ Less → ⊥)
+      → find test xs ≡ Some c
+  unfolding IsStrictlySortedBy
+  find_first c [] sorted at is least = absurd at
+  find_first c (x ∷ xs) sorted at is least = by (test x) refl at (λ later. find_first c xs sorted.1 later is (λ y there. least y (inr there)))
+    where
+      by : (v : Bool) → test x ≡ v → Among c (x ∷ xs) → (Among c xs → find test xs ≡ Some c) → cond v (Some x) (find test xs) ≡ Some c
+      by true has (inl same) rest = ap Some (sym same)
+      by true has (inr later) rest = absurd (least x (inl refl) has (among_has (λ y. cmp x y ≡ Less) c xs sorted.0 later))
+      by false has (inl same) rest = absurd (true≢false (sym is ∙ ap test same ∙ has))
+      by false has (inr later) rest = rest later
+
+  all_sorted : (rows ys : List R) → IsStrictlySortedBy cmp rows → IsStrictlySortedBy cmp (put_all cmp rows ys)
+  all_sorted rows [] sorted = sorted
+  all_sorted rows (y ∷ ys) sorted = all_sorted (put cmp rows y) ys (put_sorted cmp total y rows sorted)
+
+  pub sorted_put_all : (ys : List R) → IsStrictlySortedBy cmp (put_all cmp [] ys)
+  unfolding IsStrictlySortedBy
+  sorted_put_all ys = all_sorted [] ys tt
+
+some_there : {K X : Type 0} (test : K → Bool) (e : K × X) (es : List (K × X)) → Among e es → test e.0 ≡ true → IsSome (lookup test es)
+some_there test e [] at is = absurd at
+some_there test e (d ∷ es) at is = by (test d.0) refl at (λ later. some_there test e es later is)
+  where
+    by : (w : Bool) → test d.0 ≡ w → Among e (d ∷ es) → (Among e es → IsSome (lookup test es)) → IsSome (cond w (Some d.1) (lookup test es))
+    by true has at rest = refl
+    by false has (inl same) rest = absurd (true≢false (sym is ∙ ap (λ (x : _). test x.0) same ∙ has))
+    by false has (inr more) rest = rest more
+
+-- whether a claim comes after a spot, and by its own spot
+rank_of : (last s : Spot) (c : Claim) → IsRanked s c → rank_of_claim last c ≡ rank_cmp last s
+rank_of last s c r =
+    ap (λ p. ordering_then (nat_cmp p last.priority) (nat_cmp last.number c.number)) (sym r.priority)
+    ∙ ap (λ n. ordering_then (nat_cmp s.priority last.priority) (nat_cmp last.number n)) (sym r.number)
+
+less_is : (o : Ordering) → is_lt o ≡ true → o ≡ Less
+less_is Less is = refl
+less_is Equal is = absurd (false≢true is)
+less_is Greater is = absurd (false≢true is)
+
+module _ (kinds : List (List ℕ)) (es : List (Spot × Claim)) (keyed : AllByRecursion (IsKeyed kinds) es)
+    (apart : EachTwo (λ a b. a.1.number ≡ b.1.number → ⊥) es) (last : Spot) (test : ℕ → Bool)
+    (opens : Option (List ℕ) → Bool) (same_test : (q : ℕ) → q ≤ length kinds → test q ≡ opens (kind_at kinds q)) where
+  abbrev passes : Queued → Bool
+  passes x = is_later last x.claim && opens x.kind
+
+  -- an entry of the map that is shown
+  abbrev IsEntry : Queued → Type 0
+  IsEntry x = (e : Spot × Claim) × Among e es × (shown_entry kinds e ≡ x)
+
+  entries_self : (ds : List (Spot × Claim)) → ((e : Spot × Claim) → Among e ds → Among e es) → AllByRecursion IsEntry (map (shown_entry kinds) ds)
+  entries_self [] inside = tt
+  entries_self (d ∷ ds) inside = ((d, inside d (inl refl), refl), entries_self ds (λ e at. inside e (inr at)))
+
+  entry_of : (x : Queued) → Among x (shown_claims kinds es) → IsEntry x
+  entry_of x at = among_has IsEntry x (shown_claims kinds es) (all_put queued_cmp queued_total IsEntry (map (shown_entry kinds) es) [] tt (entries_self es (λ e at. at))) at
+
+  among_map : (e : Spot × Claim) (ds : List (Spot × Claim)) → Among e ds → Among (shown_entry kinds e) (map (shown_entry kinds) ds)
+  among_map e [] at = at
+  among_map e (d ∷ ds) (inl same) = inl (ap (shown_entry kinds) same)
+  among_map e (d ∷ ds) (inr at) = inr (among_map e ds at)
+
+  shown_at : (e : Spot × Claim) → Among e es → Among (shown_entry kinds e) (shown_claims kinds es)
+  shown_at e at = among_has (λ x. Among x (shown_claims kinds es)) (shown_entry kinds e) (map (shown_entry kinds) es)
+      (all_among queued_cmp queued_total (map (shown_entry kinds) es) (shown_apart kinds es apart)) (among_map e es at)
+
+  keyed_at : (e : Spot × Claim) → Among e es → IsKeyed kinds e
+  keyed_at e at = among_has (IsKeyed kinds) e es keyed at
+
+  -- what the test says of an entry
+  tests : (e : Spot × Claim) → Among e es → passes (shown_entry kinds e) ≡ true → (rank_cmp last e.0 ≡ Less) × (test e.0.queue ≡ true)
+  tests e at is =
+      let two = both (is_later last e.1) (opens (kind_at kinds e.0.queue)) is in
+      let key = keyed_at e at in
+      (sym (rank_of last e.0 e.1 (record { number = key.number; priority = key.priority })) ∙ less_is (rank_of_claim last e.1) two.0, same_test e.0.queue key.queue ∙ two.1)
+
+  IsSome-at : (e : Spot × Claim) → Among e es → IsSome (claim_at es e.0)
+  IsSome-at e at = some_there (λ x. is_eq (spot_cmp e.0 x)) e es at (tie e.0 e.0 (record { queue = refl; priority = refl; number = refl }))
+
+  pub first_shown : (o : Option Claim) → IsFirst es test (length kinds + 1) last o → o ≡ option_map (λ (x : Queued). x.claim) (find passes (shown_claims kinds es))
+  first_shown None first =
+      sym (ap (option_map (λ (x : Queued). x.claim)) (find_none queued_cmp queued_total passes (shown_claims kinds es) none))
+    where
+      none : (x : Queued) → Among x (shown_claims kinds es) → passes x ≡ true → ⊥
+      none x at is =
+          let e = entry_of x at in
+          let t = tests e.0 e.1 (ap passes e.2 ∙ is) in
+          true≢false (sym (IsSome-at e.0 e.1) ∙ ap is_some (first e.0.0 (let low = (keyed_at e.0 e.1).queue in omega arith) t.1 t.0))
+  first_shown (Some c) first =
+      sym (ap (option_map (λ (x : Queued). x.claim)) (find_first queued_cmp queued_total passes (shown_entry kinds e.0) (shown_claims kinds es)
+      (sorted_put_all queued_cmp queued_total passes (map (shown_entry kinds) es)) (shown_at e.0 e.4) passes_here least) ∙ ap Some e.3)
+    where
+      e : (d : Spot × Claim) × IsKeyed kinds d × (is_eq (spot_cmp first.0 d.0) ≡ true) × (d.1 ≡ c) × Among d es
+      e = found_entry (IsKeyed kinds) (λ x. is_eq (spot_cmp first.0 x)) c es keyed first.4
+
+      ranked : IsRanked first.0 e.0.1
+      ranked = let r = ranked_at kinds es first.0 c keyed first.4 in
+          record { number = r.number ∙ ap (λ (d : Claim). d.number) (sym e.3); priority = r.priority ∙ ap (λ (d : Claim). d.priority) (sym e.3) }
+
+      passes_here : passes (shown_entry kinds e.0) ≡ true
+      passes_here =
+          ap (λ v. v && opens (kind_at kinds e.0.0.queue)) (ap is_lt (rank_of last first.0 e.0.1 ranked ∙ first.3))
+          ∙ (sym (same_test e.0.0.queue e.1.queue) ∙ ap test (sym (tied first.0 e.0.0 e.2).queue) ∙ first.2)
+
+      least : (x : Queued) → Among x (shown_claims kinds es) → passes x ≡ true → queued_cmp x (shown_entry kinds e.0) ≡ Less → ⊥
+      least x at is less =
+          let d = entry_of x at in
+          let key = keyed_at d.0 d.1 in
+          let t = tests d.0 d.1 (ap passes d.2 ∙ is) in
+          first.5 d.0.0 (let low = key.queue in omega arith) t.1 t.0 (IsSome-at d.0 d.1)
+          (sym (shown_rank d.0.0 first.0 d.0.1 e.0.1 (record { number = key.number; priority = key.priority }) ranked)
+          ∙ ap (λ (y : Queued). queued_cmp y (shown_entry kinds e.0)) d.2 ∙ less)
+
+-- what a call of `first` finds, as callers see it
+pub first_seen : (kinds : List (List ℕ)) (es : List (Spot × Claim)) (ps : List (ℕ × Place)) (rows : List IdleRow) → IsWell kinds es ps rows → (all : Bool) (seen : Lists)
+    → record { claims = shown_claims kinds es; boards = map (shown_idle kinds) rows } ≡ seen → (r last : Spot) → r ≡ last → (ks : List (List ℕ)) → ks ≡ kinds
+    → (rs : List IdleRow) → rs ≡ rows → (o : Option Claim) → IsFirst es (λ q. all || queue_open rs q) (length ks + 1) r o
+    → o ≡ option_map (λ (x : Queued). x.claim) (find (λ x. is_later last x.claim && (all || is_open seen.boards x.kind)) seen.claims)
+first_seen kinds es ps rows well all seen view r last is ks kinds_are rs rows_are o first =
+    let here : IsFirst es (λ q. all || queue_open rows q) (length kinds + 1) last o =
+    subst (λ l. IsFirst es (λ q. all || queue_open rows q) (length kinds + 1) l o) is
+    (subst (λ k. IsFirst es (λ q. all || queue_open rows q) (length k + 1) r o) kinds_are
+    (subst (λ xs. IsFirst es (λ q. all || queue_open xs q) (length ks + 1) r o) rows_are first)) in
+    first_shown kinds es well.queues.keyed well.queues.apart last (λ q. all || queue_open rows q) (λ k. all || is_open (map (shown_idle kinds) rows) k)
+    (λ q low. ap (λ v. all || v) (same_open kinds well.free.apart rows well.free.each q low)) o here
+    ∙ ap (λ (l : Lists). option_map (λ (x : Queued). x.claim) (find (λ x. is_later last x.claim && (all || is_open l.boards x.kind)) l.claims)) view
+
+pub well_new : (ks : List (List ℕ)) (es : List (Spot × Claim)) (ps : List (ℕ × Place)) (rows : List IdleRow) → ks ≡ [] → es ≡ [] → ps ≡ [] → rows ≡ [] → IsWell ks es ps rows
+unfolding IsStrictlySortedBy
+well_new ks es ps rows no_ks no_es no_ps no_rows =
+    subst (λ k. IsWell k es ps rows) (sym no_ks) (subst (λ e. IsWell [] e ps rows) (sym no_es) (subst (λ p. IsWell [] [] p rows) (sym no_ps)
+    (subst (λ r. IsWell [] [] [] r) (sym no_rows) none)))
+  where
+    none : IsWell [] [] [] []
+    none = record {
+      queues = record { keyed = tt; apart = tt; placed = λ s. refl };
+      free = record { apart = λ i j a b one other same. cc; each = tt; sorted = tt };
+    }

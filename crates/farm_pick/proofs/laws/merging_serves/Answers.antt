@@ -1,0 +1,5 @@
+use Rattle.farm_pick.proofs.Merging.{merging_serves}
+use Rattle.farm_pick.proofs.laws.merging_serves.Goals as goal
+
+pub returns : goal.returns
+returns c = λ F t n sound low few. merging_serves F t n sound low few

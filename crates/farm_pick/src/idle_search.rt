@@ -1,0 +1,100 @@
+//! The least list out of the free boards alone.
+ghost use Rattle.std.specs.Prelude.{◌≡◌, ◌≢◌, ◌==◌, ◌||◌, ◌<◌, ◌≤◌, ℕ, true, false, All, AllPairs, filter, length, map, IfNone, IfSome, option_map};
+ghost use Rattle.std.specs.List.Sorted.{IsStrictlySortedBy};
+ghost use Rattle.farm_types.specs.Table.{board_cmp};
+ghost use Rattle.farm_types.specs.Pick.{is_free, least};
+ghost use Rattle.farm_pick.specs.Choice.{IsShortlist, candidate_at};
+ghost use Rattle.farm_pick.specs.Fitting.{named_at};
+ghost use Rattle.farm_pick.specs.Kept.{AreIdle, shown_idle};
+ghost use Rattle.farm_pick.specs.Least.{boards_at};
+ghost use Rattle.farm_pick.specs.Queued.{idle_board};
+
+use crate::idle::{self, IdleRow};
+use crate::picked::Picked;
+use crate::{choose, fit, kind};
+use farm_sound::seek;
+use farm_types::rows::{BoardRow, TypeRow, Want};
+use farm_types::words::Name;
+
+/// The place of a free board, if it is of the queue's type and fits the want. A board of another
+/// type isn't looked up.
+fn fitting_place(row: &IdleRow, queue: usize, boards: &[BoardRow], want: &Want) -> Option<usize>
+    requires { IsStrictlySortedBy board_cmp boards.now }
+    ensures found { IfSome result (λ p. named_at boards.now row.now.name want.now p ≡ true) }
+    ensures none { IfNone result (((queue == 0) || (row.now.queue == queue)) ≡ true
+        → (p : ℕ) → named_at boards.now row.now.name want.now p ≡ false) }
+{
+    if !idle::is_in(row, queue) {
+        return None;
+    }
+    match seek::board_at(boards, &row.name) {
+        Ok(place) => {
+            if fit::fits(&boards[place], want) {
+                Some(place)
+            } else {
+                None
+            }
+        }
+        Err(_gap) => None,
+    }
+}
+
+/// The first places of free boards for the want: all of them, or as many as the limit. With n
+/// boards each free board of the want's type costs a binary search and a test; a board that isn't
+/// free costs nothing.
+fn shortlist(
+    kinds: &[Name],
+    rows: &[IdleRow],
+    boards: &[BoardRow],
+    types: &[TypeRow],
+    want: &Want,
+    limit: usize,
+) -> Picked
+    requires few { limit ≤ 4 }
+    requires ordered { IsStrictlySortedBy board_cmp boards.now }
+    requires idle { AreIdle kinds.now rows.now }
+    requires free { map (shown_idle kinds.now) rows.now ≡ map idle_board (filter (is_free types.now) boards.now) }
+    ensures { IsShortlist (candidate_at boards.now (is_free types.now) want.now) limit result }
+{
+    let queue = kind::asked_queue(kinds, &want.kind);
+    let mut found = Picked::new();
+    for row in rows {
+        if found.len() >= limit {
+            break;
+        }
+        match fitting_place(row, queue, boards, want) {
+            Some(place) => found = found.with(place),
+            None => {}
+        }
+    }
+    found
+}
+
+/// The places of the least list of free boards that meets the wants, as `search::least_of` gives it
+/// for boards that serve and that nobody holds; the rows are those of these boards.
+pub fn least_of(
+    kinds: &[Name],
+    rows: &[IdleRow],
+    boards: &[BoardRow],
+    types: &[TypeRow],
+    wants: &[&Want],
+) -> Option<Picked>
+    requires ordered { IsStrictlySortedBy board_cmp boards.now }
+    requires few { length wants.now ≤ 4 }
+    requires idle { AreIdle kinds.now rows.now }
+    requires free { map (shown_idle kinds.now) rows.now ≡ map idle_board (filter (is_free types.now) boards.now) }
+    ensures least { option_map (boards_at boards.now) result ≡ least boards.now (is_free types.now) (map (λ w. w.now) wants.now) }
+    ensures len { IfSome result (λ places. length places ≡ length wants.now) }
+    ensures within { IfSome result (λ places. All (λ i. i < length boards.now) places) }
+    ensures different { IfSome result (λ places. AllPairs (λ i j. i ≢ j) places) }
+{
+    let mut lists = [Picked::new(), Picked::new(), Picked::new(), Picked::new()];
+    for (i, want) in wants.iter().enumerate() {
+        let places = shortlist(kinds, rows, boards, types, want, wants.len());
+        if places.len() == 0 {
+            return None;
+        }
+        lists[i] = places;
+    }
+    choose::choose(&lists[..wants.len()], Picked::new())
+}

@@ -1,0 +1,196 @@
+//! The queues of the claims, and the sets of free boards.
+ghost use Rattle.std.specs.Prelude.{◌≡◌, ◌≢◌, ◌<◌, ◌≤◌, ◌==◌, ◌&&◌, ◌||◌, [], ℕ, List, Option, not, All, AllPairs, length, map, IfSome, OnOk, OnErr, option_map};
+ghost use Rattle.std.specs.List.{AllByRecursion, filter, filter_map, find};
+ghost use Rattle.std.specs.Option.{option_copied};
+ghost use Rattle.std.specs.Str.{bytes_eq};
+ghost use Rattle.std.specs.List.Sorted.{IsStrictlySortedBy};
+ghost use Rattle.farm_types.specs.Pick.{is_free, least};
+ghost use Rattle.farm_types.specs.Table.{board_cmp, put};
+ghost use Rattle.farm_pick.specs.Least.{boards_at};
+ghost use Rattle.farm_pick.specs.Heads.{is_later, last_spot};
+ghost use Rattle.farm_pick.specs.Queued.{AreKindsOf, head_of, idle_board, is_open};
+ghost use Rattle.farm_pick.specs.Kept.{queued_cmp, named_cmp};
+
+use crate::heads::Heads;
+use crate::idle::{self, IdleRow};
+use crate::picked::Picked;
+use crate::spot::{self, Place, Spot};
+use crate::{idle_search, kind, waiting};
+use farm_types::asked::Wants;
+use farm_types::claims::Claim;
+use farm_types::rows::{BoardRow, TypeRow, Want};
+use farm_types::words::{Name, Priority};
+use std::alloc::{AllocError, Global};
+use std::collections::BTreeMap;
+use std::marker::Model;
+
+/// The claims that wait and the free boards, so kept that a pass finds the next claim that may be
+/// met without a look at the others. Contracts see two plain lists: the claims in the order
+/// `before`, each with the type in whose queue it stands, and the free boards in name order, each
+/// with its type.
+///
+/// There is one queue for the reservations and one for each type; the claims of all stand in one
+/// ordered map, one queue behind the other, so that each queue is a range of it. A second map says
+/// where each number stands. A queue is open where a board of its type is free, and that of the
+/// reservations where any board is.
+///
+/// By a measure of the two maps alone a put of a claim costs about 0.3 us at 1,000 claims and up to
+/// 2.3 us at 100,000, and a take 0.2 to 1.1 us. A claim takes about 130 bytes.
+#[derive(Drop)]
+pub struct Queues {
+    /// The types that have a queue, each once, in the order in which they were first used.
+    kinds: Vec<Name>,
+    /// Each claim at its spot.
+    claims: BTreeMap<Spot, Claim>,
+    /// Where each claim's number stands.
+    places: BTreeMap<u64, Place>,
+    /// The free boards in name order, each with the queue of its type.
+    idle: Vec<IdleRow>,
+}
+
+impl Model for Queues {
+    ghost use Rattle.std.specs.Prelude.{map};
+    ghost use Rattle.farm_pick.specs.Queued.{Lists};
+    ghost use Rattle.farm_pick.specs.Kept.{shown_claims, shown_idle, IsWell};
+
+    ghost Value = { Lists };
+
+    ghost view = { λ q. record { claims = shown_claims q.kinds.items q.claims.entries; boards = map (shown_idle q.kinds.items) q.idle.items } };
+
+    ghost invariant = { λ q. IsWell q.kinds.items q.claims.entries q.places.entries q.idle.items };
+}
+
+impl Queues {
+    /// No claims and no boards.
+    pub fn new(alloc: Global) -> Queues
+        ensures claims { result.claims ≡ [] }
+        ensures boards { result.boards ≡ [] }
+    {
+        Queues {
+            kinds: Vec::new(alloc),
+            claims: BTreeMap::new(alloc),
+            places: BTreeMap::new(alloc),
+            idle: Vec::new(alloc),
+        }
+    }
+
+    /// Puts a claim into the queue of a type, or into that of the reservations, where no type is
+    /// given. No claim of its number may be there. A refused growth changes nothing.
+    ///
+    /// With C claims it costs O(log C), in the maps 0.3 us at 1,000 and up to 2.3 us at 100,000.
+    pub fn put_claim(&mut self, claim: Claim, kind: &Option<Name>) -> Result<(), AllocError>
+        requires { AllByRecursion (λ x. x.claim.number ≡ claim.number → ⊥) self.old.claims }
+        ensures ok { OnOk result (self.new ≡ record self.old {
+          claims = put queued_cmp self.old.claims (record { claim = claim; kind = kind.now });
+        }) }
+        ensures err { OnErr result (self.new ≡ self.old) }
+    {
+        let queue = kind::made_queue(&mut self.kinds, kind)?;
+        let spot = Spot {
+            queue,
+            priority: claim.priority.get(),
+            number: claim.number,
+        };
+        waiting::put(&mut self.claims, &mut self.places, spot, claim)
+    }
+
+    /// Takes the claim of a number; of a number that isn't there it changes nothing.
+    ///
+    /// With C claims it costs O(log C), in the maps 0.2 us at 1,000 and up to 1.1 us at 100,000.
+    pub fn take_claim(&mut self, number: u64)
+        ensures { self.new ≡ record self.old { claims = filter (λ x. not (x.claim.number == number)) self.old.claims } }
+    {
+        waiting::take(&mut self.claims, &mut self.places, number);
+    }
+
+    /// Puts a free board of a type, in the place of one of its name if there is one. A refused
+    /// growth changes nothing.
+    ///
+    /// With B free boards it costs a binary search, and a move of those behind it.
+    pub fn put_board(&mut self, name: Name, kind: &Name) -> Result<(), AllocError>
+        ensures ok { OnOk result (self.new ≡ record self.old {
+          boards = put named_cmp self.old.boards (record { name = name; kind = kind.now });
+        }) }
+        ensures err { OnErr result (self.new ≡ self.old) }
+    {
+        let queue = kind::made_type(&mut self.kinds, kind)?;
+        idle::put_row(&mut self.idle, IdleRow { name, queue })
+    }
+
+    /// Takes a free board; of a name that isn't there it changes nothing.
+    ///
+    /// With B free boards it costs a binary search, and a move of those behind it.
+    pub fn take_board(&mut self, name: &Name)
+        ensures { self.new ≡ record self.old { boards = filter (λ b. not (bytes_eq b.name name.now)) self.old.boards } }
+    {
+        idle::take_row(&mut self.idle, name);
+    }
+
+    /// Lends from each queue its first claim that comes after a priority and a number, if they are
+    /// given, in the order `before`; without `all` only from queues that are open. It takes no
+    /// memory. With C claims and K types it costs O(K log C) to lend them all.
+    pub fn heads(&self, after: Option<(Priority, u64)>, all: bool) -> Heads<'_>
+        ensures { (kinds : List (Option (List ℕ))) × AreKindsOf self.now.claims kinds
+            × (result ≡ filter_map (head_of (is_later (last_spot after)) (λ k. all || is_open self.now.boards k) self.now.claims) kinds) }
+    {
+        let last = spot::last_spot(after);
+        Heads::new(&self.kinds, &self.claims, &self.idle, last, all)
+    }
+
+    /// The first claim that comes after a priority and a number, if they are given, in the order
+    /// `before`; without `all` only of queues that are open: of what `heads` lends the one that goes
+    /// first. The claim tried last is given by its priority and number, since it may have been taken
+    /// since. It takes no memory.
+    ///
+    /// It looks at the head of each open queue: with C claims and K types it costs O(K log C), by
+    /// look-ups in the map of 60 to 90 ns each at 1,000 claims.
+    pub fn next(&self, after: Option<(Priority, u64)>, all: bool) -> Option<&Claim>
+        ensures { option_copied result ≡ option_map (λ x. x.claim)
+            (find (λ x. is_later (last_spot after) x.claim && (all || is_open self.now.boards x.kind)) self.now.claims) }
+    {
+        let last = spot::last_spot(after);
+        waiting::first(&self.kinds, &self.claims, &self.idle, last, all)
+    }
+
+    /// The places of the least list of boards that meets the wants, out of the free boards that are
+    /// here, or None where no list does: what `farm_pick::least_of` gives with ServingIdle, without a
+    /// look at boards that aren't free. The boards here are the free ones of `boards`, each with its
+    /// type. It takes no memory.
+    ///
+    /// Each want costs a number's comparison a free board, and for those of its type a binary search
+    /// and a test, up to as many that fit as there are wants.
+    pub fn least_of(
+        &self,
+        boards: &[BoardRow],
+        types: &[TypeRow],
+        wants: &[&Want],
+    ) -> Option<Picked>
+        requires ordered { IsStrictlySortedBy board_cmp boards.now }
+        requires few { length wants.now ≤ 4 }
+        requires free { self.now.boards ≡ map idle_board (filter (is_free types.now) boards.now) }
+        ensures least { option_map (boards_at boards.now) result ≡ least boards.now (is_free types.now) (map (λ w. w.now) wants.now) }
+        ensures len { IfSome result (λ places. length places ≡ length wants.now) }
+        ensures within { IfSome result (λ places. All (λ i. i < length boards.now) places) }
+        ensures different { IfSome result (λ places. AllPairs (λ i j. i ≢ j) places) }
+    {
+        idle_search::least_of(&self.kinds, &self.idle, boards, types, wants)
+    }
+
+    /// The places of the least list of free boards that meets the wants, at the cost of `least_of`.
+    pub fn least(&self, boards: &[BoardRow], types: &[TypeRow], wants: &Wants) -> Option<Picked>
+        requires ordered { IsStrictlySortedBy board_cmp boards.now }
+        requires free { self.now.boards ≡ map idle_board (filter (is_free types.now) boards.now) }
+        ensures least { option_map (boards_at boards.now) result ≡ least boards.now (is_free types.now) wants.now }
+        ensures len { IfSome result (λ places. length places ≡ length wants.now) }
+        ensures within { IfSome result (λ places. All (λ i. i < length boards.now) places) }
+        ensures different { IfSome result (λ places. AllPairs (λ i j. i ≢ j) places) }
+    {
+        match wants.items() {
+            [a] => self.least_of(boards, types, &[a]),
+            [a, b] => self.least_of(boards, types, &[a, b]),
+            [a, b, c] => self.least_of(boards, types, &[a, b, c]),
+            [a, b, c, d] => self.least_of(boards, types, &[a, b, c, d]),
+            _ => unreachable!(),
+        }
+    }
+}

@@ -1,0 +1,145 @@
+//! The claims of all queues in one ordered map, one queue behind the other.
+ghost use Rattle.std.specs.Prelude.{◌≡◌, ◌≤◌, ◌+◌, ◌||◌, ℕ, length, cond, Some, None, OnOk, OnErr};
+ghost use Rattle.std.specs.List.{AllByRecursion};
+ghost use Rattle.std.specs.BTreeMap.{insert_entry};
+ghost use Rattle.std.specs.Option.{option_copied};
+ghost use Rattle.std.specs.Ordering.{is_eq, nat_cmp};
+ghost use Rattle.farm_pick.specs.Heads.{AreHeads, IsHead, IsFirst, earlier, head_in, queue_open};
+ghost use Rattle.farm_pick.specs.Kept.{spot_cmp, claim_at, place_at, IsKeyed, TakesOrStays};
+
+use crate::idle::{self, IdleRow};
+use crate::order::before;
+use crate::spot::{Place, Spot};
+use farm_types::claims::Claim;
+use farm_types::words::Name;
+use std::alloc::AllocError;
+use std::collections::BTreeMap;
+use std::ops::Bound;
+
+/// Puts a claim at its spot, and notes where its number stands. A refused growth changes nothing.
+pub fn put(
+    claims: &mut BTreeMap<Spot, Claim>,
+    places: &mut BTreeMap<u64, Place>,
+    spot: Spot,
+    claim: Claim,
+) -> Result<(), AllocError>
+    requires claim { claim_at claims.old.entries spot ≡ None }
+    requires place { place_at places.old.entries spot.number ≡ None }
+    ensures claims { OnOk result (claims.new.entries ≡ insert_entry spot_cmp claims.old.entries spot claim) }
+    ensures claim { OnOk result ((s : Spot) → claim_at claims.new.entries s
+        ≡ cond (is_eq (spot_cmp spot s)) (Some claim) (claim_at claims.old.entries s)) }
+    ensures place { OnOk result ((n : ℕ) → place_at places.new.entries n
+        ≡ cond (is_eq (nat_cmp spot.number n)) (Some (record { queue = spot.queue; priority = spot.priority })) (place_at places.old.entries n)) }
+    ensures claims_stay { OnErr result (claims.new.entries ≡ claims.old.entries) }
+    ensures places_stay { OnErr result (places.new.entries ≡ places.old.entries) }
+{
+    let place = Place {
+        queue: spot.queue,
+        priority: spot.priority,
+    };
+    let _none = places.insert(spot.number, place)?;
+    if let Err(_refused) = claims.insert(spot, claim) {
+        let _place = places.remove(&spot.number);
+        return Err(AllocError);
+    }
+    Ok(())
+}
+
+/// Takes the claim of a number from its spot, if there is one.
+pub fn take(claims: &mut BTreeMap<Spot, Claim>, places: &mut BTreeMap<u64, Place>, number: u64)
+    ensures { TakesOrStays claims.old.entries claims.new.entries places.old.entries places.new.entries
+        number (place_at places.old.entries number) }
+{
+    if let Some(place) = places.remove(&number) {
+        let spot = Spot {
+            queue: place.queue,
+            priority: place.priority,
+            number,
+        };
+        let _claim = claims.remove(&spot);
+    }
+}
+
+/// The first claim of the queue of a spot that comes after the spot.
+pub fn head(claims: &BTreeMap<Spot, Claim>, last: Spot) -> Option<&Claim>
+    ensures { IsHead claims.now.entries last (option_copied result) }
+{
+    match claims
+        .range((Bound::Excluded(last), Bound::Unbounded))
+        .next()
+    {
+        None => None,
+        Some((spot, claim)) => {
+            if spot.queue == last.queue {
+                Some(claim)
+            } else {
+                None
+            }
+        }
+    }
+}
+
+/// Of two claims the one that goes first.
+fn earlier<'a>(first: Option<&'a Claim>, second: Option<&'a Claim>) -> Option<&'a Claim>
+    ensures { option_copied result ≡ earlier (option_copied first.entry) (option_copied second.entry) }
+{
+    match (first, second) {
+        (None, second) => second,
+        (first, None) => first,
+        (Some(first), Some(second)) => {
+            if before(second, first) {
+                Some(second)
+            } else {
+                Some(first)
+            }
+        }
+    }
+}
+
+/// Whether the queue is looked at.
+fn is_seen(rows: &[IdleRow], queue: usize, all: bool) -> bool
+    ensures { result ≡ (all || queue_open rows.now queue) }
+{
+    all || idle::is_open(rows, queue)
+}
+
+/// The first claim that comes after a spot in the spot's queue, if the queue is open or all are
+/// asked for.
+pub fn seen_head<'a>(
+    kinds: &[Name],
+    claims: &'a BTreeMap<Spot, Claim>,
+    rows: &[IdleRow],
+    last: Spot,
+    all: bool,
+) -> Option<&'a Claim>
+    requires well { AreHeads kinds.now claims.now.entries rows.now }
+    requires queue { last.queue ≤ length kinds.now }
+    ensures { option_copied result ≡ head_in kinds.now claims.now.entries rows.now all last }
+{
+    if is_seen(rows, last.queue, all) {
+        head(claims, last)
+    } else {
+        None
+    }
+}
+
+/// The first claim of the open queues, or of all, that comes after a spot: of the heads of these
+/// queues the one that goes first.
+pub fn first<'a>(
+    kinds: &[Name],
+    claims: &'a BTreeMap<Spot, Claim>,
+    rows: &[IdleRow],
+    last: Spot,
+    all: bool,
+) -> Option<&'a Claim>
+    requires { AllByRecursion (IsKeyed kinds.now) claims.now.entries }
+    ensures { IsFirst claims.now.entries (λ q. all || queue_open rows.now q) (length kinds.now + 1) last (option_copied result) }
+{
+    let mut best = None;
+    for queue in 0..kinds.len() + 1 {
+        if is_seen(rows, queue, all) {
+            best = earlier(best, head(claims, Spot { queue, ..last }));
+        }
+    }
+    best
+}
