@@ -1,4 +1,5 @@
--- What a draft is to those that use it: the farm that it began with, and the farm that it has come to.
+-- What a draft is to those that use it: the farm that it began with, and the farm that it has come
+-- to.
 use Rattle.std.specs.Prelude.{◌≡◌, ℕ, List}
 use Rattle.farm_types.specs.Farm.{Farm}
 use Rattle.farm_types.specs.Change.{act, done}

@@ -27,9 +27,15 @@ job_passes (JobEdit.Schedule number board) j = j.number == number
 
 abbrev pub job_changed : JobEdit → JobRow → JobRow
 job_changed (JobEdit.Start group) j = record j { state = JobState.Running }
-job_changed (JobEdit.End group) j = record j { state = JobState.Finished; outcome = Some Outcome.Canceled }
+job_changed (JobEdit.End group) j = record j {
+  state = JobState.Finished;
+  outcome = Some Outcome.Canceled;
+}
 job_changed (JobEdit.Cancel group) j = record j { state = JobState.Canceling }
-job_changed (JobEdit.Finish number outcome) j = record j { state = JobState.Finished; outcome = Some outcome }
+job_changed (JobEdit.Finish number outcome) j = record j {
+  state = JobState.Finished;
+  outcome = Some outcome;
+}
 job_changed (JobEdit.Schedule number board) j = scheduled board.now j
 
 -- the least number of a job that passes; the others are among the next three
@@ -51,11 +57,18 @@ res_passes (ResEdit.Allocate number board deadline) r = r.number == number
 
 abbrev pub res_changed : ResEdit → ResRow → ResRow
 res_changed (ResEdit.Acquire number) r = record r { state = ResState.Acquired }
-res_changed (ResEdit.Release number deadline) r = record r { state = ResState.Allocated; deadline = deadline }
+res_changed (ResEdit.Release number deadline) r = record r {
+  state = ResState.Allocated;
+  deadline = deadline;
+}
 res_changed (ResEdit.Refresh number deadline) r = record r { deadline = deadline }
 res_changed (ResEdit.Cancel number) r = record r { state = ResState.Canceled }
 res_changed (ResEdit.Expire now) r = record r { state = ResState.Expired }
-res_changed (ResEdit.Allocate number board deadline) r = record r { state = ResState.Allocated; board = Some board.now; deadline = deadline }
+res_changed (ResEdit.Allocate number board deadline) r = record r {
+  state = ResState.Allocated;
+  board = Some board.now;
+  deadline = deadline;
+}
 
 -- what becomes of a board
 abbrev pub board_after : Becomes → BoardRow → BoardRow

@@ -11,7 +11,8 @@ use Rattle.farm_types.specs.declared.rows.JobRow.{JobRow}
 abbrev pub IsNear : JobRow → Type 0
 IsNear j = (j.group ≤ j.number) × (j.number < j.group + 4)
 
--- each table stands in order of its keys, no number is large, and the members of a group stand side by side
+-- each table stands in order of its keys, no number is large, and the members of a group stand side
+-- by side
 pub record IsOrderly (F : Farm) : Type 0 where
   pub types : IsStrictlySortedBy type_cmp F.types
   pub boards : IsStrictlySortedBy board_cmp F.boards
@@ -25,7 +26,8 @@ pub record IsOrderly (F : Farm) : Type 0 where
   pub near : AllByRecursion IsNear F.jobs
 
 -- rows before a place have smaller numbers, those from it on have not
-pub record IsPlaceOf {R : Type 0} (number_of : R → ℕ) (rows : List R) (number place : ℕ) : Type 0 where
+pub record IsPlaceOf {R : Type 0} (number_of : R → ℕ) (rows : List R) (number place : ℕ)
+    : Type 0 where
   pub below : (k : ℕ) (d : R) → k < place → number_of (get_or rows k d) < number
   pub above : (k : ℕ) (d : R) → place ≤ k → k < length rows → number ≤ number_of (get_or rows k d)
 

@@ -1,5 +1,19 @@
 -- What the program does for one claim of a pass.
-use Rattle.std.specs.Prelude.{◌≡◌, ◌==◌, ◌+◌, ℕ, Bool, true, false, List, [], ◌∷◌, map, IsSomeAnd, if◌then◌else◌}
+use Rattle.std.specs.Prelude.{
+  ◌≡◌,
+  ◌==◌,
+  ◌+◌,
+  ℕ,
+  Bool,
+  true,
+  false,
+  List,
+  [],
+  ◌∷◌,
+  map,
+  IsSomeAnd,
+  if◌then◌else◌,
+}
 use Rattle.std.specs.Str.{bytes_eq}
 use Rattle.farm_types.specs.Table.{change_where}
 use Rattle.farm_types.specs.Farm.{Farm, members, res_of}
@@ -13,7 +27,8 @@ use Rattle.farm_core.specs.Drafted.{Drafted}
 abbrev pub give_named : Farm → ℕ × List ℕ → Farm
 give_named F (number, name) = record F {
   jobs = change_where (λ m. m.number == number) (scheduled name) F.jobs;
-  boards = change_where (λ c. bytes_eq c.name name) (held (Holder.Job number) State.Reserved) F.boards;
+  boards = change_where (λ c. bytes_eq c.name name) (held (Holder.Job number) State.Reserved)
+      F.boards;
 }
 
 -- a reservation is given the first board of some names, for a lease from now on
@@ -21,7 +36,8 @@ abbrev pub give_first : Farm → ℕ → List (List ℕ) → Farm
 give_first F number [] = F
 give_first F number (name ∷ names) = record F {
   reservations = change_where (λ r. r.number == number) (allocated name F.clock) F.reservations;
-  boards = change_where (λ c. bytes_eq c.name name) (held (Holder.Res number) State.Reserved) F.boards;
+  boards = change_where (λ c. bytes_eq c.name name) (held (Holder.Res number) State.Reserved)
+      F.boards;
 }
 
 -- a claim asks for what the rows of its reservation or its group want
@@ -35,4 +51,8 @@ counted n served = if served then n + 1 else n
 
 -- serving the claim, the machine comes to the farm that the draft comes to
 abbrev pub Serves : Drafted → Claimed → Bool → Drafted → Type 0
-Serves D c served E = ((n : ℕ) → serve D.farm.clock (record { farm = D.farm; claims = n }) c ≡ record { farm = E.farm; claims = counted n served }) × (E.start ≡ D.start)
+Serves D c served E =
+    ((n : ℕ) → serve D.farm.clock (record { farm = D.farm; claims = n }) c ≡ record {
+      farm = E.farm;
+      claims = counted n served;
+    }) × (E.start ≡ D.start)

@@ -40,7 +40,8 @@ impl Tables {
     /// Why a board of that name and type isn't added.
     pub fn refuse_add_board(&self, name: &Name, kind: &Name) -> Option<u16>
         requires { IsOrderly (plain self.now) }
-        ensures { result ≡ first_code ((is_none (type_of (plain self.now) kind.now), 10) ∷ (is_some (board_of (plain self.now) name.now), 13) ∷ []) }
+        ensures { result ≡ first_code ((is_none (type_of (plain self.now) kind.now), 10)
+            ∷ (is_some (board_of (plain self.now) name.now), 13) ∷ []) }
     {
         if self.find_type(kind).is_none() {
             return Some(NO_TYPE);
@@ -54,7 +55,8 @@ impl Tables {
     /// Why a board's tags aren't set.
     pub fn refuse_set_tags(&self, name: &Name) -> Option<u16>
         requires { IsOrderly (plain self.now) }
-        ensures { result ≡ first_code ((is_none (board_of (plain self.now) name.now), 12) ∷ (board_is (plain self.now) name.now is_retired, 15) ∷ []) }
+        ensures { result ≡ first_code ((is_none (board_of (plain self.now) name.now), 12)
+            ∷ (board_is (plain self.now) name.now is_retired, 15) ∷ []) }
     {
         match self.find_board(name) {
             None => Some(NO_BOARD),
@@ -72,7 +74,11 @@ impl Tables {
         requires { IsOrderly (plain self.now) }
         ensures { result ≡ first_code ((is_none (board_of (plain self.now) name.now), 12)
             ∷ (board_is (plain self.now) name.now is_retired, 15)
-            ∷ (same_health health Health.Retired && board_is (plain self.now) name.now (λ b. not (is_nobody b.holder)), 14) ∷ []) }
+            ∷ (
+              same_health health Health.Retired && board_is (plain self.now) name.now
+                  (λ b. not (is_nobody b.holder)),
+              14,
+            ) ∷ []) }
     {
         match self.find_board(name) {
             None => Some(NO_BOARD),
@@ -97,7 +103,8 @@ impl Draft {
         kind: &Name,
         tags: &Tags,
     ) -> Result<(Draft, u64), AllocError>
-        ensures { IfOk result (λ r. Acts self [] (Cmd.AddBoard name.now kind.now tags.now) r.1 r.0) }
+        ensures { IfOk result
+            (λ r. Acts self [] (Cmd.AddBoard name.now kind.now tags.now) r.1 r.0) }
     {
         let row = BoardRow {
             name: name.copy()?,

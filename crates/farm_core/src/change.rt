@@ -24,11 +24,16 @@ impl Tables {
     pub fn change(&mut self, call: &Call) -> Result<(Reply, Changes), AllocError>
         requires sound { IsSound (plain self.old) }
         requires accepted { None ≡ refusal (plain self.old) call.now }
-        ensures farm { OnOk result (plain self.new ≡ (change (plain self.old) call.entry.now).farm) }
+        ensures farm { OnOk result
+            (plain self.new ≡ (change (plain self.old) call.entry.now).farm) }
         ensures reply { IfOk result (λ r. r.0 ≡ (change (plain self.old) call.entry.now).reply) }
         ensures rows { IfOk result (λ r. put_rows (plain self.old) r.1 ≡ plain self.new) }
         ensures small { IfOk result (λ r. AreSmallRows r.1) }
-        ensures meta { IfOk result (λ r. r.1.meta ≡ record { clock = self.new.clock; count = self.new.count; next = self.new.next }) }
+        ensures meta { IfOk result (λ r. r.1.meta ≡ record {
+          clock = self.new.clock;
+          count = self.new.count;
+          next = self.new.next;
+        }) }
     {
         let count = self.count + 1;
         self.clock = self.clock.max(call.now);
@@ -56,8 +61,11 @@ impl Draft {
         requires small { IsSmallCmd call.now.cmd }
         requires clock { self.farm.clock ≤ 250000000000 }
         requires next { self.farm.next ≤ 1000000000 }
-        ensures farm { IfOk result (λ r. r.0 ≡ at_farm (act self.farm call.entry.now.caller call.entry.now.cmd).farm self) }
-        ensures reply { IfOk result (λ r. r.1 ≡ (act self.farm call.entry.now.caller call.entry.now.cmd).reply) }
+        ensures farm { IfOk result
+            (λ r. r.0 ≡ at_farm (act self.farm call.entry.now.caller call.entry.now.cmd).farm
+            self) }
+        ensures reply { IfOk result
+            (λ r. r.1 ≡ (act self.farm call.entry.now.caller call.entry.now.cmd).reply) }
     {
         match &call.cmd {
             Cmd::Pass => self.pass(),

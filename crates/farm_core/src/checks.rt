@@ -122,7 +122,8 @@ impl Draft {
     /// Checks the board at a place, where there is room for one more job.
     fn check_board(self, at: usize) -> Result<Draft, AllocError>
         requires { at < length self.farm.boards }
-        ensures { IfOk result (λ d. (b : BoardRow) → b ≡ get_or self.farm.boards at b → d ≡ at_farm (check_one self.farm b) self) }
+        ensures { IfOk result (λ d. (b : BoardRow) → b ≡ get_or self.farm.boards at b
+            → d ≡ at_farm (check_one self.farm b) self) }
     {
         if !self.tables.has_room(1) {
             return Ok(self);
@@ -140,7 +141,8 @@ impl Draft {
     /// looks at each once, and a check adds its row at the end of the jobs.
     pub fn checks(self) -> Result<(Draft, u64), AllocError>
         ensures farm { IfOk result (λ r. r.0 ≡ at_farm (checks self.farm self.farm.clock) self) }
-        ensures count { IfOk result (λ r. r.1 ≡ (checks self.farm self.farm.clock).next - self.farm.next) }
+        ensures count { IfOk result
+            (λ r. r.1 ≡ (checks self.farm self.farm.clock).next - self.farm.next) }
     {
         let first = self.tables.next;
         let count = self.tables.boards.len();

@@ -1,5 +1,6 @@
-//! A draft: the tables on their way from one farm to another, and the rows that have changed so far.
-//! Each table has one edit, which logs the changed rows as well; no command writes a table otherwise.
+//! A draft: the tables on their way from one farm to another, and the rows that have changed so
+//! far. Each table has one edit, which logs the changed rows as well; no command writes a table
+//! otherwise.
 ghost use Rattle.std.specs.Prelude.{◌≡◌, IfOk};
 ghost use Rattle.farm_types.specs.Table.{put, job_cmp};
 ghost use Rattle.farm_types.specs.Farm.{Farm, put_type, put_board, put_res, put_kept};
@@ -93,7 +94,8 @@ impl Draft {
     pub fn put_job(mut self, row: JobRow) -> Result<Draft, AllocError>
         requires small { IsSmallJob row }
         requires near { IsNear row }
-        ensures { IfOk result (λ d. d ≡ at_farm (record self.farm { jobs = put job_cmp self.farm.jobs row }) self) }
+        ensures { IfOk result
+            (λ d. d ≡ at_farm (record self.farm { jobs = put job_cmp self.farm.jobs row }) self) }
     {
         self.changes.jobs.push(row.copy()?)?;
         upsert(&mut self.tables.jobs, row)?;

@@ -61,10 +61,14 @@ pub fn change_rows<R: Logged + Drop, E: Edit<R>>(
 ) -> Result<(), AllocError>
     requires start { start ≤ end }
     requires end { end ≤ length rows.old.items }
-    requires before { (k : ℕ) (d : R) → k < start → E.passes edit.now (get_or rows.old.items k d) ≡ false }
-    requires behind { (k : ℕ) (d : R) → end ≤ k → k < length rows.old.items → E.passes edit.now (get_or rows.old.items k d) ≡ false }
-    ensures rows { OnOk result (rows.new.items ≡ change_where (E.passes edit.now) (E.changed edit.now) rows.old.items) }
-    ensures log { OnOk result (log.new.items ≡ log.old.items ++ map (E.changed edit.now) (filter (E.passes edit.now) rows.old.items)) }
+    requires before { (k : ℕ) (d : R) → k < start → E.passes edit.now (get_or rows.old.items k d)
+        ≡ false }
+    requires behind { (k : ℕ) (d : R) → end ≤ k → k < length rows.old.items
+        → E.passes edit.now (get_or rows.old.items k d) ≡ false }
+    ensures rows { OnOk result (rows.new.items ≡ change_where (E.passes edit.now)
+        (E.changed edit.now) rows.old.items) }
+    ensures log { OnOk result (log.new.items ≡ log.old.items ++ map (E.changed edit.now)
+        (filter (E.passes edit.now) rows.old.items)) }
 {
     for at in start..end {
         if edit.passes(&rows[at]) {

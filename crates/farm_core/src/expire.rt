@@ -16,12 +16,13 @@ use farm_types::calls::Changes;
 use std::alloc::AllocError;
 
 impl Draft {
-    /// Ends each reservation that waits or has been allocated and whose deadline has come, and frees
-    /// the board that it holds. Gives how many. With R reservations and B boards it costs
-    /// O(R + B log R).
+    /// Ends each reservation that waits or has been allocated and whose deadline has come, and
+    /// frees the board that it holds. Gives how many. With R reservations and B boards it costs O(R
+    /// + B log R).
     pub fn expire(self) -> Result<(Draft, u64), AllocError>
         ensures farm { IfOk result (λ r. r.0 ≡ at_farm (expire self.farm self.farm.clock) self) }
-        ensures count { IfOk result (λ r. r.1 ≡ length (filter (is_dead self.farm.clock) self.farm.reservations)) }
+        ensures count { IfOk result
+            (λ r. r.1 ≡ length (filter (is_dead self.farm.clock) self.farm.reservations)) }
     {
         let edit = ResEdit::Expire(self.tables.clock);
         // The boards first: the reservations as they were tell which are freed.

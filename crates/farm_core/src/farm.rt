@@ -166,10 +166,11 @@ impl Farm {
         }
     }
 
-    /// The claims that wait, in the order in which they are served. What a failed farm shows is open.
-    /// With J jobs, R reservations and C claims it costs O(J + R + C log C).
+    /// The claims that wait, in the order in which they are served. What a failed farm shows is
+    /// open. With J jobs, R reservations and C claims it costs O(J + R + C log C).
     pub fn queue(&self) -> Result<Vec<Claim>, AllocError>
-        ensures { IfOk result (λ claims. self.now.failed ≡ false → claims.items ≡ map shown_claim (queue self.now.farm)) }
+        ensures { IfOk result (λ claims. self.now.failed ≡ false
+            → claims.items ≡ map shown_claim (queue self.now.farm)) }
     {
         let claims = self.tables.queue()?;
         Ok(claims)
@@ -181,7 +182,8 @@ impl Farm {
         ensures answer { IfOk result (λ a. shown a ≡ answer self.old.farm call.entry.now) }
         ensures farm { OnOk result (self.new.farm ≡ step self.old.farm call.entry.now) }
 
-        // The changed rows, put by their keys, lead from the old farm to the new one, and a store can keep them.
+        // The changed rows, put by their keys, lead from the old farm to the new one, and a store
+        // can keep them.
         ensures rows { IfOk result (λ a. Leads a self.old.farm self.new.farm) }
         ensures small { IfOk result AreSmallChanges }
 
@@ -191,7 +193,8 @@ impl Farm {
         ensures working { OnOk result (self.new.failed ≡ false) }
 
         // Memory is wanted only for a change, and then the farm has failed.
-        ensures memory { result ≡ Err StepFault.NoMemory → IsChange (answer self.old.farm call.entry.now) }
+        ensures memory { result ≡ Err StepFault.NoMemory
+            → IsChange (answer self.old.farm call.entry.now) }
         ensures fails { result ≡ Err StepFault.NoMemory → self.new.failed ≡ true }
 
         // A failed farm stays as it is.

@@ -42,7 +42,12 @@ impl Draft {
     /// The board of that name is reserved for a holder. With B boards it costs O(log B).
     pub fn hold_board(mut self, name: &Name, holder: Holder) -> Result<Draft, AllocError>
         requires { IsSmall (held_by holder) }
-        ensures { IfOk result (λ d. d ≡ at_farm (record self.farm { boards = change_where (λ c. bytes_eq c.name name.now) (held holder State.Reserved) self.farm.boards }) self) }
+        ensures { IfOk result
+            (λ d. d ≡ at_farm
+            (record self.farm {
+              boards = change_where (λ c. bytes_eq c.name name.now)
+                  (held holder State.Reserved) self.farm.boards;
+            }) self) }
     {
         let (start, end) = window_of(&self.tables.boards, name);
         let hold = Hold { name, holder };
@@ -69,7 +74,8 @@ impl Draft {
     /// Each job is given the board at its place among the names.
     pub fn give_jobs(self, numbers: &[u64], names: &[Name]) -> Result<Draft, AllocError>
         requires { AllByRecursion IsSmall numbers.now }
-        ensures { IfOk result (λ d. d ≡ at_farm (fold give_named self.farm (zip numbers.now names.now)) self) }
+        ensures { IfOk result
+            (λ d. d ≡ at_farm (fold give_named self.farm (zip numbers.now names.now)) self) }
     {
         let count = numbers.len().min(names.len());
         let mut draft = self;
@@ -83,7 +89,8 @@ impl Draft {
     fn give_reservation(self, number: u64, name: &Name) -> Result<Draft, AllocError>
         requires small { IsSmall number }
         requires clock { self.farm.clock ≤ 250000000000 }
-        ensures { IfOk result (λ d. d ≡ at_farm (give_first self.farm number (name.now ∷ [])) self) }
+        ensures { IfOk result
+            (λ d. d ≡ at_farm (give_first self.farm number (name.now ∷ [])) self) }
     {
         let deadline = self.tables.clock + LEASE_SECONDS;
         let draft = self.edit_reservation(number, ResEdit::Allocate(number, name, deadline))?;

@@ -55,7 +55,12 @@ impl Draft {
     /// Changes the jobs that pass. Only the rows of the edit's four numbers are looked at.
     pub fn edit_jobs(mut self, edit: JobEdit<'_>) -> Result<Draft, AllocError>
         requires { IsSmall (first_of edit) }
-        ensures { IfOk result (λ d. d ≡ at_farm (record self.farm { jobs = change_where (job_passes edit.entry) (job_changed edit.entry) self.farm.jobs }) self) }
+        ensures { IfOk result
+            (λ d. d ≡ at_farm
+            (record self.farm {
+              jobs = change_where (job_passes edit.entry)
+                  (job_changed edit.entry) self.farm.jobs;
+            }) self) }
     {
         let start = place_of(&self.tables.jobs, edit.first());
         let end = place_of(&self.tables.jobs, edit.first() + GROUP_REACH);
@@ -76,7 +81,13 @@ impl Draft {
         becomes: Becomes,
     ) -> Result<Draft, AllocError>
         requires { IfAfterCheck becomes }
-        ensures { IfOk result (λ d. d ≡ at_farm (record self.farm { boards = change_where (λ b. is_job_in self.farm.jobs (job_passes edit.entry) b.holder) (board_after becomes) self.farm.boards }) self) }
+        ensures { IfOk result
+            (λ d. d ≡ at_farm
+            (record self.farm {
+              boards = change_where
+                  (λ b. is_job_in self.farm.jobs (job_passes edit.entry) b.holder)
+                  (board_after becomes) self.farm.boards;
+            }) self) }
     {
         let end = self.tables.boards.len();
         let held = OfJobs {
@@ -102,7 +113,9 @@ impl Draft {
     ) -> Result<Draft, AllocError>
         requires first { IsSmall (first_of edit) }
         requires small { IfAfterCheck becomes }
-        ensures { IfOk result (λ d. d ≡ at_farm (change_jobs (job_passes edit.entry) (job_changed edit.entry) (board_after becomes) self.farm) self) }
+        ensures { IfOk result
+            (λ d. d ≡ at_farm (change_jobs (job_passes edit.entry) (job_changed edit.entry)
+            (board_after becomes) self.farm) self) }
     {
         // The boards first: the jobs as they were tell which change.
         let draft = self.edit_boards_of_jobs(edit, becomes)?;
@@ -119,10 +132,18 @@ impl Draft {
         requires small { (r : ResRow) → IsSmallRes r → IsSmallRes (res_changed edit r) }
         requires start { start ≤ end }
         requires end { end ≤ length self.farm.reservations }
-        requires before { (k : ℕ) (d : ResRow) → k < start → res_passes edit (get_or self.farm.reservations k d) ≡ false }
-        requires behind { (k : ℕ) (d : ResRow) → end ≤ k → k < length self.farm.reservations → res_passes edit (get_or self.farm.reservations k d) ≡ false }
-        ensures farm { IfOk result (λ r. r.0 ≡ at_farm (record self.farm { reservations = change_where (res_passes edit.entry) (res_changed edit.entry) self.farm.reservations }) self) }
-        ensures count { IfOk result (λ r. r.1 ≡ length (filter (res_passes edit.entry) self.farm.reservations)) }
+        requires before { (k : ℕ) (d : ResRow) → k < start
+            → res_passes edit (get_or self.farm.reservations k d) ≡ false }
+        requires behind { (k : ℕ) (d : ResRow) → end ≤ k → k < length self.farm.reservations
+            → res_passes edit (get_or self.farm.reservations k d) ≡ false }
+        ensures farm { IfOk result
+            (λ r. r.0 ≡ at_farm
+            (record self.farm {
+              reservations = change_where (res_passes edit.entry)
+                  (res_changed edit.entry) self.farm.reservations;
+            }) self) }
+        ensures count { IfOk result
+            (λ r. r.1 ≡ length (filter (res_passes edit.entry) self.farm.reservations)) }
     {
         let before = self.changes.reservations.len();
         change_rows(
@@ -136,14 +157,20 @@ impl Draft {
         Ok((self, count))
     }
 
-    /// Changes the boards that the reservations hold that pass. Each board is looked at, in name order.
+    /// Changes the boards that the reservations hold that pass. Each board is looked at, in name
+    /// order.
     pub fn edit_boards_of_reservations(
         mut self,
         edit: ResEdit<'_>,
         becomes: Becomes,
     ) -> Result<Draft, AllocError>
         requires { IfAfterCheck becomes }
-        ensures { IfOk result (λ d. d ≡ at_farm (record self.farm { boards = change_where (λ b. is_res_in self.farm.reservations (res_passes edit.entry) b.holder) (board_after becomes) self.farm.boards }) self) }
+        ensures { IfOk result
+            (λ d. d ≡ at_farm
+            (record self.farm {
+              boards = change_where (λ b. is_res_in self.farm.reservations
+                  (res_passes edit.entry) b.holder) (board_after becomes) self.farm.boards;
+            }) self) }
     {
         let end = self.tables.boards.len();
         let held = OfReservations {
@@ -166,7 +193,12 @@ impl Draft {
         requires number { IsSmall number }
         requires one { (r : ResRow) → res_passes edit r ≡ (r.number == number) }
         requires small { (r : ResRow) → IsSmallRes r → IsSmallRes (res_changed edit r) }
-        ensures { IfOk result (λ d. d ≡ at_farm (record self.farm { reservations = change_where (res_passes edit.entry) (res_changed edit.entry) self.farm.reservations }) self) }
+        ensures { IfOk result
+            (λ d. d ≡ at_farm
+            (record self.farm {
+              reservations = change_where (res_passes edit.entry)
+                  (res_changed edit.entry) self.farm.reservations;
+            }) self) }
     {
         let start = res_place_of(&self.tables.reservations, number);
         let end = res_place_of(&self.tables.reservations, number + 1);
@@ -185,7 +217,9 @@ impl Draft {
         requires one { (r : ResRow) → res_passes edit r ≡ (r.number == number) }
         requires small { (r : ResRow) → IsSmallRes r → IsSmallRes (res_changed edit r) }
         requires board { IfAfterCheck becomes }
-        ensures { IfOk result (λ d. d ≡ at_farm (change_res (res_passes edit.entry) (res_changed edit.entry) (board_after becomes) self.farm) self) }
+        ensures { IfOk result
+            (λ d. d ≡ at_farm (change_res (res_passes edit.entry) (res_changed edit.entry)
+            (board_after becomes) self.farm) self) }
     {
         // The board first: the reservations as they were tell which changes.
         let draft = self.edit_boards_of_reservations(edit, becomes)?;

@@ -99,7 +99,11 @@ impl Tables {
         requires { IsOrderly (plain self.now) }
         ensures { result ≡ first_code ((is_none (job_of (plain self.now) number), 20)
             ∷ (not (job_is (plain self.now) number (λ j. owned_by caller.now j.owner)), 3)
-            ∷ (not (job_is (plain self.now) number (λ j. list_any can_cancel (members (plain self.now) j.group))), 21) ∷ []) }
+            ∷ (
+              not (job_is (plain self.now) number
+                  (λ j. list_any can_cancel (members (plain self.now) j.group))),
+              21,
+            ) ∷ []) }
     {
         match self.find_job(number) {
             None => Some(NO_JOB),
@@ -119,7 +123,11 @@ impl Tables {
     pub fn refuse_start(&self, number: u64) -> Option<u16>
         requires { IsOrderly (plain self.now) }
         ensures { result ≡ first_code ((is_none (job_of (plain self.now) number), 20)
-            ∷ (not (job_is (plain self.now) number (λ j. same_job_state j.state JobState.Scheduled)), 21) ∷ []) }
+            ∷ (
+              not (job_is (plain self.now) number
+                  (λ j. same_job_state j.state JobState.Scheduled)),
+              21,
+            ) ∷ []) }
     {
         match self.find_job(number) {
             None => Some(NO_JOB),
@@ -136,7 +144,11 @@ impl Tables {
     pub fn refuse_finish(&self, number: u64) -> Option<u16>
         requires { IsOrderly (plain self.now) }
         ensures { result ≡ first_code ((is_none (job_of (plain self.now) number), 20)
-            ∷ (not (job_is (plain self.now) number (λ j. same_job_state j.state JobState.Running || same_job_state j.state JobState.Canceling)), 21) ∷ []) }
+            ∷ (
+              not (job_is (plain self.now) number (λ j. same_job_state j.state JobState.Running
+                  || same_job_state j.state JobState.Canceling)),
+              21,
+            ) ∷ []) }
     {
         match self.find_job(number) {
             None => Some(NO_JOB),
@@ -165,7 +177,8 @@ impl Draft {
         Ok((draft, group))
     }
 
-    /// Starts a job's whole group: its members run, and so do their boards. Gives the group's number.
+    /// Starts a job's whole group: its members run, and so do their boards. Gives the group's
+    /// number.
     pub fn start(self, number: u64) -> Result<(Draft, u64), AllocError>
         ensures { IfOk result (λ r. Acts self [] (Cmd.Start number) r.1 r.0) }
     {

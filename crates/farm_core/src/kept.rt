@@ -59,7 +59,8 @@ impl Kept {
     /// What is kept for a caller and a key.
     pub fn find(&self, caller: &Name, key: &Key) -> Option<&KeptRow>
         requires { IsStrictlySortedBy kept_cmp self.now }
-        ensures { option_copied result ≡ find (λ r. bytes_eq r.caller caller.now && bytes_eq r.key key.now) self.now }
+        ensures { option_copied result ≡ find (λ r. bytes_eq r.caller caller.now
+            && bytes_eq r.key key.now) self.now }
     {
         seek::kept_of(&self.rows, caller, key)
     }

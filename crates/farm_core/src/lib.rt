@@ -1,7 +1,7 @@
 //! The machine of the board farm: one farm, and one call after another.
 //!
-//! Read `specs/` in the order Plain, Shown, Answers, which say what callers see; then Calls, Orderly,
-//! Tracks, Drafted, Edits, Serving, which say what a command keeps on its way.
+//! Read `specs/` in the order Plain, Shown, Answers, which say what callers see; then Calls,
+//! Orderly, Tracks, Drafted, Edits, Serving, which say what a command keeps on its way.
 #![tactic(auto)]
 
 mod boards;

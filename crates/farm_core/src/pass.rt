@@ -20,7 +20,8 @@ use std::alloc::AllocError;
 impl Tables {
     /// The claims that wait, in the order in which they are served.
     pub fn queue(&self) -> Result<Vec<Claim>, AllocError>
-        ensures { IfOk result (λ claims. IsSound (plain self.now) → claims.items ≡ map shown_claim (queue (plain self.now))) }
+        ensures { IfOk result (λ claims. IsSound (plain self.now)
+            → claims.items ≡ map shown_claim (queue (plain self.now))) }
     {
         let claims = farm_pick::queue_of(*self.jobs.allocator(), &self.jobs, &self.reservations)?;
         Ok(claims)
@@ -29,8 +30,8 @@ impl Tables {
 
 impl Draft {
     /// A pass: leases that have come to their ends are over, each due board is checked while there
-    /// is room, and then the claims are served in turn. Gives how many boards were checked, how many
-    /// leases ended and how many claims were served.
+    /// is room, and then the claims are served in turn. Gives how many boards were checked, how
+    /// many leases ended and how many claims were served.
     pub fn pass(self) -> Result<(Draft, Reply), AllocError>
         requires { IsSound self.farm }
         ensures farm { IfOk result (λ r. r.0 ≡ at_farm (act self.farm [] Cmd.Pass).farm self) }

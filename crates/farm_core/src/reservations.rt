@@ -44,7 +44,11 @@ fn is_alive(row: &ResRow) -> bool
 /// Why a command on a reservation is refused, where it is there: it is another's, its deadline has
 /// come, or its state is wrong.
 fn refuse_row(row: &ResRow, now: u64, mine: bool, right: bool) -> Option<u16>
-    ensures { result ≡ first_code ((not mine, 3) ∷ (same_res_state row.now.state ResState.Expired || is_dead now row.now, 31) ∷ (not right, 32) ∷ []) }
+    ensures { result ≡ first_code ((not mine, 3) ∷ (
+      same_res_state row.now.state ResState.Expired
+          || is_dead now row.now,
+      31,
+    ) ∷ (not right, 32) ∷ []) }
 {
     if !mine {
         return Some(FORBIDDEN);
@@ -70,7 +74,8 @@ impl Tables {
     /// Why a reservation isn't acquired: its owner alone may.
     pub fn refuse_acquire(&self, caller: &Name, now: u64, number: u64) -> Option<u16>
         requires { IsOrderly (plain self.now) }
-        ensures { result ≡ first_code (res_reasons (plain self.now) now number (λ r. bytes_eq caller.now r.owner) (λ r. same_res_state r.state ResState.Allocated)) }
+        ensures { result ≡ first_code (res_reasons (plain self.now) now number
+            (λ r. bytes_eq caller.now r.owner) (λ r. same_res_state r.state ResState.Allocated)) }
     {
         match self.find_reservation(number) {
             None => Some(NO_RESERVATION),
@@ -86,7 +91,8 @@ impl Tables {
     /// Why a reservation isn't released.
     pub fn refuse_release(&self, caller: &Name, now: u64, number: u64) -> Option<u16>
         requires { IsOrderly (plain self.now) }
-        ensures { result ≡ first_code (res_reasons (plain self.now) now number (λ r. owned_by caller.now r.owner) (λ r. same_res_state r.state ResState.Acquired)) }
+        ensures { result ≡ first_code (res_reasons (plain self.now) now number
+            (λ r. owned_by caller.now r.owner) (λ r. same_res_state r.state ResState.Acquired)) }
     {
         match self.find_reservation(number) {
             None => Some(NO_RESERVATION),
@@ -102,7 +108,8 @@ impl Tables {
     /// Why a reservation isn't refreshed, or canceled.
     pub fn refuse_alive(&self, caller: &Name, now: u64, number: u64) -> Option<u16>
         requires { IsOrderly (plain self.now) }
-        ensures { result ≡ first_code (res_reasons (plain self.now) now number (λ r. owned_by caller.now r.owner) is_alive) }
+        ensures { result ≡ first_code (res_reasons (plain self.now) now number
+            (λ r. owned_by caller.now r.owner) is_alive) }
     {
         match self.find_reservation(number) {
             None => Some(NO_RESERVATION),

@@ -22,7 +22,8 @@ use std::alloc::AllocError;
 
 /// Whether a board that isn't retired has each of the tags.
 fn may_serve(board: &BoardRow, tags: &Tags) -> bool
-    ensures { result ≡ (fits board.now (record { kind = None; tags = tags.now }) && not_retired board.now) }
+    ensures { result ≡ (fits board.now (record { kind = None; tags = tags.now })
+        && not_retired board.now) }
 {
     !matches!(board.health, Health::Retired) && farm_pick::carries_all(board, tags.items())
 }
@@ -30,7 +31,8 @@ fn may_serve(board: &BoardRow, tags: &Tags) -> bool
 impl Tables {
     /// Whether some board may ever serve a reservation with these tags.
     fn can_serve(&self, tags: &Tags) -> bool
-        ensures { result ≡ list_any (λ b. fits b (record { kind = None; tags = tags.now }) && not_retired b) (plain self.now).boards }
+        ensures { result ≡ list_any (λ b. fits b (record { kind = None; tags = tags.now })
+            && not_retired b) (plain self.now).boards }
     {
         self.boards.iter().any(|board| may_serve(board, tags))
     }
@@ -38,7 +40,12 @@ impl Tables {
     /// Why a reservation isn't made. With B boards it costs O(B), and no memory.
     #[tactic(auto, using(crate::proofs::OneWant::least_one))]
     pub fn refuse_reserve(&self, tags: &Tags) -> Option<u16>
-        ensures { result ≡ first_code ((is_none (least (plain self.now).boards not_retired (record { kind = None; tags = tags.now } ∷ [])), 22) ∷ []) }
+        ensures { result ≡ first_code
+            ((
+              is_none (least (plain self.now).boards not_retired
+                  (record { kind = None; tags = tags.now } ∷ [])),
+              22,
+            ) ∷ []) }
     {
         if !self.can_serve(tags) {
             return Some(NO_SUCH_BOARDS);

@@ -26,7 +26,8 @@ use std::alloc::{AllocError, Global};
 
 /// The numbers of a group's members among some rows.
 fn numbers_in(alloc: Global, rows: &[JobRow], group: u64) -> Result<Vec<u64>, AllocError>
-    ensures { IfOk result (λ numbers. numbers.items ≡ map (λ j. j.number) (filter (λ j. j.group == group) rows.now)) }
+    ensures { IfOk result (λ numbers. numbers.items ≡ map (λ j. j.number)
+        (filter (λ j. j.group == group) rows.now)) }
 {
     rows.iter()
         .filter(|row| row.group == group)
@@ -36,7 +37,8 @@ fn numbers_in(alloc: Global, rows: &[JobRow], group: u64) -> Result<Vec<u64>, Al
 
 /// What a group's members want, among some rows.
 fn wants_in<'a>(alloc: Global, rows: &'a [JobRow], group: u64) -> Result<Vec<&'a Want>, AllocError>
-    ensures { IfOk result (λ wants. map (λ w. w.now) wants.items ≡ map (λ j. j.want) (filter (λ j. j.group == group) rows.now)) }
+    ensures { IfOk result (λ wants. map (λ w. w.now) wants.items ≡ map (λ j. j.want)
+        (filter (λ j. j.group == group) rows.now)) }
 {
     let mut wants = Vec::new(alloc);
     for row in rows {
@@ -50,7 +52,8 @@ fn wants_in<'a>(alloc: Global, rows: &'a [JobRow], group: u64) -> Result<Vec<&'a
 impl Tables {
     /// The names of the boards at some places.
     fn names_at(&self, places: &[usize]) -> Result<Vec<Name>, AllocError>
-        ensures { IfOk result (λ names. names.items ≡ map (λ b. b.name) (boards_at (plain self.now).boards places.now)) }
+        ensures { IfOk result (λ names. names.items ≡ map (λ b. b.name)
+            (boards_at (plain self.now).boards places.now)) }
     {
         let mut names = Vec::new(*self.boards.allocator());
         for place in places {
@@ -66,7 +69,9 @@ impl Tables {
         requires orderly { IsOrderly (plain self.now) }
         requires few { length wants.now ≤ 4 }
         ensures { IfOk result (λ picked. option_map (λ names. names.items) picked
-            ≡ option_map (map (λ (b : BoardRow). b.name)) (least (plain self.now).boards (is_free (plain self.now).types) (map (λ w. w.now) wants.now))) }
+            ≡ option_map (map (λ (b : BoardRow). b.name))
+            (least (plain self.now).boards (is_free (plain self.now).types)
+            (map (λ w. w.now) wants.now))) }
     {
         match farm_pick::least_of(&self.boards, &self.types, wants, Free::ServingIdle) {
             None => Ok(None),
@@ -79,7 +84,9 @@ impl Tables {
         requires orderly { IsOrderly (plain self.now) }
         requires small { IsSmall group }
         ensures { IfOk result (λ picked. option_map (λ names. names.items) picked
-            ≡ option_map (map (λ (b : BoardRow). b.name)) (least (plain self.now).boards (is_free (plain self.now).types) (map (λ m. m.want) (members (plain self.now) group)))) }
+            ≡ option_map (map (λ (b : BoardRow). b.name))
+            (least (plain self.now).boards (is_free (plain self.now).types)
+            (map (λ m. m.want) (members (plain self.now) group)))) }
     {
         let wants = wants_in(*self.jobs.allocator(), self.near(group), group)?;
         self.pick(&wants)
@@ -88,8 +95,10 @@ impl Tables {
     /// The names of the boards for a reservation: one, or none where there is no such reservation.
     fn pick_for_reservation(&self, number: u64) -> Result<Option<Vec<Name>>, AllocError>
         requires { IsOrderly (plain self.now) }
-        ensures { IfOk result (λ picked. (r : ResRow) → res_of (plain self.now) number ≡ Some r → option_map (λ names. names.items) picked
-            ≡ option_map (map (λ (b : BoardRow). b.name)) (least (plain self.now).boards (is_free (plain self.now).types) (r.want ∷ []))) }
+        ensures { IfOk result (λ picked. (r : ResRow) → res_of (plain self.now) number ≡ Some r
+            → option_map (λ names. names.items) picked
+            ≡ option_map (map (λ (b : BoardRow). b.name))
+            (least (plain self.now).boards (is_free (plain self.now).types) (r.want ∷ []))) }
     {
         match self.find_reservation(number) {
             None => Ok(None),
@@ -102,7 +111,8 @@ impl Draft {
     /// Gives a group its boards, where free ones meet it.
     fn serve_group(self, group: u64) -> Result<(Draft, bool), AllocError>
         requires { IsSmall group }
-        ensures { IfOk result (λ r. (c : Claimed) → c.reservation ≡ false → c.number ≡ group → Asks false self.farm c → Serves self c r.1 r.0) }
+        ensures { IfOk result (λ r. (c : Claimed) → c.reservation ≡ false → c.number ≡ group
+            → Asks false self.farm c → Serves self c r.1 r.0) }
     {
         match self.tables.pick_for_group(group)? {
             None => Ok((self, false)),
@@ -118,7 +128,8 @@ impl Draft {
     fn serve_reservation(self, number: u64) -> Result<(Draft, bool), AllocError>
         requires small { IsSmall number }
         requires clock { self.farm.clock ≤ 250000000000 }
-        ensures { IfOk result (λ r. (c : Claimed) → c.reservation ≡ true → c.number ≡ number → Asks true self.farm c → Serves self c r.1 r.0) }
+        ensures { IfOk result (λ r. (c : Claimed) → c.reservation ≡ true → c.number ≡ number
+            → Asks true self.farm c → Serves self c r.1 r.0) }
     {
         match self.tables.pick_for_reservation(number)? {
             None => Ok((self, false)),
@@ -130,7 +141,8 @@ impl Draft {
     fn serve_claim(self, claim: &Claim) -> Result<(Draft, bool), AllocError>
         requires small { IsSmall claim.now.number }
         requires clock { self.farm.clock ≤ 250000000000 }
-        ensures { IfOk result (λ r. (c : Claimed) → shown_claim c ≡ claim.now → Asks c.reservation self.farm c → Serves self c r.1 r.0) }
+        ensures { IfOk result (λ r. (c : Claimed) → shown_claim c ≡ claim.now
+            → Asks c.reservation self.farm c → Serves self c r.1 r.0) }
     {
         let served = match claim.kind {
             ClaimKind::Reservation => self.serve_reservation(claim.number)?,
@@ -145,7 +157,8 @@ impl Draft {
     pub fn serve(self, claims: &[Claim]) -> Result<(Draft, u64), AllocError>
         requires sound { IsSound self.farm }
         requires queue { claims.now ≡ map shown_claim (queue self.farm) }
-        ensures farm { IfOk result (λ r. r.0 ≡ at_farm (serve_all self.farm self.farm.clock).farm self) }
+        ensures farm { IfOk result
+            (λ r. r.0 ≡ at_farm (serve_all self.farm self.farm.clock).farm self) }
         ensures count { IfOk result (λ r. r.1 ≡ (serve_all self.farm self.farm.clock).claims) }
     {
         let mut draft = self;

@@ -76,7 +76,8 @@ impl Tables {
     /// Whether a type is named that isn't there.
     fn lacks_type(&self, kind: &Option<Name>) -> bool
         requires { IsOrderly (plain self.now) }
-        ensures { result ≡ option_map_or (λ kind. is_none (type_of (plain self.now) kind)) kind.now false }
+        ensures { result ≡ option_map_or (λ kind. is_none (type_of (plain self.now) kind)) kind.now
+            false }
     {
         match kind {
             None => false,
@@ -87,12 +88,15 @@ impl Tables {
     /// Whether some want names a type that isn't there.
     fn lacks_types(&self, wants: &[Want]) -> bool
         requires { IsOrderly (plain self.now) }
-        ensures { result ≡ list_any (λ w. option_map_or (λ kind. is_none (type_of (plain self.now) kind)) w.kind false) wants.now }
+        ensures { result
+            ≡ list_any (λ w. option_map_or (λ kind. is_none (type_of (plain self.now) kind)) w.kind
+            false) wants.now }
     {
         wants.iter().any(
             |want: &Want| -> bool
                 requires { IsOrderly (plain self.now) }
-                ensures { result ≡ option_map_or (λ kind. is_none (type_of (plain self.entry.now) kind)) want.now.kind false }
+                ensures { result ≡ option_map_or
+                    (λ kind. is_none (type_of (plain self.entry.now) kind)) want.now.kind false }
             { self.lacks_type(&want.kind) },
         )
     }
@@ -100,7 +104,12 @@ impl Tables {
     /// Why a group isn't submitted. With B boards and at most four wants it costs O(B).
     pub fn refuse_submit(&self, wants: &Wants) -> Option<u16>
         requires { IsOrderly (plain self.now) }
-        ensures { result ≡ first_code ((list_any (λ w. option_map_or (λ kind. is_none (type_of (plain self.now) kind)) w.kind false) wants.now, 10)
+        ensures { result ≡ first_code
+            ((
+              list_any (λ w. option_map_or (λ kind. is_none (type_of (plain self.now) kind)) w.kind
+                  false) wants.now,
+              10,
+            )
             ∷ (is_none (least (plain self.now).boards not_retired wants.now), 22) ∷ []) }
     {
         if self.lacks_types(wants.items()) {
@@ -114,7 +123,8 @@ impl Tables {
 }
 
 impl Draft {
-    /// Adds the members of a group, numbered from the group's number on; the first carries the text.
+    /// Adds the members of a group, numbered from the group's number on; the first carries the
+    /// text.
     fn add_members(
         self,
         group: u64,
@@ -127,7 +137,10 @@ impl Draft {
         requires few { length wants.now ≤ 4 }
         requires roles { length roles.now ≡ length wants.now }
         requires group { group ≤ 1000000000 }
-        ensures { IfOk result (λ d. d ≡ at_farm (put_jobs self.farm (new_members group group owner.now priority wants.now roles.now body.now)) self) }
+        ensures { IfOk result
+            (λ d. d ≡ at_farm
+            (put_jobs self.farm
+            (new_members group group owner.now priority wants.now roles.now body.now)) self) }
     {
         let alloc = *self.tables.jobs.allocator();
         let mut draft = self;
@@ -151,7 +164,8 @@ impl Draft {
     ) -> Result<(Draft, u64), AllocError>
         requires roles { length roles.now ≡ length wants.now }
         requires next { self.farm.next ≤ 1000000000 }
-        ensures { IfOk result (λ r. Acts self owner.now (Cmd.Submit priority wants.now roles.now body.now) r.1 r.0) }
+        ensures { IfOk result
+            (λ r. Acts self owner.now (Cmd.Submit priority wants.now roles.now body.now) r.1 r.0) }
     {
         let group = self.tables.next;
         let draft = self.add_members(group, owner, priority, wants.items(), roles.items(), body)?;

@@ -1,5 +1,22 @@
 -- What a run leaves, and what is found again.
-use Rattle.std.specs.Prelude.{◌≡◌, ◌≢◌, ◌≤◌, ◌<◌, ◌⊎◌, ◌+◌, ℕ, true, false, List, take, map, length, Some, IfNone, ⊤}
+use Rattle.std.specs.Prelude.{
+  ◌≡◌,
+  ◌≢◌,
+  ◌≤◌,
+  ◌<◌,
+  ◌⊎◌,
+  ◌+◌,
+  ℕ,
+  true,
+  false,
+  List,
+  take,
+  map,
+  length,
+  Some,
+  IfNone,
+  ⊤,
+}
 use Rattle.sqlite.specs.State.{State, HasCleanDisk}
 use Rattle.sqlite.specs.Held.{Held, state}
 use Rattle.sqlite.specs.Tree.{Trees}
@@ -19,11 +36,13 @@ use Rattle.farm_keep.specs.declared.keeper.run.RunEnd.{RunEnd}
 use Rattle.farm_keep.specs.declared.fault.KeepFault.{KeepFault}
 use Rattle.farm_keep.specs.declared.fault.KeepFault.TheVariants as fault
 
--- a stop now leaves the rows of the run over the calls that were answered or, after a fault of the store, perhaps over one call more
+-- a stop now leaves the rows of the run over the calls that were answered or, after a fault of the
+-- store, perhaps over one call more
 abbrev pub LeavesRun : {S : Type 0} → Ghosts S → Kept S → RunEnd → Farm → List Call → Type 0
 LeavesRun g k end F calls =
     HasCleanDisk (state g k.conn) → (db : Trees) → (state g k.conn).may_leave db
-    → Holds db (rows_of (run F (take end.done calls))) ⊎ ((end.fault ≡ Some fault.Store) × Holds db (rows_of (run F (take (end.done + 1) calls))))
+    → Holds db (rows_of (run F (take end.done calls)))
+    ⊎ ((end.fault ≡ Some fault.Store) × Holds db (rows_of (run F (take (end.done + 1) calls))))
 
 -- the keeper was made from what the connection held, which had the farm's schema
 pub record Adopts {S : Type 0} (g : Ghosts S) (conn : Held S) (k : Kept S) : Type 0 where
@@ -32,22 +51,27 @@ pub record Adopts {S : Type 0} (g : Ghosts S) (conn : Held S) (k : Kept S) : Typ
   pub clean : doubt (state g conn).is_clean ≤ doubt (state g k.conn).is_clean
   pub ours : (state g conn).now.schema ≡ farm_schema
   pub left : HasCleanDisk (state g k.conn) → LeavesNoMore (state g conn) (state g k.conn)
-  pub stands : HasCleanDisk (state g k.conn) → (T : Tables) → Stands (state g conn) T → Stands (state g k.conn) T
-  pub rows : HasCleanDisk (state g k.conn) → (T : Tables) → Stands (state g conn) T → rows_of k.farm.farm ≡ T
-  pub exact : HasCleanDisk (state g k.conn) → (F : Farm) → IsSound F → Stands (state g conn) (rows_of F) → k.farm.farm ≡ F
+  pub stands : HasCleanDisk (state g k.conn) → (T : Tables) → Stands (state g conn) T
+      → Stands (state g k.conn) T
+  pub rows : HasCleanDisk (state g k.conn) → (T : Tables) → Stands (state g conn) T
+      → rows_of k.farm.farm ≡ T
+  pub exact : HasCleanDisk (state g k.conn) → (F : Farm) → IsSound F
+      → Stands (state g conn) (rows_of F) → k.farm.farm ≡ F
 
 -- the store's disk always returns what was written
 abbrev pub IsAlwaysClean : {S : Type 0} → Ghosts S → Type 0
 IsAlwaysClean {S} g = (h : Held S) → HasCleanDisk (state g h)
 
--- why a store gives no keeper: it is bad only where no sound farm stands there, and its schema old only where no tables do
+-- why a store gives no keeper: it is bad only where no sound farm stands there, and its schema old
+-- only where no tables do
 abbrev pub Denies : State → KeepFault → Type 0
 Denies s KeepFault.BadStore = (F : Farm) → IsSound F → ¬ Stands s (rows_of F)
 Denies s KeepFault.OldSchema = (T : Tables) → ¬ Stands s T
 Denies s other = ⊤
 
 -- what a run over calls makes of a keeper
-pub record Runs {S : Type 0} (g : Ghosts S) (old new : Kept S) (end : RunEnd) (calls : List Call) : Type 0 where
+pub record Runs {S : Type 0} (g : Ghosts S) (old new : Kept S) (end : RunEnd) (calls : List Call)
+    : Type 0 where
   -- the answers are the machine's, one for each call that was done
   pub counted : length end.answers.items ≡ end.done
   pub within : end.done ≤ length calls
@@ -56,16 +80,21 @@ pub record Runs {S : Type 0} (g : Ghosts S) (old new : Kept S) (end : RunEnd) (c
   pub whole : IfNone end.fault ((end.done ≡ length calls) × (new.is_open ≡ old.is_open))
   pub farm : IfNone end.fault (new.farm.farm ≡ run old.farm.farm calls)
   pub stands : IfNone end.fault (Keeps g old → KeepsFarm g new (run old.farm.farm calls))
-  -- without memory the keeper is closed, and the store keeps the farm of the calls that were done: there was no room for
-  -- the answers, or none for the change of the next call
-  pub memory : end.fault ≡ Some fault.NoMemory → (new.is_open ≡ false) × ((end.done ≡ 0) ⊎ IsNextChange old.farm.farm calls end.done)
+  -- without memory the keeper is closed, and the store keeps the farm of the calls that were done:
+  -- there was no room for the answers, or none for the change of the next call
+  pub memory : end.fault ≡ Some fault.NoMemory → (new.is_open ≡ false)
+      × ((end.done ≡ 0) ⊎ IsNextChange old.farm.farm calls end.done)
       × (Keeps g old → KeepsFarm g new (run old.farm.farm (take end.done calls)))
-  -- where the store refused the change of the next call the keeper is closed, and a stop leaves that farm or the one after this call
-  pub store : end.fault ≡ Some fault.Store → (new.is_open ≡ false) × (end.done < length calls) × IsNextChange old.farm.farm calls end.done
-      × (Keeps g old → KeepsEither g new (run old.farm.farm (take end.done calls)) (run old.farm.farm (take (end.done + 1) calls)))
+  -- where the store refused the change of the next call the keeper is closed, and a stop leaves
+  -- that farm or the one after this call
+  pub store : end.fault ≡ Some fault.Store → (new.is_open ≡ false) × (end.done < length calls)
+      × IsNextChange old.farm.farm calls end.done
+      × (Keeps g old → KeepsEither g new (run old.farm.farm (take end.done calls))
+      (run old.farm.farm (take (end.done + 1) calls)))
   -- a keeper that was closed does nothing
   pub closed : end.fault ≡ Some fault.Closed → (old.is_open ≡ false) × (new ≡ old)
-  pub before : old.is_open ≡ false → (end.done ≡ 0) × (new.conn ≡ old.conn) × (new.is_open ≡ false) × (end.fault ≢ Some fault.Store)
+  pub before : old.is_open ≡ false → (end.done ≡ 0) × (new.conn ≡ old.conn) × (new.is_open ≡ false)
+      × (end.fault ≢ Some fault.Store)
   pub others : (end.fault ≢ Some fault.BadStore) × (end.fault ≢ Some fault.OldSchema)
   -- however the run ended, a stop leaves no other tables, and each farm on the way is sound
   pub left : Keeps g old → LeavesRun g new end old.farm.farm calls
@@ -73,7 +102,8 @@ pub record Runs {S : Type 0} (g : Ghosts S) (old new : Kept S) (end : RunEnd) (c
   pub clean : doubt (state g old.conn).is_clean ≤ doubt (state g new.conn).is_clean
 
 -- a keeper that was made from what the connection held ran the calls
-pub record Resumes {S : Type 0} (g : Ghosts S) (conn : Held S) (k : Kept S) (end : RunEnd) (calls : List Call) : Type 0 where
+pub record Resumes {S : Type 0} (g : Ghosts S) (conn : Held S) (k : Kept S) (end : RunEnd)
+    (calls : List Call) : Type 0 where
   pub adopted : Kept S
   pub adopts : Adopts g conn adopted
   pub runs : Runs g adopted k end calls

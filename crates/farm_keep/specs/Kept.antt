@@ -19,8 +19,10 @@ pub record Kept (S : Type 0) : Type 0 where
 
 abbrev pub kept_code : {S : Type 0} → Coded S → Coded (Kept S)
 kept_code {S} store =
-    code_by (Held S × (Shown × Bool)) (coded× (held_code store) (coded× farm.the_row.coded coded_bool))
-    (λ k. (k.conn, (k.farm, k.is_open))) (λ p. record { conn = p.0; farm = p.1.0; is_open = p.1.1 }) (λ _. refl)
+    code_by (Held S × (Shown × Bool))
+    (coded× (held_code store) (coded× farm.the_row.coded coded_bool))
+    (λ k. (k.conn, (k.farm, k.is_open))) (λ p. record { conn = p.0; farm = p.1.0; is_open = p.1.1 })
+    (λ _. refl)
 
 -- no transaction is begun, and an open keeper's farm works and is sound
 pub record IsKept {S : Type 0} (conn : Held S) (farm : Shown) (is_open : Bool) : Type 0 where
@@ -38,7 +40,8 @@ Keeps g k = KeepsFarm g k k.farm.farm
 
 -- a stop now leaves no more than the rows of these two
 abbrev pub KeepsEither : {S : Type 0} → Ghosts S → Kept S → Farm → Farm → Type 0
-KeepsEither g k F G = HasCleanDisk (state g k.conn) → LeavesEither (state g k.conn) (rows_of F) (rows_of G)
+KeepsEither g k F G = HasCleanDisk (state g k.conn)
+    → LeavesEither (state g k.conn) (rows_of F) (rows_of G)
 
 -- a fact for an answer that is no change's
 abbrev pub OnNoChange : Answer → Type 0 → Type 0

@@ -21,7 +21,8 @@ pub record OpensOn (s : State) (db : Trees) : Type 0 where
   pub live : IsLive s
   pub on : s.committed.trees ≡ db
 
--- a stop after a run leaves so many of its calls done: those that were answered or, after a fault of the store, perhaps one more
+-- a stop after a run leaves so many of its calls done: those that were answered or, after a fault
+-- of the store, perhaps one more
 abbrev pub IsDone : RunEnd → ℕ → Type 0
 IsDone end n = (n ≡ end.done) ⊎ ((end.fault ≡ Some KeepFault.Store) × (n ≡ end.done + 1))
 
@@ -32,7 +33,8 @@ pub record GivesFarm (result : Result Shown KeepFault) (F : Farm) : Type 0 where
   pub ours : result ≢ Err KeepFault.OldSchema
 
 -- the farm after so many of the calls as a stop after this run leaves done
-pub record GivesRun (result : Result Shown KeepFault) (F : Farm) (end : RunEnd) (calls : List Call) : Type 0 where
+pub record GivesRun (result : Result Shown KeepFault) (F : Farm) (end : RunEnd) (calls : List Call)
+    : Type 0 where
   pub done : ℕ
   pub counts : IsDone end done
   pub gives : GivesFarm result (run F (take done calls))
@@ -54,7 +56,8 @@ pub record IsLived {S : Type 0} (g : Ghosts S) (life : Life S) (first last : Tre
 -- lives one after another
 abbrev pub AreLived : {S : Type 0} → Ghosts S → List (Life S) → Trees → Trees → Type 0
 AreLived g [] first last = first ≡ last
-AreLived g (life ∷ lives) first last = (db : Trees) × IsLived g life first db × AreLived g lives db last
+AreLived g (life ∷ lives) first last = (db : Trees) × IsLived g life first db
+    × AreLived g lives db last
 
 -- a life as a restart of the machine
 pub record IsRestart {S : Type 0} (life : Life S) (restart : Restart) : Type 0 where
@@ -62,7 +65,8 @@ pub record IsRestart {S : Type 0} (life : Life S) (restart : Restart) : Type 0 w
   pub done : IsDone life.end restart.done
 
 -- the farm after the calls that were done in all lives, one after another
-pub record GivesRestarts {S : Type 0} (result : Result Shown KeepFault) (F : Farm) (lives : List (Life S)) : Type 0 where
+pub record GivesRestarts {S : Type 0} (result : Result Shown KeepFault) (F : Farm)
+    (lives : List (Life S)) : Type 0 where
   pub restarts : List Restart
   pub each : AllZip IsRestart lives restarts
   pub gives : GivesFarm result (run F (joined restarts))

@@ -1,5 +1,18 @@
 -- Lists of calls, each done as far as it came before the desk stopped, one after another.
-use Rattle.std.specs.Prelude.{◌≡◌, ◌==◌, ℕ, List, [], ◌∷◌, ◌++◌, Option, Some, None, take, if◌then◌else◌}
+use Rattle.std.specs.Prelude.{
+  ◌≡◌,
+  ◌==◌,
+  ℕ,
+  List,
+  [],
+  ◌∷◌,
+  ◌++◌,
+  Option,
+  Some,
+  None,
+  take,
+  if◌then◌else◌,
+}
 use Rattle.std.specs.List.{fold, flat_map}
 use Rattle.farm_types.specs.Farm.{Farm}
 use Rattle.farm_types.specs.Refuse.{kind_of, is_late}
@@ -28,8 +41,10 @@ again first reply call =
     if is_late call then Denied 2
     else (if kind_of first.cmd == kind_of call.cmd then Repeated reply else Denied 40)
 
--- two calls under one key of one caller, one after the other somewhere in the joined list, of which the first is accepted
-pub record IsRepeated (F : Farm) (restarts : List Restart) (before between after : List Call) (first call : Call) (key : List ℕ) (reply : Reply) : Type 0 where
+-- two calls under one key of one caller, one after the other somewhere in the joined list, of which
+-- the first is accepted
+pub record IsRepeated (F : Farm) (restarts : List Restart) (before between after : List Call)
+    (first call : Call) (key : List ℕ) (reply : Reply) : Type 0 where
   pub in_list : joined restarts ≡ before ++ first ∷ (between ++ call ∷ after)
   pub keyed : first.key ≡ Some key
   pub same_key : call.key ≡ Some key
@@ -38,12 +53,14 @@ pub record IsRepeated (F : Farm) (restarts : List Restart) (before between after
 
 -- the second gets the kept reply, or is refused for its key or its moment
 abbrev pub AnswersAgain : Type 0
-AnswersAgain = (F : Farm) (restarts : List Restart) (before between after : List Call) (first call : Call) (key : List ℕ) (reply : Reply)
+AnswersAgain = (F : Farm) (restarts : List Restart) (before between after : List Call)
+    (first call : Call) (key : List ℕ) (reply : Reply)
     → IsRepeated F restarts before between after first call key reply
     → answer (run F (before ++ first ∷ between)) call ≡ again first reply call
 
 -- and so it changes nothing
 abbrev pub ActsOnce : Type 0
-ActsOnce = (F : Farm) (restarts : List Restart) (before between after : List Call) (first call : Call) (key : List ℕ) (reply other : Reply)
+ActsOnce = (F : Farm) (restarts : List Restart) (before between after : List Call)
+    (first call : Call) (key : List ℕ) (reply other : Reply)
     → IsRepeated F restarts before between after first call key reply
     → answer (run F (before ++ first ∷ between)) call ≡ Changed other → ⊥

@@ -49,15 +49,18 @@ impl<S: Alter> Model for Keeper<S> {
 
 impl<S: Alter + Drop> Keeper<S> {
     /// A keeper of the empty farm, in a store without tables; a store that stands for tables is
-    /// refused as a fault of the store. What a fault leaves is said of `farm_store::create`, which is
-    /// lent the connection: such a store stands for its tables as before.
+    /// refused as a fault of the store. What a fault leaves is said of `farm_store::create`, which
+    /// is lent the connection: such a store stands for its tables as before.
     pub fn fresh(alloc: Global, mut conn: Connection<S>) -> Result<Keeper<S>, KeepFault>
         requires { conn.in_transaction ≡ false }
         ensures opened { IfOk result (λ k. (k.is_open ≡ true) × (k.farm.farm ≡ empty)) }
-        ensures keeps { IfOk result (λ k. (state S.Store conn).now.schema ≡ no_schema → Keeps S.Store k) }
-        ensures refused { IfOk result (λ k. HasCleanDisk (state S.Store k.conn) → (T : Tables) → ¬ Stands (state S.Store conn) T) }
+        ensures keeps { IfOk result (λ k. (state S.Store conn).now.schema ≡ no_schema
+            → Keeps S.Store k) }
+        ensures refused { IfOk result (λ k. HasCleanDisk (state S.Store k.conn) → (T : Tables)
+            → ¬ Stands (state S.Store conn) T) }
         ensures bare { OnOk result ((state S.Store conn).now.schema ≡ no_schema) }
-        ensures clean { IfOk result (λ k. doubt (state S.Store conn).is_clean ≤ doubt (state S.Store k.conn).is_clean) }
+        ensures clean { IfOk result (λ k. doubt (state S.Store conn).is_clean ≤ doubt
+            (state S.Store k.conn).is_clean) }
         ensures fault { IfErr result (λ fault. fault ≡ KeepFault.Store) }
     {
         create(&mut conn)?;
@@ -69,10 +72,10 @@ impl<S: Alter + Drop> Keeper<S> {
         })
     }
 
-    /// A keeper of the farm whose tables the store holds. At a fault the connection is given up. Over a
-    /// store that always returns what was written, as one in memory does, bad store is the answer only
-    /// where no sound farm stands there, and old schema only where no tables do; over any store `found`,
-    /// which is lent the connection, says so, and what the fault leaves.
+    /// A keeper of the farm whose tables the store holds. At a fault the connection is given up.
+    /// Over a store that always returns what was written, as one in memory does, bad store is the
+    /// answer only where no sound farm stands there, and old schema only where no tables do; over
+    /// any store `found`, which is lent the connection, says so, and what the fault leaves.
     pub fn adopt(alloc: Global, mut conn: Connection<S>) -> Result<Keeper<S>, KeepFault>
         requires { conn.in_transaction ≡ false }
         ensures adopted { IfOk result (λ k. Adopts S.Store conn k) }
@@ -93,7 +96,8 @@ impl<S: Alter> Keeper<S> {
     /// The farm of an open keeper.
     pub fn farm(&self) -> Option<&Farm>
         ensures { MatchOption result (self.now.is_open ≡ false)
-            (λ f. (self.now.is_open ≡ true) × (f.now ≡ self.now.farm) × (f.now.failed ≡ false) × IsSound self.now.farm.farm) }
+            (λ f. (self.now.is_open ≡ true) × (f.now ≡ self.now.farm) × (f.now.failed ≡ false)
+            × IsSound self.now.farm.farm) }
     {
         if self.is_open { Some(&self.farm) } else { None }
     }
@@ -107,8 +111,8 @@ impl<S: Alter> Keeper<S> {
     }
 
     /// One command, made durable before it is answered. A change costs one transaction over the
-    /// rows that it changed, and its answer has these rows; a kept reply and a refusal ask nothing of
-    /// the store.
+    /// rows that it changed, and its answer has these rows; a kept reply and a refusal ask nothing
+    /// of the store.
     pub fn act(&mut self, call: &Call) -> Result<Answer, KeepFault>
         // The answer is the machine's, and so is the farm, which the store then keeps.
         ensures answer { IfOk result (λ a. shown a ≡ answer self.old.farm.farm call.entry.now) }
@@ -124,9 +128,11 @@ impl<S: Alter> Keeper<S> {
 
         // Without memory for a change the keeper is closed, and its store is as it was.
         ensures memory { result ≡ Err KeepFault.NoMemory → (self.new.is_open ≡ false)
-            × (self.new.conn ≡ self.old.conn) × IsChange (answer self.old.farm.farm call.entry.now) }
+            × (self.new.conn ≡ self.old.conn)
+            × IsChange (answer self.old.farm.farm call.entry.now) }
 
-        // After a fault of the store the keeper is closed, and a stop leaves the old farm or the new one.
+        // After a fault of the store the keeper is closed, and a stop leaves the old farm or the
+        // new one.
         ensures store { result ≡ Err KeepFault.Store → (self.new.is_open ≡ false)
             × IsChange (answer self.old.farm.farm call.entry.now)
             × (Keeps S.Store self.old → KeepsEither S.Store self.new self.old.farm.farm
@@ -136,7 +142,8 @@ impl<S: Alter> Keeper<S> {
         ensures closed { (result ≡ Err KeepFault.Closed) ↔ (self.old.is_open ≡ false) }
         ensures still { result ≡ Err KeepFault.Closed → self.new ≡ self.old }
         ensures fault { (result ≢ Err KeepFault.BadStore) × (result ≢ Err KeepFault.OldSchema) }
-        ensures clean { doubt (state S.Store self.old.conn).is_clean ≤ doubt (state S.Store self.new.conn).is_clean }
+        ensures clean { doubt (state S.Store self.old.conn).is_clean ≤ doubt
+            (state S.Store self.new.conn).is_clean }
     {
         if !self.is_open {
             return Err(KeepFault::Closed);
@@ -159,18 +166,24 @@ fn step_and_put<S: Alter>(
     requires autocommit { conn.old.in_transaction ≡ false }
     requires working { farm.old.failed ≡ false }
     ensures autocommit { conn.new.in_transaction ≡ false }
-    ensures clean { doubt (state S.Store conn.old).is_clean ≤ doubt (state S.Store conn.new).is_clean }
+    ensures clean { doubt (state S.Store conn.old).is_clean ≤ doubt
+        (state S.Store conn.new).is_clean }
     ensures answer { IfOk result (λ a. shown a ≡ answer farm.old.farm call.entry.now) }
     ensures farm { OnOk result (farm.new.farm ≡ step farm.old.farm call.entry.now) }
     ensures working { OnOk result ((farm.new.failed ≡ false) × IsSound farm.new.farm) }
     ensures changes { IfOk result (λ a. Leads a farm.old.farm farm.new.farm) }
-    ensures stands { OnOk result (StandsFor (state S.Store conn.old) farm.old.farm → StandsFor (state S.Store conn.new) farm.new.farm) }
-    ensures rests { IfOk result (λ a. OnNoChange a ((conn.new ≡ conn.old) × (farm.new ≡ farm.old))) }
+    ensures stands { OnOk result (StandsFor (state S.Store conn.old) farm.old.farm
+        → StandsFor (state S.Store conn.new) farm.new.farm) }
+    ensures rests { IfOk result (λ a. OnNoChange a ((conn.new ≡ conn.old)
+        × (farm.new ≡ farm.old))) }
     ensures change { IfErr result (λ _. IsChange (answer farm.old.farm call.entry.now)) }
     ensures memory { result ≡ Err KeepFault.NoMemory → conn.new ≡ conn.old }
-    ensures store { result ≡ Err KeepFault.Store → StandsFor (state S.Store conn.old) farm.old.farm → HasCleanDisk (state S.Store conn.new)
-        → LeavesEither (state S.Store conn.new) (rows_of farm.old.farm) (rows_of (step farm.old.farm call.entry.now)) }
-    ensures fault { IfErr result (λ fault. (fault ≡ KeepFault.NoMemory) ⊎ (fault ≡ KeepFault.Store)) }
+    ensures store { result ≡ Err KeepFault.Store → StandsFor (state S.Store conn.old) farm.old.farm
+        → HasCleanDisk (state S.Store conn.new)
+        → LeavesEither (state S.Store conn.new) (rows_of farm.old.farm)
+        (rows_of (step farm.old.farm call.entry.now)) }
+    ensures fault { IfErr result (λ fault. (fault ≡ KeepFault.NoMemory)
+        ⊎ (fault ≡ KeepFault.Store)) }
 {
     let answer = match farm.step(call) {
         Ok(answer) => answer,

@@ -26,7 +26,8 @@ use std::alloc::Global;
 
 /// A run over one list and then over another is the run over their joining, and so are its answers.
 pub fn runs_join()
-    ensures farm { (F : Plain) (first second : List Call) → run F (first ++ second) ≡ run (run F first) second }
+    ensures farm { (F : Plain) (first second : List Call)
+        → run F (first ++ second) ≡ run (run F first) second }
     ensures answers { (F : Plain) (first second : List Call)
         → answers_of F (first ++ second) ≡ answers_of F first ++ answers_of (run F first) second }
 {}
@@ -36,7 +37,8 @@ pub fn restarts_join()
     ensures { (F : Plain) (restarts : List Restart) → run_all F restarts ≡ run F (joined restarts) }
 {}
 
-/// A store in memory always returns what was written: whatever else is said of a clean disk holds of it.
+/// A store in memory always returns what was written: whatever else is said of a clean disk holds
+/// of it.
 pub fn memory_is_clean()
     ensures { IsAlwaysClean over_memory }
 {}
@@ -48,17 +50,20 @@ pub fn acts_once()
     ensures once { ActsOnce }
 {}
 
-/// The crash prefix: what a stop leaves after a run, however the run ended, is found again as exactly
-/// the farm after the calls that were answered or, where a fault of the store ended it, perhaps after
-/// one call more. It is `found`, on a store that was opened on what was left.
+/// The crash prefix: what a stop leaves after a run, however the run ended, is found again as
+/// exactly the farm after the calls that were answered or, where a fault of the store ended it,
+/// perhaps after one call more. It is `found`, on a store that was opened on what was left.
 pub fn found_after_stop<S: Alter>(
     alloc: Global,
     conn: &mut Connection<S>,
 ) -> Result<Farm, KeepFault>
     requires { conn.old.in_transaction ≡ false }
-    ensures { HasCleanDisk (state S.Store conn.new) → (old new : Kept S) (end : End) (calls : List Call)
-        → Keeps S.Store old → old.is_open ≡ true → Runs S.Store old new end calls → HasCleanDisk (state S.Store new.conn)
-        → (left : Trees) → (state S.Store new.conn).may_leave left → OpensOn (state S.Store conn.old) left
+    ensures { HasCleanDisk (state S.Store conn.new)
+        → (old new : Kept S) (end : End) (calls : List Call)
+        → Keeps S.Store old → old.is_open ≡ true → Runs S.Store old new end calls
+        → HasCleanDisk (state S.Store new.conn)
+        → (left : Trees) → (state S.Store new.conn).may_leave left
+        → OpensOn (state S.Store conn.old) left
         → GivesRun result old.farm.farm end calls }
 {
     opened_stands(conn);
@@ -66,15 +71,18 @@ pub fn found_after_stop<S: Alter>(
 }
 
 /// The crash prefix over any list of lives: each opens the store on what the stop before it left,
-/// resumes, runs its calls and is stopped. What the last one left is found again as exactly the farm
-/// after the calls that were done, life by life; `acts_once` speaks of the same list of restarts.
+/// resumes, runs its calls and is stopped. What the last one left is found again as exactly the
+/// farm after the calls that were done, life by life; `acts_once` speaks of the same list of
+/// restarts.
 pub fn restarts_find_a_prefix<S: Alter>(
     alloc: Global,
     conn: &mut Connection<S>,
 ) -> Result<Farm, KeepFault>
     requires { conn.old.in_transaction ≡ false }
-    ensures { HasCleanDisk (state S.Store conn.new) → (F : Plain) (lives : List (Life S)) (first last : Trees)
-        → IsSound F → Holds first (rows_of F) → AreLived S.Store lives first last → OpensOn (state S.Store conn.old) last
+    ensures { HasCleanDisk (state S.Store conn.new)
+        → (F : Plain) (lives : List (Life S)) (first last : Trees)
+        → IsSound F → Holds first (rows_of F) → AreLived S.Store lives first last
+        → OpensOn (state S.Store conn.old) last
         → GivesRestarts result F lives }
 {
     opened_stands(conn);

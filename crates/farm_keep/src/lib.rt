@@ -4,7 +4,8 @@
 //! has committed what it changed, so a keeper that is made again from the store finds every command
 //! that was answered.
 //!
-//! Read `specs/` in the order Kept, Runs, Headline, Restarts, Lives; Faults has the faults' numbers.
+//! Read `specs/` in the order Kept, Runs, Headline, Restarts, Lives; Faults has the faults'
+//! numbers.
 #![tactic(auto)]
 
 mod fault;

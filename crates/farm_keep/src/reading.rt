@@ -16,16 +16,17 @@ use sqlite::{Alter, Connection};
 use std::alloc::Global;
 
 /// The farm whose tables the connection shows; `BadStore` where they are those of no sound farm, as
-/// where the store has a column, a table, an index or a view that the farm's schema lacks. It changes
-/// nothing. `Keeper::adopt` is this call and a keeper of what it gives: this one lends the connection,
-/// so that its clauses can say what a fault leaves. Each table is read once, in order of its key, and
-/// n rows are tested in O(n log n).
+/// where the store has a column, a table, an index or a view that the farm's schema lacks. It
+/// changes nothing. `Keeper::adopt` is this call and a keeper of what it gives: this one lends the
+/// connection, so that its clauses can say what a fault leaves. Each table is read once, in order
+/// of its key, and n rows are tested in O(n log n).
 pub fn found<S: Alter>(alloc: Global, conn: &mut Connection<S>) -> Result<Farm, KeepFault>
     requires { conn.old.in_transaction ≡ false }
 
     // Whatever comes of it, the tables stay, and a stop leaves no more than before.
     ensures autocommit { conn.new.in_transaction ≡ false }
-    ensures clean { doubt (state S.Store conn.old).is_clean ≤ doubt (state S.Store conn.new).is_clean }
+    ensures clean { doubt (state S.Store conn.old).is_clean ≤ doubt
+        (state S.Store conn.new).is_clean }
     ensures left { HasCleanDisk (state S.Store conn.new)
         → LeavesNoMore (state S.Store conn.old) (state S.Store conn.new) }
     ensures stands { HasCleanDisk (state S.Store conn.new) → (T : Tables)
@@ -36,7 +37,8 @@ pub fn found<S: Alter>(alloc: Global, conn: &mut Connection<S>) -> Result<Farm, 
     ensures rows { HasCleanDisk (state S.Store conn.new) → IfOk result (λ f. (T : Tables)
         → Stands (state S.Store conn.old) T → rows_of f.farm ≡ T) }
 
-    // Where a farm is found, the store has the farm's six tables, and no other table, column, index or view.
+    // Where a farm is found, the store has the farm's six tables, and no other table, column, index
+    // or view.
     ensures ours { OnOk result ((state S.Store conn.old).now.schema ≡ farm_schema) }
 
     // Where the tables are those of a sound farm, it is exactly that farm.

@@ -19,9 +19,9 @@ pub struct RunEnd {
 }
 
 impl<S: Alter + Drop> Keeper<S> {
-    /// Adopts the farm whose tables the store holds, then runs: it gives a keeper where `adopt` gives
-    /// one, and all that `run` says is true from there on. A fault of the run is told in its end; a
-    /// fault of the adoption gives no keeper, and is the one that `adopt` would tell.
+    /// Adopts the farm whose tables the store holds, then runs: it gives a keeper where `adopt`
+    /// gives one, and all that `run` says is true from there on. A fault of the run is told in its
+    /// end; a fault of the adoption gives no keeper, and is the one that `adopt` would tell.
     pub fn resume(
         alloc: Global,
         conn: Connection<S>,
@@ -40,8 +40,9 @@ impl<S: Alter + Drop> Keeper<S> {
 
 impl<S: Alter> Keeper<S> {
     /// One call after another, up to the first fault. Room for all answers is made first: where
-    /// there is no memory for it, nothing is done and the keeper is closed. Any other fault of an open
-    /// keeper comes at a call whose answer is a change's, and closes it; a closed keeper does nothing.
+    /// there is no memory for it, nothing is done and the keeper is closed. Any other fault of an
+    /// open keeper comes at a call whose answer is a change's, and closes it; a closed keeper does
+    /// nothing.
     pub fn run(&mut self, alloc: Global, calls: &[Call]) -> RunEnd
         ensures { Runs S.Store self.old self.new result calls.now }
     {
