@@ -1,6 +1,6 @@
 -- The answers that are due: to a view, to what is denied, to a call.
-use Rattle.std.proofs.Common.{◌≡◌, ◌≢◌, ◌↔◌, ℕ, List, Bool, true, false, refl, sym, ap, ◌∙◌, subst, Ok, Err, inr}
-use Rattle.std.specs.Prelude.{Result}
+use Rattle.std.proofs.Common.{◌≡◌, ◌≢◌, ◌↔◌, ℕ, List, Bool, true, false, refl, sym, ap, ◌∙◌, subst, Ok, Err, inl, inr}
+use Rattle.std.specs.Prelude.{Option, Result}
 use Rattle.sqlite_trees.specs.declared.store.Store.{Ghosts}
 use Rattle.farm_types.specs.Machine.{Answered, answer, step}
 use Rattle.farm_types.specs.Refuse.{kind_of}
@@ -11,14 +11,16 @@ use Rattle.farm_core.specs.Answers.{IsChange}
 use Rattle.farm_keep.specs.Faults.{fault_code}
 use Rattle.farm_keep.specs.Kept.{Kept, Keeps, KeepsEither}
 use Rattle.farm_keep.specs.declared.fault.KeepFault.{KeepFault}
-use Rattle.farm_wire.specs.Reading.{Denial}
+use Rattle.farm_wire.specs.Reading.{Denial, refused, other_methods}
 use Rattle.farm_wire.specs.Replies.{reply_bytes}
 use Rattle.farm_wire.specs.declared.ask.Ask.{Ask}
 use Rattle.farm_wire.specs.declared.ask.View.{View}
 use Rattle.farm_wire.specs.declared.answers.Out.{Out}
+use Rattle.farm_wire.specs.declared.fault.AskFault.{AskFault}
 use Rattle.farm_desk.specs.Answers.{IsView, Says, denied, refusal, replied}
-use Rattle.farm_desk.specs.Due.{Closes, IsDueTo, RunsOut}
-use Rattle.farm_desk.specs.Made.{IsMadeOf, IsMadeOfOne}
+use Rattle.farm_desk.specs.Due.{Closes, IsDue, IsDueTo, RunsOut}
+use Rattle.farm_desk.specs.Heard.{HearsNothing}
+use Rattle.farm_desk.specs.Made.{IsMadeOf, IsMadeOfNothing, IsMadeOfOne}
 use Rattle.farm_desk.specs.declared.fault.DeskFault.{DeskFault}
 
 due_when_short : {S : Type 0} (g : Ghosts S) (old new : Kept S) (what : Result Ask Denial) (bytes : List ℕ) (end : DeskFault)
@@ -51,6 +53,16 @@ pub denial_is_due : {S : Type 0} (g : Ghosts S) (k : Kept S) (why : Denial) (byt
 denial_is_due g k why bytes (Ok status) made = record { says = made; rests = refl }
 denial_is_due g k why bytes (Err fault) made =
     due_when_short g k k (Err why) bytes fault made.fault_is (record { says = made.bytes_are; was_open = tt; stays_open = refl; farm = refl })
+
+-- nothing was asked, and the answer says why
+pub nothing_is_due : {S : Type 0} (g : Ghosts S) (k : Kept S) (input rest : Option (List ℕ)) (now : ℕ) (fault : AskFault) (bytes : List ℕ) (end : Result ℕ DeskFault)
+    → HearsNothing input rest now fault → IsMadeOfNothing fault bytes end → IsDue g k k input rest now bytes end
+nothing_is_due g k input rest now AskFault.NoMemory bytes end hears made =
+    inr (record { fault = made.0; hears = hears; says = made.1; rests = refl })
+nothing_is_due g k input rest now (AskFault.Refused refusal) bytes end hears made =
+    inl (record { what = Err (refused refusal.code); hears = hears; due = denial_is_due g k (refused refusal.code) bytes end made })
+nothing_is_due g k input rest now (AskFault.Method allowed) bytes end hears made =
+    inl (record { what = Err (other_methods allowed); hears = hears; due = denial_is_due g k (other_methods allowed) bytes end made })
 
 -- ---- calls
 

@@ -4,14 +4,16 @@ use Rattle.std.specs.Prelude.{Option, Some, None, Result, IfSome}
 use Rattle.farm_types.specs.declared.refusal.Refusal.{Refusal}
 use Rattle.farm_http.specs.Request.{Request, request_of}
 use Rattle.farm_http.specs.Requests.{IsRequest, Spells}
-use Rattle.farm_http.specs.Faults.{TakesFrom}
+use Rattle.farm_http.specs.Faults.{FailsAfter, TakesFrom}
 use Rattle.farm_http.specs.declared.taken.Taken.{Taken}
 use Rattle.farm_http.specs.declared.fault.WireFault.{WireFault}
-use Rattle.farm_http.specs.declared.fault.WireFault.TheVariants.{NoMemory, Refused}
+use Rattle.farm_http.specs.declared.fault.WireFault.TheVariants.{NoMemory, Read, Write, Refused}
 use Rattle.farm_wire.specs.Asked.{ask}
-use Rattle.farm_wire.specs.Reading.{Denial, refused, other_methods}
+use Rattle.farm_wire.specs.Reading.{Denial, Denies, refused, other_methods}
 use Rattle.farm_wire.specs.declared.ask.Ask.{Ask}
-use Rattle.farm_desk.specs.Heard.{told, IsMeant, Asks, Hears, HearsWhole}
+use Rattle.farm_wire.specs.declared.fault.AskFault.{AskFault}
+use Rattle.farm_desk.specs.Heard.{told, unheard, IsMeant, Asks, Hears, HearsWhole, Gives}
+use Rattle.farm_desk.specs.declared.hear.Unheard.{Unheard}
 
 -- what the reader says of an input that it tells
 abbrev pub Known : Option (List ℕ) → Option (List ℕ) → Type 0 → Result Taken WireFault → Type 0
@@ -65,3 +67,22 @@ pub hears_nothing : (input rest : Option (List ℕ)) (Spent : Type 0)
     → Known input rest Spent (Err NoMemory) → HearsWhole input rest
 hears_nothing None rest Spent known = tt
 hears_nothing (Some bytes) rest Spent known = record { used = known.0; taken = known.1; whole = inl known.2 }
+
+-- no request was read
+pub gives_unread : (input rest : Option (List ℕ)) (now : ℕ) (Spent : Type 0) (fault : WireFault)
+    → Known input rest Spent (Err fault) → FailsAfter input rest Spent fault → Gives input rest now Spent (Err (unheard fault))
+gives_unread input rest now Spent NoMemory known fails = hears_nothing input rest Spent known
+gives_unread input rest now Spent Read known fails = fails.2
+gives_unread input rest now Spent Write known fails = absurd fails.2
+gives_unread input rest now Spent (Refused refusal) known fails = hears_refused input rest now Spent refusal known
+
+-- one was read, and it asks nothing
+pub gives_unasked : (input rest : Option (List ℕ)) (now : ℕ) (Spent : Type 0) (taken : Taken) (fault : AskFault)
+    → Known input rest Spent (Ok taken)
+    → ((request : Request) → Spells taken.bytes.items taken.head request → Denies fault (ask request now))
+    → Gives input rest now Spent (Err (Unheard.Unasked fault))
+gives_unasked input rest now Spent taken AskFault.NoMemory known means = hears_whole input rest Spent taken known
+gives_unasked input rest now Spent taken (AskFault.Refused refusal) known means =
+    hears_meant input rest now Spent taken (Err (refused refusal.code)) known means
+gives_unasked input rest now Spent taken (AskFault.Method allowed) known means =
+    hears_meant input rest now Spent taken (Err (other_methods allowed)) known means

@@ -81,12 +81,15 @@ pub record Says (out : Out) (bytes : List ℕ) (status : ℕ) : Type 0 where
   pub status_is : status ≡ http_status out
 
 -- the request is denied, and the keeper stays as it was
-pub record Refuses {S : Type 0} (old new : Kept S) (why : Denial) (bytes : List ℕ) (status : ℕ) : Type 0 where
+pub record Refuses {S : Type 0} (old new : Kept S) (why : Denial) (bytes : List ℕ) (status : ℕ)
+    : Type 0 where
   pub says : Says (denied why) bytes status
   pub rests : new ≡ old
 
--- the call is done: the answer is the machine's, the farm is the machine's, and the store stands for it
-pub record Does {S : Type 0} (g : Ghosts S) (old new : Kept S) (call : Call) (bytes : List ℕ) (status : ℕ) : Type 0 where
+-- the call is done: the answer is the machine's, the farm is the machine's, and the store stands
+-- for it
+pub record Does {S : Type 0} (g : Ghosts S) (old new : Kept S) (call : Call) (bytes : List ℕ)
+    (status : ℕ) : Type 0 where
   pub was_open : old.is_open ≡ true
   pub stays_open : new.is_open ≡ true
   pub says : Says (replied (kind_of call.cmd) (answer old.farm.farm call)) bytes status
@@ -94,7 +97,8 @@ pub record Does {S : Type 0} (g : Ghosts S) (old new : Kept S) (call : Call) (by
   pub stands : Keeps g old → Keeps g new
 
 -- the view is shown, and the keeper stays as it was
-pub record Shows {S : Type 0} (old new : Kept S) (view : View) (bytes : List ℕ) (status : ℕ) : Type 0 where
+pub record Shows {S : Type 0} (old new : Kept S) (view : View) (bytes : List ℕ) (status : ℕ)
+    : Type 0 where
   pub was_open : old.is_open ≡ true
   pub out : Out
   pub shows : IsView view old.farm.farm out
@@ -102,7 +106,8 @@ pub record Shows {S : Type 0} (old new : Kept S) (view : View) (bytes : List ℕ
   pub rests : new ≡ old
 
 -- what was asked is answered
-abbrev pub Answers : {S : Type 0} → Ghosts S → Kept S → Kept S → Result Ask Denial → List ℕ → ℕ → Type 0
+abbrev pub Answers : {S : Type 0} → Ghosts S → Kept S → Kept S → Result Ask Denial → List ℕ → ℕ
+    → Type 0
 Answers g old new (Err why) bytes status = Refuses old new why bytes status
 Answers g old new (Ok (Ask.Call call)) bytes status = Does g old new call bytes status
 Answers g old new (Ok (Ask.View view)) bytes status = Shows old new view bytes status

@@ -1,5 +1,22 @@
 -- Conversations one after another over one keeper: what they ask, what they do, what they answer.
-use Rattle.std.specs.Prelude.{◌≡◌, ◌⊎◌, ℕ, true, false, IsOk, List, [], ◌∷◌, ◌++◌, map, Option, Some, Result, Ok, Err}
+use Rattle.std.specs.Prelude.{
+  ◌≡◌,
+  ◌⊎◌,
+  ℕ,
+  true,
+  false,
+  IsOk,
+  List,
+  [],
+  ◌∷◌,
+  ◌++◌,
+  map,
+  Option,
+  Some,
+  Result,
+  Ok,
+  Err,
+}
 use Rattle.std.specs.List.{AllByRecursion, flat_map}
 use Rattle.sqlite_trees.specs.declared.store.Store.{Ghosts}
 use Rattle.farm_types.specs.Farm.{Farm}
@@ -32,9 +49,12 @@ pub record Desk (S : Type 0) : Type 0 where
   pub output : Option (List ℕ)
 
 -- a conversation at this moment ends so
-pub record Converses {S : Type 0} (g : Ghosts S) (old new : Desk S) (now : ℕ) (end : Result ℕ DeskFault) : Type 0 where
-  pub answered : IsToldBy end → IsAnswered (IsDue g old.keeper new.keeper old.input new.input now) old.output new.output end
-  pub unwritten : end ≡ Err DeskFault.Write → IsUnwritten (IsDue g old.keeper new.keeper old.input new.input now) old.output new.output
+pub record Converses {S : Type 0} (g : Ghosts S) (old new : Desk S) (now : ℕ)
+    (end : Result ℕ DeskFault) : Type 0 where
+  pub answered : IsToldBy end
+      → IsAnswered (IsDue g old.keeper new.keeper old.input new.input now) old.output new.output end
+  pub unwritten : end ≡ Err DeskFault.Write
+      → IsUnwritten (IsDue g old.keeper new.keeper old.input new.input now) old.output new.output
   pub unread : end ≡ Err DeskFault.Read → IsUnread old.keeper new.keeper old.output new.output
 
 -- one conversation at this moment, however it ends
@@ -43,7 +63,8 @@ pub record ConversesOnce {S : Type 0} (g : Ghosts S) (old new : Desk S) (now : �
   pub converses : Converses g old new now end
 
 -- an order that is one conversation at this moment: it ends as the conversation does
-pub record AnswersOne {S : Type 0} (g : Ghosts S) (old new : Desk S) (now : ℕ) (result : Result End DeskFault) : Type 0 where
+pub record AnswersOne {S : Type 0} (g : Ghosts S) (old new : Desk S) (now : ℕ)
+    (result : Result End DeskFault) : Type 0 where
   pub end : Result ℕ DeskFault
   pub converses : Converses g old new now end
   pub ends : result ≡ ended_order end
@@ -60,7 +81,8 @@ ConverseInTurn {S} g (talk ∷ talks) old new =
     (next : Desk S) × Converses g old next talk.now talk.end × ConverseInTurn g talks next new
 
 -- those of the first list lead to a desk, and those of the second list on from it
-abbrev pub ConverseApart : {S : Type 0} → Ghosts S → List Talk → List Talk → Desk S → Desk S → Type 0
+abbrev pub ConverseApart : {S : Type 0} → Ghosts S → List Talk → List Talk → Desk S → Desk S
+    → Type 0
 ConverseApart {S} g first second old new =
     (between : Desk S) × ConverseInTurn g first old between × ConverseInTurn g second between new
 
@@ -69,14 +91,16 @@ abbrev pub desk : {S : Type 0} → Kept S → Option (List ℕ) → Option (List
 desk keeper input output = record { keeper = keeper; input = input; output = output }
 
 -- one conversation at each of these moments, and each is answered
-pub record AnswersAll {S : Type 0} (g : Ghosts S) (old new : Desk S) (moments : List ℕ) : Type 0 where
+pub record AnswersAll {S : Type 0} (g : Ghosts S) (old new : Desk S) (moments : List ℕ)
+    : Type 0 where
   pub talks : List Talk
   pub at_moments : map (λ talk. talk.now) talks ≡ moments
   pub answered : AllByRecursion (λ talk. IsOk talk.end) talks
   pub in_turn : ConverseInTurn g talks old new
 
 -- the conversations at the first moments are answered, and the next ends with this fault
-pub record StopsAt {S : Type 0} (g : Ghosts S) (old new : Desk S) (moments : List ℕ) (fault : DeskFault) : Type 0 where
+pub record StopsAt {S : Type 0} (g : Ghosts S) (old new : Desk S) (moments : List ℕ)
+    (fault : DeskFault) : Type 0 where
   pub done : List ℕ
   pub last : ℕ
   pub left : List ℕ
@@ -87,7 +111,8 @@ pub record StopsAt {S : Type 0} (g : Ghosts S) (old new : Desk S) (moments : Lis
 
 -- ---- where each of them is answered
 
--- a request and its answer: when it came, its bytes, what they ask, what is told, the bytes of that, and their status
+-- a request and its answer: when it came, its bytes, what they ask, what is told, the bytes of
+-- that, and their status
 pub record Exchange : Type 0 where
   pub now : ℕ
   pub request : List ℕ
@@ -118,17 +143,22 @@ MachineSays F (Ok (Ask.View view)) out = IsView view F out
 abbrev pub AreTold : Farm → List Exchange → Type 0
 AreTold F [] = Unit {0}
 AreTold F (x ∷ xs) =
-    MachineSays F x.asked x.told × Says x.told x.answer x.status × AreTold (run F (calls_in x.asked)) xs
+    MachineSays F x.asked x.told × Says x.told x.answer x.status
+    × AreTold (run F (calls_in x.asked)) xs
 
--- the requests stand at the front of the input, one behind another, and each asks what is said of it at its moment
+-- the requests stand at the front of the input, one behind another, and each asks what is said of
+-- it at its moment
 abbrev pub AreHeard : List ℕ → List Exchange → Type 0
 AreHeard input [] = Unit {0}
 AreHeard input (x ∷ xs) =
-    (rest : List ℕ) × (input ≡ x.request ++ rest) × Asks x.request (x.request ≡ input) x.now x.asked × AreHeard rest xs
+    (rest : List ℕ) × (input ≡ x.request ++ rest) × Asks x.request (x.request ≡ input) x.now x.asked
+    × AreHeard rest xs
 
--- the conversations are these exchanges: the requests left the input and the answers were written, in order; each is
--- the machine's at its place; the keeper has the farm after the calls that were asked, and its store keeps that farm
-pub record ActAsRun {S : Type 0} (g : Ghosts S) (talks : List Talk) (old new : Desk S) (input held : List ℕ) (exchanges : List Exchange) : Type 0 where
+-- the conversations are these exchanges: the requests left the input and the answers were written,
+-- in order; each is the machine's at its place; the keeper has the farm after the calls that were
+-- asked, and its store keeps that farm
+pub record ActAsRun {S : Type 0} (g : Ghosts S) (talks : List Talk) (old new : Desk S)
+    (input held : List ℕ) (exchanges : List Exchange) : Type 0 where
   pub rest : List ℕ
   pub each : map talk_of exchanges ≡ talks
   pub left : new.input ≡ Some rest
@@ -147,8 +177,10 @@ AnsweredActAsRun {S} g = (talks : List Talk) (old new : Desk S) (input held : Li
 
 -- ---- a request that is sent again
 
--- two requests somewhere among the exchanges ask calls under one key of one caller, and the first of them is accepted
-pub record IsSentAgain (F : Farm) (before between after : List Exchange) (first second : Exchange) (call repeated : Call) (key : List ℕ) (reply : Reply) : Type 0 where
+-- two requests somewhere among the exchanges ask calls under one key of one caller, and the first
+-- of them is accepted
+pub record IsSentAgain (F : Farm) (before between after : List Exchange) (first second : Exchange)
+    (call repeated : Call) (key : List ℕ) (reply : Reply) : Type 0 where
   pub told : AreTold F (before ++ first ∷ (between ++ second ∷ after))
   pub asks : first.asked ≡ Ok (Ask.Call call)
   pub asks_again : second.asked ≡ Ok (Ask.Call repeated)
@@ -159,7 +191,8 @@ pub record IsSentAgain (F : Farm) (before between after : List Exchange) (first 
 
 -- the second is told the kept reply, or is refused for its key or its moment
 abbrev pub ToldAgain : Type 0
-ToldAgain = (F : Farm) (before between after : List Exchange) (first second : Exchange) (call repeated : Call) (key : List ℕ) (reply : Reply)
+ToldAgain = (F : Farm) (before between after : List Exchange) (first second : Exchange)
+    (call repeated : Call) (key : List ℕ) (reply : Reply)
     → IsSentAgain F before between after first second call repeated key reply
     → second.told ≡ replied (kind_of repeated.cmd) (again call reply repeated)
 
@@ -168,7 +201,8 @@ ToldAgain = (F : Farm) (before between after : List Exchange) (first second : Ex
 -- the bytes that left the reader ask these calls, or nothing was understood
 abbrev pub AsksCalls : Option (List ℕ) → Option (List ℕ) → ℕ → List Call → Type 0
 AsksCalls input rest now calls =
-    ((asked : Result Ask Denial) × Hears input rest now asked × (calls ≡ calls_in asked)) ⊎ (calls ≡ [])
+    ((asked : Result Ask Denial) × Hears input rest now asked × (calls ≡ calls_in asked))
+    ⊎ (calls ≡ [])
 
 -- a call that was answered is done; one whose answer was not is done or not
 abbrev pub IsDoneOf : Result ℕ DeskFault → List Call → List Call → Type 0
@@ -176,7 +210,8 @@ IsDoneOf (Ok status) asked done = done ≡ asked
 IsDoneOf (Err fault) asked done = (done ≡ []) ⊎ (done ≡ asked)
 
 -- a conversation does these calls and leaves the keeper open
-pub record LeavesOpen {S : Type 0} (g : Ghosts S) (old new : Desk S) (talk : Talk) (done : List Call) : Type 0 where
+pub record LeavesOpen {S : Type 0} (g : Ghosts S) (old new : Desk S) (talk : Talk)
+    (done : List Call) : Type 0 where
   pub asked : List Call
   pub asks : AsksCalls old.input new.input talk.now asked
   pub done_of : IsDoneOf talk.end asked done
@@ -189,7 +224,8 @@ abbrev pub LeaveOpen : {S : Type 0} → Ghosts S → List Talk → Desk S → De
 LeaveOpen {S} g [] old new done = (new ≡ old) × (done ≡ [])
 LeaveOpen {S} g (talk ∷ talks) old new done =
     (next : Desk S) × (first : List Call) × (others : List Call)
-    × LeavesOpen g old next talk first × LeaveOpen g talks next new others × (done ≡ first ++ others)
+    × LeavesOpen g old next talk first × LeaveOpen g talks next new others
+    × (done ≡ first ++ others)
 
 -- a stop then leaves the farm before the call or, not after want of memory, the one after it
 abbrev pub LeavesBy : {S : Type 0} → Ghosts S → Kept S → Result ℕ DeskFault → Farm → Farm → Type 0
@@ -206,22 +242,27 @@ IsClosing (Err DeskFault.Write) = Unit {0}
 IsClosing end = ⊥
 
 -- after these calls were done, a conversation closes the keeper over one call more, a change
-pub record ClosesAfter {S : Type 0} (g : Ghosts S) (start : Kept S) (old new : Desk S) (talk : Talk) (done : List Call) : Type 0 where
+pub record ClosesAfter {S : Type 0} (g : Ghosts S) (start : Kept S) (old new : Desk S) (talk : Talk)
+    (done : List Call) : Type 0 where
   pub call : Call
   pub asks : AsksCalls old.input new.input talk.now (call ∷ [])
   pub change : IsChange (answer (run start.farm.farm done) call)
   pub closing : IsClosing talk.end
-  pub leaves : Keeps g start → LeavesBy g new.keeper talk.end (run start.farm.farm done) (run start.farm.farm (done ++ call ∷ []))
+  pub leaves : Keeps g start → LeavesBy g new.keeper talk.end (run start.farm.farm done)
+      (run start.farm.farm (done ++ call ∷ []))
 
--- while the keeper stays open, it has the farm after the calls that were done, and its store keeps that farm
+-- while the keeper stays open, it has the farm after the calls that were done, and its store keeps
+-- that farm
 abbrev pub OpenKeepsDone : {S : Type 0} → Ghosts S → Type 0
 OpenKeepsDone {S} g = (talks : List Talk) (old new : Desk S)
     → old.keeper.is_open ≡ true → new.keeper.is_open ≡ true → ConverseInTurn g talks old new
     → (done : List Call) × LeaveOpen g talks old new done × Reaches g old.keeper new.keeper done
 
--- where one more conversation closes it, a stop leaves the farm after the calls that were done, or after one call more
+-- where one more conversation closes it, a stop leaves the farm after the calls that were done, or
+-- after one call more
 abbrev pub ClosedKeepsPrefix : {S : Type 0} → Ghosts S → Type 0
 ClosedKeepsPrefix {S} g = (talks : List Talk) (last : Talk) (old between new : Desk S)
     → old.keeper.is_open ≡ true → between.keeper.is_open ≡ true → new.keeper.is_open ≡ false
     → ConverseInTurn g talks old between → Converses g between new last.now last.end
-    → (done : List Call) × LeaveOpen g talks old between done × ClosesAfter g old.keeper between new last done
+    → (done : List Call) × LeaveOpen g talks old between done
+    × ClosesAfter g old.keeper between new last done

@@ -33,9 +33,10 @@ abbrev pub WasOpenFor : {S : Type 0} → Kept S → Result Ask Denial → Type 0
 WasOpenFor old (Ok what) = old.is_open ≡ true
 WasOpenFor old (Err why) = Unit {0}
 
--- there was no memory for the answer: the constant one is due, and an open keeper stays open; a closed one has its own
--- answer to whatever is asked
-pub record RunsOut {S : Type 0} (g : Ghosts S) (old new : Kept S) (what : Result Ask Denial) (bytes : List ℕ) : Type 0 where
+-- there was no memory for the answer: the constant one is due, and an open keeper stays open; a
+-- closed one has its own answer to whatever is asked
+pub record RunsOut {S : Type 0} (g : Ghosts S) (old new : Kept S) (what : Result Ask Denial)
+    (bytes : List ℕ) : Type 0 where
   pub says : bytes ≡ reply_bytes (refusal NO_MEMORY)
   pub was_open : WasOpenFor old what
   pub stays_open : new.is_open ≡ old.is_open
@@ -60,7 +61,8 @@ pub record WasClosed {S : Type 0} (old new : Kept S) : Type 0 where
   pub was_closed : old.is_open ≡ false
   pub rests : new ≡ old
 
--- why the keeper is closed: 61 for calls and views alike, 1 and 60 only where a call changes the farm
+-- why the keeper is closed: 61 for calls and views alike, 1 and 60 only where a call changes the
+-- farm
 abbrev pub Cause : {S : Type 0} → Ghosts S → Kept S → Kept S → Ask → KeepFault → Type 0
 Cause g old new what KeepFault.Closed = WasClosed old new
 Cause g old new (Ask.Call call) KeepFault.NoMemory = LacksMemory old new call
@@ -68,19 +70,22 @@ Cause g old new (Ask.Call call) KeepFault.Store = LosesStore g old new call
 Cause g old new what fault = ⊥
 
 -- the keeper gave this fault: the constant answer of its number is due, and the keeper is closed
-pub record Closes {S : Type 0} (g : Ghosts S) (old new : Kept S) (what : Ask) (fault : KeepFault) (bytes : List ℕ) : Type 0 where
+pub record Closes {S : Type 0} (g : Ghosts S) (old new : Kept S) (what : Ask) (fault : KeepFault)
+    (bytes : List ℕ) : Type 0 where
   pub says : bytes ≡ reply_bytes (refusal (fault_code fault))
   pub is_closed : new.is_open ≡ false
   pub cause : Cause g old new what fault
 
-abbrev pub ClosesIfAsked : {S : Type 0} → Ghosts S → Kept S → Kept S → Result Ask Denial → KeepFault → List ℕ → Type 0
+abbrev pub ClosesIfAsked : {S : Type 0} → Ghosts S → Kept S → Kept S → Result Ask Denial → KeepFault
+    → List ℕ → Type 0
 ClosesIfAsked g old new (Ok what) fault bytes = Closes g old new what fault bytes
 ClosesIfAsked g old new (Err why) fault bytes = ⊥
 
 -- ---- all
 
 -- these bytes are due to what was asked, and the conversation then ends so
-abbrev pub IsDueTo : {S : Type 0} → Ghosts S → Kept S → Kept S → Result Ask Denial → List ℕ → Result ℕ DeskFault → Type 0
+abbrev pub IsDueTo : {S : Type 0} → Ghosts S → Kept S → Kept S → Result Ask Denial → List ℕ
+    → Result ℕ DeskFault → Type 0
 IsDueTo g old new what bytes (Ok status) = Answers g old new what bytes status
 IsDueTo g old new what bytes (Err DeskFault.NoMemory) = RunsOut g old new what bytes
 IsDueTo g old new what bytes (Err (DeskFault.Keep fault)) = ClosesIfAsked g old new what fault bytes
@@ -89,19 +94,23 @@ IsDueTo g old new what bytes (Err DeskFault.Write) = ⊥
 IsDueTo g old new what bytes (Err (DeskFault.File fault)) = ⊥
 
 -- what was asked was understood, and the answer is due to it
-pub record IsDueToAsked {S : Type 0} (g : Ghosts S) (old new : Kept S) (input rest : Option (List ℕ)) (now : ℕ) (bytes : List ℕ) (end : Result ℕ DeskFault) : Type 0 where
+pub record IsDueToAsked {S : Type 0} (g : Ghosts S) (old new : Kept S)
+    (input rest : Option (List ℕ)) (now : ℕ) (bytes : List ℕ) (end : Result ℕ DeskFault)
+    : Type 0 where
   pub what : Result Ask Denial
   pub hears : Hears input rest now what
   pub due : IsDueTo g old new what bytes end
 
 -- there was no memory to read the request or to understand it
-pub record IsNotUnderstood {S : Type 0} (old new : Kept S) (input rest : Option (List ℕ)) (bytes : List ℕ) (end : Result ℕ DeskFault) : Type 0 where
+pub record IsNotUnderstood {S : Type 0} (old new : Kept S) (input rest : Option (List ℕ))
+    (bytes : List ℕ) (end : Result ℕ DeskFault) : Type 0 where
   pub fault : end ≡ Err DeskFault.NoMemory
   pub hears : HearsWhole input rest
   pub says : bytes ≡ reply_bytes (refusal NO_MEMORY)
   pub rests : new ≡ old
 
 -- these bytes are the answer that is due, and the conversation ends so once they are written
-abbrev pub IsDue : {S : Type 0} → Ghosts S → Kept S → Kept S → Option (List ℕ) → Option (List ℕ) → ℕ → List ℕ → Result ℕ DeskFault → Type 0
+abbrev pub IsDue : {S : Type 0} → Ghosts S → Kept S → Kept S → Option (List ℕ) → Option (List ℕ) → ℕ
+    → List ℕ → Result ℕ DeskFault → Type 0
 IsDue g old new input rest now bytes end =
     IsDueToAsked g old new input rest now bytes end ⊎ IsNotUnderstood old new input rest bytes end

@@ -3,9 +3,11 @@ use Rattle.std.specs.Prelude.{◌≡◌, ℕ, ◌⊎◌, List, [], Option, Some,
 use Rattle.std.specs.Io.KnownBytes.{Consumes}
 use Rattle.farm_http.specs.Request.{Request}
 use Rattle.farm_http.specs.Requests.{IsRefused, IsRequest, Spells}
+use Rattle.farm_http.specs.declared.fault.WireFault.{WireFault}
 use Rattle.farm_wire.specs.Asked.{Asked, ask, asked}
 use Rattle.farm_wire.specs.Reading.{Denial, refused, other_methods}
 use Rattle.farm_wire.specs.declared.ask.Ask.{Ask}
+use Rattle.farm_wire.specs.declared.fault.AskFault.{AskFault}
 use Rattle.farm_desk.specs.declared.hear.Unheard.{Unheard}
 
 -- what is asked, or why nothing is, in the words of the definitions
@@ -20,14 +22,17 @@ pub record IsMeant (used : List ℕ) (now : ℕ) (what : Result Ask Denial) : Ty
   pub spells : Spells used head request
   pub means : ask request now ≡ told what
 
--- the bytes ask this at that moment: they are refused as no request, or they are a request that means it
+-- the bytes ask this at that moment: they are refused as no request, or they are a request that
+-- means it
 abbrev pub Asks : List ℕ → Type 0 → ℕ → Result Ask Denial → Type 0
 Asks used AtEnd now (Ok what) = IsMeant used now (Ok what)
-Asks used AtEnd now (Err (refused code)) = IsRefused used AtEnd code ⊎ IsMeant used now (Err (refused code))
+Asks used AtEnd now (Err (refused code)) = IsRefused used AtEnd code
+    ⊎ IsMeant used now (Err (refused code))
 Asks used AtEnd now (Err (other_methods allowed)) = IsMeant used now (Err (other_methods allowed))
 
 -- of this input the bytes that ask this are taken, and no others
-pub record IsTakenFor (input : List ℕ) (rest : Option (List ℕ)) (now : ℕ) (what : Result Ask Denial) : Type 0 where
+pub record IsTakenFor (input : List ℕ) (rest : Option (List ℕ)) (now : ℕ) (what : Result Ask Denial)
+    : Type 0 where
   pub used : List ℕ
   pub taken : Consumes (Some input) rest used
   pub asks : Asks used (used ≡ input) now what
@@ -48,10 +53,23 @@ abbrev pub HearsWhole : Option (List ℕ) → Option (List ℕ) → Type 0
 HearsWhole None rest = ⊤
 HearsWhole (Some input) rest = IsTakenWhole input rest
 
+-- a reader that tells its bytes gave those that ask nothing for that reason
+abbrev pub HearsNothing : Option (List ℕ) → Option (List ℕ) → ℕ → AskFault → Type 0
+HearsNothing input rest now AskFault.NoMemory = HearsWhole input rest
+HearsNothing input rest now (AskFault.Refused refusal) =
+    Hears input rest now (Err (refused refusal.code))
+HearsNothing input rest now (AskFault.Method allowed) =
+    Hears input rest now (Err (other_methods allowed))
+
+-- why nothing is heard where no request was read
+abbrev pub unheard : WireFault → Unheard
+unheard WireFault.NoMemory = Unheard.Unasked AskFault.NoMemory
+unheard (WireFault.Refused refusal) = Unheard.Unasked (AskFault.Refused refusal)
+unheard WireFault.Read = Unheard.Read
+unheard WireFault.Write = Unheard.Read
+
 -- what hearing a request gives
 abbrev pub Gives : Option (List ℕ) → Option (List ℕ) → ℕ → Type 0 → Result Ask Unheard → Type 0
 Gives input rest now Spent (Ok what) = Hears input rest now (Ok what)
-Gives input rest now Spent (Err Unheard.NoMemory) = HearsWhole input rest
 Gives input rest now Spent (Err Unheard.Read) = Spent
-Gives input rest now Spent (Err (Unheard.Refused refusal)) = Hears input rest now (Err (refused refusal.code))
-Gives input rest now Spent (Err (Unheard.Method allowed)) = Hears input rest now (Err (other_methods allowed))
+Gives input rest now Spent (Err (Unheard.Unasked fault)) = HearsNothing input rest now fault

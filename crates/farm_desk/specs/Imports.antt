@@ -1,5 +1,26 @@
--- What an import does: the calls of a lab file, one after another, up to the first refusal or fault.
-use Rattle.std.specs.Prelude.{◌≡◌, ◌≤◌, ◌<◌, ◌+◌, ℕ, [], ◌∷◌, ◌++◌, Bool, true, false, List, map, take, length, Option, Some, None, Ok}
+-- What an import does: the calls of a lab file, one after another, up to the first refusal or
+-- fault.
+use Rattle.std.specs.Prelude.{
+  ◌≡◌,
+  ◌≤◌,
+  ◌<◌,
+  ◌+◌,
+  ℕ,
+  [],
+  ◌∷◌,
+  ◌++◌,
+  Bool,
+  true,
+  false,
+  List,
+  map,
+  take,
+  length,
+  Option,
+  Some,
+  None,
+  Ok,
+}
 use Rattle.std.specs.List.{count_by}
 use Rattle.sqlite_trees.specs.declared.store.Store.{Ghosts}
 use Rattle.farm_types.specs.Farm.{Farm}
@@ -31,15 +52,18 @@ is_kept (Denied code) = false
 
 -- an answer is counted, or it is a refusal and given back
 abbrev pub Counts : Answered → ImportEnd → ImportEnd → Option Refusal → Type 0
-Counts (Changed reply) old new refusal = (new ≡ record old { accepted = old.accepted + 1 }) × (refusal ≡ None)
-Counts (Repeated reply) old new refusal = (new ≡ record old { kept = old.kept + 1 }) × (refusal ≡ None)
+Counts (Changed reply) old new refusal = (new ≡ record old { accepted = old.accepted + 1 })
+    × (refusal ≡ None)
+Counts (Repeated reply) old new refusal = (new ≡ record old { kept = old.kept + 1 })
+    × (refusal ≡ None)
 Counts (Denied code) old new refusal = (new ≡ old) × (refusal ≡ Some (record { code = code }))
 
 -- so many of the calls were done
 abbrev pub done_by : ImportEnd → ℕ
 done_by end = end.accepted + end.kept
 
--- the first calls were done and none of them was refused: so many were accepted, and so many had been before
+-- the first calls were done and none of them was refused: so many were accepted, and so many had
+-- been before
 pub record IsCounted (F : Farm) (calls : List Call) (accepted kept : ℕ) : Type 0 where
   pub within : accepted + kept ≤ length calls
   pub accepted_are : accepted ≡ count_by is_accepted (answers_of F (take (accepted + kept) calls))
@@ -54,30 +78,38 @@ pub record Reaches {S : Type 0} (g : Ghosts S) (old new : Kept S) (calls : List 
   pub stands : Keeps g old → Keeps g new
 
 -- all calls were done
-pub record IsWhole {S : Type 0} (g : Ghosts S) (old new : Kept S) (calls : List Call) (done : ℕ) : Type 0 where
+pub record IsWhole {S : Type 0} (g : Ghosts S) (old new : Kept S) (calls : List Call) (done : ℕ)
+    : Type 0 where
   pub all : done ≡ length calls
   pub reaches : Reaches g old new calls
 
 -- the call at this place, counted from 1, was refused, and those before it were done
-pub record IsStopped {S : Type 0} (g : Ghosts S) (old new : Kept S) (calls : List Call) (done place code : ℕ) : Type 0 where
+pub record IsStopped {S : Type 0} (g : Ghosts S) (old new : Kept S) (calls : List Call)
+    (done place code : ℕ) : Type 0 where
   pub next : place ≡ done + 1
   pub within : place ≤ length calls
-  pub refused : answers_of old.farm.farm (take place calls) ≡ answers_of old.farm.farm (take done calls) ++ Denied code ∷ []
+  pub refused : answers_of old.farm.farm (take place calls) ≡ answers_of old.farm.farm
+      (take done calls) ++ Denied code ∷ []
   pub reaches : Reaches g old new (take done calls)
 
--- there was no memory for the change of the next call: the keeper is closed, and its store keeps the farm before it
-pub record LacksMemoryFor {S : Type 0} (g : Ghosts S) (old new : Kept S) (calls : List Call) (done : ℕ) : Type 0 where
+-- there was no memory for the change of the next call: the keeper is closed, and its store keeps
+-- the farm before it
+pub record LacksMemoryFor {S : Type 0} (g : Ghosts S) (old new : Kept S) (calls : List Call)
+    (done : ℕ) : Type 0 where
   pub within : done < length calls
   pub change : IsNextChange old.farm.farm calls done
   pub is_closed : new.is_open ≡ false
   pub stands : Keeps g old → KeepsFarm g new (run old.farm.farm (take done calls))
 
--- the store refused the next call's change: the keeper is closed, and a stop leaves the farm before it or after it
-pub record LosesStoreAt {S : Type 0} (g : Ghosts S) (old new : Kept S) (calls : List Call) (done : ℕ) : Type 0 where
+-- the store refused the next call's change: the keeper is closed, and a stop leaves the farm before
+-- it or after it
+pub record LosesStoreAt {S : Type 0} (g : Ghosts S) (old new : Kept S) (calls : List Call)
+    (done : ℕ) : Type 0 where
   pub within : done < length calls
   pub change : IsNextChange old.farm.farm calls done
   pub is_closed : new.is_open ≡ false
-  pub leaves : Keeps g old → KeepsEither g new (run old.farm.farm (take done calls)) (run old.farm.farm (take (done + 1) calls))
+  pub leaves : Keeps g old → KeepsEither g new (run old.farm.farm (take done calls))
+      (run old.farm.farm (take (done + 1) calls))
 
 -- the keeper was closed before, and nothing is done
 pub record WasShut {S : Type 0} (old new : Kept S) (done : ℕ) : Type 0 where
@@ -86,36 +118,44 @@ pub record WasShut {S : Type 0} (old new : Kept S) (done : ℕ) : Type 0 where
   pub rests : new ≡ old
 
 -- how it ended, by its refusal or its fault
-abbrev pub EndsBy : {S : Type 0} → Ghosts S → Kept S → Kept S → List Call → ℕ → Option (ℕ × Refusal) → Option DeskFault → Type 0
+abbrev pub EndsBy : {S : Type 0} → Ghosts S → Kept S → Kept S → List Call → ℕ → Option (ℕ × Refusal)
+    → Option DeskFault → Type 0
 EndsBy g old new calls done None None = IsWhole g old new calls done
 EndsBy g old new calls done (Some stop) None = IsStopped g old new calls done stop.0 stop.1.code
-EndsBy g old new calls done None (Some (DeskFault.Keep KeepFault.NoMemory)) = LacksMemoryFor g old new calls done
-EndsBy g old new calls done None (Some (DeskFault.Keep KeepFault.Store)) = LosesStoreAt g old new calls done
+EndsBy g old new calls done None (Some (DeskFault.Keep KeepFault.NoMemory)) =
+    LacksMemoryFor g old new calls done
+EndsBy g old new calls done None (Some (DeskFault.Keep KeepFault.Store)) =
+    LosesStoreAt g old new calls done
 EndsBy g old new calls done None (Some (DeskFault.Keep KeepFault.Closed)) = WasShut old new done
 EndsBy g old new calls done stopped fault = ⊥
 
 -- these calls were done up to the first refusal or fault
-pub record DoesCalls {S : Type 0} (g : Ghosts S) (old new : Kept S) (calls : List Call) (end : ImportEnd) : Type 0 where
+pub record DoesCalls {S : Type 0} (g : Ghosts S) (old new : Kept S) (calls : List Call)
+    (end : ImportEnd) : Type 0 where
   pub counted : IsCounted old.farm.farm calls end.accepted end.kept
   pub ends : EndsBy g old new calls (done_by end) end.stopped end.fault
 
 -- ---- the file
 
 -- the text spells calls, and these were done
-pub record Imports {S : Type 0} (g : Ghosts S) (old new : Kept S) (text : List ℕ) (now : ℕ) (end : ImportEnd) : Type 0 where
+pub record Imports {S : Type 0} (g : Ghosts S) (old new : Kept S) (text : List ℕ) (now : ℕ)
+    (end : ImportEnd) : Type 0 where
   pub calls : List Call
   pub spelled : lab text now ≡ Ok (map entry_of calls)
   pub does : DoesCalls g old new calls end
 
 -- the text spells none, or there was no memory to read it: nothing was done
-pub record IsRefused {S : Type 0} (old new : Kept S) (text : List ℕ) (now : ℕ) (fault : FileFault) (end : ImportEnd) : Type 0 where
+pub record IsRefused {S : Type 0} (old new : Kept S) (text : List ℕ) (now : ℕ) (fault : FileFault)
+    (end : ImportEnd) : Type 0 where
   pub fault_is : Faults fault (lab text now)
   pub nothing : done_by end ≡ 0
   pub never_began : end.stopped ≡ None
   pub rests : new ≡ old
 
-abbrev pub ImportsBy : {S : Type 0} → Ghosts S → Kept S → Kept S → List ℕ → ℕ → ImportEnd → Option DeskFault → Type 0
-ImportsBy g old new text now end (Some (DeskFault.File fault)) = IsRefused old new text now fault end
+abbrev pub ImportsBy : {S : Type 0} → Ghosts S → Kept S → Kept S → List ℕ → ℕ → ImportEnd
+    → Option DeskFault → Type 0
+ImportsBy g old new text now end (Some (DeskFault.File fault)) =
+    IsRefused old new text now fault end
 ImportsBy g old new text now end fault = Imports g old new text now end
 
 -- what an import of that text does at that moment

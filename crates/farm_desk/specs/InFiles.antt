@@ -52,13 +52,17 @@ pub record HasFarm {D : Type 0} {g : Ghosts D} (k : Kept (FileStore D g)) (F : F
   pub stands : KeepsFarm over_files k F
 
 -- where the files held a sound farm, an open keeper has that farm, and its store keeps it
-pub record FindsFarm {D : Type 0} {g : Ghosts D} (image : Image) (k : Kept (FileStore D g)) : Type 0 where
+pub record FindsFarm {D : Type 0} {g : Ghosts D} (image : Image) (k : Kept (FileStore D g))
+    : Type 0 where
   pub opened : k.is_open ≡ true
   pub sound : IsSound k.farm.farm
-  pub finds : HasCleanDisk (file_state k.conn) → (F : Farm) → IsSound F → HoldsFarm image F → HasFarm k F
+  pub finds : HasCleanDisk (file_state k.conn) → (F : Farm) → IsSound F → HoldsFarm image F
+      → HasFarm k F
 
--- an open keeper has the empty farm, the files held no farm's tables, and where they held a database without a table, its store keeps the empty farm
-pub record MakesFarm {D : Type 0} {g : Ghosts D} (image : Image) (k : Kept (FileStore D g)) : Type 0 where
+-- an open keeper has the empty farm, the files held no farm's tables, and where they held a
+-- database without a table, its store keeps the empty farm
+pub record MakesFarm {D : Type 0} {g : Ghosts D} (image : Image) (k : Kept (FileStore D g))
+    : Type 0 where
   pub opened : k.is_open ≡ true
   pub farm : k.farm.farm ≡ empty
   pub free : HasCleanDisk (file_state k.conn) → (T : Tables) → ¬ HoldsTables image T
@@ -74,20 +78,24 @@ IsOpenFault (DeskFault.Keep KeepFault.BadStore) = ⊤
 IsOpenFault (DeskFault.Keep KeepFault.OldSchema) = ⊤
 IsOpenFault fault = ⊥
 
--- the files are bad only where they hold no sound farm, and their schema is old only where they hold no farm's tables
+-- the files are bad only where they hold no sound farm, and their schema is old only where they
+-- hold no farm's tables
 abbrev pub DeniesFarm : Image → DeskFault → Type 0
 DeniesFarm image (DeskFault.Keep KeepFault.BadStore) = (F : Farm) → IsSound F → ¬ HoldsFarm image F
 DeniesFarm image (DeskFault.Keep KeepFault.OldSchema) = (T : Tables) → ¬ HoldsTables image T
 DeniesFarm image other = ⊤
 
 -- so it is on a disk that always returns what was written
-abbrev pub GivesReason : {D : Type 0} {g : Ghosts D} → Image → Result (Kept (FileStore D g)) DeskFault → Type 0
-GivesReason {D} {g} image result = IsAlwaysClean (over_files {D = D} {g = g}) → IfErr result (DeniesFarm image)
+abbrev pub GivesReason : {D : Type 0} {g : Ghosts D} → Image
+    → Result (Kept (FileStore D g)) DeskFault → Type 0
+GivesReason {D} {g} image result = IsAlwaysClean (over_files {D = D} {g = g})
+    → IfErr result (DeniesFarm image)
 
 -- ---- the same of any store
 
 -- a connection that was just opened shows what the files held
-pub record ShowsFiles {D : Type 0} {g : Ghosts D} (image : Image) (conn : Held (FileStore D g)) : Type 0 where
+pub record ShowsFiles {D : Type 0} {g : Ghosts D} (image : Image) (conn : Held (FileStore D g))
+    : Type 0 where
   pub opened : HasCleanDisk (file_state conn) → IsOpened conn
   pub found : HasCleanDisk (file_state conn) → FindsIn image (file_state conn)
 
@@ -97,15 +105,18 @@ pub record OpensTables {S : Type 0} (g : store.Ghosts S) (conn : Held S) (T : Ta
   pub live : IsLive (state g conn)
   pub holds : Holds (state g conn).committed.trees T
 
--- an open keeper was made from a connection: where that was just opened on the tables of a sound farm, the keeper has that farm, and its store keeps it
+-- an open keeper was made from a connection: where that was just opened on the tables of a sound
+-- farm, the keeper has that farm, and its store keeps it
 pub record FindsTables {S : Type 0} (g : store.Ghosts S) (conn : Held S) (k : Kept S) : Type 0 where
   pub opened : k.is_open ≡ true
   pub sound : IsSound k.farm.farm
   pub clean : doubt (state g conn).is_clean ≤ doubt (state g k.conn).is_clean
-  pub exact : HasCleanDisk (state g k.conn) → (F : Farm) → IsSound F → OpensTables g conn (rows_of F) → k.farm.farm ≡ F
+  pub exact : HasCleanDisk (state g k.conn) → (F : Farm) → IsSound F
+      → OpensTables g conn (rows_of F) → k.farm.farm ≡ F
   pub stands : (F : Farm) → OpensTables g conn (rows_of F) → KeepsFarm g k F
 
--- an open keeper has the empty farm; its connection was opened on no farm's tables, and where it showed no table at all, its store keeps the empty farm
+-- an open keeper has the empty farm; its connection was opened on no farm's tables, and where it
+-- showed no table at all, its store keeps the empty farm
 pub record MakesTables {S : Type 0} (g : store.Ghosts S) (conn : Held S) (k : Kept S) : Type 0 where
   pub opened : k.is_open ≡ true
   pub farm : k.farm.farm ≡ empty
@@ -115,7 +126,8 @@ pub record MakesTables {S : Type 0} (g : store.Ghosts S) (conn : Held S) (k : Ke
 
 -- why a connection gives no keeper
 abbrev pub DeniesTables : {S : Type 0} → store.Ghosts S → Held S → DeskFault → Type 0
-DeniesTables g conn (DeskFault.Keep KeepFault.BadStore) = (F : Farm) → IsSound F → ¬ OpensTables g conn (rows_of F)
+DeniesTables g conn (DeskFault.Keep KeepFault.BadStore) = (F : Farm) → IsSound F
+    → ¬ OpensTables g conn (rows_of F)
 DeniesTables g conn (DeskFault.Keep KeepFault.OldSchema) = (T : Tables) → ¬ OpensTables g conn T
 DeniesTables g conn other = ⊤
 
@@ -127,8 +139,11 @@ pub record HoldsRun (image : Image) (F : Farm) (end : RunEnd) (calls : List Call
   pub counts : IsDone end done
   pub holds : HoldsFarm image (run F (take done calls))
 
--- what a stop leaves of the files of this store, which the keeper had: each holds the farm after the calls that were done
+-- what a stop leaves of the files of this store, which the keeper had: each holds the farm after
+-- the calls that were done
 abbrev pub LeavesFiles : {D : Type 0} {g : Ghosts D} → Kept (FileStore D g) → FileStore D g → Type 0
 LeavesFiles k it =
-    IsClean (files.view it) → (old : Kept _) (end : RunEnd) (calls : List Call) → Keeps over_files old → Runs over_files old k end calls
-    → (image : Image) → (files.state it).may_leave image → ∥ HoldsRun image old.farm.farm end calls ∥₁
+    IsClean (files.view it) → (old : Kept _) (end : RunEnd) (calls : List Call)
+    → Keeps over_files old → Runs over_files old k end calls
+    → (image : Image) → (files.state it).may_leave image
+    → ∥ HoldsRun image old.farm.farm end calls ∥₁

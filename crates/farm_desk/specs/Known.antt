@@ -14,4 +14,7 @@ abbrev pub went : Gone → Went
 went gone = record { input = Some gone.rest.now; output = Some gone.answer.items }
 
 abbrev pub clientele_of : KnownClients → Clientele
-clientele_of clients = record { coming = map came (drop clients.place clients.all.now); gone = map went clients.gone.items }
+clientele_of clients = record {
+  coming = map came (drop clients.place clients.all.now);
+  gone = map went clients.gone.items;
+}

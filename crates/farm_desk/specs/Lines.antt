@@ -1,5 +1,20 @@
 -- The lines that the program writes.
-use Rattle.std.specs.Prelude.{◌≡◌, ℕ, List, [], ◌∷◌, ◌++◌, codes, decimal, Option, Some, None, Result, Ok, Err}
+use Rattle.std.specs.Prelude.{
+  ◌≡◌,
+  ℕ,
+  List,
+  [],
+  ◌∷◌,
+  ◌++◌,
+  codes,
+  decimal,
+  Option,
+  Some,
+  None,
+  Result,
+  Ok,
+  Err,
+}
 use Rattle.std.specs.Io.KnownBytes.{Appends, Keeps}
 use Rattle.farm_types.specs.Refusals.{text_of}
 use Rattle.farm_types.specs.declared.refusal.Refusal.{Refusal}
@@ -9,7 +24,8 @@ use Rattle.farm_desk.specs.declared.orders.End.{End}
 
 -- so many commands of a lab file were accepted, and so many had been before
 abbrev pub counts_line : ℕ → ℕ → List ℕ
-counts_line accepted kept = (codes "accepted " ++ (decimal accepted ++ (codes ", kept " ++ decimal kept))) ++ 10 ∷ []
+counts_line accepted kept =
+    (codes "accepted " ++ (decimal accepted ++ (codes ", kept " ++ decimal kept))) ++ 10 ∷ []
 
 -- clients are heard on this port
 abbrev pub port_line : ℕ → List ℕ
@@ -21,15 +37,23 @@ fault_line code = (codes "farm: " ++ (decimal code ++ (codes " " ++ text_of code
 
 -- a refusal of this number, at that place of a lab file
 abbrev pub refusal_line : ℕ → ℕ → List ℕ
-refusal_line code place = (codes "farm: " ++ (decimal code ++ (codes " " ++ (text_of code ++ (codes " at " ++ decimal place))))) ++ 10 ∷ []
+refusal_line code place =
+    (codes "farm: "
+    ++ (decimal code ++ (codes " " ++ (text_of code ++ (codes " at " ++ decimal place))))) ++ 10
+    ∷ []
 
--- an import that met a fault ends with it, and one that met a refusal with its place and the refusal: neither prints
--- anything; any other prints its line, or the writer failed
-abbrev pub TellsBy : Option DeskFault → Option (ℕ × Refusal) → List ℕ → Option (List ℕ) → Option (List ℕ) → Result End DeskFault → Type 0
+-- an import that met a fault ends with it, and one that met a refusal with its place and the
+-- refusal: neither prints anything; any other prints its line, or the writer failed
+abbrev pub TellsBy : Option DeskFault → Option (ℕ × Refusal) → List ℕ → Option (List ℕ)
+    → Option (List ℕ) → Result End DeskFault → Type 0
 TellsBy (Some fault) stopped line held holds result = (result ≡ Err fault) × Keeps held holds
-TellsBy None (Some stop) line held holds result = (result ≡ Ok (End.RefusedAt stop.0 stop.1)) × Keeps held holds
+TellsBy None (Some stop) line held holds result = (result ≡ Ok (End.RefusedAt stop.0 stop.1))
+    × Keeps held holds
 TellsBy None None line held holds (Ok end) = (end ≡ End.Done) × Appends held holds line
 TellsBy None None line held holds (Err fault) = fault ≡ DeskFault.Write
 
-abbrev pub TellsImport : ImportEnd → Option (List ℕ) → Option (List ℕ) → Result End DeskFault → Type 0
-TellsImport imported held holds result = TellsBy imported.fault imported.stopped (counts_line imported.accepted imported.kept) held holds result
+abbrev pub TellsImport : ImportEnd → Option (List ℕ) → Option (List ℕ) → Result End DeskFault
+    → Type 0
+TellsImport imported held holds result =
+    TellsBy imported.fault imported.stopped (counts_line imported.accepted imported.kept) held holds
+    result

@@ -3,6 +3,7 @@ use Rattle.std.specs.Prelude.{◌≡◌, ℕ, List, Result, Ok, Err}
 use Rattle.farm_types.specs.declared.refusal.TheConstants.{NO_MEMORY}
 use Rattle.farm_wire.specs.Replies.{reply_bytes}
 use Rattle.farm_wire.specs.declared.answers.Out.{Out}
+use Rattle.farm_wire.specs.declared.fault.AskFault.{AskFault}
 use Rattle.farm_desk.specs.Answers.{Says, refusal}
 use Rattle.farm_desk.specs.declared.due.Bytes.{Bytes}
 use Rattle.farm_desk.specs.declared.fault.DeskFault.{DeskFault}
@@ -25,3 +26,10 @@ IsMadeOf out bytes (Err fault) = IsShort bytes fault
 abbrev pub IsMadeOfOne : (Out → Type 0) → List ℕ → Result ℕ DeskFault → Type 0
 IsMadeOfOne P bytes (Ok status) = (out : Out) × P out × Says out bytes status
 IsMadeOfOne P bytes (Err fault) = IsShort bytes fault
+
+-- the bytes say why nothing was asked
+abbrev pub IsMadeOfNothing : AskFault → List ℕ → Result ℕ DeskFault → Type 0
+IsMadeOfNothing (AskFault.Refused refused) bytes end = IsMadeOf (Out.Refused refused) bytes end
+IsMadeOfNothing (AskFault.Method allowed) bytes end = IsMadeOf (Out.Method allowed) bytes end
+IsMadeOfNothing AskFault.NoMemory bytes end = (end ≡ Err DeskFault.NoMemory)
+    × (bytes ≡ reply_bytes (refusal NO_MEMORY))

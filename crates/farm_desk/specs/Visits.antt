@@ -1,5 +1,21 @@
 -- Conversations with one client after another.
-use Rattle.std.specs.Prelude.{◌≡◌, ◌≤◌, ◌⊎◌, ℕ, true, List, [], ◌∷◌, ◌++◌, map, length, Option, Some, None, Result}
+use Rattle.std.specs.Prelude.{
+  ◌≡◌,
+  ◌≤◌,
+  ◌⊎◌,
+  ℕ,
+  true,
+  List,
+  [],
+  ◌∷◌,
+  ◌++◌,
+  map,
+  length,
+  Option,
+  Some,
+  None,
+  Result,
+}
 use Rattle.sqlite_trees.specs.declared.store.Store.{Ghosts}
 use Rattle.farm_keep.specs.Kept.{Kept}
 use Rattle.farm_desk.specs.Clients.{Came, Went, Clientele, IsOver}
@@ -15,22 +31,27 @@ pub record Visit : Type 0 where
 -- an open keeper converses with it, at the moment it came
 pub record IsVisit {S : Type 0} (g : Ghosts S) (old new : Kept S) (visit : Visit) : Type 0 where
   pub was_open : old.is_open ≡ true
-  pub converses : Converses g (desk old visit.came.input visit.came.output) (desk new visit.went.input visit.went.output) visit.came.now visit.end
+  pub converses : Converses g (desk old visit.came.input visit.came.output)
+      (desk new visit.went.input visit.went.output) visit.came.now visit.end
 
 -- each with the keeper as the one before left it
 abbrev pub VisitInTurn : {S : Type 0} → Ghosts S → List Visit → Kept S → Kept S → Type 0
 VisitInTurn g [] old new = new ≡ old
-VisitInTurn g (visit ∷ visits) old new = (next : Kept _) × IsVisit g old next visit × VisitInTurn g visits next new
+VisitInTurn g (visit ∷ visits) old new = (next : Kept _) × IsVisit g old next visit
+    × VisitInTurn g visits next new
 
 -- of the clients that are known these came, and these went; what isn't known stays unknown
 abbrev pub AreOf : Option Clientele → Option Clientele → List Visit → Type 0
 AreOf None new visits = new ≡ None
 AreOf (Some old) None visits = ⊥
 AreOf (Some old) (Some new) visits =
-    (old.coming ≡ map (λ visit. visit.came) visits ++ new.coming) × (new.gone ≡ old.gone ++ map (λ visit. visit.went) visits)
+    (old.coming ≡ map (λ visit. visit.came) visits ++ new.coming)
+    × (new.gone ≡ old.gone ++ map (λ visit. visit.went) visits)
 
--- the next clients, at most so many, were conversed with in turn, and where nothing failed so many were, or nobody is left
-pub record ServesInTurn {S : Type 0} (g : Ghosts S) (before after : Option Clientele) (old new : Kept S) (max : ℕ) (Whole : Type 0) : Type 0 where
+-- the next clients, at most so many, were conversed with in turn, and where nothing failed so many
+-- were, or nobody is left
+pub record ServesInTurn {S : Type 0} (g : Ghosts S) (before after : Option Clientele)
+    (old new : Kept S) (max : ℕ) (Whole : Type 0) : Type 0 where
   pub visits : List Visit
   pub few : length visits ≤ max
   pub in_turn : VisitInTurn g visits old new

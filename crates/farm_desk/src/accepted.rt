@@ -27,8 +27,8 @@ impl<'a, C: Clock> Clients for Accepted<'a, C> {
 
     ghost has_one = { λ _. ⊤ };
 
-    /// The next connection. A buffer stands before its stream, so that a head that came whole costs one
-    /// read; without memory for the buffer the client is told so.
+    /// The next connection. A buffer stands before its stream, so that a head that came whole costs
+    /// one read; without memory for the buffer the client is told so.
     fn next(&mut self) -> Option<Client<BufReader<Patient<'a, C>>, Patient<'a, C>>> {
         let (stream, second) = next_stream(self.listener)?;
         let now = moment(self.clock)?;

@@ -23,8 +23,10 @@ use std::alloc::Global;
 
 /// The answer due to what was asked: a call is done, a view is shown.
 pub(crate) fn due_to<S: Alter>(alloc: Global, keeper: &mut Keeper<S>, ask: &Ask) -> Due
-    ensures due { IsDueTo S.Store keeper.old keeper.new (Ok ask.now) (bytes_in result.bytes) result.end }
-    ensures clean { doubt (state S.Store keeper.old.conn).is_clean ≤ doubt (state S.Store keeper.new.conn).is_clean }
+    ensures due { IsDueTo S.Store keeper.old keeper.new (Ok ask.now)
+        (bytes_in result.bytes) result.end }
+    ensures clean { doubt (state S.Store keeper.old.conn).is_clean ≤ doubt
+        (state S.Store keeper.new.conn).is_clean }
 {
     match ask {
         Ask::Call(call) => due_to_call(alloc, keeper, call),
@@ -34,8 +36,10 @@ pub(crate) fn due_to<S: Alter>(alloc: Global, keeper: &mut Keeper<S>, ask: &Ask)
 
 /// The answer due to a call.
 fn due_to_call<S: Alter>(alloc: Global, keeper: &mut Keeper<S>, call: &Call) -> Due
-    ensures due { IsDueTo S.Store keeper.old keeper.new (Ok (Asking.Call call.entry.now)) (bytes_in result.bytes) result.end }
-    ensures clean { doubt (state S.Store keeper.old.conn).is_clean ≤ doubt (state S.Store keeper.new.conn).is_clean }
+    ensures due { IsDueTo S.Store keeper.old keeper.new (Ok (Asking.Call call.entry.now))
+        (bytes_in result.bytes) result.end }
+    ensures clean { doubt (state S.Store keeper.old.conn).is_clean ≤ doubt
+        (state S.Store keeper.new.conn).is_clean }
 {
     match keeper.act(call) {
         Ok(answer) => Due::of(alloc, &reply_of(call, &answer)),
@@ -55,7 +59,8 @@ fn reply_of(call: &Call, answer: &Answer) -> Out<'static>
 
 /// The answer due to a view of an open keeper's farm.
 fn due_to_view<S: Alter>(alloc: Global, keeper: &Keeper<S>, view: View) -> Due
-    ensures { IsDueTo S.Store keeper.now keeper.now (Ok (Asking.View view)) (bytes_in result.bytes) result.end }
+    ensures { IsDueTo S.Store keeper.now keeper.now (Ok (Asking.View view))
+        (bytes_in result.bytes) result.end }
 {
     match keeper.farm() {
         Some(farm) => show(alloc, farm, view),
@@ -81,7 +86,8 @@ fn show(alloc: Global, farm: &Farm, view: View) -> Due
 /// What the view of the queue shows.
 fn show_queue(alloc: Global, farm: &Farm) -> Due
     requires { farm.now.failed ≡ false }
-    ensures { IsMadeOfOne (ListsClaims (map shown_claim (queue farm.now.farm))) (bytes_in result.bytes) result.end }
+    ensures { IsMadeOfOne (ListsClaims (map shown_claim (queue farm.now.farm)))
+        (bytes_in result.bytes) result.end }
 {
     match farm.queue() {
         Ok(claims) => Due::of(alloc, &Out::Queue(claims.as_slice())),
@@ -92,7 +98,8 @@ fn show_queue(alloc: Global, farm: &Farm) -> Due
 /// What the view of one job shows.
 fn show_job(alloc: Global, farm: &Farm, number: u64) -> Due
     requires { farm.now.failed ≡ false }
-    ensures { IsMadeOfOne (ShowsJob (job_of farm.now.farm number)) (bytes_in result.bytes) result.end }
+    ensures { IsMadeOfOne (ShowsJob (job_of farm.now.farm number))
+        (bytes_in result.bytes) result.end }
 {
     match farm.job(number) {
         Some(row) => Due::of(alloc, &Out::Job(row)),

@@ -4,8 +4,8 @@ ghost use Rattle.farm_desk.specs.Clients.{Clientele, Comes, Goes, IsOver};
 
 use std::io::{Read, Write};
 
-/// A client that came: the moment of its request, in seconds since 1970-01-01 00:00:00 UTC, what it is
-/// read by and what it is answered by.
+/// A client that came: the moment of its request, in seconds since 1970-01-01 00:00:00 UTC, what it
+/// is read by and what it is answered by.
 #[derive(Drop)]
 pub struct Client<R, W> {
     pub now: u64,
@@ -27,7 +27,8 @@ pub trait Clients {
 
     /// The next client; none where nobody came, or where the one that came can't be served.
     fn next(&mut self) -> Option<Client<Self::Reader, Self::Writer>>
-        ensures comes { MatchOption result ((clientele self.new ≡ clientele self.old) × IsOver (clientele self.old))
+        ensures comes { MatchOption result ((clientele self.new ≡ clientele self.old)
+            × IsOver (clientele self.old))
             (λ client. Comes (clientele self.old) (clientele self.new) (record {
               now = client.now;
               input = Self.Reader.remaining client.reader;

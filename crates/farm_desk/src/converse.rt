@@ -10,10 +10,9 @@ ghost use Rattle.farm_desk.specs.Made.{bytes_in};
 use crate::answer::due_to;
 use crate::due::Due;
 use crate::fault::DeskFault;
-use crate::hear::{Unheard, hear};
+use crate::hear::Unheard;
+use crate::server::Server;
 use farm_keep::Keeper;
-use farm_wire::answers::Out;
-use farm_wire::asks::Asks;
 use farm_wire::{CountedReader, CountedWriter, write_whole_counted};
 use sqlite::Alter;
 use std::alloc::Global;
@@ -24,8 +23,8 @@ use std::io::{Read, Write};
 ///
 /// A refused request is answered with its refusal. Where memory is wanted outside the keeper's own
 /// work, the constant answer of code 1 is written and the keeper stays open; where the keeper gives
-/// a fault, that of 1, 60 or 61, and the keeper is closed. An answer of 1 or 60 doesn't tell whether
-/// the command was done: the client repeats it with its key.
+/// a fault, that of 1, 60 or 61, and the keeper is closed. An answer of 1 or 60 doesn't tell
+/// whether the command was done: the client repeats it with its key.
 ///
 /// Costs what its parts cost: one read of the request, a router of seventeen paths, one command or
 /// view, and one write where the writer takes the answer whole. `serve_on` builds the router once.
@@ -49,7 +48,8 @@ pub fn converse<R: Read, W: Write, S: Alter>(
     // The reader gave no request.
     ensures unread { result ≡ Err DeskFault.Read → IsUnread keeper.old keeper.new
         (W.contents writer.old) (W.contents writer.new) }
-    ensures clean { doubt (state S.Store keeper.old.conn).is_clean ≤ doubt (state S.Store keeper.new.conn).is_clean }
+    ensures clean { doubt (state S.Store keeper.old.conn).is_clean ≤ doubt
+        (state S.Store keeper.new.conn).is_clean }
 {
     let mut reader = CountedReader::new(reader);
     let mut writer = CountedWriter::new(writer);
@@ -72,82 +72,91 @@ pub fn converse_counted<R: Read, W: Write, S: Alter>(
 
     // The answer that is due was written whole.
     ensures answered { IsToldBy result → IsAnswered
-        (IsDue S.Store keeper.old keeper.new (R.remaining (reader_of reader.old)) (R.remaining (reader_of reader.new)) now)
+        (IsDue S.Store keeper.old keeper.new (R.remaining (reader_of reader.old))
+        (R.remaining (reader_of reader.new)) now)
         (W.contents (writer_of writer.old)) (W.contents (writer_of writer.new)) result }
 
     // The writer failed in the middle of it.
     ensures unwritten { result ≡ Err DeskFault.Write → IsUnwritten
-        (IsDue S.Store keeper.old keeper.new (R.remaining (reader_of reader.old)) (R.remaining (reader_of reader.new)) now)
+        (IsDue S.Store keeper.old keeper.new (R.remaining (reader_of reader.old))
+        (R.remaining (reader_of reader.new)) now)
         (W.contents (writer_of writer.old)) (W.contents (writer_of writer.new)) }
 
     // The reader gave no request.
     ensures unread { result ≡ Err DeskFault.Read → IsUnread keeper.old keeper.new
         (W.contents (writer_of writer.old)) (W.contents (writer_of writer.new)) }
 
-    // The faults Write and Read come only of a writer that failed, and of a reader that failed or took all its turns.
+    // The faults Write and Read come only of a writer that failed, and of a reader that failed or
+    // took all its turns.
     ensures failed { (result ≡ Err DeskFault.Write) ↔ IsTrue (writing_of writer.new).failed }
     ensures spent { result ≡ Err DeskFault.Read → IsSpent (reading_of reader.new) }
-    ensures clean { doubt (state S.Store keeper.old.conn).is_clean ≤ doubt (state S.Store keeper.new.conn).is_clean }
+    ensures clean { doubt (state S.Store keeper.old.conn).is_clean ≤ doubt
+        (state S.Store keeper.new.conn).is_clean }
 {
-    let end = converse_through(alloc, None, keeper, reader, writer, now);
+    let end = Server::of_one(alloc).converse(keeper, reader, writer, now);
     if writer.has_failed() {
         return Err(DeskFault::Write);
     }
     end
 }
 
-/// Converses as `converse_counted` does, and ends as the answer that was due ends it, also where that
-/// answer was lost: so a keeper's fault is known in each case. The router is lent, or built.
-pub(crate) fn converse_through<R: Read, W: Write, S: Alter>(
-    alloc: Global,
-    asks: Option<&Asks>,
-    keeper: &mut Keeper<S>,
-    reader: &mut CountedReader<'_, R>,
-    writer: &mut CountedWriter<'_, W>,
-    now: u64,
-) -> Result<u16, DeskFault>
-    requires unread { reading_of reader.old ≡ unread }
-    requires unwritten { writing_of writer.old ≡ unwritten }
-    ensures same_reader { IsSameReader reader.old reader.new }
-    ensures same_writer { IsSameWriter writer.old writer.new }
+impl Server {
+    /// Converses as `converse_counted` does, and ends as the answer that was due ends it, also
+    /// where that answer was lost: so a keeper's fault is known in each case.
+    pub(crate) fn converse<R: Read, W: Write, S: Alter>(
+        &self,
+        keeper: &mut Keeper<S>,
+        reader: &mut CountedReader<'_, R>,
+        writer: &mut CountedWriter<'_, W>,
+        now: u64,
+    ) -> Result<u16, DeskFault>
+        requires unread { reading_of reader.old ≡ unread }
+        requires unwritten { writing_of writer.old ≡ unwritten }
+        ensures same_reader { IsSameReader reader.old reader.new }
+        ensures same_writer { IsSameWriter writer.old writer.new }
 
-    // The answer that is due was written, or where the writer failed a part of it.
-    ensures told { result ≢ Err DeskFault.Read → IsTold
-        (IsDue S.Store keeper.old keeper.new (R.remaining (reader_of reader.old)) (R.remaining (reader_of reader.new)) now)
-        (writing_of writer.new).failed (W.contents (writer_of writer.old)) (W.contents (writer_of writer.new)) result }
+        // The answer that is due was written, or where the writer failed a part of it.
+        ensures told { result ≢ Err DeskFault.Read → IsTold
+            (IsDue S.Store keeper.old keeper.new (R.remaining (reader_of reader.old))
+            (R.remaining (reader_of reader.new)) now)
+            (writing_of writer.new).failed (W.contents (writer_of writer.old))
+            (W.contents (writer_of writer.new)) result }
 
-    // The reader gave no request.
-    ensures unread { result ≡ Err DeskFault.Read → IsUnread keeper.old keeper.new
-        (W.contents (writer_of writer.old)) (W.contents (writer_of writer.new)) × IsSpent (reading_of reader.new)
-        × ((writing_of writer.new).failed ≡ false) }
-    ensures clean { doubt (state S.Store keeper.old.conn).is_clean ≤ doubt (state S.Store keeper.new.conn).is_clean }
-{
-    let due = due(alloc, asks, keeper, reader, now)?;
-    // Whether the writer failed, its count says.
-    let _ = write_whole_counted(writer, due.bytes());
-    due.end
-}
+        // The reader gave no request.
+        ensures unread { result ≡ Err DeskFault.Read → IsUnread keeper.old keeper.new
+            (W.contents (writer_of writer.old)) (W.contents (writer_of writer.new))
+            × IsSpent (reading_of reader.new)
+            × ((writing_of writer.new).failed ≡ false) }
+        ensures clean { doubt (state S.Store keeper.old.conn).is_clean ≤ doubt
+            (state S.Store keeper.new.conn).is_clean }
+    {
+        let due = self.due(keeper, reader, now)?;
+        // Whether the writer failed, its count says.
+        let _ = write_whole_counted(writer, due.bytes());
+        due.end
+    }
 
-/// The answer that is due, unless the reader gave no request.
-fn due<R: Read, S: Alter>(
-    alloc: Global,
-    asks: Option<&Asks>,
-    keeper: &mut Keeper<S>,
-    reader: &mut CountedReader<'_, R>,
-    now: u64,
-) -> Result<Due, DeskFault>
-    requires { reading_of reader.old ≡ unread }
-    ensures same { IsSameReader reader.old reader.new }
-    ensures due { IfOk result (λ due. IsDue S.Store keeper.old keeper.new
-        (R.remaining (reader_of reader.old)) (R.remaining (reader_of reader.new)) now (bytes_in due.bytes) due.end) }
-    ensures unread { IfErr result (λ fault. (fault ≡ DeskFault.Read) × IsSpent (reading_of reader.new) × (keeper.new ≡ keeper.old)) }
-    ensures clean { doubt (state S.Store keeper.old.conn).is_clean ≤ doubt (state S.Store keeper.new.conn).is_clean }
-{
-    match hear(alloc, asks, reader, now) {
-        Ok(ask) => Ok(due_to(alloc, keeper, &ask)),
-        Err(Unheard::Refused(refusal)) => Ok(Due::of(alloc, &Out::Refused(refusal))),
-        Err(Unheard::Method(allowed)) => Ok(Due::of(alloc, &Out::Method(allowed))),
-        Err(Unheard::NoMemory) => Ok(Due::no_memory()),
-        Err(Unheard::Read) => Err(DeskFault::Read),
+    /// The answer that is due, unless the reader gave no request.
+    fn due<R: Read, S: Alter>(
+        &self,
+        keeper: &mut Keeper<S>,
+        reader: &mut CountedReader<'_, R>,
+        now: u64,
+    ) -> Result<Due, DeskFault>
+        requires { reading_of reader.old ≡ unread }
+        ensures same { IsSameReader reader.old reader.new }
+        ensures due { IfOk result (λ due. IsDue S.Store keeper.old keeper.new
+            (R.remaining (reader_of reader.old)) (R.remaining (reader_of reader.new)) now
+            (bytes_in due.bytes) due.end) }
+        ensures unread { IfErr result (λ fault. (fault ≡ DeskFault.Read)
+            × IsSpent (reading_of reader.new) × (keeper.new ≡ keeper.old)) }
+        ensures clean { doubt (state S.Store keeper.old.conn).is_clean ≤ doubt
+            (state S.Store keeper.new.conn).is_clean }
+    {
+        match self.hear(reader, now) {
+            Ok(ask) => Ok(due_to(self.alloc, keeper, &ask)),
+            Err(Unheard::Unasked(fault)) => Ok(Due::to_nothing(self.alloc, fault)),
+            Err(Unheard::Read) => Err(DeskFault::Read),
+        }
     }
 }

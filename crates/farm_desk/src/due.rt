@@ -4,12 +4,13 @@ ghost use Rattle.farm_types.specs.declared.refusal.TheConstants.{NO_MEMORY as no
 ghost use Rattle.farm_keep.specs.Faults.{fault_code};
 ghost use Rattle.farm_wire.specs.Replies.{reply_bytes};
 ghost use Rattle.farm_desk.specs.Answers.{refusal, http_status};
-ghost use Rattle.farm_desk.specs.Made.{IsMadeOf, bytes_in};
+ghost use Rattle.farm_desk.specs.Made.{IsMadeOf, IsMadeOfNothing, bytes_in};
 
 use crate::fault::DeskFault;
 use farm_keep::KeepFault;
 use farm_wire::answers::{Out, answer_bytes};
 use farm_wire::constant::{closed_answer, no_memory_answer, store_answer};
+use farm_wire::fault::AskFault;
 use std::alloc::Global;
 
 /// The bytes of an answer.
@@ -37,6 +38,17 @@ impl Due {
                 end: Ok(http_status(out)),
             },
             Err(_) => Due::no_memory(),
+        }
+    }
+
+    /// The answer where nothing was asked: the refusal, or the methods that the path has.
+    pub(crate) fn to_nothing(alloc: Global, fault: AskFault) -> Due
+        ensures { IsMadeOfNothing fault (bytes_in result.bytes) result.end }
+    {
+        match fault {
+            AskFault::Refused(refusal) => Due::of(alloc, &Out::Refused(refusal)),
+            AskFault::Method(allowed) => Due::of(alloc, &Out::Method(allowed)),
+            AskFault::NoMemory => Due::no_memory(),
         }
     }
 

@@ -7,8 +7,8 @@ use farm_keep::KeepFault;
 use farm_types::refusal::{NO_MEMORY, READ, WRITE};
 use thiserror::Error;
 
-/// Why a conversation or an import ended without an answer of the farm. The texts are those of the table of
-/// refusals.
+/// Why a conversation or an import ended without an answer of the farm. The texts are those of the
+/// table of refusals.
 #[derive(Clone, Copy, Debug, PartialEq, Eq, Error)]
 pub enum DeskFault {
     /// There was no memory to read the request, to understand it or to answer it.
@@ -26,6 +26,16 @@ pub enum DeskFault {
     /// The file of an import is bad, or there was no memory to read it.
     #[error("{0}")]
     File(FileFault),
+}
+
+impl From<KeepFault> for DeskFault {
+    ghost use Rattle.farm_desk.specs.declared.fault.DeskFault.TheVariants.{Keep};
+
+    ghost from_gives = { λ fault e. e ≡ Keep fault };
+
+    fn from(fault: KeepFault) -> DeskFault {
+        DeskFault::Keep(fault)
+    }
 }
 
 impl DeskFault {

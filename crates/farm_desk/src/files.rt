@@ -37,8 +37,8 @@ fn open<S: Start>(
 }
 
 /// A keeper of the farm that stands in the file at a path. A file without its tables is a fault of
-/// the store, and one with the tables of no sound farm is bad. What a fault leaves of a store is said
-/// of `farm_keep::found`, which is lent the connection.
+/// the store, and one with the tables of no sound farm is bad. What a fault leaves of a store is
+/// said of `farm_keep::found`, which is lent the connection.
 ///
 /// Costs one reading of the file.
 pub fn open_farm<S: Start>(
@@ -49,8 +49,8 @@ pub fn open_farm<S: Start>(
 ) -> Result<FileKeeper<S>, DeskFault>
     ensures found { IfOk result (FindsFarm (image_at S.Start)) }
 
-    // On a disk that always returns what was written, the files are told bad only where they hold no
-    // sound farm, and of an old schema only where they hold no farm's tables.
+    // On a disk that always returns what was written, the files are told bad only where they hold
+    // no sound farm, and of an old schema only where they hold no farm's tables.
     ensures denied { GivesReason (image_at S.Start) result }
     ensures fault { IfErr result IsOpenFault }
 {
@@ -96,10 +96,7 @@ fn adopt<S: Alter + Drop>(alloc: Global, conn: Connection<S>) -> Result<Keeper<S
     ensures fault { IfErr result IsOpenFault }
 {
     opened_stands(&conn);
-    match Keeper::adopt(alloc, conn) {
-        Ok(keeper) => Ok(keeper),
-        Err(fault) => Err(DeskFault::Keep(fault)),
-    }
+    Ok(Keeper::adopt(alloc, conn)?)
 }
 
 /// A keeper of the empty farm over files that were just opened; its one call is of any store too.
@@ -121,19 +118,15 @@ fn make<S: Alter + Drop>(alloc: Global, conn: Connection<S>) -> Result<Keeper<S>
     ensures fault { IfErr result (λ fault. fault ≡ DeskFault.Keep KeepFault.Store) }
 {
     opened_stands(&conn);
-    match Keeper::fresh(alloc, conn) {
-        Ok(made) => Ok(made),
-        Err(fault) => Err(DeskFault::Keep(fault)),
-    }
+    Ok(Keeper::fresh(alloc, conn)?)
 }
 
 /// The bytes of a lab file; of one that is too long so many that they show it.
 pub(crate) fn read_lab(rt: &HostRuntime, alloc: Global, path: &str) -> Result<Vec<u8>, DeskFault> {
-    match read_start(rt, alloc, path) {
-        Ok(bytes) => Ok(bytes),
-        Err(error) if error.kind() == ErrorKind::OutOfMemory => Err(DeskFault::NoMemory),
-        Err(_) => Err(DeskFault::Read),
-    }
+    read_start(rt, alloc, path).map_err(|error| match error.kind() {
+        ErrorKind::OutOfMemory => DeskFault::NoMemory,
+        _ => DeskFault::Read,
+    })
 }
 
 /// The first bytes of a file, one more than a lab file may have.

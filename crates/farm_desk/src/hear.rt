@@ -7,57 +7,71 @@ ghost use Rattle.farm_wire.specs.Asked.{ask, asked};
 ghost use Rattle.farm_wire.specs.Reading.{Meets};
 ghost use Rattle.farm_desk.specs.Heard.{Gives};
 
+use crate::server::Server;
 use farm_http::taken::Taken;
-use farm_types::refusal::Refusal;
-use farm_wire::allowed::Allowed;
 use farm_wire::ask::Ask;
-use farm_wire::asks::Asks;
 use farm_wire::fault::AskFault;
 use farm_wire::{CountedReader, WireFault, read_request_counted};
-use std::alloc::Global;
 use std::io::Read;
 
-/// Why nothing is asked.
+/// Why nothing is heard.
 #[derive(Clone, Copy, Debug, PartialEq, Eq)]
 pub(crate) enum Unheard {
-    NoMemory,
+    /// The reader gave no request.
     Read,
-    Refused(Refusal),
-    Method(Allowed),
+    /// What it gave asks nothing, or there was no memory for it.
+    Unasked(AskFault),
 }
 
-/// Reads one request and says what it asks at a moment, by the router that is lent or by one of its own.
-pub(crate) fn hear<R: Read>(
-    alloc: Global,
-    asks: Option<&Asks>,
-    reader: &mut CountedReader<'_, R>,
-    now: u64,
-) -> Result<Ask, Unheard>
-    requires { reading_of reader.old ≡ unread }
-    ensures same { IsSameReader reader.old reader.new }
-    ensures gives { Gives (R.remaining (reader_of reader.old)) (R.remaining (reader_of reader.new)) now
-        (IsSpent (reading_of reader.new)) result }
-{
-    match read_request_counted(alloc, reader) {
-        Ok(taken) => match asked_of(alloc, asks, &taken, now) {
-            Ok(ask) => Ok(ask),
-            Err(AskFault::NoMemory) => Err(Unheard::NoMemory),
-            Err(AskFault::Refused(refusal)) => Err(Unheard::Refused(refusal)),
-            Err(AskFault::Method(allowed)) => Err(Unheard::Method(allowed)),
-        },
-        Err(WireFault::NoMemory) => Err(Unheard::NoMemory),
-        Err(WireFault::Refused(refusal)) => Err(Unheard::Refused(refusal)),
-        Err(_) => Err(Unheard::Read),
+impl From<WireFault> for Unheard {
+    ghost use Rattle.farm_desk.specs.Heard.{unheard};
+
+    ghost from_gives = { λ fault e. e ≡ unheard fault };
+
+    fn from(fault: WireFault) -> Unheard {
+        match fault {
+            WireFault::NoMemory => Unheard::Unasked(AskFault::NoMemory),
+            WireFault::Refused(refusal) => Unheard::Unasked(AskFault::Refused(refusal)),
+            WireFault::Read | WireFault::Write => Unheard::Read,
+        }
     }
 }
 
-/// What a request asks at a moment.
-fn asked_of(alloc: Global, asks: Option<&Asks>, taken: &Taken, now: u64) -> Result<Ask, AskFault>
-    ensures { (request : Request) → Spells taken.now.bytes.items taken.now.head request
-        → Meets asked result (ask request now) }
-{
-    match asks {
-        Some(asks) => asks.ask(alloc, taken, now),
-        None => Ask::of(alloc, taken, now),
+impl From<AskFault> for Unheard {
+    ghost use Rattle.farm_desk.specs.declared.hear.Unheard.TheVariants.{Unasked};
+
+    ghost from_gives = { λ fault e. e ≡ Unasked fault };
+
+    fn from(fault: AskFault) -> Unheard {
+        Unheard::Unasked(fault)
+    }
+}
+
+impl Server {
+    /// Reads one request and says what it asks at a moment.
+    pub(crate) fn hear<R: Read>(
+        &self,
+        reader: &mut CountedReader<'_, R>,
+        now: u64,
+    ) -> Result<Ask, Unheard>
+        requires { reading_of reader.old ≡ unread }
+        ensures same { IsSameReader reader.old reader.new }
+        ensures gives { Gives (R.remaining (reader_of reader.old))
+            (R.remaining (reader_of reader.new)) now
+            (IsSpent (reading_of reader.new)) result }
+    {
+        let taken = read_request_counted(self.alloc, reader)?;
+        Ok(self.asked_of(&taken, now)?)
+    }
+
+    /// What a request asks at a moment.
+    fn asked_of(&self, taken: &Taken, now: u64) -> Result<Ask, AskFault>
+        ensures { (request : Request) → Spells taken.now.bytes.items taken.now.head request
+            → Meets asked result (ask request now) }
+    {
+        match &self.asks {
+            Some(asks) => asks.ask(self.alloc, taken, now),
+            None => Ask::of(self.alloc, taken, now),
+        }
     }
 }

@@ -53,11 +53,12 @@ impl ImportEnd {
 /// Adds the types and the boards of a lab file at a moment, in seconds since 1970-01-01 00:00:00
 /// UTC, up to the first refusal or fault; the commands before it stay done.
 ///
-/// A file that is bad, or that there is no memory to read, is the fault `File`, and nothing is done.
-/// Costs one reading of the file and one transaction for each type and board that is new.
+/// A file that is bad, or that there is no memory to read, is the fault `File`, and nothing is
+/// done. Costs one reading of the file and one transaction for each type and board that is new.
 pub fn import<S: Alter>(alloc: Global, keeper: &mut Keeper<S>, text: &[u8], now: u64) -> ImportEnd
     ensures import { IsImport S.Store keeper.old keeper.new text.now now result }
-    ensures clean { doubt (state S.Store keeper.old.conn).is_clean ≤ doubt (state S.Store keeper.new.conn).is_clean }
+    ensures clean { doubt (state S.Store keeper.old.conn).is_clean ≤ doubt
+        (state S.Store keeper.new.conn).is_clean }
 {
     match lab_of(alloc, text, now) {
         Ok(calls) => do_calls(keeper, calls.as_slice()),
@@ -73,7 +74,8 @@ pub fn import<S: Alter>(alloc: Global, keeper: &mut Keeper<S>, text: &[u8], now:
 /// Does one call after another, up to the first refusal or fault.
 fn do_calls<S: Alter>(keeper: &mut Keeper<S>, calls: &[Call]) -> ImportEnd
     ensures does { DoesCalls S.Store keeper.old keeper.new calls.now result }
-    ensures clean { doubt (state S.Store keeper.old.conn).is_clean ≤ doubt (state S.Store keeper.new.conn).is_clean }
+    ensures clean { doubt (state S.Store keeper.old.conn).is_clean ≤ doubt
+        (state S.Store keeper.new.conn).is_clean }
 {
     let mut end = ImportEnd {
         accepted: 0,

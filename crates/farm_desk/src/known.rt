@@ -25,7 +25,10 @@ pub struct Gone<'a> {
 impl<'a> KnownClients<'a> {
     /// Clients that come in this order, none of whom has gone.
     pub fn new(alloc: Global, all: &'a [Sent<'a>]) -> Result<KnownClients<'a>, AllocError>
-        ensures { IfOk result (λ clients. clientele_of clients ≡ record { coming = map came all.now; gone = [] }) }
+        ensures { IfOk result (λ clients. clientele_of clients ≡ record {
+          coming = map came all.now;
+          gone = [];
+        }) }
     {
         let gone = Vec::with_capacity(alloc, all.len())?;
         Ok(KnownClients {
@@ -51,7 +54,8 @@ impl<'a> Clients for KnownClients<'a> {
 
     ghost clientele = { λ clients. Some (clientele_of clients) };
 
-    ghost has_one = { λ clients. length clients.all.now + length clients.gone.items < vec_capacity clients.gone + clients.place };
+    ghost has_one = { λ clients. length clients.all.now + length clients.gone.items < vec_capacity clients.gone
+        + clients.place };
 
     fn next(&mut self) -> Option<Client<&'a [u8], Vec<u8>>> {
         let first = self.all.get(self.place)?;

@@ -13,9 +13,9 @@ use sqlite_disk::Disk;
 use std::alloc::Global;
 use std::io::{Read, Write};
 
-/// Converses once at each moment, one conversation after another over one reader and one writer, and
-/// stops at the first that isn't answered. The laws below say what that comes to. Costs what the
-/// conversations cost.
+/// Converses once at each moment, one conversation after another over one reader and one writer,
+/// and stops at the first that isn't answered. The laws below say what that comes to. Costs what
+/// the conversations cost.
 pub fn converse_in_turn<R: Read, W: Write, S: Alter>(
     alloc: Global,
     keeper: &mut Keeper<S>,
@@ -29,7 +29,8 @@ pub fn converse_in_turn<R: Read, W: Write, S: Alter>(
     ensures fault { IfErr result (λ fault. StopsAt S.Store
         (desk keeper.old (R.remaining reader.old) (W.contents writer.old))
         (desk keeper.new (R.remaining reader.new) (W.contents writer.new)) moments.now fault) }
-    ensures clean { doubt (state S.Store keeper.old.conn).is_clean ≤ doubt (state S.Store keeper.new.conn).is_clean }
+    ensures clean { doubt (state S.Store keeper.old.conn).is_clean ≤ doubt
+        (state S.Store keeper.new.conn).is_clean }
 {
     for now in moments {
         if let Err(fault) = converse(alloc, keeper, reader, writer, *now) {
@@ -42,12 +43,13 @@ pub fn converse_in_turn<R: Read, W: Write, S: Alter>(
 /// Conversations over one list and then over another are the conversations over their joining.
 pub fn conversations_join<S: Alter>()
     ensures { (first second : List Talk) (old new : Desk S)
-        → ConverseInTurn S.Store (first ++ second) old new ↔ ConverseApart S.Store first second old new }
+        → ConverseInTurn S.Store (first ++ second) old new
+        ↔ ConverseApart S.Store first second old new }
 {}
 
 /// Conversations that are all answered act as one run over the calls that they ask, in the order of
-/// the requests: what left the reader are the requests, one behind another, what was written are the
-/// answers, each the machine's at its place, and the store keeps the farm after the run.
+/// the requests: what left the reader are the requests, one behind another, what was written are
+/// the answers, each the machine's at its place, and the store keeps the farm after the run.
 pub fn answered_act_as_run<S: Alter>()
     ensures { AnsweredActAsRun S.Store }
 {}
@@ -66,10 +68,10 @@ pub fn conversations_keep_a_prefix<S: Alter>()
     ensures closed { ClosedKeepsPrefix S.Store }
 {}
 
-/// The crash prefix in files: whatever a stop leaves of the files of a keeper after a run, however the
-/// run ended, they hold the farm after the calls that were answered or, where a fault of the store
-/// ended it, perhaps after one call more. `open_farm` says that a keeper which is opened on files that
-/// hold a farm has exactly that farm.
+/// The crash prefix in files: whatever a stop leaves of the files of a keeper after a run, however
+/// the run ended, they hold the farm after the calls that were answered or, where a fault of the
+/// store ended it, perhaps after one call more. `open_farm` says that a keeper which is opened on
+/// files that hold a farm has exactly that farm.
 pub fn stopped_files_hold<D: Disk + Drop>(keeper: Keeper<FileStore<D>>) -> FileStore<D>
     ensures { LeavesFiles keeper result }
 {

@@ -4,9 +4,9 @@
 //! adds what a lab file lists; `serve` converses with one client after another, and `serve_on` with
 //! those of a listener; `program` is the program `farm`.
 //!
-//! Read `specs/` in the order Heard, Answers, Made, Due, Ends, which say what a conversation is; Imports,
-//! what an import is; Conversations, Clients, Known, Visits, Serving, what serving does; InFiles, what
-//! stands in files; Faults, Lines, Reports, what the program tells.
+//! Read `specs/` in the order Heard, Answers, Made, Due, Ends, which say what a conversation is;
+//! Imports, what an import is; Conversations, Clients, Known, Visits, Serving, what serving does;
+//! InFiles, what stands in files; Faults, Lines, Reports, what the program tells.
 #![tactic(auto)]
 
 mod accepted;
@@ -25,6 +25,7 @@ mod patient;
 pub mod program;
 mod report;
 pub mod serve;
+mod server;
 
 pub use farm_order::fault::OrderFault;
 pub use farm_order::order::{Order, Place, Report};

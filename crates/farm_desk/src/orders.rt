@@ -35,8 +35,8 @@ pub enum End {
 }
 
 /// Carries out an order. Faults are found in this order: those of the store, of the lab file or the
-/// listener, then of the input and the output. Files are opened with the reading of a crash that most disks keep,
-/// that a torn write leaves each byte old or new: so most commits sync once.
+/// listener, then of the input and the output. Files are opened with the reading of a crash that
+/// most disks keep, that a torn write leaves each byte old or new: so most commits sync once.
 pub fn carry_out<R: Read, W: Write>(
     rt: &HostRuntime,
     alloc: Global,
@@ -123,15 +123,13 @@ fn answer_one<R: Read, W: Write, S: Alter>(
 /// The keeper of an empty farm in memory.
 fn memory_keeper(alloc: Global) -> Result<Keeper<MemStore>, DeskFault>
     ensures made { IfOk result (λ keeper. (keeper.is_open ≡ true) × (keeper.farm.farm ≡ empty)) }
-    ensures fault { IfErr result (λ fault. (fault ≡ DeskFault.NoMemory) ⊎ (fault ≡ DeskFault.Keep KeepFault.Store)) }
+    ensures fault { IfErr result (λ fault. (fault ≡ DeskFault.NoMemory)
+        ⊎ (fault ≡ DeskFault.Keep KeepFault.Store)) }
 {
     let Ok(conn) = Connection::open_in_memory(alloc) else {
         return Err(DeskFault::NoMemory);
     };
-    match Keeper::fresh(alloc, conn) {
-        Ok(keeper) => Ok(keeper),
-        Err(fault) => Err(DeskFault::Keep(fault)),
-    }
+    Ok(Keeper::fresh(alloc, conn)?)
 }
 
 /// Makes the empty farm in a file.
@@ -200,7 +198,8 @@ fn serve<W: Write, S: Alter>(
 
 /// Prints the port on which clients are heard from now on.
 fn print_port<W: Write>(output: &mut W, port: u16) -> Result<(), DeskFault>
-    ensures { OnOk result (Appends (W.contents output.old) (W.contents output.new) (port_line port)) }
+    ensures { OnOk result (Appends (W.contents output.old) (W.contents output.new)
+        (port_line port)) }
 {
     match writeln!(output, "listening {port}") {
         Ok(()) => Ok(()),

@@ -12,9 +12,10 @@ const MOST_READS: u32 = 32;
 
 const ROOM: usize = 4096;
 
-/// One direction of a client's stream. A read or a write that waits for `LIMIT_SECONDS` fails, and so
-/// does one that begins later than that after the first. So whoever sends or takes a byte now and then
-/// keeps the others waiting for no longer than twice that at the request, and as long at the answer.
+/// One direction of a client's stream. A read or a write that waits for `LIMIT_SECONDS` fails, and
+/// so does one that begins later than that after the first. So whoever sends or takes a byte now
+/// and then keeps the others waiting for no longer than twice that at the request, and as long at
+/// the answer.
 #[derive(Drop)]
 pub(crate) struct Patient<'a, C: Clock> {
     pub(crate) stream: TcpStream,

@@ -99,7 +99,8 @@ pub fn tell<E: Write>(errors: &mut E, fault: DeskFault) -> u8
 
 /// Writes the line of a fault of that number.
 fn write_fault<E: Write>(errors: &mut E, code: u16) -> io::Result<()>
-    ensures { OnOk result (Appends (E.contents errors.old) (E.contents errors.new) (fault_line code)) }
+    ensures { OnOk result (Appends (E.contents errors.old) (E.contents errors.new)
+        (fault_line code)) }
 {
     let text = Refusal { code }.text();
     writeln!(errors, "farm: {code} {text}")

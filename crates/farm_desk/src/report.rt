@@ -23,8 +23,8 @@ pub(crate) fn zone_between(east: u64, west: u64) -> Offset
     }
 }
 
-/// What a report tells of a farm that works, with moments at an offset. Costs one pass over the rows
-/// that it tells of, and for the queue what serving it costs.
+/// What a report tells of a farm that works, with moments at an offset. Costs one pass over the
+/// rows that it tells of, and for the queue what serving it costs.
 pub(crate) fn report_text(
     alloc: Global,
     farm: &Farm,
@@ -32,7 +32,8 @@ pub(crate) fn report_text(
     zone: Offset,
 ) -> Result<String, DeskFault>
     requires { farm.now.failed ≡ false }
-    ensures text { IfOk result (λ text. Reports which zone.seconds farm.now.farm (string_bytes text)) }
+    ensures text { IfOk result (λ text. Reports which zone.seconds farm.now.farm
+        (string_bytes text)) }
     ensures fault { IfErr result (λ fault. fault ≡ DeskFault.NoMemory) }
 {
     match which {

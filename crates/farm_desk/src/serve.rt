@@ -8,10 +8,9 @@ ghost use Rattle.farm_desk.specs.Visits.{ServesInTurn};
 
 use crate::accepted::Accepted;
 use crate::clients::{Client, Clients};
-use crate::converse::converse_through;
 use crate::fault::DeskFault;
+use crate::server::Server;
 use farm_keep::{KeepFault, Keeper};
-use farm_wire::asks::Asks;
 use farm_wire::{CountedReader, CountedWriter};
 use sqlite::Alter;
 use std::alloc::Global;
@@ -19,26 +18,26 @@ use std::io::{Read, Write};
 use std::net::TcpListener;
 use std::time::Clock;
 
-/// Takes that many connections in turn; of each it reads one request, answers it as `converse` does,
-/// and closes it. The moment of a request is what the clock says once its connection is taken, in
-/// whole seconds since 1970-01-01 00:00:00 UTC.
+/// Takes that many connections in turn; of each it reads one request, answers it as `converse`
+/// does, and closes it. The moment of a request is what the clock says once its connection is
+/// taken, in whole seconds since 1970-01-01 00:00:00 UTC.
 ///
 /// A failed accept counts as a connection. A fault that leaves the keeper open ends its connection
 /// alone: a client that goes away or is too slow, want of memory outside the keeper, the clock's. A
-/// keeper that is closed ends the serving with its fault, 1 or 60, once its client was answered; one
-/// that was closed before ends it with 61 at once, and nobody is answered.
+/// keeper that is closed ends the serving with its fault, 1 or 60, once its client was answered;
+/// one that was closed before ends it with 61 at once, and nobody is answered.
 ///
-/// Connections are served one at a time. While a client stalls, the others wait: for `LIMIT_SECONDS`
-/// where it gives or takes nothing, and for four times that where it gives and takes a little now and
-/// then. The system keeps up to 128 of them waiting.
+/// Connections are served one at a time. While a client stalls, the others wait: for
+/// `LIMIT_SECONDS` where it gives or takes nothing, and for four times that where it gives and
+/// takes a little now and then. The system keeps up to 128 of them waiting.
 ///
-/// The clauses say what becomes of the farm and of its store. That anybody was served they don't say:
-/// nothing can be said of what a socket gives and takes. It is `serve` over the listener's clients, and
-/// `serve` says it of clients that are known.
+/// The clauses say what becomes of the farm and of its store. That anybody was served they don't
+/// say: nothing can be said of what a socket gives and takes. It is `serve` over the listener's
+/// clients, and `serve` says it of clients that are known.
 ///
-/// Costs building a router of seventeen paths, once, and for each connection an accept, one read where
-/// the request came whole, one write where the answer is taken whole, a few short calls of the system,
-/// and what its command or view costs.
+/// Costs building a router of seventeen paths, once, and for each connection an accept, one read
+/// where the request came whole, one write where the answer is taken whole, a few short calls of
+/// the system, and what its command or view costs.
 pub fn serve_on<S: Alter, C: Clock>(
     alloc: Global,
     keeper: &mut Keeper<S>,
@@ -47,13 +46,15 @@ pub fn serve_on<S: Alter, C: Clock>(
     clock: &C,
 ) -> Result<(), DeskFault>
     // The farm is the machine's after some calls, at most one a connection, and the store keeps it.
-    // The fault is the keeper's: with 1 the store keeps the farm before the call that closed it, with
-    // 60 a stop leaves that farm or the one after it.
+    // The fault is the keeper's: with 1 the store keeps the farm before the call that closed it,
+    // with 60 a stop leaves that farm or the one after it.
     ensures serves { ServesUntil S.Store keeper.old keeper.new max result }
 
     // 61 comes where the keeper was closed before, and only there.
-    ensures closed { (result ≡ Err (DeskFault.Keep KeepFault.Closed)) ↔ (keeper.old.is_open ≡ false) }
-    ensures clean { doubt (state S.Store keeper.old.conn).is_clean ≤ doubt (state S.Store keeper.new.conn).is_clean }
+    ensures closed { (result ≡ Err (DeskFault.Keep KeepFault.Closed))
+        ↔ (keeper.old.is_open ≡ false) }
+    ensures clean { doubt (state S.Store keeper.old.conn).is_clean ≤ doubt
+        (state S.Store keeper.new.conn).is_clean }
 {
     let mut clients = Accepted {
         alloc,
@@ -64,8 +65,8 @@ pub fn serve_on<S: Alter, C: Clock>(
 }
 
 /// Serves that many clients in turn: of each it reads one request at the moment that comes with it,
-/// answers it as `converse` does, and takes leave of it. It ends as `serve_on` does; that one serves
-/// the clients of a listener.
+/// answers it as `converse` does, and takes leave of it. It ends as `serve_on` does; that one
+/// serves the clients of a listener.
 pub fn serve<S: Alter, K: Clients>(
     alloc: Global,
     keeper: &mut Keeper<S>,
@@ -79,66 +80,69 @@ pub fn serve<S: Alter, K: Clients>(
 
     // What that makes of the farm and of its store is what `serve_on` says.
     ensures serves { ServesUntil S.Store keeper.old keeper.new max result }
-    ensures closed { (result ≡ Err (DeskFault.Keep KeepFault.Closed)) ↔ (keeper.old.is_open ≡ false) }
-    ensures clean { doubt (state S.Store keeper.old.conn).is_clean ≤ doubt (state S.Store keeper.new.conn).is_clean }
+    ensures closed { (result ≡ Err (DeskFault.Keep KeepFault.Closed))
+        ↔ (keeper.old.is_open ≡ false) }
+    ensures clean { doubt (state S.Store keeper.old.conn).is_clean ≤ doubt
+        (state S.Store keeper.new.conn).is_clean }
 {
     if keeper.farm().is_none() {
         return Err(DeskFault::Keep(KeepFault::Closed));
     }
-    // Where there is no memory for it now, each request has one of its own.
-    let asks = Asks::new(alloc).ok();
+    let server = Server::of_many(alloc);
     for _ in 0..max {
-        serve_next(alloc, asks.as_ref(), keeper, clients)?;
+        server.serve_next(keeper, clients)?;
     }
     Ok(())
 }
 
-/// Serves the next client, if there is one.
-fn serve_next<S: Alter, K: Clients>(
-    alloc: Global,
-    asks: Option<&Asks>,
-    keeper: &mut Keeper<S>,
-    clients: &mut K,
-) -> Result<(), DeskFault>
-    requires { keeper.old.is_open ≡ true }
-    ensures visits { ServesInTurn S.Store (K.clientele clients.old) (K.clientele clients.new)
-        keeper.old keeper.new 1 (IsOk result) }
-    ensures serves { ServesUntil S.Store keeper.old keeper.new 1 result }
-    ensures clean { doubt (state S.Store keeper.old.conn).is_clean ≤ doubt (state S.Store keeper.new.conn).is_clean }
-{
-    let Some(client) = clients.next() else {
-        return Ok(());
-    };
-    let Client {
-        now,
-        mut reader,
-        mut writer,
-    } = client;
-    let ended = serve_one(alloc, asks, keeper, &mut reader, &mut writer, now);
-    clients.part(reader, writer);
-    ended
-}
+impl Server {
+    /// Serves the next client, if there is one.
+    fn serve_next<S: Alter, K: Clients>(
+        &self,
+        keeper: &mut Keeper<S>,
+        clients: &mut K,
+    ) -> Result<(), DeskFault>
+        requires { keeper.old.is_open ≡ true }
+        ensures visits { ServesInTurn S.Store (K.clientele clients.old) (K.clientele clients.new)
+            keeper.old keeper.new 1 (IsOk result) }
+        ensures serves { ServesUntil S.Store keeper.old keeper.new 1 result }
+        ensures clean { doubt (state S.Store keeper.old.conn).is_clean ≤ doubt
+            (state S.Store keeper.new.conn).is_clean }
+    {
+        let Some(client) = clients.next() else {
+            return Ok(());
+        };
+        let Client {
+            now,
+            mut reader,
+            mut writer,
+        } = client;
+        let ended = self.serve_one(keeper, &mut reader, &mut writer, now);
+        clients.part(reader, writer);
+        ended
+    }
 
-/// Answers one request as `converse` does, and gives the keeper's fault where that closed it, also
-/// where the answer was lost.
-fn serve_one<R: Read, W: Write, S: Alter>(
-    alloc: Global,
-    asks: Option<&Asks>,
-    keeper: &mut Keeper<S>,
-    reader: &mut R,
-    writer: &mut W,
-    now: u64,
-) -> Result<(), DeskFault>
-    requires { keeper.old.is_open ≡ true }
-    ensures converses { ConversesOnce S.Store
-        (desk keeper.old (R.remaining reader.old) (W.contents writer.old))
-        (desk keeper.new (R.remaining reader.new) (W.contents writer.new)) now }
-    ensures serves { ServesUntil S.Store keeper.old keeper.new 1 result }
-    ensures clean { doubt (state S.Store keeper.old.conn).is_clean ≤ doubt (state S.Store keeper.new.conn).is_clean }
-{
-    let mut reader = CountedReader::new(reader);
-    let mut writer = CountedWriter::new(writer);
-    pass_on(converse_through(alloc, asks, keeper, &mut reader, &mut writer, now))
+    /// Answers one request as `converse` does, and gives the keeper's fault where that closed it,
+    /// also where the answer was lost.
+    fn serve_one<R: Read, W: Write, S: Alter>(
+        &self,
+        keeper: &mut Keeper<S>,
+        reader: &mut R,
+        writer: &mut W,
+        now: u64,
+    ) -> Result<(), DeskFault>
+        requires { keeper.old.is_open ≡ true }
+        ensures converses { ConversesOnce S.Store
+            (desk keeper.old (R.remaining reader.old) (W.contents writer.old))
+            (desk keeper.new (R.remaining reader.new) (W.contents writer.new)) now }
+        ensures serves { ServesUntil S.Store keeper.old keeper.new 1 result }
+        ensures clean { doubt (state S.Store keeper.old.conn).is_clean ≤ doubt
+            (state S.Store keeper.new.conn).is_clean }
+    {
+        let mut reader = CountedReader::new(reader);
+        let mut writer = CountedWriter::new(writer);
+        pass_on(self.converse(keeper, &mut reader, &mut writer, now))
+    }
 }
 
 /// The keeper's fault, where a conversation ended with one.

@@ -1,8 +1,11 @@
+use Rattle.std.proofs.lemmas.Result.{err_from_is_err_and}
 use Rattle.farm_desk.proofs.FileLemmas.{denies_tables, finds_tables}
 use Rattle.farm_desk.proofs.files.adopt.Goals as goal
 
-pub returns-in-Ok-clause-found : goal.returns-in-Ok-clause-found
-returns-in-Ok-clause-found g c = finds_tables g.S.Store c.args.conn c.in-Ok.keeper c.opened_stands.ensures c.in-Ok.ensures.adopted
+pub returns-clause-found : goal.returns-clause-found
+returns-clause-found g c = finds_tables g.S.Store c.args.conn c.in_ok-adopt.field-0 c.opened_stands.ensures c.in_ok-adopt.ensures.adopted
 
-pub returns-in-Err-clause-denied : goal.returns-in-Err-clause-denied
-returns-in-Err-clause-denied g c clean = denies_tables g.S.Store c.args.conn c.in-Err.fault c.opened_stands.ensures (c.in-Err.ensures.refused clean)
+pub returns-in_err-adopt-clause-denied : goal.returns-in_err-adopt-clause-denied
+returns-in_err-adopt-clause-denied g c clean =
+    let p = err_from_is_err_and c.from_residual.result c.from_residual.ensures.1 in
+    rw (p.1, p.2) (denies_tables g.S.Store c.args.conn c.in_err-adopt.field-0.0 c.opened_stands.ensures (c.in_err-adopt.ensures.refused clean))

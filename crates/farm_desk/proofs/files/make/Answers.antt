@@ -1,9 +1,9 @@
 use Rattle.farm_desk.proofs.FileLemmas.{makes_free}
 use Rattle.farm_desk.proofs.files.make.Goals as goal
 
-pub returns-in-Ok-clause-made : goal.returns-in-Ok-clause-made
-returns-in-Ok-clause-made g c =
-    let made = c.in-Ok.ensures in
+pub returns-clause-made : goal.returns-clause-made
+returns-clause-made g c =
+    let made = c.in_ok-fresh.ensures in
     record {
       opened = made.opened.0;
       farm = made.opened.1;

@@ -1,6 +1,6 @@
 -- The client that came was conversed with, and went.
 use Rattle.farm_desk.proofs.VisitLemmas.{visits_one}
-use Rattle.farm_desk.proofs.serve.serve_next.Goals as goal
+use Rattle.farm_desk.proofs.server.Server.serve_next.Goals as goal
 
 pub returns-clause-visits : goal.returns-clause-visits
 returns-clause-visits g c =
