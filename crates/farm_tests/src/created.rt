@@ -1,33 +1,15 @@
 //! The making of the tables, stopped at each call of each of the two files of a store.
-use crate::stores::make;
+use crate::stores::{make, opened, stopping};
 use farm_core::farm::Farm;
 use farm_keep::{KeepFault, found};
 use farm_store::StoreFault;
-use sqlite::{Alter, Connection, FileStore, Files, Options};
+use sqlite::{Alter, Connection, FileStore, Files};
 use sqlite_disk::{Crash, Disk, Fuse, Memory};
 use std::alloc::{AllocError, Global};
 use std::test::Fail;
 
 /// More calls than the making of the tables needs.
 const MANY: u64 = 10_000;
-
-/// A store in two files, with a small cache, and a log that is soon copied into the tables' file; none
-/// where a file fails.
-pub(crate) fn opened<D: Disk + Drop>(
-    alloc: Global,
-    files: Files<D>,
-) -> Option<Connection<FileStore<D>>> {
-    if !files.may_be_used() {
-        return None;
-    }
-    let options = Options {
-        cache_pages: 64,
-        spill_pages: 64,
-        checkpoint_frames: 8,
-        seed: 200,
-    };
-    Connection::open_files(alloc, files, options).ok()
-}
 
 /// The farm whose tables are there.
 fn find<S: Alter>(alloc: Global, conn: &mut Connection<S>) -> Result<Farm, KeepFault> {
@@ -98,11 +80,6 @@ fn used<D: Disk + Crash + Drop>(
     let end = made_or_found(alloc, &mut conn, makes);
     let (files, was_stopped) = crashed(conn.into_store());
     Some((end, files, was_stopped))
-}
-
-/// A new file that is stopped after so many calls.
-pub(crate) fn stopping(alloc: Global, calls: u64) -> Fuse<Memory> {
-    Fuse::new(Memory::new(alloc), calls)
 }
 
 /// New files, of which one is stopped after so many calls: the log, or that of the tables.

@@ -5,13 +5,13 @@ use std::io::{Error, ErrorKind, Read, Write};
 
 /// Counts the calls of a reader or a writer, for itself.
 #[derive(Drop)]
-pub(crate) struct Tally<T> {
-    pub(crate) of: T,
-    pub(crate) calls: usize,
+pub struct Tally<T> {
+    pub of: T,
+    pub calls: usize,
 }
 
 impl<T> Tally<T> {
-    pub(crate) fn new(of: T) -> Tally<T> {
+    pub fn new(of: T) -> Tally<T> {
         Tally { of, calls: 0 }
     }
 }
@@ -37,7 +37,7 @@ impl<W: Write> Write for Tally<W> {
 /// Gives one byte a call, and is interrupted once before each of the first so many. At so many bytes
 /// it fails, once or for good.
 #[derive(Drop)]
-pub(crate) struct Slow<'a> {
+pub struct Slow<'a> {
     rest: &'a [u8],
     stalls: usize,
     ready: bool,
@@ -47,7 +47,7 @@ pub(crate) struct Slow<'a> {
 
 impl<'a> Slow<'a> {
     /// Gives all bytes, and is interrupted so often.
-    pub(crate) fn whole(rest: &'a [u8], stalls: usize) -> Slow<'a> {
+    pub fn whole(rest: &'a [u8], stalls: usize) -> Slow<'a> {
         Slow {
             rest,
             stalls,
@@ -58,7 +58,7 @@ impl<'a> Slow<'a> {
     }
 
     /// Fails so many times behind so many bytes.
-    pub(crate) fn failing(rest: &'a [u8], left: usize, fails: u32) -> Slow<'a> {
+    pub fn failing(rest: &'a [u8], left: usize, fails: u32) -> Slow<'a> {
         Slow {
             rest,
             stalls: 0,
@@ -96,7 +96,7 @@ impl Read for Slow<'_> {
 
 /// Each call is interrupted.
 #[derive(Drop)]
-pub(crate) struct Interrupted;
+pub struct Interrupted;
 
 impl Read for Interrupted {
     fn read(&mut self, _buf: &mut [u8]) -> io::Result<usize> {
@@ -106,9 +106,9 @@ impl Read for Interrupted {
 
 /// A head, and then a body that never ends, of which it counts what was taken.
 #[derive(Drop)]
-pub(crate) struct Endless<'a> {
-    pub(crate) head: &'a [u8],
-    pub(crate) given: usize,
+pub struct Endless<'a> {
+    pub head: &'a [u8],
+    pub given: usize,
 }
 
 impl Read for Endless<'_> {
@@ -123,8 +123,8 @@ impl Read for Endless<'_> {
 
 /// Takes one byte a call, but after so many for some calls none: it is interrupted, or takes nothing.
 #[derive(Drop)]
-pub(crate) struct Narrow {
-    pub(crate) held: Vec<u8>,
+pub struct Narrow {
+    pub held: Vec<u8>,
     room: usize,
     stops: u32,
     fails: bool,
@@ -132,12 +132,12 @@ pub(crate) struct Narrow {
 
 impl Narrow {
     /// Takes all bytes.
-    pub(crate) fn whole(alloc: Global) -> Narrow {
+    pub fn whole(alloc: Global) -> Narrow {
         Narrow::stopping(alloc, 0, 0, false)
     }
 
     /// Stops so often behind so many bytes.
-    pub(crate) fn stopping(alloc: Global, room: usize, stops: u32, fails: bool) -> Narrow {
+    pub fn stopping(alloc: Global, room: usize, stops: u32, fails: bool) -> Narrow {
         Narrow {
             held: Vec::new(alloc),
             room,

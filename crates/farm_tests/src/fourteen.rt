@@ -1,7 +1,6 @@
 //! All fourteen commands in one run of the keeper, and in a run that a store is opened for.
-use crate::answered::made;
 use crate::asked::call;
-use crate::stores::make;
+use crate::stores::{made, make};
 use farm_core::farm::Farm;
 use farm_keep::{KeepFault, Keeper, RunEnd};
 use farm_types::calls::{Answer, Call};

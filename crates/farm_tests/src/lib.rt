@@ -1,20 +1,14 @@
-//! Tests of the public calls that cross crates, and of what no contract says.
+//! Tests of the public calls that cross crates below the desk, and of what no contract says; and what
+//! the desk's tests share with them.
 #![tactic(auto)]
 
 #[cfg(test)]
-mod answered;
-#[cfg(test)]
 mod asked;
-#[cfg(test)]
-mod clients;
 #[cfg(test)]
 mod copies;
 #[cfg(test)]
 mod created;
-#[cfg(test)]
-mod displayed;
-#[cfg(test)]
-mod fakes;
+pub mod fakes;
 #[cfg(test)]
 mod files;
 #[cfg(test)]
@@ -37,10 +31,8 @@ mod requests;
 mod rows;
 #[cfg(test)]
 mod search;
-#[cfg(test)]
-mod served;
-#[cfg(test)]
-mod stores;
+pub mod sent;
+pub mod stores;
 #[cfg(test)]
 mod tables;
 #[cfg(test)]

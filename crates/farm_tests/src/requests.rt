@@ -1,5 +1,6 @@
 //! Requests that are read whole or cut, from readers that are slow, fail or never end.
 use crate::fakes::{Interrupted, Slow, Tally};
+use crate::sent::FIRST_TYPE;
 use farm_http::counted_reader::CountedReader;
 use farm_http::fault::WireFault;
 use farm_http::limits::{MAX_BODY, MAX_HEAD};
@@ -10,10 +11,6 @@ use std::alloc::{AllocError, Global};
 use std::io::Read;
 use std::process::Abort;
 use std::test::Fail;
-
-/// A request that adds the type `bbb`.
-pub(crate) const FIRST_TYPE: &[u8] =
-    b"POST /types HTTP/1.1\r\nx-user: admin\r\ncontent-length: 14\r\n\r\n{\"name\":\"bbb\"}";
 
 /// What a reader gives.
 pub(crate) fn read<R: Read>(alloc: Global, reader: &mut R) -> Result<Taken, WireFault> {

@@ -1,11 +1,11 @@
 //! Serving connections: clients on 127.0.0.1, whose connections wait in the system's queue until the
 //! desk takes them.
-use crate::answered::{DONE, made};
-use crate::created::{opened, stopping};
-use crate::requests::FIRST_TYPE;
+use crate::answered::DONE;
 use farm_desk::fault::DeskFault;
 use farm_desk::serve::serve_on;
 use farm_keep::{KeepFault, Keeper};
+use farm_tests::sent::FIRST_TYPE;
+use farm_tests::stores::{made, opened, stopping};
 use sqlite::{Alter, Connection, Files};
 use sqlite_disk::Disk;
 use std::alloc::Global;

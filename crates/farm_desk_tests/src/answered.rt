@@ -1,10 +1,10 @@
 //! Conversations over readers and writers that give and take little, or fail.
-use crate::asked::request;
-use crate::fakes::{Interrupted, Narrow, Slow, Tally};
-use crate::requests::FIRST_TYPE;
 use farm_desk::converse::converse_counted;
 use farm_desk::fault::DeskFault;
 use farm_keep::Keeper;
+use farm_tests::fakes::{Interrupted, Narrow, Slow, Tally};
+use farm_tests::sent::{FIRST_TYPE, request};
+use farm_tests::stores::made;
 use farm_wire::{CountedReader, CountedWriter};
 use sqlite::{Alter, Connection};
 use std::alloc::Global;
@@ -58,14 +58,6 @@ fn counts<S: Alter>(keeper: &Keeper<S>) -> Option<(u64, u64)> {
         }
         None => None,
     }
-}
-
-/// A keeper of an empty farm; none where the store fails.
-pub(crate) fn made<S: Alter + Drop>(alloc: Global, conn: Connection<S>) -> Option<Keeper<S>> {
-    if !conn.is_autocommit() {
-        return None;
-    }
-    Keeper::fresh(alloc, conn).ok()
 }
 
 /// What the request of a reader is answered, and how the conversation ends.
