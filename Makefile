@@ -1,7 +1,7 @@
 # make run    plays a day of a lab, requests and answers, in a build without proofs
 # make bin    proves and builds the program, and leaves it at bin/farm
-# make test   every proof, wrong body, test and program, from nothing (rt ci), then the scripts of tests/
-# make wrong  further wrong bodies, many to a check
+# make test   every proof, named wrong body, test and program, from nothing (rt ci), then the scripts of tests/
+# make wrong  the further wrong bodies of wrong/, many to a check, over what make test or make bin proved
 .PHONY: run bin test wrong
 
 run:
@@ -14,4 +14,5 @@ test:
 	@sh tests/all.sh
 
 wrong:
+	@python3 tests/waves_test.py
 	@python3 tests/waves.py

@@ -1,5 +1,6 @@
 #!/usr/bin/env python3
 """waves.py [CRATE ..]: tries the wrong bodies crates/NAME/wrong/*.edit, many in one check.
+waves.py --read: only reads them, within a second: each has to be the text of one function, and to apply once.
 
 An edit has the form of a must-fail edit of rt ci: a line 'file: src/..', then pairs of lines 'old: TEXT' and
 'new: TEXT', each old text once in the file. All of an edit lies in one function. rt ci checks a crate once for
@@ -148,14 +149,30 @@ def edit_files(crate):
     return [f"{folder}/{it}" for it in sorted(os.listdir(folder))] if os.path.isdir(folder) else []
 
 
-def try_edits(crate):
-    """Tries all edits of a crate, says of each what came of it, and returns whether each was refused."""
-    sources, edits, told = sources_of(crate.folder), [], []
+def edits_of(crate, sources):
+    """Returns the edits of a crate that can be tried, and of the others what to say."""
+    edits, told = [], []
     for file in edit_files(crate):
         try:
             edits.append(read_edit(crate, file, sources))
         except BadEdit as why:
             told.append((f"{crate.name}/{os.path.basename(file)}", False, f"BAD EDIT: {why}"))
+    return edits, told
+
+
+def read_all(crates):
+    """Reads the edits of the crates, says which can't be tried, and returns the status."""
+    read = [edits_of(it, sources_of(it.folder)) for it in crates]
+    tell([it for _, told in read for it in told])
+    bad = sum(len(told) for _, told in read)
+    print(f"{sum(len(edits) for edits, _ in read)} further wrong bodies apply, {bad} don't")
+    return 1 if bad else 0
+
+
+def try_edits(crate):
+    """Tries all edits of a crate, says of each what came of it, and returns whether each was refused."""
+    sources = sources_of(crate.folder)
+    edits, told = edits_of(crate, sources)
     waves = waves_of(edits)
     # (further waves take what the first checked of the functions that they leave alone)
     with tempfile.TemporaryDirectory(prefix="waves-") as kept:
@@ -222,10 +239,14 @@ def tasks_of(crates):
 
 def main(names):
     os.environ.pop(rt.rtlib.ALLOW_C, None)
+    reads = names == ["--read"]
+    names = [] if reads else names
     crates = [it for it in rt.rtlib.crates_below(os.getcwd()) if edit_files(it) and (not names or it.name in names)]
     lost = {*names} - {it.name for it in crates}
     if lost or not crates:
         sys.exit(f"waves.py: no folder crates/NAME/wrong here for {', '.join(sorted(lost)) or 'any crate'}")
+    if reads:
+        return read_all(crates)
     held = rt.rtlib.lock([*crates, *libraries_of(crates)])
     given = rt.in_lanes(tasks_of(crates))
     for it in held:
