@@ -44,17 +44,17 @@ def modules_of_types(texts):
 def impl_name(head, module, types):
     """Returns the path under which the prover has an impl's functions.
 
-    Of `impl<T> Keeper<T> {` that is the type's own, and of `impl From<Vec<T>> for Fault {` it is FaultFromVec of the
-    module where the impl stands.
+    Of `impl<T> Keeper<T> {` that is the type's own, of `impl From<Vec<T>> for Fault {` it is FaultFromVec of the module
+    where the impl stands, and of `impl Put for Pair<'_, Row> {` it is PairRowPut.
     """
     own = re.match(r"impl<([^{]*?)>(?= )", head)
     parameters = re.findall(r"(?:^|, )'?(\w+)", own[1]) if own else []
     rest = (head[own.end() :] if own else head.removeprefix("impl")).partition(" where ")[0]
     of_trait, is_trait, of_type = rest.rpartition(" for ")
-    name = re.search(r"(\w+)\s*(?:<|\{|$)", of_type)[1]
+    name, arguments = re.search(r"(\w+)\s*(<[^{]*>)?\s*(?:\{|$)", of_type).groups("")
     if not is_trait:
         return joined(types.get(name, module), name)
-    words = re.findall(r"(?<!')\b[A-Z]\w*", of_trait)
+    words = re.findall(r"(?<!')\b[A-Z]\w*", arguments + of_trait)
     return joined(module, name + "".join(it for it in words if it not in parameters))
 
 

@@ -73,6 +73,15 @@ class Functions(unittest.TestCase):
     def test_the_root_has_no_module(self):
         self.assertEqual(functions.functions_of("shed", "src/lib.rt", "fn one() {}", {})[0].name, "shed::one")
 
+    def test_an_impl_has_the_words_of_its_type_and_of_its_trait(self):
+        names = {
+            "impl<'a, T: Drop> From<Held<T>> for Heap<'a> {": "HeapFromHeld",
+            "impl Upsert for Tagged<'_, BoardRow> {": "TaggedBoardRowUpsert",
+            "impl<R: Read> Read for Tally<R> {": "TallyRead",
+        }
+        for head, name in names.items():
+            self.assertEqual(functions.impl_name(head, "", {}), name)
+
     def test_types_are_found_with_their_modules(self):
         self.assertEqual(functions.modules_of_types({"src/a/heap.rt": SOURCE}), {"Heap": "a::heap"})
 
