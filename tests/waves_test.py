@@ -162,6 +162,11 @@ class Judgements(unittest.TestCase):
         self.assertFalse(is_refused)
         self.assertTrue(text.startswith("NOT REFUSED: "))
 
+    def test_what_a_type_keeps_is_told_at_the_functions_name(self):
+        told = "fn shed::heap::size: no proof: expected answers; `search` did not prove `invariant_of-result`"
+        self.assertTrue(self.judge(told, self.LAST)[0])
+        self.assertFalse(self.judge(told.replace("::size", "::one"), self.STANDS, self.LAST)[0])
+
     def test_advice_is_no_error(self):
         advice = "./proofs/heap/size/Answers.antt:9:1: note: `omega` was called early"
         self.assertFalse(self.judge(advice, self.STANDS, self.LAST)[0])
