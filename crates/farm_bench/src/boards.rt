@@ -76,8 +76,8 @@ fn board(alloc: Global, place: u64, kind: &str, last: &str) -> anyhow::Result<Bo
     })
 }
 
-/// 256 boards in name order, a quarter of each of four types. The last `rare` have the rare tag, and
-/// the last `away` are in maintenance.
+/// 256 boards in name order, a quarter of each of four types. The last `rare` have the rare tag,
+/// and the last `away` are in maintenance.
 pub fn boards(alloc: Global, rare: u64, away: u64) -> anyhow::Result<Vec<BoardRow>> {
     let mut rows = Vec::new(alloc);
     for place in 0..MOST {

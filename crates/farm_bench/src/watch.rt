@@ -45,7 +45,8 @@ impl Watch<'_> {
         Ok(())
     }
 
-    /// Prints what was done, and of its times in nanoseconds the median, the least and the greatest.
+    /// Prints what was done, and of its times in nanoseconds the median, the least and the
+    /// greatest.
     pub fn show(&self, what: &str, mut nanos: Vec<u64>) -> anyhow::Result<()> {
         if !self.timed {
             println!(self.rt; "  {what}")?;

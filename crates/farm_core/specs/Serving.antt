@@ -1,19 +1,6 @@
 -- What the program does for one claim of a pass.
-use Rattle.std.specs.Prelude.{
-  ◌≡◌,
-  ◌==◌,
-  ◌+◌,
-  ℕ,
-  Bool,
-  true,
-  false,
-  List,
-  [],
-  ◌∷◌,
-  map,
-  IsSomeAnd,
-  if◌then◌else◌,
-}
+use Rattle.std.specs.Prelude.{◌≡◌, ◌==◌, ◌+◌, ℕ, Bool, true, false, List, [], ◌∷◌, map, IsSomeAnd}
+use Rattle.std.specs.Prelude.{if◌then◌else◌}
 use Rattle.std.specs.Str.{bytes_eq}
 use Rattle.farm_types.specs.Table.{change_where}
 use Rattle.farm_types.specs.Farm.{Farm, members, res_of}

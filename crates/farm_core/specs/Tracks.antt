@@ -2,14 +2,8 @@
 use Rattle.std.specs.Prelude.{◌≡◌}
 use Rattle.std.specs.List.{AllByRecursion}
 use Rattle.farm_types.specs.Farm.{Farm}
-use Rattle.farm_types.specs.Small.{
-  IsSmall,
-  IsSmallType,
-  IsSmallBoard,
-  IsSmallJob,
-  IsSmallRes,
-  IsSmallKept,
-}
+use Rattle.farm_types.specs.Small.{IsSmall, IsSmallType, IsSmallBoard, IsSmallJob, IsSmallRes}
+use Rattle.farm_types.specs.Small.{IsSmallKept}
 use Rattle.farm_types.specs.Table.{put_all, type_cmp, board_cmp, job_cmp, res_cmp, kept_cmp}
 use Rattle.farm_types.specs.declared.rows.Reply.{Reply}
 use Rattle.farm_types.specs.declared.calls.Changes.{Changes}

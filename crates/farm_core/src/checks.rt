@@ -1,7 +1,8 @@
 //! The checks of a pass: a job of the program's own for each due board.
 ghost use Rattle.std.specs.Prelude.{◌≡◌, ◌-◌, ◌<◌, codes, length, get_or, OnOk, IfOk};
 ghost use Rattle.farm_types.specs.Farm.{Farm};
-ghost use Rattle.farm_types.specs.Pass.{check_job, check_one, checks, is_due, is_due_by, is_reached};
+ghost use Rattle.farm_types.specs.Pass.{check_job, check_one, checks, is_due, is_due_by};
+ghost use Rattle.farm_types.specs.Pass.{is_reached};
 ghost use Rattle.farm_types.specs.Pick.{check_of, is_nobody};
 ghost use Rattle.farm_types.specs.declared.rows.BoardRow.{BoardRow};
 ghost use Rattle.farm_core.specs.Drafted.{at_farm};

@@ -4,7 +4,8 @@
 ghost use Rattle.std.specs.Prelude.{◌≡◌, IfOk};
 ghost use Rattle.farm_types.specs.Table.{put, job_cmp};
 ghost use Rattle.farm_types.specs.Farm.{Farm, put_type, put_board, put_res, put_kept};
-ghost use Rattle.farm_types.specs.Small.{IsSmallType, IsSmallBoard, IsSmallJob, IsSmallRes, IsSmallKept};
+ghost use Rattle.farm_types.specs.Small.{IsSmallType, IsSmallBoard, IsSmallJob, IsSmallRes};
+ghost use Rattle.farm_types.specs.Small.{IsSmallKept};
 ghost use Rattle.farm_core.specs.Plain.{plain};
 ghost use Rattle.farm_core.specs.Orderly.{IsOrderly, IsNear};
 ghost use Rattle.farm_core.specs.Tracks.{Tracks};

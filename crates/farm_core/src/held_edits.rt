@@ -1,5 +1,6 @@
 //! The edits of the tables: rows are changed in their places, and logged.
-ghost use Rattle.std.specs.Prelude.{◌≡◌, ◌++◌, ◌≤◌, ◌<◌, ◌==◌, ℕ, false, map, length, get_or, OnOk, IfOk};
+ghost use Rattle.std.specs.Prelude.{◌≡◌, ◌++◌, ◌≤◌, ◌<◌, ◌==◌, ℕ, false, map, length, get_or, OnOk};
+ghost use Rattle.std.specs.Prelude.{IfOk};
 ghost use Rattle.std.specs.List.{filter};
 ghost use Rattle.std.specs.List.Sorted.{IsStrictlySortedBy};
 ghost use Rattle.farm_types.specs.Table.{job_cmp, res_cmp, change_where};
@@ -10,7 +11,8 @@ ghost use Rattle.farm_types.specs.declared.rows.JobRow.{JobRow};
 ghost use Rattle.farm_types.specs.declared.rows.ResRow.{ResRow};
 ghost use Rattle.farm_core.specs.Drafted.{at_farm};
 ghost use Rattle.farm_core.specs.Plain.{plain};
-ghost use Rattle.farm_core.specs.Edits.{IfAfterCheck, job_passes, job_changed, first_of, res_passes, res_changed, board_after, is_job_in, is_res_in};
+ghost use Rattle.farm_core.specs.Edits.{IfAfterCheck, job_passes, job_changed, first_of};
+ghost use Rattle.farm_core.specs.Edits.{res_passes, res_changed, board_after, is_job_in, is_res_in};
 ghost use Rattle.farm_core.specs.Orderly.{IsOrderly, IsPlaceOf};
 ghost use Rattle.farm_core.specs.Tracks.{Tracks};
 

@@ -1,7 +1,8 @@
 //! Why a call is refused: the first reason that applies.
 ghost use Rattle.std.specs.Prelude.{◌≡◌, ◌≤◌, ◌&&◌, nat_le, length};
 ghost use Rattle.farm_types.specs.Pass.{has_room};
-ghost use Rattle.farm_types.specs.Refuse.{is_admin, is_dispatcher, may_give, is_full, is_full_for, is_reused, early_refusal, own_refusal, refusal};
+ghost use Rattle.farm_types.specs.Refuse.{is_admin, is_dispatcher, may_give, is_full, is_full_for};
+ghost use Rattle.farm_types.specs.Refuse.{is_reused, early_refusal, own_refusal, refusal};
 ghost use Rattle.farm_types.specs.Machine.{repeated};
 ghost use Rattle.farm_core.specs.Plain.{plain};
 ghost use Rattle.farm_core.specs.Orderly.{IsOrderly};

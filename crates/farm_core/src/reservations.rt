@@ -1,5 +1,6 @@
 //! The commands on reservations that are there: Acquire, Release, Refresh and CancelRes.
-ghost use Rattle.std.specs.Prelude.{◌≡◌, ◌==◌, ◌+◌, ◌≤◌, ◌||◌, ◌∷◌, [], not, is_none, OnOk, IfOk, IfSome, Bool, ℕ, List};
+ghost use Rattle.std.specs.Prelude.{◌≡◌, ◌==◌, ◌+◌, ◌≤◌, ◌||◌, ◌∷◌, [], not, is_none, OnOk, IfOk};
+ghost use Rattle.std.specs.Prelude.{IfSome, Bool, ℕ, List};
 ghost use Rattle.std.specs.Option.{option_copied};
 ghost use Rattle.std.specs.Str.{bytes_eq};
 ghost use Rattle.farm_types.specs.Codes.{same_res_state};

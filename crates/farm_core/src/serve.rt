@@ -1,5 +1,6 @@
 //! Claims are served: each is given the least list of free boards that meets it.
-ghost use Rattle.std.specs.Prelude.{◌≡◌, ◌≤◌, ◌==◌, ◌∷◌, [], ℕ, true, false, Some, map, length, OnOk, IfOk, option_map};
+ghost use Rattle.std.specs.Prelude.{◌≡◌, ◌≤◌, ◌==◌, ◌∷◌, [], ℕ, true, false, Some, map, length};
+ghost use Rattle.std.specs.Prelude.{OnOk, IfOk, option_map};
 ghost use Rattle.std.specs.List.{filter};
 ghost use Rattle.farm_types.specs.Farm.{Farm, members, res_of};
 ghost use Rattle.farm_types.specs.Pass.{serve, serve_all};

@@ -1,5 +1,6 @@
 //! Submit: a new group of jobs.
-ghost use Rattle.std.specs.Prelude.{◌≡◌, ◌≤◌, ◌+◌, ◌∷◌, [], None, false, is_none, length, OnOk, IfOk};
+ghost use Rattle.std.specs.Prelude.{◌≡◌, ◌≤◌, ◌+◌, ◌∷◌, [], None, false, is_none, length, OnOk};
+ghost use Rattle.std.specs.Prelude.{IfOk};
 ghost use Rattle.std.specs.List.{list_any};
 ghost use Rattle.std.specs.Option.{option_map_or};
 ghost use Rattle.farm_types.specs.Farm.{Farm, type_of, put_jobs};

@@ -2,8 +2,10 @@
 ghost use Rattle.std.specs.Prelude.{◌≡◌, OnOk};
 ghost use Rattle.std.specs.Option.{option_copied};
 ghost use Rattle.farm_types.specs.Table.{put, job_cmp};
-ghost use Rattle.farm_types.specs.Farm.{Farm, empty, type_of, board_of, put_type, put_board, put_res, put_kept};
-ghost use Rattle.farm_types.specs.Small.{IsSmallType, IsSmallBoard, IsSmallJob, IsSmallRes, IsSmallKept};
+ghost use Rattle.farm_types.specs.Farm.{Farm, empty, type_of, board_of, put_type, put_board};
+ghost use Rattle.farm_types.specs.Farm.{put_res, put_kept};
+ghost use Rattle.farm_types.specs.Small.{IsSmallType, IsSmallBoard, IsSmallJob, IsSmallRes};
+ghost use Rattle.farm_types.specs.Small.{IsSmallKept};
 ghost use Rattle.farm_types.specs.Refuse.{kept_for};
 ghost use Rattle.farm_core.specs.Plain.{plain};
 ghost use Rattle.farm_core.specs.Orderly.{IsOrderly, IsNear};

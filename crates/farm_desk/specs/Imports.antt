@@ -1,26 +1,7 @@
 -- What an import does: the calls of a lab file, one after another, up to the first refusal or
 -- fault.
-use Rattle.std.specs.Prelude.{
-  ◌≡◌,
-  ◌≤◌,
-  ◌<◌,
-  ◌+◌,
-  ℕ,
-  [],
-  ◌∷◌,
-  ◌++◌,
-  Bool,
-  true,
-  false,
-  List,
-  map,
-  take,
-  length,
-  Option,
-  Some,
-  None,
-  Ok,
-}
+use Rattle.std.specs.Prelude.{◌≡◌, ◌≤◌, ◌<◌, ◌+◌, ℕ, [], ◌∷◌, ◌++◌, Bool, true, false, List, map}
+use Rattle.std.specs.Prelude.{take, length, Option, Some, None, Ok}
 use Rattle.std.specs.List.{count_by}
 use Rattle.sqlite_trees.specs.declared.store.Store.{Ghosts}
 use Rattle.farm_types.specs.Farm.{Farm}

@@ -1,20 +1,6 @@
 -- The lines that the program writes.
-use Rattle.std.specs.Prelude.{
-  ◌≡◌,
-  ℕ,
-  List,
-  [],
-  ◌∷◌,
-  ◌++◌,
-  codes,
-  decimal,
-  Option,
-  Some,
-  None,
-  Result,
-  Ok,
-  Err,
-}
+use Rattle.std.specs.Prelude.{◌≡◌, ℕ, List, [], ◌∷◌, ◌++◌, codes, decimal, Option, Some, None}
+use Rattle.std.specs.Prelude.{Result, Ok, Err}
 use Rattle.std.specs.Io.KnownBytes.{Appends, Keeps}
 use Rattle.farm_types.specs.Refusals.{text_of}
 use Rattle.farm_types.specs.declared.refusal.Refusal.{Refusal}

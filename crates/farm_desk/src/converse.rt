@@ -2,7 +2,8 @@
 ghost use Rattle.std.specs.Prelude.{◌≡◌, ◌≢◌, ◌≤◌, ◌↔◌, false, Err, IfOk, IfErr, IsTrue};
 ghost use Rattle.sqlite.specs.Held.{state};
 ghost use Rattle.sqlite_trees.specs.View.{doubt};
-ghost use Rattle.farm_http.specs.Counts.{unread, unwritten, reader_of, reading_of, writer_of, writing_of, IsSameReader, IsSameWriter, IsSpent};
+ghost use Rattle.farm_http.specs.Counts.{unread, unwritten, reader_of, reading_of, writer_of};
+ghost use Rattle.farm_http.specs.Counts.{writing_of, IsSameReader, IsSameWriter, IsSpent};
 ghost use Rattle.farm_desk.specs.Due.{IsDue};
 ghost use Rattle.farm_desk.specs.Ends.{IsAnswered, IsUnwritten, IsUnread, IsTold, IsToldBy};
 ghost use Rattle.farm_desk.specs.Made.{bytes_in};

@@ -3,7 +3,8 @@ ghost use Rattle.std.specs.Prelude.{◌≡◌, false, IfOk, IfErr};
 ghost use Rattle.sqlite_wal.specs.Files.{image_at};
 ghost use Rattle.sqlite_wal.specs.Recovery.{Image};
 ghost use Rattle.farm_keep.specs.Headline.{IsAlwaysClean};
-ghost use Rattle.farm_desk.specs.InFiles.{ShowsFiles, FindsTables, FindsFarm, MakesTables, MakesFarm, DeniesTables, GivesReason, IsOpenFault};
+ghost use Rattle.farm_desk.specs.InFiles.{ShowsFiles, FindsTables, FindsFarm, MakesTables};
+ghost use Rattle.farm_desk.specs.InFiles.{MakesFarm, DeniesTables, GivesReason, IsOpenFault};
 
 use crate::fault::DeskFault;
 use farm_jobfile::lab::LONGEST_LAB_FILE;

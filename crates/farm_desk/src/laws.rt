@@ -2,7 +2,9 @@
 ghost use Rattle.std.specs.Prelude.{◌≤◌, ◌++◌, ◌↔◌, List, OnOk, IfErr};
 ghost use Rattle.sqlite.specs.Held.{state};
 ghost use Rattle.sqlite_trees.specs.View.{doubt};
-ghost use Rattle.farm_desk.specs.Conversations.{Desk, Talk, ConverseInTurn, ConverseApart, desk, AnswersAll, StopsAt, AnsweredActAsRun, ToldAgain, OpenKeepsDone, ClosedKeepsPrefix};
+ghost use Rattle.farm_desk.specs.Conversations.{Desk, Talk, ConverseInTurn, ConverseApart, desk};
+ghost use Rattle.farm_desk.specs.Conversations.{AnswersAll, StopsAt, AnsweredActAsRun, ToldAgain};
+ghost use Rattle.farm_desk.specs.Conversations.{OpenKeepsDone, ClosedKeepsPrefix};
 ghost use Rattle.farm_desk.specs.InFiles.{LeavesFiles};
 
 use crate::converse::converse;

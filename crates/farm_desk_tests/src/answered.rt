@@ -129,7 +129,8 @@ fn reader_that_halts(rt: HostRuntime) -> Result<(), Fail> {
     readers_that_fail(&rt, alloc, Connection::open_in_memory(alloc)?)
 }
 
-/// Both the reader and the writer give and take one byte a call, and the reader is interrupted once.
+/// Both the reader and the writer give and take one byte a call, and the reader is interrupted
+/// once.
 fn bytes_one_by_one<S: Alter + Drop>(
     rt: &impl Abort,
     alloc: Global,
@@ -210,8 +211,8 @@ fn prepare<S: Alter>(rt: &impl Abort, alloc: Global, keeper: &mut Keeper<S>) -> 
 const KEYED_JOB: &[u8] =
     b"POST /jobs HTTP/1.1\r\nx-user: ann\r\nx-key: j1\r\ncontent-length: 38\r\n\r\njob_name = \"boot\"\ndevice_type = \"bbb\"\n";
 
-/// A writer that is interrupted after so many bytes, once or for good: these are the answer's first, the command is done, and its
-/// repetition is answered by the kept reply.
+/// A writer that is interrupted after so many bytes, once or for good: these are the answer's
+/// first, the command is done, and its repetition is answered by the kept reply.
 fn lost_after<S: Alter + Drop>(
     rt: &impl Abort,
     alloc: Global,

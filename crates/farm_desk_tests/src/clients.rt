@@ -1,5 +1,5 @@
-//! Serving connections: clients on 127.0.0.1, whose connections wait in the system's queue until the
-//! desk takes them.
+//! Serving connections: clients on 127.0.0.1, whose connections wait in the system's queue until
+//! the desk takes them.
 use crate::answered::DONE;
 use farm_desk::fault::DeskFault;
 use farm_desk::serve::serve_on;
@@ -17,8 +17,8 @@ use std::process::Abort;
 use std::test::Fail;
 use std::time::{Clock, Duration};
 
-/// A clock that tells one moment, or none; how long it runs it tells at so many looks, each of which
-/// takes so many seconds.
+/// A clock that tells one moment, or none; how long it runs it tells at so many looks, each of
+/// which takes so many seconds.
 #[derive(Drop)]
 struct Hands {
     moment: Option<u64>,
@@ -165,7 +165,8 @@ fn turns() -> [(u64, Hands, u64); 3] {
     ]
 }
 
-/// As many are served as is asked for: the second client waits on, and is served by the same keeper.
+/// As many are served as is asked for: the second client waits on, and is served by the same
+/// keeper.
 #[test]
 fn as_many_as_asked(rt: HostRuntime) -> Result<(), Fail> {
     let alloc = rt.alloc();

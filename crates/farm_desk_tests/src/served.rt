@@ -72,8 +72,8 @@ fn serve_some<S: Alter>(
     serve(alloc, keeper, clients, max)
 }
 
-/// A head is refused at its first line, and what follows that stays unread. Four are served, then the
-/// last, and then nobody is left.
+/// A head is refused at its first line, and what follows that stays unread. Four are served, then
+/// the last, and then nobody is left.
 fn serve_all<S: Alter + Drop>(
     rt: &impl Abort,
     alloc: Global,

@@ -38,7 +38,8 @@ Fails used AtEnd Spent (Refused refusal) = IsRefused used AtEnd refusal.code
 
 -- a reader loses these bytes, and reading a request fails after them
 abbrev pub FailsAfter : Option (List ℕ) → Option (List ℕ) → Type 0 → WireFault → Type 0
-FailsAfter old new Spent fault = (used : List ℕ) × Consumes old new used × Fails used (IsAtEnd new) Spent fault
+FailsAfter old new Spent fault = (used : List ℕ) × Consumes old new used
+    × Fails used (IsAtEnd new) Spent fault
 
 -- of a known input these bytes are taken, with this result
 abbrev pub Gives : List ℕ → List ℕ → Type 0 → Result Taken WireFault → Type 0
@@ -51,7 +52,8 @@ WritesPrefix old new bytes = (n : ℕ) × (n < length bytes) × Appends old new 
 
 -- a reader with this input loses the bytes that reading takes, with this result
 abbrev pub TakesFrom : List ℕ → Option (List ℕ) → Type 0 → Result Taken WireFault → Type 0
-TakesFrom input new Spent result = (used : List ℕ) × Consumes (Some input) new used × Gives input used Spent result
+TakesFrom input new Spent result = (used : List ℕ) × Consumes (Some input) new used
+    × Gives input used Spent result
 
 -- that request is taken, unless memory is refused or the reader spent
 abbrev pub IsTaken : List ℕ → ℕ → Type 0 → Result Taken WireFault → Type 0

@@ -1,5 +1,6 @@
 -- The fields of a head: what stands under a name, and how long the body is.
-use Rattle.std.specs.Prelude.{ℕ, List, [], ◌∷◌, map, filter, ◌&&◌, nat_lt, nat_le, length, if◌then◌else◌, Option, Some, None, Result, Ok, Err, codes}
+use Rattle.std.specs.Prelude.{ℕ, List, [], ◌∷◌, map, filter, ◌&&◌, nat_lt, nat_le, length}
+use Rattle.std.specs.Prelude.{if◌then◌else◌, Option, Some, None, Result, Ok, Err, codes}
 use Rattle.std.specs.Borrow.{Bor}
 use Rattle.std.specs.List.{list_all}
 use Rattle.std.specs.Char.{is_ascii_digit}
@@ -45,7 +46,8 @@ answered (Err e) = several
 abbrev pub declared_length : List ℕ → Result ℕ ℕ
 declared_length value =
     if nat_lt 0 (length value) && list_all is_ascii_digit value
-    then (if nat_le (digits_value 10 value) MAX_BODY then Ok (digits_value 10 value) else Err TOO_LARGE)
+    then (if nat_le (digits_value 10 value) MAX_BODY then Ok (digits_value 10 value)
+    else Err TOO_LARGE)
     else Err BAD_REQUEST
 
 -- the length that `content-length` declares: none declares 0, and two are too many

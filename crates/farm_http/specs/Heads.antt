@@ -1,5 +1,6 @@
 -- The head of a request: the first prefix that is one, or why there is none.
-use Rattle.std.specs.Prelude.{◌≡◌, ℕ, ◌+◌, ◌-◌, ◌<◌, ◌≤◌, ◌⊎◌, Bool, true, false, List, [], ◌∷◌, ◌++◌, length, take, slice_index}
+use Rattle.std.specs.Prelude.{◌≡◌, ℕ, ◌+◌, ◌-◌, ◌<◌, ◌≤◌, ◌⊎◌, Bool, true, false, List, [], ◌∷◌}
+use Rattle.std.specs.Prelude.{◌++◌, length, take, slice_index}
 use Rattle.httparse.specs.Ascii.{line_feed}
 use Rattle.httparse.specs.Grammar.{RequestHead, ReadsRequest, HasNoRequest, MayBecomeRequest}
 use Rattle.httparse.specs.Spans.{IsRequestAt, IsRequestWithin, RequestOverflows}
@@ -20,7 +21,8 @@ pub record IsOpen (front : List ℕ) : Type 0 where
   pub more : MayBecomeRequest front
 
 -- the spans are those of the parts of each head that the bytes are, and lie in them
-pub record AreSpansOf (bytes : List ℕ) (headers : List HeaderSpan) (spans : RequestSpans) : Type 0 where
+pub record AreSpansOf (bytes : List ℕ) (headers : List HeaderSpan) (spans : RequestSpans)
+    : Type 0 where
   pub within : IsRequestWithin bytes headers spans
   pub parts : (h : RequestHead) → IsHead bytes h → IsRequestAt bytes headers spans h
 

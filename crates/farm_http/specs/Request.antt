@@ -12,4 +12,9 @@ pub record Request : Type 0 where
 
 -- what a head and a body say
 abbrev pub request_of : RequestHead → List ℕ → Request
-request_of h body = record { method = h.method; target = h.target; fields = fields_of h; body = body }
+request_of h body = record {
+  method = h.method;
+  target = h.target;
+  fields = fields_of h;
+  body = body;
+}

@@ -1,5 +1,5 @@
-//! A reader that counts its calls. No contract over a reader can say that it failed, so its count says
-//! it; only `CountedReader::read` calls the reader, and only it counts.
+//! A reader that counts its calls. No contract over a reader can say that it failed, so its count
+//! says it; only `CountedReader::read` calls the reader, and only it counts.
 ghost use Rattle.std.specs.Prelude.{◌≡◌, ◌+◌, ◌^◌, ◌<◌, false};
 ghost use Rattle.std.specs.Io.{ReadsAtMost};
 ghost use Rattle.std.specs.Io.KnownBytes.{ReadConsumes};
@@ -51,7 +51,8 @@ impl<'a, R: Read> CountedReader<'a, R> {
         requires alive { (reading_of self.old).failed ≡ false }
         ensures same { IsSameReader self.old self.new }
         ensures bound { ReadsAtMost result buf.new }
-        ensures bytes { ReadConsumes (R.remaining (reader_of self.old)) (R.remaining (reader_of self.new)) result buf.new }
+        ensures bytes { ReadConsumes (R.remaining (reader_of self.old))
+            (R.remaining (reader_of self.new)) result buf.new }
         ensures counted { (reading_of self.new).calls ≡ (reading_of self.old).calls + 1 }
         ensures failed { TellsFailure result (reading_of self.new).failed }
     {

@@ -1,6 +1,7 @@
-//! A writer that counts its calls. No contract over a writer can say that it failed, so its count says
-//! it; only `CountedWriter::write` calls the writer, and only it counts.
-ghost use Rattle.std.specs.Prelude.{◌≡◌, ◌+◌, ◌^◌, ◌<◌, ◌≤◌, true, false, length, take, IfOk, OnOk, OnErr};
+//! A writer that counts its calls. No contract over a writer can say that it failed, so its count
+//! says it; only `CountedWriter::write` calls the writer, and only it counts.
+ghost use Rattle.std.specs.Prelude.{◌≡◌, ◌+◌, ◌^◌, ◌<◌, ◌≤◌, true, false, length, take, IfOk, OnOk};
+ghost use Rattle.std.specs.Prelude.{OnErr};
 ghost use Rattle.std.specs.Io.KnownBytes.{Appends, Keeps};
 
 use std::io::Write;
@@ -55,7 +56,8 @@ impl<'a, W: Write> CountedWriter<'a, W> {
         ensures same { IsSameWriter self.old self.new }
         ensures within { IfOk result (λ n. (0 < n) × (n ≤ length bytes.now)) }
         ensures ok { IfOk result (λ n. Appends
-            (W.contents (writer_of self.old)) (W.contents (writer_of self.new)) (take n bytes.now)) }
+            (W.contents (writer_of self.old)) (W.contents (writer_of self.new))
+            (take n bytes.now)) }
         ensures kept { OnErr result
             (Keeps (W.contents (writer_of self.old)) (W.contents (writer_of self.new))) }
         ensures counted { (writing_of self.new).calls ≡ (writing_of self.old).calls + 1 }

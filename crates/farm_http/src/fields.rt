@@ -1,11 +1,13 @@
 //! The fields of a head (RFC 9112, section 5): one by its name, and how long the body is.
-ghost use Rattle.std.specs.Prelude.{◌≡◌, ◌+◌, ◌*◌, ◌<◌, ◌≤◌, length, map, All, IfOk, MatchOption, nat_lt, ◌&&◌};
+ghost use Rattle.std.specs.Prelude.{◌≡◌, ◌+◌, ◌*◌, ◌<◌, ◌≤◌, length, map, All, IfOk, MatchOption};
+ghost use Rattle.std.specs.Prelude.{nat_lt, ◌&&◌};
 ghost use Rattle.std.specs.Char.{is_ascii_digit, digit_value};
 ghost use Rattle.std.specs.List.{list_all};
 ghost use Rattle.std.specs.Str.{str_eq_ignore_ascii_case};
 ghost use Rattle.std.specs.Str.Parse.{digits_value};
 ghost use Rattle.httparse.specs.Spans.{IsHeaderWithin, header_bytes};
-ghost use Rattle.farm_http.specs.Fields.{answered, field_of, declared_length, length_among, numbered};
+ghost use Rattle.farm_http.specs.Fields.{answered, field_of, declared_length, length_among};
+ghost use Rattle.farm_http.specs.Fields.{numbered};
 
 use crate::limits::MAX_BODY;
 use farm_types::refusal::{BAD_CODING, BAD_REQUEST, Refusal, TOO_LARGE};

@@ -5,8 +5,9 @@
 //! belong to whoever reads next, then exactly the body that the head declares. So a head costs one
 //! call of `read` for each byte, and a caller hands in a buffered reader where calls are dear.
 //!
-//! Read `specs/` in the order Fields, Request, Heads, Requests, Counts, Faults: what a head says, when
-//! bytes are a request, when they are refused, and what a fault says of them and of the reader.
+//! Read `specs/` in the order Fields, Request, Heads, Requests, Counts, Faults: what a head says,
+//! when bytes are a request, when they are refused, and what a fault says of them and of the
+//! reader.
 #![tactic(auto)]
 
 pub mod counted_reader;

@@ -1,4 +1,5 @@
-//! How much of its peer the desk reads. The grammar of a head is RFC 9112's; the limits are the desk's.
+//! How much of its peer the desk reads. The grammar of a head is RFC 9112's; the limits are the
+//! desk's.
 
 /// The longest head, in bytes.
 pub const MAX_HEAD: usize = 8_192;

@@ -1,5 +1,6 @@
 //! One read of some bytes.
-ghost use Rattle.std.specs.Prelude.{◌≡◌, ◌+◌, ◌<◌, ◌≤◌, ◌⊎◌, true, false, length, take, IfOk, OnOk, OnErr};
+ghost use Rattle.std.specs.Prelude.{◌≡◌, ◌+◌, ◌<◌, ◌≤◌, ◌⊎◌, true, false, length, take, IfOk, OnOk};
+ghost use Rattle.std.specs.Prelude.{OnErr};
 ghost use Rattle.std.specs.Io.KnownBytes.{Consumes, IsAtEnd, Keeps};
 ghost use Rattle.farm_http.specs.Counts.{reader_of, reading_of, IsSameReader, IsSpent};
 
@@ -22,10 +23,12 @@ pub(crate) fn read_some<R: Read>(
     ensures same { IsSameReader reader.old reader.new }
     ensures within { IfOk result (λ n. n ≤ length buf.new) }
     ensures ok { IfOk result
-        (λ n. Consumes (R.remaining (reader_of reader.old)) (R.remaining (reader_of reader.new)) (take n buf.new)) }
+        (λ n. Consumes (R.remaining (reader_of reader.old)) (R.remaining (reader_of reader.new))
+        (take n buf.new)) }
     ensures end { IfOk result (λ n. n ≡ 0 → IsAtEnd (R.remaining (reader_of reader.new))) }
     ensures alive { OnOk result ((reading_of reader.new).failed ≡ false) }
-    ensures kept { OnErr result (Keeps (R.remaining (reader_of reader.old)) (R.remaining (reader_of reader.new))) }
+    ensures kept { OnErr result (Keeps (R.remaining (reader_of reader.old))
+        (R.remaining (reader_of reader.new))) }
     ensures spent { OnErr result (IsSpent (reading_of reader.new)) }
     ensures turns { (reading_of reader.new).calls ≤ MAX_TURNS }
 {

@@ -1,5 +1,7 @@
 //! Reading one request.
-ghost use Rattle.std.specs.Prelude.{◌≡◌, ℕ, ◌+◌, ◌-◌, ◌<◌, ◌≤◌, ◌∷◌, length, [], take, is_some, vec_capacity, false, ⊤, List, IsTrue, IfOk, IfErr, IfSome, OnOk, OnErr, IsErrOf};
+ghost use Rattle.std.specs.Prelude.{◌≡◌, ℕ, ◌+◌, ◌-◌, ◌<◌, ◌≤◌, ◌∷◌, length, [], take, is_some};
+ghost use Rattle.std.specs.Prelude.{vec_capacity, false, ⊤, List, IsTrue, IfOk, IfErr, IfSome};
+ghost use Rattle.std.specs.Prelude.{OnOk, OnErr, IsErrOf};
 ghost use Rattle.std.specs.Io.KnownBytes.{Consumes, IsAtEnd, Keeps};
 ghost use Rattle.httparse.specs.Grammar.{RequestHead};
 ghost use Rattle.farm_http.specs.Fields.{body_length, numbered};
@@ -23,14 +25,15 @@ use std::io::Read;
 /// Reads one request, and leaves the bytes behind it unread.
 ///
 /// The head is the first prefix that the parser takes for one; it is tried at each line feed. A
-/// refusal comes after the first bytes that rule a request out: 50 for a head that can't be one, for
-/// more than 64 fields, for a wrong `content-length` and for an input that ends too early, 51 for a
-/// head above 8,192 bytes or a body above 65,536, 54 for any `transfer-encoding`.
+/// refusal comes after the first bytes that rule a request out: 50 for a head that can't be one,
+/// for more than 64 fields, for a wrong `content-length` and for an input that ends too early, 51
+/// for a head above 8,192 bytes or a body above 65,536, 54 for any `transfer-encoding`.
 ///
 /// Costs one growth of 73,728 bytes, one call of `read` for each byte of the head and as few as the
 /// reader allows for the body, and at each line feed of the head a parse of what came so far: its
 /// bytes times its lines. From memory a head of three lines and a short body take 8 microseconds, a
-/// head of 8,192 bytes in 64 lines 0.15 ms, and 8,192 empty lines, the dearest that can come, 35 ms.
+/// head of 8,192 bytes in 64 lines 0.15 ms, and 8,192 empty lines, the dearest that can come, 35
+/// ms.
 pub fn read_request<R: Read>(alloc: Global, reader: &mut R) -> Result<Taken, WireFault>
     ensures taken { IfOk result
         (λ taken. Consumes (R.remaining reader.old) (R.remaining reader.new) taken.bytes.items) }
@@ -52,16 +55,19 @@ pub fn read_request_counted<R: Read>(
     requires fresh { reading_of reader.old ≡ unread }
     ensures same { IsSameReader reader.old reader.new }
     ensures taken { IfOk result
-        (λ taken. Consumes (R.remaining (reader_of reader.old)) (R.remaining (reader_of reader.new)) taken.bytes.items) }
+        (λ taken. Consumes (R.remaining (reader_of reader.old)) (R.remaining (reader_of reader.new))
+        taken.bytes.items) }
 
     // The fault Read comes only of a reader that failed or took all its turns, and of one that
     // failed nothing else comes.
     ensures fault { IfErr result
-        (FailsAfter (R.remaining (reader_of reader.old)) (R.remaining (reader_of reader.new)) (IsSpent (reading_of reader.new))) }
+        (FailsAfter (R.remaining (reader_of reader.old)) (R.remaining (reader_of reader.new))
+        (IsSpent (reading_of reader.new))) }
     ensures failed { IsTrue (reading_of reader.new).failed → IsErrOf result WireFault.Read }
     ensures turns { (reading_of reader.new).calls ≤ MAX_TURNS }
     ensures known { IfSome (R.remaining (reader_of reader.old))
-        (λ input. TakesFrom input (R.remaining (reader_of reader.new)) (IsSpent (reading_of reader.new)) result) }
+        (λ input. TakesFrom input (R.remaining (reader_of reader.new))
+        (IsSpent (reading_of reader.new)) result) }
 {
     take_request(alloc, reader)
 }
@@ -74,10 +80,12 @@ fn take_request<R: Read>(
     requires { reading_of reader.old ≡ unread }
     ensures same { IsSameReader reader.old reader.new }
     ensures taken { IfOk result
-        (λ taken. Consumes (R.remaining (reader_of reader.old)) (R.remaining (reader_of reader.new)) taken.bytes.items) }
+        (λ taken. Consumes (R.remaining (reader_of reader.old)) (R.remaining (reader_of reader.new))
+        taken.bytes.items) }
     ensures request { IfOk result (λ taken. IsRequest taken.bytes.items taken.head) }
     ensures fault { IfErr result
-        (FailsAfter (R.remaining (reader_of reader.old)) (R.remaining (reader_of reader.new)) (IsSpent (reading_of reader.new))) }
+        (FailsAfter (R.remaining (reader_of reader.old)) (R.remaining (reader_of reader.new))
+        (IsSpent (reading_of reader.new))) }
     ensures failed { IsTrue (reading_of reader.new).failed → IsErrOf result WireFault.Read }
     ensures turns { (reading_of reader.new).calls ≤ MAX_TURNS }
 {
@@ -107,11 +115,14 @@ fn fill<R: Read>(
     requires fresh { reading_of reader.old ≡ unread }
     ensures same { IsSameReader reader.old reader.new }
     ensures request { IfOk result (λ found. IsRequest bytes.new.items found.0) }
-    ensures spans { IfOk result (λ found. AreSpansOf (take found.0 bytes.new.items) headers.new found.1) }
+    ensures spans { IfOk result
+        (λ found. AreSpansOf (take found.0 bytes.new.items) headers.new found.1) }
     ensures taken { OnOk result
-        (Consumes (R.remaining (reader_of reader.old)) (R.remaining (reader_of reader.new)) bytes.new.items) }
+        (Consumes (R.remaining (reader_of reader.old)) (R.remaining (reader_of reader.new))
+        bytes.new.items) }
     ensures fault { IfErr result
-        (FailsAfter (R.remaining (reader_of reader.old)) (R.remaining (reader_of reader.new)) (IsSpent (reading_of reader.new))) }
+        (FailsAfter (R.remaining (reader_of reader.old)) (R.remaining (reader_of reader.new))
+        (IsSpent (reading_of reader.new))) }
     ensures failed { IsTrue (reading_of reader.new).failed → IsErrOf result WireFault.Read }
     ensures turns { (reading_of reader.new).calls ≤ MAX_TURNS }
 {
@@ -141,10 +152,12 @@ fn read_head<R: Read>(
     ensures head { OnOk result ((h : RequestHead) × IsHead bytes.new.items h) }
     ensures spans { IfOk result (AreSpansOf bytes.new.items headers.new) }
     ensures bytes { OnOk result
-        (Consumes (R.remaining (reader_of reader.old)) (R.remaining (reader_of reader.new)) bytes.new.items) }
+        (Consumes (R.remaining (reader_of reader.old)) (R.remaining (reader_of reader.new))
+        bytes.new.items) }
     ensures fault { IfErr result (λ e. (used : List ℕ)
         × Consumes (R.remaining (reader_of reader.old)) (R.remaining (reader_of reader.new)) used
-        × HeadFails used (IsAtEnd (R.remaining (reader_of reader.new))) (IsSpent (reading_of reader.new)) e) }
+        × HeadFails used (IsAtEnd (R.remaining (reader_of reader.new)))
+        (IsSpent (reading_of reader.new)) e) }
     ensures failed { IsTrue (reading_of reader.new).failed → IsErrOf result WireFault.Read }
     ensures turns { (reading_of reader.new).calls ≤ MAX_TURNS }
 {
@@ -164,11 +177,14 @@ fn read_byte<R: Read>(reader: &mut CountedReader<'_, R>) -> Result<u8, WireFault
     requires alive { (reading_of reader.old).failed ≡ false }
     ensures same { IsSameReader reader.old reader.new }
     ensures byte { IfOk result
-        (λ byte. Consumes (R.remaining (reader_of reader.old)) (R.remaining (reader_of reader.new)) (byte ∷ [])) }
+        (λ byte. Consumes (R.remaining (reader_of reader.old)) (R.remaining (reader_of reader.new))
+        (byte ∷ [])) }
     ensures alive { OnOk result ((reading_of reader.new).failed ≡ false) }
-    ensures kept { OnErr result (Keeps (R.remaining (reader_of reader.old)) (R.remaining (reader_of reader.new))) }
+    ensures kept { OnErr result (Keeps (R.remaining (reader_of reader.old))
+        (R.remaining (reader_of reader.new))) }
     ensures fault { IfErr result
-        (BodyFails 1 [] (IsAtEnd (R.remaining (reader_of reader.new))) (IsSpent (reading_of reader.new))) }
+        (BodyFails 1 [] (IsAtEnd (R.remaining (reader_of reader.new)))
+        (IsSpent (reading_of reader.new))) }
     ensures failed { IsTrue (reading_of reader.new).failed → IsErrOf result WireFault.Read }
     ensures turns { (reading_of reader.new).calls ≤ MAX_TURNS }
 {
@@ -215,10 +231,12 @@ fn read_body<R: Read>(reader: &mut CountedReader<'_, R>, body: &mut [u8]) -> Res
     requires turns { (reading_of reader.old).calls ≤ MAX_TURNS }
     requires alive { (reading_of reader.old).failed ≡ false }
     ensures same { IsSameReader reader.old reader.new }
-    ensures ok { OnOk result (Consumes (R.remaining (reader_of reader.old)) (R.remaining (reader_of reader.new)) body.new) }
+    ensures ok { OnOk result (Consumes (R.remaining (reader_of reader.old))
+        (R.remaining (reader_of reader.new)) body.new) }
     ensures fault { IfErr result (λ e. (used : List ℕ)
         × Consumes (R.remaining (reader_of reader.old)) (R.remaining (reader_of reader.new)) used
-        × BodyFails (length body.old) used (IsAtEnd (R.remaining (reader_of reader.new))) (IsSpent (reading_of reader.new)) e) }
+        × BodyFails (length body.old) used (IsAtEnd (R.remaining (reader_of reader.new)))
+        (IsSpent (reading_of reader.new)) e) }
     ensures failed { IsTrue (reading_of reader.new).failed → IsErrOf result WireFault.Read }
     ensures turns { (reading_of reader.new).calls ≤ MAX_TURNS }
 {

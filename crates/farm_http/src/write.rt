@@ -1,5 +1,6 @@
 //! Writing an answer.
-ghost use Rattle.std.specs.Prelude.{◌≡◌, ℕ, ◌+◌, ◌<◌, ◌≤◌, length, take, IsTrue, IsErr, OnOk, IfErr, OnErr, ◌↔◌};
+ghost use Rattle.std.specs.Prelude.{◌≡◌, ℕ, ◌+◌, ◌<◌, ◌≤◌, length, take, IsTrue, IsErr, OnOk};
+ghost use Rattle.std.specs.Prelude.{IfErr, OnErr, ◌↔◌};
 ghost use Rattle.std.specs.Io.KnownBytes.{Appends};
 ghost use Rattle.farm_http.specs.Counts.{unwritten, writer_of, writing_of, IsSameWriter};
 ghost use Rattle.farm_http.specs.Faults.{WritesPrefix};

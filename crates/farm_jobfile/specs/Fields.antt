@@ -1,5 +1,6 @@
 -- The words of a file: each value has its kind, and then its word.
-use Rattle.std.specs.Prelude.{ℕ, ℤ, pos, negsuc, List, [], ◌∷◌, Option, Some, None, Result, Ok, codes}
+use Rattle.std.specs.Prelude.{ℕ, ℤ, pos, negsuc, List, [], ◌∷◌, Option, Some, None, Result, Ok}
+use Rattle.std.specs.Prelude.{codes}
 use Rattle.toml.specs.Data.{Data, Items, no_items, item, get, as_str, as_array}
 use Rattle.farm_types.specs.Words.{is_word, word_or}
 use Rattle.farm_types.specs.Tags.{tags_among}
@@ -32,7 +33,8 @@ name_in file key d = do
 -- the texts of an array's items, each of them a text
 abbrev pub texts_in : FileKind → Items → Result (List (List ℕ)) Fault
 texts_in file no_items = Ok []
-texts_in file (item d rest) = kind_or file (as_str d) >>= λ text. texts_in file rest >>= λ texts. Ok (text ∷ texts)
+texts_in file (item d rest) = kind_or file (as_str d) >>= λ text. texts_in file rest >>= λ texts.
+    Ok (text ∷ texts)
 
 -- the tags that a value spells: its kinds are looked at first, then the count, then each tag
 unfoldable pub tags_from : FileKind → Data → Result (List (List ℕ)) Fault

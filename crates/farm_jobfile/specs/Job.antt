@@ -1,6 +1,8 @@
 -- The command that a job file spells.
-use Rattle.std.specs.Prelude.{ℕ, ℤ, List, [], ◌∷◌, ◌++◌, ◌&&◌, Bool, true, map, replicate, nat_le, Option, Some, None, is_some, Result, Ok, Err, codes, if◌then◌else◌}
-use Rattle.toml.specs.Data.{Data, Members, no_members, member, get, as_str, as_integer, as_float, as_table}
+use Rattle.std.specs.Prelude.{ℕ, ℤ, List, [], ◌∷◌, ◌++◌, ◌&&◌, Bool, true, map, replicate, nat_le}
+use Rattle.std.specs.Prelude.{Option, Some, None, is_some, Result, Ok, Err, codes, if◌then◌else◌}
+use Rattle.toml.specs.Data.{Data, Members, no_members, member, get, as_str, as_integer, as_float}
+use Rattle.toml.specs.Data.{as_table}
 use Rattle.std.specs.Option.{option_map_or}
 use Rattle.farm_types.specs.Words.{is_word}
 use Rattle.farm_types.specs.Limits.{is_priority, are_few_wants}
@@ -47,7 +49,8 @@ named_or (Some n) = Ok n
 abbrev pub priority_by : Option (List ℕ) → Option ℤ → Bool → Result ℕ Fault
 priority_by (Some text) number is_float = named_or (priority_called text)
 priority_by None (Some number) is_float = priority_or (natural number)
-priority_by None None is_float = if is_float then Err (word BAD_PRIORITY) else Err (bad JobFile Reason.WrongKind)
+priority_by None None is_float = if is_float then Err (word BAD_PRIORITY)
+    else Err (bad JobFile Reason.WrongKind)
 
 unfoldable pub priority_from : Data → Result ℕ Fault
 priority_from d = priority_by (as_str d) (as_integer d) (is_some (as_float d))
@@ -97,7 +100,8 @@ role_in name d = do
 -- the members of all roles, in the order of the tree, which is the byte order of the roles' names
 abbrev pub roles_in : Members → Result (List Member) Fault
 roles_in no_members = Ok []
-roles_in (member name d rest) = role_in name d >>= λ here. roles_in rest >>= λ more. Ok (here ++ more)
+roles_in (member name d rest) = role_in name d >>= λ here. roles_in rest >>= λ more.
+    Ok (here ++ more)
 
 unfoldable pub roles_from : Data → Result (List Member) Fault
 roles_from d = do
@@ -115,7 +119,8 @@ members_by d (Some kind) None tags = single_in kind d
 members_by d None None tags = Err (bad JobFile Reason.Missing)
 
 unfoldable pub members_in : Data → Result (List Member) Fault
-members_in d = members_by d (get (codes "device_type") d) (get (codes "roles") d) (get (codes "tags") d)
+members_in d = members_by d (get (codes "device_type") d) (get (codes "roles") d)
+    (get (codes "tags") d)
 
 -- what a member wants, and its role
 abbrev pub want_of : Member → Want
@@ -134,7 +139,8 @@ is_role r = option_map_or (is_word 48) r true
 -- one up to four members are a group
 abbrev pub group_of : ℕ → List Member → List ℕ → Result Cmd Fault
 group_of priority members text =
-    if are_few_wants (map want_of members) then Ok (Cmd.Submit priority (map want_of members) (map role_of members) text)
+    if are_few_wants (map want_of members)
+    then Ok (Cmd.Submit priority (map want_of members) (map role_of members) text)
     else Err (word BAD_COUNT)
 
 -- the command that a job file spells; it carries the text as it came

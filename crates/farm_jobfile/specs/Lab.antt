@@ -1,5 +1,6 @@
 -- The calls that a lab file spells.
-use Rattle.std.specs.Prelude.{ℕ, List, [], ◌∷◌, ◌++◌, Option, Some, None, option_and_then, Result, Ok, Err, codes, if◌then◌else◌}
+use Rattle.std.specs.Prelude.{ℕ, List, [], ◌∷◌, ◌++◌, Option, Some, None, option_and_then, Result}
+use Rattle.std.specs.Prelude.{Ok, Err, codes, if◌then◌else◌}
 use Rattle.toml.specs.Data.{Data, Members, no_members, member, get, as_str, as_integer, as_table}
 use Rattle.farm_types.specs.Proper.{has_no_name_tag}
 use Rattle.farm_types.specs.Limits.{is_every}
@@ -29,7 +30,12 @@ entry_of call = record { caller = call.caller; key = call.key; now = call.now; c
 
 -- the call of a lab file's command: an admin gives it, under a key of its own
 abbrev pub asks : List ℕ → List ℕ → ℕ → Cmd → Entry
-asks prefix name now cmd = record { caller = codes "admin"; key = Some (prefix ++ name); now = now; cmd = cmd }
+asks prefix name now cmd = record {
+  caller = codes "admin";
+  key = Some (prefix ++ name);
+  now = now;
+  cmd = cmd;
+}
 
 -- ---- types
 
@@ -84,10 +90,12 @@ board_in now name d = do
 
 -- ---- the lab
 
--- what each member of a table spells, in the order of the tree, which is the byte order of the names
+-- what each member of a table spells, in the order of the tree, which is the byte order of the
+-- names
 abbrev pub each : (List ℕ → Data → Result Entry Fault) → Members → Result (List Entry) Fault
 each read no_members = Ok []
-each read (member name d rest) = read name d >>= λ entry. each read rest >>= λ entries. Ok (entry ∷ entries)
+each read (member name d rest) = read name d >>= λ entry. each read rest >>= λ entries.
+    Ok (entry ∷ entries)
 
 -- an absent table has no members
 abbrev pub section : (List ℕ → Data → Result Entry Fault) → Option Data → Result (List Entry) Fault

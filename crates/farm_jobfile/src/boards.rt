@@ -47,7 +47,8 @@ fn board_of(alloc: Global, name: &str, value: &Value, now: u64) -> Result<Call, 
 
 /// The calls that add the boards of a table, which has them in byte order.
 pub(crate) fn boards_of(alloc: Global, table: &Table, now: u64) -> Result<Vec<Call>, FileFault>
-    ensures { Spells (λ calls. map entry_of calls.items) result (each (board_in now) (table_view table.now)) }
+    ensures { Spells (λ calls. map entry_of calls.items) result
+        (each (board_in now) (table_view table.now)) }
 {
     let mut calls = Vec::new(alloc);
     for (name, value) in table.iter() {

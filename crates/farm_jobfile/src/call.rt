@@ -17,7 +17,8 @@ const ADMIN: &str = "admin";
 
 /// The name of the caller who adds types and boards.
 fn admin(alloc: Global) -> Result<Name, FileFault>
-    ensures { MatchResult result (λ name. name ≡ codes "admin") (λ fault. fault ≡ FileFault.NoMemory) }
+    ensures { MatchResult result (λ name. name ≡ codes "admin")
+        (λ fault. fault ≡ FileFault.NoMemory) }
 {
     match Name::parse(alloc, ADMIN.as_bytes()) {
         Ok(name) => Ok(name),
@@ -31,7 +32,8 @@ fn key_of(alloc: Global, prefix: &str, name: &str) -> Result<Key, FileFault>
     requires word { is_word 48 name.now ≡ true }
     requires short { length prefix.now ≤ 16 }
     requires bytes { list_all is_name_byte prefix.now ≡ true }
-    ensures { MatchResult result (λ key. key ≡ prefix.now ++ name.now) (λ fault. fault ≡ FileFault.NoMemory) }
+    ensures { MatchResult result (λ key. key ≡ prefix.now ++ name.now)
+        (λ fault. fault ≡ FileFault.NoMemory) }
 {
     let text = format!(in alloc; "{prefix}{name}")?;
     match Key::parse(alloc, text.as_bytes()) {
@@ -53,7 +55,8 @@ pub(crate) fn call_of(
     requires short { length prefix.now ≤ 16 }
     requires bytes { list_all is_name_byte prefix.now ≡ true }
     requires proper { IsTrue (is_proper_cmd cmd) }
-    ensures { MatchResult result (λ call. entry_of call ≡ asks prefix.now name.now now cmd) (λ fault. fault ≡ FileFault.NoMemory) }
+    ensures { MatchResult result (λ call. entry_of call ≡ asks prefix.now name.now now cmd)
+        (λ fault. fault ≡ FileFault.NoMemory) }
 {
     let key = key_of(alloc, prefix, name)?;
     Ok(Call::new(admin(alloc)?, Some(key), now, cmd))

@@ -24,8 +24,8 @@ pub(crate) fn text_of(file: FileKind, most: usize, bytes: &[u8]) -> Result<&str,
     }
 }
 
-/// The tree of a text, a table. TOML 1.1 as the crate `toml` reads it: a whole number outside `i64`,
-/// a float out of range and values nested beyond its limit are no TOML.
+/// The tree of a text, a table. TOML 1.1 as the crate `toml` reads it: a whole number outside
+/// `i64`, a float out of range and values nested beyond its limit are no TOML.
 #[tactic(auto, unfolding(crate::specs::Document::tree_in))]
 pub(crate) fn tree_of(alloc: Global, file: FileKind, text: &str) -> Result<Value, FileFault>
     ensures { Spells (λ tree. view tree) result (tree_in file text.now) }

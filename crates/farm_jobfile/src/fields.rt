@@ -3,7 +3,8 @@ ghost use Rattle.std.specs.Prelude.{◌≡◌, ◌≢◌, map, Err, IsOk};
 ghost use Rattle.toml.specs.Data.{as_table};
 ghost use Rattle.toml.specs.View.{view, items_view, table_view};
 ghost use Rattle.farm_jobfile.specs.Reading.{Spells, kind_or};
-ghost use Rattle.farm_jobfile.specs.Fields.{name_or, name_from, name_in, texts_in, tags_from, tags_in};
+ghost use Rattle.farm_jobfile.specs.Fields.{name_or, name_from, name_in, texts_in, tags_from};
+ghost use Rattle.farm_jobfile.specs.Fields.{tags_in};
 
 use crate::fault::{FileFault, FileKind, Reason};
 use farm_types::fault::WordFault;
@@ -13,7 +14,8 @@ use toml::{Table, Value};
 
 /// The table that a value is.
 pub(crate) fn table_of<'v>(file: FileKind, value: &'v Value) -> Result<&'v Table, FileFault>
-    ensures spells { Spells (λ table. table_view table.now) result (kind_or file (as_table (view value.now))) }
+    ensures spells { Spells (λ table. table_view table.now) result
+        (kind_or file (as_table (view value.now))) }
     ensures memory { result ≢ Err FileFault.NoMemory }
 {
     match value.as_table() {
@@ -55,7 +57,8 @@ pub(crate) fn name_at(
     key: &str,
 ) -> Result<Name, FileFault>
     ensures spells { Spells (λ name. name) result (name_in file key.now (view value.now)) }
-    ensures memory { result ≡ Err FileFault.NoMemory → IsOk (name_in file key.now (view value.now)) }
+    ensures memory { result ≡ Err FileFault.NoMemory
+        → IsOk (name_in file key.now (view value.now)) }
 {
     match value.get(key) {
         Some(field) => name_from(alloc, file, field),
@@ -65,7 +68,8 @@ pub(crate) fn name_at(
 
 /// The texts of an array's items.
 fn texts_of(alloc: Global, file: FileKind, items: &[Value]) -> Result<Vec<&[u8]>, FileFault>
-    ensures { Spells (λ texts. map (λ text. text.now) texts.items) result (texts_in file (items_view items.now)) }
+    ensures { Spells (λ texts. map (λ text. text.now) texts.items) result
+        (texts_in file (items_view items.now)) }
 {
     let mut texts = Vec::new(alloc);
     for item in items {

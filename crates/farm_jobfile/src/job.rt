@@ -38,7 +38,8 @@ fn title_of(value: &Value) -> Result<&str, FileFault>
 /// The one member of a job for one board.
 #[tactic(auto, unfolding(crate::specs::Job::single_in))]
 fn single_of(alloc: Global, kind: &Value, value: &Value) -> Result<Vec<Member>, FileFault>
-    ensures { Spells (λ members. members.items) result (single_in (view kind.now) (view value.now)) }
+    ensures { Spells (λ members. members.items) result
+        (single_in (view kind.now) (view value.now)) }
 {
     let kind = name_from(alloc, FileKind::JobFile, kind)?;
     let tags = tags_at(alloc, FileKind::JobFile, value)?;
@@ -71,10 +72,11 @@ fn members_of(alloc: Global, value: &Value) -> Result<Vec<Member>, FileFault>
 ///
 /// A job file is TOML 1.1 of at most 65,536 bytes. It has `job_name`, a text that is not empty;
 /// `priority`, a whole number from 0 to 100 or one of LAVA's words `low`, `medium` and `high`, 50
-/// where it is absent; and either `device_type` with, perhaps, `tags`, or `roles`, a table of LAVA's
-/// MultiNode roles, each with `device_type`, `count` and, perhaps, `tags`. Other keys are carried in
-/// the text. Faults are told in the order in which the keys stand here; the first one counts.
-/// Roles are taken in the byte order of their names, and the job has one up to four members.
+/// where it is absent; and either `device_type` with, perhaps, `tags`, or `roles`, a table of
+/// LAVA's MultiNode roles, each with `device_type`, `count` and, perhaps, `tags`. Other keys are
+/// carried in the text. Faults are told in the order in which the keys stand here; the first one
+/// counts. Roles are taken in the byte order of their names, and the job has one up to four
+/// members.
 #[tactic(auto, unfolding(crate::specs::Job::job))]
 pub fn job_of(alloc: Global, text: &[u8]) -> Result<Cmd, FileFault>
     ensures meaning { Spells (λ cmd. cmd) result (job text.now) }

@@ -3,7 +3,8 @@ ghost use Rattle.std.specs.Prelude.{map, codes, All, IfOk};
 ghost use Rattle.toml.specs.Data.{get};
 ghost use Rattle.toml.specs.View.{view};
 ghost use Rattle.farm_jobfile.specs.Reading.{Spells};
-ghost use Rattle.farm_jobfile.specs.Lab.{entry_of, type_in, board_in, section, calls_in, lab, IsAddition};
+ghost use Rattle.farm_jobfile.specs.Lab.{entry_of, type_in, board_in, section, calls_in, lab};
+ghost use Rattle.farm_jobfile.specs.Lab.{IsAddition};
 
 use crate::boards::boards_of;
 use crate::document::{text_of, tree_of};
@@ -19,7 +20,8 @@ pub const LONGEST_LAB_FILE: usize = 1_048_576;
 
 /// The calls that add the types; there are none where the table is absent.
 fn types_at(alloc: Global, tree: &Value, now: u64) -> Result<Vec<Call>, FileFault>
-    ensures { Spells (λ calls. map entry_of calls.items) result (section (type_in now) (get (codes "types") (view tree.now))) }
+    ensures { Spells (λ calls. map entry_of calls.items) result
+        (section (type_in now) (get (codes "types") (view tree.now))) }
 {
     match tree.get("types") {
         Some(value) => types_of(alloc, table_of(FileKind::LabFile, value)?, now),
@@ -29,7 +31,8 @@ fn types_at(alloc: Global, tree: &Value, now: u64) -> Result<Vec<Call>, FileFaul
 
 /// The calls that add the boards; there are none where the table is absent.
 fn boards_at(alloc: Global, tree: &Value, now: u64) -> Result<Vec<Call>, FileFault>
-    ensures { Spells (λ calls. map entry_of calls.items) result (section (board_in now) (get (codes "boards") (view tree.now))) }
+    ensures { Spells (λ calls. map entry_of calls.items) result
+        (section (board_in now) (get (codes "boards") (view tree.now))) }
 {
     match tree.get("boards") {
         Some(value) => boards_of(alloc, table_of(FileKind::LabFile, value)?, now),
@@ -51,9 +54,9 @@ fn calls_of(alloc: Global, tree: &Value, now: u64) -> Result<Vec<Call>, FileFaul
 /// The calls that a lab file asks for at a moment, in seconds since 1970-01-01 00:00:00 UTC.
 ///
 /// A lab file is TOML 1.1 of at most 1,048,576 bytes, with the tables `types` and `boards`, each of
-/// which may be absent. `[types.NAME]` may have `check`, one of `none`, `hours` and `jobs`, and with
-/// the last two it has `every`, 1 to 10,000. `[boards.NAME]` has `type` and may have `tags`, none
-/// with the key `name`. Other keys mean nothing. The first fault is told, types before boards.
+/// which may be absent. `[types.NAME]` may have `check`, one of `none`, `hours` and `jobs`, and
+/// with the last two it has `every`, 1 to 10,000. `[boards.NAME]` has `type` and may have `tags`,
+/// none with the key `name`. Other keys mean nothing. The first fault is told, types before boards.
 ///
 /// The types are added in the byte order of their names, then the boards in theirs. Each command is
 /// given by `admin` with a key made of its name, so that a second reading of the file adds nothing.

@@ -1,22 +1,6 @@
 -- What a run leaves, and what is found again.
-use Rattle.std.specs.Prelude.{
-  ◌≡◌,
-  ◌≢◌,
-  ◌≤◌,
-  ◌<◌,
-  ◌⊎◌,
-  ◌+◌,
-  ℕ,
-  true,
-  false,
-  List,
-  take,
-  map,
-  length,
-  Some,
-  IfNone,
-  ⊤,
-}
+use Rattle.std.specs.Prelude.{◌≡◌, ◌≢◌, ◌≤◌, ◌<◌, ◌⊎◌, ◌+◌, ℕ, true, false, List, take, map, length}
+use Rattle.std.specs.Prelude.{Some, IfNone, ⊤}
 use Rattle.sqlite.specs.State.{State, HasCleanDisk}
 use Rattle.sqlite.specs.Held.{Held, state}
 use Rattle.sqlite.specs.Tree.{Trees}

@@ -1,18 +1,6 @@
 -- Lists of calls, each done as far as it came before the desk stopped, one after another.
-use Rattle.std.specs.Prelude.{
-  ◌≡◌,
-  ◌==◌,
-  ℕ,
-  List,
-  [],
-  ◌∷◌,
-  ◌++◌,
-  Option,
-  Some,
-  None,
-  take,
-  if◌then◌else◌,
-}
+use Rattle.std.specs.Prelude.{◌≡◌, ◌==◌, ℕ, List, [], ◌∷◌, ◌++◌, Option, Some, None, take}
+use Rattle.std.specs.Prelude.{if◌then◌else◌}
 use Rattle.std.specs.List.{fold, flat_map}
 use Rattle.farm_types.specs.Farm.{Farm}
 use Rattle.farm_types.specs.Refuse.{kind_of, is_late}

@@ -1,5 +1,6 @@
 -- Lists of different places, one for each of some wants, whatever a want is.
-use Rattle.std.specs.Prelude.{◌≡◌, ℕ, ◌<◌, ◌≤◌, ◌⊎◌, Bool, true, false, List, [], ◌∷◌, length, ⊤, ◌==◌, slice_get}
+use Rattle.std.specs.Prelude.{◌≡◌, ℕ, ◌<◌, ◌≤◌, ◌⊎◌, Bool, true, false, List, [], ◌∷◌, length, ⊤}
+use Rattle.std.specs.Prelude.{◌==◌, slice_get}
 use Rattle.std.specs.List.{AllByRecursion, list_any}
 use Rattle.std.specs.Option.{option_map_or}
 use Rattle.farm_types.specs.declared.rows.Want.{Want}
@@ -29,7 +30,8 @@ NotAfter [] qs = ⊤
 NotAfter (p ∷ ps) [] = ⊥
 NotAfter (p ∷ ps) (q ∷ qs) = (p < q) ⊎ ((p ≡ q) × NotAfter ps qs)
 
-pub record IsLeastChoice {W : Type 0} (serves : W → ℕ → Bool) (used : List ℕ) (ws : List W) (ps : List ℕ) : Type 0 where
+pub record IsLeastChoice {W : Type 0} (serves : W → ℕ → Bool) (used : List ℕ) (ws : List W)
+    (ps : List ℕ) : Type 0 where
   pub chooses : Chooses serves used ws ps
   pub least : (qs : List ℕ) → Chooses serves used ws qs → NotAfter ps qs
 
@@ -37,7 +39,8 @@ pub record IsLeastChoice {W : Type 0} (serves : W → ℕ → Bool) (used : List
 pub record IsShortlist (passes : ℕ → Bool) (limit : ℕ) (xs : List ℕ) : Type 0 where
   pub ascends : Ascends xs
   pub pass : AllByRecursion (λ x. passes x ≡ true) xs
-  pub first : (x : ℕ) → passes x ≡ true → (has xs x ≡ true) ⊎ ((limit ≤ length xs) × AllByRecursion (λ y. y < x) xs)
+  pub first : (x : ℕ) → passes x ≡ true → (has xs x ≡ true)
+      ⊎ ((limit ≤ length xs) × AllByRecursion (λ y. y < x) xs)
 
 -- whether the board at a place is a candidate
 abbrev pub candidate_at : List BoardRow → (BoardRow → Bool) → Want → ℕ → Bool

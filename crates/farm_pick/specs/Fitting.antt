@@ -8,4 +8,5 @@ use Rattle.farm_types.specs.declared.rows.Want.{Want}
 
 -- whether the board at a place has a name and fits a want
 abbrev pub named_at : List BoardRow → List ℕ → Want → ℕ → Bool
-named_at boards name want place = option_map_or (λ b. bytes_eq b.name name && fits b want) (slice_get boards place) false
+named_at boards name want place = option_map_or (λ b. bytes_eq b.name name && fits b want)
+    (slice_get boards place) false

@@ -1,5 +1,7 @@
--- How the queues are kept: the claims of all queues in one ordered map, one queue behind the other, and where each number stands.
-use Rattle.std.specs.Prelude.{◌≡◌, ◌≤◌, ◌==◌, ◌&&◌, ℕ, zero, suc, Bool, true, false, cond, List, [], map, length, Option, Some, None, is_some, slice_get, unwrap_or}
+-- How the queues are kept: the claims of all queues in one ordered map, one queue behind the other,
+-- and where each number stands.
+use Rattle.std.specs.Prelude.{◌≡◌, ◌≤◌, ◌==◌, ◌&&◌, ℕ, zero, suc, Bool, true, false, cond, List, []}
+use Rattle.std.specs.Prelude.{map, length, Option, Some, None, is_some, slice_get, unwrap_or}
 use Rattle.std.specs.List.{AllByRecursion}
 use Rattle.std.specs.Str.{bytes_eq}
 use Rattle.std.specs.List.Sorted.{IsStrictlySortedBy}
@@ -19,7 +21,8 @@ use Rattle.farm_pick.specs.declared.idle.IdleRow.{IdleRow}
 
 -- by queue, and in a queue as claims are ordered
 abbrev pub spot_cmp : Spot → Spot → Ordering
-spot_cmp = then_cmp (on (λ s. s.queue) nat_cmp) (then_cmp (flip_args (on (λ s. s.priority) nat_cmp)) (on (λ s. s.number) nat_cmp))
+spot_cmp = then_cmp (on (λ s. s.queue) nat_cmp) (then_cmp (flip_args (on (λ s. s.priority) nat_cmp))
+    (on (λ s. s.number) nat_cmp))
 
 abbrev pub queued_cmp : Queued → Queued → Ordering
 queued_cmp a b = shown_cmp a.claim b.claim
@@ -49,20 +52,28 @@ place_at ps n = lookup (λ m. is_eq (nat_cmp n m)) ps
 
 -- whether the number of a spot stands there
 abbrev pub is_placed : List (ℕ × Place) → Spot → Bool
-is_placed ps s = option_map_or (λ p. (p.queue == s.queue) && (p.priority == s.priority)) (place_at ps s.number) false
+is_placed ps s = option_map_or (λ p. (p.queue == s.queue) && (p.priority == s.priority))
+    (place_at ps s.number) false
 
-pub record AreQueues (kinds : List (List ℕ)) (claims : List (Spot × Claim)) (places : List (ℕ × Place)) : Type 0 where
+pub record AreQueues (kinds : List (List ℕ)) (claims : List (Spot × Claim))
+    (places : List (ℕ × Place)) : Type 0 where
   pub keyed : AllByRecursion (IsKeyed kinds) claims
   pub apart : EachTwo (λ a b. a.1.number ≡ b.1.number → ⊥) claims
   pub placed : (s : Spot) → is_some (claim_at claims s) ≡ is_placed places s
 
 -- the claim of a number that is placed is taken from its spot
-pub record Takes (es fs : List (Spot × Claim)) (ps qs : List (ℕ × Place)) (n : ℕ) (p : Place) : Type 0 where
-  pub removed : fs ≡ remove_entry (λ x. is_eq (spot_cmp (record { queue = p.queue; priority = p.priority; number = n }) x)) es
-  pub claims : (s : Spot) → claim_at fs s ≡ cond (is_eq (spot_cmp (record { queue = p.queue; priority = p.priority; number = n }) s)) None (claim_at es s)
+pub record Takes (es fs : List (Spot × Claim)) (ps qs : List (ℕ × Place)) (n : ℕ) (p : Place)
+    : Type 0 where
+  pub removed : fs ≡ remove_entry
+      (λ x. is_eq (spot_cmp (record { queue = p.queue; priority = p.priority; number = n }) x)) es
+  pub claims : (s : Spot)
+      → claim_at fs s
+      ≡ cond (is_eq (spot_cmp (record { queue = p.queue; priority = p.priority; number = n }) s))
+      None (claim_at es s)
   pub places : (m : ℕ) → place_at qs m ≡ cond (is_eq (nat_cmp n m)) None (place_at ps m)
 
-abbrev pub TakesOrStays : List (Spot × Claim) → List (Spot × Claim) → List (ℕ × Place) → List (ℕ × Place) → ℕ → Option Place → Type 0
+abbrev pub TakesOrStays : List (Spot × Claim) → List (Spot × Claim) → List (ℕ × Place)
+    → List (ℕ × Place) → ℕ → Option Place → Type 0
 TakesOrStays es fs ps qs n None = (fs ≡ es) × (qs ≡ ps)
 TakesOrStays es fs ps qs n (Some p) = Takes es fs ps qs n p
 
@@ -76,7 +87,8 @@ shown_idle kinds r = record { name = r.name; kind = unwrap_or (kind_at kinds r.q
 
 -- no type stands at two places
 abbrev pub AreKinds : List (List ℕ) → Type 0
-AreKinds kinds = (i j : ℕ) (a b : List ℕ) → slice_get kinds i ≡ Some a → slice_get kinds j ≡ Some b → bytes_eq a b ≡ true → i ≡ j
+AreKinds kinds = (i j : ℕ) (a b : List ℕ) → slice_get kinds i ≡ Some a → slice_get kinds j ≡ Some b
+    → bytes_eq a b ≡ true → i ≡ j
 
 pub record IsIdle (kinds : List (List ℕ)) (r : IdleRow) : Type 0 where
   pub low : 1 ≤ r.queue
@@ -87,7 +99,8 @@ pub record AreIdle (kinds : List (List ℕ)) (rows : List IdleRow) : Type 0 wher
   pub each : AllByRecursion (IsIdle kinds) rows
   pub sorted : IsStrictlySortedBy idle_cmp rows
 
-pub record IsWell (kinds : List (List ℕ)) (claims : List (Spot × Claim)) (places : List (ℕ × Place)) (idle : List IdleRow) : Type 0 where
+pub record IsWell (kinds : List (List ℕ)) (claims : List (Spot × Claim)) (places : List (ℕ × Place))
+    (idle : List IdleRow) : Type 0 where
   pub queues : AreQueues kinds claims places
   pub free : AreIdle kinds idle
 

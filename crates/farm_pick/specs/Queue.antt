@@ -1,4 +1,5 @@
--- The queue's claims as the rows show them: a reservation by itself, a group by its first member and the rows behind it.
+-- The queue's claims as the rows show them: a reservation by itself, a group by its first member
+-- and the rows behind it.
 use Rattle.std.specs.Prelude.{◌==◌, ◌&&◌, Bool, List, [], ◌∷◌, length, take, filter, if◌then◌else◌}
 use Rattle.std.specs.List.{list_all}
 use Rattle.farm_types.specs.Codes.{same_job_state}
@@ -24,9 +25,17 @@ abbrev pub leads : JobRow → List JobRow → Bool
 leads j near = (j.number == j.group) && (is_submitted j && list_all is_submitted (mates j near))
 
 abbrev pub shown_group : JobRow → List JobRow → Claim
-shown_group j near = record { kind = ClaimKind.Group; number = j.group; owner = j.owner; priority = j.priority; boards = length (j ∷ mates j near) }
+shown_group j near = record {
+  kind = ClaimKind.Group;
+  number = j.group;
+  owner = j.owner;
+  priority = j.priority;
+  boards = length (j ∷ mates j near);
+}
 
--- a group's members have four numbers at most, so of rows in order only the next three can be members too
+-- a group's members have four numbers at most, so of rows in order only the next three can be
+-- members too
 abbrev pub shown_groups : List JobRow → List Claim
 shown_groups [] = []
-shown_groups (j ∷ jobs) = if leads j (take 3 jobs) then shown_group j (take 3 jobs) ∷ shown_groups jobs else shown_groups jobs
+shown_groups (j ∷ jobs) = if leads j (take 3 jobs) then shown_group j (take 3 jobs)
+    ∷ shown_groups jobs else shown_groups jobs

@@ -1,5 +1,6 @@
 -- What stands in the queues, and which boards are free, as two plain lists.
-use Rattle.std.specs.Prelude.{◌≡◌, ◌&&◌, ℕ, Bool, true, false, List, [], ◌∷◌, map, Option, Some, None, if◌then◌else◌, option_map}
+use Rattle.std.specs.Prelude.{◌≡◌, ◌&&◌, ℕ, Bool, true, false, List, [], ◌∷◌, map, Option, Some}
+use Rattle.std.specs.Prelude.{None, if◌then◌else◌, option_map}
 use Rattle.std.specs.List.{AllByRecursion, filter, find, list_any}
 use Rattle.std.specs.Str.{bytes_eq}
 use Rattle.farm_types.specs.Farm.{Farm}
@@ -63,5 +64,8 @@ pub record AreKindsOf (claims : List Queued) (kinds : List (Option (List ℕ))) 
   pub each : AllByRecursion (λ x. list_any (λ kind. same_kind kind x.kind) kinds ≡ true) claims
 
 -- the first claim of a type's queue that passes a test, where the queue passes one
-abbrev pub head_of : (Claim → Bool) → (Option (List ℕ) → Bool) → List Queued → Option (List ℕ) → Option Claim
-head_of test opens claims kind = option_map (λ x. x.claim) (find (λ x. test x.claim && (opens x.kind && same_kind kind x.kind)) claims)
+abbrev pub head_of : (Claim → Bool) → (Option (List ℕ) → Bool) → List Queued → Option (List ℕ)
+    → Option Claim
+head_of test opens claims kind =
+    option_map (λ x. x.claim)
+    (find (λ x. test x.claim && (opens x.kind && same_kind kind x.kind)) claims)

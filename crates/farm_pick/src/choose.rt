@@ -2,7 +2,8 @@
 ghost use Rattle.std.specs.Prelude.{◌≡◌, ◌+◌, ◌≤◌, ℕ, List, ◌++◌, length, IfSome, IfNone};
 ghost use Rattle.std.specs.List.{AllByRecursion};
 ghost use Rattle.farm_pick.specs.Test.{passes};
-ghost use Rattle.farm_pick.specs.Choice.{has, Ascends, Chooses, IsLeastChoice, IsShortlist, candidate_at};
+ghost use Rattle.farm_pick.specs.Choice.{has, Ascends, Chooses, IsLeastChoice, IsShortlist};
+ghost use Rattle.farm_pick.specs.Choice.{candidate_at};
 
 use crate::fit;
 use crate::free::Free;
@@ -38,7 +39,8 @@ pub fn shortlist(
 pub fn choose(lists: &[Picked], used: Picked) -> Option<Picked>
     requires room { length used + length lists.now ≤ 4 }
     requires ascend { AllByRecursion Ascends lists.now }
-    ensures found { IfSome result (λ r. ((ps : List ℕ) × (r ≡ used ++ ps) × IsLeastChoice has used lists.now ps)) }
+    ensures found { IfSome result (λ r. ((ps : List ℕ) × (r ≡ used ++ ps)
+        × IsLeastChoice has used lists.now ps)) }
     ensures none { IfNone result ((ps : List ℕ) → Chooses has used lists.now ps → ⊥) }
 {
     let Some((first, others)) = lists.split_first() else {

@@ -23,7 +23,8 @@ pub struct IdleRow {
 /// The place of the row of a board, or the place at which such a one is to be inserted.
 fn row_at(rows: &[IdleRow], name: &Name) -> Result<usize, usize>
     requires { IsStrictlySortedBy idle_cmp rows.now }
-    ensures { IsPlace idle_cmp (λ r. r.name ≡ name.now) rows.now (find (λ r. bytes_eq r.name name.now) rows.now) result }
+    ensures { IsPlace idle_cmp (λ r. r.name ≡ name.now) rows.now
+        (find (λ r. bytes_eq r.name name.now) rows.now) result }
 {
     rows.binary_search_by(|row| row.name.order(name))
 }

@@ -1,5 +1,6 @@
 //! The least list out of the free boards alone.
-ghost use Rattle.std.specs.Prelude.{◌≡◌, ◌≢◌, ◌==◌, ◌||◌, ◌<◌, ◌≤◌, ℕ, true, false, All, AllPairs, filter, length, map, IfNone, IfSome, option_map};
+ghost use Rattle.std.specs.Prelude.{◌≡◌, ◌≢◌, ◌==◌, ◌||◌, ◌<◌, ◌≤◌, ℕ, true, false, All, AllPairs};
+ghost use Rattle.std.specs.Prelude.{filter, length, map, IfNone, IfSome, option_map};
 ghost use Rattle.std.specs.List.Sorted.{IsStrictlySortedBy};
 ghost use Rattle.farm_types.specs.Table.{board_cmp};
 ghost use Rattle.farm_types.specs.Pick.{is_free, least};
@@ -53,7 +54,8 @@ fn shortlist(
     requires few { limit ≤ 4 }
     requires ordered { IsStrictlySortedBy board_cmp boards.now }
     requires idle { AreIdle kinds.now rows.now }
-    requires free { map (shown_idle kinds.now) rows.now ≡ map idle_board (filter (is_free types.now) boards.now) }
+    requires free { map (shown_idle kinds.now) rows.now ≡ map idle_board
+        (filter (is_free types.now) boards.now) }
     ensures { IsShortlist (candidate_at boards.now (is_free types.now) want.now) limit result }
 {
     let queue = kind::asked_queue(kinds, &want.kind);
@@ -82,8 +84,10 @@ pub fn least_of(
     requires ordered { IsStrictlySortedBy board_cmp boards.now }
     requires few { length wants.now ≤ 4 }
     requires idle { AreIdle kinds.now rows.now }
-    requires free { map (shown_idle kinds.now) rows.now ≡ map idle_board (filter (is_free types.now) boards.now) }
-    ensures least { option_map (boards_at boards.now) result ≡ least boards.now (is_free types.now) (map (λ w. w.now) wants.now) }
+    requires free { map (shown_idle kinds.now) rows.now ≡ map idle_board
+        (filter (is_free types.now) boards.now) }
+    ensures least { option_map (boards_at boards.now) result ≡ least boards.now (is_free types.now)
+        (map (λ w. w.now) wants.now) }
     ensures len { IfSome result (λ places. length places ≡ length wants.now) }
     ensures within { IfSome result (λ places. All (λ i. i < length boards.now) places) }
     ensures different { IfSome result (λ places. AllPairs (λ i j. i ≢ j) places) }

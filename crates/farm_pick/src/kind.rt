@@ -1,5 +1,6 @@
 //! The types that have a queue: that of the type at place i is queue i + 1.
-ghost use Rattle.std.specs.Prelude.{List, [], ◌≡◌, ◌≤◌, ◌<◌, ◌==◌, ◌||◌, ◌++◌, ℕ, length, slice_get, unwrap_or, Some, false, true, IfNone, IfOk, IfSome};
+ghost use Rattle.std.specs.Prelude.{List, [], ◌≡◌, ◌≤◌, ◌<◌, ◌==◌, ◌||◌, ◌++◌, ℕ, length};
+ghost use Rattle.std.specs.Prelude.{slice_get, unwrap_or, Some, false, true, IfNone, IfOk, IfSome};
 ghost use Rattle.std.specs.Option.{option_map_or};
 ghost use Rattle.std.specs.Str.{bytes_eq};
 ghost use Rattle.farm_pick.specs.Kept.{kind_at, AreKinds};
@@ -19,7 +20,8 @@ fn is_kind(kinds: &[Name], at: usize, kind: &Name) -> bool
 
 /// The place of a type, if it is there. A scan of 64 types at most.
 fn place_of(kinds: &[Name], kind: &Name) -> Option<usize>
-    ensures found { IfSome result (λ i. (i < length kinds.now) × (slice_get kinds.now i ≡ Some kind.now)) }
+    ensures found { IfSome result (λ i. (i < length kinds.now)
+        × (slice_get kinds.now i ≡ Some kind.now)) }
     ensures none { IfNone result ((i : ℕ) → i < length kinds.now
         → option_map_or (λ k. bytes_eq k kind.now) (slice_get kinds.now i) false ≡ false) }
 {
@@ -31,9 +33,11 @@ fn place_of(kinds: &[Name], kind: &Name) -> Option<usize>
     None
 }
 
-/// The queue of a type; one that isn't there yet is added behind the others, with a copy of its name.
+/// The queue of a type; one that isn't there yet is added behind the others, with a copy of its
+/// name.
 pub fn made_type(kinds: &mut Vec<Name>, kind: &Name) -> Result<usize, AllocError>
-    ensures queue { IfOk result (λ q. (q ≤ length kinds.new.items) × (kind_at kinds.new.items q ≡ Some kind.now)) }
+    ensures queue { IfOk result (λ q. (q ≤ length kinds.new.items)
+        × (kind_at kinds.new.items q ≡ Some kind.now)) }
     ensures low { IfOk result (λ q. 1 ≤ q) }
     ensures grows { (more : List (List ℕ)) × (kinds.new.items ≡ kinds.old.items ++ more) }
     ensures apart { AreKinds kinds.old.items → AreKinds kinds.new.items }
@@ -49,7 +53,8 @@ pub fn made_type(kinds: &mut Vec<Name>, kind: &Name) -> Result<usize, AllocError
 
 /// The queue of a type, or that of the reservations, which have no type: 0.
 pub fn made_queue(kinds: &mut Vec<Name>, kind: &Option<Name>) -> Result<usize, AllocError>
-    ensures queue { IfOk result (λ q. (q ≤ length kinds.new.items) × (kind_at kinds.new.items q ≡ kind.now)) }
+    ensures queue { IfOk result (λ q. (q ≤ length kinds.new.items)
+        × (kind_at kinds.new.items q ≡ kind.now)) }
     ensures grows { (more : List (List ℕ)) × (kinds.new.items ≡ kinds.old.items ++ more) }
     ensures apart { AreKinds kinds.old.items → AreKinds kinds.new.items }
 {
@@ -64,7 +69,8 @@ pub fn made_queue(kinds: &mut Vec<Name>, kind: &Option<Name>) -> Result<usize, A
 pub fn asked_queue(kinds: &[Name], kind: &Option<Name>) -> usize
     requires { AreKinds kinds.now }
     ensures { (q : ℕ) → 1 ≤ q → q ≤ length kinds.now
-        → ((result == 0) || (q == result)) ≡ option_map_or (λ k. bytes_eq (unwrap_or (kind_at kinds.now q) []) k) kind.now true }
+        → ((result == 0) || (q == result)) ≡ option_map_or
+        (λ k. bytes_eq (unwrap_or (kind_at kinds.now q) []) k) kind.now true }
 {
     match kind {
         None => 0,

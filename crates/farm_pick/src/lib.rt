@@ -1,9 +1,9 @@
 //! Which boards are given to a claim, and which claim goes first. Only `queue_of` and the
 //! queues take memory.
 //!
-//! Read `specs/` in the order Test, Choice, Least, Queue for the least list and the queue of a farm's
-//! rows; then Queued, what stands in the queues that are kept, and Merged, the pass over them; then
-//! Kept, how they are kept, Heads, how their first claims are found, and Fitting.
+//! Read `specs/` in the order Test, Choice, Least, Queue for the least list and the queue of a
+//! farm's rows; then Queued, what stands in the queues that are kept, and Merged, the pass over
+//! them; then Kept, how they are kept, Heads, how their first claims are found, and Fitting.
 #![tactic(auto)]
 
 mod candidates;

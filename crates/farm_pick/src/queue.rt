@@ -4,7 +4,8 @@ ghost use Rattle.std.specs.List.{list_all};
 ghost use Rattle.farm_types.specs.Farm.{Farm};
 ghost use Rattle.farm_types.specs.Sound.{IsSteady};
 ghost use Rattle.farm_types.specs.Pick.{is_waiting, queue, shown_claim, shown_cmp};
-ghost use Rattle.farm_pick.specs.Queue.{shown_reservation, is_submitted, leads, shown_group, shown_groups};
+ghost use Rattle.farm_pick.specs.Queue.{shown_reservation, is_submitted, leads, shown_group};
+ghost use Rattle.farm_pick.specs.Queue.{shown_groups};
 
 use crate::order::queue_order;
 use farm_types::claims::{Claim, ClaimKind};

@@ -1,5 +1,6 @@
 //! The queues of the claims, and the sets of free boards.
-ghost use Rattle.std.specs.Prelude.{◌≡◌, ◌≢◌, ◌<◌, ◌≤◌, ◌==◌, ◌&&◌, ◌||◌, [], ℕ, List, Option, not, All, AllPairs, length, map, IfSome, OnOk, OnErr, option_map};
+ghost use Rattle.std.specs.Prelude.{◌≡◌, ◌≢◌, ◌<◌, ◌≤◌, ◌==◌, ◌&&◌, ◌||◌, [], ℕ, List, Option, not};
+ghost use Rattle.std.specs.Prelude.{All, AllPairs, length, map, IfSome, OnOk, OnErr, option_map};
 ghost use Rattle.std.specs.List.{AllByRecursion, filter, filter_map, find};
 ghost use Rattle.std.specs.Option.{option_copied};
 ghost use Rattle.std.specs.Str.{bytes_eq};
@@ -55,7 +56,10 @@ impl Model for Queues {
 
     ghost Value = { Lists };
 
-    ghost view = { λ q. record { claims = shown_claims q.kinds.items q.claims.entries; boards = map (shown_idle q.kinds.items) q.idle.items } };
+    ghost view = { λ q. record {
+      claims = shown_claims q.kinds.items q.claims.entries;
+      boards = map (shown_idle q.kinds.items) q.idle.items;
+    } };
 
     ghost invariant = { λ q. IsWell q.kinds.items q.claims.entries q.places.entries q.idle.items };
 }
@@ -98,7 +102,11 @@ impl Queues {
     ///
     /// With C claims it costs O(log C), in the maps 0.2 us at 1,000 and up to 1.1 us at 100,000.
     pub fn take_claim(&mut self, number: u64)
-        ensures { self.new ≡ record self.old { claims = filter (λ x. not (x.claim.number == number)) self.old.claims } }
+        ensures { self.new
+            ≡ record self.old {
+              claims = filter (λ x. not (x.claim.number == number))
+                  self.old.claims;
+            } }
     {
         waiting::take(&mut self.claims, &mut self.places, number);
     }
@@ -121,7 +129,11 @@ impl Queues {
     ///
     /// With B free boards it costs a binary search, and a move of those behind it.
     pub fn take_board(&mut self, name: &Name)
-        ensures { self.new ≡ record self.old { boards = filter (λ b. not (bytes_eq b.name name.now)) self.old.boards } }
+        ensures { self.new
+            ≡ record self.old {
+              boards = filter (λ b. not (bytes_eq b.name name.now))
+                  self.old.boards;
+            } }
     {
         idle::take_row(&mut self.idle, name);
     }
@@ -131,34 +143,36 @@ impl Queues {
     /// memory. With C claims and K types it costs O(K log C) to lend them all.
     pub fn heads(&self, after: Option<(Priority, u64)>, all: bool) -> Heads<'_>
         ensures { (kinds : List (Option (List ℕ))) × AreKindsOf self.now.claims kinds
-            × (result ≡ filter_map (head_of (is_later (last_spot after)) (λ k. all || is_open self.now.boards k) self.now.claims) kinds) }
+            × (result ≡ filter_map (head_of (is_later (last_spot after))
+            (λ k. all || is_open self.now.boards k) self.now.claims) kinds) }
     {
         let last = spot::last_spot(after);
         Heads::new(&self.kinds, &self.claims, &self.idle, last, all)
     }
 
     /// The first claim that comes after a priority and a number, if they are given, in the order
-    /// `before`; without `all` only of queues that are open: of what `heads` lends the one that goes
-    /// first. The claim tried last is given by its priority and number, since it may have been taken
-    /// since. It takes no memory.
+    /// `before`; without `all` only of queues that are open: of what `heads` lends the one that
+    /// goes first. The claim tried last is given by its priority and number, since it may have been
+    /// taken since. It takes no memory.
     ///
     /// It looks at the head of each open queue: with C claims and K types it costs O(K log C), by
     /// look-ups in the map of 60 to 90 ns each at 1,000 claims.
     pub fn next(&self, after: Option<(Priority, u64)>, all: bool) -> Option<&Claim>
         ensures { option_copied result ≡ option_map (λ x. x.claim)
-            (find (λ x. is_later (last_spot after) x.claim && (all || is_open self.now.boards x.kind)) self.now.claims) }
+            (find (λ x. is_later (last_spot after) x.claim
+            && (all || is_open self.now.boards x.kind)) self.now.claims) }
     {
         let last = spot::last_spot(after);
         waiting::first(&self.kinds, &self.claims, &self.idle, last, all)
     }
 
     /// The places of the least list of boards that meets the wants, out of the free boards that are
-    /// here, or None where no list does: what `farm_pick::least_of` gives with ServingIdle, without a
-    /// look at boards that aren't free. The boards here are the free ones of `boards`, each with its
-    /// type. It takes no memory.
+    /// here, or None where no list does: what `farm_pick::least_of` gives with ServingIdle, without
+    /// a look at boards that aren't free. The boards here are the free ones of `boards`, each with
+    /// its type. It takes no memory.
     ///
-    /// Each want costs a number's comparison a free board, and for those of its type a binary search
-    /// and a test, up to as many that fit as there are wants.
+    /// Each want costs a number's comparison a free board, and for those of its type a binary
+    /// search and a test, up to as many that fit as there are wants.
     pub fn least_of(
         &self,
         boards: &[BoardRow],
@@ -168,7 +182,8 @@ impl Queues {
         requires ordered { IsStrictlySortedBy board_cmp boards.now }
         requires few { length wants.now ≤ 4 }
         requires free { self.now.boards ≡ map idle_board (filter (is_free types.now) boards.now) }
-        ensures least { option_map (boards_at boards.now) result ≡ least boards.now (is_free types.now) (map (λ w. w.now) wants.now) }
+        ensures least { option_map (boards_at boards.now) result ≡ least boards.now
+            (is_free types.now) (map (λ w. w.now) wants.now) }
         ensures len { IfSome result (λ places. length places ≡ length wants.now) }
         ensures within { IfSome result (λ places. All (λ i. i < length boards.now) places) }
         ensures different { IfSome result (λ places. AllPairs (λ i j. i ≢ j) places) }
@@ -180,7 +195,8 @@ impl Queues {
     pub fn least(&self, boards: &[BoardRow], types: &[TypeRow], wants: &Wants) -> Option<Picked>
         requires ordered { IsStrictlySortedBy board_cmp boards.now }
         requires free { self.now.boards ≡ map idle_board (filter (is_free types.now) boards.now) }
-        ensures least { option_map (boards_at boards.now) result ≡ least boards.now (is_free types.now) wants.now }
+        ensures least { option_map (boards_at boards.now) result ≡ least boards.now
+            (is_free types.now) wants.now }
         ensures len { IfSome result (λ places. length places ≡ length wants.now) }
         ensures within { IfSome result (λ places. All (λ i. i < length boards.now) places) }
         ensures different { IfSome result (λ places. AllPairs (λ i j. i ≢ j) places) }

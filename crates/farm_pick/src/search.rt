@@ -1,4 +1,5 @@
-ghost use Rattle.std.specs.Prelude.{◌≡◌, ◌≢◌, ◌<◌, ◌≤◌, All, AllPairs, length, map, IfSome, option_map};
+ghost use Rattle.std.specs.Prelude.{◌≡◌, ◌≢◌, ◌<◌, ◌≤◌, All, AllPairs, length, map, IfSome};
+ghost use Rattle.std.specs.Prelude.{option_map};
 ghost use Rattle.std.specs.List.Sorted.{IsStrictlySortedBy};
 ghost use Rattle.farm_types.specs.Table.{board_cmp};
 ghost use Rattle.farm_types.specs.Pick.{least};
@@ -12,7 +13,8 @@ use farm_types::asked::Wants;
 use farm_types::rows::{BoardRow, TypeRow, Want};
 
 /// The places of the least list of boards that meets the wants, or None where no list does. This
-/// form takes wants that are lent one by one, as those of a group's job rows; one want is `&[&want]`.
+/// form takes wants that are lent one by one, as those of a group's job rows; one want is
+/// `&[&want]`.
 ///
 /// LAVA looks at devices in a random order. Here the answer is always the first list in name order,
 /// so that a run can be repeated, and a board that fits two wants goes to the one that needs it.
@@ -50,7 +52,8 @@ pub fn least_of(
 /// cost of `least_of`.
 pub fn least(boards: &[BoardRow], types: &[TypeRow], wants: &Wants, free: Free) -> Option<Picked>
     requires { IsStrictlySortedBy board_cmp boards.now }
-    ensures least { option_map (boards_at boards.now) result ≡ least boards.now (passes types.now free) wants.now }
+    ensures least { option_map (boards_at boards.now) result ≡ least boards.now
+        (passes types.now free) wants.now }
     ensures len { IfSome result (λ places. length places ≡ length wants.now) }
     ensures within { IfSome result (λ places. All (λ i. i < length boards.now) places) }
     ensures different { IfSome result (λ places. AllPairs (λ i j. i ≢ j) places) }

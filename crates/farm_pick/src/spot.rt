@@ -24,7 +24,8 @@ pub struct Spot {
 }
 
 impl Ord for Spot {
-    ghost cmp = { then_cmp (on (λ s. s.queue) nat_cmp) (then_cmp (flip_args (on (λ s. s.priority) nat_cmp)) (on (λ s. s.number) nat_cmp)) };
+    ghost cmp = { then_cmp (on (λ s. s.queue) nat_cmp)
+        (then_cmp (flip_args (on (λ s. s.priority) nat_cmp)) (on (λ s. s.number) nat_cmp)) };
 
     ghost total = { Prim.search (comparing, rules) depth 9 };
 
@@ -42,9 +43,11 @@ impl Ord for Spot {
 }
 
 impl PartialOrd for Spot {
-    ghost partial_cmp = { as_partial_cmp (then_cmp (on (λ s. s.queue) nat_cmp) (then_cmp (flip_args (on (λ s. s.priority) nat_cmp)) (on (λ s. s.number) nat_cmp))) };
+    ghost partial_cmp = { as_partial_cmp (then_cmp (on (λ s. s.queue) nat_cmp)
+        (then_cmp (flip_args (on (λ s. s.priority) nat_cmp)) (on (λ s. s.number) nat_cmp))) };
 
-    ghost laws = { partial_order_from_own_ties (Prim.search (comparing, rules) depth 9) (Prim.search (comparing, rules) depth 9) };
+    ghost laws = { partial_order_from_own_ties (Prim.search (comparing, rules) depth 9)
+        (Prim.search (comparing, rules) depth 9) };
 
     fn partial_cmp(&self, other: &Spot) -> Option<Ordering> {
         Some(self.cmp(other))

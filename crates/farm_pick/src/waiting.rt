@@ -25,11 +25,14 @@ pub fn put(
 ) -> Result<(), AllocError>
     requires claim { claim_at claims.old.entries spot ≡ None }
     requires place { place_at places.old.entries spot.number ≡ None }
-    ensures claims { OnOk result (claims.new.entries ≡ insert_entry spot_cmp claims.old.entries spot claim) }
+    ensures claims { OnOk result
+        (claims.new.entries ≡ insert_entry spot_cmp claims.old.entries spot claim) }
     ensures claim { OnOk result ((s : Spot) → claim_at claims.new.entries s
         ≡ cond (is_eq (spot_cmp spot s)) (Some claim) (claim_at claims.old.entries s)) }
     ensures place { OnOk result ((n : ℕ) → place_at places.new.entries n
-        ≡ cond (is_eq (nat_cmp spot.number n)) (Some (record { queue = spot.queue; priority = spot.priority })) (place_at places.old.entries n)) }
+        ≡ cond (is_eq (nat_cmp spot.number n))
+        (Some (record { queue = spot.queue; priority = spot.priority }))
+        (place_at places.old.entries n)) }
     ensures claims_stay { OnErr result (claims.new.entries ≡ claims.old.entries) }
     ensures places_stay { OnErr result (places.new.entries ≡ places.old.entries) }
 {
@@ -47,7 +50,8 @@ pub fn put(
 
 /// Takes the claim of a number from its spot, if there is one.
 pub fn take(claims: &mut BTreeMap<Spot, Claim>, places: &mut BTreeMap<u64, Place>, number: u64)
-    ensures { TakesOrStays claims.old.entries claims.new.entries places.old.entries places.new.entries
+    ensures { TakesOrStays claims.old.entries claims.new.entries places.old.entries
+        places.new.entries
         number (place_at places.old.entries number) }
 {
     if let Some(place) = places.remove(&number) {
@@ -81,7 +85,8 @@ pub fn head(claims: &BTreeMap<Spot, Claim>, last: Spot) -> Option<&Claim>
 
 /// Of two claims the one that goes first.
 fn earlier<'a>(first: Option<&'a Claim>, second: Option<&'a Claim>) -> Option<&'a Claim>
-    ensures { option_copied result ≡ earlier (option_copied first.entry) (option_copied second.entry) }
+    ensures { option_copied result ≡ earlier (option_copied first.entry)
+        (option_copied second.entry) }
 {
     match (first, second) {
         (None, second) => second,
@@ -133,7 +138,8 @@ pub fn first<'a>(
     all: bool,
 ) -> Option<&'a Claim>
     requires { AllByRecursion (IsKeyed kinds.now) claims.now.entries }
-    ensures { IsFirst claims.now.entries (λ q. all || queue_open rows.now q) (length kinds.now + 1) last (option_copied result) }
+    ensures { IsFirst claims.now.entries (λ q. all || queue_open rows.now q)
+        (length kinds.now + 1) last (option_copied result) }
 {
     let mut best = None;
     for queue in 0..kinds.len() + 1 {

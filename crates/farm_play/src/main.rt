@@ -2,8 +2,8 @@
 //! behind the word `show` each step is shown as it is played. The program prints a line a
 //! transcript, and its status is 1 where one failed.
 //!
-//! The transcripts of data/wrong have to fail, so that it stays shown that a wrong expectation does:
-//! the lines that they print are in `stdout`, and the program's status is 1.
+//! The transcripts of data/wrong have to fail, so that it stays shown that a wrong expectation
+//! does: the lines that they print are in `stdout`, and the program's status is 1.
 #![tactic(auto)]
 
 mod desk;

@@ -17,11 +17,11 @@ pub enum Failing {
     Tables,
 }
 
-/// A connection to a store `S` in two files, as a player opens and ends it. All else that plays is for
-/// any store, so that little is proved of this one.
+/// A connection to a store `S` in two files, as a player opens and ends it. All else that plays is
+/// for any store, so that little is proved of this one.
 pub trait InFiles<S> {
-    /// With a small cache, and a log that is soon copied into the tables' file; None where a stop comes
-    /// before the store is open.
+    /// With a small cache, and a log that is soon copied into the tables' file; None where a stop
+    /// comes before the store is open.
     fn opened(alloc: Global, files: Disks) -> Option<Self>;
 
     /// The files of a store that ends in order: its log is copied into the tables' file.

@@ -1,5 +1,6 @@
 -- What a sound farm is, row by row: each line speaks of one row and of the rows that it looks up.
-use Rattle.std.specs.Prelude.{◌≡◌, ◌≢◌, ◌≤◌, ◌<◌, ◌+◌, ◌-◌, ◌↔◌, ℕ, true, List, Option, Some, None, is_some, length, IsTrue, IsSome, IsNone, IfSome, IsSomeAnd}
+use Rattle.std.specs.Prelude.{◌≡◌, ◌≢◌, ◌≤◌, ◌<◌, ◌+◌, ◌-◌, ◌↔◌, ℕ, true, List, Option, Some, None}
+use Rattle.std.specs.Prelude.{is_some, length, IsTrue, IsSome, IsNone, IfSome, IsSomeAnd}
 use Rattle.std.specs.List.{filter, AllByRecursion}
 use Rattle.std.specs.List.Sorted.{IsStrictlySortedBy}
 use Rattle.std.specs.Str.{bytes_eq}
@@ -7,7 +8,8 @@ use Rattle.farm_types.specs.Words.{IsName, IsText}
 use Rattle.farm_types.specs.Table.{type_cmp, board_cmp, job_cmp, res_cmp, kept_cmp}
 use Rattle.farm_types.specs.Proper.{is_priority, is_want}
 use Rattle.farm_types.specs.Farm.{Farm, type_of, board_of, job_of, res_of}
-use Rattle.farm_types.specs.Sound.{IsBoardOf, IsCheck, Follows, job_gives, res_gives, phase, IsTypeRow, IsBoardRow, IsJobRow, IsResRow, IsKeptRow}
+use Rattle.farm_types.specs.Sound.{IsBoardOf, IsCheck, Follows, job_gives, res_gives, phase}
+use Rattle.farm_types.specs.Sound.{IsTypeRow, IsBoardRow, IsJobRow, IsResRow, IsKeptRow}
 use Rattle.farm_types.specs.declared.rows.Holder.{Holder}
 use Rattle.farm_types.specs.declared.rows.State.{State}
 use Rattle.farm_types.specs.declared.rows.JobState.{JobState}
@@ -46,12 +48,15 @@ pub record IsJobGrouped (F : Farm) (r : JobRow) : Type 0 where
 -- the board's holder names the board, and gives it its state
 abbrev pub IsNamedBy : Farm → BoardRow → Holder → Type 0
 IsNamedBy F b Holder.Nobody = b.state ≡ State.Idle
-IsNamedBy F b (Holder.Job n) = IsSomeAnd (job_of F n) (λ j. (j.board ≡ Some b.name) × (job_gives j.state ≡ Some b.state))
-IsNamedBy F b (Holder.Res n) = IsSomeAnd (res_of F n) (λ r. (r.board ≡ Some b.name) × (res_gives r.state ≡ Some b.state))
+IsNamedBy F b (Holder.Job n) = IsSomeAnd (job_of F n) (λ j. (j.board ≡ Some b.name)
+    × (job_gives j.state ≡ Some b.state))
+IsNamedBy F b (Holder.Res n) = IsSomeAnd (res_of F n) (λ r. (r.board ≡ Some b.name)
+    × (res_gives r.state ≡ Some b.state))
 
 -- the board says that the holder has it
 abbrev pub IsSaid : Farm → Option (List ℕ) → Holder → Type 0
-IsSaid F board holder = IsSomeAnd board (λ name. IsSomeAnd (board_of F name) (λ b. b.holder ≡ holder))
+IsSaid F board holder =
+    IsSomeAnd board (λ name. IsSomeAnd (board_of F name) (λ b. b.holder ≡ holder))
 
 -- the board that a job or a reservation holds says so
 abbrev pub IsSaidOfJob : Farm → JobRow → Type 0
@@ -62,7 +67,8 @@ IsSaidOfRes F r = IfSome (res_gives r.state) (λ _. IsSaid F r.board (Holder.Res
 
 -- a member but the first is in the phase of the one before it
 abbrev pub IsInStep : Farm → JobRow → Type 0
-IsInStep F r = r.number ≢ r.group → IsSomeAnd (job_of F (r.number - 1)) (λ previous. phase previous.state ≡ phase r.state)
+IsInStep F r = r.number ≢ r.group
+    → IsSomeAnd (job_of F (r.number - 1)) (λ previous. phase previous.state ≡ phase r.state)
 
 -- the boards of a board's type are few
 abbrev pub IsOfFew : Farm → BoardRow → Type 0

@@ -4,7 +4,8 @@ ghost use Rattle.std.specs.List.Sorted.{IsStrictlySortedBy};
 ghost use Rattle.farm_types.specs.Table.{type_cmp, board_cmp, job_cmp, res_cmp};
 ghost use Rattle.farm_types.specs.Farm.{farm_of};
 ghost use Rattle.farm_types.specs.Sound.{IsJobRow, IsCheck, Follows, job_gives, phase};
-ghost use Rattle.farm_sound.specs.Told.{IsOrdered, IsJobNumbered, IsJobWorded, IsJobPlaced, IsJobGrouped, IsInStep, IsSaidOfJob};
+ghost use Rattle.farm_sound.specs.Told.{IsOrdered, IsJobNumbered, IsJobWorded, IsJobPlaced};
+ghost use Rattle.farm_sound.specs.Told.{IsJobGrouped, IsInStep, IsSaidOfJob};
 
 use crate::seek::{board_of, job_of, res_of};
 use crate::want::{names_board, names_type, tell_role, tell_want};

@@ -1,12 +1,14 @@
 //! Laws over the machine's definitions.
-ghost use Rattle.std.specs.Prelude.{◌≡◌, ◌≢◌, ◌<◌, ◌≤◌, ◌+◌, ◌==◌, ℕ, Bool, List, Option, IsSome, IsSomeAnd, IfSome, Some, None, IsTrue, length, map};
+ghost use Rattle.std.specs.Prelude.{◌≡◌, ◌≢◌, ◌<◌, ◌≤◌, ◌+◌, ◌==◌, ℕ, Bool, List, Option, IsSome};
+ghost use Rattle.std.specs.Prelude.{IsSomeAnd, IfSome, Some, None, IsTrue, length, map};
 ghost use Rattle.std.specs.List.{filter, AllByRecursion};
 ghost use Rattle.std.specs.List.Sorted.{IsStrictlySortedBy, IsPermutation};
 ghost use Rattle.std.specs.Str.{bytes_eq};
 ghost use Rattle.std.specs.declared.cmp.Ordering.{Ordering};
 ghost use Rattle.farm_types.specs.Words.{IsName, IsTags, IsText};
 ghost use Rattle.farm_types.specs.Proper.{is_priority, is_want};
-ghost use Rattle.farm_types.specs.Table.{put, put_all, change_where, type_cmp, board_cmp, job_cmp, res_cmp, kept_cmp};
+ghost use Rattle.farm_types.specs.Table.{put, put_all, change_where, type_cmp, board_cmp, job_cmp};
+ghost use Rattle.farm_types.specs.Table.{res_cmp, kept_cmp};
 ghost use Rattle.farm_types.specs.Farm.{Farm, empty, type_of, board_of, job_of, res_of};
 ghost use Rattle.farm_types.specs.Pick.{Claimed, claim_cmp, claims, queue, least, is_free};
 ghost use Rattle.farm_types.specs.Pass.{give};
@@ -42,8 +44,10 @@ pub fn run_is_sound()
 /// After a pass, and after a call that makes one, no claim of the farm is met by boards that are
 /// free in it.
 pub fn pass_serves_all()
-    ensures pass { (F : Farm) (caller : List ℕ) → IsSound F → IsServed (act F caller Cmd.Pass).farm }
-    ensures step { (F : Farm) (call : Call) (reply : Reply) → call.cmd ≡ Cmd.Pass → answer F call ≡ Changed reply
+    ensures pass { (F : Farm) (caller : List ℕ) → IsSound F
+        → IsServed (act F caller Cmd.Pass).farm }
+    ensures step { (F : Farm) (call : Call) (reply : Reply) → call.cmd ≡ Cmd.Pass
+        → answer F call ≡ Changed reply
         → IsSound F → IsServed (step F call) }
 {}
 
@@ -76,22 +80,32 @@ pub fn puts_commute()
 
 /// Changing the rows that pass is putting the changed rows one after another.
 pub fn changes_are_puts()
-    ensures jobs { (test : JobRow → Bool) (f : JobRow → JobRow) (rows : List JobRow) → ((j : JobRow) → (f j).number ≡ j.number)
-        → IsStrictlySortedBy job_cmp rows → put_all job_cmp rows (map f (filter test rows)) ≡ change_where test f rows }
-    ensures reservations { (test : ResRow → Bool) (f : ResRow → ResRow) (rows : List ResRow) → ((r : ResRow) → (f r).number ≡ r.number)
-        → IsStrictlySortedBy res_cmp rows → put_all res_cmp rows (map f (filter test rows)) ≡ change_where test f rows }
-    ensures boards { (test : BoardRow → Bool) (f : BoardRow → BoardRow) (rows : List BoardRow) → ((b : BoardRow) → (f b).name ≡ b.name)
-        → IsStrictlySortedBy board_cmp rows → put_all board_cmp rows (map f (filter test rows)) ≡ change_where test f rows }
+    ensures jobs { (test : JobRow → Bool) (f : JobRow → JobRow) (rows : List JobRow)
+        → ((j : JobRow) → (f j).number ≡ j.number)
+        → IsStrictlySortedBy job_cmp rows → put_all job_cmp rows (map f (filter test rows))
+        ≡ change_where test f rows }
+    ensures reservations { (test : ResRow → Bool) (f : ResRow → ResRow) (rows : List ResRow)
+        → ((r : ResRow) → (f r).number ≡ r.number)
+        → IsStrictlySortedBy res_cmp rows → put_all res_cmp rows (map f (filter test rows))
+        ≡ change_where test f rows }
+    ensures boards { (test : BoardRow → Bool) (f : BoardRow → BoardRow) (rows : List BoardRow)
+        → ((b : BoardRow) → (f b).name ≡ b.name)
+        → IsStrictlySortedBy board_cmp rows → put_all board_cmp rows (map f (filter test rows))
+        ≡ change_where test f rows }
 {}
 
 /// Changing the row with a key is putting the changed row.
 pub fn change_is_a_put()
-    ensures job { (F : Farm) (f : JobRow → JobRow) (n : ℕ) (j : JobRow) → ((k : JobRow) → (f k).number ≡ k.number)
-        → IsStrictlySortedBy job_cmp F.jobs → job_of F n ≡ Some j → put job_cmp F.jobs (f j) ≡ change_where (λ k. k.number == n) f F.jobs }
-    ensures reservation { (F : Farm) (f : ResRow → ResRow) (n : ℕ) (r : ResRow) → ((q : ResRow) → (f q).number ≡ q.number)
+    ensures job { (F : Farm) (f : JobRow → JobRow) (n : ℕ) (j : JobRow)
+        → ((k : JobRow) → (f k).number ≡ k.number)
+        → IsStrictlySortedBy job_cmp F.jobs → job_of F n ≡ Some j
+        → put job_cmp F.jobs (f j) ≡ change_where (λ k. k.number == n) f F.jobs }
+    ensures reservation { (F : Farm) (f : ResRow → ResRow) (n : ℕ) (r : ResRow)
+        → ((q : ResRow) → (f q).number ≡ q.number)
         → IsStrictlySortedBy res_cmp F.reservations → res_of F n ≡ Some r
         → put res_cmp F.reservations (f r) ≡ change_where (λ q. q.number == n) f F.reservations }
-    ensures board { (F : Farm) (f : BoardRow → BoardRow) (name : List ℕ) (b : BoardRow) → ((c : BoardRow) → (f c).name ≡ c.name)
+    ensures board { (F : Farm) (f : BoardRow → BoardRow) (name : List ℕ) (b : BoardRow)
+        → ((c : BoardRow) → (f c).name ≡ c.name)
         → IsStrictlySortedBy board_cmp F.boards → board_of F name ≡ Some b
         → put board_cmp F.boards (f b) ≡ change_where (λ c. bytes_eq c.name name) f F.boards }
 {}
@@ -99,16 +113,21 @@ pub fn change_is_a_put()
 /// A claim that no free boards meet stays unmet when another claim is given boards.
 pub fn unmet_stays()
     ensures { (F : Farm) (c : Claimed) (bs : List BoardRow) (t : ℕ) (wants : List Want)
-        → IsStrictlySortedBy board_cmp (give F c bs t).boards → least F.boards (is_free F.types) wants ≡ None
+        → IsStrictlySortedBy board_cmp (give F c bs t).boards
+        → least F.boards (is_free F.types) wants ≡ None
         → least (give F c bs t).boards (is_free (give F c bs t).types) wants ≡ None }
 {}
 
 /// A submitted group leaves a sound farm.
 pub fn submit_is_sound()
-    ensures { (F : Farm) (caller : List ℕ) (priority : ℕ) (wants : List Want) (roles : List (Option (List ℕ))) (body : List ℕ)
-        → IsSound F → IsName caller → IsTrue (is_priority priority) → length body ≤ 65536 → IsText body
-        → AllByRecursion (λ w. IsSomeAnd w.kind (λ kind. IsSome (type_of F kind)) × IsTrue (is_want w)) wants
-        → AllByRecursion (λ r. IfSome r IsName) roles → length roles ≡ length wants → length wants ≤ 4
+    ensures { (F : Farm) (caller : List ℕ) (priority : ℕ) (wants : List Want)
+        (roles : List (Option (List ℕ))) (body : List ℕ)
+        → IsSound F → IsName caller → IsTrue (is_priority priority) → length body ≤ 65536
+        → IsText body
+        → AllByRecursion (λ w. IsSomeAnd w.kind (λ kind. IsSome (type_of F kind))
+        × IsTrue (is_want w)) wants
+        → AllByRecursion (λ r. IfSome r IsName) roles → length roles ≡ length wants
+        → length wants ≤ 4
         → length F.jobs + length wants ≤ 100000 → F.next + length wants ≤ 1000000000
         → IsSound (act F caller (Cmd.Submit priority wants roles body)).farm }
 {}
@@ -117,23 +136,31 @@ pub fn submit_is_sound()
 pub fn jobs_are_sound()
     ensures cancel { (F : Farm) (caller : List ℕ) (n : ℕ) (j : JobRow) → job_of F n ≡ Some j
         → IsSound F → IsSound (act F caller (Cmd.Cancel n)).farm }
-    ensures start { (F : Farm) (caller : List ℕ) (n : ℕ) (j : JobRow) → job_of F n ≡ Some j → j.state ≡ JobState.Scheduled
+    ensures start { (F : Farm) (caller : List ℕ) (n : ℕ) (j : JobRow) → job_of F n ≡ Some j
+        → j.state ≡ JobState.Scheduled
         → IsSound F → IsSound (act F caller (Cmd.Start n)).farm }
-    ensures finish { (F : Farm) (caller : List ℕ) (n : ℕ) (j : JobRow) (outcome : Outcome) → job_of F n ≡ Some j → phase j.state ≡ 2
-        → (j.state ≡ JobState.Finished → ⊥) → IsSound F → IsSound (act F caller (Cmd.Finish n outcome)).farm }
+    ensures finish { (F : Farm) (caller : List ℕ) (n : ℕ) (j : JobRow) (outcome : Outcome)
+        → job_of F n ≡ Some j → phase j.state ≡ 2
+        → (j.state ≡ JobState.Finished → ⊥) → IsSound F
+        → IsSound (act F caller (Cmd.Finish n outcome)).farm }
 {}
 
 /// The commands on a reservation leave a sound farm.
 pub fn reservations_are_sound()
-    ensures reserve { (F : Farm) (caller : List ℕ) (priority : ℕ) (tags : List (List ℕ)) → IsName caller → IsTrue (is_priority priority)
+    ensures reserve { (F : Farm) (caller : List ℕ) (priority : ℕ) (tags : List (List ℕ))
+        → IsName caller → IsTrue (is_priority priority)
         → IsTags tags → length F.reservations < 100000 → F.next < 1000000000
         → IsSound F → IsSound (act F caller (Cmd.Reserve priority tags)).farm }
-    ensures acquire { (F : Farm) (caller : List ℕ) (n : ℕ) (r : ResRow) → res_of F n ≡ Some r → r.state ≡ ResState.Allocated
+    ensures acquire { (F : Farm) (caller : List ℕ) (n : ℕ) (r : ResRow) → res_of F n ≡ Some r
+        → r.state ≡ ResState.Allocated
         → IsSound F → IsSound (act F caller (Cmd.Acquire n)).farm }
-    ensures release { (F : Farm) (caller : List ℕ) (n : ℕ) (r : ResRow) → res_of F n ≡ Some r → r.state ≡ ResState.Acquired
+    ensures release { (F : Farm) (caller : List ℕ) (n : ℕ) (r : ResRow) → res_of F n ≡ Some r
+        → r.state ≡ ResState.Acquired
         → IsSound F → IsSound (act F caller (Cmd.Release n)).farm }
-    ensures refresh { (F : Farm) (caller : List ℕ) (n : ℕ) → IsSound F → IsSound (act F caller (Cmd.Refresh n)).farm }
-    ensures cancel { (F : Farm) (caller : List ℕ) (n : ℕ) → IsSound F → IsSound (act F caller (Cmd.CancelRes n)).farm }
+    ensures refresh { (F : Farm) (caller : List ℕ) (n : ℕ) → IsSound F
+        → IsSound (act F caller (Cmd.Refresh n)).farm }
+    ensures cancel { (F : Farm) (caller : List ℕ) (n : ℕ) → IsSound F
+        → IsSound (act F caller (Cmd.CancelRes n)).farm }
 {}
 
 /// A pass leaves a sound farm.

@@ -1,8 +1,8 @@
 //! What each farm that the machine reaches keeps: the laws that every command keeps a farm sound,
 //! the exact test whether rows are those of a sound farm, and look-ups in tables by binary search.
 //!
-//! `laws` says what is proved of the machine's definitions; `sound` decides them at run time, row by
-//! row; `seek` finds rows.
+//! `laws` says what is proved of the machine's definitions; `sound` decides them at run time, row
+//! by row; `seek` finds rows.
 //!
 //! Read `specs/` in the order Place, Told, Served.
 #![tactic(auto)]

@@ -12,7 +12,8 @@ use farm_types::words::{Key, Name};
 /// The place of the type with that name, or the place at which such a one is to be inserted.
 pub fn type_at(rows: &[TypeRow], name: &Name) -> Result<usize, usize>
     requires { IsStrictlySortedBy type_cmp rows.now }
-    ensures { IsPlace type_cmp (λ r. r.name ≡ name.now) rows.now (type_in rows.now name.now) result }
+    ensures { IsPlace type_cmp (λ r. r.name ≡ name.now) rows.now
+        (type_in rows.now name.now) result }
 {
     rows.binary_search_by(|kind| kind.name.order(name))
 }
@@ -31,7 +32,8 @@ pub fn type_of<'a>(rows: &'a [TypeRow], name: &Name) -> Option<&'a TypeRow>
 /// The place of the board with that name, or the place at which such a one is to be inserted.
 pub fn board_at(rows: &[BoardRow], name: &Name) -> Result<usize, usize>
     requires { IsStrictlySortedBy board_cmp rows.now }
-    ensures { IsPlace board_cmp (λ r. r.name ≡ name.now) rows.now (board_in rows.now name.now) result }
+    ensures { IsPlace board_cmp (λ r. r.name ≡ name.now) rows.now
+        (board_in rows.now name.now) result }
 {
     rows.binary_search_by(|board| board.name.order(name))
 }
@@ -66,7 +68,8 @@ pub fn job_of(rows: &[JobRow], number: u64) -> Option<&JobRow>
     }
 }
 
-/// The place of the reservation with that number, or the place at which such a one is to be inserted.
+/// The place of the reservation with that number, or the place at which such a one is to be
+/// inserted.
 pub fn res_at(rows: &[ResRow], number: u64) -> Result<usize, usize>
     requires { IsStrictlySortedBy res_cmp rows.now }
     ensures { IsPlace res_cmp (λ r. r.number ≡ number) rows.now (res_in rows.now number) result }
@@ -85,10 +88,12 @@ pub fn res_of(rows: &[ResRow], number: u64) -> Option<&ResRow>
     }
 }
 
-/// The place of the kept reply of that caller and key, or the place at which such a one is to be inserted.
+/// The place of the kept reply of that caller and key, or the place at which such a one is to be
+/// inserted.
 pub fn kept_at(rows: &[KeptRow], caller: &Name, key: &Key) -> Result<usize, usize>
     requires { IsStrictlySortedBy kept_cmp rows.now }
-    ensures { IsPlace kept_cmp (λ r. (r.caller ≡ caller.now) × (r.key ≡ key.now)) rows.now (kept_in rows.now caller.now key.now) result }
+    ensures { IsPlace kept_cmp (λ r. (r.caller ≡ caller.now) × (r.key ≡ key.now)) rows.now
+        (kept_in rows.now caller.now key.now) result }
 {
     rows.binary_search_by(|row| row.caller.order(caller).then(row.key.order(key)))
 }

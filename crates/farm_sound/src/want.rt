@@ -34,7 +34,8 @@ pub(crate) fn tell_role(role: &Option<Name>)
 /// Whether a type is named that is there.
 pub fn names_type(rows: &Rows, kind: &Option<Name>) -> bool
     requires { IsStrictlySortedBy type_cmp rows.now.types.items }
-    ensures { IsTrue result ↔ IsSomeAnd kind.now (λ kind. IsSome (type_of (farm_of rows.now) kind)) }
+    ensures { IsTrue result
+        ↔ IsSomeAnd kind.now (λ kind. IsSome (type_of (farm_of rows.now) kind)) }
 {
     match kind {
         None => false,

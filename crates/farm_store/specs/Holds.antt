@@ -8,7 +8,8 @@ use Rattle.sqlite_trees.specs.Objects.{catalog_tree}
 use Rattle.sqlite_trees.specs.View.{doubt}
 use Rattle.farm_store.specs.Schema.{farm_schema}
 use Rattle.farm_store.specs.Columns.{Tables, rows_of}
-use Rattle.farm_store.specs.Places.{HoldsAt, of_types, of_boards, of_jobs, of_reservations, of_kept, of_meta}
+use Rattle.farm_store.specs.Places.{HoldsAt, of_types, of_boards, of_jobs, of_reservations, of_kept}
+use Rattle.farm_store.specs.Places.{of_meta}
 use Rattle.farm_types.specs.Farm.{Farm, empty}
 
 -- the trees list the farm's schema, and its tables have these rows
@@ -26,7 +27,8 @@ pub record ShowsTables (db : Database) (T : Tables) : Type 0 where
   pub schema : db.schema ≡ farm_schema
   pub holds : Holds db.trees T
 
--- no transaction is begun, the connection, while it is open, shows these tables as they were committed, and a stop now leaves these alone
+-- no transaction is begun, the connection, while it is open, shows these tables as they were
+-- committed, and a stop now leaves these alone
 pub record Stands (s : State) (T : Tables) : Type 0 where
   pub autocommit : s.in_transaction ≡ false
   pub same : IsTrue s.is_open → s.now ≡ s.committed
@@ -46,7 +48,8 @@ LeavesEither s R T = (db : Trees) → s.may_leave db → Holds db R ⊎ Holds db
 abbrev pub LeavesNoMore : State → State → Type 0
 LeavesNoMore old new = (db : Trees) → new.may_leave db → old.may_leave db
 
--- once the disk has returned what was not written, that is not forgotten: a connection that is clean now was clean then
+-- once the disk has returned what was not written, that is not forgotten: a connection that is
+-- clean now was clean then
 abbrev pub KeepsDoubt : State → State → Type 0
 KeepsDoubt old new = doubt old.is_clean ≤ doubt new.is_clean
 

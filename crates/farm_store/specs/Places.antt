@@ -5,10 +5,12 @@ use Rattle.sqlite.specs.Order.{Row}
 use Rattle.sqlite.specs.Tree.{Trees}
 use Rattle.farm_types.specs.Table.{put_all}
 use Rattle.farm_types.specs.declared.calls.Changes.{Changes}
-use Rattle.farm_store.specs.Columns.{Tables, by_first, by_two, type_columns, board_columns, job_columns, res_columns, kept_columns, number_rows}
+use Rattle.farm_store.specs.Columns.{Tables, by_first, by_two, type_columns, board_columns}
+use Rattle.farm_store.specs.Columns.{job_columns, res_columns, kept_columns, number_rows}
 use Rattle.farm_store.specs.Stored.{Lists, unnumbered, with_number}
 
--- one of the six tables: its tree, what a raw row of it shows, how wide that is, the order of its rows, which rows they are, and the tables with other rows there
+-- one of the six tables: its tree, what a raw row of it shows, how wide that is, the order of its
+-- rows, which rows they are, and the tables with other rows there
 pub record Place : Type 0 where
   pub tree : ℕ
   pub show : Row → Row
@@ -18,40 +20,88 @@ pub record Place : Type 0 where
   pub replaced : Tables → List Row → Tables
 
 abbrev pub of_types : Place
-of_types = record { tree = 0; show = unnumbered; width = 3; cmp = by_first; rows = λ T. T.types; replaced = λ T rows. record T { types = rows } }
+of_types = record {
+  tree = 0;
+  show = unnumbered;
+  width = 3;
+  cmp = by_first;
+  rows = λ T. T.types;
+  replaced = λ T rows. record T { types = rows };
+}
 
 abbrev pub of_boards : Place
-of_boards = record { tree = 2; show = unnumbered; width = 9; cmp = by_first; rows = λ T. T.boards; replaced = λ T rows. record T { boards = rows } }
+of_boards = record {
+  tree = 2;
+  show = unnumbered;
+  width = 9;
+  cmp = by_first;
+  rows = λ T. T.boards;
+  replaced = λ T rows. record T { boards = rows };
+}
 
 abbrev pub of_jobs : Place
-of_jobs = record { tree = 4; show = with_number; width = 12; cmp = by_first; rows = λ T. T.jobs; replaced = λ T rows. record T { jobs = rows } }
+of_jobs = record {
+  tree = 4;
+  show = with_number;
+  width = 12;
+  cmp = by_first;
+  rows = λ T. T.jobs;
+  replaced = λ T rows. record T { jobs = rows };
+}
 
 abbrev pub of_reservations : Place
-of_reservations = record { tree = 5; show = with_number; width = 7; cmp = by_first; rows = λ T. T.reservations; replaced = λ T rows. record T { reservations = rows } }
+of_reservations = record {
+  tree = 5;
+  show = with_number;
+  width = 7;
+  cmp = by_first;
+  rows = λ T. T.reservations;
+  replaced = λ T rows. record T { reservations = rows };
+}
 
 abbrev pub of_kept : Place
-of_kept = record { tree = 6; show = unnumbered; width = 6; cmp = by_two; rows = λ T. T.kept; replaced = λ T rows. record T { kept = rows } }
+of_kept = record {
+  tree = 6;
+  show = unnumbered;
+  width = 6;
+  cmp = by_two;
+  rows = λ T. T.kept;
+  replaced = λ T rows. record T { kept = rows };
+}
 
 abbrev pub of_meta : Place
-of_meta = record { tree = 8; show = unnumbered; width = 2; cmp = by_first; rows = λ T. T.meta; replaced = λ T rows. record T { meta = rows } }
+of_meta = record {
+  tree = 8;
+  show = unnumbered;
+  width = 2;
+  cmp = by_first;
+  rows = λ T. T.meta;
+  replaced = λ T rows. record T { meta = rows };
+}
 
 -- the tree has the rows that the tables have at this place
 abbrev pub HoldsAt : Place → Trees → Tables → Type 0
 HoldsAt p db T = Lists p.cmp p.show p.width (db p.tree) (p.rows T)
 
--- the tables with rows put at this place: each in the place of the row with its key, or added in order of the keys
+-- the tables with rows put at this place: each in the place of the row with its key, or added in
+-- order of the keys
 abbrev pub put_at : Place → Tables → List Row → Tables
 put_at p T rows = p.replaced T (put_all p.cmp (p.rows T) rows)
 
 -- the tables with all changed rows and the three numbers put
 abbrev pub put_tables : Tables → Changes → Tables
 put_tables T c =
-    put_at of_meta (put_at of_kept (put_at of_reservations (put_at of_jobs (put_at of_boards (put_at of_types T
-    (map type_columns c.types.items)) (map board_columns c.boards.items)) (map job_columns c.jobs.items)) (map res_columns c.reservations.items)) (map kept_columns c.kept.items))
+    put_at of_meta
+    (put_at of_kept (put_at of_reservations (put_at of_jobs (put_at of_boards (put_at of_types T
+    (map type_columns c.types.items)) (map board_columns c.boards.items))
+    (map job_columns c.jobs.items)) (map res_columns c.reservations.items))
+    (map kept_columns c.kept.items))
     (number_rows c.meta.clock c.meta.count c.meta.next)
 
--- rows put at this place are those that stand there, also over others; those that stand there already change nothing
+-- rows put at this place are those that stand there, also over others; those that stand there
+-- already change nothing
 pub record IsPlace (p : Place) : Type 0 where
   pub own : (T : Tables) (rows : List Row) → p.rows (p.replaced T rows) ≡ rows
-  pub over : (T : Tables) (rows more : List Row) → p.replaced (p.replaced T rows) more ≡ p.replaced T more
+  pub over : (T : Tables) (rows more : List Row) → p.replaced (p.replaced T rows) more
+      ≡ p.replaced T more
   pub same : (T : Tables) → p.replaced T (p.rows T) ≡ T

@@ -11,22 +11,29 @@ use Rattle.farm_store.specs.Readable.{IsReadable}
 use Rattle.farm_store.specs.declared.fault.StoreFault.{StoreFault}
 use Rattle.farm_store.specs.declared.fault.StoreFault.TheVariants.{BadStore, OldSchema}
 
--- what was read is good and is spelled so; it is refused as bad only where nothing good is spelled so
+-- what was read is good and is spelled so; it is refused as bad only where nothing good is spelled
+-- so
 abbrev pub ReadsAs : {X V : Type 0} → Result X StoreFault → (X → Type 0) → (X → V) → V → Type 0
 ReadsAs result IsGood spelled value =
-    MatchResult result (λ x. IsGood x × (value ≡ spelled x)) (λ fault. (fault ≢ OldSchema) × (fault ≡ BadStore → (x : _) → IsGood x → value ≢ spelled x))
+    MatchResult result (λ x. IsGood x × (value ≡ spelled x)) (λ fault. (fault ≢ OldSchema)
+    × (fault ≡ BadStore → (x : _) → IsGood x → value ≢ spelled x))
 
 -- the same of all rows of a table
-abbrev pub ReadsAll : {A X : Type 0} → Result A StoreFault → (A → List X) → (X → Type 0) → (X → Row) → List Row → Type 0
+abbrev pub ReadsAll : {A X : Type 0} → Result A StoreFault → (A → List X) → (X → Type 0) → (X → Row)
+    → List Row → Type 0
 ReadsAll result items IsGood columns rows =
     MatchResult result (λ a. AllByRecursion IsGood (items a) × (rows ≡ map columns (items a)))
-    (λ fault. (fault ≢ OldSchema) × (fault ≡ BadStore → (xs : List _) → AllByRecursion IsGood xs → rows ≢ map columns xs))
+    (λ fault. (fault ≢ OldSchema) × (fault ≡ BadStore → (xs : List _) → AllByRecursion IsGood xs
+    → rows ≢ map columns xs))
 
 -- an open connection goes back to these tables
 abbrev pub CommitShows : State → Tables → Type 0
 CommitShows s T = IsTrue s.is_open → ShowsTables s.committed T
 
--- the rows read are those of a readable farm with these tables; they are refused as bad only where no readable farm has these tables
+-- the rows read are those of a readable farm with these tables; they are refused as bad only where
+-- no readable farm has these tables
 abbrev pub ReadsFarm : Result Rows StoreFault → Tables → Type 0
 ReadsFarm result T =
-    MatchResult result (λ rows. IsReadable (farm_of rows) × (rows_of (farm_of rows) ≡ T)) (λ fault. (fault ≢ OldSchema) × (fault ≡ BadStore → (F : Farm) → IsReadable F → rows_of F ≢ T))
+    MatchResult result (λ rows. IsReadable (farm_of rows) × (rows_of (farm_of rows) ≡ T))
+    (λ fault. (fault ≢ OldSchema) × (fault ≡ BadStore → (F : Farm) → IsReadable F
+    → rows_of F ≢ T))

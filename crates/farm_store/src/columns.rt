@@ -3,11 +3,14 @@ ghost use Rattle.std.specs.Prelude.{◌≡◌, ◌≤◌, [], pos, unwrap_or};
 ghost use Rattle.sqlite.specs.declared.types.Value.TheVariants.{Int, Text};
 ghost use Rattle.sqlite.specs.Values.{bound};
 ghost use Rattle.sqlite_value.specs.Value.{owned};
-ghost use Rattle.farm_types.specs.Small.{IsSmall, IsSmallType, IsSmallBoard, IsSmallJob, IsSmallRes, IsSmallKept, every_of, held_by};
+ghost use Rattle.farm_types.specs.Small.{IsSmall, IsSmallType, IsSmallBoard, IsSmallJob};
+ghost use Rattle.farm_types.specs.Small.{IsSmallRes, IsSmallKept, every_of, held_by};
 ghost use Rattle.std.specs.Option.{option_map_or};
-ghost use Rattle.farm_types.specs.Codes.{health_code, state_code, job_state_code, outcome_code, res_state_code};
+ghost use Rattle.farm_types.specs.Codes.{health_code, state_code, job_state_code, outcome_code};
+ghost use Rattle.farm_types.specs.Codes.{res_state_code};
 ghost use Rattle.farm_types.specs.Tags.{tags_text};
-ghost use Rattle.farm_store.specs.Columns.{unit_of, holder_of, type_columns, board_columns, job_columns, res_columns, kept_columns, meta_row};
+ghost use Rattle.farm_store.specs.Columns.{unit_of, holder_of, type_columns, board_columns};
+ghost use Rattle.farm_store.specs.Columns.{job_columns, res_columns, kept_columns, meta_row};
 
 use farm_types::rows::{BoardRow, Check, Holder, JobRow, KeptRow, ResRow, TypeRow};
 use farm_types::words::Name;

@@ -10,10 +10,11 @@ ghost use Rattle.farm_types.specs.Sound.{IsSound};
 
 use sqlite::{Alter, Connection};
 
-/// A connection that was just opened on the farm's tables stands for them: they have the farm's schema, nothing is
-/// uncommitted, and a stop now leaves them alone.
+/// A connection that was just opened on the farm's tables stands for them: they have the farm's
+/// schema, nothing is uncommitted, and a stop now leaves them alone.
 pub fn opened_stands<S: Alter>(conn: &Connection<S>)
-    ensures { Opens (state S.Store conn.now) → IsLive (state S.Store conn.now) → (T : Tables) → Holds (state S.Store conn.now).committed.trees T
+    ensures { Opens (state S.Store conn.now) → IsLive (state S.Store conn.now) → (T : Tables)
+        → Holds (state S.Store conn.now).committed.trees T
         → Stands (state S.Store conn.now) T }
 {
     let _ = conn.is_autocommit();

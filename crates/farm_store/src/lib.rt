@@ -1,7 +1,8 @@
 //! The farm's six tables in a store of SQL.
 //!
-//! Read `specs/` in the order Columns, Schema, Stored, Places, Holds, which say what a store holds; then Edits,
-//! Replaces, Texts of writing; then Readable, Reading of reading; Faults has the faults' numbers.
+//! Read `specs/` in the order Columns, Schema, Stored, Places, Holds, which say what a store holds;
+//! then Edits, Replaces, Texts of writing; then Readable, Reading of reading; Faults has the
+//! faults' numbers.
 #![tactic(auto)]
 
 mod columns;

@@ -33,10 +33,14 @@ use std::alloc::Global;
 /// Each table by its query.
 fn read_all<S: Alter>(alloc: Global, tx: &mut Transaction<'_, S>) -> Result<Rows, StoreFault>
     ensures goes_on { GoesOn S.Store tx.old tx.new }
-    ensures read { HasCleanDisk (state S.Store tx.new.conn.now) → (T : Tables) → IsInside (state S.Store tx.old.conn.now) T → ReadsFarm result T }
-    ensures opened { HasCleanDisk (state S.Store tx.new.conn.now) → OnOk result (IsTrue (state S.Store tx.old.conn.now).is_open) }
-    ensures kept { HasCleanDisk (state S.Store tx.new.conn.now) → (T : Tables) → IsInside (state S.Store tx.old.conn.now) T
-        → CommitShows (state S.Store tx.old.conn.now) T → CommitShows (state S.Store tx.new.conn.now) T }
+    ensures read { HasCleanDisk (state S.Store tx.new.conn.now) → (T : Tables)
+        → IsInside (state S.Store tx.old.conn.now) T → ReadsFarm result T }
+    ensures opened { HasCleanDisk (state S.Store tx.new.conn.now)
+        → OnOk result (IsTrue (state S.Store tx.old.conn.now).is_open) }
+    ensures kept { HasCleanDisk (state S.Store tx.new.conn.now) → (T : Tables)
+        → IsInside (state S.Store tx.old.conn.now) T
+        → CommitShows (state S.Store tx.old.conn.now) T
+        → CommitShows (state S.Store tx.new.conn.now) T }
 {
     Ok(Rows {
         types: read_types(alloc, tx)?,
@@ -53,13 +57,22 @@ fn load_any<S: Alter>(alloc: Global, conn: &mut Connection<S>) -> Result<Rows, S
     requires autocommit { conn.old.in_transaction ≡ false }
     ensures autocommit { conn.new.in_transaction ≡ false }
     ensures clean { KeepsDoubt (state S.Store conn.old) (state S.Store conn.new) }
-    ensures left { HasCleanDisk (state S.Store conn.new) → LeavesNoMore (state S.Store conn.old) (state S.Store conn.new) }
-    ensures stands { HasCleanDisk (state S.Store conn.new) → (T : Tables) → Stands (state S.Store conn.old) T → Stands (state S.Store conn.new) T }
-    ensures rows { HasCleanDisk (state S.Store conn.new) → IfOk result (λ rows. (T : Tables) → Stands (state S.Store conn.old) T → rows_of (farm_of rows) ≡ T) }
-    ensures farm { HasCleanDisk (state S.Store conn.new) → IfOk result (λ rows. (F : Farm) → IsReadable F → Stands (state S.Store conn.old) (rows_of F) → farm_of rows ≡ F) }
-    ensures opened { HasCleanDisk (state S.Store conn.new) → OnOk result (IsTrue (state S.Store conn.old).is_open) }
-    ensures bad { HasCleanDisk (state S.Store conn.new) → result ≡ Err StoreFault.BadStore → (F : Farm) → IsReadable F → ¬ Stands (state S.Store conn.old) (rows_of F) }
-    ensures old { HasCleanDisk (state S.Store conn.new) → result ≡ Err StoreFault.OldSchema → (T : Tables) → ¬ Stands (state S.Store conn.old) T }
+    ensures left { HasCleanDisk (state S.Store conn.new)
+        → LeavesNoMore (state S.Store conn.old) (state S.Store conn.new) }
+    ensures stands { HasCleanDisk (state S.Store conn.new) → (T : Tables)
+        → Stands (state S.Store conn.old) T → Stands (state S.Store conn.new) T }
+    ensures rows { HasCleanDisk (state S.Store conn.new)
+        → IfOk result (λ rows. (T : Tables) → Stands (state S.Store conn.old) T
+        → rows_of (farm_of rows) ≡ T) }
+    ensures farm { HasCleanDisk (state S.Store conn.new)
+        → IfOk result (λ rows. (F : Farm) → IsReadable F
+        → Stands (state S.Store conn.old) (rows_of F) → farm_of rows ≡ F) }
+    ensures opened { HasCleanDisk (state S.Store conn.new)
+        → OnOk result (IsTrue (state S.Store conn.old).is_open) }
+    ensures bad { HasCleanDisk (state S.Store conn.new) → result ≡ Err StoreFault.BadStore
+        → (F : Farm) → IsReadable F → ¬ Stands (state S.Store conn.old) (rows_of F) }
+    ensures old { HasCleanDisk (state S.Store conn.new) → result ≡ Err StoreFault.OldSchema
+        → (T : Tables) → ¬ Stands (state S.Store conn.old) T }
 {
     let mut tx = conn.transaction();
     let rows = read_all(alloc, &mut tx);
@@ -67,24 +80,33 @@ fn load_any<S: Alter>(alloc: Global, conn: &mut Connection<S>) -> Result<Rows, S
     rows
 }
 
-/// Reads the rows of all tables, in order of their keys, in one transaction that is rolled back. Refused as bad where a
-/// column can't be read: where it is of another kind, a name or a key is no word, tags are in no canonical text, a code
-/// stands for nothing, a number is below 0; where the farm's numbers are not exactly its clock, count and next number,
-/// with schema 1; and where the store has another column, table, index or view than the farm's. Where a table is not
-/// there, a call of the store was refused. Whether the rows are those of a sound farm is not looked at.
+/// Reads the rows of all tables, in order of their keys, in one transaction that is rolled back.
+/// Refused as bad where a column can't be read: where it is of another kind, a name or a key is no
+/// word, tags are in no canonical text, a code stands for nothing, a number is below 0; where the
+/// farm's numbers are not exactly its clock, count and next number, with schema 1; and where the
+/// store has another column, table, index or view than the farm's. Where a table is not there, a
+/// call of the store was refused. Whether the rows are those of a sound farm is not looked at.
 ///
 /// It reads each row once, and keeps the raw rows of one table at a time.
 pub fn load<S: Alter>(alloc: Global, conn: &mut Connection<S>) -> Result<Rows, StoreFault>
     requires autocommit { conn.old.in_transaction ≡ false }
     ensures autocommit { conn.new.in_transaction ≡ false }
     ensures clean { KeepsDoubt (state S.Store conn.old) (state S.Store conn.new) }
-    ensures left { HasCleanDisk (state S.Store conn.new) → LeavesNoMore (state S.Store conn.old) (state S.Store conn.new) }
-    ensures stands { HasCleanDisk (state S.Store conn.new) → (T : Tables) → Stands (state S.Store conn.old) T → Stands (state S.Store conn.new) T }
-    ensures rows { HasCleanDisk (state S.Store conn.new) → IfOk result (λ rows. (T : Tables) → Stands (state S.Store conn.old) T → rows_of (farm_of rows) ≡ T) }
-    ensures farm { HasCleanDisk (state S.Store conn.new) → IfOk result (λ rows. (F : Farm) → IsReadable F → Stands (state S.Store conn.old) (rows_of F) → farm_of rows ≡ F) }
+    ensures left { HasCleanDisk (state S.Store conn.new)
+        → LeavesNoMore (state S.Store conn.old) (state S.Store conn.new) }
+    ensures stands { HasCleanDisk (state S.Store conn.new) → (T : Tables)
+        → Stands (state S.Store conn.old) T → Stands (state S.Store conn.new) T }
+    ensures rows { HasCleanDisk (state S.Store conn.new)
+        → IfOk result (λ rows. (T : Tables) → Stands (state S.Store conn.old) T
+        → rows_of (farm_of rows) ≡ T) }
+    ensures farm { HasCleanDisk (state S.Store conn.new)
+        → IfOk result (λ rows. (F : Farm) → IsReadable F
+        → Stands (state S.Store conn.old) (rows_of F) → farm_of rows ≡ F) }
     ensures ours { OnOk result ((state S.Store conn.old).now.schema ≡ farm_schema) }
-    ensures bad { HasCleanDisk (state S.Store conn.new) → result ≡ Err StoreFault.BadStore → (F : Farm) → IsReadable F → ¬ Stands (state S.Store conn.old) (rows_of F) }
-    ensures old { HasCleanDisk (state S.Store conn.new) → result ≡ Err StoreFault.OldSchema → (T : Tables) → ¬ Stands (state S.Store conn.old) T }
+    ensures bad { HasCleanDisk (state S.Store conn.new) → result ≡ Err StoreFault.BadStore
+        → (F : Farm) → IsReadable F → ¬ Stands (state S.Store conn.old) (rows_of F) }
+    ensures old { HasCleanDisk (state S.Store conn.new) → result ≡ Err StoreFault.OldSchema
+        → (T : Tables) → ¬ Stands (state S.Store conn.old) T }
 {
     let is_ours = is_farm_schema(conn.schema());
     match load_any(alloc, conn) {

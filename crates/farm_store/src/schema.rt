@@ -21,9 +21,11 @@ pub(crate) const SCHEMA: u64 = 1;
 
 fn make<S: Alter>(tx: &mut Transaction<'_, S>, sql: &str) -> Result<(), Error>
     ensures goes_on { GoesOn S.Store tx.old tx.new }
-    ensures ran { HasCleanDisk (state S.Store tx.new.conn.now) → OnOk result (IsTrue (state S.Store tx.old.conn.now).in_transaction
+    ensures ran { HasCleanDisk (state S.Store tx.new.conn.now)
+        → OnOk result (IsTrue (state S.Store tx.old.conn.now).in_transaction
         → Ran sql.now (state S.Store tx.old.conn.now) (state S.Store tx.new.conn.now)) }
-    ensures kept { HasCleanDisk (state S.Store tx.new.conn.now) → IsTrue (state S.Store tx.old.conn.now).in_transaction
+    ensures kept { HasCleanDisk (state S.Store tx.new.conn.now)
+        → IsTrue (state S.Store tx.old.conn.now).in_transaction
         → KeepsCommit (state S.Store tx.old.conn.now) (state S.Store tx.new.conn.now) }
 {
     tx.execute(sql, &[])?;
@@ -32,11 +34,16 @@ fn make<S: Alter>(tx: &mut Transaction<'_, S>, sql: &str) -> Result<(), Error>
 
 fn make_all<S: Alter>(tx: &mut Transaction<'_, S>) -> Result<(), Error>
     ensures goes_on { GoesOn S.Store tx.old tx.new }
-    ensures made { HasCleanDisk (state S.Store tx.new.conn.now) → OnOk result (IsTrue (state S.Store tx.old.conn.now).in_transaction
-        → (state S.Store tx.old.conn.now).now.schema ≡ no_schema → IsInside (state S.Store tx.new.conn.now) no_rows) }
-    ensures refused { HasCleanDisk (state S.Store tx.new.conn.now) → OnOk result ((T : Tables) → ¬ IsInside (state S.Store tx.old.conn.now) T) }
-    ensures kept { HasCleanDisk (state S.Store tx.new.conn.now) → (T : Tables) → IsInside (state S.Store tx.old.conn.now) T
-        → CommitShows (state S.Store tx.old.conn.now) T → CommitShows (state S.Store tx.new.conn.now) T }
+    ensures made { HasCleanDisk (state S.Store tx.new.conn.now)
+        → OnOk result (IsTrue (state S.Store tx.old.conn.now).in_transaction
+        → (state S.Store tx.old.conn.now).now.schema ≡ no_schema
+        → IsInside (state S.Store tx.new.conn.now) no_rows) }
+    ensures refused { HasCleanDisk (state S.Store tx.new.conn.now)
+        → OnOk result ((T : Tables) → ¬ IsInside (state S.Store tx.old.conn.now) T) }
+    ensures kept { HasCleanDisk (state S.Store tx.new.conn.now) → (T : Tables)
+        → IsInside (state S.Store tx.old.conn.now) T
+        → CommitShows (state S.Store tx.old.conn.now) T
+        → CommitShows (state S.Store tx.new.conn.now) T }
 {
     make(
         tx,
@@ -68,9 +75,11 @@ fn make_all<S: Alter>(tx: &mut Transaction<'_, S>) -> Result<(), Error>
 /// No command was accepted at moment 0, and the first number is 1.
 fn put_first_numbers<S: Alter>(tx: &mut Transaction<'_, S>) -> Result<(), Error>
     ensures goes_on { GoesOn S.Store tx.old tx.new }
-    ensures put { HasCleanDisk (state S.Store tx.new.conn.now) → OnOk result (IsInside (state S.Store tx.old.conn.now) no_rows
+    ensures put { HasCleanDisk (state S.Store tx.new.conn.now)
+        → OnOk result (IsInside (state S.Store tx.old.conn.now) no_rows
         → IsInside (state S.Store tx.new.conn.now) (rows_of empty)) }
-    ensures stays_open { StaysOpen result (state S.Store tx.old.conn.now) (state S.Store tx.new.conn.now) }
+    ensures stays_open { StaysOpen result (state S.Store tx.old.conn.now)
+        (state S.Store tx.new.conn.now) }
 {
     let first = MetaRow {
         clock: 0,
@@ -82,20 +91,25 @@ fn put_first_numbers<S: Alter>(tx: &mut Transaction<'_, S>) -> Result<(), Error>
     Ok(())
 }
 
-/// Makes the six tables of the empty farm in one transaction, whose commit is the last call of the store. A store that
-/// has a table, an index or a view is refused, and stays as it is, so a store that stands for tables stands for them as
-/// before. Where a call of the store was refused, a stop leaves what it left before, or all that it makes.
+/// Makes the six tables of the empty farm in one transaction, whose commit is the last call of the
+/// store. A store that has a table, an index or a view is refused, and stays as it is, so a store
+/// that stands for tables stands for them as before. Where a call of the store was refused, a stop
+/// leaves what it left before, or all that it makes.
 ///
 /// It runs ten statements, whatever else the store holds.
 pub fn create<S: Alter>(conn: &mut Connection<S>) -> Result<(), StoreFault>
     requires autocommit { conn.old.in_transaction ≡ false }
     ensures autocommit { conn.new.in_transaction ≡ false }
     ensures clean { KeepsDoubt (state S.Store conn.old) (state S.Store conn.new) }
-    ensures ok { HasCleanDisk (state S.Store conn.new) → OnOk result (Stands (state S.Store conn.new) (rows_of empty)) }
-    ensures refused { HasCleanDisk (state S.Store conn.new) → OnOk result ((T : Tables) → ¬ Stands (state S.Store conn.old) T) }
+    ensures ok { HasCleanDisk (state S.Store conn.new)
+        → OnOk result (Stands (state S.Store conn.new) (rows_of empty)) }
+    ensures refused { HasCleanDisk (state S.Store conn.new)
+        → OnOk result ((T : Tables) → ¬ Stands (state S.Store conn.old) T) }
     ensures bare { OnOk result ((state S.Store conn.old).now.schema ≡ no_schema) }
-    ensures stands { HasCleanDisk (state S.Store conn.new) → (T : Tables) → Stands (state S.Store conn.old) T → Stands (state S.Store conn.new) T }
-    ensures stop { HasCleanDisk (state S.Store conn.new) → (db : Trees) → (state S.Store conn.new).may_leave db
+    ensures stands { HasCleanDisk (state S.Store conn.new) → (T : Tables)
+        → Stands (state S.Store conn.old) T → Stands (state S.Store conn.new) T }
+    ensures stop { HasCleanDisk (state S.Store conn.new) → (db : Trees)
+        → (state S.Store conn.new).may_leave db
         → (state S.Store conn.old).may_leave db ⊎ IsMadeIn (state S.Store conn.old) db }
     ensures fault { IfErr result (λ fault. fault ≡ StoreFault.Store) }
 {

@@ -1,6 +1,9 @@
 //! Whether a store's tables are the farm's.
 ghost use Rattle.std.specs.Prelude.{◌≡◌, ◌↔◌, ◌∷◌, [], IsTrue, codes, true, map};
-ghost use Rattle.farm_store.specs.Schema.{IsBare, boards_table, farm_indexes, farm_schema, jobs_table, kept_table, key_index, keyed, meta_table, no_schema, numbered, reservations_table, strict_column, types_table};
+ghost use Rattle.farm_store.specs.Schema.{IsBare, boards_table, farm_indexes, farm_schema};
+ghost use Rattle.farm_store.specs.Schema.{jobs_table, kept_table, key_index, keyed, meta_table};
+ghost use Rattle.farm_store.specs.Schema.{no_schema, numbered, reservations_table, strict_column};
+ghost use Rattle.farm_store.specs.Schema.{types_table};
 
 use sqlite_items::Items;
 use sqlite_schema::schema::{Column, Index, Kind, Schema, Table};
@@ -77,9 +80,11 @@ fn is_ordered_plainly(table: &Table) -> bool
     }
 }
 
-/// Whether a table, whatever its columns, has this name and this tree, and is keyed by the columns at these places.
+/// Whether a table, whatever its columns, has this name and this tree, and is keyed by the columns
+/// at these places.
 fn is_keyed(table: &Table, name: &str, tree: u32, places: &[usize]) -> bool
-    ensures { IsTrue result ↔ (table.now ≡ record (keyed name.now places.now table.now.columns) { tree = tree }) }
+    ensures { IsTrue result
+        ↔ (table.now ≡ record (keyed name.now places.now table.now.columns) { tree = tree }) }
 {
     table.name.as_slice() == name.as_bytes()
         && table.tree == tree
@@ -90,9 +95,11 @@ fn is_keyed(table: &Table, name: &str, tree: u32, places: &[usize]) -> bool
         && is_bare(table)
 }
 
-/// Whether a table, whatever its columns, has this name and this tree, and its first column is its rowid.
+/// Whether a table, whatever its columns, has this name and this tree, and its first column is its
+/// rowid.
 fn is_numbered(table: &Table, name: &str, tree: u32) -> bool
-    ensures { IsTrue result ↔ (table.now ≡ record (numbered name.now table.now.columns) { tree = tree }) }
+    ensures { IsTrue result
+        ↔ (table.now ≡ record (numbered name.now table.now.columns) { tree = tree }) }
 {
     table.name.as_slice() == name.as_bytes()
         && table.tree == tree
@@ -216,19 +223,22 @@ fn are_tables(tables: &[Table]) -> bool
 }
 
 fn is_key_of_types(index: &Index) -> bool
-    ensures { IsTrue result ↔ (index.now ≡ key_index (codes "sqlite_autoindex_types_1") 0 (1 ∷ [])) }
+    ensures { IsTrue result
+        ↔ (index.now ≡ key_index (codes "sqlite_autoindex_types_1") 0 (1 ∷ [])) }
 {
     is_key(index, "sqlite_autoindex_types_1", 0, &[1])
 }
 
 fn is_key_of_boards(index: &Index) -> bool
-    ensures { IsTrue result ↔ (index.now ≡ key_index (codes "sqlite_autoindex_boards_1") 2 (1 ∷ [])) }
+    ensures { IsTrue result
+        ↔ (index.now ≡ key_index (codes "sqlite_autoindex_boards_1") 2 (1 ∷ [])) }
 {
     is_key(index, "sqlite_autoindex_boards_1", 2, &[1])
 }
 
 fn is_key_of_replies(index: &Index) -> bool
-    ensures { IsTrue result ↔ (index.now ≡ key_index (codes "sqlite_autoindex_kept_1") 6 (1 ∷ 2 ∷ [])) }
+    ensures { IsTrue result
+        ↔ (index.now ≡ key_index (codes "sqlite_autoindex_kept_1") 6 (1 ∷ 2 ∷ [])) }
 {
     is_key(index, "sqlite_autoindex_kept_1", 6, &[1, 2])
 }
@@ -254,7 +264,8 @@ fn are_indexes(indexes: &[Index]) -> bool
 }
 
 #[tactic(auto, using(crate::proofs::Ours::schema_is))]
-/// Whether the tables are the farm's six and no others, with no index or view beside those of their keys.
+/// Whether the tables are the farm's six and no others, with no index or view beside those of their
+/// keys.
 pub(crate) fn is_farm_schema(schema: &Schema) -> bool
     ensures { IsTrue result ↔ (schema.now ≡ farm_schema) }
 {

@@ -38,8 +38,11 @@ fn put_lab<S: Alter>(
     requires boards { AreBeside texts.now.boards.items changes.now.boards.items }
     requires jobs { AreBeside texts.now.jobs.items changes.now.jobs.items }
     ensures goes_on { GoesOn S.Store tx.old tx.new }
-    ensures put { ChangesTables result (state S.Store tx.old.conn.now) (state S.Store tx.new.conn.now)
-        (λ T. put_at of_jobs (put_at of_boards (put_at of_types T (map type_columns changes.now.types.items)) (map board_columns changes.now.boards.items))
+    ensures put { ChangesTables result (state S.Store tx.old.conn.now)
+        (state S.Store tx.new.conn.now)
+        (λ T. put_at of_jobs
+        (put_at of_boards (put_at of_types T (map type_columns changes.now.types.items))
+        (map board_columns changes.now.boards.items))
         (map job_columns changes.now.jobs.items)) }
 {
     put_rows(tx, &changes.types)?;
@@ -59,8 +62,10 @@ fn put_all<S: Alter>(
     requires jobs { AreBeside texts.now.jobs.items changes.now.jobs.items }
     requires reservations { AreBeside texts.now.reservations.items changes.now.reservations.items }
     ensures goes_on { GoesOn S.Store tx.old tx.new }
-    ensures put { HasCleanDisk (state S.Store tx.new.conn.now) → OnOk result ((F : Farm) → IsInside (state S.Store tx.old.conn.now) (rows_of F)
-        → IsInside (state S.Store tx.new.conn.now) (rows_of (put_rows F changes.now)) × IsTrue (state S.Store tx.new.conn.now).is_open) }
+    ensures put { HasCleanDisk (state S.Store tx.new.conn.now)
+        → OnOk result ((F : Farm) → IsInside (state S.Store tx.old.conn.now) (rows_of F)
+        → IsInside (state S.Store tx.new.conn.now) (rows_of (put_rows F changes.now))
+        × IsTrue (state S.Store tx.new.conn.now).is_open) }
 {
     put_lab(tx, changes, texts)?;
     put_rows(tx, &texts.reservations)?;
@@ -69,9 +74,10 @@ fn put_all<S: Alter>(
     Ok(())
 }
 
-/// Puts the changed rows, each by its key, and the farm's three numbers in one transaction, whose commit is the last
-/// call of the store. The texts of tags are made before the first call of the store, so where memory is refused nothing
-/// has changed; where the store failed, a stop leaves the tables as they were or with all the changes put.
+/// Puts the changed rows, each by its key, and the farm's three numbers in one transaction, whose
+/// commit is the last call of the store. The texts of tags are made before the first call of the
+/// store, so where memory is refused nothing has changed; where the store failed, a stop leaves the
+/// tables as they were or with all the changes put.
 ///
 /// It writes the rows of the changes and three more, each by its key, and reads no other row.
 pub fn put<S: Alter>(
@@ -83,12 +89,15 @@ pub fn put<S: Alter>(
     requires small { AreSmall changes.now }
     ensures autocommit { conn.new.in_transaction ≡ false }
     ensures clean { KeepsDoubt (state S.Store conn.old) (state S.Store conn.new) }
-    ensures ok { HasCleanDisk (state S.Store conn.new) → OnOk result ((F : Farm) → Stands (state S.Store conn.old) (rows_of F)
+    ensures ok { HasCleanDisk (state S.Store conn.new)
+        → OnOk result ((F : Farm) → Stands (state S.Store conn.old) (rows_of F)
         → Stands (state S.Store conn.new) (rows_of (put_rows F changes.now))) }
-    ensures stop { HasCleanDisk (state S.Store conn.new) → (F : Farm) → Stands (state S.Store conn.old) (rows_of F)
+    ensures stop { HasCleanDisk (state S.Store conn.new) → (F : Farm)
+        → Stands (state S.Store conn.old) (rows_of F)
         → LeavesEither (state S.Store conn.new) (rows_of F) (rows_of (put_rows F changes.now)) }
     ensures memory { result ≡ Err StoreFault.NoMemory → conn.new ≡ conn.old }
-    ensures fault { IfErr result (λ fault. (fault ≡ StoreFault.NoMemory) ⊎ (fault ≡ StoreFault.Store)) }
+    ensures fault { IfErr result (λ fault. (fault ≡ StoreFault.NoMemory)
+        ⊎ (fault ≡ StoreFault.Store)) }
 {
     let texts = Texts::of(alloc, changes)?;
     let mut tx = conn.transaction();

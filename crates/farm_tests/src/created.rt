@@ -32,8 +32,8 @@ fn is_empty(alloc: Global, farm: &Farm) -> bool {
     }
 }
 
-/// Whether the tables of the empty farm are found, and can't be made again. Where there are none, they
-/// can be made. None where it is otherwise.
+/// Whether the tables of the empty farm are found, and can't be made again. Where there are none,
+/// they can be made. None where it is otherwise.
 fn is_found<S: Alter>(alloc: Global, conn: &mut Connection<S>) -> Option<bool> {
     match find(alloc, conn) {
         Ok(farm) => {
@@ -68,9 +68,9 @@ fn crashed<D: Disk + Crash>(store: FileStore<D>) -> (Files<D>, bool) {
     (Files { log, db }, was_stopped)
 }
 
-/// What a store of these files gives: where they are to be made, whether the tables were made, and else
-/// whether they are found; what files are left after a crash, and whether one was stopped. None where a
-/// stop came before the store was open.
+/// What a store of these files gives: where they are to be made, whether the tables were made, and
+/// else whether they are found; what files are left after a crash, and whether one was stopped.
+/// None where a stop came before the store was open.
 fn used<D: Disk + Crash + Drop>(
     alloc: Global,
     files: Files<D>,

@@ -34,8 +34,8 @@ impl<W: Write> Write for Tally<W> {
     }
 }
 
-/// Gives one byte a call, and is interrupted once before each of the first so many. At so many bytes
-/// it fails, once or for good.
+/// Gives one byte a call, and is interrupted once before each of the first so many. At so many
+/// bytes it fails, once or for good.
 #[derive(Drop)]
 pub struct Slow<'a> {
     rest: &'a [u8],
@@ -121,7 +121,8 @@ impl Read for Endless<'_> {
     }
 }
 
-/// Takes one byte a call, but after so many for some calls none: it is interrupted, or takes nothing.
+/// Takes one byte a call, but after so many for some calls none: it is interrupted, or takes
+/// nothing.
 #[derive(Drop)]
 pub struct Narrow {
     pub held: Vec<u8>,

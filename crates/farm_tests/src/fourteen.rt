@@ -10,8 +10,8 @@ use std::alloc::Global;
 use std::process::Abort;
 use std::test::Fail;
 
-/// Each command: its moment, who gives it, its line and its body, and its reply. Each pass serves one
-/// claim.
+/// Each command: its moment, who gives it, its line and its body, and its reply. Each pass serves
+/// one claim.
 const COMMANDS: [(u64, &str, &str, &str, Reply); 15] = [
     (
         10,
@@ -111,7 +111,8 @@ fn expect_end(rt: &impl Abort, end: &RunEnd) {
     }
 }
 
-/// Demands that the job was canceled, that its board is free, and that the reservation was given up.
+/// Demands that the job was canceled, that its board is free, and that the reservation was given
+/// up.
 fn expect_rows(rt: &impl Abort, farm: &Farm) -> Result<(), Fail> {
     let status = farm.status();
     assert_eq!(rt; (status.count, status.clock, status.next), (15, 80, 3));

@@ -1,5 +1,5 @@
-//! Tests of the public calls that cross crates below the desk, and of what no contract says; and what
-//! the desk's tests share with them.
+//! Tests of the public calls that cross crates below the desk, and of what no contract says; and
+//! what the desk's tests share with them.
 #![tactic(auto)]
 
 #[cfg(test)]

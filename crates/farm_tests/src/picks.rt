@@ -1,5 +1,5 @@
-//! What a least list and a queue are made of: the boards that fit a want, the list of wants that are
-//! lent, and which claim goes first.
+//! What a least list and a queue are made of: the boards that fit a want, the list of wants that
+//! are lent, and which claim goes first.
 use crate::rows::{board, name, want};
 use farm_pick::{Candidates, Free, before, least_of};
 use farm_types::claims::{Claim, ClaimKind};

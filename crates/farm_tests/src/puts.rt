@@ -58,8 +58,8 @@ fn numbers_in<S: Alter>(
     Ok((meta.clock, meta.count, meta.next))
 }
 
-/// The numbers are put. Where memory is refused to `put` or to the store, the six tables are as they
-/// were.
+/// The numbers are put. Where memory is refused to `put` or to the store, the six tables are as
+/// they were.
 fn expect_all_or_nothing<S: Alter + Drop>(
     rt: &impl Abort,
     alloc: Global,

@@ -104,8 +104,8 @@ fn longest(alloc: Global) -> Result<Vec<u8>, AllocError> {
     Ok(bytes)
 }
 
-/// A reader is not blamed before all its turns are taken: the longest request comes byte by byte, with
-/// as many interruptions as the turns allow, and with one more.
+/// A reader is not blamed before all its turns are taken: the longest request comes byte by byte,
+/// with as many interruptions as the turns allow, and with one more.
 #[test]
 fn all_turns(rt: HostRuntime) -> Result<(), Fail> {
     let bytes = longest(rt.alloc())?;

@@ -6,8 +6,8 @@ use sqlite::{Alter, Connection, FileStore, Files, Options};
 use sqlite_disk::{Disk, Fuse, Memory};
 use std::alloc::Global;
 
-// These have no clause, so that the proof of a test doesn't carry what a connection shows. Each asks
-// the connection that no transaction is begun.
+// These have no clause, so that the proof of a test doesn't carry what a connection shows. Each
+// asks the connection that no transaction is begun.
 
 /// Makes the tables of the empty farm.
 pub fn make<S: Alter>(conn: &mut Connection<S>) -> Result<(), StoreFault> {
@@ -33,8 +33,8 @@ pub fn made<S: Alter + Drop>(alloc: Global, conn: Connection<S>) -> Option<Keepe
     Keeper::fresh(alloc, conn).ok()
 }
 
-/// A store in two files, with a small cache, and a log that is soon copied into the tables' file; none
-/// where a file fails.
+/// A store in two files, with a small cache, and a log that is soon copied into the tables' file;
+/// none where a file fails.
 pub fn opened<D: Disk + Drop>(alloc: Global, files: Files<D>) -> Option<Connection<FileStore<D>>> {
     if !files.may_be_used() {
         return None;

@@ -1,7 +1,8 @@
 //! A row of each table that is put straight into a store, and read back as it was.
 ghost use Rattle.std.specs.Prelude.{IfOk};
 ghost use Rattle.std.specs.List.{AllByRecursion};
-ghost use Rattle.farm_types.specs.Small.{IsSmallType, IsSmallBoard, IsSmallJob, IsSmallRes, IsSmallKept, AreSmall};
+ghost use Rattle.farm_types.specs.Small.{IsSmallType, IsSmallBoard, IsSmallJob, IsSmallRes};
+ghost use Rattle.farm_types.specs.Small.{IsSmallKept, AreSmall};
 
 use crate::puts::write;
 use crate::rows::{board, job, name, tags, type_row};

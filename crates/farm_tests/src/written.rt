@@ -8,8 +8,8 @@ use std::test::Fail;
 
 const TEXT: &[u8] = b"HTTP/1.1 200 OK\r\n";
 
-/// Whether a text was written whole, how often the writer was called, by its own count too, and whether
-/// it failed.
+/// Whether a text was written whole, how often the writer was called, by its own count too, and
+/// whether it failed.
 fn written<W: Write>(rt: &impl Abort, writer: &mut W, text: &[u8]) -> (bool, usize, bool) {
     let mut output = Tally::new(writer);
     let mut writer = CountedWriter::new(&mut output);

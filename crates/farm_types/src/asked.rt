@@ -1,5 +1,6 @@
 //! What a claim asks for: wants, and the roles that they play.
-ghost use Rattle.std.specs.Prelude.{◌≡◌, ◌≤◌, ◌<◌, ◌⊎◌, ◌==◌, ◌&&◌, length, map, IsTrue, IfOk, MatchResult, nat_le, false};
+ghost use Rattle.std.specs.Prelude.{◌≡◌, ◌≤◌, ◌<◌, ◌⊎◌, ◌==◌, ◌&&◌, length, map, IsTrue, IfOk};
+ghost use Rattle.std.specs.Prelude.{MatchResult, nat_le, false};
 ghost use Rattle.farm_types.specs.Limits.{are_few_wants};
 
 use crate::refusal::{BAD_COUNT, Refusal};
@@ -33,7 +34,9 @@ impl Model for Wants {
 impl Wants {
     /// The wants of a list; refused as a bad count where there is none, or more than four.
     pub fn of(items: Vec<Want>) -> Result<Wants, Refusal>
-        ensures { MatchResult result (λ wants. (wants ≡ items.items) × IsTrue (are_few_wants items.items)) (λ refusal. (refusal.code ≡ BAD_COUNT) × (are_few_wants items.items ≡ false)) }
+        ensures { MatchResult result (λ wants. (wants ≡ items.items)
+            × IsTrue (are_few_wants items.items)) (λ refusal. (refusal.code ≡ BAD_COUNT)
+            × (are_few_wants items.items ≡ false)) }
     {
         if items.is_empty() || items.len() > MOST_WANTS {
             return Err(Refusal { code: BAD_COUNT });

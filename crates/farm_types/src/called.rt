@@ -2,7 +2,8 @@
 ghost use Rattle.std.specs.Prelude.{◌≡◌, IfOk, IfSome, false, string_bytes};
 ghost use Rattle.farm_types.specs.Codes.{same_outcome};
 ghost use Rattle.farm_types.specs.Limits.{is_every};
-ghost use Rattle.farm_types.specs.Called.{health_called, outcome_called, unit_of, unit_word, unit_called, holder_text, claim_word};
+ghost use Rattle.farm_types.specs.Called.{health_called, outcome_called, unit_of, unit_word};
+ghost use Rattle.farm_types.specs.Called.{unit_called, holder_text, claim_word};
 ghost use Rattle.farm_types.specs.declared.rows.Outcome.{Outcome};
 
 use crate::claims::ClaimKind;

@@ -1,6 +1,9 @@
 //! The numbers and the words of what is one of a few things.
 ghost use Rattle.std.specs.Prelude.{◌≡◌, codes};
-ghost use Rattle.farm_types.specs.Codes.{health_code, health_with, health_word, state_code, state_with, state_word, job_state_code, job_state_with, job_state_word, outcome_code, outcome_with, outcome_word, res_state_code, res_state_with, res_state_word};
+ghost use Rattle.farm_types.specs.Codes.{health_code, health_with, health_word, state_code};
+ghost use Rattle.farm_types.specs.Codes.{state_with, state_word, job_state_code, job_state_with};
+ghost use Rattle.farm_types.specs.Codes.{job_state_word, outcome_code, outcome_with, outcome_word};
+ghost use Rattle.farm_types.specs.Codes.{res_state_code, res_state_with, res_state_word};
 
 use crate::rows::{Health, JobState, Outcome, ResState, State};
 

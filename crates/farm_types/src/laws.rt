@@ -2,7 +2,9 @@
 ghost use Rattle.std.specs.Prelude.{◌≡◌, ℕ, List, [], Some, Ok};
 ghost use Rattle.farm_types.specs.Words.{IsTags};
 ghost use Rattle.farm_types.specs.Tags.{tags_read, tags_text};
-ghost use Rattle.farm_types.specs.Codes.{health_code, health_with, state_code, state_with, job_state_code, job_state_with, outcome_code, outcome_with, res_state_code, res_state_with};
+ghost use Rattle.farm_types.specs.Codes.{health_code, health_with, state_code, state_with};
+ghost use Rattle.farm_types.specs.Codes.{job_state_code, job_state_with, outcome_code};
+ghost use Rattle.farm_types.specs.Codes.{outcome_with, res_state_code, res_state_with};
 ghost use Rattle.farm_types.specs.declared.rows.Health.{Health};
 ghost use Rattle.farm_types.specs.declared.rows.State.{State};
 ghost use Rattle.farm_types.specs.declared.rows.JobState.{JobState};
@@ -32,7 +34,8 @@ pub fn codes_read_back()
 /// The canonical text of tags reads back as these tags, and no other text does.
 pub fn tags_read_back()
     ensures back { (tags : List (List ℕ)) → IsTags tags → tags_read (tags_text tags) ≡ Ok tags }
-    ensures only { (tags : List (List ℕ)) (text : List ℕ) → tags_read text ≡ Ok tags → tags_text tags ≡ text }
+    ensures only { (tags : List (List ℕ)) (text : List ℕ) → tags_read text ≡ Ok tags
+        → tags_text tags ≡ text }
 {}
 
 /// The scripts of jobs, groups and the plain pass answer and leave what was worked out by hand.

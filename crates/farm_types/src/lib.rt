@@ -1,8 +1,8 @@
 //! The words, rows, calls and refusals of the board farm, and in `specs/` the whole machine.
 //!
-//! Read `specs/` in the order Words, Table, Reads, Tags, Codes, Called, Refusals, Limits, Proper, Farm,
-//! Pick, Pass, Refuse, Change, Machine, Sound, Small; then the scripts that are computed from them:
-//! Worked, WorkedJobs, WorkedChecks, WorkedReservations, WorkedWhole.
+//! Read `specs/` in the order Words, Table, Reads, Tags, Codes, Called, Refusals, Limits, Proper,
+//! Farm, Pick, Pass, Refuse, Change, Machine, Sound, Small; then the scripts that are computed from
+//! them: Worked, WorkedJobs, WorkedChecks, WorkedReservations, WorkedWhole.
 #![tactic(auto)]
 
 pub mod asked;

@@ -38,7 +38,8 @@ impl Model for Priority {
 impl Priority {
     /// The priority of that number; refused above 100.
     pub fn of(number: u64) -> Result<Priority, Refusal>
-        ensures { MatchResult result (λ p. (p ≡ number) × (number ≤ 100)) (λ r. (r.code ≡ BAD_PRIORITY) × (100 < number)) }
+        ensures { MatchResult result (λ p. (p ≡ number) × (number ≤ 100))
+            (λ r. (r.code ≡ BAD_PRIORITY) × (100 < number)) }
     {
         if number > HIGHEST_PRIORITY {
             return Err(Refusal { code: BAD_PRIORITY });
@@ -53,7 +54,8 @@ impl Priority {
         Priority { number: MEDIUM }
     }
 
-    /// The priority that one of LAVA's words `low`, `medium` and `high` names; none for other words.
+    /// The priority that one of LAVA's words `low`, `medium` and `high` names; none for other
+    /// words.
     pub fn called(text: &str) -> Option<Priority>
         ensures { result ≡ priority_called text.now }
     {

@@ -63,7 +63,8 @@ impl Keyed for KeptRow {
             .then(self.key.order(&other.key))
     }
 
-    ghost total = { then_total (on_total (λ r. r.caller) nat_list_cmp_total) (on_total (λ r. r.key) nat_list_cmp_total) };
+    ghost total = { then_total (on_total (λ r. r.caller) nat_list_cmp_total)
+        (on_total (λ r. r.key) nat_list_cmp_total) };
 }
 
 impl Keyed for JobRow {

@@ -1,9 +1,13 @@
 //! Tags, as labgrid's places have them: a key alone, or a key and a value.
-ghost use Rattle.std.specs.Prelude.{◌≡◌, ◌↔◌, ◌==◌, ◌&&◌, ◌+◌, ◌++◌, ◌∷◌, [], length, take, drop, IsTrue, IfOk, IfErr, OnOk, Ok, Err, codes, not, map, MatchResult, ◌<◌, ◌≤◌, if◌then◌else◌, nat_lt, string_bytes};
+ghost use Rattle.std.specs.Prelude.{◌≡◌, ◌↔◌, ◌==◌, ◌&&◌, ◌+◌, ◌++◌, ◌∷◌, [], length, take, drop};
+ghost use Rattle.std.specs.Prelude.{IsTrue, IfOk, IfErr, OnOk, Ok, Err, codes, not, map};
+ghost use Rattle.std.specs.Prelude.{MatchResult, ◌<◌, ◌≤◌, if◌then◌else◌, nat_lt, string_bytes};
 ghost use Rattle.std.specs.List.{list_any, list_all, position, slice_split};
 ghost use Rattle.std.specs.Str.{bytes_eq};
-ghost use Rattle.farm_types.specs.Words.{IsTag, IsTags, is_word, is_tag, is_tags, tag_key, rise, text_cmp, word_or};
-ghost use Rattle.farm_types.specs.Tags.{tags_text, tags_read, tags_of, tags_among, tag_parts, list_of_tags};
+ghost use Rattle.farm_types.specs.Words.{IsTag, IsTags, is_word, is_tag, is_tags, tag_key, rise};
+ghost use Rattle.farm_types.specs.Words.{text_cmp, word_or};
+ghost use Rattle.farm_types.specs.Tags.{tags_text, tags_read, tags_of, tags_among, tag_parts};
+ghost use Rattle.farm_types.specs.Tags.{list_of_tags};
 ghost use Rattle.farm_types.specs.Proper.{has_no_name_tag};
 ghost use Rattle.farm_types.specs.Reads.{Reads};
 
@@ -140,7 +144,8 @@ impl Keyed for Tag {
 
 /// A comma before each tag but the first.
 fn separate(text: &mut String, at: usize) -> Result<(), AllocError>
-    ensures { OnOk result (string_bytes text.new ≡ (if at == 0 then string_bytes text.old else string_bytes text.old ++ 44 ∷ [])) }
+    ensures { OnOk result (string_bytes text.new ≡ (if at == 0 then string_bytes text.old
+        else string_bytes text.old ++ 44 ∷ [])) }
 {
     if at > 0 {
         text.push(',')?;
@@ -159,7 +164,8 @@ fn parts_of(alloc: Global, text: &[u8]) -> Result<Vec<&[u8]>, AllocError>
 }
 
 fn cut_at_commas(alloc: Global, text: &[u8]) -> Result<Vec<&[u8]>, AllocError>
-    ensures { IfOk result (λ parts. map (λ part. part.now) parts.items ≡ slice_split (λ byte. byte == 44) text.now) }
+    ensures { IfOk result (λ parts. map (λ part. part.now) parts.items ≡ slice_split
+        (λ byte. byte == 44) text.now) }
 {
     text.split(|byte| *byte == b',').collect(alloc)
 }

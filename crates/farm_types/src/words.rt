@@ -3,7 +3,8 @@ ghost use Rattle.std.specs.Prelude.{◌≡◌, ◌↔◌, [], length, IsTrue, If
 ghost use Rattle.std.specs.List.{list_all};
 ghost use Rattle.std.specs.Str.{IsUtf8, bytes_eq, is_utf8};
 ghost use Rattle.std.specs.String.{string_bytes};
-ghost use Rattle.farm_types.specs.Words.{IsName, IsKey, IsText, is_word, is_name_byte, text_cmp, word_or};
+ghost use Rattle.farm_types.specs.Words.{IsName, IsKey, IsText, is_word, is_name_byte, text_cmp};
+ghost use Rattle.farm_types.specs.Words.{word_or};
 ghost use Rattle.farm_types.specs.Reads.{Reads};
 
 use crate::fault::WordFault;
@@ -79,7 +80,8 @@ impl Name {
     /// The name that a text spells; refused as a bad name, or for memory where it spells one.
     #[tactic(auto, using(crate::proofs::WordLemmas::IsUtf8_of_word))]
     pub fn parse(alloc: Global, text: &[u8]) -> Result<Name, WordFault>
-        ensures reads { Reads (λ name. name) result (word_or (is_word 48 text.now) text.now BAD_NAME) }
+        ensures reads { Reads (λ name. name) result
+            (word_or (is_word 48 text.now) text.now BAD_NAME) }
         ensures memory { result ≡ Err WordFault.NoMemory → IsTrue (is_word 48 text.now) }
     {
         if !is_word(LONGEST_NAME, text) {

@@ -1,29 +1,11 @@
 -- The commands that paths and bodies spell.
-use Rattle.std.specs.Prelude.{
-  ℕ,
-  List,
-  [],
-  Option,
-  Some,
-  None,
-  option_and_then,
-  Result,
-  Ok,
-  Err,
-  codes,
-  if◌then◌else◌,
-}
+use Rattle.std.specs.Prelude.{ℕ, List, [], Option, Some, None, option_and_then, Result, Ok, Err}
+use Rattle.std.specs.Prelude.{codes, if◌then◌else◌}
 use Rattle.serde_json.specs.Data.{Num, Data}
 use Rattle.serde_json.specs.Find.{get, as_str, as_number, as_u64}
 use Rattle.farm_types.specs.Limits.{is_priority, is_every}
-use Rattle.farm_types.specs.Called.{
-  health_called,
-  outcome_called,
-  medium,
-  priority_called,
-  unit_called,
-  check_by,
-}
+use Rattle.farm_types.specs.Called.{health_called, outcome_called, medium, priority_called}
+use Rattle.farm_types.specs.Called.{unit_called, check_by}
 use Rattle.farm_types.specs.declared.called.CheckUnit.{CheckUnit}
 use Rattle.farm_types.specs.declared.rows.Check.{Check}
 use Rattle.farm_types.specs.declared.calls.Cmd.{Cmd}
@@ -31,15 +13,8 @@ use Rattle.farm_types.specs.declared.refusal.TheConstants.{BAD_REQUEST, BAD_PRIO
 use Rattle.farm_jobfile.specs.Job.{job}
 use Rattle.farm_types.specs.Reads.{◌>>=◌}
 use Rattle.farm_wire.specs.Reading.{by_number}
-use Rattle.farm_wire.specs.Fields.{
-  there_or,
-  object_in,
-  text_in,
-  name_in,
-  tags_from,
-  tags_in,
-  board_tags,
-}
+use Rattle.farm_wire.specs.Fields.{there_or, object_in, text_in, name_in, tags_from, tags_in}
+use Rattle.farm_wire.specs.Fields.{board_tags}
 use Rattle.farm_wire.specs.Parameters.{board_in, job_in, reservation_in}
 use Rattle.farm_wire.specs.declared.place.CommandKind.{CommandKind}
 

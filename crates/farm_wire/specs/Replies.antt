@@ -5,17 +5,8 @@ use Rattle.serde_json.specs.Written.{compact_text}
 use Rattle.farm_types.specs.Refusals.{status_of, reason_of}
 use Rattle.farm_types.specs.declared.refusal.TheConstants.{WRONG_METHOD}
 use Rattle.farm_wire.specs.Places.{allow_text}
-use Rattle.farm_wire.specs.Shown.{
-  listing,
-  reply_data,
-  refusal_data,
-  type_data,
-  board_data,
-  claim_data,
-  res_data,
-  job_data,
-  status_data,
-}
+use Rattle.farm_wire.specs.Shown.{listing, reply_data, refusal_data, type_data, board_data}
+use Rattle.farm_wire.specs.Shown.{claim_data, res_data, job_data, status_data}
 use Rattle.farm_wire.specs.declared.allowed.Allowed.{Allowed}
 use Rattle.farm_wire.specs.declared.answers.Out.{Out}
 

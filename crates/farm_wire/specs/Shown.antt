@@ -1,38 +1,13 @@
 -- The JSON of answers (RFC 8259). Keys stand in byte order.
-use Rattle.std.specs.Prelude.{
-  ℕ,
-  ◌==◌,
-  Bool,
-  unwrap_or,
-  List,
-  [],
-  ◌∷◌,
-  map,
-  codes,
-  Option,
-  if◌then◌else◌,
-}
+use Rattle.std.specs.Prelude.{ℕ, ◌==◌, Bool, unwrap_or, List, [], ◌∷◌, map, codes, Option}
+use Rattle.std.specs.Prelude.{if◌then◌else◌}
 use Rattle.std.specs.Option.{option_map}
-use Rattle.serde_json.specs.Data.{
-  Data,
-  number,
-  unsigned,
-  string,
-  array,
-  object,
-  Members,
-  member,
-  no_members,
-}
+use Rattle.serde_json.specs.Data.{Data, number, unsigned, string, array, object, Members, member}
+use Rattle.serde_json.specs.Data.{no_members}
 use Rattle.serde_json.specs.View.{items_of}
 use Rattle.farm_types.specs.Called.{unit_of, unit_word, holder_text, claim_word}
-use Rattle.farm_types.specs.Codes.{
-  health_word,
-  state_word,
-  job_state_word,
-  outcome_word,
-  res_state_word,
-}
+use Rattle.farm_types.specs.Codes.{health_word, state_word, job_state_word, outcome_word}
+use Rattle.farm_types.specs.Codes.{res_state_word}
 use Rattle.farm_types.specs.Small.{every_of}
 use Rattle.farm_types.specs.Refusals.{text_of}
 use Rattle.farm_types.specs.declared.rows.TypeRow.{TypeRow}

@@ -3,7 +3,8 @@ ghost use Rattle.std.specs.Prelude.{◌≡◌, ◌≢◌, map, codes, Err, IsTru
 ghost use Rattle.farm_types.specs.Proper.{has_no_name_tag};
 ghost use Rattle.serde_json.specs.View.{view, items_view};
 ghost use Rattle.farm_types.specs.Reads.{Reads};
-ghost use Rattle.farm_wire.specs.Fields.{text_in, name_in, texts_in, tags_from, tags_in, board_tags};
+ghost use Rattle.farm_wire.specs.Fields.{text_in, name_in, texts_in, tags_from, tags_in};
+ghost use Rattle.farm_wire.specs.Fields.{board_tags};
 
 use farm_types::fault::WordFault;
 use farm_types::refusal::{BAD_REQUEST, BAD_TAG, Refusal};

@@ -1,10 +1,12 @@
 //! The parameter of a path: its first segment behind what each path of a group begins with.
-ghost use Rattle.std.specs.Prelude.{◌≡◌, ◌==◌, ◌&&◌, ◌<◌, ◌≤◌, ◌≢◌, length, drop, Err, IsOk, MatchOption, not, nat_lt, position};
+ghost use Rattle.std.specs.Prelude.{◌≡◌, ◌==◌, ◌&&◌, ◌<◌, ◌≤◌, ◌≢◌, length, drop, Err, IsOk};
+ghost use Rattle.std.specs.Prelude.{MatchOption, not, nat_lt, position};
 ghost use Rattle.std.specs.Char.{is_ascii_digit, digit_value};
 ghost use Rattle.std.specs.List.{before_first, list_all};
 ghost use Rattle.std.specs.Str.Parse.{digits_value};
 ghost use Rattle.farm_types.specs.Reads.{Reads};
-ghost use Rattle.farm_wire.specs.Parameters.{parameter, begins_with_zero, is_number, number_in, board_in, job_in, reservation_in};
+ghost use Rattle.farm_wire.specs.Parameters.{parameter, begins_with_zero, is_number, number_in};
+ghost use Rattle.farm_wire.specs.Parameters.{board_in, job_in, reservation_in};
 
 use farm_types::fault::WordFault;
 use farm_types::refusal::{BAD_REQUEST, Refusal};

@@ -4,7 +4,8 @@ ghost use Rattle.serde_json.specs.View.{view};
 ghost use Rattle.farm_types.specs.Called.{priority_called};
 ghost use Rattle.farm_types.specs.Proper.{is_proper_cmd};
 ghost use Rattle.farm_types.specs.Reads.{Reads};
-ghost use Rattle.farm_wire.specs.Commands.{named_or, priority_number, priority_from, priority_in, reserve};
+ghost use Rattle.farm_wire.specs.Commands.{named_or, priority_number, priority_from, priority_in};
+ghost use Rattle.farm_wire.specs.Commands.{reserve};
 
 use crate::fields::tags_of;
 use crate::object::object_of;

@@ -1,5 +1,6 @@
 //! One call after another.
-ghost use Rattle.std.specs.Prelude.{◌≡◌, ◌≢◌, ◌≤◌, true, false, Err, IfOk, IfErr, [], length, vec_capacity};
+ghost use Rattle.std.specs.Prelude.{◌≡◌, ◌≢◌, ◌≤◌, true, false, Err, IfOk, IfErr, [], length};
+ghost use Rattle.std.specs.Prelude.{vec_capacity};
 ghost use Rattle.sqlite.specs.Held.{state};
 ghost use Rattle.farm_types.specs.Sound.{IsSound};
 ghost use Rattle.farm_keep.specs.Headline.{Denies, IsAlwaysClean, Resumes, Runs};

@@ -20,7 +20,8 @@ use std::alloc::Global;
 
 /// The holder of that kind, with that number.
 fn holder_with(kind: u64, number: u64) -> Option<Holder>
-    ensures { MatchOption result ((holder : Holder) → ¬ ((kind ≡ holder_of holder) × (number ≡ held_by holder)))
+    ensures { MatchOption result ((holder : Holder)
+        → ¬ ((kind ≡ holder_of holder) × (number ≡ held_by holder)))
         (λ holder. (kind ≡ holder_of holder) × (number ≡ held_by holder)) }
 {
     match (kind, number) {
@@ -52,7 +53,8 @@ fn board_of(alloc: Global, row: &Row) -> Result<BoardRow, StoreFault>
 }
 
 fn boards_of(alloc: Global, rows: &[Row]) -> Result<Vec<BoardRow>, StoreFault>
-    ensures { AllByRecursion (IsWide 9) rows.now → ReadsAll result (λ boards. boards.items) IsReadableBoard board_columns rows.now }
+    ensures { AllByRecursion (IsWide 9) rows.now
+        → ReadsAll result (λ boards. boards.items) IsReadableBoard board_columns rows.now }
 {
     let mut boards = Vec::new(alloc);
     for row in rows {
@@ -63,10 +65,14 @@ fn boards_of(alloc: Global, rows: &[Row]) -> Result<Vec<BoardRow>, StoreFault>
 
 fn board_rows<S: Alter>(tx: &mut Transaction<'_, S>) -> Result<Vec<Row>, Error>
     ensures goes_on { GoesOn S.Store tx.old tx.new }
-    ensures rows { HasCleanDisk (state S.Store tx.new.conn.now) → IfOk result (λ rows. (T : Tables) → IsInside (state S.Store tx.old.conn.now) T
-        → (rows.items ≡ T.boards) × AllByRecursion (IsWide 9) rows.items × IsInside (state S.Store tx.new.conn.now) T) }
-    ensures kept { HasCleanDisk (state S.Store tx.new.conn.now) → (T : Tables) → IsInside (state S.Store tx.old.conn.now) T
-        → CommitShows (state S.Store tx.old.conn.now) T → CommitShows (state S.Store tx.new.conn.now) T }
+    ensures rows { HasCleanDisk (state S.Store tx.new.conn.now) → IfOk result (λ rows. (T : Tables)
+        → IsInside (state S.Store tx.old.conn.now) T
+        → (rows.items ≡ T.boards) × AllByRecursion (IsWide 9) rows.items
+        × IsInside (state S.Store tx.new.conn.now) T) }
+    ensures kept { HasCleanDisk (state S.Store tx.new.conn.now) → (T : Tables)
+        → IsInside (state S.Store tx.old.conn.now) T
+        → CommitShows (state S.Store tx.old.conn.now) T
+        → CommitShows (state S.Store tx.new.conn.now) T }
 {
     let rows = tx.query_all(
         "SELECT name, kind, tags, health, state, holder, held_by, jobs_since, last_check FROM boards ORDER BY name",
@@ -81,12 +87,16 @@ pub(crate) fn read_boards<S: Alter>(
     tx: &mut Transaction<'_, S>,
 ) -> Result<Vec<BoardRow>, StoreFault>
     ensures goes_on { GoesOn S.Store tx.old tx.new }
-    ensures read { HasCleanDisk (state S.Store tx.new.conn.now) → (T : Tables) → IsInside (state S.Store tx.old.conn.now) T
+    ensures read { HasCleanDisk (state S.Store tx.new.conn.now) → (T : Tables)
+        → IsInside (state S.Store tx.old.conn.now) T
         → ReadsAll result (λ boards. boards.items) IsReadableBoard board_columns T.boards }
-    ensures inside { HasCleanDisk (state S.Store tx.new.conn.now) → OnOk result ((T : Tables) → IsInside (state S.Store tx.old.conn.now) T
+    ensures inside { HasCleanDisk (state S.Store tx.new.conn.now)
+        → OnOk result ((T : Tables) → IsInside (state S.Store tx.old.conn.now) T
         → IsInside (state S.Store tx.new.conn.now) T) }
-    ensures kept { HasCleanDisk (state S.Store tx.new.conn.now) → (T : Tables) → IsInside (state S.Store tx.old.conn.now) T
-        → CommitShows (state S.Store tx.old.conn.now) T → CommitShows (state S.Store tx.new.conn.now) T }
+    ensures kept { HasCleanDisk (state S.Store tx.new.conn.now) → (T : Tables)
+        → IsInside (state S.Store tx.old.conn.now) T
+        → CommitShows (state S.Store tx.old.conn.now) T
+        → CommitShows (state S.Store tx.new.conn.now) T }
 {
     let rows = board_rows(tx)?;
     boards_of(alloc, &rows)

@@ -1,12 +1,14 @@
 //! Columns of a row as words and numbers.
-ghost use Rattle.std.specs.Prelude.{◌≡◌, ◌≢◌, pos, IsTrue, IfSome, MatchResult, Err, unwrap_or, ⊤, []};
+ghost use Rattle.std.specs.Prelude.{◌≡◌, ◌≢◌, pos, IsTrue, IfSome, MatchResult, Err, unwrap_or, ⊤};
+ghost use Rattle.std.specs.Prelude.{[]};
 ghost use Rattle.std.specs.Option.{option_map_or};
 ghost use Rattle.sqlite.specs.declared.types.Value.TheVariants.{Int, Text};
 ghost use Rattle.sqlite_value.specs.Order.{column};
 ghost use Rattle.farm_types.specs.Words.{IsName, IsKey, IsTags, IsText};
 ghost use Rattle.farm_types.specs.Limits.{is_priority};
 ghost use Rattle.farm_types.specs.Tags.{tags_text};
-ghost use Rattle.farm_types.specs.Codes.{health_code, state_code, job_state_code, outcome_code, res_state_code};
+ghost use Rattle.farm_types.specs.Codes.{health_code, state_code, job_state_code, outcome_code};
+ghost use Rattle.farm_types.specs.Codes.{res_state_code};
 ghost use Rattle.farm_store.specs.Columns.{checking_code};
 ghost use Rattle.farm_store.specs.Reading.{ReadsAs};
 
@@ -19,7 +21,8 @@ use sqlite::types::ValueRef;
 use std::alloc::Global;
 
 pub(crate) fn text_at(row: &Row, at: usize) -> Result<&[u8], StoreFault>
-    ensures { MatchResult result (λ text. column row.now at ≡ Text text.now) (λ fault. (fault ≡ StoreFault.BadStore) × ((text : _) → column row.now at ≢ Text text)) }
+    ensures { MatchResult result (λ text. column row.now at ≡ Text text.now)
+        (λ fault. (fault ≡ StoreFault.BadStore) × ((text : _) → column row.now at ≢ Text text)) }
 {
     match row.get_ref(at) {
         Ok(ValueRef::Text(text)) => Ok(text),
@@ -55,7 +58,8 @@ pub(crate) fn name_if_any_at(
     row: &Row,
     at: usize,
 ) -> Result<Option<Name>, StoreFault>
-    ensures { ReadsAs result (λ name. IfSome name IsName) (λ name. Text (unwrap_or name [])) (column row.now at) }
+    ensures { ReadsAs result (λ name. IfSome name IsName) (λ name. Text (unwrap_or name []))
+        (column row.now at) }
 {
     let text = text_at(row, at)?;
     if text.is_empty() {
@@ -107,7 +111,8 @@ pub(crate) fn priority_at(row: &Row, at: usize) -> Result<Priority, StoreFault>
 }
 
 pub(crate) fn health_at(row: &Row, at: usize) -> Result<Health, StoreFault>
-    ensures { ReadsAs result (λ _. ⊤) (λ health. Int (pos (health_code health))) (column row.now at) }
+    ensures { ReadsAs result (λ _. ⊤) (λ health. Int (pos (health_code health)))
+        (column row.now at) }
 {
     Health::from_code(number_at(row, at)?).ok_or(StoreFault::BadStore)
 }
@@ -119,20 +124,23 @@ pub(crate) fn state_at(row: &Row, at: usize) -> Result<State, StoreFault>
 }
 
 pub(crate) fn job_state_at(row: &Row, at: usize) -> Result<JobState, StoreFault>
-    ensures { ReadsAs result (λ _. ⊤) (λ state. Int (pos (job_state_code state))) (column row.now at) }
+    ensures { ReadsAs result (λ _. ⊤) (λ state. Int (pos (job_state_code state)))
+        (column row.now at) }
 {
     JobState::from_code(number_at(row, at)?).ok_or(StoreFault::BadStore)
 }
 
 pub(crate) fn res_state_at(row: &Row, at: usize) -> Result<ResState, StoreFault>
-    ensures { ReadsAs result (λ _. ⊤) (λ state. Int (pos (res_state_code state))) (column row.now at) }
+    ensures { ReadsAs result (λ _. ⊤) (λ state. Int (pos (res_state_code state)))
+        (column row.now at) }
 {
     ResState::from_code(number_at(row, at)?).ok_or(StoreFault::BadStore)
 }
 
 /// No outcome where the number is 0.
 pub(crate) fn outcome_at(row: &Row, at: usize) -> Result<Option<Outcome>, StoreFault>
-    ensures { ReadsAs result (λ _. ⊤) (λ outcome. Int (pos (option_map_or outcome_code outcome 0))) (column row.now at) }
+    ensures { ReadsAs result (λ _. ⊤) (λ outcome. Int (pos (option_map_or outcome_code outcome 0)))
+        (column row.now at) }
 {
     match number_at(row, at)? {
         0 => Ok(None),
@@ -144,7 +152,8 @@ pub(crate) fn outcome_at(row: &Row, at: usize) -> Result<Option<Outcome>, StoreF
 }
 
 pub(crate) fn checking_at(row: &Row, at: usize) -> Result<bool, StoreFault>
-    ensures { ReadsAs result (λ _. ⊤) (λ checking. Int (pos (checking_code checking))) (column row.now at) }
+    ensures { ReadsAs result (λ _. ⊤) (λ checking. Int (pos (checking_code checking)))
+        (column row.now at) }
 {
     match number_at(row, at)? {
         0 => Ok(false),

@@ -41,7 +41,8 @@ fn job_of(alloc: Global, row: &Row) -> Result<JobRow, StoreFault>
 }
 
 fn jobs_of(alloc: Global, rows: &[Row]) -> Result<Vec<JobRow>, StoreFault>
-    ensures { AllByRecursion (IsWide 12) rows.now → ReadsAll result (λ jobs. jobs.items) IsReadableJob job_columns rows.now }
+    ensures { AllByRecursion (IsWide 12) rows.now
+        → ReadsAll result (λ jobs. jobs.items) IsReadableJob job_columns rows.now }
 {
     let mut jobs = Vec::new(alloc);
     for row in rows {
@@ -52,10 +53,14 @@ fn jobs_of(alloc: Global, rows: &[Row]) -> Result<Vec<JobRow>, StoreFault>
 
 fn job_rows<S: Alter>(tx: &mut Transaction<'_, S>) -> Result<Vec<Row>, Error>
     ensures goes_on { GoesOn S.Store tx.old tx.new }
-    ensures rows { HasCleanDisk (state S.Store tx.new.conn.now) → IfOk result (λ rows. (T : Tables) → IsInside (state S.Store tx.old.conn.now) T
-        → (rows.items ≡ T.jobs) × AllByRecursion (IsWide 12) rows.items × IsInside (state S.Store tx.new.conn.now) T) }
-    ensures kept { HasCleanDisk (state S.Store tx.new.conn.now) → (T : Tables) → IsInside (state S.Store tx.old.conn.now) T
-        → CommitShows (state S.Store tx.old.conn.now) T → CommitShows (state S.Store tx.new.conn.now) T }
+    ensures rows { HasCleanDisk (state S.Store tx.new.conn.now) → IfOk result (λ rows. (T : Tables)
+        → IsInside (state S.Store tx.old.conn.now) T
+        → (rows.items ≡ T.jobs) × AllByRecursion (IsWide 12) rows.items
+        × IsInside (state S.Store tx.new.conn.now) T) }
+    ensures kept { HasCleanDisk (state S.Store tx.new.conn.now) → (T : Tables)
+        → IsInside (state S.Store tx.old.conn.now) T
+        → CommitShows (state S.Store tx.old.conn.now) T
+        → CommitShows (state S.Store tx.new.conn.now) T }
 {
     let rows = tx.query_all(
         "SELECT number, grp, checking, owner, priority, kind, tags, role, state, outcome, board, body FROM jobs ORDER BY number",
@@ -70,12 +75,16 @@ pub(crate) fn read_jobs<S: Alter>(
     tx: &mut Transaction<'_, S>,
 ) -> Result<Vec<JobRow>, StoreFault>
     ensures goes_on { GoesOn S.Store tx.old tx.new }
-    ensures read { HasCleanDisk (state S.Store tx.new.conn.now) → (T : Tables) → IsInside (state S.Store tx.old.conn.now) T
+    ensures read { HasCleanDisk (state S.Store tx.new.conn.now) → (T : Tables)
+        → IsInside (state S.Store tx.old.conn.now) T
         → ReadsAll result (λ jobs. jobs.items) IsReadableJob job_columns T.jobs }
-    ensures inside { HasCleanDisk (state S.Store tx.new.conn.now) → OnOk result ((T : Tables) → IsInside (state S.Store tx.old.conn.now) T
+    ensures inside { HasCleanDisk (state S.Store tx.new.conn.now)
+        → OnOk result ((T : Tables) → IsInside (state S.Store tx.old.conn.now) T
         → IsInside (state S.Store tx.new.conn.now) T) }
-    ensures kept { HasCleanDisk (state S.Store tx.new.conn.now) → (T : Tables) → IsInside (state S.Store tx.old.conn.now) T
-        → CommitShows (state S.Store tx.old.conn.now) T → CommitShows (state S.Store tx.new.conn.now) T }
+    ensures kept { HasCleanDisk (state S.Store tx.new.conn.now) → (T : Tables)
+        → IsInside (state S.Store tx.old.conn.now) T
+        → CommitShows (state S.Store tx.old.conn.now) T
+        → CommitShows (state S.Store tx.new.conn.now) T }
 {
     let rows = job_rows(tx)?;
     jobs_of(alloc, &rows)

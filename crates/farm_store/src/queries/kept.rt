@@ -28,7 +28,8 @@ fn reply_of(alloc: Global, row: &Row) -> Result<KeptRow, StoreFault>
 }
 
 fn replies_of(alloc: Global, rows: &[Row]) -> Result<Vec<KeptRow>, StoreFault>
-    ensures { AllByRecursion (IsWide 6) rows.now → ReadsAll result (λ replies. replies.items) IsReadableKept kept_columns rows.now }
+    ensures { AllByRecursion (IsWide 6) rows.now
+        → ReadsAll result (λ replies. replies.items) IsReadableKept kept_columns rows.now }
 {
     let mut replies = Vec::new(alloc);
     for row in rows {
@@ -39,10 +40,14 @@ fn replies_of(alloc: Global, rows: &[Row]) -> Result<Vec<KeptRow>, StoreFault>
 
 fn reply_rows<S: Alter>(tx: &mut Transaction<'_, S>) -> Result<Vec<Row>, Error>
     ensures goes_on { GoesOn S.Store tx.old tx.new }
-    ensures rows { HasCleanDisk (state S.Store tx.new.conn.now) → IfOk result (λ rows. (T : Tables) → IsInside (state S.Store tx.old.conn.now) T
-        → (rows.items ≡ T.kept) × AllByRecursion (IsWide 6) rows.items × IsInside (state S.Store tx.new.conn.now) T) }
-    ensures kept { HasCleanDisk (state S.Store tx.new.conn.now) → (T : Tables) → IsInside (state S.Store tx.old.conn.now) T
-        → CommitShows (state S.Store tx.old.conn.now) T → CommitShows (state S.Store tx.new.conn.now) T }
+    ensures rows { HasCleanDisk (state S.Store tx.new.conn.now) → IfOk result (λ rows. (T : Tables)
+        → IsInside (state S.Store tx.old.conn.now) T
+        → (rows.items ≡ T.kept) × AllByRecursion (IsWide 6) rows.items
+        × IsInside (state S.Store tx.new.conn.now) T) }
+    ensures kept { HasCleanDisk (state S.Store tx.new.conn.now) → (T : Tables)
+        → IsInside (state S.Store tx.old.conn.now) T
+        → CommitShows (state S.Store tx.old.conn.now) T
+        → CommitShows (state S.Store tx.new.conn.now) T }
 {
     let rows = tx.query_all(
         "SELECT caller, ckey, kind, a, b, c FROM kept ORDER BY caller, ckey",
@@ -57,12 +62,16 @@ pub(crate) fn read_replies<S: Alter>(
     tx: &mut Transaction<'_, S>,
 ) -> Result<Vec<KeptRow>, StoreFault>
     ensures goes_on { GoesOn S.Store tx.old tx.new }
-    ensures read { HasCleanDisk (state S.Store tx.new.conn.now) → (T : Tables) → IsInside (state S.Store tx.old.conn.now) T
+    ensures read { HasCleanDisk (state S.Store tx.new.conn.now) → (T : Tables)
+        → IsInside (state S.Store tx.old.conn.now) T
         → ReadsAll result (λ replies. replies.items) IsReadableKept kept_columns T.kept }
-    ensures inside { HasCleanDisk (state S.Store tx.new.conn.now) → OnOk result ((T : Tables) → IsInside (state S.Store tx.old.conn.now) T
+    ensures inside { HasCleanDisk (state S.Store tx.new.conn.now)
+        → OnOk result ((T : Tables) → IsInside (state S.Store tx.old.conn.now) T
         → IsInside (state S.Store tx.new.conn.now) T) }
-    ensures kept { HasCleanDisk (state S.Store tx.new.conn.now) → (T : Tables) → IsInside (state S.Store tx.old.conn.now) T
-        → CommitShows (state S.Store tx.old.conn.now) T → CommitShows (state S.Store tx.new.conn.now) T }
+    ensures kept { HasCleanDisk (state S.Store tx.new.conn.now) → (T : Tables)
+        → IsInside (state S.Store tx.old.conn.now) T
+        → CommitShows (state S.Store tx.old.conn.now) T
+        → CommitShows (state S.Store tx.new.conn.now) T }
 {
     let rows = reply_rows(tx)?;
     replies_of(alloc, &rows)

@@ -17,7 +17,8 @@ use sqlite::{Alter, Error, Row, Transaction};
 
 /// The number of the row with that name.
 fn number_of(row: &Row, name: &str) -> Result<u64, StoreFault>
-    ensures { IsWide 2 row.now → ReadsAs result (λ _. ⊤) (λ value. meta_row name.now value) row.now }
+    ensures { IsWide 2 row.now
+        → ReadsAs result (λ _. ⊤) (λ value. meta_row name.now value) row.now }
 {
     if text_at(row, 0)? == name.as_bytes() {
         number_at(row, 1)
@@ -28,7 +29,9 @@ fn number_of(row: &Row, name: &str) -> Result<u64, StoreFault>
 
 /// The farm's numbers, where their four rows are all that there is.
 fn numbers_of(rows: &[Row]) -> Result<MetaRow, StoreFault>
-    ensures { AllByRecursion (IsWide 2) rows.now → ReadsAs result (λ _. ⊤) (λ numbers. meta_rows numbers.clock numbers.count numbers.next) rows.now }
+    ensures { AllByRecursion (IsWide 2) rows.now
+        → ReadsAs result (λ _. ⊤) (λ numbers. meta_rows numbers.clock numbers.count numbers.next)
+        rows.now }
 {
     let [clock, count, next, schema] = rows else {
         return Err(StoreFault::BadStore);
@@ -45,10 +48,14 @@ fn numbers_of(rows: &[Row]) -> Result<MetaRow, StoreFault>
 
 fn meta_rows<S: Alter>(tx: &mut Transaction<'_, S>) -> Result<Vec<Row>, Error>
     ensures goes_on { GoesOn S.Store tx.old tx.new }
-    ensures rows { HasCleanDisk (state S.Store tx.new.conn.now) → IfOk result (λ rows. (T : Tables) → IsInside (state S.Store tx.old.conn.now) T
-        → (rows.items ≡ T.meta) × AllByRecursion (IsWide 2) rows.items × IsInside (state S.Store tx.new.conn.now) T) }
-    ensures kept { HasCleanDisk (state S.Store tx.new.conn.now) → (T : Tables) → IsInside (state S.Store tx.old.conn.now) T
-        → CommitShows (state S.Store tx.old.conn.now) T → CommitShows (state S.Store tx.new.conn.now) T }
+    ensures rows { HasCleanDisk (state S.Store tx.new.conn.now) → IfOk result (λ rows. (T : Tables)
+        → IsInside (state S.Store tx.old.conn.now) T
+        → (rows.items ≡ T.meta) × AllByRecursion (IsWide 2) rows.items
+        × IsInside (state S.Store tx.new.conn.now) T) }
+    ensures kept { HasCleanDisk (state S.Store tx.new.conn.now) → (T : Tables)
+        → IsInside (state S.Store tx.old.conn.now) T
+        → CommitShows (state S.Store tx.old.conn.now) T
+        → CommitShows (state S.Store tx.new.conn.now) T }
 {
     let rows = tx.query_all("SELECT name, value FROM meta ORDER BY name", &[])?;
     Ok(rows)
@@ -57,10 +64,14 @@ fn meta_rows<S: Alter>(tx: &mut Transaction<'_, S>) -> Result<Vec<Row>, Error>
 /// The farm's numbers.
 pub(crate) fn read_numbers<S: Alter>(tx: &mut Transaction<'_, S>) -> Result<MetaRow, StoreFault>
     ensures goes_on { GoesOn S.Store tx.old tx.new }
-    ensures read { HasCleanDisk (state S.Store tx.new.conn.now) → (T : Tables) → IsInside (state S.Store tx.old.conn.now) T
-        → ReadsAs result (λ _. ⊤) (λ numbers. meta_rows numbers.clock numbers.count numbers.next) T.meta }
-    ensures kept { HasCleanDisk (state S.Store tx.new.conn.now) → (T : Tables) → IsInside (state S.Store tx.old.conn.now) T
-        → CommitShows (state S.Store tx.old.conn.now) T → CommitShows (state S.Store tx.new.conn.now) T }
+    ensures read { HasCleanDisk (state S.Store tx.new.conn.now) → (T : Tables)
+        → IsInside (state S.Store tx.old.conn.now) T
+        → ReadsAs result (λ _. ⊤) (λ numbers. meta_rows numbers.clock numbers.count numbers.next)
+        T.meta }
+    ensures kept { HasCleanDisk (state S.Store tx.new.conn.now) → (T : Tables)
+        → IsInside (state S.Store tx.old.conn.now) T
+        → CommitShows (state S.Store tx.old.conn.now) T
+        → CommitShows (state S.Store tx.new.conn.now) T }
 {
     let rows = meta_rows(tx)?;
     numbers_of(&rows)

@@ -36,7 +36,8 @@ fn reservation_of(alloc: Global, row: &Row) -> Result<ResRow, StoreFault>
 }
 
 fn reservations_of(alloc: Global, rows: &[Row]) -> Result<Vec<ResRow>, StoreFault>
-    ensures { AllByRecursion (IsWide 7) rows.now → ReadsAll result (λ reservations. reservations.items) IsReadableRes res_columns rows.now }
+    ensures { AllByRecursion (IsWide 7) rows.now
+        → ReadsAll result (λ reservations. reservations.items) IsReadableRes res_columns rows.now }
 {
     let mut reservations = Vec::new(alloc);
     for row in rows {
@@ -47,10 +48,14 @@ fn reservations_of(alloc: Global, rows: &[Row]) -> Result<Vec<ResRow>, StoreFaul
 
 fn reservation_rows<S: Alter>(tx: &mut Transaction<'_, S>) -> Result<Vec<Row>, Error>
     ensures goes_on { GoesOn S.Store tx.old tx.new }
-    ensures rows { HasCleanDisk (state S.Store tx.new.conn.now) → IfOk result (λ rows. (T : Tables) → IsInside (state S.Store tx.old.conn.now) T
-        → (rows.items ≡ T.reservations) × AllByRecursion (IsWide 7) rows.items × IsInside (state S.Store tx.new.conn.now) T) }
-    ensures kept { HasCleanDisk (state S.Store tx.new.conn.now) → (T : Tables) → IsInside (state S.Store tx.old.conn.now) T
-        → CommitShows (state S.Store tx.old.conn.now) T → CommitShows (state S.Store tx.new.conn.now) T }
+    ensures rows { HasCleanDisk (state S.Store tx.new.conn.now) → IfOk result (λ rows. (T : Tables)
+        → IsInside (state S.Store tx.old.conn.now) T
+        → (rows.items ≡ T.reservations) × AllByRecursion (IsWide 7) rows.items
+        × IsInside (state S.Store tx.new.conn.now) T) }
+    ensures kept { HasCleanDisk (state S.Store tx.new.conn.now) → (T : Tables)
+        → IsInside (state S.Store tx.old.conn.now) T
+        → CommitShows (state S.Store tx.old.conn.now) T
+        → CommitShows (state S.Store tx.new.conn.now) T }
 {
     let rows = tx.query_all(
         "SELECT number, owner, priority, tags, state, deadline, board FROM reservations ORDER BY number",
@@ -65,12 +70,17 @@ pub(crate) fn read_reservations<S: Alter>(
     tx: &mut Transaction<'_, S>,
 ) -> Result<Vec<ResRow>, StoreFault>
     ensures goes_on { GoesOn S.Store tx.old tx.new }
-    ensures read { HasCleanDisk (state S.Store tx.new.conn.now) → (T : Tables) → IsInside (state S.Store tx.old.conn.now) T
-        → ReadsAll result (λ reservations. reservations.items) IsReadableRes res_columns T.reservations }
-    ensures inside { HasCleanDisk (state S.Store tx.new.conn.now) → OnOk result ((T : Tables) → IsInside (state S.Store tx.old.conn.now) T
+    ensures read { HasCleanDisk (state S.Store tx.new.conn.now) → (T : Tables)
+        → IsInside (state S.Store tx.old.conn.now) T
+        → ReadsAll result (λ reservations. reservations.items) IsReadableRes res_columns
+        T.reservations }
+    ensures inside { HasCleanDisk (state S.Store tx.new.conn.now)
+        → OnOk result ((T : Tables) → IsInside (state S.Store tx.old.conn.now) T
         → IsInside (state S.Store tx.new.conn.now) T) }
-    ensures kept { HasCleanDisk (state S.Store tx.new.conn.now) → (T : Tables) → IsInside (state S.Store tx.old.conn.now) T
-        → CommitShows (state S.Store tx.old.conn.now) T → CommitShows (state S.Store tx.new.conn.now) T }
+    ensures kept { HasCleanDisk (state S.Store tx.new.conn.now) → (T : Tables)
+        → IsInside (state S.Store tx.old.conn.now) T
+        → CommitShows (state S.Store tx.old.conn.now) T
+        → CommitShows (state S.Store tx.new.conn.now) T }
 {
     let rows = reservation_rows(tx)?;
     reservations_of(alloc, &rows)

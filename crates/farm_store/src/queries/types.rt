@@ -20,7 +20,8 @@ use std::alloc::Global;
 
 /// The frequency with that unit and that number.
 fn check_of(unit: u64, every: u64) -> Option<Check>
-    ensures { MatchOption result ((check : Check) → ¬ ((unit ≡ unit_of check) × (every ≡ every_of check)))
+    ensures { MatchOption result ((check : Check)
+        → ¬ ((unit ≡ unit_of check) × (every ≡ every_of check)))
         (λ check. (unit ≡ unit_of check) × (every ≡ every_of check)) }
 {
     match (unit, every) {
@@ -44,7 +45,8 @@ fn type_of(alloc: Global, row: &Row) -> Result<TypeRow, StoreFault>
 }
 
 fn types_of(alloc: Global, rows: &[Row]) -> Result<Vec<TypeRow>, StoreFault>
-    ensures { AllByRecursion (IsWide 3) rows.now → ReadsAll result (λ types. types.items) IsReadableType type_columns rows.now }
+    ensures { AllByRecursion (IsWide 3) rows.now
+        → ReadsAll result (λ types. types.items) IsReadableType type_columns rows.now }
 {
     let mut types = Vec::new(alloc);
     for row in rows {
@@ -55,11 +57,16 @@ fn types_of(alloc: Global, rows: &[Row]) -> Result<Vec<TypeRow>, StoreFault>
 
 fn type_rows<S: Alter>(tx: &mut Transaction<'_, S>) -> Result<Vec<Row>, Error>
     ensures goes_on { GoesOn S.Store tx.old tx.new }
-    ensures rows { HasCleanDisk (state S.Store tx.new.conn.now) → IfOk result (λ rows. (T : Tables) → IsInside (state S.Store tx.old.conn.now) T
-        → (rows.items ≡ T.types) × AllByRecursion (IsWide 3) rows.items × IsInside (state S.Store tx.new.conn.now) T) }
-    ensures opened { HasCleanDisk (state S.Store tx.new.conn.now) → OnOk result (IsTrue (state S.Store tx.old.conn.now).is_open) }
-    ensures kept { HasCleanDisk (state S.Store tx.new.conn.now) → (T : Tables) → IsInside (state S.Store tx.old.conn.now) T
-        → CommitShows (state S.Store tx.old.conn.now) T → CommitShows (state S.Store tx.new.conn.now) T }
+    ensures rows { HasCleanDisk (state S.Store tx.new.conn.now) → IfOk result (λ rows. (T : Tables)
+        → IsInside (state S.Store tx.old.conn.now) T
+        → (rows.items ≡ T.types) × AllByRecursion (IsWide 3) rows.items
+        × IsInside (state S.Store tx.new.conn.now) T) }
+    ensures opened { HasCleanDisk (state S.Store tx.new.conn.now)
+        → OnOk result (IsTrue (state S.Store tx.old.conn.now).is_open) }
+    ensures kept { HasCleanDisk (state S.Store tx.new.conn.now) → (T : Tables)
+        → IsInside (state S.Store tx.old.conn.now) T
+        → CommitShows (state S.Store tx.old.conn.now) T
+        → CommitShows (state S.Store tx.new.conn.now) T }
 {
     let rows = tx.query_all("SELECT name, unit, every FROM types ORDER BY name", &[])?;
     Ok(rows)
@@ -71,13 +78,18 @@ pub(crate) fn read_types<S: Alter>(
     tx: &mut Transaction<'_, S>,
 ) -> Result<Vec<TypeRow>, StoreFault>
     ensures goes_on { GoesOn S.Store tx.old tx.new }
-    ensures read { HasCleanDisk (state S.Store tx.new.conn.now) → (T : Tables) → IsInside (state S.Store tx.old.conn.now) T
+    ensures read { HasCleanDisk (state S.Store tx.new.conn.now) → (T : Tables)
+        → IsInside (state S.Store tx.old.conn.now) T
         → ReadsAll result (λ types. types.items) IsReadableType type_columns T.types }
-    ensures inside { HasCleanDisk (state S.Store tx.new.conn.now) → OnOk result ((T : Tables) → IsInside (state S.Store tx.old.conn.now) T
+    ensures inside { HasCleanDisk (state S.Store tx.new.conn.now)
+        → OnOk result ((T : Tables) → IsInside (state S.Store tx.old.conn.now) T
         → IsInside (state S.Store tx.new.conn.now) T) }
-    ensures opened { HasCleanDisk (state S.Store tx.new.conn.now) → OnOk result (IsTrue (state S.Store tx.old.conn.now).is_open) }
-    ensures kept { HasCleanDisk (state S.Store tx.new.conn.now) → (T : Tables) → IsInside (state S.Store tx.old.conn.now) T
-        → CommitShows (state S.Store tx.old.conn.now) T → CommitShows (state S.Store tx.new.conn.now) T }
+    ensures opened { HasCleanDisk (state S.Store tx.new.conn.now)
+        → OnOk result (IsTrue (state S.Store tx.old.conn.now).is_open) }
+    ensures kept { HasCleanDisk (state S.Store tx.new.conn.now) → (T : Tables)
+        → IsInside (state S.Store tx.old.conn.now) T
+        → CommitShows (state S.Store tx.old.conn.now) T
+        → CommitShows (state S.Store tx.new.conn.now) T }
 {
     let rows = type_rows(tx)?;
     types_of(alloc, &rows)

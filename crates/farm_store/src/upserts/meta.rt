@@ -17,8 +17,10 @@ pub(crate) fn put_number<S: Alter>(
 ) -> Result<(), Error>
     requires small { IsSmall value }
     ensures goes_on { GoesOn S.Store tx.old tx.new }
-    ensures put { ChangesTables result (state S.Store tx.old.conn.now) (state S.Store tx.new.conn.now) (λ T. put_at of_meta T (meta_row name.now value ∷ [])) }
-    ensures stays_open { StaysOpen result (state S.Store tx.old.conn.now) (state S.Store tx.new.conn.now) }
+    ensures put { ChangesTables result (state S.Store tx.old.conn.now)
+        (state S.Store tx.new.conn.now) (λ T. put_at of_meta T (meta_row name.now value ∷ [])) }
+    ensures stays_open { StaysOpen result (state S.Store tx.old.conn.now)
+        (state S.Store tx.new.conn.now) }
 {
     let columns = meta_columns(name, value);
     tx.execute(
@@ -36,9 +38,11 @@ pub(crate) fn put_numbers<S: Alter>(
     requires count { IsSmall numbers.count }
     requires next { IsSmall numbers.next }
     ensures goes_on { GoesOn S.Store tx.old tx.new }
-    ensures put { ChangesTables result (state S.Store tx.old.conn.now) (state S.Store tx.new.conn.now)
+    ensures put { ChangesTables result (state S.Store tx.old.conn.now)
+        (state S.Store tx.new.conn.now)
         (λ T. put_at of_meta T (number_rows numbers.clock numbers.count numbers.next)) }
-    ensures stays_open { StaysOpen result (state S.Store tx.old.conn.now) (state S.Store tx.new.conn.now) }
+    ensures stays_open { StaysOpen result (state S.Store tx.old.conn.now)
+        (state S.Store tx.new.conn.now) }
 {
     put_number(tx, "clock", numbers.clock)?;
     put_number(tx, "count", numbers.count)?;

@@ -25,7 +25,8 @@ pub(crate) trait Upsert {
     fn put<S: Alter>(&self, tx: &mut Transaction<'_, S>) -> Result<(), Error>
         requires small { IsSmall self.now }
         ensures goes_on { GoesOn S.Store tx.old tx.new }
-        ensures put { ChangesTables result (state S.Store tx.old.conn.now) (state S.Store tx.new.conn.now) (λ T. put_at place T (columns self.now ∷ [])) };
+        ensures put { ChangesTables result (state S.Store tx.old.conn.now)
+            (state S.Store tx.new.conn.now) (λ T. put_at place T (columns self.now ∷ [])) };
 
     /// It is one of the tables' places.
     ghost is_place: { IsPlace place };
@@ -38,7 +39,8 @@ pub(crate) fn put_rows<S: Alter, R: Upsert>(
 ) -> Result<(), Error>
     requires small { AllByRecursion R.IsSmall rows.now }
     ensures goes_on { GoesOn S.Store tx.old tx.new }
-    ensures put { ChangesTables result (state S.Store tx.old.conn.now) (state S.Store tx.new.conn.now) (λ T. put_at R.place T (map R.columns rows.now)) }
+    ensures put { ChangesTables result (state S.Store tx.old.conn.now)
+        (state S.Store tx.new.conn.now) (λ T. put_at R.place T (map R.columns rows.now)) }
 {
     for row in rows {
         row.put(tx)?;

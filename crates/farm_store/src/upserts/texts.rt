@@ -29,9 +29,11 @@ pub(crate) struct Texts<'a> {
 
 impl<'a> Texts<'a> {
     pub(crate) fn of(alloc: Global, changes: &'a Changes) -> Result<Texts<'a>, AllocError>
-        ensures boards { IfOk result (λ texts. AreBeside texts.boards.items changes.now.boards.items) }
+        ensures boards { IfOk result
+            (λ texts. AreBeside texts.boards.items changes.now.boards.items) }
         ensures jobs { IfOk result (λ texts. AreBeside texts.jobs.items changes.now.jobs.items) }
-        ensures reservations { IfOk result (λ texts. AreBeside texts.reservations.items changes.now.reservations.items) }
+        ensures reservations { IfOk result
+            (λ texts. AreBeside texts.reservations.items changes.now.reservations.items) }
     {
         Ok(Texts {
             boards: tagged_rows(alloc, &changes.boards)?,
