@@ -5,7 +5,6 @@ use Rattle.std.specs.Prelude.{◌<ℤ◌, nat_lt, ◌==◌}
 use Rattle.std.proofs.lemmas.Bool.Decides.{nat_tests}
 use Rattle.std.proofs.lemmas.Int.{ints}
 use Rattle.std.proofs.Common.{arith, ◌<◌, Bool, true, false, cond, ◌≡◌, ℕ, pos, List, [], ◌∷◌, map, refl, sym, ap, ◌∙◌, Ordering, Less, Equal, Greater}
-use Rattle.std.specs.Prelude.{codes}
 use Rattle.std.specs.Ordering.{match_ordering, nat_cmp}
 use Rattle.std.specs.Cmp.Lexicographic.{slice_cmp}
 use Rattle.sqlite.specs.declared.types.Value.TheVariants.{Int, Text}
@@ -19,7 +18,8 @@ use Rattle.farm_types.specs.declared.rows.BoardRow.{BoardRow}
 use Rattle.farm_types.specs.declared.rows.JobRow.{JobRow}
 use Rattle.farm_types.specs.declared.rows.ResRow.{ResRow}
 use Rattle.farm_types.specs.declared.rows.KeptRow.{KeptRow}
-use Rattle.farm_store.specs.Columns.{rows_of, by_first, by_two, type_columns, board_columns, job_columns, res_columns, kept_columns, meta_row, number_rows}
+use Rattle.farm_types.specs.declared.rows.MetaRow.{MetaRow}
+use Rattle.farm_store.specs.Columns.{rows_of, by_first, by_two, type_columns, board_columns, job_columns, res_columns, kept_columns, meta_rows, number_rows, numbers_of}
 use Rattle.farm_store.specs.Places.{put_tables}
 
 module _ {X Y : Type 0} (f : X → Y) (c : Y → Y → Ordering) (d : X → X → Ordering) (same : (a b : X) → c (f a) (f b) ≡ d a b) where
@@ -71,9 +71,8 @@ of_reservations a b = by_number a.number b.number
 of_kept : (a b : KeptRow) → by_two (kept_columns a) (kept_columns b) ≡ kept_cmp a b
 of_kept a b = rw (by_name a.caller b.caller, by_name a.key b.key)
 
-of_meta : (k n x : ℕ) (l m y : ℕ) → put_all by_first (meta_row (codes "clock") k ∷ meta_row (codes "count") n ∷ meta_row (codes "next") x ∷ meta_row (codes "schema") 1 ∷ []) (number_rows l m y)
-    ≡ meta_row (codes "clock") l ∷ meta_row (codes "count") m ∷ meta_row (codes "next") y ∷ meta_row (codes "schema") 1 ∷ []
-of_meta k n x l m y = simp value_cmp-Text
+of_meta : (old new : MetaRow) → put_all by_first (meta_rows old) (number_rows new) ≡ meta_rows new
+of_meta old new = simp value_cmp-Text
 
 pub commutes : (F : Farm) (c : Changes) → rows_of (put_rows F c) ≡ put_tables (rows_of F) c
 unfolding rows_of
@@ -83,5 +82,5 @@ commutes F c =
     let jobs = map_put_all job_columns by_first job_cmp of_jobs F.jobs c.jobs.items in
     let reservations = map_put_all res_columns by_first res_cmp of_reservations F.reservations c.reservations.items in
     let kept = map_put_all kept_columns by_two kept_cmp of_kept F.kept c.kept.items in
-    let meta = of_meta F.clock F.count F.next c.meta.clock c.meta.count c.meta.next in
+    let meta = of_meta (numbers_of F) c.meta in
     cc

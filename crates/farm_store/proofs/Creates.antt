@@ -1,7 +1,8 @@
 -- The tables are made.
-use Rattle.std.proofs.Common.{◌≡◌, ◌⊎◌, inl, inr, ℕ, List, [], ◌∷◌, codes, Bool, true, false, Ok, Err, Result, is_ok, refl, sym, ap, subst, ◌∙◌, IsTrue}
+use Rattle.std.proofs.Common.{◌≡◌, ◌⊎◌, inl, inr, ℕ, List, [], ◌∷◌, Bool, true, false, Ok, Err, Result, is_ok, refl, sym, ap, subst, ◌∙◌, IsTrue}
 use Rattle.sqlite.specs.Order.{Row}
 use Rattle.sqlite.specs.Table.{Table}
+use Rattle.sqlite.specs.Tree.{Trees}
 use Rattle.sqlite.specs.Schema.{Schema}
 use Rattle.sqlite.specs.Command.TheVariants.{CreateTable}
 use Rattle.sqlite.specs.Compile.{table_defined_by}
@@ -12,11 +13,18 @@ use Rattle.sqlite.specs.Listing.{understood}
 use Rattle.sqlite.specs.Effect.{Database, IsDatabase}
 use Rattle.sqlite.specs.State.{State, Writes, ExecutesIn}
 use Rattle.sqlite.proofs.Callers.{IsPlain, command_of, statement_of, runs_as}
+use Rattle.farm_store.specs.declared.types.TheConstants.{MAKE as MAKE_TYPES}
+use Rattle.farm_store.specs.declared.boards.TheConstants.{MAKE as MAKE_BOARDS}
+use Rattle.farm_store.specs.declared.jobs.TheConstants.{MAKE as MAKE_JOBS}
+use Rattle.farm_store.specs.declared.reservations.TheConstants.{MAKE as MAKE_RESERVATIONS}
+use Rattle.farm_store.specs.declared.kept.TheConstants.{MAKE as MAKE_KEPT}
+use Rattle.farm_store.specs.declared.meta.TheConstants.{MAKE as MAKE_META}
 use Rattle.farm_store.specs.Schema.{farm_schema, no_schema, types_table, boards_table, jobs_table, reservations_table, kept_table, meta_table}
-use Rattle.farm_store.specs.Columns.{Tables, no_rows, by_first, by_two}
+use Rattle.farm_store.specs.Columns.{Tables, no_rows}
 use Rattle.farm_store.specs.Edits.{Ran}
 use Rattle.farm_store.specs.Holds.{IsInside}
-use Rattle.farm_store.specs.Stored.{Lists, unnumbered, with_number}
+use Rattle.farm_store.specs.Places.{Place, of_types, of_boards, of_jobs, of_reservations, of_kept, of_meta}
+use Rattle.farm_store.specs.Stored.{Lists}
 use Rattle.sqlite_catalog.specs.Listing.{AreListed}
 use Rattle.sqlite_trees.specs.Objects.{catalog_tree}
 use Rattle.std.proofs.Common.{Ordering}
@@ -56,69 +64,54 @@ makes old new text s t is whole plain defined no_sequence has ran =
 abbrev pub schema_1 : Schema
 schema_1 = created no_schema types_table
 
-abbrev pub types_text : List ℕ
-types_text = codes "CREATE TABLE types(name TEXT PRIMARY KEY NOT NULL, unit INTEGER NOT NULL, every INTEGER NOT NULL) STRICT"
-
-pub makes_types : (old new : State) → old.now.schema ≡ no_schema → Ran types_text old new → Makes old new no_schema types_table
+pub makes_types : (old new : State) → old.now.schema ≡ no_schema → Ran MAKE_TYPES.now old new → Makes old new no_schema types_table
 unfolding understood everything
-makes_types old new has ran = makes old new types_text no_schema types_table refl refl (refl, refl) refl refl has ran
+makes_types old new has ran = makes old new MAKE_TYPES.now no_schema types_table refl refl (refl, refl) refl refl has ran
 
 abbrev pub schema_2 : Schema
 schema_2 = created schema_1 boards_table
 
-abbrev pub boards_text : List ℕ
-boards_text = codes "CREATE TABLE boards(name TEXT PRIMARY KEY NOT NULL, kind TEXT NOT NULL, tags TEXT NOT NULL, health INTEGER NOT NULL, state INTEGER NOT NULL, holder INTEGER NOT NULL, held_by INTEGER NOT NULL, jobs_since INTEGER NOT NULL, last_check INTEGER NOT NULL) STRICT"
-
-pub makes_boards : (old new : State) → old.now.schema ≡ schema_1 → Ran boards_text old new → Makes old new schema_1 boards_table
+pub makes_boards : (old new : State) → old.now.schema ≡ schema_1 → Ran MAKE_BOARDS.now old new → Makes old new schema_1 boards_table
 unfolding understood everything
-makes_boards old new has ran = makes old new boards_text schema_1 boards_table refl refl (refl, refl) refl refl has ran
+makes_boards old new has ran = makes old new MAKE_BOARDS.now schema_1 boards_table refl refl (refl, refl) refl refl has ran
 
 abbrev pub schema_3 : Schema
 schema_3 = created schema_2 jobs_table
 
-abbrev pub jobs_text : List ℕ
-jobs_text = codes "CREATE TABLE jobs(number INTEGER PRIMARY KEY NOT NULL, grp INTEGER NOT NULL, checking INTEGER NOT NULL, owner TEXT NOT NULL, priority INTEGER NOT NULL, kind TEXT NOT NULL, tags TEXT NOT NULL, role TEXT NOT NULL, state INTEGER NOT NULL, outcome INTEGER NOT NULL, board TEXT NOT NULL, body TEXT NOT NULL) STRICT"
-
-pub makes_jobs : (old new : State) → old.now.schema ≡ schema_2 → Ran jobs_text old new → Makes old new schema_2 jobs_table
+pub makes_jobs : (old new : State) → old.now.schema ≡ schema_2 → Ran MAKE_JOBS.now old new → Makes old new schema_2 jobs_table
 unfolding understood everything
-makes_jobs old new has ran = makes old new jobs_text schema_2 jobs_table refl refl (refl, refl) refl refl has ran
+makes_jobs old new has ran = makes old new MAKE_JOBS.now schema_2 jobs_table refl refl (refl, refl) refl refl has ran
 
 abbrev pub schema_4 : Schema
 schema_4 = created schema_3 reservations_table
 
-abbrev pub reservations_text : List ℕ
-reservations_text = codes "CREATE TABLE reservations(number INTEGER PRIMARY KEY NOT NULL, owner TEXT NOT NULL, priority INTEGER NOT NULL, tags TEXT NOT NULL, state INTEGER NOT NULL, deadline INTEGER NOT NULL, board TEXT NOT NULL) STRICT"
-
-pub makes_reservations : (old new : State) → old.now.schema ≡ schema_3 → Ran reservations_text old new → Makes old new schema_3 reservations_table
+pub makes_reservations : (old new : State) → old.now.schema ≡ schema_3 → Ran MAKE_RESERVATIONS.now old new → Makes old new schema_3 reservations_table
 unfolding understood everything
-makes_reservations old new has ran = makes old new reservations_text schema_3 reservations_table refl refl (refl, refl) refl refl has ran
+makes_reservations old new has ran = makes old new MAKE_RESERVATIONS.now schema_3 reservations_table refl refl (refl, refl) refl refl has ran
 
 abbrev pub schema_5 : Schema
 schema_5 = created schema_4 kept_table
 
-abbrev pub kept_text : List ℕ
-kept_text = codes "CREATE TABLE kept(caller TEXT NOT NULL, ckey TEXT NOT NULL, kind INTEGER NOT NULL, a INTEGER NOT NULL, b INTEGER NOT NULL, c INTEGER NOT NULL, PRIMARY KEY(caller, ckey)) STRICT"
-
-pub makes_kept : (old new : State) → old.now.schema ≡ schema_4 → Ran kept_text old new → Makes old new schema_4 kept_table
+pub makes_kept : (old new : State) → old.now.schema ≡ schema_4 → Ran MAKE_KEPT.now old new → Makes old new schema_4 kept_table
 unfolding understood everything
-makes_kept old new has ran = makes old new kept_text schema_4 kept_table refl refl (refl, refl) refl refl has ran
+makes_kept old new has ran = makes old new MAKE_KEPT.now schema_4 kept_table refl refl (refl, refl) refl refl has ran
 
 abbrev pub schema_6 : Schema
 schema_6 = created schema_5 meta_table
 
-abbrev pub meta_text : List ℕ
-meta_text = codes "CREATE TABLE meta(name TEXT PRIMARY KEY NOT NULL, value INTEGER NOT NULL) STRICT"
-
-pub makes_meta : (old new : State) → old.now.schema ≡ schema_5 → Ran meta_text old new → Makes old new schema_5 meta_table
+pub makes_meta : (old new : State) → old.now.schema ≡ schema_5 → Ran MAKE_META.now old new → Makes old new schema_5 meta_table
 unfolding understood everything
-makes_meta old new has ran = makes old new meta_text schema_5 meta_table refl refl (refl, refl) refl refl has ran
+makes_meta old new has ran = makes old new MAKE_META.now schema_5 meta_table refl refl (refl, refl) refl refl has ran
 
 no_rows_there : (cmp : Row → Row → Ordering) (show : Row → Row) (width : ℕ) (raws : List Row) → raws ≡ [] → Lists cmp show width raws []
 no_rows_there cmp show width [] is = record { ordered = tt; keyed = tt; apart = tt; strict = tt; wide = tt; sound = λ r none. absurd none; complete = λ raw none. absurd none }
 no_rows_there cmp show width (r ∷ raws) is = absurd (let e = is in cc)
 
+none_at : (p : Place) (db : Trees) → db p.tree ≡ [] → Lists p.cmp p.show p.width (db p.tree) []
+none_at p db is = no_rows_there p.cmp p.show p.width (db p.tree) is
+
 -- the six tables are made, and have no rows
-pub makes_all : (a b c d e f h : State) → a.now.schema ≡ no_schema → Ran types_text a b → Ran boards_text b c → Ran jobs_text c d → Ran reservations_text d e → Ran kept_text e f → Ran meta_text f h → IsInside h no_rows
+pub makes_all : (a b c d e f h : State) → a.now.schema ≡ no_schema → Ran MAKE_TYPES.now a b → Ran MAKE_BOARDS.now b c → Ran MAKE_JOBS.now c d → Ran MAKE_RESERVATIONS.now d e → Ran MAKE_KEPT.now e f → Ran MAKE_META.now f h → IsInside h no_rows
 makes_all a b c d e f h has one two three four five six =
     let p = makes_types a b has one in
     let q = makes_boards b c p.is two in
@@ -137,12 +130,12 @@ makes_all a b c d e f h has one two three four five six =
         schema = u.is;
         holds = record {
           listed = subst (AreListed (h.now.trees catalog_tree)) u.is u.sound.lists.listed;
-          types = no_rows_there by_first unnumbered 3 (h.now.trees 0) types;
-          boards = no_rows_there by_first unnumbered 9 (h.now.trees 2) boards;
-          jobs = no_rows_there by_first with_number 12 (h.now.trees 4) jobs;
-          reservations = no_rows_there by_first with_number 7 (h.now.trees 5) reservations;
-          kept = no_rows_there by_two unnumbered 6 (h.now.trees 6) kept;
-          meta = no_rows_there by_first unnumbered 2 (h.now.trees 8) u.empty;
+          types = none_at of_types h.now.trees types;
+          boards = none_at of_boards h.now.trees boards;
+          jobs = none_at of_jobs h.now.trees jobs;
+          reservations = none_at of_reservations h.now.trees reservations;
+          kept = none_at of_kept h.now.trees kept;
+          meta = none_at of_meta h.now.trees u.empty;
         };
       };
     }
@@ -156,9 +149,9 @@ taken old new text s refused has ran =
     let no : true ≡ false = ap is_ok known ∙ refused in cc
 
 -- the first table is not made over the farm's
-pub types_taken : (old new : State) → old.now.schema ≡ farm_schema → Ran types_text old new → ⊥
+pub types_taken : (old new : State) → old.now.schema ≡ farm_schema → Ran MAKE_TYPES.now old new → ⊥
 unfolding understood everything
-types_taken old new has ran = taken old new types_text farm_schema refl has ran
+types_taken old new has ran = taken old new MAKE_TYPES.now farm_schema refl has ran
 
-pub tables_taken : (old new : State) (T : Tables) → IsInside old T → Ran types_text old new → ⊥
+pub tables_taken : (old new : State) (T : Tables) → IsInside old T → Ran MAKE_TYPES.now old new → ⊥
 tables_taken old new T at ran = types_taken old new (at.shown ran.2).schema ran

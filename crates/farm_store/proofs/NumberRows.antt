@@ -5,13 +5,14 @@ use Rattle.sqlite.specs.declared.types.Value.TheVariants.{Int, Text}
 use Rattle.sqlite.specs.Order.{Row}
 use Rattle.sqlite_value.specs.Order.{column}
 use Rattle.farm_store.specs.Columns.{meta_row}
+use Rattle.farm_store.specs.Places.{of_meta}
 use Rattle.farm_store.specs.Reading.{ReadsAs}
 use Rattle.farm_store.specs.Stored.{IsWide}
 use Rattle.farm_store.specs.declared.fault.StoreFault.{StoreFault}
 use Rattle.farm_store.proofs.ColumnsFrom.{whole}
 
-pub number_read : (r : Result ℕ StoreFault) (row : Row) (name : List ℕ) → IsWide 2 row → column row 0 ≡ Text name → ReadsAs r (λ _. ⊤) (λ n. Int (pos n)) (column row 1) → ReadsAs r (λ _. ⊤) (λ value. meta_row name value) row
-number_read (Ok n) row name wide named read = (tt, sym (whole 2 row wide) ∙ rw (named, read.1))
+pub number_read : (r : Result ℕ StoreFault) (row : Row) (name : List ℕ) → IsWide of_meta.width row → column row 0 ≡ Text name → ReadsAs r (λ _. ⊤) (λ n. Int (pos n)) (column row 1) → ReadsAs r (λ _. ⊤) (λ value. meta_row name value) row
+number_read (Ok n) row name wide named read = (tt, sym (whole of_meta.width row wide) ∙ rw (named, read.1))
 number_read (Err e) row name wide named read = (read.0, λ bad value good is. read.1 bad value good (ap (λ r. column r 1) is))
 
 pub four_rows : (rows : List Row) (a b c d : Row) → length rows ≡ 4 → a ≡ get_or rows 0 a → b ≡ get_or rows 1 b → c ≡ get_or rows 2 c → d ≡ get_or rows 3 d → rows ≡ a ∷ b ∷ c ∷ d ∷ []

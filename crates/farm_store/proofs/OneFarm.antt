@@ -2,7 +2,7 @@
 use Rattle.std.proofs.Common.{refl, ◌≡◌, ℕ, pos, List, [], ◌∷◌, map, Bool, true, false, Option, None, Some, unwrap_or, IfSome, get_or, sym, ap, subst, ◌∙◌, arith}
 use Rattle.std.specs.Option.{option_map_or}
 use Rattle.std.specs.List.{AllByRecursion}
-use Rattle.sqlite.specs.declared.types.Value.TheVariants.{Int, Text}
+use Rattle.sqlite.specs.declared.types.Value.TheVariants.{Int}
 use Rattle.sqlite.specs.Order.{Row}
 use Rattle.sqlite_value.specs.Order.{column}
 use Rattle.farm_types.specs.Words.{IsName, IsTags, is_word}
@@ -27,14 +27,8 @@ use Rattle.farm_types.specs.Tags.{tags_read}
 use Rattle.farm_store.specs.Columns.{Tables, rows_of, unit_of, holder_of, checking_code, type_columns, board_columns, job_columns, res_columns, kept_columns}
 use Rattle.farm_store.specs.Readable.{IsReadable, IsReadableType, IsReadableBoard, IsReadableJob, IsReadableRes, IsReadableKept}
 
-same_text : (s t : List ℕ) → Text s ≡ Text t → s ≡ t
-same_text s t e = cc
-
 same_number : (m n : ℕ) → Int (pos m) ≡ Int (pos n) → m ≡ n
 same_number m n e = cc
-
-text_in : (a b : Row) (at : ℕ) (s t : List ℕ) → column a at ≡ Text s → column b at ≡ Text t → a ≡ b → s ≡ t
-text_in a b at s t p q is = same_text s t (sym p ∙ ap (λ r. column r at) is ∙ q)
 
 number_in : (a b : Row) (at : ℕ) (m n : ℕ) → column a at ≡ Int (pos m) → column b at ≡ Int (pos n) → a ≡ b → m ≡ n
 number_in a b at m n p q is = same_number m n (sym p ∙ ap (λ r. column r at) is ∙ q)
@@ -122,82 +116,45 @@ same_tags a b p q e = let both = sym (tags_read_back a p) ∙ ap tags_read e ∙
 
 same_type : (x y : TypeRow) → IsReadableType x → IsReadableType y → type_columns x ≡ type_columns y → x ≡ y
 same_type x y p q is =
-    let name = text_in (type_columns x) (type_columns y) 0 x.name y.name refl refl is in
-    let unit = number_in (type_columns x) (type_columns y) 1 (unit_of x.check) (unit_of y.check) refl refl is in
-    let every = number_in (type_columns x) (type_columns y) 2 (every_of x.check) (every_of y.check) refl refl is in
-    let check = same_check x.check y.check unit every in
-    λ i. record { name = name i; check = check i }
+    let check = same_check x.check y.check (cc) (cc) in
+    let whole : record x { name = x.name } ≡ record y { name = y.name } = cc in
+    whole
 
 same_board : (x y : BoardRow) → IsReadableBoard x → IsReadableBoard y → board_columns x ≡ board_columns y → x ≡ y
 same_board x y p q is =
-    let text = text_in (board_columns x) (board_columns y) in
-    let number = number_in (board_columns x) (board_columns y) in
-    let name = text 0 x.name y.name refl refl is in
-    let kind = text 1 x.kind y.kind refl refl is in
-    let tags = same_tags x.tags y.tags p.tags q.tags (text 2 (tags_text x.tags) (tags_text y.tags) refl refl is) in
-    let health = same_code health_code health_with health_back x.health y.health (number 3 (health_code x.health) (health_code y.health) refl refl is) in
-    let state = same_code state_code state_with state_back x.state y.state (number 4 (state_code x.state) (state_code y.state) refl refl is) in
-    let holder = same_holder x.holder y.holder (number 5 (holder_of x.holder) (holder_of y.holder) refl refl is) (number 6 (held_by x.holder) (held_by y.holder) refl refl is) in
-    let since = number 7 x.jobs_since y.jobs_since refl refl is in
-    let checked = number 8 x.last_check y.last_check refl refl is in
-    λ i. record { name = name i; kind = kind i; tags = tags i; health = health i; state = state i; holder = holder i; jobs_since = since i; last_check = checked i }
+    let tags = same_tags x.tags y.tags p.tags q.tags (cc) in
+    let health = same_code health_code health_with health_back x.health y.health (cc) in
+    let state = same_code state_code state_with state_back x.state y.state (cc) in
+    let holder = same_holder x.holder y.holder (cc) (cc) in
+    let whole : record x { name = x.name } ≡ record y { name = y.name } = cc in
+    whole
 
 same_job : (x y : JobRow) → IsReadableJob x → IsReadableJob y → job_columns x ≡ job_columns y → x ≡ y
 same_job x y p q is =
-    let text = text_in (job_columns x) (job_columns y) in
-    let number = number_in (job_columns x) (job_columns y) in
-    let own = number 0 x.number y.number refl refl is in
-    let group = number 1 x.group y.group refl refl is in
-    let checking = same_checking x.checking y.checking (number 2 (checking_code x.checking) (checking_code y.checking) refl refl is) in
-    let owner = text 3 x.owner y.owner refl refl is in
-    let priority = number 4 x.priority y.priority refl refl is in
-    let kind = same_name x.want.kind y.want.kind p.kind q.kind (text 5 (unwrap_or x.want.kind []) (unwrap_or y.want.kind []) refl refl is) in
-    let tags = same_tags x.want.tags y.want.tags p.tags q.tags (text 6 (tags_text x.want.tags) (tags_text y.want.tags) refl refl is) in
-    let role = same_name x.role y.role p.role q.role (text 7 (unwrap_or x.role []) (unwrap_or y.role []) refl refl is) in
-    let state = same_code job_state_code job_state_with job_state_back x.state y.state (number 8 (job_state_code x.state) (job_state_code y.state) refl refl is) in
-    let code = number 9 (option_map_or outcome_code x.outcome 0) (option_map_or outcome_code y.outcome 0) refl refl is in
+    let checking = same_checking x.checking y.checking (cc) in
+    let kind = same_name x.want.kind y.want.kind p.kind q.kind (cc) in
+    let tags = same_tags x.want.tags y.want.tags p.tags q.tags (cc) in
+    let role = same_name x.role y.role p.role q.role (cc) in
+    let state = same_code job_state_code job_state_with job_state_back x.state y.state (cc) in
+    let code : option_map_or outcome_code x.outcome 0 ≡ option_map_or outcome_code y.outcome 0 = cc in
     let outcome = sym (outcome_back x.outcome) ∙ ap outcome_with code ∙ outcome_back y.outcome in
-    let board = same_name x.board y.board p.board q.board (text 10 (unwrap_or x.board []) (unwrap_or y.board []) refl refl is) in
-    let body = text 11 x.body y.body refl refl is in
-    λ i. record {
-      number = own i;
-      group = group i;
-      checking = checking i;
-      owner = owner i;
-      priority = priority i;
-      want = record { kind = kind i; tags = tags i };
-      role = role i;
-      state = state i;
-      outcome = outcome i;
-      board = board i;
-      body = body i;
-    }
+    let board = same_name x.board y.board p.board q.board (cc) in
+    let whole : record x { want = record x.want { kind = x.want.kind } } ≡ record y { want = record y.want { kind = y.want.kind } } = cc in
+    whole
 
 same_res : (x y : ResRow) → IsReadableRes x → IsReadableRes y → res_columns x ≡ res_columns y → x ≡ y
 same_res x y p q is =
-    let text = text_in (res_columns x) (res_columns y) in
-    let number = number_in (res_columns x) (res_columns y) in
-    let own = number 0 x.number y.number refl refl is in
-    let owner = text 1 x.owner y.owner refl refl is in
-    let priority = number 2 x.priority y.priority refl refl is in
     let kind = p.kind ∙ sym q.kind in
-    let tags = same_tags x.want.tags y.want.tags p.tags q.tags (text 3 (tags_text x.want.tags) (tags_text y.want.tags) refl refl is) in
-    let state = same_code res_state_code res_state_with res_state_back x.state y.state (number 4 (res_state_code x.state) (res_state_code y.state) refl refl is) in
-    let deadline = number 5 x.deadline y.deadline refl refl is in
-    let board = same_name x.board y.board p.board q.board (text 6 (unwrap_or x.board []) (unwrap_or y.board []) refl refl is) in
-    λ i. record { number = own i; owner = owner i; priority = priority i; want = record { kind = kind i; tags = tags i }; state = state i; deadline = deadline i; board = board i }
+    let tags = same_tags x.want.tags y.want.tags p.tags q.tags (cc) in
+    let state = same_code res_state_code res_state_with res_state_back x.state y.state (cc) in
+    let board = same_name x.board y.board p.board q.board (cc) in
+    let whole : record x { want = record x.want { kind = x.want.kind } } ≡ record y { want = record y.want { kind = y.want.kind } } = cc in
+    whole
 
 same_kept : (x y : KeptRow) → IsReadableKept x → IsReadableKept y → kept_columns x ≡ kept_columns y → x ≡ y
 same_kept x y p q is =
-    let text = text_in (kept_columns x) (kept_columns y) in
-    let number = number_in (kept_columns x) (kept_columns y) in
-    let caller = text 0 x.caller y.caller refl refl is in
-    let key = text 1 x.key y.key refl refl is in
-    let kind = number 2 x.kind y.kind refl refl is in
-    let first = number 3 x.reply.0 y.reply.0 refl refl is in
-    let second = number 4 x.reply.1 y.reply.1 refl refl is in
-    let third = number 5 x.reply.2 y.reply.2 refl refl is in
-    λ i. record { caller = caller i; key = key i; kind = kind i; reply = (first i, second i, third i) }
+    let whole : record x { reply = (x.reply.0, x.reply.1, x.reply.2) } ≡ record y { reply = (y.reply.0, y.reply.1, y.reply.2) } = cc in
+    whole
 
 same_rows : {X : Type 0} (IsGood : X → Type 0) (columns : X → Row) → ((x y : X) → IsGood x → IsGood y → columns x ≡ columns y → x ≡ y)
     → (xs ys : List X) → AllByRecursion IsGood xs → AllByRecursion IsGood ys → map columns xs ≡ map columns ys → xs ≡ ys

@@ -53,6 +53,7 @@ use Rattle.sqlite_rules.specs.Lists.{Has}
 use Rattle.sqlite_rules.proofs.ListLemmas.{all_has, all_from}
 use Rattle.sqlite_rules.proofs.PlaceLemmas.{tied_same}
 use Rattle.sqlite_rules.proofs.TableLemmas.{int_is}
+use Rattle.farm_store.specs.declared.meta.TheConstants.{PUT}
 use Rattle.farm_store.specs.Schema.{farm_schema, strict, meta_table}
 use Rattle.farm_store.specs.Columns.{Tables, by_first, meta_row}
 use Rattle.farm_store.specs.Holds.{IsInside}
@@ -67,9 +68,6 @@ use Rattle.farm_store.proofs.Replace.{went, same_value, cast_int, cast_null, fro
 use Rattle.farm_store.proofs.OnConflict.{task, does}
 use Rattle.farm_store.proofs.OneRow.{Upserted}
 use Rattle.farm_store.proofs.PutAt.{meta_known, stands_put}
-
-abbrev pub put_text : List ℕ
-put_text = codes "INSERT INTO meta VALUES (?1, ?2) ON CONFLICT (name) DO UPDATE SET value = excluded.value"
 
 abbrev terms : List Term
 terms = lit Null ∷ col 0 0 ∷ col 0 1 ∷ []
@@ -90,11 +88,11 @@ query = record {
 abbrev clause : Upsert
 clause = record { target = Some (1 ∷ []); update = Some (record { lets = []; body = query }) }
 
-put_is : command_of (understood farm_schema put_text) ≡ InsertOr 5 Abort (Values terms 3) (clause ∷ [])
+put_is : command_of (understood farm_schema PUT.now) ≡ InsertOr 5 Abort (Values terms 3) (clause ∷ [])
 unfolding understood everything
 put_is = refl
 
-put_plain : IsPlain (understood farm_schema put_text)
+put_plain : IsPlain (understood farm_schema PUT.now)
 unfolding understood everything
 put_plain = (refl, refl)
 
@@ -288,14 +286,14 @@ module _ (mode : Mode) (limit : Option ℕ) (db : Trees) (rows : List Row) (it :
   pub judge : (w : Written) → Upserts the_task Abort new db (clause ∷ []) (Ok w) → Makes w.trees
   judge w h = either h.0 h.1 w h.2
 
-pub puts : (old new : State) (name : List ℕ) (value : ℕ) (count : ℕ) (T : Tables) → IsInside old T → ExecutesInside 0 put_text (meta_row name value) old new (Ok count) → IsInside new (put_at of_meta T (meta_row name value ∷ []))
+pub puts : (old new : State) (name : List ℕ) (value : ℕ) (count : ℕ) (T : Tables) → IsInside old T → ExecutesInside 0 PUT.now (meta_row name value) old new (Ok count) → IsInside new (put_at of_meta T (meta_row name value ∷ []))
 puts old new name value count T at ran =
     let see = at.shown ran.1.was_open in
     let x = meta_row name value in
     let db = old.now.trees in
     let command = InsertOr 5 Abort (Values terms 3) (clause ∷ []) in
-    let run = runs_as put_text x old new farm_schema see.schema command put_is put_plain count ran.0 in
-    let sql = statement_of put_text (understood farm_schema put_text) in
+    let run = runs_as PUT.now x old new farm_schema see.schema command put_is put_plain count ran.0 in
+    let sql = statement_of PUT.now (understood farm_schema PUT.now) in
     let changed = subst (λ s. Does old.step_limit (mode_of old) x (record old.now { schema = s }) sql None command (Ok (run.tally, new.now))) see.schema run.changed in
     let did = does old.step_limit (mode_of old) farm_schema (codes "meta") 8 table.columns None (1 ∷ []) ((1 ∷ []) ∷ []) (record { digits = 0 } ∷ []) x clause
     db (Int (next_rowid (db 8)) ∷ x) (Makes (mode_of old) old.step_limit db T.meta see.holds.meta name value) (judge (mode_of old) old.step_limit db T.meta see.holds.meta name value)

@@ -3,7 +3,7 @@ use Rattle.std.proofs.Common.{refl, ◌≡◌, ◌≢◌, Result, Ok, Err, IfOk,
 use Rattle.std.specs.List.{AllByRecursion}
 use Rattle.farm_types.specs.Farm.{Farm, farm_of}
 use Rattle.farm_types.specs.declared.calls.Rows.{Rows}
-use Rattle.farm_store.specs.Columns.{Tables, rows_of, type_columns, board_columns, job_columns, res_columns, kept_columns, meta_rows}
+use Rattle.farm_store.specs.Columns.{Tables, rows_of, type_columns, board_columns, job_columns, res_columns, kept_columns, meta_rows, numbers_of}
 use Rattle.farm_store.specs.Readable.{IsReadable, IsReadableType, IsReadableBoard, IsReadableJob, IsReadableRes, IsReadableKept}
 use Rattle.farm_store.specs.Reading.{ReadsFarm}
 use Rattle.farm_store.specs.declared.fault.StoreFault.{StoreFault}
@@ -29,7 +29,7 @@ pub kept_in : (F : Farm) (T : Tables) → rows_of F ≡ T → T.kept ≡ map kep
 unfolding rows_of
 kept_in F T is = ap (λ (U : Tables). U.kept) (sym is)
 
-pub meta_in : (F : Farm) (T : Tables) → rows_of F ≡ T → T.meta ≡ meta_rows F.clock F.count F.next
+pub meta_in : (F : Farm) (T : Tables) → rows_of F ≡ T → T.meta ≡ meta_rows (numbers_of F)
 unfolding rows_of
 meta_in F T is = ap (λ (U : Tables). U.meta) (sym is)
 
@@ -41,7 +41,7 @@ refuses_farm (Err e) T fault is known none = (λ old. known (sym is ∙ old), λ
 -- six tables that were read are a farm
 pub reads : (rows : Rows) (T : Tables) → AllByRecursion IsReadableType rows.types.items × (T.types ≡ map type_columns rows.types.items) → AllByRecursion IsReadableBoard rows.boards.items × (T.boards ≡ map board_columns rows.boards.items)
     → AllByRecursion IsReadableJob rows.jobs.items × (T.jobs ≡ map job_columns rows.jobs.items) → AllByRecursion IsReadableRes rows.reservations.items × (T.reservations ≡ map res_columns rows.reservations.items)
-    → AllByRecursion IsReadableKept rows.kept.items × (T.kept ≡ map kept_columns rows.kept.items) → T.meta ≡ meta_rows rows.meta.clock rows.meta.count rows.meta.next → IsReadable (farm_of rows) × (rows_of (farm_of rows) ≡ T)
+    → AllByRecursion IsReadableKept rows.kept.items × (T.kept ≡ map kept_columns rows.kept.items) → T.meta ≡ meta_rows rows.meta → IsReadable (farm_of rows) × (rows_of (farm_of rows) ≡ T)
 unfolding rows_of
 reads rows T types boards jobs reservations kept meta = (
   record { types = types.0; boards = boards.0; jobs = jobs.0; reservations = reservations.0; kept = kept.0 },

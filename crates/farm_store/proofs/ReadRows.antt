@@ -3,7 +3,7 @@ use Rattle.std.proofs.Common.{◌≡◌, ◌≢◌, ℕ, zero, suc, ◌+◌, ◌
 use Rattle.std.specs.List.{AllByRecursion}
 use Rattle.std.proofs.lemmas.List.{take_more, map-append}
 use Rattle.sqlite.specs.Order.{Row}
-use Rattle.farm_store.specs.Reading.{ReadsAll, ReadsAs}
+use Rattle.farm_store.specs.Reading.{ReadsAll, ReadsRow, Spells}
 use Rattle.farm_store.specs.declared.fault.StoreFault.{StoreFault}
 use Rattle.farm_store.specs.declared.fault.StoreFault.TheVariants.{BadStore, OldSchema}
 
@@ -45,7 +45,7 @@ refuses (Ok a) items IsGood columns rows fault is known none = absurd is
 refuses (Err e) items IsGood columns rows fault is known none = (λ old. known (sym is ∙ old), λ bad. none (sym is ∙ bad))
 
 -- a column that was refused refuses the row
-pub refuses_row : {X V : Type 0} (r : Result X StoreFault) (IsGood : X → Type 0) (spelled : X → V) (value : V) (fault : StoreFault) → IsErrAnd r (λ e. e ≡ fault) → fault ≢ OldSchema
-    → (fault ≡ BadStore → (x : X) → IsGood x → value ≢ spelled x) → ReadsAs r IsGood spelled value
-refuses_row (Ok a) IsGood spelled value fault is known none = absurd is
-refuses_row (Err e) IsGood spelled value fault is known none = (λ old. known (sym is ∙ old), λ bad. none (sym is ∙ bad))
+pub refuses_row : {X : Type 0} (r : Result X StoreFault) (IsGood : X → Type 0) (columns : X → Row) (row : Row) (fault : StoreFault) → IsErrAnd r (λ e. e ≡ fault) → fault ≢ OldSchema
+    → (fault ≡ BadStore → (x : X) → IsGood x → ¬ Spells row 0 (columns x)) → ReadsRow r IsGood columns row
+refuses_row (Ok a) IsGood columns row fault is known none = absurd is
+refuses_row (Err e) IsGood columns row fault is known none = (λ old. known (sym is ∙ old), λ bad. none (sym is ∙ bad))

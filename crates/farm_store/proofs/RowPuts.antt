@@ -1,5 +1,5 @@
 -- The statement that puts a row into each table, and what it makes of the tables.
-use Rattle.std.proofs.Common.{refl, Bool, true, false, ◌&&◌, ◌≡◌, ◌∙◌, ℕ, ℤ, suc, pos, List, [], ◌∷◌, ◌++◌, ◌/◌, drop, length, codes, None, Some, Ok, slice_get, ap, ap₂, is_eq}
+use Rattle.std.proofs.Common.{refl, Bool, true, false, ◌&&◌, ◌≡◌, ◌∙◌, ◌-◌, ℕ, ℤ, zero, suc, pos, List, [], ◌∷◌, ◌++◌, ◌/◌, drop, length, codes, None, Some, Ok, slice_get, ap, ap₂, is_eq}
 use Rattle.std.proofs.lemmas.Bool.{false≢true, and_parts}
 use Rattle.std.specs.List.{AllByRecursion}
 use Rattle.sqlite.specs.declared.types.Value.{Value}
@@ -34,6 +34,11 @@ use Rattle.farm_types.specs.declared.rows.BoardRow.{BoardRow}
 use Rattle.farm_types.specs.declared.rows.JobRow.{JobRow}
 use Rattle.farm_types.specs.declared.rows.ResRow.{ResRow}
 use Rattle.farm_types.specs.declared.rows.KeptRow.{KeptRow}
+use Rattle.farm_store.specs.declared.types.TheConstants.{PUT as PUT_TYPES}
+use Rattle.farm_store.specs.declared.boards.TheConstants.{PUT as PUT_BOARDS}
+use Rattle.farm_store.specs.declared.jobs.TheConstants.{PUT as PUT_JOBS}
+use Rattle.farm_store.specs.declared.reservations.TheConstants.{PUT as PUT_RESERVATIONS}
+use Rattle.farm_store.specs.declared.kept.TheConstants.{PUT as PUT_KEPT}
 use Rattle.farm_store.specs.Schema.{farm_schema, strict, types_table, boards_table, jobs_table, reservations_table, kept_table}
 use Rattle.farm_store.specs.Columns.{Tables, type_columns, board_columns, job_columns, res_columns, kept_columns}
 use Rattle.farm_store.specs.Holds.{IsInside}
@@ -117,93 +122,56 @@ module _ (p : Place) (known : IsKnown p) (still : (keys : Keys) (olds news : Lis
 
 -- ---- the texts
 
-abbrev types_text : List ℕ
-types_text = codes "INSERT OR REPLACE INTO types VALUES (?1, ?2, ?3)"
+abbrev params : ℕ → ℕ → List Term
+params at zero = []
+params at (suc n) = col 0 at ∷ params (suc at) n
 
-abbrev types_terms : List Term
-types_terms = lit Null ∷ col 0 0 ∷ col 0 1 ∷ col 0 2 ∷ []
+-- the row that is put, behind a rowid that is to be chosen, and behind its first column
+abbrev keyed_terms : Place → List Term
+keyed_terms p = lit Null ∷ params 0 p.width
 
-types_is : command_of (understood farm_schema types_text) ≡ InsertOr 0 Replace (Values types_terms 4) []
+abbrev numbered_terms : Place → List Term
+numbered_terms p = col 0 0 ∷ lit Null ∷ params 1 (p.width - 1)
+
+abbrev IsPut : ℕ → Place → List Term → List ℕ → Type 0
+IsPut at p terms text = (command_of (understood farm_schema text) ≡ InsertOr at Replace (Values terms (suc p.width)) []) × IsPlain (understood farm_schema text)
+
+types_is : IsPut 0 of_types (keyed_terms of_types) PUT_TYPES.now
 unfolding understood everything
-types_is = refl
+types_is = (refl, (refl, refl))
 
-types_plain : IsPlain (understood farm_schema types_text)
-unfolding understood everything
-types_plain = (refl, refl)
-
-pub puts_type : (r : TypeRow) → Puts of_types types_text (type_columns r)
-puts_type r = keyed_puts of_types types_known (λ keys olds news. refl) (codes "types") types_table.columns 0 types_text types_terms types_plain (1 ∷ []) (type_columns r) refl types_is
+pub puts_type : (r : TypeRow) → Puts of_types PUT_TYPES.now (type_columns r)
+puts_type r = keyed_puts of_types types_known (λ keys olds news. refl) (codes "types") types_table.columns 0 PUT_TYPES.now (keyed_terms of_types) types_is.1 (1 ∷ []) (type_columns r) refl types_is.0
     refl refl refl refl (λ id. refl) (λ raws up ints. by_next raws (type_columns r) up ints refl)
 
-abbrev boards_text : List ℕ
-boards_text = codes "INSERT OR REPLACE INTO boards VALUES (?1, ?2, ?3, ?4, ?5, ?6, ?7, ?8, ?9)"
-
-abbrev boards_terms : List Term
-boards_terms = lit Null ∷ col 0 0 ∷ col 0 1 ∷ col 0 2 ∷ col 0 3 ∷ col 0 4 ∷ col 0 5 ∷ col 0 6 ∷ col 0 7 ∷ col 0 8 ∷ []
-
-boards_is : command_of (understood farm_schema boards_text) ≡ InsertOr 1 Replace (Values boards_terms 10) []
+boards_is : IsPut 1 of_boards (keyed_terms of_boards) PUT_BOARDS.now
 unfolding understood everything
-boards_is = refl
+boards_is = (refl, (refl, refl))
 
-boards_plain : IsPlain (understood farm_schema boards_text)
-unfolding understood everything
-boards_plain = (refl, refl)
-
-pub puts_board : (r : BoardRow) → Puts of_boards boards_text (board_columns r)
-puts_board r = keyed_puts of_boards boards_known (λ keys olds news. refl) (codes "boards") boards_table.columns 1 boards_text boards_terms boards_plain (1 ∷ []) (board_columns r) refl boards_is
+pub puts_board : (r : BoardRow) → Puts of_boards PUT_BOARDS.now (board_columns r)
+puts_board r = keyed_puts of_boards boards_known (λ keys olds news. refl) (codes "boards") boards_table.columns 1 PUT_BOARDS.now (keyed_terms of_boards) boards_is.1 (1 ∷ []) (board_columns r) refl boards_is.0
     refl refl refl refl (λ id. refl) (λ raws up ints. by_next raws (board_columns r) up ints refl)
 
-abbrev jobs_text : List ℕ
-jobs_text = codes "INSERT OR REPLACE INTO jobs VALUES (?1, ?2, ?3, ?4, ?5, ?6, ?7, ?8, ?9, ?10, ?11, ?12)"
-
-abbrev jobs_terms : List Term
-jobs_terms = col 0 0 ∷ lit Null ∷ col 0 1 ∷ col 0 2 ∷ col 0 3 ∷ col 0 4 ∷ col 0 5 ∷ col 0 6 ∷ col 0 7 ∷ col 0 8 ∷ col 0 9 ∷ col 0 10 ∷ col 0 11 ∷ []
-
-jobs_is : command_of (understood farm_schema jobs_text) ≡ InsertOr 2 Replace (Values jobs_terms 13) []
+jobs_is : IsPut 2 of_jobs (numbered_terms of_jobs) PUT_JOBS.now
 unfolding understood everything
-jobs_is = refl
+jobs_is = (refl, (refl, refl))
 
-jobs_plain : IsPlain (understood farm_schema jobs_text)
-unfolding understood everything
-jobs_plain = (refl, refl)
-
-pub puts_job : (r : JobRow) → Puts of_jobs jobs_text (job_columns r)
-puts_job r = numbered_puts of_jobs jobs_known (λ keys olds news. refl) (codes "jobs") jobs_table.columns 2 jobs_text jobs_terms jobs_plain (pos r.number) (drop 1 (job_columns r)) refl jobs_is
+pub puts_job : (r : JobRow) → Puts of_jobs PUT_JOBS.now (job_columns r)
+puts_job r = numbered_puts of_jobs jobs_known (λ keys olds news. refl) (codes "jobs") jobs_table.columns 2 PUT_JOBS.now (numbered_terms of_jobs) jobs_is.1 (pos r.number) (drop 1 (job_columns r)) refl jobs_is.0
     refl refl refl refl refl (λ raw. by_rowid (pos r.number) (Null ∷ drop 1 (job_columns r)) (job_columns r) raw refl)
 
-abbrev reservations_text : List ℕ
-reservations_text = codes "INSERT OR REPLACE INTO reservations VALUES (?1, ?2, ?3, ?4, ?5, ?6, ?7)"
-
-abbrev reservations_terms : List Term
-reservations_terms = col 0 0 ∷ lit Null ∷ col 0 1 ∷ col 0 2 ∷ col 0 3 ∷ col 0 4 ∷ col 0 5 ∷ col 0 6 ∷ []
-
-reservations_is : command_of (understood farm_schema reservations_text) ≡ InsertOr 3 Replace (Values reservations_terms 8) []
+reservations_is : IsPut 3 of_reservations (numbered_terms of_reservations) PUT_RESERVATIONS.now
 unfolding understood everything
-reservations_is = refl
+reservations_is = (refl, (refl, refl))
 
-reservations_plain : IsPlain (understood farm_schema reservations_text)
-unfolding understood everything
-reservations_plain = (refl, refl)
-
-pub puts_reservation : (r : ResRow) → Puts of_reservations reservations_text (res_columns r)
-puts_reservation r = numbered_puts of_reservations reservations_known (λ keys olds news. refl) (codes "reservations") reservations_table.columns 3 reservations_text reservations_terms reservations_plain
-    (pos r.number) (drop 1 (res_columns r)) refl reservations_is
+pub puts_reservation : (r : ResRow) → Puts of_reservations PUT_RESERVATIONS.now (res_columns r)
+puts_reservation r = numbered_puts of_reservations reservations_known (λ keys olds news. refl) (codes "reservations") reservations_table.columns 3 PUT_RESERVATIONS.now (numbered_terms of_reservations) reservations_is.1 (pos r.number) (drop 1 (res_columns r)) refl reservations_is.0
     refl refl refl refl refl (λ raw. by_rowid (pos r.number) (Null ∷ drop 1 (res_columns r)) (res_columns r) raw refl)
 
-abbrev kept_text : List ℕ
-kept_text = codes "INSERT OR REPLACE INTO kept VALUES (?1, ?2, ?3, ?4, ?5, ?6)"
-
-abbrev kept_terms : List Term
-kept_terms = lit Null ∷ col 0 0 ∷ col 0 1 ∷ col 0 2 ∷ col 0 3 ∷ col 0 4 ∷ col 0 5 ∷ []
-
-kept_is : command_of (understood farm_schema kept_text) ≡ InsertOr 4 Replace (Values kept_terms 7) []
+kept_is : IsPut 4 of_kept (keyed_terms of_kept) PUT_KEPT.now
 unfolding understood everything
-kept_is = refl
+kept_is = (refl, (refl, refl))
 
-kept_plain : IsPlain (understood farm_schema kept_text)
-unfolding understood everything
-kept_plain = (refl, refl)
-
-pub puts_reply : (r : KeptRow) → Puts of_kept kept_text (kept_columns r)
-puts_reply r = keyed_puts of_kept kept_known (λ keys olds news. refl) (codes "kept") kept_table.columns 4 kept_text kept_terms kept_plain (1 ∷ 2 ∷ []) (kept_columns r) refl kept_is
+pub puts_reply : (r : KeptRow) → Puts of_kept PUT_KEPT.now (kept_columns r)
+puts_reply r = keyed_puts of_kept kept_known (λ keys olds news. refl) (codes "kept") kept_table.columns 4 PUT_KEPT.now (keyed_terms of_kept) kept_is.1 (1 ∷ 2 ∷ []) (kept_columns r) refl kept_is.0
     refl refl refl refl (λ id. refl) (λ raws up ints. by_next_two raws (kept_columns r) up ints refl refl)

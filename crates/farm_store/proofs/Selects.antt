@@ -19,6 +19,7 @@ use Rattle.sqlite_schema.specs.declared.command.Returning.{Returning}
 use Rattle.farm_store.specs.Schema.{farm_schema}
 use Rattle.farm_store.specs.Columns.{Tables}
 use Rattle.farm_store.specs.Holds.{IsInside, ShowsTables}
+use Rattle.farm_store.specs.Reading.{CommitShows}
 use Rattle.farm_store.specs.Stored.{IsWide, Lists}
 use Rattle.farm_store.proofs.Loads.{answers}
 
@@ -49,7 +50,7 @@ not_run_keeps sql params old new e (inl h) = unchanged_keeps old new h.1
 not_run_keeps sql params old new e (inr h) = rolled_keeps old new h.3
 
 -- a query that failed keeps the last commit
-pub fails_keep : (sql : List ℕ) (params : Row) (old new : State) (e : Error) → FailsToQuery sql params old new e ⊎ IsTooLate sql params old new e → KeepsCommit old new
+fails_keep : (sql : List ℕ) (params : Row) (old new : State) (e : Error) → FailsToQuery sql params old new e ⊎ IsTooLate sql params old new e → KeepsCommit old new
 unfolding FailsToQuery
 fails_keep sql params old new e (inr late) = unchanged_keeps old new late.5
 fails_keep sql params old new e (inl (inl h)) = not_run_keeps sql params old new e h
@@ -58,6 +59,13 @@ fails_keep sql params old new e (inl (inr h)) = by h.0.returning h.2
     by : (o : Option Returning) → FailsToShow old new sql h.0 (timed params h.0.formats h.1.now) e o → KeepsCommit old new
     by None it = unchanged_keeps old new it.3
     by (Some what) it = elim it [ inl still ↦ unchanged_keeps old new still.1 | inr undone ↦ rolled_keeps old new undone.3 ]
+
+pub keeps_shown : (old new : State) (T : Tables) → KeepsCommit old new → CommitShows old T → CommitShows new T
+keeps_shown old new T keeps shows still = subst (λ (d : Database). ShowsTables d T) (sym (keeps.committed still)) (shows (keeps.was_open still))
+
+-- so an open connection goes back to the tables that it went back to
+pub failed_shows : (sql : List ℕ) (params : Row) (old new : State) (e : Error) (T : Tables) → FailsToQuery sql params old new e ⊎ IsTooLate sql params old new e → CommitShows old T → CommitShows new T
+failed_shows sql params old new e T failed = keeps_shown old new T (fails_keep sql params old new e failed)
 
 -- the query reads the tables and leaves them
 pub record Selected (query : Query) (old new : State) (T : Tables) (rows : List Row) : Type 0 where

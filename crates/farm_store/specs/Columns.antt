@@ -1,7 +1,10 @@
 -- The rows of the six tables, column by column.
-use Rattle.std.specs.Prelude.{ℕ, pos, Bool, if◌then◌else◌, List, [], ◌∷◌, map, unwrap_or, codes}
+use Rattle.std.specs.Prelude.{ℕ, pos, Bool, if◌then◌else◌, List, [], ◌∷◌, ◌++◌, map, unwrap_or}
+use Rattle.std.specs.Prelude.{codes}
 use Rattle.std.specs.Option.{option_map_or}
+use Rattle.sqlite.specs.declared.types.Value.{Value}
 use Rattle.sqlite.specs.declared.types.Value.TheVariants.{Int, Text}
+use Rattle.sqlite_schema.specs.declared.schema.Kind.{Kind}
 use Rattle.sqlite.specs.Order.{Row, column}
 use Rattle.sqlite_value.specs.Order.{value_cmp}
 use Rattle.std.specs.declared.cmp.Ordering.{Ordering}
@@ -18,6 +21,24 @@ use Rattle.farm_types.specs.declared.rows.BoardRow.{BoardRow}
 use Rattle.farm_types.specs.declared.rows.JobRow.{JobRow}
 use Rattle.farm_types.specs.declared.rows.ResRow.{ResRow}
 use Rattle.farm_types.specs.declared.rows.KeptRow.{KeptRow}
+use Rattle.farm_types.specs.declared.rows.MetaRow.{MetaRow}
+use Rattle.farm_store.specs.declared.schema.TheConstants.{SCHEMA}
+
+-- a column of a table whose rows stand for such things, and what it holds of one
+pub record Field (R : Type 0) : Type 0 where
+  pub name : List ℕ
+  pub kind : Kind
+  pub value : R → Value
+
+abbrev pub text : {R : Type 0} → List ℕ → (R → List ℕ) → Field R
+text name f = record { name = name; kind = Kind.Text; value = λ r. Text (f r) }
+
+abbrev pub number : {R : Type 0} → List ℕ → (R → ℕ) → Field R
+number name f = record { name = name; kind = Kind.Integer; value = λ r. Int (pos (f r)) }
+
+-- the row that stands for a thing
+abbrev pub values_of : {R : Type 0} → List (Field R) → R → Row
+values_of fields r = map (λ f. f.value r) fields
 
 -- the unit of a check's frequency: none, hours or jobs
 abbrev pub unit_of : Check → ℕ
@@ -34,44 +55,84 @@ holder_of (Holder.Res n) = 2
 abbrev pub checking_code : Bool → ℕ
 checking_code checking = if checking then 1 else 0
 
+-- ---- the columns of each table
+
+abbrev pub type_fields : List (Field TypeRow)
+type_fields = text (codes "name") (λ r. r.name)
+    ∷ number (codes "unit") (λ r. unit_of r.check)
+    ∷ number (codes "every") (λ r. every_of r.check) ∷ []
+
+abbrev pub board_fields : List (Field BoardRow)
+board_fields = text (codes "name") (λ r. r.name)
+    ∷ text (codes "kind") (λ r. r.kind)
+    ∷ text (codes "tags") (λ r. tags_text r.tags)
+    ∷ number (codes "health") (λ r. health_code r.health)
+    ∷ number (codes "state") (λ r. state_code r.state)
+    ∷ number (codes "holder") (λ r. holder_of r.holder)
+    ∷ number (codes "held_by") (λ r. held_by r.holder)
+    ∷ number (codes "jobs_since") (λ r. r.jobs_since)
+    ∷ number (codes "last_check") (λ r. r.last_check) ∷ []
+
+abbrev pub job_fields : List (Field JobRow)
+job_fields = number (codes "number") (λ r. r.number)
+    ∷ number (codes "grp") (λ r. r.group)
+    ∷ number (codes "checking") (λ r. checking_code r.checking)
+    ∷ text (codes "owner") (λ r. r.owner)
+    ∷ number (codes "priority") (λ r. r.priority)
+    ∷ text (codes "kind") (λ r. unwrap_or r.want.kind [])
+    ∷ text (codes "tags") (λ r. tags_text r.want.tags)
+    ∷ text (codes "role") (λ r. unwrap_or r.role [])
+    ∷ number (codes "state") (λ r. job_state_code r.state)
+    ∷ number (codes "outcome") (λ r. option_map_or outcome_code r.outcome 0)
+    ∷ text (codes "board") (λ r. unwrap_or r.board [])
+    ∷ text (codes "body") (λ r. r.body) ∷ []
+
+abbrev pub res_fields : List (Field ResRow)
+res_fields = number (codes "number") (λ r. r.number)
+    ∷ text (codes "owner") (λ r. r.owner)
+    ∷ number (codes "priority") (λ r. r.priority)
+    ∷ text (codes "tags") (λ r. tags_text r.want.tags)
+    ∷ number (codes "state") (λ r. res_state_code r.state)
+    ∷ number (codes "deadline") (λ r. r.deadline)
+    ∷ text (codes "board") (λ r. unwrap_or r.board []) ∷ []
+
+abbrev pub kept_fields : List (Field KeptRow)
+kept_fields = text (codes "caller") (λ r. r.caller)
+    ∷ text (codes "ckey") (λ r. r.key)
+    ∷ number (codes "kind") (λ r. r.kind)
+    ∷ number (codes "a") (λ r. r.reply.0)
+    ∷ number (codes "b") (λ r. r.reply.1)
+    ∷ number (codes "c") (λ r. r.reply.2) ∷ []
+
 abbrev pub type_columns : TypeRow → Row
-type_columns r = Text r.name ∷ Int (pos (unit_of r.check)) ∷ Int (pos (every_of r.check)) ∷ []
+type_columns = values_of type_fields
 
 abbrev pub board_columns : BoardRow → Row
-board_columns r = Text r.name ∷ Text r.kind ∷ Text (tags_text r.tags)
-    ∷ Int (pos (health_code r.health)) ∷ Int (pos (state_code r.state))
-    ∷ Int (pos (holder_of r.holder))
-    ∷ Int (pos (held_by r.holder)) ∷ Int (pos r.jobs_since) ∷ Int (pos r.last_check) ∷ []
+board_columns = values_of board_fields
 
 abbrev pub job_columns : JobRow → Row
-job_columns r = Int (pos r.number) ∷ Int (pos r.group) ∷ Int (pos (checking_code r.checking))
-    ∷ Text r.owner ∷ Int (pos r.priority) ∷ Text (unwrap_or r.want.kind [])
-    ∷ Text (tags_text r.want.tags)
-    ∷ Text (unwrap_or r.role []) ∷ Int (pos (job_state_code r.state))
-    ∷ Int (pos (option_map_or outcome_code r.outcome 0)) ∷ Text (unwrap_or r.board [])
-    ∷ Text r.body ∷ []
+job_columns = values_of job_fields
 
 abbrev pub res_columns : ResRow → Row
-res_columns r = Int (pos r.number) ∷ Text r.owner ∷ Int (pos r.priority)
-    ∷ Text (tags_text r.want.tags) ∷ Int (pos (res_state_code r.state)) ∷ Int (pos r.deadline)
-    ∷ Text (unwrap_or r.board []) ∷ []
+res_columns = values_of res_fields
 
 abbrev pub kept_columns : KeptRow → Row
-kept_columns r = Text r.caller ∷ Text r.key ∷ Int (pos r.kind) ∷ Int (pos r.reply.0)
-    ∷ Int (pos r.reply.1) ∷ Int (pos r.reply.2) ∷ []
+kept_columns = values_of kept_fields
 
 abbrev pub meta_row : List ℕ → ℕ → Row
 meta_row name value = Text name ∷ Int (pos value) ∷ []
 
--- the three numbers of a farm
-abbrev pub number_rows : ℕ → ℕ → ℕ → List Row
-number_rows clock count next = meta_row (codes "clock") clock ∷ meta_row (codes "count") count
-    ∷ meta_row (codes "next") next ∷ []
+-- the farm's numbers by their names, in byte order of the names
+abbrev pub number_rows : MetaRow → List Row
+number_rows m = meta_row (codes "clock") m.clock ∷ meta_row (codes "count") m.count
+    ∷ meta_row (codes "next") m.next ∷ []
 
--- with the version of the tables, all rows of their table
-abbrev pub meta_rows : ℕ → ℕ → ℕ → List Row
-meta_rows clock count next = meta_row (codes "clock") clock ∷ meta_row (codes "count") count
-    ∷ meta_row (codes "next") next ∷ meta_row (codes "schema") 1 ∷ []
+-- with the version of the tables, whose name comes last, all rows of their table
+abbrev pub meta_rows : MetaRow → List Row
+meta_rows m = number_rows m ++ meta_row (codes "schema") SCHEMA ∷ []
+
+abbrev pub numbers_of : Farm → MetaRow
+numbers_of F = record { clock = F.clock; count = F.count; next = F.next }
 
 -- the six tables as lists of rows, in order of their keys
 pub record Tables : Type 0 where
@@ -89,7 +150,7 @@ rows_of F = record {
   jobs = map job_columns F.jobs;
   reservations = map res_columns F.reservations;
   kept = map kept_columns F.kept;
-  meta = meta_rows F.clock F.count F.next;
+  meta = meta_rows (numbers_of F);
 }
 
 -- rows by their first column, and by their first two

@@ -1,5 +1,5 @@
 -- Where each kind of row stands among the six tables.
-use Rattle.std.specs.Prelude.{◌≡◌, ℕ, List, map}
+use Rattle.std.specs.Prelude.{◌≡◌, ℕ, List, length, map}
 use Rattle.std.specs.declared.cmp.Ordering.{Ordering}
 use Rattle.sqlite.specs.Order.{Row}
 use Rattle.sqlite.specs.Tree.{Trees}
@@ -7,6 +7,8 @@ use Rattle.farm_types.specs.Table.{put_all}
 use Rattle.farm_types.specs.declared.calls.Changes.{Changes}
 use Rattle.farm_store.specs.Columns.{Tables, by_first, by_two, type_columns, board_columns}
 use Rattle.farm_store.specs.Columns.{job_columns, res_columns, kept_columns, number_rows}
+use Rattle.farm_store.specs.Schema.{types_table, boards_table, jobs_table, reservations_table}
+use Rattle.farm_store.specs.Schema.{kept_table, meta_table}
 use Rattle.farm_store.specs.Stored.{Lists, unnumbered, with_number}
 
 -- one of the six tables: its tree, what a raw row of it shows, how wide that is, the order of its
@@ -23,7 +25,7 @@ abbrev pub of_types : Place
 of_types = record {
   tree = 0;
   show = unnumbered;
-  width = 3;
+  width = length types_table.columns;
   cmp = by_first;
   rows = λ T. T.types;
   replaced = λ T rows. record T { types = rows };
@@ -33,7 +35,7 @@ abbrev pub of_boards : Place
 of_boards = record {
   tree = 2;
   show = unnumbered;
-  width = 9;
+  width = length boards_table.columns;
   cmp = by_first;
   rows = λ T. T.boards;
   replaced = λ T rows. record T { boards = rows };
@@ -43,7 +45,7 @@ abbrev pub of_jobs : Place
 of_jobs = record {
   tree = 4;
   show = with_number;
-  width = 12;
+  width = length jobs_table.columns;
   cmp = by_first;
   rows = λ T. T.jobs;
   replaced = λ T rows. record T { jobs = rows };
@@ -53,7 +55,7 @@ abbrev pub of_reservations : Place
 of_reservations = record {
   tree = 5;
   show = with_number;
-  width = 7;
+  width = length reservations_table.columns;
   cmp = by_first;
   rows = λ T. T.reservations;
   replaced = λ T rows. record T { reservations = rows };
@@ -63,7 +65,7 @@ abbrev pub of_kept : Place
 of_kept = record {
   tree = 6;
   show = unnumbered;
-  width = 6;
+  width = length kept_table.columns;
   cmp = by_two;
   rows = λ T. T.kept;
   replaced = λ T rows. record T { kept = rows };
@@ -73,7 +75,7 @@ abbrev pub of_meta : Place
 of_meta = record {
   tree = 8;
   show = unnumbered;
-  width = 2;
+  width = length meta_table.columns;
   cmp = by_first;
   rows = λ T. T.meta;
   replaced = λ T rows. record T { meta = rows };
@@ -96,7 +98,7 @@ put_tables T c =
     (map type_columns c.types.items)) (map board_columns c.boards.items))
     (map job_columns c.jobs.items)) (map res_columns c.reservations.items))
     (map kept_columns c.kept.items))
-    (number_rows c.meta.clock c.meta.count c.meta.next)
+    (number_rows c.meta)
 
 -- rows put at this place are those that stand there, also over others; those that stand there
 -- already change nothing

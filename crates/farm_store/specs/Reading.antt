@@ -1,8 +1,9 @@
 -- What reading makes of columns and rows.
-use Rattle.std.specs.Prelude.{◌≡◌, ◌≢◌, IsTrue, List, Result, MatchResult, map}
+use Rattle.std.specs.Prelude.{◌≡◌, ◌≢◌, IsTrue, ℕ, suc, List, [], ◌∷◌, Result, MatchResult, map, ⊤}
 use Rattle.std.specs.List.{AllByRecursion}
 use Rattle.sqlite.specs.Order.{Row}
 use Rattle.sqlite.specs.State.{State}
+use Rattle.sqlite_value.specs.Order.{column}
 use Rattle.farm_types.specs.Farm.{Farm, farm_of}
 use Rattle.farm_types.specs.declared.calls.Rows.{Rows}
 use Rattle.farm_store.specs.Columns.{Tables, rows_of}
@@ -17,6 +18,17 @@ abbrev pub ReadsAs : {X V : Type 0} → Result X StoreFault → (X → Type 0) �
 ReadsAs result IsGood spelled value =
     MatchResult result (λ x. IsGood x × (value ≡ spelled x)) (λ fault. (fault ≢ OldSchema)
     × (fault ≡ BadStore → (x : _) → IsGood x → value ≢ spelled x))
+
+-- these are the row's columns from one place on
+abbrev pub Spells : Row → ℕ → Row → Type 0
+Spells row at [] = ⊤
+Spells row at (v ∷ vs) = (column row at ≡ v) × Spells row (suc at) vs
+
+-- the same of a row, column by column
+abbrev pub ReadsRow : {X : Type 0} → Result X StoreFault → (X → Type 0) → (X → Row) → Row → Type 0
+ReadsRow result IsGood columns row =
+    MatchResult result (λ x. IsGood x × Spells row 0 (columns x)) (λ fault. (fault ≢ OldSchema)
+    × (fault ≡ BadStore → (x : _) → IsGood x → ¬ Spells row 0 (columns x)))
 
 -- the same of all rows of a table
 abbrev pub ReadsAll : {A X : Type 0} → Result A StoreFault → (A → List X) → (X → Type 0) → (X → Row)

@@ -5,13 +5,19 @@
 //! faults' numbers.
 #![tactic(auto)]
 
-mod columns;
+mod boards;
 mod fault;
+mod jobs;
+mod kept;
 pub mod laws;
+mod meta;
 mod queries;
+mod reservations;
 mod schema;
 mod tables;
+mod types;
 mod upserts;
+mod values;
 
 pub use fault::StoreFault;
 pub use queries::load;

@@ -1,11 +1,6 @@
 //! The rows of the tables, read.
-mod boards;
-mod cells;
-mod jobs;
-mod kept;
-mod meta;
-mod reservations;
-mod types;
+pub(crate) mod cells;
+pub(crate) mod rows;
 
 ghost use Rattle.std.specs.Prelude.{◌≡◌, false, Err, IfOk, IsTrue, OnOk};
 ghost use Rattle.sqlite.specs.Held.{state};
@@ -19,14 +14,11 @@ ghost use Rattle.farm_store.specs.Reading.{CommitShows, ReadsFarm};
 ghost use Rattle.farm_store.specs.Schema.{farm_schema};
 
 use crate::fault::StoreFault;
-use crate::queries::boards::read_boards;
-use crate::queries::jobs::read_jobs;
-use crate::queries::kept::read_replies;
-use crate::queries::meta::read_numbers;
-use crate::queries::reservations::read_reservations;
-use crate::queries::types::read_types;
+use crate::meta::read_numbers;
+use crate::queries::rows::read;
 use crate::tables::is_farm_schema;
 use farm_types::calls::Rows;
+use farm_types::rows::{BoardRow, JobRow, KeptRow, ResRow, TypeRow};
 use sqlite::{Alter, Connection, Transaction};
 use std::alloc::Global;
 
@@ -42,13 +34,19 @@ fn read_all<S: Alter>(alloc: Global, tx: &mut Transaction<'_, S>) -> Result<Rows
         → CommitShows (state S.Store tx.old.conn.now) T
         → CommitShows (state S.Store tx.new.conn.now) T }
 {
+    let types = read::<TypeRow, S>(alloc, tx)?;
+    let boards = read::<BoardRow, S>(alloc, tx)?;
+    let jobs = read::<JobRow, S>(alloc, tx)?;
+    let reservations = read::<ResRow, S>(alloc, tx)?;
+    let kept = read::<KeptRow, S>(alloc, tx)?;
+    let meta = read_numbers(tx)?;
     Ok(Rows {
-        types: read_types(alloc, tx)?,
-        boards: read_boards(alloc, tx)?,
-        jobs: read_jobs(alloc, tx)?,
-        reservations: read_reservations(alloc, tx)?,
-        kept: read_replies(alloc, tx)?,
-        meta: read_numbers(tx)?,
+        types,
+        boards,
+        jobs,
+        reservations,
+        kept,
+        meta,
     })
 }
 
@@ -83,9 +81,10 @@ fn load_any<S: Alter>(alloc: Global, conn: &mut Connection<S>) -> Result<Rows, S
 /// Reads the rows of all tables, in order of their keys, in one transaction that is rolled back.
 /// Refused as bad where a column can't be read: where it is of another kind, a name or a key is no
 /// word, tags are in no canonical text, a code stands for nothing, a number is below 0; where the
-/// farm's numbers are not exactly its clock, count and next number, with schema 1; and where the
-/// store has another column, table, index or view than the farm's. Where a table is not there, a
-/// call of the store was refused. Whether the rows are those of a sound farm is not looked at.
+/// farm's numbers are not exactly its clock, count and next number, with these tables' version; and
+/// where the store has another column, table, index or view than the farm's. Where a table is not
+/// there, a call of the store was refused. Whether the rows are those of a sound farm is not looked
+/// at.
 ///
 /// It reads each row once, and keeps the raw rows of one table at a time.
 pub fn load<S: Alter>(alloc: Global, conn: &mut Connection<S>) -> Result<Rows, StoreFault>

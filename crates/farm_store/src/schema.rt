@@ -11,8 +11,9 @@ ghost use Rattle.farm_store.specs.Reading.{CommitShows};
 ghost use Rattle.farm_store.specs.Schema.{no_schema};
 
 use crate::fault::StoreFault;
+use crate::meta::{put_number, put_numbers};
 use crate::tables::is_no_schema;
-use crate::upserts::{put_number, put_numbers};
+use crate::{boards, jobs, kept, meta, reservations, types};
 use farm_types::rows::MetaRow;
 use sqlite::{Alter, Connection, Error, Transaction};
 
@@ -45,30 +46,12 @@ fn make_all<S: Alter>(tx: &mut Transaction<'_, S>) -> Result<(), Error>
         → CommitShows (state S.Store tx.old.conn.now) T
         → CommitShows (state S.Store tx.new.conn.now) T }
 {
-    make(
-        tx,
-        "CREATE TABLE types(name TEXT PRIMARY KEY NOT NULL, unit INTEGER NOT NULL, every INTEGER NOT NULL) STRICT",
-    )?;
-    make(
-        tx,
-        "CREATE TABLE boards(name TEXT PRIMARY KEY NOT NULL, kind TEXT NOT NULL, tags TEXT NOT NULL, health INTEGER NOT NULL, state INTEGER NOT NULL, holder INTEGER NOT NULL, held_by INTEGER NOT NULL, jobs_since INTEGER NOT NULL, last_check INTEGER NOT NULL) STRICT",
-    )?;
-    make(
-        tx,
-        "CREATE TABLE jobs(number INTEGER PRIMARY KEY NOT NULL, grp INTEGER NOT NULL, checking INTEGER NOT NULL, owner TEXT NOT NULL, priority INTEGER NOT NULL, kind TEXT NOT NULL, tags TEXT NOT NULL, role TEXT NOT NULL, state INTEGER NOT NULL, outcome INTEGER NOT NULL, board TEXT NOT NULL, body TEXT NOT NULL) STRICT",
-    )?;
-    make(
-        tx,
-        "CREATE TABLE reservations(number INTEGER PRIMARY KEY NOT NULL, owner TEXT NOT NULL, priority INTEGER NOT NULL, tags TEXT NOT NULL, state INTEGER NOT NULL, deadline INTEGER NOT NULL, board TEXT NOT NULL) STRICT",
-    )?;
-    make(
-        tx,
-        "CREATE TABLE kept(caller TEXT NOT NULL, ckey TEXT NOT NULL, kind INTEGER NOT NULL, a INTEGER NOT NULL, b INTEGER NOT NULL, c INTEGER NOT NULL, PRIMARY KEY(caller, ckey)) STRICT",
-    )?;
-    make(
-        tx,
-        "CREATE TABLE meta(name TEXT PRIMARY KEY NOT NULL, value INTEGER NOT NULL) STRICT",
-    )?;
+    make(tx, types::MAKE)?;
+    make(tx, boards::MAKE)?;
+    make(tx, jobs::MAKE)?;
+    make(tx, reservations::MAKE)?;
+    make(tx, kept::MAKE)?;
+    make(tx, meta::MAKE)?;
     Ok(())
 }
 

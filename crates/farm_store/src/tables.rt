@@ -1,10 +1,14 @@
 //! Whether a store's tables are the farm's.
 ghost use Rattle.std.specs.Prelude.{◌≡◌, ◌↔◌, ◌∷◌, [], IsTrue, codes, true, map};
-ghost use Rattle.farm_store.specs.Schema.{IsBare, boards_table, farm_indexes, farm_schema};
-ghost use Rattle.farm_store.specs.Schema.{jobs_table, kept_table, key_index, keyed, meta_table};
-ghost use Rattle.farm_store.specs.Schema.{no_schema, numbered, reservations_table, strict_column};
-ghost use Rattle.farm_store.specs.Schema.{types_table};
+ghost use Rattle.farm_store.specs.Schema.{IsBare, farm_indexes, farm_schema, key_index, keyed};
+ghost use Rattle.farm_store.specs.Schema.{no_schema, numbered, strict_column};
 
+use crate::boards::is_boards;
+use crate::jobs::is_jobs;
+use crate::kept::is_replies;
+use crate::meta::is_numbers;
+use crate::reservations::is_reservations;
+use crate::types::is_types;
 use sqlite_items::Items;
 use sqlite_schema::schema::{Column, Index, Kind, Schema, Table};
 use sqlite_value::keys::{Collation, Order};
@@ -23,7 +27,7 @@ fn is_column(column: &Column, name: &str, kind: Kind) -> bool
 }
 
 /// Whether these are the columns, in this order.
-fn are_columns(columns: &[Column], wanted: &[(&str, Kind)]) -> bool
+pub(crate) fn are_columns(columns: &[Column], wanted: &[(&str, Kind)]) -> bool
     ensures { IsTrue result ↔ (columns.now ≡ map (λ w. strict_column w.0.now w.1) wanted.now) }
 {
     match (columns, wanted) {
@@ -82,7 +86,7 @@ fn is_ordered_plainly(table: &Table) -> bool
 
 /// Whether a table, whatever its columns, has this name and this tree, and is keyed by the columns
 /// at these places.
-fn is_keyed(table: &Table, name: &str, tree: u32, places: &[usize]) -> bool
+pub(crate) fn is_keyed(table: &Table, name: &str, tree: u32, places: &[usize]) -> bool
     ensures { IsTrue result
         ↔ (table.now ≡ record (keyed name.now places.now table.now.columns) { tree = tree }) }
 {
@@ -97,7 +101,7 @@ fn is_keyed(table: &Table, name: &str, tree: u32, places: &[usize]) -> bool
 
 /// Whether a table, whatever its columns, has this name and this tree, and its first column is its
 /// rowid.
-fn is_numbered(table: &Table, name: &str, tree: u32) -> bool
+pub(crate) fn is_numbered(table: &Table, name: &str, tree: u32) -> bool
     ensures { IsTrue result
         ↔ (table.now ≡ record (numbered name.now table.now.columns) { tree = tree }) }
 {
@@ -120,90 +124,6 @@ fn is_key(index: &Index, name: &str, table: u32, places: &[usize]) -> bool
         && index.columns.as_slice() == places
         && is_plain(&index.order)
         && index.is_unique
-}
-
-fn is_types(table: &Table) -> bool
-    ensures { IsTrue result ↔ (table.now ≡ record types_table { tree = 0 }) }
-{
-    let wanted = [
-        ("name", Kind::Text),
-        ("unit", Kind::Integer),
-        ("every", Kind::Integer),
-    ];
-    is_keyed(table, "types", 0, &[1]) && are_columns(table.columns.as_slice(), &wanted)
-}
-
-fn is_boards(table: &Table) -> bool
-    ensures { IsTrue result ↔ (table.now ≡ record boards_table { tree = 2 }) }
-{
-    let wanted = [
-        ("name", Kind::Text),
-        ("kind", Kind::Text),
-        ("tags", Kind::Text),
-        ("health", Kind::Integer),
-        ("state", Kind::Integer),
-        ("holder", Kind::Integer),
-        ("held_by", Kind::Integer),
-        ("jobs_since", Kind::Integer),
-        ("last_check", Kind::Integer),
-    ];
-    is_keyed(table, "boards", 2, &[1]) && are_columns(table.columns.as_slice(), &wanted)
-}
-
-fn is_jobs(table: &Table) -> bool
-    ensures { IsTrue result ↔ (table.now ≡ record jobs_table { tree = 4 }) }
-{
-    let wanted = [
-        ("number", Kind::Integer),
-        ("grp", Kind::Integer),
-        ("checking", Kind::Integer),
-        ("owner", Kind::Text),
-        ("priority", Kind::Integer),
-        ("kind", Kind::Text),
-        ("tags", Kind::Text),
-        ("role", Kind::Text),
-        ("state", Kind::Integer),
-        ("outcome", Kind::Integer),
-        ("board", Kind::Text),
-        ("body", Kind::Text),
-    ];
-    is_numbered(table, "jobs", 4) && are_columns(table.columns.as_slice(), &wanted)
-}
-
-fn is_reservations(table: &Table) -> bool
-    ensures { IsTrue result ↔ (table.now ≡ record reservations_table { tree = 5 }) }
-{
-    let wanted = [
-        ("number", Kind::Integer),
-        ("owner", Kind::Text),
-        ("priority", Kind::Integer),
-        ("tags", Kind::Text),
-        ("state", Kind::Integer),
-        ("deadline", Kind::Integer),
-        ("board", Kind::Text),
-    ];
-    is_numbered(table, "reservations", 5) && are_columns(table.columns.as_slice(), &wanted)
-}
-
-fn is_replies(table: &Table) -> bool
-    ensures { IsTrue result ↔ (table.now ≡ record kept_table { tree = 6 }) }
-{
-    let wanted = [
-        ("caller", Kind::Text),
-        ("ckey", Kind::Text),
-        ("kind", Kind::Integer),
-        ("a", Kind::Integer),
-        ("b", Kind::Integer),
-        ("c", Kind::Integer),
-    ];
-    is_keyed(table, "kept", 6, &[1, 2]) && are_columns(table.columns.as_slice(), &wanted)
-}
-
-fn is_numbers(table: &Table) -> bool
-    ensures { IsTrue result ↔ (table.now ≡ record meta_table { tree = 8 }) }
-{
-    let wanted = [("name", Kind::Text), ("value", Kind::Integer)];
-    is_keyed(table, "meta", 8, &[1]) && are_columns(table.columns.as_slice(), &wanted)
 }
 
 fn are_tables(tables: &[Table]) -> bool

@@ -1,13 +1,7 @@
 //! Rows put into the tables.
-mod boards;
-mod jobs;
-mod kept;
-mod meta;
-mod reservations;
-mod rows;
-mod tagged;
+pub(crate) mod rows;
+pub(crate) mod tagged;
 mod texts;
-mod types;
 
 ghost use Rattle.std.specs.Prelude.{◌≡◌, ◌⊎◌, false, map, IsTrue, Err, IfErr, OnOk};
 ghost use Rattle.sqlite.specs.Held.{state};
@@ -21,10 +15,10 @@ ghost use Rattle.farm_store.specs.Holds.{IsInside, KeepsDoubt, Stands, LeavesEit
 ghost use Rattle.farm_store.specs.Texts.{AreBeside};
 
 use crate::fault::StoreFault;
+use crate::meta::put_numbers;
 use crate::upserts::rows::put_rows;
 use crate::upserts::texts::Texts;
 use farm_types::calls::Changes;
-pub(crate) use meta::{put_number, put_numbers};
 use sqlite::{Alter, Connection, Error, Transaction};
 use std::alloc::Global;
 

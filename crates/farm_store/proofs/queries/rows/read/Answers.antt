@@ -1,0 +1,18 @@
+use Rattle.std.proofs.Common.{sym, subst, ◌∙◌}
+use Rattle.std.specs.List.{AllByRecursion}
+use Rattle.farm_store.specs.Reading.{ReadsAll}
+use Rattle.farm_store.specs.Stored.{IsWide}
+use Rattle.farm_store.proofs.ReadRows.{on_ok}
+use Rattle.farm_store.proofs.queries.rows.read.Goals as goal
+
+pub returns-clause-read : goal.returns-clause-read
+returns-clause-read g c clean T at =
+    let got = c.in_ok-rows.ensures.rows clean T at in
+    let is = c.deref.ensures.value in
+    subst (ReadsAll c.read_rows.result (λ all. all.items) g.R.Stored.IsGood g.R.Stored.columns) (is ∙ got.0) (c.read_rows.ensures (subst (AllByRecursion (IsWide g.R.Stored.place.width)) (sym is) got.1))
+
+pub returns-clause-inside : goal.returns-clause-inside
+returns-clause-inside g c clean = on_ok c.read_rows.result _ (λ T at. (c.in_ok-rows.ensures.rows clean T at).2)
+
+pub returns-clause-opened : goal.returns-clause-opened
+returns-clause-opened g c clean = on_ok c.read_rows.result _ (c.in_ok-rows.ensures.opened clean)

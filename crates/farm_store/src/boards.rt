@@ -1,0 +1,174 @@
+//! The table of boards: its statements, and what its rows stand for.
+ghost use Rattle.std.specs.Prelude.{◌≡◌, ◌≢◌, ◌↔◌, pos, IsTrue, MatchOption, MatchResult};
+ghost use Rattle.sqlite.specs.declared.types.Value.TheVariants.{Int};
+ghost use Rattle.sqlite_value.specs.Order.{column};
+ghost use Rattle.sqlite.specs.Values.{bound};
+ghost use Rattle.farm_types.specs.Small.{IsSmallBoard, held_by};
+ghost use Rattle.farm_types.specs.Tags.{tags_text};
+ghost use Rattle.farm_types.specs.declared.rows.Holder.{Holder};
+ghost use Rattle.farm_store.specs.Columns.{board_columns, holder_of};
+ghost use Rattle.farm_store.specs.Schema.{boards_table};
+
+use crate::fault::StoreFault;
+use crate::queries::cells::{health_at, name_at, number_at, state_at, tags_at};
+use crate::queries::rows::Stored;
+use crate::tables::{are_columns, is_keyed};
+use crate::upserts::rows::Upsert;
+use crate::upserts::tagged::Tagged;
+use crate::values::{name, number, text};
+use farm_types::rows::{BoardRow, Holder};
+use sqlite::types::ValueRef;
+use sqlite::{Alter, Error, Row, Transaction};
+use sqlite_schema::schema::{Kind, Table};
+use std::alloc::Global;
+
+/// Makes the table.
+pub(crate) const MAKE: &str = "\
+    CREATE TABLE boards(name TEXT PRIMARY KEY NOT NULL, kind TEXT NOT NULL, \
+    tags TEXT NOT NULL, health INTEGER NOT NULL, state INTEGER NOT NULL, \
+    holder INTEGER NOT NULL, held_by INTEGER NOT NULL, jobs_since INTEGER NOT NULL, \
+    last_check INTEGER NOT NULL) STRICT";
+
+/// All rows, in order of their keys.
+const READ: &str = "\
+    SELECT name, kind, tags, health, state, holder, held_by, jobs_since, \
+    last_check FROM boards ORDER BY name";
+
+/// Puts a row in the place of the one with its key, or adds it.
+const PUT: &str = "INSERT OR REPLACE INTO boards VALUES (?1, ?2, ?3, ?4, ?5, ?6, ?7, ?8, ?9)";
+
+/// Whether a table is this one.
+pub(crate) fn is_boards(table: &Table) -> bool
+    ensures { IsTrue result ↔ (table.now ≡ record boards_table { tree = 2 }) }
+{
+    let wanted = [
+        ("name", Kind::Text),
+        ("kind", Kind::Text),
+        ("tags", Kind::Text),
+        ("health", Kind::Integer),
+        ("state", Kind::Integer),
+        ("holder", Kind::Integer),
+        ("held_by", Kind::Integer),
+        ("jobs_since", Kind::Integer),
+        ("last_check", Kind::Integer),
+    ];
+    is_keyed(table, "boards", 2, &[1]) && are_columns(table.columns.as_slice(), &wanted)
+}
+
+/// What holds a board, and its number.
+fn holder_and_number(holder: Holder) -> (u64, u64)
+    ensures { result ≡ (holder_of holder, held_by holder) }
+{
+    match holder {
+        Holder::Nobody => (0, 0),
+        Holder::Job(n) => (1, n),
+        Holder::Res(n) => (2, n),
+    }
+}
+
+/// The holder of that kind, with that number.
+fn holder_with(kind: u64, number: u64) -> Option<Holder>
+    ensures { MatchOption result ((holder : Holder)
+        → ¬ ((kind ≡ holder_of holder) × (number ≡ held_by holder)))
+        (λ holder. (kind ≡ holder_of holder) × (number ≡ held_by holder)) }
+{
+    match (kind, number) {
+        (0, 0) => Some(Holder::Nobody),
+        (1, job) => Some(Holder::Job(job)),
+        (2, reservation) => Some(Holder::Res(reservation)),
+        _ => None,
+    }
+}
+
+/// The holder whose kind and whose number stand at these places.
+fn holder_at(row: &Row, kind: usize, number: usize) -> Result<Holder, StoreFault>
+    ensures { MatchResult result
+        (λ holder. (column row.now kind ≡ Int (pos (holder_of holder)))
+        × (column row.now number ≡ Int (pos (held_by holder))))
+        (λ fault. (fault ≢ StoreFault.OldSchema)
+        × (fault ≡ StoreFault.BadStore → (holder : Holder)
+        → column row.now kind ≡ Int (pos (holder_of holder))
+        → column row.now number ≢ Int (pos (held_by holder)))) }
+{
+    let kind = number_at(row, kind)?;
+    let number = number_at(row, number)?;
+    match holder_with(kind, number) {
+        Some(holder) => Ok(holder),
+        None => Err(StoreFault::BadStore),
+    }
+}
+
+/// Its columns; `tags` is the text of the row's tags.
+#[tactic(auto, using(crate::proofs::SmallCodes::health_is_small, crate::proofs::SmallCodes::state_is_small, crate::proofs::SmallCodes::holder_is_small))]
+fn board_columns<'a>(row: &'a BoardRow, tags: &'a str) -> [ValueRef<'a>; 9]
+    requires small { IsSmallBoard row.now }
+    requires tags { tags.now ≡ tags_text row.now.tags }
+    ensures { bound result ≡ board_columns row.now }
+{
+    let (holder, held_by) = holder_and_number(row.holder);
+    [
+        name(&row.name),
+        name(&row.kind),
+        text(tags),
+        number(row.health.code()),
+        number(row.state.code()),
+        number(holder),
+        number(held_by),
+        number(row.jobs_since),
+        number(row.last_check),
+    ]
+}
+
+impl Upsert for Tagged<'_, BoardRow> {
+    ghost use Rattle.std.specs.Prelude.{refl};
+    ghost use Rattle.farm_types.specs.Small.{IsSmallBoard};
+    ghost use Rattle.farm_store.specs.Columns.{board_columns};
+    ghost use Rattle.farm_store.specs.Places.{of_boards};
+
+    ghost place = { of_boards };
+
+    ghost columns = { λ row. board_columns row.row.now };
+
+    ghost IsSmall = { λ row. IsSmallBoard row.row.now };
+
+    fn put<S: Alter>(&self, tx: &mut Transaction<'_, S>) -> Result<(), Error> {
+        let columns = board_columns(self.row, self.text.as_str());
+        tx.execute(PUT, &columns)?;
+        Ok(())
+    }
+
+    ghost is_place = { record { own = λ T rows. refl; over = λ T rows more. refl; same = λ T. refl } };
+}
+
+impl Stored for BoardRow {
+    ghost use Rattle.std.specs.Prelude.{refl};
+    ghost use Rattle.farm_store.specs.Columns.{board_columns};
+    ghost use Rattle.farm_store.specs.Places.{of_boards};
+    ghost use Rattle.farm_store.specs.Readable.{IsReadableBoard};
+
+    ghost place = { of_boards };
+
+    ghost columns = { board_columns };
+
+    ghost IsGood = { IsReadableBoard };
+
+    fn rows<S: Alter>(tx: &mut Transaction<'_, S>) -> Result<Vec<Row>, Error> {
+        let rows = tx.query_all(READ, &[])?;
+        Ok(rows)
+    }
+
+    fn of(alloc: Global, row: &Row) -> Result<BoardRow, StoreFault> {
+        Ok(BoardRow {
+            name: name_at(alloc, row, 0)?,
+            kind: name_at(alloc, row, 1)?,
+            tags: tags_at(alloc, row, 2)?,
+            health: health_at(row, 3)?,
+            state: state_at(row, 4)?,
+            holder: holder_at(row, 5, 6)?,
+            jobs_since: number_at(row, 7)?,
+            last_check: number_at(row, 8)?,
+        })
+    }
+
+    ghost wide = { λ x. refl };
+}

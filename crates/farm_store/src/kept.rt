@@ -1,0 +1,110 @@
+//! The table of kept replies: its statements, and what its rows stand for.
+ghost use Rattle.std.specs.Prelude.{◌≡◌, ◌↔◌, IsTrue};
+ghost use Rattle.sqlite.specs.Values.{bound};
+ghost use Rattle.farm_types.specs.Small.{IsSmallKept};
+ghost use Rattle.farm_store.specs.Columns.{kept_columns};
+ghost use Rattle.farm_store.specs.Schema.{kept_table};
+
+use crate::fault::StoreFault;
+use crate::queries::cells::{key_at, name_at, number_at};
+use crate::queries::rows::Stored;
+use crate::tables::{are_columns, is_keyed};
+use crate::upserts::rows::Upsert;
+use crate::values::{name, number, text};
+use farm_types::rows::{KeptRow, Reply};
+use sqlite::types::ValueRef;
+use sqlite::{Alter, Error, Row, Transaction};
+use sqlite_schema::schema::{Kind, Table};
+use std::alloc::Global;
+
+/// Makes the table.
+pub(crate) const MAKE: &str = "\
+    CREATE TABLE kept(caller TEXT NOT NULL, ckey TEXT NOT NULL, kind INTEGER NOT NULL, \
+    a INTEGER NOT NULL, b INTEGER NOT NULL, c INTEGER NOT NULL, PRIMARY KEY(caller, \
+    ckey)) STRICT";
+
+/// All rows, in order of their keys.
+const READ: &str = "SELECT caller, ckey, kind, a, b, c FROM kept ORDER BY caller, ckey";
+
+/// Puts a row in the place of the one with its key, or adds it.
+const PUT: &str = "INSERT OR REPLACE INTO kept VALUES (?1, ?2, ?3, ?4, ?5, ?6)";
+
+/// Whether a table is this one.
+pub(crate) fn is_replies(table: &Table) -> bool
+    ensures { IsTrue result ↔ (table.now ≡ record kept_table { tree = 6 }) }
+{
+    let wanted = [
+        ("caller", Kind::Text),
+        ("ckey", Kind::Text),
+        ("kind", Kind::Integer),
+        ("a", Kind::Integer),
+        ("b", Kind::Integer),
+        ("c", Kind::Integer),
+    ];
+    is_keyed(table, "kept", 6, &[1, 2]) && are_columns(table.columns.as_slice(), &wanted)
+}
+
+/// Its columns.
+fn kept_columns(row: &KeptRow) -> [ValueRef<'_>; 6]
+    requires small { IsSmallKept row.now }
+    ensures { bound result ≡ kept_columns row.now }
+{
+    [
+        name(&row.caller),
+        text(row.key.as_str()),
+        number(row.kind),
+        number(row.reply.0),
+        number(row.reply.1),
+        number(row.reply.2),
+    ]
+}
+
+impl Upsert for KeptRow {
+    ghost use Rattle.std.specs.Prelude.{refl};
+    ghost use Rattle.farm_types.specs.Small.{IsSmallKept};
+    ghost use Rattle.farm_store.specs.Columns.{kept_columns};
+    ghost use Rattle.farm_store.specs.Places.{of_kept};
+
+    ghost place = { of_kept };
+
+    ghost columns = { kept_columns };
+
+    ghost IsSmall = { IsSmallKept };
+
+    fn put<S: Alter>(&self, tx: &mut Transaction<'_, S>) -> Result<(), Error> {
+        let columns = kept_columns(self);
+        tx.execute(PUT, &columns)?;
+        Ok(())
+    }
+
+    ghost is_place = { record { own = λ T rows. refl; over = λ T rows more. refl; same = λ T. refl } };
+}
+
+impl Stored for KeptRow {
+    ghost use Rattle.std.specs.Prelude.{refl};
+    ghost use Rattle.farm_store.specs.Columns.{kept_columns};
+    ghost use Rattle.farm_store.specs.Places.{of_kept};
+    ghost use Rattle.farm_store.specs.Readable.{IsReadableKept};
+
+    ghost place = { of_kept };
+
+    ghost columns = { kept_columns };
+
+    ghost IsGood = { IsReadableKept };
+
+    fn rows<S: Alter>(tx: &mut Transaction<'_, S>) -> Result<Vec<Row>, Error> {
+        let rows = tx.query_all(READ, &[])?;
+        Ok(rows)
+    }
+
+    fn of(alloc: Global, row: &Row) -> Result<KeptRow, StoreFault> {
+        Ok(KeptRow {
+            caller: name_at(alloc, row, 0)?,
+            key: key_at(alloc, row, 1)?,
+            kind: number_at(row, 2)?,
+            reply: Reply(number_at(row, 3)?, number_at(row, 4)?, number_at(row, 5)?),
+        })
+    }
+
+    ghost wide = { λ x. refl };
+}

@@ -1,0 +1,148 @@
+//! The table of the farm's numbers: its statements, and what its rows stand for.
+ghost use Rattle.std.specs.Prelude.{◌≡◌, ◌≢◌, ◌↔◌, [], ◌∷◌, IfOk, IsTrue, OnOk, MatchResult, ⊤};
+ghost use Rattle.std.specs.List.{AllByRecursion};
+ghost use Rattle.sqlite.specs.Held.{state};
+ghost use Rattle.sqlite.specs.State.{HasCleanDisk};
+ghost use Rattle.sqlite.specs.Values.{bound};
+ghost use Rattle.farm_types.specs.Small.{IsSmall};
+ghost use Rattle.farm_store.specs.Columns.{Tables, meta_row, meta_rows, number_rows};
+ghost use Rattle.farm_store.specs.Edits.{ChangesTables, GoesOn, StaysOpen};
+ghost use Rattle.farm_store.specs.Holds.{IsInside};
+ghost use Rattle.farm_store.specs.Places.{of_meta, put_at};
+ghost use Rattle.farm_store.specs.Reading.{CommitShows, ReadsAs};
+ghost use Rattle.farm_store.specs.Schema.{meta_table};
+ghost use Rattle.farm_store.specs.Stored.{IsWide};
+
+use crate::fault::StoreFault;
+use crate::queries::cells::{number_at, text_at};
+use crate::schema::SCHEMA;
+use crate::tables::{are_columns, is_keyed};
+use crate::values::{number, text};
+use farm_types::rows::MetaRow;
+use sqlite::types::ValueRef;
+use sqlite::{Alter, Error, Row, Transaction};
+use sqlite_schema::schema::{Kind, Table};
+
+/// Makes the table.
+pub(crate) const MAKE: &str = "\
+    CREATE TABLE meta(name TEXT PRIMARY KEY NOT NULL, value INTEGER NOT NULL) STRICT";
+
+/// All rows, in order of their keys.
+const READ: &str = "SELECT name, value FROM meta ORDER BY name";
+
+/// Puts a row's value into the row with its key, or adds it.
+const PUT: &str = "\
+    INSERT INTO meta VALUES (?1, ?2) ON CONFLICT (name) DO UPDATE SET value = excluded.value";
+
+/// Whether a table is this one.
+pub(crate) fn is_numbers(table: &Table) -> bool
+    ensures { IsTrue result ↔ (table.now ≡ record meta_table { tree = 8 }) }
+{
+    let wanted = [("name", Kind::Text), ("value", Kind::Integer)];
+    is_keyed(table, "meta", 8, &[1]) && are_columns(table.columns.as_slice(), &wanted)
+}
+
+/// Its columns.
+fn meta_columns(name: &str, value: u64) -> [ValueRef<'_>; 2]
+    requires small { IsSmall value }
+    ensures { bound result ≡ meta_row name.now value }
+{
+    [text(name), number(value)]
+}
+
+pub(crate) fn put_number<S: Alter>(
+    tx: &mut Transaction<'_, S>,
+    name: &str,
+    value: u64,
+) -> Result<(), Error>
+    requires small { IsSmall value }
+    ensures goes_on { GoesOn S.Store tx.old tx.new }
+    ensures put { ChangesTables result (state S.Store tx.old.conn.now)
+        (state S.Store tx.new.conn.now) (λ T. put_at of_meta T (meta_row name.now value ∷ [])) }
+    ensures stays_open { StaysOpen result (state S.Store tx.old.conn.now)
+        (state S.Store tx.new.conn.now) }
+{
+    let columns = meta_columns(name, value);
+    tx.execute(PUT, &columns)?;
+    Ok(())
+}
+
+pub(crate) fn put_numbers<S: Alter>(
+    tx: &mut Transaction<'_, S>,
+    numbers: MetaRow,
+) -> Result<(), Error>
+    requires clock { IsSmall numbers.clock }
+    requires count { IsSmall numbers.count }
+    requires next { IsSmall numbers.next }
+    ensures goes_on { GoesOn S.Store tx.old tx.new }
+    ensures put { ChangesTables result (state S.Store tx.old.conn.now)
+        (state S.Store tx.new.conn.now)
+        (λ T. put_at of_meta T (number_rows numbers)) }
+    ensures stays_open { StaysOpen result (state S.Store tx.old.conn.now)
+        (state S.Store tx.new.conn.now) }
+{
+    put_number(tx, "clock", numbers.clock)?;
+    put_number(tx, "count", numbers.count)?;
+    put_number(tx, "next", numbers.next)?;
+    Ok(())
+}
+
+/// The number of the row with that name.
+fn number_of(row: &Row, name: &str) -> Result<u64, StoreFault>
+    ensures { IsWide of_meta.width row.now
+        → ReadsAs result (λ _. ⊤) (λ value. meta_row name.now value) row.now }
+{
+    if text_at(row, 0)? == name.as_bytes() {
+        number_at(row, 1)
+    } else {
+        Err(StoreFault::BadStore)
+    }
+}
+
+/// The farm's numbers, where their four rows are all that there is.
+fn numbers_of(rows: &[Row]) -> Result<MetaRow, StoreFault>
+    ensures { AllByRecursion (IsWide of_meta.width) rows.now
+        → ReadsAs result (λ _. ⊤) meta_rows rows.now }
+{
+    let [clock, count, next, schema] = rows else {
+        return Err(StoreFault::BadStore);
+    };
+    let clock = number_of(clock, "clock")?;
+    let count = number_of(count, "count")?;
+    let next = number_of(next, "next")?;
+    if number_of(schema, "schema")? == SCHEMA {
+        Ok(MetaRow { clock, count, next })
+    } else {
+        Err(StoreFault::BadStore)
+    }
+}
+
+fn meta_rows<S: Alter>(tx: &mut Transaction<'_, S>) -> Result<Vec<Row>, Error>
+    ensures goes_on { GoesOn S.Store tx.old tx.new }
+    ensures rows { HasCleanDisk (state S.Store tx.new.conn.now) → IfOk result (λ rows. (T : Tables)
+        → IsInside (state S.Store tx.old.conn.now) T
+        → (rows.items ≡ T.meta) × AllByRecursion (IsWide of_meta.width) rows.items
+        × IsInside (state S.Store tx.new.conn.now) T) }
+    ensures kept { HasCleanDisk (state S.Store tx.new.conn.now) → (T : Tables)
+        → IsInside (state S.Store tx.old.conn.now) T
+        → CommitShows (state S.Store tx.old.conn.now) T
+        → CommitShows (state S.Store tx.new.conn.now) T }
+{
+    let rows = tx.query_all(READ, &[])?;
+    Ok(rows)
+}
+
+/// The farm's numbers.
+pub(crate) fn read_numbers<S: Alter>(tx: &mut Transaction<'_, S>) -> Result<MetaRow, StoreFault>
+    ensures goes_on { GoesOn S.Store tx.old tx.new }
+    ensures read { HasCleanDisk (state S.Store tx.new.conn.now) → (T : Tables)
+        → IsInside (state S.Store tx.old.conn.now) T
+        → ReadsAs result (λ _. ⊤) meta_rows T.meta }
+    ensures kept { HasCleanDisk (state S.Store tx.new.conn.now) → (T : Tables)
+        → IsInside (state S.Store tx.old.conn.now) T
+        → CommitShows (state S.Store tx.old.conn.now) T
+        → CommitShows (state S.Store tx.new.conn.now) T }
+{
+    let rows = meta_rows(tx)?;
+    numbers_of(&rows)
+}

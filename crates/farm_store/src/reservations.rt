@@ -1,0 +1,126 @@
+//! The table of reservations: its statements, and what its rows stand for.
+ghost use Rattle.std.specs.Prelude.{◌≡◌, ◌↔◌, IsTrue};
+ghost use Rattle.sqlite.specs.Values.{bound};
+ghost use Rattle.farm_types.specs.Small.{IsSmallRes};
+ghost use Rattle.farm_types.specs.Tags.{tags_text};
+ghost use Rattle.farm_store.specs.Columns.{res_columns};
+ghost use Rattle.farm_store.specs.Schema.{reservations_table};
+
+use crate::fault::StoreFault;
+use crate::queries::cells::{
+    name_at, name_if_any_at, number_at, priority_at, res_state_at, tags_at,
+};
+use crate::queries::rows::Stored;
+use crate::tables::{are_columns, is_numbered};
+use crate::upserts::rows::Upsert;
+use crate::upserts::tagged::Tagged;
+use crate::values::{name, name_if_any, number, text};
+use farm_types::rows::{ResRow, Want};
+use sqlite::types::ValueRef;
+use sqlite::{Alter, Error, Row, Transaction};
+use sqlite_schema::schema::{Kind, Table};
+use std::alloc::Global;
+
+/// Makes the table.
+pub(crate) const MAKE: &str = "\
+    CREATE TABLE reservations(number INTEGER PRIMARY KEY NOT NULL, owner TEXT NOT NULL, \
+    priority INTEGER NOT NULL, tags TEXT NOT NULL, state INTEGER NOT NULL, \
+    deadline INTEGER NOT NULL, board TEXT NOT NULL) STRICT";
+
+/// All rows, in order of their keys.
+const READ: &str = "\
+    SELECT number, owner, priority, tags, state, deadline, \
+    board FROM reservations ORDER BY number";
+
+/// Puts a row in the place of the one with its key, or adds it.
+const PUT: &str = "INSERT OR REPLACE INTO reservations VALUES (?1, ?2, ?3, ?4, ?5, ?6, ?7)";
+
+/// Whether a table is this one.
+pub(crate) fn is_reservations(table: &Table) -> bool
+    ensures { IsTrue result ↔ (table.now ≡ record reservations_table { tree = 5 }) }
+{
+    let wanted = [
+        ("number", Kind::Integer),
+        ("owner", Kind::Text),
+        ("priority", Kind::Integer),
+        ("tags", Kind::Text),
+        ("state", Kind::Integer),
+        ("deadline", Kind::Integer),
+        ("board", Kind::Text),
+    ];
+    is_numbered(table, "reservations", 5) && are_columns(table.columns.as_slice(), &wanted)
+}
+
+/// Its columns; `tags` is the text of the tags that it wants.
+#[tactic(auto, using(crate::proofs::SmallCodes::priority_is_small, crate::proofs::SmallCodes::res_state_is_small))]
+fn res_columns<'a>(row: &'a ResRow, tags: &'a str) -> [ValueRef<'a>; 7]
+    requires small { IsSmallRes row.now }
+    requires tags { tags.now ≡ tags_text row.now.want.tags }
+    ensures { bound result ≡ res_columns row.now }
+{
+    [
+        number(row.number),
+        name(&row.owner),
+        number(row.priority.get()),
+        text(tags),
+        number(row.state.code()),
+        number(row.deadline),
+        name_if_any(&row.board),
+    ]
+}
+
+impl Upsert for Tagged<'_, ResRow> {
+    ghost use Rattle.std.specs.Prelude.{refl};
+    ghost use Rattle.farm_types.specs.Small.{IsSmallRes};
+    ghost use Rattle.farm_store.specs.Columns.{res_columns};
+    ghost use Rattle.farm_store.specs.Places.{of_reservations};
+
+    ghost place = { of_reservations };
+
+    ghost columns = { λ row. res_columns row.row.now };
+
+    ghost IsSmall = { λ row. IsSmallRes row.row.now };
+
+    fn put<S: Alter>(&self, tx: &mut Transaction<'_, S>) -> Result<(), Error> {
+        let columns = res_columns(self.row, self.text.as_str());
+        tx.execute(PUT, &columns)?;
+        Ok(())
+    }
+
+    ghost is_place = { record { own = λ T rows. refl; over = λ T rows more. refl; same = λ T. refl } };
+}
+
+impl Stored for ResRow {
+    ghost use Rattle.std.specs.Prelude.{refl};
+    ghost use Rattle.farm_store.specs.Columns.{res_columns};
+    ghost use Rattle.farm_store.specs.Places.{of_reservations};
+    ghost use Rattle.farm_store.specs.Readable.{IsReadableRes};
+
+    ghost place = { of_reservations };
+
+    ghost columns = { res_columns };
+
+    ghost IsGood = { IsReadableRes };
+
+    fn rows<S: Alter>(tx: &mut Transaction<'_, S>) -> Result<Vec<Row>, Error> {
+        let rows = tx.query_all(READ, &[])?;
+        Ok(rows)
+    }
+
+    fn of(alloc: Global, row: &Row) -> Result<ResRow, StoreFault> {
+        Ok(ResRow {
+            number: number_at(row, 0)?,
+            owner: name_at(alloc, row, 1)?,
+            priority: priority_at(row, 2)?,
+            want: Want {
+                kind: None,
+                tags: tags_at(alloc, row, 3)?,
+            },
+            state: res_state_at(row, 4)?,
+            deadline: number_at(row, 5)?,
+            board: name_if_any_at(alloc, row, 6)?,
+        })
+    }
+
+    ghost wide = { λ x. refl };
+}

@@ -1,0 +1,128 @@
+//! The table of types: its statements, and what its rows stand for.
+ghost use Rattle.std.specs.Prelude.{◌≡◌, ◌↔◌, IsTrue, MatchOption};
+ghost use Rattle.sqlite.specs.Values.{bound};
+ghost use Rattle.farm_types.specs.Small.{IsSmallType, every_of};
+ghost use Rattle.farm_types.specs.declared.rows.Check.{Check};
+ghost use Rattle.farm_store.specs.Columns.{type_columns, unit_of};
+ghost use Rattle.farm_store.specs.Schema.{types_table};
+
+use crate::fault::StoreFault;
+use crate::queries::cells::{name_at, number_at};
+use crate::queries::rows::Stored;
+use crate::tables::{are_columns, is_keyed};
+use crate::upserts::rows::Upsert;
+use crate::values::{name, number};
+use farm_types::rows::{Check, TypeRow};
+use sqlite::types::ValueRef;
+use sqlite::{Alter, Error, Row, Transaction};
+use sqlite_schema::schema::{Kind, Table};
+use std::alloc::Global;
+
+/// Makes the table.
+pub(crate) const MAKE: &str = "\
+    CREATE TABLE types(name TEXT PRIMARY KEY NOT NULL, unit INTEGER NOT NULL, \
+    every INTEGER NOT NULL) STRICT";
+
+/// All rows, in order of their keys.
+const READ: &str = "SELECT name, unit, every FROM types ORDER BY name";
+
+/// Puts a row in the place of the one with its key, or adds it.
+const PUT: &str = "INSERT OR REPLACE INTO types VALUES (?1, ?2, ?3)";
+
+/// Whether a table is this one.
+pub(crate) fn is_types(table: &Table) -> bool
+    ensures { IsTrue result ↔ (table.now ≡ record types_table { tree = 0 }) }
+{
+    let wanted = [
+        ("name", Kind::Text),
+        ("unit", Kind::Integer),
+        ("every", Kind::Integer),
+    ];
+    is_keyed(table, "types", 0, &[1]) && are_columns(table.columns.as_slice(), &wanted)
+}
+
+/// The unit of a check's frequency, and how many of it.
+fn unit_and_every(check: Check) -> (u64, u64)
+    ensures { result ≡ (unit_of check, every_of check) }
+{
+    match check {
+        Check::Never => (0, 0),
+        Check::Hours(n) => (1, n),
+        Check::Jobs(n) => (2, n),
+    }
+}
+
+/// The frequency with that unit and that number.
+fn check_of(unit: u64, every: u64) -> Option<Check>
+    ensures { MatchOption result ((check : Check)
+        → ¬ ((unit ≡ unit_of check) × (every ≡ every_of check)))
+        (λ check. (unit ≡ unit_of check) × (every ≡ every_of check)) }
+{
+    match (unit, every) {
+        (0, 0) => Some(Check::Never),
+        (1, hours) => Some(Check::Hours(hours)),
+        (2, jobs) => Some(Check::Jobs(jobs)),
+        _ => None,
+    }
+}
+
+/// Its columns.
+#[tactic(auto, using(crate::proofs::SmallCodes::unit_is_small))]
+fn type_columns(row: &TypeRow) -> [ValueRef<'_>; 3]
+    requires small { IsSmallType row.now }
+    ensures { bound result ≡ type_columns row.now }
+{
+    let (unit, every) = unit_and_every(row.check);
+    [name(&row.name), number(unit), number(every)]
+}
+
+impl Upsert for TypeRow {
+    ghost use Rattle.std.specs.Prelude.{refl};
+    ghost use Rattle.farm_types.specs.Small.{IsSmallType};
+    ghost use Rattle.farm_store.specs.Columns.{type_columns};
+    ghost use Rattle.farm_store.specs.Places.{of_types};
+
+    ghost place = { of_types };
+
+    ghost columns = { type_columns };
+
+    ghost IsSmall = { IsSmallType };
+
+    fn put<S: Alter>(&self, tx: &mut Transaction<'_, S>) -> Result<(), Error> {
+        let columns = type_columns(self);
+        tx.execute(PUT, &columns)?;
+        Ok(())
+    }
+
+    ghost is_place = { record { own = λ T rows. refl; over = λ T rows more. refl; same = λ T. refl } };
+}
+
+impl Stored for TypeRow {
+    ghost use Rattle.std.specs.Prelude.{refl};
+    ghost use Rattle.farm_store.specs.Columns.{type_columns};
+    ghost use Rattle.farm_store.specs.Places.{of_types};
+    ghost use Rattle.farm_store.specs.Readable.{IsReadableType};
+
+    ghost place = { of_types };
+
+    ghost columns = { type_columns };
+
+    ghost IsGood = { IsReadableType };
+
+    fn rows<S: Alter>(tx: &mut Transaction<'_, S>) -> Result<Vec<Row>, Error> {
+        let rows = tx.query_all(READ, &[])?;
+        Ok(rows)
+    }
+
+    fn of(alloc: Global, row: &Row) -> Result<TypeRow, StoreFault> {
+        let name = name_at(alloc, row, 0)?;
+        let unit = number_at(row, 1)?;
+        let every = number_at(row, 2)?;
+        match check_of(unit, every) {
+            Some(check) => Ok(TypeRow { name, check }),
+            None => Err(StoreFault::BadStore),
+        }
+    }
+
+    ghost wide = { λ x. refl };
+}
