@@ -39,6 +39,7 @@ keeps_res (ResEdit.Acquire number) r = refl
 keeps_res (ResEdit.Release number deadline) r = refl
 keeps_res (ResEdit.Refresh number deadline) r = refl
 keeps_res (ResEdit.Cancel number) r = refl
+keeps_res (ResEdit.End number) r = refl
 keeps_res (ResEdit.Expire now) r = refl
 keeps_res (ResEdit.Allocate number board deadline) r = refl
 

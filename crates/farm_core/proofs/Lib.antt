@@ -15,3 +15,9 @@ pub mod Passing
 pub mod Checking
 pub mod Whole
 pub mod BoardWindow
+pub mod Free
+pub mod Given
+pub mod Leasing
+pub mod Trying
+pub mod Commanded
+pub mod Filled

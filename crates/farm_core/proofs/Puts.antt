@@ -1,6 +1,7 @@
 -- What a row that is put keeps of the whole farm.
 use Rattle.std.proofs.Common.{◌≡◌, List, [], ◌∷◌, ◌++◌, Result, Ok, Err, sym, ap, subst, ◌∙◌, Vec, Global}
 use Rattle.std.specs.Prelude.{OnOk}
+use Rattle.std.specs.BTreeSet.{BTreeSet}
 use Rattle.std.specs.List.{AllByRecursion}
 use Rattle.std.specs.List.Sorted.{IsStrictlySortedBy}
 use Rattle.std.specs.declared.cmp.Ordering.{Ordering}
@@ -12,6 +13,9 @@ use Rattle.farm_types.specs.declared.rows.BoardRow.{BoardRow}
 use Rattle.farm_types.specs.declared.rows.JobRow.{JobRow}
 use Rattle.farm_types.specs.declared.rows.ResRow.{ResRow}
 use Rattle.farm_types.specs.declared.calls.Changes.{Changes}
+use Rattle.farm_types.proofs.Put.{AllByRecursion-weaker}
+use Rattle.farm_core.specs.Leases.{Grows, IsNoted, lease_of}
+use Rattle.farm_core.specs.declared.leases.Lease.{Lease}
 use Rattle.farm_core.specs.Orderly.{IsOrderly, IsNear}
 use Rattle.farm_core.specs.Tracks.{Tracks}
 use Rattle.farm_core.specs.Drafted.{IsWhole}
@@ -73,8 +77,8 @@ module _ (F : Farm) (row : TypeRow) (small : IsSmallType row) (types : List Type
     };
   }
 
-  pub whole_type : {E : Farm} {c : Changes} (log : Vec TypeRow Global) → IsWhole E c F → log.items ≡ c.types.items ++ row ∷ [] → types ≡ put type_cmp F.types row → IsStrictlySortedBy type_cmp types → IsWhole E (record c { types = log }) (record F { types = types })
-  whole_type {E = E} {c = c} log whole logged is sorted = record { orderly = orderly_type whole.orderly is sorted; tracked = tracks_type log c logged is E whole.tracked }
+  pub whole_type : {E : Farm} {c : Changes} {leases : BTreeSet Lease} (log : Vec TypeRow Global) → IsWhole E c F leases → log.items ≡ c.types.items ++ row ∷ [] → types ≡ put type_cmp F.types row → IsStrictlySortedBy type_cmp types → IsWhole E (record c { types = log }) (record F { types = types }) leases
+  whole_type {E = E} {c = c} log whole logged is sorted = record { orderly = orderly_type whole.orderly is sorted; tracked = tracks_type log c logged is E whole.tracked; noted = whole.noted }
 
 -- a board is put
 pub with_boards : (F : Farm) (row : BoardRow) (boards : List BoardRow) → boards ≡ put board_cmp F.boards row → record F { boards = boards } ≡ record F { boards = put board_cmp F.boards row }
@@ -111,8 +115,8 @@ module _ (F : Farm) (row : BoardRow) (small : IsSmallBoard row) (boards : List B
     };
   }
 
-  pub whole_board : {E : Farm} {c : Changes} (log : Vec BoardRow Global) → IsWhole E c F → log.items ≡ c.boards.items ++ row ∷ [] → boards ≡ put board_cmp F.boards row → IsStrictlySortedBy board_cmp boards → IsWhole E (record c { boards = log }) (record F { boards = boards })
-  whole_board {E = E} {c = c} log whole logged is sorted = record { orderly = orderly_board whole.orderly is sorted; tracked = tracks_board log c logged is E whole.tracked }
+  pub whole_board : {E : Farm} {c : Changes} {leases : BTreeSet Lease} (log : Vec BoardRow Global) → IsWhole E c F leases → log.items ≡ c.boards.items ++ row ∷ [] → boards ≡ put board_cmp F.boards row → IsStrictlySortedBy board_cmp boards → IsWhole E (record c { boards = log }) (record F { boards = boards }) leases
+  whole_board {E = E} {c = c} log whole logged is sorted = record { orderly = orderly_board whole.orderly is sorted; tracked = tracks_board log c logged is E whole.tracked; noted = whole.noted }
 
 -- a job is put
 pub with_jobs : (F : Farm) (row : JobRow) (jobs : List JobRow) → jobs ≡ put job_cmp F.jobs row → record F { jobs = jobs } ≡ record F { jobs = put job_cmp F.jobs row }
@@ -149,8 +153,8 @@ module _ (F : Farm) (row : JobRow) (small : IsSmallJob row) (jobs : List JobRow)
     };
   }
 
-  pub whole_job : {E : Farm} {c : Changes} (near : IsNear row) → (log : Vec JobRow Global) → IsWhole E c F → log.items ≡ c.jobs.items ++ row ∷ [] → jobs ≡ put job_cmp F.jobs row → IsStrictlySortedBy job_cmp jobs → IsWhole E (record c { jobs = log }) (record F { jobs = jobs })
-  whole_job {E = E} {c = c} near log whole logged is sorted = record { orderly = orderly_job near whole.orderly is sorted; tracked = tracks_job log c logged is E whole.tracked }
+  pub whole_job : {E : Farm} {c : Changes} {leases : BTreeSet Lease} (near : IsNear row) → (log : Vec JobRow Global) → IsWhole E c F leases → log.items ≡ c.jobs.items ++ row ∷ [] → jobs ≡ put job_cmp F.jobs row → IsStrictlySortedBy job_cmp jobs → IsWhole E (record c { jobs = log }) (record F { jobs = jobs }) leases
+  whole_job {E = E} {c = c} near log whole logged is sorted = record { orderly = orderly_job near whole.orderly is sorted; tracked = tracks_job log c logged is E whole.tracked; noted = whole.noted }
 
 -- a reservation is put
 pub with_reservations : (F : Farm) (row : ResRow) (reservations : List ResRow) → reservations ≡ put res_cmp F.reservations row → record F { reservations = reservations } ≡ record F { reservations = put res_cmp F.reservations row }
@@ -187,5 +191,10 @@ module _ (F : Farm) (row : ResRow) (small : IsSmallRes row) (reservations : List
     };
   }
 
-  pub whole_res : {E : Farm} {c : Changes} (log : Vec ResRow Global) → IsWhole E c F → log.items ≡ c.reservations.items ++ row ∷ [] → reservations ≡ put res_cmp F.reservations row → IsStrictlySortedBy res_cmp reservations → IsWhole E (record c { reservations = log }) (record F { reservations = reservations })
-  whole_res {E = E} {c = c} log whole logged is sorted = record { orderly = orderly_res whole.orderly is sorted; tracked = tracks_res log c logged is E whole.tracked }
+  pub whole_res : {E : Farm} {c : Changes} {leases news : BTreeSet Lease} (log : Vec ResRow Global) → IsWhole E c F leases → log.items ≡ c.reservations.items ++ row ∷ [] → reservations ≡ put res_cmp F.reservations row → IsStrictlySortedBy res_cmp reservations
+      → IsNoted news row → Grows leases news → IsWhole E (record c { reservations = log }) (record F { reservations = reservations }) news
+  whole_res {E = E} {c = c} {leases = leases} {news = news} log whole logged is sorted noted grows = record {
+    orderly = orderly_res whole.orderly is sorted;
+    tracked = tracks_res log c logged is E whole.tracked;
+    noted = all_in (IsNoted news) res_cmp F.reservations reservations row noted (AllByRecursion-weaker (λ r old may. grows (lease_of r) (old may)) F.reservations whole.noted) is;
+  }

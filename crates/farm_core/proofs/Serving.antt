@@ -171,7 +171,7 @@ group_served F G group c n names numbers of_group same asks picked are made =
     ∙ sym made)
 
 -- a reservation
-asked : (F : Farm) (c : Claimed) → Asks true F c → (r : ResRow) × (res_of F c.number ≡ Some r) × (c.wants ≡ r.want ∷ [])
+pub asked : (F : Farm) (c : Claimed) → Asks true F c → (r : ResRow) × (res_of F c.number ≡ Some r) × (c.wants ≡ r.want ∷ [])
 asked F c asks = by (res_of F c.number) refl asks
   where
     by : (o : Option ResRow) → res_of F c.number ≡ o → IsSomeAnd o (λ r. c.wants ≡ r.want ∷ [])

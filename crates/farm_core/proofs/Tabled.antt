@@ -3,6 +3,7 @@ use Rattle.std.proofs.Common.{◌≡◌, ℕ, ◌++◌, List, map, Bool, ap, ◌
 use Rattle.std.specs.List.{filter}
 use Rattle.std.specs.Cmp.{on_total, nat_cmp_total}
 use Rattle.std.specs.Cmp.Lexicographic.{nat_list_cmp_total}
+use Rattle.std.specs.BTreeSet.{BTreeSet}
 use Rattle.std.specs.Ordering.{nat_cmp}
 use Rattle.std.specs.declared.cmp.Ordering.TheVariants.{Equal}
 use Rattle.std.proofs.lemmas.Cmp.{tied_itself}
@@ -14,6 +15,8 @@ use Rattle.farm_types.specs.declared.rows.JobRow.{JobRow}
 use Rattle.farm_types.specs.declared.rows.ResRow.{ResRow}
 use Rattle.farm_types.specs.declared.rows.BoardRow.{BoardRow}
 use Rattle.farm_types.specs.declared.calls.Changes.{Changes}
+use Rattle.farm_core.specs.declared.leases.Lease.{Lease}
+use Rattle.farm_core.specs.Leases.{AreNoted}
 use Rattle.farm_core.specs.Orderly.{IsOrderly, IsNear}
 use Rattle.farm_core.specs.Tracks.{Tracks}
 use Rattle.farm_core.specs.Drafted.{IsWhole}
@@ -64,8 +67,9 @@ module _ (F : Farm) (test : JobRow → Bool) (f : JobRow → JobRow) (keeps : Ke
     };
   }
 
-  pub whole_jobs : {E : Farm} {c : Changes} (log : Vec JobRow Global) → log.items ≡ c.jobs.items ++ map f (filter test F.jobs) → Tracks E c F → IsWhole E (record c { jobs = log }) (record F { jobs = jobs })
-  whole_jobs {E = E} {c = c} log logged t = record { orderly = orderly_jobs; tracked = tracks_jobs log E c logged t }
+  pub whole_jobs : {E : Farm} {c : Changes} {leases : BTreeSet Lease} (log : Vec JobRow Global) → log.items ≡ c.jobs.items ++ map f (filter test F.jobs) → Tracks E c F → AreNoted leases F.reservations
+      → IsWhole E (record c { jobs = log }) (record F { jobs = jobs }) leases
+  whole_jobs {E = E} {c = c} log logged t noted = record { orderly = orderly_jobs; tracked = tracks_jobs log E c logged t; noted = noted }
 
 module _ (F : Farm) (test : ResRow → Bool) (f : ResRow → ResRow) (keeps : (r : ResRow) → (f r).number ≡ r.number) (small : (r : ResRow) → IsSmallRes r → IsSmallRes (f r)) (orderly : IsOrderly F) (reservations : List ResRow) (is : reservations ≡ change_where test f F.reservations) where
   tied_res : (r : ResRow) → res_cmp (f r) r ≡ Equal
@@ -101,8 +105,9 @@ module _ (F : Farm) (test : ResRow → Bool) (f : ResRow → ResRow) (keeps : (r
     };
   }
 
-  pub whole_reservations : {E : Farm} {c : Changes} (log : Vec ResRow Global) → log.items ≡ c.reservations.items ++ map f (filter test F.reservations) → Tracks E c F → IsWhole E (record c { reservations = log }) (record F { reservations = reservations })
-  whole_reservations {E = E} {c = c} log logged t = record { orderly = orderly_reservations; tracked = tracks_reservations log E c logged t }
+  pub whole_reservations : {E : Farm} {c : Changes} {leases : BTreeSet Lease} (log : Vec ResRow Global) → log.items ≡ c.reservations.items ++ map f (filter test F.reservations) → Tracks E c F → AreNoted leases reservations
+      → IsWhole E (record c { reservations = log }) (record F { reservations = reservations }) leases
+  whole_reservations {E = E} {c = c} log logged t noted = record { orderly = orderly_reservations; tracked = tracks_reservations log E c logged t; noted = noted }
 
 module _ (F : Farm) (test : BoardRow → Bool) (f : BoardRow → BoardRow) (keeps : (b : BoardRow) → (f b).name ≡ b.name) (small : (b : BoardRow) → IsSmallBoard b → IsSmallBoard (f b)) (orderly : IsOrderly F) (boards : List BoardRow) (is : boards ≡ change_where test f F.boards) where
   tied_board : (b : BoardRow) → board_cmp (f b) b ≡ Equal
@@ -138,11 +143,12 @@ module _ (F : Farm) (test : BoardRow → Bool) (f : BoardRow → BoardRow) (keep
     };
   }
 
-  pub whole_boards : {E : Farm} {c : Changes} (log : Vec BoardRow Global) → log.items ≡ c.boards.items ++ map f (filter test F.boards) → Tracks E c F → IsWhole E (record c { boards = log }) (record F { boards = boards })
-  whole_boards {E = E} {c = c} log logged t = record { orderly = orderly_boards; tracked = tracks_boards log E c logged t }
+  pub whole_boards : {E : Farm} {c : Changes} {leases : BTreeSet Lease} (log : Vec BoardRow Global) → log.items ≡ c.boards.items ++ map f (filter test F.boards) → Tracks E c F → AreNoted leases F.reservations
+      → IsWhole E (record c { boards = log }) (record F { boards = boards }) leases
+  whole_boards {E = E} {c = c} log logged t noted = record { orderly = orderly_boards; tracked = tracks_boards log E c logged t; noted = noted }
 
 -- the next number is in no table
-pub whole_next : {E : Farm} {c : Changes} (F : Farm) (n : ℕ) → IsWhole E c F → IsWhole E c (record F { next = n })
+pub whole_next : {E : Farm} {c : Changes} {leases : BTreeSet Lease} (F : Farm) (n : ℕ) → IsWhole E c F leases → IsWhole E c (record F { next = n }) leases
 whole_next F n whole =
     let o = whole.orderly in
     let t = whole.tracked in
@@ -160,4 +166,5 @@ whole_next F n whole =
         near = o.near;
       };
       tracked = record { types = t.types; boards = t.boards; jobs = t.jobs; reservations = t.reservations; kept = t.kept; small = t.small };
+      noted = whole.noted;
     }

@@ -1,26 +1,69 @@
--- What a draft is to those that use it: the farm that it began with, and the farm that it has come
--- to.
-use Rattle.std.specs.Prelude.{◌≡◌, ℕ, List}
-use Rattle.farm_types.specs.Farm.{Farm}
-use Rattle.farm_types.specs.Change.{act, done}
+-- What a draft is to those that use it: the farm that it began with, the farm that it has come to,
+-- and its queues.
+use Rattle.std.specs.Prelude.{◌≡◌, ◌==◌, ◌+◌, ℕ, List, false, not}
+use Rattle.std.specs.List.{AllByRecursion, filter}
+use Rattle.std.specs.BTreeSet.{BTreeSet}
+use Rattle.std.specs.Option.{option_map_or}
+use Rattle.farm_types.specs.Table.{put}
+use Rattle.farm_types.specs.Farm.{Farm, job_of}
+use Rattle.farm_types.specs.Pick.{Claimed, res_claim}
+use Rattle.farm_types.specs.Change.{act, done, new_res}
+use Rattle.farm_pick.specs.Queued.{Lists, Queued, queued}
+use Rattle.farm_pick.specs.Kept.{queued_cmp}
 use Rattle.farm_types.specs.declared.calls.Cmd.{Cmd}
 use Rattle.farm_types.specs.declared.calls.Changes.{Changes}
+use Rattle.farm_core.specs.declared.leases.Lease.{Lease}
+use Rattle.farm_core.specs.Leases.{AreNoted}
 use Rattle.farm_core.specs.Orderly.{IsOrderly}
 use Rattle.farm_core.specs.Tracks.{Tracks}
 
 pub record Drafted : Type 0 where
   pub start : Farm
   pub farm : Farm
+  pub queues : Lists
 
--- the farm is in order, and the changed rows, put into the start, give it
-pub record IsWhole (start : Farm) (c : Changes) (F : Farm) : Type 0 where
+-- the farm is in order, the changed rows, put into the start, give it, and its leases are noted
+pub record IsWhole (start : Farm) (c : Changes) (F : Farm) (leases : BTreeSet Lease) : Type 0 where
   pub orderly : IsOrderly F
   pub tracked : Tracks start c F
+  pub noted : AreNoted leases F.reservations
 
 -- the draft, come to another farm
 abbrev pub at_farm : Farm → Drafted → Drafted
 at_farm F D = record D { farm = F }
 
--- the machine's act gives the number and the farm that the draft comes to
+-- the queues with a claim more, and without the claim of a number
+abbrev pub with_claim : Claimed → Lists → Lists
+with_claim c lists = record lists { claims = put queued_cmp lists.claims (queued c) }
+
+abbrev pub without_claim : ℕ → Lists → Lists
+without_claim number lists = record lists {
+  claims = filter (λ x. not (x.claim.number == number)) lists.claims;
+}
+
+-- no claim has the number
+abbrev pub IsFresh : ℕ → List Queued → Type 0
+IsFresh number claims = AllByRecursion (λ x. x.claim.number ≡ number → ⊥) claims
+
+-- a new group and a new reservation come into the queues, a canceled one leaves them; no other
+-- command but a pass changes who waits
+abbrev pub queues_after : Farm → List ℕ → Cmd → Lists → Lists
+queues_after F caller (Cmd.Submit priority wants roles body) lists = with_claim (record {
+  reservation = false;
+  number = F.next;
+  owner = caller;
+  priority = priority;
+  wants = wants;
+}) lists
+queues_after F caller (Cmd.Reserve priority tags) lists =
+    with_claim (res_claim (new_res F.next caller priority tags (F.clock + 60))) lists
+queues_after F caller (Cmd.Cancel number) lists =
+    option_map_or (λ j. without_claim j.group lists) (job_of F number) lists
+queues_after F caller (Cmd.CancelRes number) lists = without_claim number lists
+queues_after F caller cmd lists = lists
+
+-- the machine's act gives the number and the farm that the draft comes to, and the queues follow
 abbrev pub Acts : Drafted → List ℕ → Cmd → ℕ → Drafted → Type 0
-Acts D caller cmd number E = (act D.farm caller cmd ≡ done number E.farm) × (E.start ≡ D.start)
+Acts D caller cmd number E =
+    (act D.farm caller cmd ≡ done number E.farm) × (E.start ≡ D.start)
+    × (E.queues ≡ queues_after D.farm caller cmd D.queues)

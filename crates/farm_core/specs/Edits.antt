@@ -52,6 +52,7 @@ res_passes (ResEdit.Acquire number) r = r.number == number
 res_passes (ResEdit.Release number deadline) r = r.number == number
 res_passes (ResEdit.Refresh number deadline) r = r.number == number
 res_passes (ResEdit.Cancel number) r = r.number == number
+res_passes (ResEdit.End number) r = r.number == number
 res_passes (ResEdit.Expire now) r = is_dead now r
 res_passes (ResEdit.Allocate number board deadline) r = r.number == number
 
@@ -63,6 +64,7 @@ res_changed (ResEdit.Release number deadline) r = record r {
 }
 res_changed (ResEdit.Refresh number deadline) r = record r { deadline = deadline }
 res_changed (ResEdit.Cancel number) r = record r { state = ResState.Canceled }
+res_changed (ResEdit.End number) r = record r { state = ResState.Expired }
 res_changed (ResEdit.Expire now) r = record r { state = ResState.Expired }
 res_changed (ResEdit.Allocate number board deadline) r = record r {
   state = ResState.Allocated;

@@ -1,7 +1,9 @@
 pub mod Plain
 pub mod Orderly
+pub mod Leases
 pub mod Tracks
 pub mod Drafted
+pub mod Following
 pub mod Edits
 pub mod Calls
 pub mod Serving

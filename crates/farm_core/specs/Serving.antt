@@ -1,14 +1,19 @@
 -- What the program does for one claim of a pass.
-use Rattle.std.specs.Prelude.{◌≡◌, ◌==◌, ◌+◌, ℕ, Bool, true, false, List, [], ◌∷◌, map, IsSomeAnd}
+use Rattle.std.specs.Prelude.{◌≡◌, ◌==◌, ◌+◌, ℕ, Bool, true, false, List, [], ◌∷◌, map, not, IsSomeAnd}
 use Rattle.std.specs.Prelude.{if◌then◌else◌}
+use Rattle.std.specs.List.{filter}
+use Rattle.std.specs.Option.{option_map_or}
 use Rattle.std.specs.Str.{bytes_eq}
 use Rattle.farm_types.specs.Table.{change_where}
 use Rattle.farm_types.specs.Farm.{Farm, members, res_of}
 use Rattle.farm_types.specs.Pass.{allocated, held, scheduled, serve}
-use Rattle.farm_types.specs.Pick.{Claimed}
+use Rattle.farm_types.specs.Pick.{Claimed, is_free, least}
+use Rattle.farm_pick.specs.Queued.{Lists}
 use Rattle.farm_types.specs.declared.rows.Holder.{Holder}
 use Rattle.farm_types.specs.declared.rows.State.{State}
+use Rattle.farm_types.specs.declared.rows.BoardRow.{BoardRow}
 use Rattle.farm_core.specs.Drafted.{Drafted}
+use Rattle.farm_core.specs.Following.{without_boards}
 
 -- a job, told by its number, is given the board of a name
 abbrev pub give_named : Farm → ℕ × List ℕ → Farm
@@ -36,10 +41,17 @@ Asks false F c = c.wants ≡ map (λ m. m.want) (members F c.number)
 abbrev pub counted : ℕ → Bool → ℕ
 counted n served = if served then n + 1 else n
 
--- serving the claim, the machine comes to the farm that the draft comes to
+-- the queues once a claim was given the boards that meet it, if some do
+abbrev pub queues_given : Farm → Claimed → Lists → Lists
+queues_given F c lists = option_map_or (λ bs. record {
+  claims = filter (λ x. not (x.claim.number == c.number)) lists.claims;
+  boards = without_boards (map (λ (b : BoardRow). b.name) bs) lists.boards;
+}) (least F.boards (is_free F.types) c.wants) lists
+
+-- serving the claim, the machine comes to the farm that the draft comes to, and the queues follow
 abbrev pub Serves : Drafted → Claimed → Bool → Drafted → Type 0
 Serves D c served E =
     ((n : ℕ) → serve D.farm.clock (record { farm = D.farm; claims = n }) c ≡ record {
       farm = E.farm;
       claims = counted n served;
-    }) × (E.start ≡ D.start)
+    }) × (E.start ≡ D.start) × (E.queues ≡ queues_given D.farm c D.queues)

@@ -5,10 +5,13 @@ ghost use Rattle.farm_types.specs.Refuse.{refusal};
 ghost use Rattle.farm_types.specs.Change.{act, done, keep, change};
 ghost use Rattle.farm_types.specs.Sound.{IsSound};
 ghost use Rattle.farm_types.specs.declared.calls.Cmd.{Cmd};
-ghost use Rattle.farm_core.specs.Drafted.{at_farm, Acts};
+ghost use Rattle.farm_pick.specs.Queued.{lists_of};
+ghost use Rattle.farm_core.specs.Following.{FollowsIn};
+ghost use Rattle.farm_core.specs.Drafted.{at_farm, Acts, IsFresh};
 ghost use Rattle.farm_core.specs.Plain.{plain};
 ghost use Rattle.farm_core.specs.Orderly.{IsOrderly};
 ghost use Rattle.farm_core.specs.Calls.{IsSmallCmd};
+ghost use Rattle.farm_core.specs.Leases.{AreNoted};
 ghost use Rattle.farm_core.specs.Tracks.{Tracks, AreSmallRows, IsSmallReply};
 
 use crate::draft::Draft;
@@ -24,9 +27,13 @@ impl Tables {
     pub fn change(&mut self, call: &Call) -> Result<(Reply, Changes), AllocError>
         requires sound { IsSound (plain self.old) }
         requires accepted { None ≡ refusal (plain self.old) call.now }
+        requires fits { self.old.queues ≡ lists_of (plain self.old) }
+        requires noted { AreNoted self.old.leases (plain self.old).reservations }
         ensures farm { OnOk result
             (plain self.new ≡ (change (plain self.old) call.entry.now).farm) }
         ensures reply { IfOk result (λ r. r.0 ≡ (change (plain self.old) call.entry.now).reply) }
+        ensures queues { OnOk result (self.new.queues ≡ lists_of (plain self.new)) }
+        ensures noted { OnOk result (AreNoted self.new.leases (plain self.new).reservations) }
         ensures rows { IfOk result (λ r. put_rows (plain self.old) r.1 ≡ plain self.new) }
         ensures small { IfOk result (λ r. AreSmallRows r.1) }
         ensures meta { IfOk result (λ r. r.1.meta ≡ record {
@@ -61,9 +68,13 @@ impl Draft {
         requires small { IsSmallCmd call.now.cmd }
         requires clock { self.farm.clock ≤ 250000000000 }
         requires next { self.farm.next ≤ 1000000000 }
-        ensures farm { IfOk result
-            (λ r. r.0 ≡ at_farm (act self.farm call.entry.now.caller call.entry.now.cmd).farm
-            self) }
+        requires begun { self.start ≡ self.farm }
+        requires fits { self.queues ≡ lists_of self.farm }
+        requires follow { FollowsIn self.farm call.now.caller call.now.cmd }
+        ensures farm { IfOk result (λ r. r.0 ≡ record self {
+          farm = (act self.farm call.entry.now.caller call.entry.now.cmd).farm;
+          queues = lists_of (act self.farm call.entry.now.caller call.entry.now.cmd).farm;
+        }) }
         ensures reply { IfOk result
             (λ r. r.1 ≡ (act self.farm call.entry.now.caller call.entry.now.cmd).reply) }
     {
@@ -71,7 +82,7 @@ impl Draft {
             Cmd::Pass => self.pass(),
             _ => {
                 let (draft, number) = self.act_numbered(call)?;
-                Ok((draft, Reply(number, 0, 0)))
+                Ok((draft.follow_boards()?, Reply(number, 0, 0)))
             }
         }
     }
@@ -82,6 +93,7 @@ impl Draft {
         requires small { IsSmallCmd call.now.cmd }
         requires clock { self.farm.clock ≤ 250000000000 }
         requires next { self.farm.next ≤ 1000000000 }
+        requires fresh { IsFresh self.farm.next self.queues.claims }
         ensures { IfOk result (λ r. Acts self call.entry.now.caller call.entry.now.cmd r.1 r.0) }
     {
         match &call.cmd {

@@ -6,21 +6,27 @@ ghost use Rattle.farm_types.specs.Table.{put, job_cmp};
 ghost use Rattle.farm_types.specs.Farm.{Farm, put_type, put_board, put_res, put_kept};
 ghost use Rattle.farm_types.specs.Small.{IsSmallType, IsSmallBoard, IsSmallJob, IsSmallRes};
 ghost use Rattle.farm_types.specs.Small.{IsSmallKept};
+ghost use Rattle.farm_pick.specs.Kept.{queued_cmp};
 ghost use Rattle.farm_core.specs.Plain.{plain};
+ghost use Rattle.farm_core.specs.Leases.{AreNoted};
 ghost use Rattle.farm_core.specs.Orderly.{IsOrderly, IsNear};
 ghost use Rattle.farm_core.specs.Tracks.{Tracks};
-ghost use Rattle.farm_core.specs.Drafted.{at_farm};
+ghost use Rattle.farm_core.specs.Drafted.{at_farm, without_claim, IsFresh};
 
+use crate::leases::note_lease;
 use crate::tables::{Tables, no_changes};
 use farm_start::Start;
 use farm_types::calls::Changes;
+use farm_types::claims::Claim;
 use farm_types::rows::{BoardRow, JobRow, KeptRow, ResRow, TypeRow};
 use farm_types::table::upsert;
+use farm_types::words::Name;
 use std::alloc::AllocError;
 use std::marker::Model;
 
-/// The tables are in order, and the changed rows, put into the farm at the start, give them. A step
-/// takes the draft and gives it back: one that fails for want of memory leaves none.
+/// The tables are in order, each lease that may end is noted, and the changed rows, put into the farm
+/// at the start, give the tables. A step takes the draft and gives it back: one that fails for want
+/// of memory leaves none.
 #[derive(Drop)]
 pub struct Draft {
     /// The farm at the start, which only proofs read.
@@ -35,16 +41,26 @@ impl Model for Draft {
 
     ghost Value = { Drafted };
 
-    ghost view = { λ d. record { start = plain d.start.value; farm = plain d.tables } };
+    ghost view = { λ d. record {
+      start = plain d.start.value;
+      farm = plain d.tables;
+      queues = d.tables.queues;
+    } };
 
-    ghost invariant = { λ d. IsWhole (plain d.start.value) d.changes (plain d.tables) };
+    ghost invariant = { λ d. IsWhole (plain d.start.value) d.changes (plain d.tables)
+        d.tables.leases };
 }
 
 impl Draft {
     /// A draft in which nothing has changed.
     pub fn of(tables: Tables) -> Draft
-        requires { IsOrderly (plain tables) }
-        ensures { result ≡ record { start = plain tables; farm = plain tables } }
+        requires orderly { IsOrderly (plain tables) }
+        requires noted { AreNoted tables.leases (plain tables).reservations }
+        ensures { result ≡ record {
+          start = plain tables;
+          farm = plain tables;
+          queues = tables.queues;
+        } }
     {
         let start = Start::note(&tables);
         let changes = no_changes(*tables.types.allocator());
@@ -59,6 +75,8 @@ impl Draft {
     pub fn into_parts(self) -> (Tables, Changes)
         ensures farm { plain result.0 ≡ self.farm }
         ensures tracked { Tracks self.start result.1 self.farm }
+        ensures queues { result.0.queues ≡ self.queues }
+        ensures noted { AreNoted result.0.leases self.farm.reservations }
     {
         (self.tables, self.changes)
     }
@@ -68,6 +86,28 @@ impl Draft {
         ensures { result ≡ at_farm (record self.farm { next = next }) self }
     {
         self.tables.next = next;
+        self
+    }
+
+    /// Puts a claim into the queue of a type, or of the reservations.
+    pub fn put_claim(mut self, claim: Claim, kind: &Option<Name>) -> Result<Draft, AllocError>
+        requires { IsFresh claim.number self.queues.claims }
+        ensures { IfOk result (λ d. d ≡ record self {
+          queues = record self.queues {
+            claims = put queued_cmp self.queues.claims
+                (record { claim = claim; kind = kind.now });
+          };
+        }) }
+    {
+        self.tables.queues.put_claim(claim, kind)?;
+        Ok(self)
+    }
+
+    /// Takes the claim of a number, if it waits.
+    pub fn take_claim(mut self, number: u64) -> Draft
+        ensures { result ≡ record self { queues = without_claim number self.queues } }
+    {
+        self.tables.queues.take_claim(number);
         self
     }
 
@@ -109,6 +149,7 @@ impl Draft {
         ensures { IfOk result (λ d. d ≡ at_farm (put_res self.farm row) self) }
     {
         self.changes.reservations.push(row.copy()?)?;
+        note_lease(&mut self.tables.leases, &row)?;
         upsert(&mut self.tables.reservations, row)?;
         Ok(self)
     }

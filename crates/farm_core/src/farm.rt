@@ -7,7 +7,6 @@ ghost use Rattle.farm_types.specs.Pick.{queue, shown_claim};
 ghost use Rattle.farm_types.specs.Sound.{IsSound};
 ghost use Rattle.farm_core.specs.Answers.{shown, Leads, Rests, AreSmallChanges, IsChange};
 
-use crate::kept::Kept;
 use crate::tables::Tables;
 use farm_sound::sound::is_sound;
 use farm_types::calls::{Answer, Call, Rows};
@@ -35,6 +34,20 @@ pub enum BadRows {
     /// The rows are no sound farm's.
     #[error("unsound rows")]
     Unsound,
+    /// There is no memory for the queues.
+    #[error("no memory")]
+    NoMemory,
+}
+
+impl From<AllocError> for BadRows {
+    ghost use Rattle.std.specs.Prelude.{◌≡◌};
+    ghost use Rattle.farm_core.specs.declared.farm.BadRows.TheVariants.{NoMemory};
+
+    ghost from_gives = { λ _ e. e ≡ NoMemory };
+
+    fn from(_error: AllocError) -> BadRows {
+        BadRows::NoMemory
+    }
 }
 
 impl From<AllocError> for StepFault {
@@ -48,8 +61,9 @@ impl From<AllocError> for StepFault {
     }
 }
 
-/// The board farm: types, boards, jobs, reservations, kept replies and three numbers. A farm that
-/// has not failed is sound.
+/// The board farm: types, boards, jobs, reservations, kept replies and three numbers, the queues of
+/// those who wait, and the leases that may end. A farm that has not failed is sound, its queues are
+/// its claims and its free boards, and each lease that may end is noted.
 #[derive(Debug, Drop)]
 pub struct Farm {
     tables: Tables,
@@ -57,14 +71,15 @@ pub struct Farm {
 }
 
 impl Model for Farm {
-    ghost use Rattle.farm_core.specs.Shown.{Shown, IsSoundUnlessFailed};
+    ghost use Rattle.farm_core.specs.Shown.{Shown, IsKeptUnlessFailed};
     ghost use Rattle.farm_core.specs.Plain.{plain};
 
     ghost Value = { Shown };
 
     ghost view = { λ f. record { failed = f.failed; farm = plain f.tables } };
 
-    ghost invariant = { λ f. IsSoundUnlessFailed (record { failed = f.failed; farm = plain f.tables }) };
+    ghost invariant = { λ f. IsKeptUnlessFailed f.failed (plain f.tables) f.tables.queues
+        f.tables.leases };
 }
 
 impl Farm {
@@ -79,35 +94,23 @@ impl Farm {
         }
     }
 
-    /// The farm of these rows; refused exactly where they are no sound farm's. It takes no memory.
-    /// With n rows it costs O(n log n): each looks up a few others by binary search.
+    /// The farm of these rows; refused where they are no sound farm's, or for want of memory. With
+    /// n rows it costs O(n log n): each looks up a few others by binary search. It takes memory for
+    /// the queues alone, of the claims that wait and of the free boards, and for the leases.
     pub fn from_rows(rows: Rows) -> Result<Farm, BadRows>
         ensures farm { IfOk result (λ f. f.farm ≡ farm_of rows) }
         ensures working { IfOk result (λ f. f.failed ≡ false) }
-        ensures taken { IsOk result ↔ IsSound (farm_of rows) }
+        ensures taken { IsOk result → IsSound (farm_of rows) }
+        ensures refused { result ≡ Err BadRows.Unsound ↔ (IsSound (farm_of rows) → ⊥) }
     {
         if !is_sound(&rows) {
             return Err(BadRows::Unsound);
         }
-        let Rows {
-            types,
-            boards,
-            jobs,
-            reservations,
-            kept,
-            meta,
-        } = rows;
+        let mut tables = Tables::of(rows);
+        tables.fill_queues()?;
+        tables.fill_leases()?;
         Ok(Farm {
-            tables: Tables {
-                types,
-                boards,
-                jobs,
-                reservations,
-                kept: Kept::of(kept),
-                clock: meta.clock,
-                count: meta.count,
-                next: meta.next,
-            },
+            tables,
             failed: false,
         })
     }
@@ -167,7 +170,8 @@ impl Farm {
     }
 
     /// The claims that wait, in the order in which they are served. What a failed farm shows is
-    /// open. With J jobs, R reservations and C claims it costs O(J + R + C log C).
+    /// open. With C claims in the queues of K types it costs O(C log K), whatever else the farm has
+    /// lived through.
     pub fn queue(&self) -> Result<Vec<Claim>, AllocError>
         ensures { IfOk result (λ claims. self.now.failed ≡ false
             → claims.items ≡ map shown_claim (queue self.now.farm)) }

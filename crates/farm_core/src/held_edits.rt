@@ -20,6 +20,7 @@ use crate::draft::Draft;
 use crate::edit::change_rows;
 use crate::held::{Becomes, OfJobs, OfReservations};
 use crate::job_edit::JobEdit;
+use crate::leases::note_leases;
 use crate::res_edit::ResEdit;
 use crate::tables::Tables;
 use farm_types::calls::Changes;
@@ -124,41 +125,6 @@ impl Draft {
         draft.edit_jobs(edit)
     }
 
-    /// Changes the reservations that pass, all from `start` to `end`. Gives how many.
-    pub fn edit_reservations(
-        mut self,
-        edit: ResEdit<'_>,
-        start: usize,
-        end: usize,
-    ) -> Result<(Draft, u64), AllocError>
-        requires small { (r : ResRow) → IsSmallRes r → IsSmallRes (res_changed edit r) }
-        requires start { start ≤ end }
-        requires end { end ≤ length self.farm.reservations }
-        requires before { (k : ℕ) (d : ResRow) → k < start
-            → res_passes edit (get_or self.farm.reservations k d) ≡ false }
-        requires behind { (k : ℕ) (d : ResRow) → end ≤ k → k < length self.farm.reservations
-            → res_passes edit (get_or self.farm.reservations k d) ≡ false }
-        ensures farm { IfOk result
-            (λ r. r.0 ≡ at_farm
-            (record self.farm {
-              reservations = change_where (res_passes edit.entry)
-                  (res_changed edit.entry) self.farm.reservations;
-            }) self) }
-        ensures count { IfOk result
-            (λ r. r.1 ≡ length (filter (res_passes edit.entry) self.farm.reservations)) }
-    {
-        let before = self.changes.reservations.len();
-        change_rows(
-            &mut self.tables.reservations,
-            &mut self.changes.reservations,
-            start,
-            end,
-            &edit,
-        )?;
-        let count = (self.changes.reservations.len() - before) as u64;
-        Ok((self, count))
-    }
-
     /// Changes the boards that the reservations hold that pass. Each board is looked at, in name
     /// order.
     pub fn edit_boards_of_reservations(
@@ -190,8 +156,9 @@ impl Draft {
         Ok(self)
     }
 
-    /// Changes one reservation, told by its number, with no change of its board.
-    pub fn edit_reservation(self, number: u64, edit: ResEdit<'_>) -> Result<Draft, AllocError>
+    /// Changes one reservation, told by its number, with no change of its board. If its lease may end
+    /// it is noted.
+    pub fn edit_reservation(mut self, number: u64, edit: ResEdit<'_>) -> Result<Draft, AllocError>
         requires number { IsSmall number }
         requires one { (r : ResRow) → res_passes edit r ≡ (r.number == number) }
         requires small { (r : ResRow) → IsSmallRes r → IsSmallRes (res_changed edit r) }
@@ -204,8 +171,17 @@ impl Draft {
     {
         let start = res_place_of(&self.tables.reservations, number);
         let end = res_place_of(&self.tables.reservations, number + 1);
-        let (draft, _) = self.edit_reservations(edit, start, end)?;
-        Ok(draft)
+        let before = self.changes.reservations.len();
+        change_rows(
+            &mut self.tables.reservations,
+            &mut self.changes.reservations,
+            start,
+            end,
+            &edit,
+        )?;
+        let changed = &self.changes.reservations[before..];
+        note_leases(&mut self.tables.leases, changed)?;
+        Ok(self)
     }
 
     /// Changes one reservation, told by its number, and the board that it holds.

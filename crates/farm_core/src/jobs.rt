@@ -174,7 +174,7 @@ impl Draft {
         };
         let draft = self.edit_jobs_and_boards(JobEdit::End(group), Becomes::Idle)?;
         let draft = draft.edit_jobs(JobEdit::Cancel(group))?;
-        Ok((draft, group))
+        Ok((draft.take_claim(group), group))
     }
 
     /// Starts a job's whole group: its members run, and so do their boards. Gives the group's

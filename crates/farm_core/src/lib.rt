@@ -1,7 +1,7 @@
 //! The machine of the board farm: one farm, and one call after another.
 //!
 //! Read `specs/` in the order Plain, Shown, Answers, which say what callers see; then Calls,
-//! Orderly, Tracks, Drafted, Edits, Serving, which say what a command keeps on its way.
+//! Orderly, Leases, Tracks, Drafted, Following, Edits, Serving, which say what a command keeps on its way.
 #![tactic(auto)]
 
 mod boards;
@@ -11,12 +11,15 @@ mod draft;
 mod edit;
 mod expire;
 pub mod farm;
+mod filling;
+mod follow;
 mod give;
 mod held;
 mod held_edits;
 mod job_edit;
 mod jobs;
 mod kept;
+mod leases;
 mod pass;
 mod refusal;
 mod res_edit;

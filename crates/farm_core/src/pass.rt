@@ -5,7 +5,7 @@ ghost use Rattle.farm_types.specs.Pick.{queue, shown_claim};
 ghost use Rattle.farm_types.specs.Change.{act};
 ghost use Rattle.farm_types.specs.Sound.{IsSound};
 ghost use Rattle.farm_types.specs.declared.calls.Cmd.{Cmd};
-ghost use Rattle.farm_core.specs.Drafted.{at_farm};
+ghost use Rattle.farm_pick.specs.Queued.{lists_of};
 ghost use Rattle.farm_core.specs.Plain.{plain};
 ghost use Rattle.farm_core.specs.Orderly.{IsOrderly};
 ghost use Rattle.farm_core.specs.Tracks.{Tracks};
@@ -20,10 +20,10 @@ use std::alloc::AllocError;
 impl Tables {
     /// The claims that wait, in the order in which they are served.
     pub fn queue(&self) -> Result<Vec<Claim>, AllocError>
-        ensures { IfOk result (λ claims. IsSound (plain self.now)
+        ensures { IfOk result (λ claims. self.now.queues ≡ lists_of (plain self.now)
             → claims.items ≡ map shown_claim (queue (plain self.now))) }
     {
-        let claims = farm_pick::queue_of(*self.jobs.allocator(), &self.jobs, &self.reservations)?;
+        let claims = self.queues.claims()?;
         Ok(claims)
     }
 }
@@ -33,14 +33,19 @@ impl Draft {
     /// is room, and then the claims are served in turn. Gives how many boards were checked, how
     /// many leases ended and how many claims were served.
     pub fn pass(self) -> Result<(Draft, Reply), AllocError>
-        requires { IsSound self.farm }
-        ensures farm { IfOk result (λ r. r.0 ≡ at_farm (act self.farm [] Cmd.Pass).farm self) }
+        requires sound { IsSound self.farm }
+        requires begun { self.start ≡ self.farm }
+        requires fits { self.queues ≡ lists_of self.farm }
+        ensures farm { IfOk result (λ r. r.0 ≡ record self {
+          farm = (act self.farm [] Cmd.Pass).farm;
+          queues = lists_of (act self.farm [] Cmd.Pass).farm;
+        }) }
         ensures reply { IfOk result (λ r. r.1 ≡ (act self.farm [] Cmd.Pass).reply) }
     {
         let (draft, ended) = self.expire()?;
         let (draft, checked) = draft.checks()?;
-        let claims = draft.tables.queue()?;
-        let (draft, served) = draft.serve(&claims)?;
+        let draft = draft.follow_boards()?;
+        let (draft, served) = draft.serve()?;
         Ok((draft, Reply(checked, ended, served)))
     }
 }

@@ -18,6 +18,8 @@ pub enum ResEdit<'a> {
     Refresh(u64, u64),
     /// The reservation is canceled.
     Cancel(u64),
+    /// The reservation is expired.
+    End(u64),
     /// The reservations that are dead at the moment are expired.
     Expire(u64),
     /// The reservation is given the board of that name, until a deadline.
@@ -44,6 +46,7 @@ impl Edit<ResRow> for ResEdit<'_> {
             ResEdit::Release(number, _) => row.number == number,
             ResEdit::Refresh(number, _) => row.number == number,
             ResEdit::Cancel(number) => row.number == number,
+            ResEdit::End(number) => row.number == number,
             ResEdit::Expire(now) => is_dead(now, row),
             ResEdit::Allocate(number, _, _) => row.number == number,
         }
@@ -58,6 +61,7 @@ impl Edit<ResRow> for ResEdit<'_> {
             }
             ResEdit::Refresh(_, deadline) => row.deadline = deadline,
             ResEdit::Cancel(_) => row.state = ResState::Canceled,
+            ResEdit::End(_) => row.state = ResState::Expired,
             ResEdit::Expire(_) => row.state = ResState::Expired,
             ResEdit::Allocate(_, board, deadline) => {
                 row.state = ResState::Allocated;

@@ -163,6 +163,6 @@ impl Draft {
             ResEdit::Cancel(number),
             Becomes::Idle,
         )?;
-        Ok((draft, number))
+        Ok((draft.take_claim(number), number))
     }
 }

@@ -6,7 +6,7 @@ ghost use Rattle.farm_types.specs.Pick.{least, not_retired, fits};
 ghost use Rattle.farm_types.specs.Refuse.{first_code};
 ghost use Rattle.farm_types.specs.Change.{act, done};
 ghost use Rattle.farm_types.specs.declared.calls.Cmd.{Cmd};
-ghost use Rattle.farm_core.specs.Drafted.{Acts};
+ghost use Rattle.farm_core.specs.Drafted.{Acts, IsFresh};
 ghost use Rattle.farm_core.specs.Plain.{plain};
 ghost use Rattle.farm_core.specs.Orderly.{IsOrderly};
 ghost use Rattle.farm_core.specs.Tracks.{Tracks};
@@ -15,6 +15,7 @@ use crate::draft::Draft;
 use crate::reservations::LEASE_SECONDS;
 use crate::tables::Tables;
 use farm_types::calls::Changes;
+use farm_types::claims::{Claim, ClaimKind};
 use farm_types::refusal::NO_SUCH_BOARDS;
 use farm_types::rows::{BoardRow, Health, ResRow, ResState, Want};
 use farm_types::words::{Name, Priority, Tags};
@@ -64,6 +65,7 @@ impl Draft {
     ) -> Result<(Draft, u64), AllocError>
         requires next { self.farm.next ≤ 1000000000 }
         requires clock { self.farm.clock ≤ 250000000000 }
+        requires fresh { IsFresh self.farm.next self.queues.claims }
         ensures { IfOk result (λ r. Acts self owner.now (Cmd.Reserve priority tags.now) r.1 r.0) }
     {
         let number = self.tables.next;
@@ -79,7 +81,14 @@ impl Draft {
             deadline: self.tables.clock + LEASE_SECONDS,
             board: None,
         };
-        let draft = self.put_reservation(row)?;
+        let claim = Claim {
+            kind: ClaimKind::Reservation,
+            number,
+            owner: owner.copy()?,
+            priority,
+            boards: 1,
+        };
+        let draft = self.put_reservation(row)?.put_claim(claim, &None)?;
         Ok((draft.with_next(number + 1), number))
     }
 }

@@ -10,6 +10,7 @@ ghost use Rattle.farm_types.specs.Sound.{IsSound};
 ghost use Rattle.farm_types.specs.declared.rows.BoardRow.{BoardRow};
 ghost use Rattle.farm_types.specs.declared.rows.ResRow.{ResRow};
 ghost use Rattle.farm_pick.specs.Least.{boards_at};
+ghost use Rattle.farm_pick.specs.Queued.{idle_boards, lists_of};
 ghost use Rattle.farm_core.specs.Drafted.{at_farm};
 ghost use Rattle.farm_core.specs.Plain.{plain};
 ghost use Rattle.farm_core.specs.Orderly.{IsOrderly};
@@ -18,9 +19,8 @@ ghost use Rattle.farm_core.specs.Tracks.{Tracks};
 
 use crate::draft::Draft;
 use crate::tables::Tables;
-use farm_pick::Free;
 use farm_types::calls::Changes;
-use farm_types::claims::{Claim, ClaimKind};
+use farm_types::claims::ClaimKind;
 use farm_types::rows::{JobRow, Want};
 use farm_types::words::Name;
 use std::alloc::{AllocError, Global};
@@ -65,16 +65,18 @@ impl Tables {
         Ok(names)
     }
 
-    /// The names of the least list of free boards that meets some wants. At most 4 tests a board.
+    /// The names of the least list of free boards that meets some wants. At most 4 tests a free
+    /// board.
     fn pick(&self, wants: &[&Want]) -> Result<Option<Vec<Name>>, AllocError>
         requires orderly { IsOrderly (plain self.now) }
+        requires free { self.now.queues.boards ≡ idle_boards (plain self.now) }
         requires few { length wants.now ≤ 4 }
         ensures { IfOk result (λ picked. option_map (λ names. names.items) picked
             ≡ option_map (map (λ (b : BoardRow). b.name))
             (least (plain self.now).boards (is_free (plain self.now).types)
             (map (λ w. w.now) wants.now))) }
     {
-        match farm_pick::least_of(&self.boards, &self.types, wants, Free::ServingIdle) {
+        match self.queues.least_of(&self.boards, &self.types, wants) {
             None => Ok(None),
             Some(picked) => Ok(Some(self.names_at(picked.places())?)),
         }
@@ -84,6 +86,7 @@ impl Tables {
     fn pick_for_group(&self, group: u64) -> Result<Option<Vec<Name>>, AllocError>
         requires orderly { IsOrderly (plain self.now) }
         requires small { IsSmall group }
+        requires free { self.now.queues.boards ≡ idle_boards (plain self.now) }
         ensures { IfOk result (λ picked. option_map (λ names. names.items) picked
             ≡ option_map (map (λ (b : BoardRow). b.name))
             (least (plain self.now).boards (is_free (plain self.now).types)
@@ -95,7 +98,8 @@ impl Tables {
 
     /// The names of the boards for a reservation: one, or none where there is no such reservation.
     fn pick_for_reservation(&self, number: u64) -> Result<Option<Vec<Name>>, AllocError>
-        requires { IsOrderly (plain self.now) }
+        requires orderly { IsOrderly (plain self.now) }
+        requires free { self.now.queues.boards ≡ idle_boards (plain self.now) }
         ensures { IfOk result (λ picked. (r : ResRow) → res_of (plain self.now) number ≡ Some r
             → option_map (λ names. names.items) picked
             ≡ option_map (map (λ (b : BoardRow). b.name))
@@ -111,7 +115,8 @@ impl Tables {
 impl Draft {
     /// Gives a group its boards, where free ones meet it.
     fn serve_group(self, group: u64) -> Result<(Draft, bool), AllocError>
-        requires { IsSmall group }
+        requires small { IsSmall group }
+        requires free { self.queues.boards ≡ idle_boards self.farm }
         ensures { IfOk result (λ r. (c : Claimed) → c.reservation ≡ false → c.number ≡ group
             → Asks false self.farm c → Serves self c r.1 r.0) }
     {
@@ -120,7 +125,8 @@ impl Draft {
             Some(names) => {
                 let near = self.tables.near(group);
                 let numbers = numbers_in(*self.tables.jobs.allocator(), near, group)?;
-                Ok((self.give_jobs(&numbers, &names)?, true))
+                let draft = self.give_jobs(&numbers, &names)?;
+                Ok((draft.take_given(group, &names), true))
             }
         }
     }
@@ -129,43 +135,56 @@ impl Draft {
     fn serve_reservation(self, number: u64) -> Result<(Draft, bool), AllocError>
         requires small { IsSmall number }
         requires clock { self.farm.clock ≤ 250000000000 }
+        requires free { self.queues.boards ≡ idle_boards self.farm }
         ensures { IfOk result (λ r. (c : Claimed) → c.reservation ≡ true → c.number ≡ number
             → Asks true self.farm c → Serves self c r.1 r.0) }
     {
         match self.tables.pick_for_reservation(number)? {
             None => Ok((self, false)),
-            Some(names) => Ok((self.give_first(number, &names)?, true)),
+            Some(names) => {
+                let draft = self.give_first(number, &names)?;
+                Ok((draft.take_given(number, &names), true))
+            }
         }
     }
 
-    /// Serves a claim, where free boards meet it.
-    fn serve_claim(self, claim: &Claim) -> Result<(Draft, bool), AllocError>
-        requires small { IsSmall claim.now.number }
+    /// Serves a claim, told by its kind and its number, where free boards meet it.
+    fn serve_claim(self, kind: ClaimKind, number: u64) -> Result<(Draft, bool), AllocError>
+        requires small { IsSmall number }
         requires clock { self.farm.clock ≤ 250000000000 }
-        ensures { IfOk result (λ r. (c : Claimed) → shown_claim c ≡ claim.now
-            → Asks c.reservation self.farm c → Serves self c r.1 r.0) }
+        requires free { self.queues.boards ≡ idle_boards self.farm }
+        ensures { IfOk result (λ r. (c : Claimed) → (shown_claim c).kind ≡ kind
+            → c.number ≡ number → Asks c.reservation self.farm c → Serves self c r.1 r.0) }
     {
-        let served = match claim.kind {
-            ClaimKind::Reservation => self.serve_reservation(claim.number)?,
-            ClaimKind::Group => self.serve_group(claim.number)?,
+        let served = match kind {
+            ClaimKind::Reservation => self.serve_reservation(number)?,
+            ClaimKind::Group => self.serve_group(number)?,
         };
         Ok(served)
     }
 
-    /// Serves the claims of the queue in turn, each where free boards meet it: one that waits holds
-    /// up none behind it. Gives how many were served. With J jobs, B boards and C claims it costs
-    /// O(C * (B + log J)).
-    pub fn serve(self, claims: &[Claim]) -> Result<(Draft, u64), AllocError>
+    /// Serves the claims of the open queues, one after the other in the order of the whole queue,
+    /// each where free boards meet it: one that waits holds up none behind it. Gives how many were
+    /// served.
+    ///
+    /// A claim whose queue has no free board isn't looked at. With K queues, C claims of which T are
+    /// tried, F free boards and J jobs it costs O(T * (K log C + F + log J)).
+    pub fn serve(self) -> Result<(Draft, u64), AllocError>
         requires sound { IsSound self.farm }
-        requires queue { claims.now ≡ map shown_claim (queue self.farm) }
-        ensures farm { IfOk result
-            (λ r. r.0 ≡ at_farm (serve_all self.farm self.farm.clock).farm self) }
+        requires fits { self.queues ≡ lists_of self.farm }
+        ensures farm { IfOk result (λ r. r.0 ≡ record self {
+          farm = (serve_all self.farm self.farm.clock).farm;
+          queues = lists_of (serve_all self.farm self.farm.clock).farm;
+        }) }
         ensures count { IfOk result (λ r. r.1 ≡ (serve_all self.farm self.farm.clock).claims) }
     {
         let mut draft = self;
         let mut count = 0;
-        for claim in claims {
-            let (next, served) = draft.serve_claim(claim)?;
+        let mut last = None;
+        while let Some(claim) = draft.tables.queues.next(last, false) {
+            let (kind, number) = (claim.kind, claim.number);
+            last = Some((claim.priority, number));
+            let (next, served) = draft.serve_claim(kind, number)?;
             draft = next;
             if served {
                 count += 1;

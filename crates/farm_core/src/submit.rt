@@ -9,8 +9,9 @@ ghost use Rattle.farm_types.specs.Refuse.{first_code};
 ghost use Rattle.farm_types.specs.Change.{act, done, new_members};
 ghost use Rattle.farm_types.specs.declared.calls.Cmd.{Cmd};
 ghost use Rattle.farm_types.specs.declared.rows.JobState.{JobState};
+ghost use Rattle.farm_pick.specs.Queued.{first_kind};
 ghost use Rattle.farm_core.specs.Edits.{text_at};
-ghost use Rattle.farm_core.specs.Drafted.{at_farm, Acts};
+ghost use Rattle.farm_core.specs.Drafted.{at_farm, Acts, IsFresh};
 ghost use Rattle.farm_core.specs.Plain.{plain};
 ghost use Rattle.farm_core.specs.Orderly.{IsOrderly};
 ghost use Rattle.farm_core.specs.Tracks.{Tracks};
@@ -19,6 +20,7 @@ use crate::draft::Draft;
 use crate::tables::Tables;
 use farm_pick::Free;
 use farm_types::calls::{Changes, Roles, Wants};
+use farm_types::claims::{Claim, ClaimKind};
 use farm_types::refusal::{NO_SUCH_BOARDS, NO_TYPE};
 use farm_types::rows::{JobRow, JobState, Want, copy_name};
 use farm_types::words::{Body, Name, Priority};
@@ -61,6 +63,16 @@ fn new_member(
         board: None,
         body,
     })
+}
+
+/// The type of the first want, in whose queue the group stands.
+fn first_kind(wants: &Wants) -> &Option<Name>
+    ensures { result.now ≡ first_kind wants.now }
+{
+    match wants.items().first() {
+        Some(want) => &want.kind,
+        None => unreachable!(),
+    }
 }
 
 /// The text of the member at a place: the first carries it.
@@ -165,11 +177,20 @@ impl Draft {
     ) -> Result<(Draft, u64), AllocError>
         requires roles { length roles.now ≡ length wants.now }
         requires next { self.farm.next ≤ 1000000000 }
+        requires fresh { IsFresh self.farm.next self.queues.claims }
         ensures { IfOk result
             (λ r. Acts self owner.now (Cmd.Submit priority wants.now roles.now body.now) r.1 r.0) }
     {
         let group = self.tables.next;
+        let claim = Claim {
+            kind: ClaimKind::Group,
+            number: group,
+            owner: owner.copy()?,
+            priority,
+            boards: wants.items().len() as u64,
+        };
         let draft = self.add_members(group, owner, priority, wants.items(), roles.items(), body)?;
+        let draft = draft.put_claim(claim, first_kind(wants))?;
         let next = group + wants.items().len() as u64;
         Ok((draft.with_next(next), group))
     }

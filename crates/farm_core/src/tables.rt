@@ -1,36 +1,66 @@
 //! The tables of a farm, and what is looked up in them.
-ghost use Rattle.std.specs.Prelude.{◌≡◌, OnOk};
+ghost use Rattle.std.specs.Prelude.{◌≡◌, [], OnOk};
+ghost use Rattle.std.specs.List.Sorted.{IsStrictlySortedBy};
 ghost use Rattle.std.specs.Option.{option_copied};
-ghost use Rattle.farm_types.specs.Table.{put, job_cmp};
-ghost use Rattle.farm_types.specs.Farm.{Farm, empty, type_of, board_of, put_type, put_board};
+ghost use Rattle.farm_types.specs.Table.{put, job_cmp, kept_cmp};
+ghost use Rattle.farm_types.specs.Farm.{Farm, empty, farm_of, type_of, board_of, put_type, put_board};
 ghost use Rattle.farm_types.specs.Farm.{put_res, put_kept};
 ghost use Rattle.farm_types.specs.Small.{IsSmallType, IsSmallBoard, IsSmallJob, IsSmallRes};
 ghost use Rattle.farm_types.specs.Small.{IsSmallKept};
 ghost use Rattle.farm_types.specs.Refuse.{kept_for};
+ghost use Rattle.farm_pick.specs.Queued.{lists_of};
 ghost use Rattle.farm_core.specs.Plain.{plain};
 ghost use Rattle.farm_core.specs.Orderly.{IsOrderly, IsNear};
 ghost use Rattle.farm_core.specs.Tracks.{Tracks};
 
 use crate::kept::Kept;
+use crate::leases::Lease;
+use farm_pick::Queues;
 use farm_sound::seek;
-use farm_types::calls::{Call, Changes};
+use farm_types::calls::{Call, Changes, Rows};
 use farm_types::rows::{BoardRow, JobRow, KeptRow, MetaRow, ResRow, TypeRow};
 use farm_types::table::upsert;
 use farm_types::words::Name;
 use std::alloc::{AllocError, Global};
+use std::collections::BTreeSet;
+use std::fmt;
 
-/// The eight things of a farm. Types and boards stand in name order, jobs and reservations in
-/// order of number.
-#[derive(Debug, Drop)]
+/// The eight things of a farm, its queues and its leases. Types and boards stand in name order,
+/// jobs and reservations in order of number.
+#[derive(Drop)]
 pub struct Tables {
     pub types: Vec<TypeRow>,
     pub boards: Vec<BoardRow>,
     pub jobs: Vec<JobRow>,
     pub reservations: Vec<ResRow>,
     pub kept: Kept,
+    /// Who waits, and which boards are free.
+    pub queues: Queues,
+    /// Each lease that may end, and such as were over before their time: a lease that is refreshed
+    /// or released is noted anew, and what was noted before is forgotten at the first pass behind
+    /// its deadline. So there is one small entry for each lease begun since the last pass, besides
+    /// those that run.
+    pub leases: BTreeSet<Lease>,
     pub clock: u64,
     pub count: u64,
     pub next: u64,
+}
+
+// The queues and the leases follow from the rows; in which order they were made is no part of the
+// farm.
+impl fmt::Debug for Tables {
+    fn fmt<W: fmt::Write>(&self, f: &mut fmt::Formatter<W>) -> fmt::Result {
+        f.debug_struct("Tables")
+            .field("types", &self.types)
+            .field("boards", &self.boards)
+            .field("jobs", &self.jobs)
+            .field("reservations", &self.reservations)
+            .field("kept", &self.kept)
+            .field("clock", &self.clock)
+            .field("count", &self.count)
+            .field("next", &self.next)
+            .finish()
+    }
 }
 
 /// No changed rows.
@@ -54,7 +84,8 @@ pub fn no_changes(alloc: Global) -> Changes
 impl Tables {
     /// No rows.
     pub fn new(alloc: Global) -> Tables
-        ensures { plain result ≡ empty }
+        ensures farm { plain result ≡ empty }
+        ensures queues { result.queues ≡ lists_of empty }
     {
         Tables {
             types: Vec::new(alloc),
@@ -62,9 +93,32 @@ impl Tables {
             jobs: Vec::new(alloc),
             reservations: Vec::new(alloc),
             kept: Kept::new(alloc),
+            queues: Queues::new(alloc),
+            leases: BTreeSet::new(alloc),
             clock: 0,
             count: 0,
             next: 1,
+        }
+    }
+
+    /// The tables of some rows, with empty queues and no leases.
+    pub fn of(rows: Rows) -> Tables
+        requires { IsStrictlySortedBy kept_cmp rows.kept.items }
+        ensures farm { plain result ≡ farm_of rows }
+        ensures queues { result.queues ≡ record { claims = []; boards = [] } }
+    {
+        let alloc = *rows.types.allocator();
+        Tables {
+            types: rows.types,
+            boards: rows.boards,
+            jobs: rows.jobs,
+            reservations: rows.reservations,
+            kept: Kept::of(rows.kept),
+            queues: Queues::new(alloc),
+            leases: BTreeSet::new(alloc),
+            clock: rows.meta.clock,
+            count: rows.meta.count,
+            next: rows.meta.next,
         }
     }
 

@@ -1,5 +1,6 @@
--- The numbers of a keeper's faults, and its words for the store's.
+-- The numbers of a keeper's faults, and its words for the store's and for those of rows.
 use Rattle.std.specs.Prelude.{ℕ}
+use Rattle.farm_core.specs.declared.farm.BadRows.{BadRows}
 use Rattle.farm_store.specs.declared.fault.StoreFault.{StoreFault}
 use Rattle.farm_keep.specs.declared.fault.KeepFault.{KeepFault}
 
@@ -15,3 +16,8 @@ store_fault StoreFault.NoMemory = KeepFault.NoMemory
 store_fault StoreFault.Store = KeepFault.Store
 store_fault StoreFault.BadStore = KeepFault.BadStore
 store_fault StoreFault.OldSchema = KeepFault.OldSchema
+
+-- rows that are no sound farm's are a bad store's
+abbrev pub rows_fault : BadRows → KeepFault
+rows_fault BadRows.Unsound = KeepFault.BadStore
+rows_fault BadRows.NoMemory = KeepFault.NoMemory

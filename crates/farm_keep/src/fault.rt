@@ -55,12 +55,15 @@ impl From<StepFault> for KeepFault {
 
 impl From<BadRows> for KeepFault {
     ghost use Rattle.std.specs.Prelude.{◌≡◌};
-    ghost use Rattle.farm_keep.specs.declared.fault.KeepFault.TheVariants.{BadStore};
+    ghost use Rattle.farm_keep.specs.Faults.{rows_fault};
 
-    ghost from_gives = { λ _ fault. fault ≡ BadStore };
+    ghost from_gives = { λ cause fault. fault ≡ rows_fault cause };
 
-    fn from(_: BadRows) -> KeepFault {
-        KeepFault::BadStore
+    fn from(cause: BadRows) -> KeepFault {
+        match cause {
+            BadRows::Unsound => KeepFault::BadStore,
+            BadRows::NoMemory => KeepFault::NoMemory,
+        }
     }
 }
 

@@ -28,7 +28,7 @@ abbrev pub place_of : Option Claimed → Option (ℕ × ℕ)
 place_of None = None
 place_of (Some c) = Some (c.priority, c.number)
 
-later_same : (last : Option Claimed) (c : Claimed) → c.priority ≤ 100 → is_later (last_spot (place_of last)) (shown_claim c) ≡ comes_after last c
+pub later_same : (last : Option Claimed) (c : Claimed) → c.priority ≤ 100 → is_later (last_spot (place_of last)) (shown_claim c) ≡ comes_after last c
 later_same None c low = ap (λ o. is_lt (ordering_then o (nat_cmp 0 c.number))) (sym (nat_cmp_is c.priority 101 Less (omega arith)))
 later_same (Some l) c low = refl
 

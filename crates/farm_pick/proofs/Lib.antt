@@ -20,3 +20,14 @@ pub mod Taken
 pub mod Headed
 pub mod Listed
 pub mod Bridge
+pub mod Groups
+pub mod Taking
+pub mod Giving
+pub mod Ending
+pub mod Adding
+pub mod Checking
+pub mod Putting
+pub mod Commands
+pub mod Filling
+pub mod Leading
+pub mod Sorting

@@ -47,7 +47,7 @@ some_want F c (inr (j, is)) =
 
 -- ---- one claim served leaves those behind it
 
-among_later : (test : Claimed → Bool) (d : Claimed) (xs : List Claimed) → Among d xs → test d ≡ true → Among d (filter test xs)
+pub among_later : (test : Claimed → Bool) (d : Claimed) (xs : List Claimed) → Among d xs → test d ≡ true → Among d (filter test xs)
 among_later test d [] at is = at
 among_later test d (x ∷ xs) at is = by (test x) refl at (λ more. among_later test d xs more is)
   where

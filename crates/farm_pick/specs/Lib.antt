@@ -7,3 +7,4 @@ pub mod Merged
 pub mod Heads
 pub mod Kept
 pub mod Fitting
+pub mod Follow

@@ -3,7 +3,7 @@ ghost use Rattle.std.specs.Prelude.{◌≡◌, true, bytes_eq};
 ghost use Rattle.std.specs.List.{list_all, list_any, find};
 ghost use Rattle.std.specs.Option.{option_map_or, option_copied};
 ghost use Rattle.farm_types.specs.Words.{name_tag};
-ghost use Rattle.farm_types.specs.Pick.{fits, check_of, serves};
+ghost use Rattle.farm_types.specs.Pick.{fits, check_of, serves, is_free};
 ghost use Rattle.farm_pick.specs.Test.{carries, passes, is_candidate};
 ghost use Rattle.farm_pick.specs.Choice.{candidate_at};
 
@@ -86,12 +86,19 @@ fn serves(types: &[TypeRow], board: &BoardRow) -> bool
     }
 }
 
+/// Whether a claim may be given the board: it serves, and nobody holds it.
+pub fn is_free(types: &[TypeRow], board: &BoardRow) -> bool
+    ensures { result ≡ is_free types.now board.now }
+{
+    board.holder == Holder::Nobody && serves(types, board)
+}
+
 /// Whether the board passes the test.
 fn passes(types: &[TypeRow], free: Free, board: &BoardRow) -> bool
     ensures { result ≡ passes types.now free board.now }
 {
     match free {
-        Free::ServingIdle => board.holder == Holder::Nobody && serves(types, board),
+        Free::ServingIdle => is_free(types, board),
         Free::NotRetired => board.health != Health::Retired,
     }
 }

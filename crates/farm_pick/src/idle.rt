@@ -12,7 +12,7 @@ use farm_types::words::Name;
 use std::alloc::AllocError;
 
 /// A free board, and the queue of its type.
-#[derive(Drop)]
+#[derive(Debug, Drop)]
 pub struct IdleRow {
     /// The board's name.
     pub name: Name,

@@ -1,4 +1,6 @@
-//! Laws on the least list, and on a pass over the queues.
+//! Laws on the least list, on a pass over the queues, and on how the queue and the free boards
+//! follow from one farm to the next.
+ghost use Rattle.farm_pick.specs.Follow.{CommandsFollow, EndsFollow, ChecksFollow, GivingFollows};
 ghost use Rattle.farm_pick.specs.Least.{SearchGivesLeast, LeastIsOne};
 ghost use Rattle.farm_pick.specs.Merged.{MergingServes, UnmetStays, UnmetIsSkipped};
 
@@ -27,4 +29,25 @@ pub fn unmet_stays()
 /// To try a claim with such wants changes nothing, so it may be passed over.
 pub fn unmet_is_skipped()
     ensures { UnmetIsSkipped }
+{}
+
+/// Submit and Reserve put one claim into the queue, Cancel and CancelRes take one from it at most,
+/// and the other commands leave it as it is, a pass aside.
+pub fn commands_follow()
+    ensures { CommandsFollow }
+{}
+
+/// When the dead reservations end, their claims go from the queue, and no others.
+pub fn ends_follow()
+    ensures { EndsFollow }
+{}
+
+/// The checks of a pass leave the queue as it is.
+pub fn checks_follow()
+    ensures { ChecksFollow }
+{}
+
+/// A claim that is met goes from the queue, and its boards from the free ones: no others.
+pub fn giving_follows()
+    ensures { GivingFollows }
 {}

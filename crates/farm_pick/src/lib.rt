@@ -3,7 +3,8 @@
 //!
 //! Read `specs/` in the order Test, Choice, Least, Queue for the least list and the queue of a
 //! farm's rows; then Queued, what stands in the queues that are kept, and Merged, the pass over
-//! them; then Kept, how they are kept, Heads, how their first claims are found, and Fitting.
+//! them, and Follow, what commands and a pass leave of them; then Kept, how they are kept, Heads,
+//! how their first claims are found, and Fitting.
 #![tactic(auto)]
 
 mod candidates;
@@ -24,10 +25,13 @@ mod spot;
 mod waiting;
 
 pub use candidates::Candidates;
-pub use fit::carries_all;
+pub use fit::{carries_all, is_free};
 pub use free::Free;
 pub use heads::Heads;
-pub use laws::{least_is_least, merging_serves, one_least, unmet_is_skipped, unmet_stays};
+pub use laws::{
+    checks_follow, commands_follow, ends_follow, giving_follows, least_is_least, merging_serves,
+    one_least, unmet_is_skipped, unmet_stays,
+};
 pub use order::{before, queue_order};
 pub use picked::Picked;
 pub use queue::queue_of;

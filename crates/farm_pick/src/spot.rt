@@ -13,7 +13,7 @@ use std::cmp::Ordering;
 const ABOVE_ALL: u64 = 101;
 
 /// The spot of a claim: its queue, and in it the higher priority first, then the smaller number.
-#[derive(Clone, Copy, PartialEq, Eq)]
+#[derive(Clone, Copy, Debug, PartialEq, Eq)]
 pub struct Spot {
     /// Which queue: that of the reservations is 0, and that of a type one more than its place.
     pub queue: usize,
@@ -55,7 +55,7 @@ impl PartialOrd for Spot {
 }
 
 /// Where a number stands: its spot without the number.
-#[derive(Clone, Copy, PartialEq, Eq)]
+#[derive(Clone, Copy, Debug, PartialEq, Eq)]
 pub struct Place {
     /// Which queue, as in a spot.
     pub queue: usize,

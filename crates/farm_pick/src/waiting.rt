@@ -1,18 +1,22 @@
 //! The claims of all queues in one ordered map, one queue behind the other.
 ghost use Rattle.std.specs.Prelude.{◌≡◌, ◌≤◌, ◌+◌, ◌||◌, ℕ, length, cond, Some, None, OnOk, OnErr};
+ghost use Rattle.std.specs.Prelude.{IfOk};
 ghost use Rattle.std.specs.List.{AllByRecursion};
-ghost use Rattle.std.specs.BTreeMap.{insert_entry};
+ghost use Rattle.std.specs.List.Sorted.{IsPermutation, IsSortedBy};
+ghost use Rattle.std.specs.BTreeMap.{insert_entry, values};
 ghost use Rattle.std.specs.Option.{option_copied};
-ghost use Rattle.std.specs.Ordering.{is_eq, nat_cmp};
+ghost use Rattle.std.specs.Ordering.{is_eq, is_lt, nat_cmp};
+ghost use Rattle.farm_types.specs.Pick.{shown_cmp};
 ghost use Rattle.farm_pick.specs.Heads.{AreHeads, IsHead, IsFirst, earlier, head_in, queue_open};
 ghost use Rattle.farm_pick.specs.Kept.{spot_cmp, claim_at, place_at, IsKeyed, TakesOrStays};
 
 use crate::idle::{self, IdleRow};
-use crate::order::before;
+use crate::order::{before, queue_order};
 use crate::spot::{Place, Spot};
 use farm_types::claims::Claim;
 use farm_types::words::Name;
-use std::alloc::AllocError;
+use std::alloc::{AllocError, Global};
+use std::cmp::Ordering;
 use std::collections::BTreeMap;
 use std::ops::Bound;
 
@@ -148,4 +152,44 @@ pub fn first<'a>(
         }
     }
     best
+}
+
+/// An equal claim.
+fn copied(claim: &Claim) -> Result<Claim, AllocError>
+    ensures { IfOk result (λ copy. copy ≡ claim.now) }
+{
+    Ok(Claim {
+        kind: claim.kind,
+        number: claim.number,
+        owner: claim.owner.copy()?,
+        priority: claim.priority,
+        boards: claim.boards,
+    })
+}
+
+/// Copies of the claims, one queue behind the other.
+fn copies(alloc: Global, claims: &BTreeMap<Spot, Claim>) -> Result<Vec<Claim>, AllocError>
+    ensures { IfOk result (λ copies. copies.items ≡ values claims.now) }
+{
+    let mut copies = Vec::new(alloc);
+    for claim in claims.values() {
+        copies.push(copied(claim)?)?;
+    }
+    Ok(copies)
+}
+
+/// Copies of the claims in the order `before`. Each queue is in that order already, so the sort has
+/// no more to do than to merge them.
+pub fn in_order(alloc: Global, claims: &BTreeMap<Spot, Claim>) -> Result<Vec<Claim>, AllocError>
+    ensures claims { IfOk result (λ sorted. IsPermutation (values claims.now) sorted.items) }
+    ensures order { IfOk result
+        (λ sorted. IsSortedBy (λ a b. is_lt (shown_cmp a b)) sorted.items) }
+{
+    let mut sorted = copies(alloc, claims)?;
+    sorted.sort_by(
+        |first, second| -> Ordering
+            ensures { result ≡ shown_cmp first.now second.now }
+        { queue_order(first, second) },
+    )?;
+    Ok(sorted)
 }

@@ -39,7 +39,7 @@ acted F t caller (Cmd.CancelRes n) is sound = acted_cancel_res F t caller sound 
 acted F t caller Cmd.Pass is sound = acted_pass F t caller sound
 
 -- the reasons and the room are those of the farm before its clock moved
-IsAccepted-moved : (F : Farm) (m t : ℕ) (caller : List ℕ) (cmd : Cmd) → IsAccepted F t caller cmd → IsAccepted (record F { clock = m }) t caller cmd
+pub IsAccepted-moved : (F : Farm) (m t : ℕ) (caller : List ℕ) (cmd : Cmd) → IsAccepted F t caller cmd → IsAccepted (record F { clock = m }) t caller cmd
 IsAccepted-moved F m t caller (Cmd.AddType name check) is = record { caller = is.caller; proper = is.proper; clear = is.clear; room = is.room }
 IsAccepted-moved F m t caller (Cmd.AddBoard name kind tags) is = record { caller = is.caller; proper = is.proper; clear = is.clear; room = is.room }
 IsAccepted-moved F m t caller (Cmd.SetTags name tags) is = record { caller = is.caller; proper = is.proper; clear = is.clear; room = is.room }
@@ -84,7 +84,7 @@ IsSound-keep F call d left room = by call.key words.1 room
 
 -- ---- a change, a step and a run
 
-accepted : (F : Farm) (call : Call) → None ≡ refusal F call → IsAccepted F (moment F call) call.caller call.cmd
+pub accepted : (F : Farm) (call : Call) → None ≡ refusal F call → IsAccepted F (moment F call) call.caller call.cmd
 unfolding own_refusal
 accepted F call clear =
     let free = unrefused F call clear in

@@ -1,9 +1,11 @@
-use Rattle.std.proofs.Common.{◌≡◌, true, false, Err, refl, sym, ap, ◌∙◌, subst}
+use Rattle.std.proofs.Common.{◌≡◌, Result, Err, refl, sym, ap, ◌∙◌, subst}
+use Rattle.std.proofs.lemmas.Result.{err_from_is_err_and}
 use Rattle.farm_types.specs.Sound.{IsSound}
 use Rattle.farm_store.specs.Columns.{rows_of}
 use Rattle.farm_store.specs.declared.fault.StoreFault.{StoreFault}
 use Rattle.farm_store.proofs.SoundReadable.{sound_is_readable}
-use Rattle.farm_keep.specs.Faults.{store_fault}
+use Rattle.farm_core.specs.declared.farm.BadRows.{BadRows}
+use Rattle.farm_keep.specs.Faults.{rows_fault, store_fault}
 use Rattle.farm_keep.specs.declared.fault.KeepFault.{KeepFault}
 use Rattle.farm_keep.proofs.reading.found.Goals as goal
 
@@ -35,7 +37,37 @@ returns-in-Err-clause-old g c = λ clean is T at.
     let same : c.from.result ≡ KeepFault.OldSchema = cc in
     c.load.ensures.old clean (c.in-Err.is ∙ ap Err (from_old c.in-Err.fault (sym c.from.ensures ∙ same))) T at
 
+same_fault : {T : Type 0} (r : Result T KeepFault) (a b : KeepFault) → r ≡ Err a → r ≡ Err b → a ≡ b
+same_fault r a b p q = cc
+
+from_unsound : (e : BadRows) → rows_fault e ≡ KeepFault.BadStore → e ≡ BadRows.Unsound
+from_unsound BadRows.Unsound is = refl
+from_unsound BadRows.NoMemory is = cc
+
+never_old : (e : BadRows) → rows_fault e ≡ KeepFault.OldSchema → ⊥
+never_old BadRows.Unsound is = cc
+never_old BadRows.NoMemory is = cc
+
+never_closed : (e : BadRows) → rows_fault e ≡ KeepFault.Closed → ⊥
+never_closed BadRows.Unsound is = cc
+never_closed BadRows.NoMemory is = cc
+
 pub returns-in_err-farm-clause-bad : goal.returns-in_err-farm-clause-bad
 returns-in_err-farm-clause-bad g c = λ clean is F sound at.
+    let p = err_from_is_err_and c.from_residual.result c.from_residual.ensures.1 in
+    let bad : p.0 ≡ KeepFault.BadStore = same_fault c.from_residual.result p.0 KeepFault.BadStore p.1 is in
+    let unsound : c.in_err-farm.field-0.0 ≡ BadRows.Unsound = from_unsound c.in_err-farm.field-0.0 (sym p.2 ∙ bad) in
     let same = c.in-Ok.ensures.farm clean F (sound_is_readable F sound) at in
-    let taken : false ≡ true = c.in_err-farm.ensures.taken.1 (subst IsSound (sym same) sound) in cc
+    c.in_err-farm.ensures.refused.0 (ap Err unsound) (subst IsSound (sym same) sound)
+
+pub returns-in_err-farm-clause-old : goal.returns-in_err-farm-clause-old
+returns-in_err-farm-clause-old g c = λ clean is T at.
+    let p = err_from_is_err_and c.from_residual.result c.from_residual.ensures.1 in
+    let old : p.0 ≡ KeepFault.OldSchema = same_fault c.from_residual.result p.0 KeepFault.OldSchema p.1 is in
+    never_old c.in_err-farm.field-0.0 (sym p.2 ∙ old)
+
+pub returns-in_err-farm-clause-fault : goal.returns-in_err-farm-clause-fault
+returns-in_err-farm-clause-fault g c = λ is.
+    let p = err_from_is_err_and c.from_residual.result c.from_residual.ensures.1 in
+    let closed : p.0 ≡ KeepFault.Closed = same_fault c.from_residual.result p.0 KeepFault.Closed p.1 is in
+    never_closed c.in_err-farm.field-0.0 (sym p.2 ∙ closed)

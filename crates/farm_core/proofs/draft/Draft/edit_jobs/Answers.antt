@@ -26,4 +26,4 @@ change_rows-requires-clause-behind c = none_behind c.self.inside.tables.jobs.ite
 pub invariant_of-self : goal.invariant_of-self
 invariant_of-self c =
     whole_jobs (plain c.self.inside.tables) (job_passes c.args.edit) (job_changed c.args.edit) (keeps_job c.args.edit) c.self.invariant.orderly
-    c.change_rows.new.rows.items c.in_ok-change_rows.ensures.rows c.change_rows.new.log c.in_ok-change_rows.ensures.log c.self.invariant.tracked
+    c.change_rows.new.rows.items c.in_ok-change_rows.ensures.rows c.change_rows.new.log c.in_ok-change_rows.ensures.log c.self.invariant.tracked c.self.invariant.noted

@@ -1,14 +1,36 @@
-use Rattle.std.proofs.Common.{◌+◌, ◌≤◌, length}
+use Rattle.std.proofs.Common.{rules, ◌∙◌, ◌+◌, ◌≤◌, filter, length, map, subst, sym}
 use Rattle.farm_types.specs.declared.rows.ResRow.{ResRow}
+use Rattle.farm_core.specs.Edits.{res_changed, res_passes}
+use Rattle.farm_core.specs.Leases.{AreNoted}
 use Rattle.farm_core.specs.Orderly.{IsPlaceOf}
+use Rattle.farm_core.specs.Plain.{plain}
+use Rattle.farm_core.proofs.EditLemmas.{keeps_res}
+use Rattle.farm_core.proofs.Given.{logged_behind}
+use Rattle.farm_core.proofs.Leasing.{noted_changed}
+use Rattle.farm_core.proofs.Tabled.{whole_reservations}
 use Rattle.farm_core.proofs.Windows.{places_rise}
 use Rattle.farm_core.proofs.draft.Draft.edit_reservation.Goals as goal
 
-pub edit_reservations-requires-clause-start : goal.edit_reservations-requires-clause-start
-edit_reservations-requires-clause-start c =
+pub change_rows-requires-clause-start : goal.change_rows-requires-clause-start
+change_rows-requires-clause-start c =
     let R = c.self.inside.tables.reservations.items in
     let low : c.res_place_of-start.result ≤ length R = rw (← c.deref.ensures.value) c.res_place_of-start.ensures.within in
     let high : c.res_place_of-end.result ≤ length R = rw (← c.deref-2.ensures.value) c.res_place_of-end.ensures.within in
     let first : IsPlaceOf (λ (r : ResRow). r.number) R c.args.number c.res_place_of-start.result = rw (← c.deref.ensures.value) c.res_place_of-start.ensures.place in
     let last : IsPlaceOf (λ (r : ResRow). r.number) R (c.args.number + 1) c.res_place_of-end.result = rw (← c.deref-2.ensures.value) c.res_place_of-end.ensures.place in
     places_rise (λ (r : ResRow). r.number) 1 R c.args.number c.res_place_of-start.result c.res_place_of-end.result low high first last
+
+-- the rows that changed are those behind the old log, and their leases are noted
+noted : (c : goal.In_ok-note_leases) → AreNoted c.note_leases.new.leases c.change_rows.new.rows.items
+noted c =
+    let R = c.self.inside.tables.reservations.items in
+    let behind = logged_behind c.len-before.result c.self.inside.changes.reservations.items c.deref-3.result.now (map (res_changed c.args.edit) (filter (res_passes c.args.edit) R))
+    (search rules) (c.deref-3.ensures.value ∙ c.in_ok-change_rows.ensures.log) in
+    subst (AreNoted c.note_leases.new.leases) (sym c.in_ok-change_rows.ensures.rows)
+    (noted_changed c.self.inside.tables.leases c.note_leases.new.leases c.in_ok-note_leases.ensures.grows (res_passes c.args.edit) (res_changed c.args.edit) R c.self.invariant.noted
+    (subst (AreNoted c.note_leases.new.leases) behind c.in_ok-note_leases.ensures.noted))
+
+pub invariant_of-self : goal.invariant_of-self
+invariant_of-self c =
+    whole_reservations (plain c.self.inside.tables) (res_passes c.args.edit) (res_changed c.args.edit) (keeps_res c.args.edit) c.requires.small c.self.invariant.orderly
+    c.change_rows.new.rows.items c.in_ok-change_rows.ensures.rows c.change_rows.new.log c.in_ok-change_rows.ensures.log c.self.invariant.tracked (noted c)

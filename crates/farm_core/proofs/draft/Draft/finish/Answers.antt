@@ -19,4 +19,5 @@ returns c =
       finished F c.in_ok-draft.draft.farm c.args.number j c.args.named found c.in-Some.ensures.small.0
           (made ∙ (λ i. change_jobs (job_passes e) (job_changed e) (board_after (after j.checking (outcome_of j c.args.named) (clock i))) F)),
       ap (λ (D : Drafted). D.start) c.in_ok-draft.ensures,
+      ap (λ (D : Drafted). D.queues) c.in_ok-draft.ensures,
     )

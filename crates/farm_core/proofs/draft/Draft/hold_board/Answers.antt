@@ -11,4 +11,4 @@ pub invariant_of-self : goal.invariant_of-self
 invariant_of-self c =
     whole_boards (plain c.self.inside.tables) (λ (b : BoardRow). bytes_eq b.name c.args.name.now) (held c.args.holder State.Reserved) (λ b. refl)
     (λ b small. record { held_by = c.requires; jobs_since = small.jobs_since; last_check = small.last_check })
-    c.self.invariant.orderly c.change_rows.new.rows.items c.in_ok-change_rows.ensures.rows c.change_rows.new.log c.in_ok-change_rows.ensures.log c.self.invariant.tracked
+    c.self.invariant.orderly c.change_rows.new.rows.items c.in_ok-change_rows.ensures.rows c.change_rows.new.log c.in_ok-change_rows.ensures.log c.self.invariant.tracked c.self.invariant.noted

@@ -7,3 +7,4 @@ pub invariant_of-self : goal.invariant_of-self
 invariant_of-self c =
     let logged = copy_logged c.self.inside.changes.reservations.items c.push.new.self.items c.args.row _ c.in_ok-push.ensures.items c.in_ok-copy.ensures in
     whole_res (plain c.self.inside.tables) c.args.row c.requires c.upsert.new.rows.items c.push.new.self c.self.invariant logged c.in_ok-upsert.ensures.rows c.in_ok-upsert.ensures.sorted
+    c.in_ok-note_lease.ensures.noted c.in_ok-note_lease.ensures.grows

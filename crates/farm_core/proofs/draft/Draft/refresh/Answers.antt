@@ -14,4 +14,5 @@ returns c =
     ∙ (λ i. record F { reservations = change_where (λ (r : ResRow). r.number == c.args.number) (λ (r : ResRow). record r { deadline = clock i + 60 }) F.reservations }) in (
       ap (done c.args.number) (sym (reservations_alone F c.in_ok-draft.draft.farm (λ (r : ResRow). r.number == c.args.number) (λ (r : ResRow). record r { deadline = F.clock + 60 }) made)),
       ap (λ (D : Drafted). D.start) c.in_ok-draft.ensures,
+      ap (λ (D : Drafted). D.queues) c.in_ok-draft.ensures,
     )

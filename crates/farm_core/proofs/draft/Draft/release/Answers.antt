@@ -13,4 +13,5 @@ returns c =
     let clock : c.self.inside.tables.clock ≡ c.args.self.farm.clock = ap (λ (D : Drafted). D.farm.clock) c.self.view_is in (
       ap (done c.args.number) (sym (ap (λ (D : Drafted). D.farm) c.in_ok-draft.ensures ∙ (λ i. change_res (λ (r : ResRow). r.number == c.args.number) (res_changed (ResEdit.Release c.args.number (clock i + 60))) (in_state State.Reserved) c.args.self.farm))),
       ap (λ (D : Drafted). D.start) c.in_ok-draft.ensures,
+      ap (λ (D : Drafted). D.queues) c.in_ok-draft.ensures,
     )

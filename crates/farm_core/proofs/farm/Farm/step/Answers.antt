@@ -29,7 +29,17 @@ returns-in_err-reply-clause-memory c =
 
 pub invariant_of-self-2 : goal.invariant_of-self-2
 invariant_of-self-2 c =
-    λ _. rw c.in_ok-reply.ensures.farm (IsSound-change _ c.args.call.now c.in_default-refusal.ensures (c.self.invariant c.if-self.false))
+    λ _. record {
+      sound = rw c.in_ok-reply.ensures.farm (IsSound-change _ c.args.call.now c.in_default-refusal.ensures (c.self.invariant c.if-self.false).sound);
+      fits = c.in_ok-reply.ensures.queues;
+      noted = c.in_ok-reply.ensures.noted;
+    }
+
+pub change-requires-clause-noted : goal.change-requires-clause-noted
+change-requires-clause-noted c = (c.self.invariant c.if-self.false).noted
+
+pub change-requires-clause-fits : goal.change-requires-clause-fits
+change-requires-clause-fits c = (c.self.invariant c.if-self.false).fits
 
 pub returns-clause-answer : goal.returns-clause-answer
 returns-clause-answer c =
@@ -41,18 +51,18 @@ returns-clause-farm c =
 
 pub returns-clause-sound : goal.returns-clause-sound
 returns-clause-sound c =
-    rw c.in_ok-reply.ensures.farm (IsSound-change _ c.args.call.now c.in_default-refusal.ensures (c.self.invariant c.if-self.false))
+    rw c.in_ok-reply.ensures.farm (IsSound-change _ c.args.call.now c.in_default-refusal.ensures (c.self.invariant c.if-self.false).sound)
 
 pub kept_reply-requires : goal.kept_reply-requires
-kept_reply-requires c = IsOrderly-sound _ (c.self.invariant c.if-self.false)
+kept_reply-requires c = IsOrderly-sound _ (c.self.invariant c.if-self.false).sound
 
 pub refusal-requires : goal.refusal-requires
-refusal-requires c = IsOrderly-sound _ (c.self.invariant c.if-self.false)
+refusal-requires c = IsOrderly-sound _ (c.self.invariant c.if-self.false).sound
 
 pub change-requires-clause-sound : goal.change-requires-clause-sound
-change-requires-clause-sound c = c.self.invariant c.if-self.false
+change-requires-clause-sound c = (c.self.invariant c.if-self.false).sound
 
 pub returns-clause-small : goal.returns-clause-small
 returns-clause-small c =
     AreSmall-sound _ (plain c.change.new.self) c.in_ok-reply.ensures.small c.in_ok-reply.ensures.meta
-    (rw c.in_ok-reply.ensures.farm (IsSound-change _ c.args.call.now c.in_default-refusal.ensures (c.self.invariant c.if-self.false)))
+    (rw c.in_ok-reply.ensures.farm (IsSound-change _ c.args.call.now c.in_default-refusal.ensures (c.self.invariant c.if-self.false).sound))

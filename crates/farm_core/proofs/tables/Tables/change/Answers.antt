@@ -10,14 +10,21 @@ use Rattle.farm_core.specs.declared.tables.Tables.{Tables}
 use Rattle.farm_core.proofs.AcceptedCalls.{in_time, IsSmallCmd-accepted}
 use Rattle.farm_core.proofs.Sound.{IsOrderly-sound}
 use Rattle.farm_sound.proofs.Step.{acted_call, IsSound-moved_to}
+use Rattle.farm_pick.specs.Queued.{lists_of}
+use Rattle.farm_core.specs.Following.{FollowsIn}
+use Rattle.farm_core.specs.Leases.{AreNoted}
+use Rattle.farm_core.proofs.Commanded.{follows_in, kept_lists}
 use Rattle.farm_core.proofs.tables.Tables.change.Goals as goal
 
 -- the tables that are taken out are those with the clock moved
 taken : {T : Tables} (self : Tables) (call : Call) (clock : ℕ) → T ≡ record self { clock = clock } → clock ≡ moment (plain self) call → plain T ≡ moved (plain self) call
 taken self call clock is at = ap plain is ∙ (λ i. record (plain self) { clock = at i })
 
-pub of-draft-requires : goal.of-draft-requires
-of-draft-requires c =
+pub of-draft-requires-clause-noted : goal.of-draft-requires-clause-noted
+of-draft-requires-clause-noted c = rw c.replace.ensures.value c.requires.noted
+
+pub of-draft-requires-clause-orderly : goal.of-draft-requires-clause-orderly
+of-draft-requires-clause-orderly c =
     let o = IsOrderly-sound (plain c.args.self.now) c.requires.sound in
     rw c.replace.ensures.value (record {
       types = o.types;
@@ -36,6 +43,30 @@ pub act-requires-clause-sound : goal.act-requires-clause-sound
 act-requires-clause-sound c =
     let started = ap (λ (D : Drafted). D.farm) c.of-draft.ensures ∙ taken c.args.self.now c.args.call.now c.max-self.result c.replace.ensures.value c.max-self.ensures in
     subst IsSound (sym started) (IsSound-moved_to (plain c.args.self.now) c.args.call.now c.requires.accepted c.requires.sound)
+
+pub act-requires-clause-fits : goal.act-requires-clause-fits
+act-requires-clause-fits c =
+    let started = ap (λ (D : Drafted). D.farm) c.of-draft.ensures ∙ taken c.args.self.now c.args.call.now c.max-self.result c.replace.ensures.value c.max-self.ensures in
+    ap (λ (D : Drafted). D.queues) c.of-draft.ensures ∙ ap (λ (t : Tables). t.queues) c.replace.ensures.value ∙ c.requires.fits ∙ ap lists_of (sym started)
+
+pub act-requires-clause-follow : goal.act-requires-clause-follow
+act-requires-clause-follow c =
+    let started = ap (λ (D : Drafted). D.farm) c.of-draft.ensures ∙ taken c.args.self.now c.args.call.now c.max-self.result c.replace.ensures.value c.max-self.ensures in
+    subst (λ (F : Farm). FollowsIn F c.args.call.now.caller c.args.call.now.cmd) (sym started) (follows_in (plain c.args.self.now) c.args.call.now c.requires.sound c.requires.accepted)
+
+pub returns-clause-queues : goal.returns-clause-queues
+returns-clause-queues c =
+    let k = c.args.call.now in
+    let kept = c.into_parts-tables.ensures.farm ∙ ap (λ (D : Drafted). D.farm) c.in_ok-draft-2.ensures in
+    c.into_parts-tables.ensures.queues
+    ∙ ap (λ (D : Drafted). D.queues) c.in_ok-draft-2.ensures
+    ∙ ap (λ (D : Drafted). D.queues) c.in_ok-draft.ensures.farm
+    ∙ ap (λ (D : Drafted). lists_of D.farm) (sym c.in_ok-draft.ensures.farm)
+    ∙ sym (kept_lists c.in_ok-draft.draft.farm k c.in_ok-draft.reply)
+    ∙ ap lists_of (sym kept)
+
+pub returns-clause-noted : goal.returns-clause-noted
+returns-clause-noted c = subst (λ (F : Farm). AreNoted c.into_parts-tables.result.0.leases F.reservations) (sym c.into_parts-tables.ensures.farm) c.into_parts-tables.ensures.noted
 
 pub act-requires-clause-small : goal.act-requires-clause-small
 act-requires-clause-small c = IsSmallCmd-accepted (plain c.args.self.now) c.args.call.now c.requires.accepted c.requires.sound

@@ -1,6 +1,11 @@
-use Rattle.std.proofs.Common.{sym}
+use Rattle.std.proofs.Common.{◌∙◌, map, ap}
+use Rattle.std.proofs.lemmas.Simd.{map-map}
+use Rattle.farm_types.specs.Pick.{queue}
+use Rattle.farm_pick.specs.Queued.{Lists, Queued, queued}
 use Rattle.farm_core.specs.Plain.{plain}
 use Rattle.farm_core.proofs.tables.Tables.queue.Goals as goal
 
 pub returns : goal.returns
-returns c = λ sound. c.in_ok-claims.ensures (plain c.args.self.now) sound.steady (sym c.deref.ensures.value) (sym c.deref-2.ensures.value)
+returns c = λ fits.
+    c.in_ok-claims.ensures ∙ ap (λ (q : Lists). map (λ (x : Queued). x.claim) q.claims) fits
+    ∙ map-map (λ (x : Queued). x.claim) queued (queue (plain c.args.self.now))

@@ -1,0 +1,90 @@
+-- The queues once a claim was given its boards.
+use Rattle.std.proofs.Common.{◌≡◌, ◌∙◌, ◌==◌, ◌||◌, ◌-◌, ◌+◌, ◌++◌, ℕ, List, [], ◌∷◌, length, take, drop, map, Bool, true, false, cond, not, Option, Some, None, refl, sym, ap, arith}
+use Rattle.std.specs.List.{filter, list_any}
+use Rattle.std.specs.Option.{option_map, option_map_or}
+use Rattle.std.proofs.Math.Seq.{drop-append_seam}
+use Rattle.std.proofs.lemmas.List.{length-append, take_all}
+use Rattle.std.proofs.lemmas.Bool.Decides.{nat_tests}
+use Rattle.farm_types.specs.Farm.{Farm}
+use Rattle.farm_types.specs.Pick.{Claimed, is_free, least}
+use Rattle.farm_types.specs.declared.rows.BoardRow.{BoardRow}
+use Rattle.farm_types.specs.declared.rows.ResRow.{ResRow}
+use Rattle.farm_types.specs.declared.rows.Want.{Want}
+use Rattle.farm_pick.specs.Queued.{Lists, Queued}
+use Rattle.farm_core.specs.Following.{without_all, without_boards}
+use Rattle.farm_core.specs.Serving.{queues_given}
+use Rattle.farm_core.proofs.Serving.{names_of}
+
+module _ (F : Farm) (c : Claimed) (wants : List Want) (asks : c.wants ≡ wants) (lists : Lists) where
+  abbrev given : Option (List BoardRow) → Lists
+  given o = option_map_or (λ bs. record {
+    claims = filter (λ (x : Queued). not (x.claim.number == c.number)) lists.claims;
+    boards = without_boards (names_of bs) lists.boards;
+  }) o lists
+
+  is_given : given (least F.boards (is_free F.types) wants) ≡ queues_given F c lists
+  is_given = sym (ap (λ w. given (least F.boards (is_free F.types) w)) asks)
+
+  -- a claim that is met leaves them with its boards
+  pub queues_left : (names : List (List ℕ)) → Some names ≡ option_map names_of (least F.boards (is_free F.types) wants)
+      → record { claims = filter (λ (x : Queued). not (x.claim.number == c.number)) lists.claims; boards = without_boards names lists.boards } ≡ queues_given F c lists
+  queues_left names picked = by (least F.boards (is_free F.types) wants) picked ∙ is_given
+    where
+      by : (o : Option (List BoardRow)) → Some names ≡ option_map names_of o
+          → record { claims = filter (λ (x : Queued). not (x.claim.number == c.number)) lists.claims; boards = without_boards names lists.boards } ≡ given o
+      by None is = cc
+      by (Some bs) is = let same : names ≡ names_of bs = cc in
+          ap (λ ns. record { claims = filter (λ (x : Queued). not (x.claim.number == c.number)) lists.claims; boards = without_boards ns lists.boards }) same
+
+  -- one that isn't leaves them as they are
+  pub queues_stay : None ≡ option_map names_of (least F.boards (is_free F.types) wants) → lists ≡ queues_given F c lists
+  queues_stay none = by (least F.boards (is_free F.types) wants) none ∙ is_given
+    where
+      by : (o : Option (List BoardRow)) → None ≡ option_map names_of o → lists ≡ given o
+      by None is = refl
+      by (Some bs) is = cc
+
+-- ---- several boards and claims at once
+
+same_back : (a b : ℕ) → (a == b) ≡ (b == a)
+same_back a b = grind (arith, nat_tests)
+
+-- to take one more is to take those that are another's too
+pub taken_more : {A : Type 0} (p q r : A → Bool) → ((x : A) → r x ≡ (p x || q x)) → (xs : List A) → filter (λ x. not (q x)) (filter (λ x. not (p x)) xs) ≡ filter (λ x. not (r x)) xs
+taken_more p q r is [] = refl
+taken_more p q r is (x ∷ xs) =
+    by (p x) (q x) refl (taken_more p q r is xs)
+    ∙ ap (λ v. cond (not v) (x ∷ filter (λ x. not (r x)) xs) (filter (λ x. not (r x)) xs)) (sym (is x))
+  where
+    by : (v w : Bool) → q x ≡ w → filter (λ x. not (q x)) (filter (λ x. not (p x)) xs) ≡ filter (λ x. not (r x)) xs
+        → filter (λ x. not (q x)) (cond (not v) (x ∷ filter (λ x. not (p x)) xs) (filter (λ x. not (p x)) xs))
+        ≡ cond (not (v || w)) (x ∷ filter (λ x. not (r x)) xs) (filter (λ x. not (r x)) xs)
+    by true w has rest = rest
+    by false true has rest = ap (λ u. cond (not u) (x ∷ filter (λ x. not (q x)) (filter (λ x. not (p x)) xs)) (filter (λ x. not (q x)) (filter (λ x. not (p x)) xs))) has ∙ rest
+    by false false has rest = ap (λ u. cond (not u) (x ∷ filter (λ x. not (q x)) (filter (λ x. not (p x)) xs)) (filter (λ x. not (q x)) (filter (λ x. not (p x)) xs))) has ∙ ap (λ more. x ∷ more) rest
+
+pub all_pass : {A : Type 0} (xs : List A) → xs ≡ filter (λ x. not false) xs
+all_pass [] = refl
+all_pass (x ∷ xs) = ap (λ rest. x ∷ rest) (all_pass xs)
+
+-- the claims of reservations go by their numbers alone
+pub without_changed : (f : ResRow → ResRow) → ((r : ResRow) → (f r).number ≡ r.number) → (rows : List ResRow) (claims : List Queued) → without_all (map f rows) claims ≡ without_all rows claims
+without_changed f keeps [] claims = refl
+without_changed f keeps (r ∷ rows) claims =
+    without_changed f keeps rows (filter (λ (x : Queued). not (x.claim.number == (f r).number)) claims)
+    ∙ ap (λ n. without_all rows (filter (λ (x : Queued). not (x.claim.number == n)) claims)) (keeps r)
+
+-- all at once
+pub without_each : (rows : List ResRow) (claims : List Queued) → without_all rows claims ≡ filter (λ (x : Queued). not (list_any (λ (r : ResRow). r.number == x.claim.number) rows)) claims
+without_each [] claims = all_pass claims
+without_each (r ∷ rows) claims =
+    without_each rows (filter (λ (x : Queued). not (x.claim.number == r.number)) claims)
+    ∙ taken_more (λ (x : Queued). x.claim.number == r.number) (λ (x : Queued). list_any (λ (q : ResRow). q.number == x.claim.number) rows) (λ (x : Queued). list_any (λ (q : ResRow). q.number == x.claim.number) (r ∷ rows))
+    (λ x. ap (λ v. v || list_any (λ (q : ResRow). q.number == x.claim.number) rows) (same_back r.number x.claim.number)) claims
+
+-- what was logged behind a place
+pub logged_behind : {A : Type 0} (n : ℕ) (old now ys : List A) → n ≡ length old → now ≡ old ++ ys → take (length now - n) (drop n now) ≡ ys
+logged_behind n old now ys at is =
+    let long : length now ≡ length old + length ys = ap length is ∙ length-append old ys in
+    let rest : drop n now ≡ ys = (λ i. drop (at i) (is i)) ∙ drop-append_seam old ys in
+    ap (take (length now - n)) rest ∙ take_all (length now - n) ys (omega (arith, at, long))

@@ -1,0 +1,305 @@
+-- The leases that are noted, and the end of the reservations that are dead.
+use Rattle.std.proofs.Common.{◌≡◌, ◌∙◌, ◌==◌, ◌||◌, ◌&&◌, ◌<◌, ◌≤◌, ◌+◌, ℕ, zero, suc, List, [], ◌∷◌, length, map, filter, take, get_or, add-one, nat_le, slice_get, IsSome, IfSome, Bool, true, false, cond, not, Option, Some, None, refl, sym, ap, subst, arith}
+use mathlib.Core.Bool.{true≢false, false≢true}
+use Rattle.std.specs.BTreeSet.{BTreeSet, IsLowerBound}
+use Rattle.std.specs.Cmp.{tied_then}
+use Rattle.std.specs.List.{AllByRecursion}
+use Rattle.std.specs.List.Sorted.{IsStrictlySortedBy}
+use Rattle.std.specs.Option.{option_map_or}
+use Rattle.std.specs.Ordering.{is_eq, is_gt, nat_cmp, ordering_then}
+use Rattle.std.specs.declared.cmp.Ordering.{Ordering}
+use Rattle.std.specs.declared.cmp.Ordering.TheVariants.{Equal, Greater, Less}
+use Rattle.std.proofs.lemmas.Bool.Decides.{nat_tests}
+use Rattle.std.proofs.lemmas.Cmp.{ranked}
+use Rattle.farm_types.specs.Pass.{is_dead}
+use Rattle.farm_types.specs.Small.{IsSmall, IsSmallRes}
+use Rattle.farm_types.specs.Table.{change_where, res_cmp}
+use Rattle.farm_types.specs.declared.rows.ResRow.{ResRow}
+use Rattle.farm_types.specs.declared.rows.ResState.{ResState}
+use Rattle.farm_types.proofs.Put.{AllByRecursion-weaker}
+use Rattle.farm_types.proofs.Searched.{same_numbers}
+use Rattle.farm_sound.proofs.Lists.{none_pass}
+use Rattle.farm_sound.proofs.Own.{itself}
+use Rattle.farm_sound.proofs.Tests.{both, same_number}
+use Rattle.farm_sound.proofs.Where.{AllByRecursion-both}
+use Rattle.farm_sound.specs.Place.{res_in}
+use Rattle.farm_pick.specs.Queued.{Queued}
+use Rattle.farm_core.specs.Drafted.{Drafted, without_claim}
+use Rattle.farm_core.specs.Following.{without_all}
+use Rattle.farm_core.specs.Leases.{AreNoted, Grows, IsNoted, is_dead_at, is_noted, lease_cmp, lease_of, may_end}
+use Rattle.farm_core.specs.declared.leases.Lease.{Lease}
+use Rattle.farm_core.proofs.Given.{taken_more}
+
+-- ---- rows that change
+
+-- those that change are noted anew, the others were noted before
+pub noted_changed : (old news : BTreeSet Lease) → Grows old news → (test : ResRow → Bool) (f : ResRow → ResRow) (rows : List ResRow) → AreNoted old rows
+    → AreNoted news (map f (filter test rows)) → AreNoted news (change_where test f rows)
+noted_changed old news grows test f [] was now = tt
+noted_changed old news grows test f (r ∷ rows) was now = by (test r) now (noted_changed old news grows test f rows was.1)
+  where
+    by : (v : Bool) → AreNoted news (map f (cond v (r ∷ filter test rows) (filter test rows))) → (AreNoted news (map f (filter test rows)) → AreNoted news (change_where test f rows))
+        → AreNoted news (cond v (f r) r ∷ change_where test f rows)
+    by true now rest = (now.0, rest now.1)
+    by false now rest = ((λ may. grows (lease_of r) (was.0 may)), rest now)
+
+-- a lease is noted besides the others
+pub still_noted : (same was now : Bool) → now ≡ cond same true was → was ≡ true → now ≡ true
+still_noted true was now is noted = is
+still_noted false was now is noted = is ∙ noted
+
+-- and one row more has its lease noted
+pub noted_more : (old news : BTreeSet Lease) → Grows old news → (rows : List ResRow) (i : ℕ) (d r : ResRow) → i < length rows → get_or rows i d ≡ r → AreNoted old (take i rows) → IsNoted news r
+    → AreNoted news (take (i + 1) rows)
+noted_more old news grows rows i d r low at was now = subst (λ n. AreNoted news (take n rows)) (sym (add-one i)) (by_suc rows i low at was)
+  where
+    by_suc : (rows : List ResRow) (i : ℕ) → i < length rows → get_or rows i d ≡ r → AreNoted old (take i rows) → AreNoted news (take (suc i) rows)
+    by_suc [] i low at was = absurd (omega arith)
+    by_suc (q ∷ rows) zero low at was = (subst (IsNoted news) (sym at) now, tt)
+    by_suc (q ∷ rows) (suc i) low at was = ((λ may. grows (lease_of q) (was.0 may)), by_suc rows i (omega arith) at was.1)
+
+-- ---- rows of one number
+
+none_behind : (n : ℕ) (r : ResRow) (rows : List ResRow) → r.number ≡ n → AllByRecursion (λ q. res_cmp r q ≡ Less) rows → AllByRecursion (λ (q : ResRow). q.number ≡ n → ⊥) rows
+none_behind n r rows is above =
+    AllByRecursion-weaker (λ q less same. let below : r.number < q.number = ranked r.number q.number Less (sym less) in absurd (omega arith)) rows above
+
+alone : (test : ResRow → Bool) (n : ℕ) (rows : List ResRow) → IsStrictlySortedBy res_cmp rows → option_map_or test (res_in rows n) false ≡ false
+    → AllByRecursion (λ (r : ResRow). r.number ≡ n → test r ≡ false) rows
+unfolding IsStrictlySortedBy
+alone test n [] sorted fails = tt
+alone test n (r ∷ rows) sorted fails = by (r.number == n) refl fails (λ rest. alone test n rows sorted.1 rest)
+  where
+    by : (v : Bool) → (r.number == n) ≡ v → option_map_or test (cond v (Some r) (res_in rows n)) false ≡ false
+        → (option_map_or test (res_in rows n) false ≡ false → AllByRecursion (λ (q : ResRow). q.number ≡ n → test q ≡ false) rows)
+        → (r.number ≡ n → test r ≡ false) × AllByRecursion (λ (q : ResRow). q.number ≡ n → test q ≡ false) rows
+    by true is fails rest = ((λ same. fails), AllByRecursion-weaker (λ q other same. absurd (other same)) rows (none_behind n r rows (same_number r.number n is) sorted.0))
+    by false is fails rest = ((λ same. absurd (true≢false (sym (ap (λ m. m == n) same ∙ itself n) ∙ is))), rest fails)
+
+-- ---- leases in order
+
+same_lease : (a b : Lease) → is_eq (lease_cmp a b) ≡ true → (a.deadline ≡ b.deadline) × (a.number ≡ b.number)
+same_lease a b is =
+    let two = both (is_eq (nat_cmp a.deadline b.deadline)) (is_eq (nat_cmp a.number b.number)) (tied_then (nat_cmp a.deadline b.deadline) (nat_cmp a.number b.number) ∙ is) in (
+      same_number a.deadline b.deadline (same_numbers a.deadline b.deadline ∙ two.0),
+      same_number a.number b.number (same_numbers a.number b.number ∙ two.1),
+    )
+
+not_before : (a b : Lease) → is_gt (lease_cmp a b) ≡ false → a.deadline ≤ b.deadline
+not_before a b is = by (nat_cmp a.deadline b.deadline) refl is
+  where
+    by : (o : Ordering) → nat_cmp a.deadline b.deadline ≡ o → is_gt (ordering_then o (nat_cmp a.number b.number)) ≡ false → a.deadline ≤ b.deadline
+    by Less at is = let below : a.deadline < b.deadline = ranked a.deadline b.deadline Less (sym at) in omega arith
+    by Equal at is = let same : a.deadline ≡ b.deadline = ranked a.deadline b.deadline Equal (sym at) in omega arith
+    by Greater at is = absurd (true≢false is)
+
+is_over : (a b : ℕ) → a ≤ b → nat_le a b ≡ true
+is_over a b low = grind (arith, nat_tests)
+
+runs_on : (a b : ℕ) → b < a → nat_le a b ≡ false
+runs_on a b low = grind (arith, nat_tests)
+
+-- the first lease is taken
+pub popped : (o : Option Lease) (old news : List Lease) (lease : Lease) → slice_get old 0 ≡ Some lease → (0 < length old → IsSome o) → IfSome o (λ k. old ≡ k ∷ news) → old ≡ lease ∷ news
+popped None [] news lease first some removal = cc
+popped None (l ∷ old) news lease first some removal = absurd (false≢true (some (omega arith)))
+popped (Some k) old news lease first some removal =
+    let at : ◌≡◌ {A = Option Lease} (Some k) (Some lease) = sym (ap (λ ls. slice_get ls 0) removal) ∙ first in
+    let same : k ≡ lease = cc in
+    removal ∙ ap (λ l. l ∷ news) same
+
+module _ (now : ℕ) (rows : List ResRow) where
+  -- a lease that is over is forgotten, where its reservation isn't dead
+  pub forgotten : (lease : Lease) (leases : List Lease) → IsStrictlySortedBy res_cmp rows → lease.deadline ≤ now → is_dead_at now rows lease.number ≡ false
+      → AreNoted (record { keys = lease ∷ leases }) rows → AreNoted (record { keys = leases }) rows
+  forgotten lease leases sorted over alive noted =
+      AllByRecursion-weaker (λ r two may. by r two.0 two.1 may (is_eq (lease_cmp (lease_of r) lease)) refl) rows
+      (AllByRecursion-both (IsNoted (record { keys = lease ∷ leases })) (λ (r : ResRow). r.number ≡ lease.number → is_dead now r ≡ false) rows noted
+      (alone (is_dead now) lease.number rows sorted alive))
+    where
+      by : (r : ResRow) → IsNoted (record { keys = lease ∷ leases }) r → (r.number ≡ lease.number → is_dead now r ≡ false) → may_end r ≡ true
+          → (v : Bool) → is_eq (lease_cmp (lease_of r) lease) ≡ v → is_noted (record { keys = leases }) (lease_of r) ≡ true
+      by r noted alive may true is =
+          let two = same_lease (lease_of r) lease is in
+          let low : r.deadline ≤ now = omega (arith, two.0) in
+          absurd (true≢false (sym (ap (λ v. v && nat_le r.deadline now) may ∙ is_over r.deadline now low) ∙ alive two.1))
+      by r noted alive may false is = sym (ap (λ v. v || is_noted (record { keys = leases }) (lease_of r)) is) ∙ noted may
+
+  -- where the first lease runs on, so do all
+  pub none_over : (lease : Lease) (leases : BTreeSet Lease) → AreNoted leases rows → now < lease.deadline → IsLowerBound lease_cmp leases lease
+      → AllByRecursion (λ r. is_dead now r ≡ false) rows
+  none_over lease leases noted later least = AllByRecursion-weaker (λ r one. by r one (may_end r) refl) rows noted
+    where
+      by : (r : ResRow) → IsNoted leases r → (v : Bool) → may_end r ≡ v → is_dead now r ≡ false
+      by r one true may =
+          let low : lease.deadline ≤ r.deadline = not_before lease (lease_of r) (least (lease_of r) (one may)) in
+          ap (λ v. v && nat_le r.deadline now) may ∙ runs_on r.deadline now (omega arith)
+      by r one false may = ap (λ v. v && nat_le r.deadline now) may
+
+  -- and without a lease none is dead
+  pub none_noted : (leases : BTreeSet Lease) → AreNoted leases rows → length leases.keys ≡ 0 → AllByRecursion (λ r. is_dead now r ≡ false) rows
+  none_noted leases noted none = AllByRecursion-weaker (λ r one. by r one (may_end r) refl) rows noted
+    where
+      no_keys : (ls : List Lease) → length ls ≡ 0 → ls ≡ []
+      no_keys [] empty = refl
+      no_keys (l ∷ ls) empty = absurd (omega (arith, empty))
+
+      by : (r : ResRow) → IsNoted leases r → (v : Bool) → may_end r ≡ v → is_dead now r ≡ false
+      by r one true may = absurd (false≢true (ap (λ ls. is_noted (record { keys = ls }) (lease_of r)) (sym (no_keys leases.keys none)) ∙ one may))
+      by r one false may = ap (λ v. v && nat_le r.deadline now) may
+
+-- the number of one that is dead is small
+pub dead_small : (t n : ℕ) (rows : List ResRow) → AllByRecursion IsSmallRes rows → is_dead_at t rows n ≡ true → IsSmall n
+dead_small t n [] small dead = absurd (false≢true dead)
+dead_small t n (r ∷ rows) small dead = by (r.number == n) refl dead (λ rest. dead_small t n rows small.1 rest)
+  where
+    by : (v : Bool) → (r.number == n) ≡ v → option_map_or (is_dead t) (cond v (Some r) (res_in rows n)) false ≡ true → (is_dead_at t rows n ≡ true → IsSmall n) → IsSmall n
+    by true is dead rest = subst IsSmall (same_number r.number n is) small.0.number
+    by false is dead rest = rest dead
+
+pub if_some : {P Q : ℕ → Type 0} (o : Option ℕ) → ((n : ℕ) → P n → Q n) → IfSome o P → IfSome o Q
+if_some None so p = tt
+if_some (Some n) so p = so n p
+
+-- ---- the dead end one after the other
+
+abbrev pub expired : ResRow → ResRow
+expired r = record r { state = ResState.Expired }
+
+unchanged : (test : ResRow → Bool) (f : ResRow → ResRow) (rows : List ResRow) → AllByRecursion (λ r. test r ≡ false) rows → change_where test f rows ≡ rows
+unchanged test f [] all = refl
+unchanged test f (r ∷ rows) all = λ i. cond (all.0 i) (f r) r ∷ unchanged test f rows all.1 i
+
+abbrev without : ℕ → List Queued → List Queued
+without n xs = filter (λ (x : Queued). not (x.claim.number == n)) xs
+
+or_back : (a b : Bool) → (a || b) ≡ (b || a)
+or_back true true = refl
+or_back true false = refl
+or_back false true = refl
+or_back false false = refl
+
+either_first : (m n : ℕ) (xs : List Queued) → without m (without n xs) ≡ without n (without m xs)
+either_first m n xs =
+    taken_more (λ (x : Queued). x.claim.number == n) (λ (x : Queued). x.claim.number == m) (λ (x : Queued). (x.claim.number == n) || (x.claim.number == m)) (λ x. refl) xs
+    ∙ sym (taken_more (λ (x : Queued). x.claim.number == m) (λ (x : Queued). x.claim.number == n) (λ (x : Queued). (x.claim.number == n) || (x.claim.number == m))
+    (λ x. or_back (x.claim.number == n) (x.claim.number == m)) xs)
+
+-- one that is dead ends: what is left to do is the same but for it
+pub record EndsOne (t n : ℕ) (rows news : List ResRow) : Type 0 where
+  pub rest : change_where (is_dead t) expired news ≡ change_where (is_dead t) expired rows
+  pub fewer : suc (length (filter (is_dead t) news)) ≡ length (filter (is_dead t) rows)
+  pub claims : (cs : List Queued) → without_all (filter (is_dead t) news) (without n cs) ≡ without_all (filter (is_dead t) rows) cs
+
+module _ (t n : ℕ) where
+  abbrev numbered : ResRow → Bool
+  numbered r = r.number == n
+
+  here : (r : ResRow) (rows : List ResRow) → r.number ≡ n → is_dead t r ≡ true → EndsOne t n (r ∷ rows) (expired r ∷ rows)
+  here r rows same dead = record {
+    rest = sym (ap (λ v. cond v (expired r) r ∷ change_where (is_dead t) expired rows) dead);
+    fewer = sym (ap (λ v. length (cond v (r ∷ filter (is_dead t) rows) (filter (is_dead t) rows))) dead);
+    claims = λ cs. ap (λ m. without_all (filter (is_dead t) rows) (without m cs)) (sym same)
+        ∙ sym (ap (λ v. without_all (cond v (r ∷ filter (is_dead t) rows) (filter (is_dead t) rows)) cs) dead);
+  }
+
+  behind : (r : ResRow) (rows news : List ResRow) → EndsOne t n rows news → EndsOne t n (r ∷ rows) (r ∷ news)
+  behind r rows news e = record {
+    rest = ap (λ qs. cond (is_dead t r) (expired r) r ∷ qs) e.rest;
+    fewer = by_length (is_dead t r);
+    claims = by_claims (is_dead t r);
+  }
+    where
+      by_length : (v : Bool) → suc (length (cond v (r ∷ filter (is_dead t) news) (filter (is_dead t) news))) ≡ length (cond v (r ∷ filter (is_dead t) rows) (filter (is_dead t) rows))
+      by_length true = omega (arith, e.fewer)
+      by_length false = e.fewer
+
+      by_claims : (v : Bool) (cs : List Queued) → without_all (cond v (r ∷ filter (is_dead t) news) (filter (is_dead t) news)) (without n cs)
+          ≡ without_all (cond v (r ∷ filter (is_dead t) rows) (filter (is_dead t) rows)) cs
+      by_claims true cs = ap (without_all (filter (is_dead t) news)) (either_first r.number n cs) ∙ e.claims (without r.number cs)
+      by_claims false cs = e.claims cs
+
+  pub ends_one : (rows : List ResRow) → IsStrictlySortedBy res_cmp rows → is_dead_at t rows n ≡ true → EndsOne t n rows (change_where numbered expired rows)
+  unfolding IsStrictlySortedBy
+  ends_one [] sorted dead = absurd (false≢true dead)
+  ends_one (r ∷ rows) sorted dead = by (r.number == n) refl dead (λ rest. ends_one rows sorted.1 rest)
+    where
+      by : (v : Bool) → (r.number == n) ≡ v → option_map_or (is_dead t) (cond v (Some r) (res_in rows n)) false ≡ true
+          → (is_dead_at t rows n ≡ true → EndsOne t n rows (change_where numbered expired rows))
+          → EndsOne t n (r ∷ rows) (cond (r.number == n) (expired r) r ∷ change_where numbered expired rows)
+      by true is dead rest =
+          let same = same_number r.number n is in
+          let others : change_where numbered expired rows ≡ rows = unchanged numbered expired rows
+          (AllByRecursion-weaker (λ q other. differs_from q.number other) rows (none_behind n r rows same sorted.0)) in
+          subst (EndsOne t n (r ∷ rows)) (sym (λ i. cond (is i) (expired r) r ∷ others i)) (here r rows same dead)
+        where
+          differs_from : (m : ℕ) → (m ≡ n → ⊥) → (m == n) ≡ false
+          differs_from m other = by_test (m == n) refl
+            where
+              by_test : (w : Bool) → (m == n) ≡ w → w ≡ false
+              by_test true same = absurd (other (same_number m n same))
+              by_test false same = refl
+      by false is dead rest =
+          subst (EndsOne t n (r ∷ rows)) (sym (ap (λ v. cond v (expired r) r ∷ change_where numbered expired rows) is)) (behind r rows (change_where numbered expired rows) (rest dead))
+
+-- ---- and so in a draft
+
+abbrev pub dead_rows : Drafted → List ResRow
+dead_rows D = filter (is_dead D.farm.clock) D.farm.reservations
+
+-- a draft once its dead reservations have ended
+abbrev pub ended : Drafted → Drafted
+ended D = record D {
+  farm = record D.farm { reservations = change_where (is_dead D.farm.clock) expired D.farm.reservations };
+  queues = record D.queues { claims = without_all (dead_rows D) D.queues.claims };
+}
+
+-- and once one has
+abbrev pub one_ended : ℕ → Drafted → Drafted
+one_ended n D = record D {
+  farm = record D.farm { reservations = change_where (λ (r : ResRow). r.number == n) expired D.farm.reservations };
+  queues = without_claim n D.queues;
+}
+
+module _ (D E : Drafted) (n : ℕ) (sorted : IsStrictlySortedBy res_cmp D.farm.reservations) (dead : is_dead_at D.farm.clock D.farm.reservations n ≡ true) (is : E ≡ one_ended n D) where
+  one : EndsOne D.farm.clock n D.farm.reservations (change_where (λ (r : ResRow). r.number == n) expired D.farm.reservations)
+  one = ends_one D.farm.clock n D.farm.reservations sorted dead
+
+  pub ended_on : ended E ≡ ended D
+  ended_on = ap ended is ∙ (λ i. record D {
+    farm = record D.farm { reservations = one.rest i };
+    queues = record D.queues { claims = one.claims D.queues.claims i };
+  })
+
+  pub dead_fewer : suc (length (dead_rows E)) ≡ length (dead_rows D)
+  dead_fewer = ap (λ (G : Drafted). suc (length (dead_rows G))) is ∙ one.fewer
+
+pub ended_all : (D : Drafted) → AllByRecursion (λ r. is_dead D.farm.clock r ≡ false) D.farm.reservations → ended D ≡ D
+ended_all D none = λ i. record D {
+  farm = record D.farm { reservations = unchanged (is_dead D.farm.clock) expired D.farm.reservations none i };
+  queues = record D.queues { claims = without_all (none_pass (is_dead D.farm.clock) D.farm.reservations none i) D.queues.claims };
+}
+
+pub none_dead : (D : Drafted) → AllByRecursion (λ r. is_dead D.farm.clock r ≡ false) D.farm.reservations → length (dead_rows D) ≡ 0
+none_dead D none = ap length (none_pass (is_dead D.farm.clock) D.farm.reservations none)
+
+-- they are no more than there are rows, and an end leaves the rows as many
+length_changed : (test : ResRow → Bool) (f : ResRow → ResRow) (rows : List ResRow) → length (change_where test f rows) ≡ length rows
+length_changed test f [] = refl
+length_changed test f (r ∷ rows) = ap suc (length_changed test f rows)
+
+length_passing : (test : ResRow → Bool) (rows : List ResRow) → length (filter test rows) ≤ length rows
+length_passing test [] = omega arith
+length_passing test (r ∷ rows) = by (test r) (length_passing test rows)
+  where
+    by : (v : Bool) → length (filter test rows) ≤ length rows → length (cond v (r ∷ filter test rows) (filter test rows)) ≤ length (r ∷ rows)
+    by true rest = omega (arith, rest)
+    by false rest = omega (arith, rest)
+
+pub dead_few : (D E : Drafted) → ended E ≡ ended D → length (dead_rows D) ≤ length E.farm.reservations
+dead_few D E is =
+    let same : length E.farm.reservations ≡ length D.farm.reservations =
+    sym (length_changed (is_dead E.farm.clock) expired E.farm.reservations) ∙ ap (λ (G : Drafted). length G.farm.reservations) is
+    ∙ length_changed (is_dead D.farm.clock) expired D.farm.reservations in
+    let few = length_passing (is_dead D.farm.clock) D.farm.reservations in
+    omega (arith, same, few)

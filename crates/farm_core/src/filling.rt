@@ -1,0 +1,66 @@
+//! The queues and the leases of rows that were read.
+ghost use Rattle.std.specs.Prelude.{◌≡◌, [], OnOk};
+ghost use Rattle.std.specs.List.Sorted.{IsStrictlySortedBy};
+ghost use Rattle.farm_types.specs.Table.{job_cmp, put};
+ghost use Rattle.farm_types.specs.Sound.{IsSound};
+ghost use Rattle.farm_pick.specs.Kept.{queued_cmp};
+ghost use Rattle.farm_pick.specs.Queued.{lists_of};
+ghost use Rattle.farm_core.specs.Drafted.{IsFresh};
+ghost use Rattle.farm_core.specs.Following.{kind_in};
+ghost use Rattle.farm_core.specs.Leases.{AreNoted};
+ghost use Rattle.farm_core.specs.Plain.{plain};
+
+use crate::follow::note_boards;
+use crate::leases::note_leases;
+use crate::tables::Tables;
+use farm_pick::Queues;
+use farm_sound::seek;
+use farm_types::claims::{Claim, ClaimKind};
+use farm_types::rows::JobRow;
+use std::alloc::AllocError;
+
+/// Puts a claim into its queue: that of its first member's type, or of the reservations.
+fn put_waiting(queues: &mut Queues, jobs: &[JobRow], claim: Claim) -> Result<(), AllocError>
+    requires ordered { IsStrictlySortedBy job_cmp jobs.now }
+    requires fresh { IsFresh claim.number queues.old.claims }
+    ensures { OnOk result (queues.new ≡ record queues.old {
+      claims = put queued_cmp queues.old.claims
+          (record { claim = claim; kind = kind_in jobs.now claim });
+    }) }
+{
+    match claim.kind {
+        ClaimKind::Reservation => queues.put_claim(claim, &None),
+        ClaimKind::Group => match seek::job_of(jobs, claim.number) {
+            Some(job) => queues.put_claim(claim, &job.want.kind),
+            None => queues.put_claim(claim, &None),
+        },
+    }
+}
+
+impl Tables {
+    /// Fills the empty queues: the free boards, and the claims of the rows, the last one first. With
+    /// J jobs, R reservations and C claims it costs O(J + R + C log C).
+    pub fn fill_queues(&mut self) -> Result<(), AllocError>
+        requires sound { IsSound (plain self.old) }
+        requires empty { self.old.queues ≡ record { claims = []; boards = [] } }
+        ensures farm { plain self.new ≡ plain self.old }
+        ensures queues { OnOk result (self.new.queues ≡ lists_of (plain self.old)) }
+    {
+        note_boards(&mut self.queues, &self.types, &self.boards)?;
+        let alloc = *self.jobs.allocator();
+        let mut claims = farm_pick::queue_of(alloc, &self.jobs, &self.reservations)?;
+        while let Some(claim) = claims.pop() {
+            put_waiting(&mut self.queues, &self.jobs, claim)?;
+        }
+        Ok(())
+    }
+
+    /// Notes the leases of the rows. With R reservations, of which L may end, it costs O(R + L log L).
+    pub fn fill_leases(&mut self) -> Result<(), AllocError>
+        ensures farm { plain self.new ≡ plain self.old }
+        ensures queues { self.new.queues ≡ self.old.queues }
+        ensures leases { OnOk result (AreNoted self.new.leases (plain self.new).reservations) }
+    {
+        note_leases(&mut self.leases, &self.reservations)
+    }
+}

@@ -1,0 +1,87 @@
+//! The queues follow the rows: which boards are free, and which claims were given boards.
+ghost use Rattle.std.specs.Prelude.{◌≡◌, ◌==◌, not, map, OnOk, IfOk};
+ghost use Rattle.std.specs.List.{filter, fold, list_any};
+ghost use Rattle.std.specs.List.Sorted.{IsStrictlySortedBy};
+ghost use Rattle.farm_types.specs.Table.{board_cmp};
+ghost use Rattle.farm_pick.specs.Queued.{idle_boards};
+ghost use Rattle.farm_core.specs.Following.{free_of, noted, without_boards};
+
+use crate::draft::Draft;
+use farm_pick::Queues;
+use farm_types::rows::{BoardRow, TypeRow};
+use farm_types::words::Name;
+use std::alloc::AllocError;
+
+/// A board stands among the free ones exactly where its row says that it is free.
+fn note_board(queues: &mut Queues, types: &[TypeRow], row: &BoardRow) -> Result<(), AllocError>
+    ensures { OnOk result (queues.new ≡ record queues.old {
+      boards = noted types.now queues.old.boards row.now;
+    }) }
+{
+    if farm_pick::is_free(types, row) {
+        queues.put_board(row.name.copy()?, &row.kind)
+    } else {
+        queues.take_board(&row.name);
+        Ok(())
+    }
+}
+
+/// The free boards follow some rows, one after the other. With B free boards each costs a binary
+/// search and a move of those behind it.
+pub fn note_boards(
+    queues: &mut Queues,
+    types: &[TypeRow],
+    rows: &[BoardRow],
+) -> Result<(), AllocError>
+    ensures { OnOk result (queues.new ≡ record queues.old {
+      boards = fold (noted types.now) queues.old.boards rows.now;
+    }) }
+{
+    for row in rows {
+        note_board(queues, types, row)?;
+    }
+    Ok(())
+}
+
+/// Some boards are free no more.
+fn take_boards(queues: &mut Queues, names: &[Name])
+    ensures { queues.new ≡ record queues.old {
+      boards = without_boards names.now queues.old.boards;
+    } }
+{
+    for name in names {
+        queues.take_board(name);
+    }
+}
+
+impl Draft {
+    /// The free boards follow the boards that have changed since the start.
+    pub fn follow_boards(mut self) -> Result<Draft, AllocError>
+        requires ordered { IsStrictlySortedBy board_cmp self.start.boards }
+        requires free { self.queues.boards ≡ free_of self.farm.types self.start.boards }
+        ensures { IfOk result (λ d. d ≡ record self {
+          queues = record self.queues { boards = idle_boards self.farm };
+        }) }
+    {
+        note_boards(
+            &mut self.tables.queues,
+            &self.tables.types,
+            &self.changes.boards,
+        )?;
+        Ok(self)
+    }
+
+    /// The claim of a number was given boards: it waits no more, and they are free no more.
+    pub fn take_given(mut self, number: u64, names: &[Name]) -> Draft
+        ensures { result ≡ record self {
+          queues = record {
+            claims = filter (λ x. not (x.claim.number == number)) self.queues.claims;
+            boards = without_boards names.now self.queues.boards;
+          };
+        } }
+    {
+        self.tables.queues.take_claim(number);
+        take_boards(&mut self.tables.queues, names);
+        self
+    }
+}

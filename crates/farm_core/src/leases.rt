@@ -1,0 +1,89 @@
+//! The leases, in the order in which they end.
+ghost use Rattle.std.specs.Prelude.{◌≡◌, false, true, OnOk, IfSome, IfNone};
+ghost use Rattle.std.specs.List.{AllByRecursion};
+ghost use Rattle.std.specs.List.Sorted.{IsStrictlySortedBy};
+ghost use Rattle.farm_types.specs.Pass.{is_dead};
+ghost use Rattle.farm_types.specs.Table.{res_cmp};
+ghost use Rattle.farm_core.specs.Leases.{may_end, is_dead_at, IsNoted, AreNoted, Grows};
+
+use crate::res_edit::is_dead;
+use farm_sound::seek;
+use farm_types::rows::{ResRow, ResState};
+use std::alloc::AllocError;
+use std::collections::BTreeSet;
+
+/// A lease: its deadline, a moment in seconds since 1970, and the number of its reservation.
+#[derive(Clone, Copy, Debug, PartialEq, Eq, PartialOrd, Ord)]
+pub struct Lease {
+    pub deadline: u64,
+    pub number: u64,
+}
+
+/// Whether a reservation waits or has been allocated, so that it is dead once its lease is over.
+fn may_end(row: &ResRow) -> bool
+    ensures { result ≡ may_end row.now }
+{
+    matches!(row.state, ResState::Waiting | ResState::Allocated)
+}
+
+/// Notes the lease of a reservation, if it may end. With L leases it costs O(log L).
+pub fn note_lease(leases: &mut BTreeSet<Lease>, row: &ResRow) -> Result<(), AllocError>
+    ensures noted { OnOk result (IsNoted leases.new row.now) }
+    ensures grows { OnOk result (Grows leases.old leases.new) }
+{
+    if may_end(row) {
+        let lease = Lease {
+            deadline: row.deadline,
+            number: row.number,
+        };
+        let _added = leases.insert(lease)?;
+    }
+    Ok(())
+}
+
+/// Notes the leases of some reservations.
+pub fn note_leases(leases: &mut BTreeSet<Lease>, rows: &[ResRow]) -> Result<(), AllocError>
+    ensures noted { OnOk result (AreNoted leases.new rows.now) }
+    ensures grows { OnOk result (Grows leases.old leases.new) }
+{
+    for row in rows {
+        note_lease(leases, row)?;
+    }
+    Ok(())
+}
+
+/// Whether the reservation of a number is dead, by binary search.
+fn is_dead_at(reservations: &[ResRow], number: u64, now: u64) -> bool
+    requires { IsStrictlySortedBy res_cmp reservations.now }
+    ensures { result ≡ is_dead_at now reservations.now number }
+{
+    match seek::res_of(reservations, number) {
+        None => false,
+        Some(row) => is_dead(now, row),
+    }
+}
+
+/// The number of a reservation that is dead, if there is one: that of the first lease that is over,
+/// where it is still its reservation's. Those that aren't, since the reservation was refreshed or
+/// has ended, are forgotten on the way.
+///
+/// With R reservations and L leases each lease that is forgotten costs O(log R + log L).
+pub fn first_dead(leases: &mut BTreeSet<Lease>, reservations: &[ResRow], now: u64) -> Option<u64>
+    requires ordered { IsStrictlySortedBy res_cmp reservations.now }
+    requires noted { AreNoted leases.old reservations.now }
+    ensures noted { AreNoted leases.new reservations.now }
+    ensures dead { IfSome result (λ number. is_dead_at now reservations.now number ≡ true) }
+    ensures none { IfNone result (AllByRecursion (λ r. is_dead now r ≡ false) reservations.now) }
+{
+    while let Some(lease) = leases.first() {
+        let Lease { deadline, number } = *lease;
+        if deadline > now {
+            return None;
+        }
+        if is_dead_at(reservations, number, now) {
+            return Some(number);
+        }
+        let _over = leases.pop_first();
+    }
+    None
+}

@@ -1,0 +1,92 @@
+-- The checks of a pass take no place in the queue.
+use Rattle.std.proofs.Common.{◌&&◌, ◌++◌, ◌+◌, ◌<◌, ◌==◌, ◌∙◌, ◌∷◌, ◌≡◌, ◌≤◌, Bool, List, ap, arith, cond, false, inr, map, refl, subst, sym, true, ℕ, []}
+use Rattle.std.specs.Cmp.{nat_cmp_is}
+use Rattle.std.specs.List.{AllByRecursion, filter, fold}
+use Rattle.std.specs.Str.{bytes_eq}
+use Rattle.std.specs.declared.cmp.Ordering.TheVariants.{Greater}
+use Rattle.std.proofs.Math.Bool.{and-false}
+use Rattle.std.proofs.lemmas.List.{append-nil, append_assoc}
+use Rattle.farm_types.specs.Farm.{Farm}
+use Rattle.farm_types.specs.Pass.{check_job, check_one, checks, has_room, held, is_due}
+use Rattle.farm_types.specs.Pick.{Among, claim_cmp, claims, group_claim, leads_claim, queue}
+use Rattle.farm_types.specs.Sound.{IsSound}
+use Rattle.farm_types.specs.Table.{change_where, job_cmp, put, put_all}
+use Rattle.farm_types.specs.declared.rows.BoardRow.{BoardRow}
+use Rattle.farm_types.specs.declared.rows.Holder.{Holder}
+use Rattle.farm_types.specs.declared.rows.JobRow.{JobRow}
+use Rattle.farm_types.specs.declared.rows.State.{State}
+use Rattle.farm_types.proofs.Put.{AllByRecursion-weaker}
+use Rattle.farm_sound.proofs.Lists.{all_join, none_pass}
+use Rattle.farm_sound.proofs.Own.{differs_more, itself}
+use Rattle.farm_sound.proofs.Where.{AllByRecursion-both}
+use Rattle.farm_pick.specs.Queue.{is_submitted}
+use Rattle.farm_pick.proofs.Adding.{claims_added, put_behind}
+use Rattle.farm_pick.proofs.Taking.{among_itself, one_fails}
+
+abbrev AreBelow : ℕ → List JobRow → Type 0
+AreBelow n jobs = AllByRecursion (λ j. j.number < n) jobs
+
+-- a job of a new group that doesn't wait
+abbrev IsNew : ℕ → JobRow → Type 0
+IsNew n j = (n ≤ j.group) × (is_submitted j ≡ false)
+
+-- some such jobs are added
+record Checks (F G : Farm) : Type 0 where
+  pub new : List JobRow
+  pub jobs : G.jobs ≡ F.jobs ++ new
+  pub reservations : G.reservations ≡ F.reservations
+  pub are : AllByRecursion (IsNew F.next) new
+
+check_all : (bs : List BoardRow) (F : Farm) → AreBelow F.next F.jobs → Checks F (fold check_one F bs)
+check_all [] F below = record { new = []; jobs = sym (append-nil F.jobs); reservations = refl; are = tt }
+check_all (b ∷ bs) F below = by (has_room F 1) (λ G low. check_all bs G low)
+  where
+    by : (v : Bool) → ((G : Farm) → AreBelow G.next G.jobs → Checks G (fold check_one G bs))
+        → Checks F (fold check_one (cond v (record F {
+          jobs = put job_cmp F.jobs (check_job F.next b);
+          boards = change_where (λ c. bytes_eq c.name b.name) (held (Holder.Job F.next) State.Reserved) F.boards;
+          next = F.next + 1;
+        }) F) bs)
+    by false rest = rest F below
+    by true rest =
+        let behind : put job_cmp F.jobs (check_job F.next b) ≡ F.jobs ++ check_job F.next b ∷ [] =
+        put_behind job_cmp (check_job F.next b) F.jobs
+        (AllByRecursion-weaker (λ j low. sym (nat_cmp_is F.next j.number Greater low)) F.jobs below) in
+        let is = rest (record F {
+          jobs = put job_cmp F.jobs (check_job F.next b);
+          boards = change_where (λ c. bytes_eq c.name b.name) (held (Holder.Job F.next) State.Reserved) F.boards;
+          next = F.next + 1;
+        })
+        (subst (AreBelow (F.next + 1)) (sym behind)
+        (all_join (λ j. j.number < F.next + 1) F.jobs (check_job F.next b ∷ []) (AllByRecursion-weaker (λ j low. omega arith) F.jobs below) (omega arith, tt))) in
+        record {
+          new = check_job F.next b ∷ is.new;
+          jobs = is.jobs ∙ ap (λ js. js ++ is.new) behind ∙ append_assoc F.jobs (check_job F.next b ∷ []) is.new;
+          reservations = is.reservations;
+          are = ((omega arith, refl), AllByRecursion-weaker (λ j two. (omega (arith, two.0), two.1)) is.new is.are);
+        }
+
+among_behind : {A : Type 0} (x : A) (xs ys : List A) → Among x ys → Among x (xs ++ ys)
+among_behind x [] ys at = at
+among_behind x (y ∷ xs) ys at = inr (among_behind x xs ys at)
+
+-- a job that doesn't wait leads no claim
+leads_none : (G : Farm) (j : JobRow) → Among j G.jobs → is_submitted j ≡ false → leads_claim G j ≡ false
+leads_none G j at is = ap (λ v. (j.number == j.group) && v) (one_fails (λ r. r.group == j.group) is_submitted j G.jobs at (itself j.group) is)
+    ∙ and-false (j.number == j.group)
+
+claims_checked : (F G : Farm) → IsSound F → Checks F G → claims G ≡ claims F
+claims_checked F G sound is =
+    claims_added F G is.new is.jobs is.reservations
+    (AllByRecursion-weaker (λ j row. AllByRecursion-weaker (λ n two. differs_more n.group j.group (omega (arith, two.0, row.group.0, row.number.1))) is.new is.are)
+    F.jobs sound.steady.jobs)
+    ∙ ap (λ js. claims F ++ map (group_claim G) js)
+    (none_pass (leads_claim G) is.new
+    (AllByRecursion-weaker (λ n two. leads_none G n (subst (Among n) (sym is.jobs) (among_behind n F.jobs is.new two.0)) two.1.1) is.new
+    (AllByRecursion-both (λ n. Among n is.new) (IsNew F.next) is.new (among_itself is.new) is.are)))
+    ∙ append-nil (claims F)
+
+pub checks_follow : (F : Farm) → IsSound F → queue (checks F F.clock) ≡ queue F
+checks_follow F sound =
+    ap (put_all claim_cmp []) (claims_checked F (checks F F.clock) sound
+    (check_all (filter (is_due F F.clock) F.boards) F (AllByRecursion-weaker (λ j row. row.number.1) F.jobs sound.steady.jobs)))

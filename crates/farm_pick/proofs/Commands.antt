@@ -1,0 +1,320 @@
+-- What each command leaves of the queue.
+use Rattle.std.proofs.Common.{◌&&◌, ◌+◌, ◌==◌, ◌||◌, ◌∙◌, ◌∷◌, ◌≡◌, ◌≢◌, ◌≤◌, Bool, List, None, Option, Some, ap, arith, cond, false, is_none, is_some, length, nat_le, not, refl, sym, true, ℕ, []}
+use Rattle.std.specs.List.{AllByRecursion, list_all}
+use Rattle.std.specs.Option.{option_map_or}
+use Rattle.std.specs.Str.{bytes_eq, is_utf8}
+use Rattle.std.proofs.Math.Bool.{and-false, and-true}
+use Rattle.std.proofs.lemmas.Bool.Decides.{nat_tests}
+use Rattle.std.proofs.lemmas.Simd.{map-map}
+use Rattle.farm_types.specs.Change.{act, after_check, after_job, cancel_group, done, finish_one, in_state, is_unstarted, moved, new_res, start_group}
+use Rattle.farm_types.specs.Codes.{same_job_state, same_res_state}
+use Rattle.farm_types.specs.Farm.{Farm, board_of, job_of, put_board, res_of}
+use Rattle.farm_types.specs.Pass.{change_jobs, change_res, idle, is_dead}
+use Rattle.farm_types.specs.Pick.{is_waiting, queue, res_claim}
+use Rattle.farm_types.specs.Proper.{is_priority, is_proper_cmd, is_want}
+use Rattle.farm_types.specs.Refuse.{first_code, is_alive, moment, own_refusal, owned_by, reasons, refusal, res_is, res_reasons}
+use Rattle.farm_types.specs.Sound.{IsSound, phase}
+use Rattle.farm_types.specs.Words.{is_word}
+use Rattle.farm_types.specs.declared.calls.Call.{Call}
+use Rattle.farm_types.specs.declared.calls.Cmd.{Cmd}
+use Rattle.farm_types.specs.declared.rows.BoardRow.{BoardRow}
+use Rattle.farm_types.specs.declared.rows.JobRow.{JobRow}
+use Rattle.farm_types.specs.declared.rows.JobState.{JobState}
+use Rattle.farm_types.specs.declared.rows.Outcome.{Outcome}
+use Rattle.farm_types.specs.declared.rows.ResRow.{ResRow}
+use Rattle.farm_types.specs.declared.rows.ResState.{ResState}
+use Rattle.farm_types.specs.declared.rows.State.{State}
+use Rattle.farm_types.specs.declared.rows.Want.{Want}
+use Rattle.farm_types.proofs.Put.{AllByRecursion-weaker, found_has, found_passes}
+use Rattle.farm_sound.proofs.Answered.{unrefused}
+use Rattle.farm_sound.proofs.Clear.{first_clear, passes, some_of}
+use Rattle.farm_sound.proofs.Jobs.{IsSound-cancel}
+use Rattle.farm_sound.proofs.Own.{only_job, only_res}
+use Rattle.farm_sound.proofs.Reservations.{IsSound-cancel_res}
+use Rattle.farm_sound.proofs.Step.{IsSound-moved_to}
+use Rattle.farm_sound.proofs.Tests.{acquired_from, allocated_from, both, same_number, scheduled_from, started_from}
+use Rattle.farm_sound.proofs.Where.{all_true, by_cases, map_id}
+use Rattle.farm_sound.proofs.Whole.{Alike}
+use Rattle.farm_pick.specs.Follow.{queue_after, without}
+use Rattle.farm_pick.specs.Queue.{is_submitted}
+use Rattle.farm_pick.proofs.Groups.{groups_differ, reservations_differ}
+use Rattle.farm_pick.proofs.Putting.{reserve_puts, submit_puts}
+use Rattle.farm_pick.proofs.Taking.{SameClaim, and_other, other, queue_stays, queue_takes, same_claim, same_then}
+
+-- ---- states
+
+-- a job waits for boards in its first phase
+waits_by_phase : (s : JobState) → same_job_state s JobState.Submitted ≡ (phase s == 0)
+waits_by_phase JobState.Submitted = refl
+waits_by_phase JobState.Scheduled = refl
+waits_by_phase JobState.Running = refl
+waits_by_phase JobState.Canceling = refl
+waits_by_phase JobState.Finished = refl
+
+-- of a group that is canceled none waits after the first step, and the second changes nothing of that
+waits_ended : (v : Bool) (s : JobState)
+    → cond (v && (same_job_state s JobState.Submitted || same_job_state s JobState.Scheduled)) false (same_job_state s JobState.Submitted)
+    ≡ (same_job_state s JobState.Submitted && not v)
+waits_ended true JobState.Submitted = refl
+waits_ended true JobState.Scheduled = refl
+waits_ended true JobState.Running = refl
+waits_ended true JobState.Canceling = refl
+waits_ended true JobState.Finished = refl
+waits_ended false s = sym (and-true (same_job_state s JobState.Submitted))
+
+waits_still : (v : Bool) (s : JobState)
+    → cond (v && same_job_state s JobState.Running) false (same_job_state s JobState.Submitted) ≡ same_job_state s JobState.Submitted
+waits_still true JobState.Submitted = refl
+waits_still true JobState.Scheduled = refl
+waits_still true JobState.Running = refl
+waits_still true JobState.Canceling = refl
+waits_still true JobState.Finished = refl
+waits_still false s = refl
+
+-- ---- rows that wait as before
+
+module _ (F : Farm) where
+  jobs_stay : (test : JobRow → Bool) (f : JobRow → JobRow) (g : BoardRow → BoardRow) → ((j : JobRow) → SameClaim j (f j))
+      → AllByRecursion (λ j. test j ≡ true → is_submitted (f j) ≡ is_submitted j) F.jobs → queue (change_jobs test f g F) ≡ queue F
+  jobs_stay test f g same stay = queue_stays F (change_jobs test f g F) (λ j. cond (test j) (f j) j) (λ r. r)
+      (record {
+        jobs = refl;
+        reservations = sym (map_id F.reservations);
+        same_job = λ j. by_cases (SameClaim j) (test j) (f j) j (λ _. same j) (λ _. same_claim j);
+        same_res = λ r. refl;
+        submitted = AllByRecursion-weaker (λ j stays. by_cases (λ k. is_submitted k ≡ (is_submitted j && true)) (test j) (f j) j
+            (λ so. stays so ∙ sym (and-true (is_submitted j))) (λ _. sym (and-true (is_submitted j)))) F.jobs stay;
+        waiting = AllByRecursion-weaker (λ r _. sym (and-true (is_waiting r))) F.reservations (all_true F.reservations);
+      })
+
+  reservations_stay : (test : ResRow → Bool) (f : ResRow → ResRow) (g : BoardRow → BoardRow) → ((r : ResRow) → res_claim (f r) ≡ res_claim r)
+      → AllByRecursion (λ r. test r ≡ true → is_waiting (f r) ≡ is_waiting r) F.reservations → queue (change_res test f g F) ≡ queue F
+  reservations_stay test f g same stay = queue_stays F (change_res test f g F) (λ j. j) (λ r. cond (test r) (f r) r)
+      (record {
+        jobs = sym (map_id F.jobs);
+        reservations = refl;
+        same_job = same_claim;
+        same_res = λ r. by_cases (λ q. res_claim q ≡ res_claim r) (test r) (f r) r (λ _. same r) (λ _. refl);
+        submitted = AllByRecursion-weaker (λ j _. sym (and-true (is_submitted j))) F.jobs (all_true F.jobs);
+        waiting = AllByRecursion-weaker (λ r stays. by_cases (λ q. is_waiting q ≡ (is_waiting r && true)) (test r) (f r) r
+            (λ so. stays so ∙ sym (and-true (is_waiting r))) (λ _. sym (and-true (is_waiting r)))) F.reservations stay;
+      })
+
+module _ (F : Farm) (sound : IsSound F) where
+  -- ---- jobs
+
+  start_follows : (n : ℕ) (j : JobRow) → job_of F n ≡ Some j → j.state ≡ JobState.Scheduled → queue (start_group j.group F) ≡ queue F
+  start_follows n j there ready =
+      jobs_stay F (λ m. m.group == j.group) (λ m. record m { state = JobState.Running }) (in_state State.Running)
+      (λ m. record { number = refl; group = refl; owner = refl; priority = refl; want = refl })
+      (AllByRecursion-weaker
+      (λ m alike so. sym (waits_by_phase m.state ∙ ap (λ p. p == 0) (alike (same_number m.group j.group so)) ∙ ap (λ s. phase s == 0) ready)) F.jobs
+      (found_has (λ k. AllByRecursion (Alike k) F.jobs) (λ r. r.number == n) j F.jobs sound.whole there))
+
+  finish_follows : (n t : ℕ) (j : JobRow) (named : Outcome) → job_of F n ≡ Some j → phase j.state ≡ 2 → queue (finish_one t named F j) ≡ queue F
+  finish_follows n t j named there started =
+      let outcome : Outcome = cond (same_job_state j.state JobState.Canceling) Outcome.Canceled named in
+      let at : j.number ≡ n = same_number j.number n (found_passes (λ (r : JobRow). r.number == n) j F.jobs there) in
+      jobs_stay F (λ m. m.number == j.number) (λ m. record m { state = JobState.Finished; outcome = Some outcome })
+      (λ b. idle (cond j.checking (after_check outcome t b) (after_job outcome b)))
+      (λ m. record { number = refl; group = refl; owner = refl; priority = refl; want = refl })
+      (AllByRecursion-weaker
+      (λ m only so. sym (ap is_submitted (only (same_number m.number j.number so ∙ at)) ∙ waits_by_phase j.state ∙ ap (λ p. p == 0) started))
+      F.jobs (only_job F sound.steady n j there))
+
+  -- the two steps of a canceled group, at one job
+  abbrev ended : ℕ → JobRow → JobRow
+  ended g m = cond ((m.group == g) && is_unstarted m) (record m { state = JobState.Finished; outcome = Some Outcome.Canceled }) m
+
+  abbrev stopped : ℕ → JobRow → JobRow
+  stopped g m = cond ((m.group == g) && same_job_state m.state JobState.Running) (record m { state = JobState.Canceling }) m
+
+  ended_same : (g : ℕ) (m : JobRow) → SameClaim m (ended g m)
+  ended_same g m = by_cases (SameClaim m) ((m.group == g) && is_unstarted m) (record m { state = JobState.Finished; outcome = Some Outcome.Canceled }) m
+      (λ _. record { number = refl; group = refl; owner = refl; priority = refl; want = refl }) (λ _. same_claim m)
+
+  stopped_same : (g : ℕ) (m : JobRow) → SameClaim m (stopped g m)
+  stopped_same g m = by_cases (SameClaim m) ((m.group == g) && same_job_state m.state JobState.Running) (record m { state = JobState.Canceling }) m
+      (λ _. record { number = refl; group = refl; owner = refl; priority = refl; want = refl }) (λ _. same_claim m)
+
+  waits_in : (v : Bool) (k m : JobRow) → is_submitted k ≡ false → is_submitted (cond v k m) ≡ cond v false (is_submitted m)
+  waits_in true k m is = is
+  waits_in false k m is = refl
+
+  canceled_waits : (g : ℕ) (m : JobRow) → is_submitted (stopped g (ended g m)) ≡ (is_submitted m && other g m.group)
+  canceled_waits g m =
+      let k : JobRow = ended g m in
+      waits_in ((k.group == g) && same_job_state k.state JobState.Running) (record k { state = JobState.Canceling }) k refl
+      ∙ waits_still (k.group == g) k.state
+      ∙ waits_in ((m.group == g) && is_unstarted m) (record m { state = JobState.Finished; outcome = Some Outcome.Canceled }) m refl
+      ∙ waits_ended (m.group == g) m.state
+
+  cancel_follows : (n : ℕ) (j : JobRow) → job_of F n ≡ Some j → queue (cancel_group j.group F) ≡ without j.group (queue F)
+  cancel_follows n j there =
+      queue_takes F (cancel_group j.group F) (other j.group) (λ m. stopped j.group (ended j.group m)) (λ r. r)
+      (record {
+        jobs = map-map (stopped j.group) (ended j.group) F.jobs;
+        reservations = sym (map_id F.reservations);
+        same_job = λ m. same_then m (ended j.group m) (stopped j.group (ended j.group m)) (ended_same j.group m) (stopped_same j.group (ended j.group m));
+        same_res = λ r. refl;
+        submitted = AllByRecursion-weaker (λ m _. canceled_waits j.group m) F.jobs (all_true F.jobs);
+        waiting = AllByRecursion-weaker (λ r differs. and_other (is_waiting r) r.number j.group differs) F.reservations
+            (reservations_differ F sound.steady n j there);
+      })
+      sound.steady (IsSound-cancel F j.group sound).steady
+
+  cancel_by : (n : ℕ) (o : Option JobRow) → job_of F n ≡ o
+      → queue (option_map_or (λ j. done j.group (cancel_group j.group F)) o (done 0 F)).farm ≡ option_map_or (λ j. without j.group (queue F)) o (queue F)
+  cancel_by n None there = refl
+  cancel_by n (Some j) there = cancel_follows n j there
+
+  -- ---- reservations
+
+  -- one that didn't wait, and doesn't
+  moved_follows : (n : ℕ) (r : ResRow) (f : ResRow → ResRow) (g : BoardRow → BoardRow) → res_of F n ≡ Some r → is_waiting r ≡ false
+      → ((q : ResRow) → res_claim (f q) ≡ res_claim q) → ((q : ResRow) → is_waiting (f q) ≡ false) → queue (change_res (λ q. q.number == n) f g F) ≡ queue F
+  moved_follows n r f g there was same now =
+      reservations_stay F (λ q. q.number == n) f g same
+      (AllByRecursion-weaker (λ q only so. now q ∙ sym (ap is_waiting (only (same_number q.number n so)) ∙ was)) F.reservations (only_res F sound.steady n r there))
+
+  refresh_follows : (n d : ℕ) → queue (change_res (λ r. r.number == n) (λ r. record r { deadline = d }) (λ b. b) F) ≡ queue F
+  refresh_follows n d = reservations_stay F (λ r. r.number == n) (λ r. record r { deadline = d }) (λ b. b) (λ r. refl)
+      (AllByRecursion-weaker (λ r _ so. refl) F.reservations (all_true F.reservations))
+
+  cancel_res_follows : (n : ℕ) (r : ResRow) → res_of F n ≡ Some r
+      → queue (change_res (λ q. q.number == n) (λ q. record q { state = ResState.Canceled }) idle F) ≡ without n (queue F)
+  cancel_res_follows n r there =
+      queue_takes F (change_res (λ q. q.number == n) (λ q. record q { state = ResState.Canceled }) idle F) (other n) (λ j. j)
+      (λ q. cond (q.number == n) (record q { state = ResState.Canceled }) q)
+      (record {
+        jobs = sym (map_id F.jobs);
+        reservations = refl;
+        same_job = same_claim;
+        same_res = λ q. by_cases (λ p. res_claim p ≡ res_claim q) (q.number == n) (record q { state = ResState.Canceled }) q (λ _. refl) (λ _. refl);
+        submitted = AllByRecursion-weaker (λ j differs. and_other (is_submitted j) j.group n differs) F.jobs (groups_differ F sound.steady n r there);
+        waiting = AllByRecursion-weaker (λ q _. waits q (q.number == n)) F.reservations (all_true F.reservations);
+      })
+      sound.steady (IsSound-cancel_res F n sound).steady
+    where
+      waits : (q : ResRow) (v : Bool) → is_waiting (cond v (record q { state = ResState.Canceled }) q) ≡ (is_waiting q && not v)
+      waits q true = sym (and-false (is_waiting q))
+      waits q false = sym (and-true (is_waiting q))
+
+-- ---- each command
+
+-- the reservation of one of the four commands is there, and in a right state
+right_res : (F : Farm) (t n : ℕ) (mine right : ResRow → Bool) → first_code (res_reasons F t n mine right) ≡ None
+    → (r : ResRow) × (res_of F n ≡ Some r) × (right r ≡ true)
+right_res F t n mine right is =
+    let late = res_is F n (λ r. same_res_state r.state ResState.Expired || is_dead t r) in
+    let there = first_clear (is_none (res_of F n)) 30 ((not (res_is F n mine), 3) ∷ (late, 31) ∷ (not (res_is F n right), 32) ∷ []) is in
+    let owned = first_clear (not (res_is F n mine)) 3 ((late, 31) ∷ (not (res_is F n right), 32) ∷ []) there.1 in
+    let alive = first_clear late 31 ((not (res_is F n right), 32) ∷ []) owned.1 in
+    let r = some_of (res_of F n) there.0 in
+    (r.0, r.1, passes right (res_of F n) r.0 r.1 (first_clear (not (res_is F n right)) 32 [] alive.1).0)
+
+-- the job of Start or Finish is there, and in a right state
+right_job : (F : Farm) (n : ℕ) (right : JobRow → Bool)
+    → first_code ((is_none (job_of F n), 20) ∷ (not (option_map_or right (job_of F n) false), 21) ∷ []) ≡ None
+    → (j : JobRow) × (job_of F n ≡ Some j) × (right j ≡ true)
+right_job F n right is =
+    let wrong = not (option_map_or right (job_of F n) false) in
+    let there = first_clear (is_none (job_of F n)) 20 ((wrong, 21) ∷ []) is in
+    let j = some_of (job_of F n) there.0 in
+    (j.0, j.1, passes right (job_of F n) j.0 j.1 (first_clear wrong 21 [] there.1).0)
+
+-- a proper group has some wants, and as many roles
+proper_group : (priority : ℕ) (wants : List Want) (roles : List (Option (List ℕ))) (body : List ℕ) → is_proper_cmd (Cmd.Submit priority wants roles body) ≡ true
+    → (1 ≤ length wants) × (length roles ≡ length wants)
+unfolding is_proper_cmd
+proper_group priority wants roles body is =
+    let first = is_priority priority && nat_le 1 (length wants) in
+    let second = first && nat_le (length wants) 4 in
+    let third = second && list_all (λ (w : Want). is_some w.kind && is_want w) wants in
+    let fourth = third && (length roles == length wants) in
+    let fifth = fourth && list_all (λ (r : Option (List ℕ)). option_map_or (is_word 48) r true) roles in
+    let p7 = both (fifth && nat_le (length body) 65536) (is_utf8 body) is in
+    let p6 = both fifth (nat_le (length body) 65536) p7.0 in
+    let p5 = both fourth (list_all (λ (r : Option (List ℕ)). option_map_or (is_word 48) r true) roles) p6.0 in
+    let p4 = both third (length roles == length wants) p5.0 in
+    let p3 = both second (list_all (λ (w : Want). is_some w.kind && is_want w) wants) p4.0 in
+    let p2 = both first (nat_le (length wants) 4) p3.0 in
+    let p1 = both (is_priority priority) (nat_le 1 (length wants)) p2.0 in
+    ((let e = p1.1 in grind (arith, nat_tests)), same_number (length roles) (length wants) p4.1)
+
+module _ (F : Farm) (t : ℕ) (caller : List ℕ) (sound : IsSound F) where
+  board_by : (f : BoardRow → BoardRow) (o : Option BoardRow) → queue (option_map_or (λ b. put_board F (f b)) o F) ≡ queue F
+  board_by f None = refl
+  board_by f (Some b) = refl
+
+  -- what a command leaves of the queue
+  abbrev Leaves : Cmd → Type 0
+  Leaves cmd = queue (act F caller cmd).farm ≡ queue_after F caller cmd
+
+  start_by : (n : ℕ) → first_code (reasons F t caller (Cmd.Start n)) ≡ None → Leaves (Cmd.Start n)
+  start_by n clear =
+      let j = right_job F n (λ j. same_job_state j.state JobState.Scheduled) clear in
+      ap (λ o. queue (option_map_or (λ j. done j.group (start_group j.group F)) o (done 0 F)).farm) j.1
+      ∙ start_follows F sound n j.0 j.1 (scheduled_from j.0.state j.2)
+
+  finish_by : (n : ℕ) (outcome : Outcome) → first_code (reasons F t caller (Cmd.Finish n outcome)) ≡ None → Leaves (Cmd.Finish n outcome)
+  finish_by n outcome clear =
+      let j = right_job F n (λ j. same_job_state j.state JobState.Running || same_job_state j.state JobState.Canceling) clear in
+      ap (λ o. queue (option_map_or (λ j. done n (finish_one F.clock outcome F j)) o (done 0 F)).farm) j.1
+      ∙ finish_follows F sound n F.clock j.0 outcome j.1 (started_from j.0.state j.2).0
+
+  acquire_by : (n : ℕ) → first_code (reasons F t caller (Cmd.Acquire n)) ≡ None → Leaves (Cmd.Acquire n)
+  acquire_by n clear =
+      let r = right_res F t n (λ r. bytes_eq caller r.owner) (λ r. same_res_state r.state ResState.Allocated) clear in
+      moved_follows F sound n r.0 (λ q. record q { state = ResState.Acquired }) (in_state State.Running) r.1
+      (ap (λ s. same_res_state s ResState.Waiting) (allocated_from r.0.state r.2)) (λ q. refl) (λ q. refl)
+
+  release_by : (n : ℕ) → first_code (reasons F t caller (Cmd.Release n)) ≡ None → Leaves (Cmd.Release n)
+  release_by n clear =
+      let r = right_res F t n (λ r. owned_by caller r.owner) (λ r. same_res_state r.state ResState.Acquired) clear in
+      moved_follows F sound n r.0 (λ q. record q { state = ResState.Allocated; deadline = F.clock + 60 }) (in_state State.Reserved) r.1
+      (ap (λ s. same_res_state s ResState.Waiting) (acquired_from r.0.state r.2)) (λ q. refl) (λ q. refl)
+
+  cancel_res_by : (n : ℕ) → first_code (reasons F t caller (Cmd.CancelRes n)) ≡ None → Leaves (Cmd.CancelRes n)
+  cancel_res_by n clear =
+      let r = right_res F t n (λ r. owned_by caller r.owner) is_alive clear in
+      cancel_res_follows F sound n r.0 r.1
+
+  -- a command that is proper and has no reason against it
+  command_follows : (cmd : Cmd) → is_proper_cmd cmd ≡ true → first_code (reasons F t caller cmd) ≡ None → cmd ≢ Cmd.Pass → Leaves cmd
+  command_follows (Cmd.AddType name check) proper clear command = refl
+  command_follows (Cmd.AddBoard name kind tags) proper clear command = refl
+  command_follows (Cmd.SetTags name tags) proper clear command = board_by (λ b. record b { tags = tags }) (board_of F name)
+  command_follows (Cmd.SetHealth name health) proper clear command = board_by (λ b. record b { health = health }) (board_of F name)
+  command_follows (Cmd.Submit priority wants roles body) proper clear command =
+      let is = proper_group priority wants roles body proper in
+      submit_puts F sound caller priority wants roles body is.0 is.1
+  command_follows (Cmd.Cancel n) proper clear command = cancel_by F sound n (job_of F n) refl
+  command_follows (Cmd.Start n) proper clear command = start_by n clear
+  command_follows (Cmd.Finish n outcome) proper clear command = finish_by n outcome clear
+  command_follows (Cmd.Reserve priority tags) proper clear command =
+      reserve_puts F sound (new_res F.next caller priority tags (F.clock + 60)) (F.next + 1) refl refl
+  command_follows (Cmd.Acquire n) proper clear command = acquire_by n clear
+  command_follows (Cmd.Release n) proper clear command = release_by n clear
+  command_follows (Cmd.Refresh n) proper clear command = refresh_follows F sound n (F.clock + 60)
+  command_follows (Cmd.CancelRes n) proper clear command = cancel_res_by n clear
+  command_follows Cmd.Pass proper clear command = absurd (command refl)
+
+-- ---- in a farm whose clock has moved
+
+-- the reasons are those of the farm before
+reasons_moved : (F : Farm) (clock t : ℕ) (caller : List ℕ) (cmd : Cmd) → first_code (reasons F t caller cmd) ≡ None
+    → first_code (reasons (record F { clock = clock }) t caller cmd) ≡ None
+reasons_moved F clock t caller Cmd.Pass is = is
+reasons_moved F clock t caller cmd is = is
+
+unreasoned : (F : Farm) (call : Call) → None ≡ refusal F call → first_code (reasons F (moment F call) call.caller call.cmd) ≡ None
+unfolding own_refusal
+unreasoned F call clear = (unrefused F call clear).own
+
+pub commands_follow : (F : Farm) (call : Call) → IsSound F → None ≡ refusal F call → call.cmd ≢ Cmd.Pass
+    → queue (act (moved F call) call.caller call.cmd).farm ≡ queue_after (moved F call) call.caller call.cmd
+commands_follow F call sound clear command =
+    command_follows (moved F call) (moment F call) call.caller (IsSound-moved_to F call clear sound) call.cmd
+    (both (is_word 48 call.caller && option_map_or (is_word 64) call.key true) (is_proper_cmd call.cmd) call.proper).1
+    (reasons_moved F (moment F call) (moment F call) call.caller call.cmd (unreasoned F call clear)) command

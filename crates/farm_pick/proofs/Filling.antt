@@ -1,0 +1,168 @@
+-- The queue as the queues show it while they are filled: what is put and taken, and which numbers stand there.
+use Rattle.std.proofs.Common.{◌+◌, ◌<◌, ◌==◌, ◌∙◌, ◌∷◌, ◌≡◌, ◌≤◌, Bool, IsNone, IsTrue, List, Some, add-one, ap, arith, cond, drop, false, get_or, inl, inr, length, map, refl, subst, suc, sym, true, zero, ℕ, []}
+use mathlib.Core.Bool.{true≢false}
+use Rattle.std.specs.Prelude.{nat_le}
+use Rattle.std.specs.List.{AllByRecursion, filter}
+use Rattle.std.specs.List.Sorted.{IsStrictlySortedBy}
+use Rattle.std.specs.Ordering.{match_ordering}
+use Rattle.std.specs.declared.cmp.Ordering.{Ordering}
+use Rattle.std.specs.declared.cmp.Ordering.TheVariants.{Equal, Greater, Less}
+use Rattle.std.proofs.lemmas.Bool.Decides.{nat_tests}
+use Rattle.std.proofs.lemmas.List.{drop_more}
+use Rattle.farm_types.specs.Farm.{Farm, job_of, res_of}
+use Rattle.farm_types.specs.Pick.{Claimed, claim_cmp, group_claim, queue, res_claim}
+use Rattle.farm_types.specs.Sound.{EachTwo, IsJobRow, IsResRow, IsSound, IsSteady}
+use Rattle.farm_types.specs.Table.{put}
+use Rattle.farm_types.specs.declared.rows.JobRow.{JobRow}
+use Rattle.farm_types.specs.declared.rows.ResRow.{ResRow}
+use Rattle.farm_types.proofs.Put.{AllByRecursion-weaker, found_has}
+use Rattle.farm_sound.proofs.Claims.{IsClaim, IsGroupClaim, IsResClaim, claim_total, leads, queue_claims, queue_sorted}
+use Rattle.farm_sound.proofs.Lists.{each_weaker, each_with}
+use Rattle.farm_sound.proofs.Where.{AllByRecursion-map}
+use Rattle.farm_pick.specs.Kept.{queued_cmp}
+use Rattle.farm_pick.specs.Queued.{Queued, queued}
+use Rattle.farm_pick.proofs.Ordered.{not_below_itself}
+
+-- ---- what is put and what is taken, as the queues show it
+
+-- a claim is put where its shown one is put
+pub queued_put : (q : List Claimed) (c : Claimed) → map queued (put claim_cmp q c) ≡ put queued_cmp (map queued q) (queued c)
+queued_put [] c = refl
+queued_put (r ∷ q) c = by (claim_cmp c r) (queued_put q c)
+  where
+    by : (o : Ordering) → map queued (put claim_cmp q c) ≡ put queued_cmp (map queued q) (queued c)
+        → map queued (match_ordering o (c ∷ r ∷ q) (c ∷ q) (r ∷ put claim_cmp q c))
+        ≡ match_ordering o (queued c ∷ queued r ∷ map queued q) (queued c ∷ map queued q) (queued r ∷ put queued_cmp (map queued q) (queued c))
+    by Less rest = refl
+    by Equal rest = refl
+    by Greater rest = ap (λ xs. queued r ∷ xs) rest
+
+-- claims that pass by their numbers are shown as the shown ones that pass
+pub queued_filter : (p : ℕ → Bool) (q : List Claimed) → map queued (filter (λ c. p c.number) q) ≡ filter (λ x. p x.claim.number) (map queued q)
+queued_filter p [] = refl
+queued_filter p (c ∷ q) = by (p c.number) (queued_filter p q)
+  where
+    by : (v : Bool) → map queued (filter (λ d. p d.number) q) ≡ filter (λ x. p x.claim.number) (map queued q)
+        → map queued (cond v (c ∷ filter (λ d. p d.number) q) (filter (λ d. p d.number) q))
+        ≡ cond v (queued c ∷ filter (λ x. p x.claim.number) (map queued q)) (filter (λ x. p x.claim.number) (map queued q))
+    by true rest = ap (λ xs. queued c ∷ xs) rest
+    by false rest = rest
+
+-- ---- what each claim's row says of it
+
+module _ (F : Farm) (steady : IsSteady F) where
+  res_row : (c : Claimed) (r : ResRow) → IsResClaim F c r → IsResRow F r
+  res_row c r is = found_has (IsResRow F) (λ q. q.number == r.number) r F.reservations steady.reservations is.0
+
+  job_row : (c : Claimed) (j : JobRow) → IsGroupClaim F c j → IsJobRow F j
+  job_row c j is = found_has (IsJobRow F) (λ k. k.number == j.number) j F.jobs steady.jobs is.0
+
+  number_low : (c : Claimed) → IsClaim F c → c.number < F.next
+  number_low c (inl (r, is)) =
+      let same : c.number ≡ r.number = ap (λ (d : Claimed). d.number) is.2 in
+      let row = res_row c r is in omega (arith, same, row.number.1)
+  number_low c (inr (j, is)) =
+      let same : c.number ≡ j.group = ap (λ (d : Claimed). d.number) is.2 in
+      let row = job_row c j is in omega (arith, same, row.group.0, row.number.1)
+
+  low_from : (n : ℕ) → IsTrue (nat_le n 100) → n ≤ 100
+  low_from n is = let low : nat_le n 100 ≡ true = is in grind (arith, nat_tests)
+
+  priority_low : (c : Claimed) → IsClaim F c → c.priority ≤ 100
+  priority_low c (inl (r, is)) =
+      let same : c.priority ≡ r.priority = ap (λ (d : Claimed). d.priority) is.2 in
+      let low = low_from r.priority (res_row c r is).priority in omega (arith, same, low)
+  priority_low c (inr (j, is)) =
+      let same : c.priority ≡ j.priority = ap (λ (d : Claimed). d.priority) is.2 in
+      let low = low_from j.priority (job_row c j is).priority in omega (arith, same, low)
+
+-- no claim has the next number
+pub fresh_next : (F : Farm) → IsSound F → AllByRecursion (λ c. c.number ≡ F.next → ⊥) (queue F)
+fresh_next F sound = AllByRecursion-weaker (λ c claim same. let low = number_low F sound.steady c claim in absurd (omega (arith, same, low)))
+    (queue F) (queue_claims F sound.steady)
+
+-- nor has one that is shown
+pub fresh_shown : (F : Farm) → IsSound F → AllByRecursion (λ (x : Queued). x.claim.number ≡ F.next → ⊥) (map queued (queue F))
+fresh_shown F sound = AllByRecursion-map (λ c. c.number ≡ F.next → ⊥) (λ (x : Queued). x.claim.number ≡ F.next → ⊥) queued (λ c fresh. fresh)
+    (queue F) (fresh_next F sound)
+
+-- each claim's priority is a priority
+pub low_priority : (F : Farm) → IsSound F → AllByRecursion (λ c. c.priority ≤ 100) (queue F)
+low_priority F sound = AllByRecursion-weaker (λ c claim. priority_low F sound.steady c claim) (queue F) (queue_claims F sound.steady)
+
+-- ---- claims of one number
+
+module _ (F : Farm) (steady : IsSteady F) where
+  -- a reservation and a group have different numbers
+  across : (c d : Claimed) (r : ResRow) (j : JobRow) → IsResClaim F c r → IsGroupClaim F d j → c.number ≡ d.number → ⊥
+  across c d r j one other same =
+      let at : r.number ≡ j.number =
+      sym (ap (λ (e : Claimed). e.number) one.2) ∙ same ∙ ap (λ (e : Claimed). e.number) other.2 ∙ sym (leads F j other.1).0 in
+      let there : res_of F j.number ≡ Some r = ap (res_of F) (sym at) ∙ one.0 in
+      true≢false (subst IsNone there (job_row F steady d j other).apart)
+
+  -- there is one claim of a number at most
+  one_claim : (c d : Claimed) → IsClaim F c → IsClaim F d → c.number ≡ d.number → c ≡ d
+  one_claim c d (inl (r, one)) (inl (s, other)) same =
+      let at : r.number ≡ s.number = sym (ap (λ (e : Claimed). e.number) one.2) ∙ same ∙ ap (λ (e : Claimed). e.number) other.2 in
+      let both : Some r ≡ Some s = sym one.0 ∙ ap (res_of F) at ∙ other.0 in
+      let row : r ≡ s = cc in
+      one.2 ∙ ap res_claim row ∙ sym other.2
+  one_claim c d (inl (r, one)) (inr (j, other)) same = absurd (across c d r j one other same)
+  one_claim c d (inr (j, one)) (inl (r, other)) same = absurd (across d c r j other one (sym same))
+  one_claim c d (inr (j, one)) (inr (k, other)) same =
+      let at : j.number ≡ k.number =
+      (leads F j one.1).0 ∙ sym (ap (λ (e : Claimed). e.number) one.2) ∙ same ∙ ap (λ (e : Claimed). e.number) other.2 ∙ sym (leads F k other.1).0 in
+      let both : Some j ≡ Some k = sym one.0 ∙ ap (job_of F) at ∙ other.0 in
+      let row : j ≡ k = cc in
+      one.2 ∙ ap (group_claim F) row ∙ sym other.2
+
+-- in a list in strict order each element is below each later one
+each_in_order : {R : Type 0} (cmp : R → R → Ordering) (xs : List R) → IsStrictlySortedBy cmp xs → EachTwo (λ a b. cmp a b ≡ Less) xs
+unfolding IsStrictlySortedBy
+each_in_order cmp [] sorted = tt
+each_in_order cmp (x ∷ xs) sorted = (sorted.0, each_in_order cmp xs sorted.1)
+
+-- no two claims of the queue have one number
+pub numbers_differ : (F : Farm) → IsSound F → EachTwo (λ a b. a.number ≡ b.number → ⊥) (queue F)
+numbers_differ F sound =
+    each_weaker (λ a b. (claim_cmp a b ≡ Less) × IsClaim F a × IsClaim F b) (λ a b. a.number ≡ b.number → ⊥)
+    (λ a b three same. not_below_itself claim_cmp claim_total a
+    (subst (λ d. claim_cmp a d ≡ Less) (sym (one_claim F sound.steady a b three.1 three.2 same)) three.0)) (queue F)
+    (each_with (λ a b. claim_cmp a b ≡ Less) (IsClaim F) (queue F) (each_in_order claim_cmp (queue F) (queue_sorted F)) (queue_claims F sound.steady))
+
+-- ---- the queue filled from its end
+
+-- how an element stands to those behind it
+each_behind : {R : Type 0} (S : R → R → Type 0) (xs : List R) (k : ℕ) (x : R) → EachTwo S xs → k < length xs → get_or xs k x ≡ x
+    → AllByRecursion (S x) (drop (suc k) xs)
+each_behind S [] k x each low is = absurd (omega arith)
+each_behind S (y ∷ xs) zero x each low is = subst (λ z. AllByRecursion (S z) xs) is each.0
+each_behind S (y ∷ xs) (suc k) x each low is = each_behind S xs k x each.1 (omega arith) is
+
+-- the same, with the place as callers write it
+each_after : {R : Type 0} (S : R → R → Type 0) (xs : List R) (k : ℕ) (x : R) → EachTwo S xs → k < length xs → get_or xs k x ≡ x
+    → AllByRecursion (S x) (drop (k + 1) xs)
+each_after S xs k x each low is = subst (λ n. AllByRecursion (S x) (drop n xs)) (sym (add-one k)) (each_behind S xs k x each low is)
+
+-- what goes before all others is put at the front
+put_first : {R : Type 0} (cmp : R → R → Ordering) (x : R) (xs : List R) → AllByRecursion (λ y. cmp x y ≡ Less) xs → put cmp xs x ≡ x ∷ xs
+put_first cmp x [] less = refl
+put_first cmp x (y ∷ xs) less = ap (λ o. match_ordering o (x ∷ y ∷ xs) (x ∷ xs) (y ∷ put cmp xs x)) less.0
+
+-- a claim is put before those behind it
+pub last_put : (F : Farm) (k : ℕ) (c : Claimed) → k < length (queue F) → get_or (queue F) k c ≡ c
+    → put queued_cmp (map queued (drop (k + 1) (queue F))) (queued c) ≡ map queued (drop k (queue F))
+last_put F k c low is =
+    let rest = drop (k + 1) (queue F) in
+    sym (queued_put rest c)
+    ∙ ap (map queued) (put_first claim_cmp c rest
+    (each_after (λ a b. claim_cmp a b ≡ Less) (queue F) k c (each_in_order claim_cmp (queue F) (queue_sorted F)) low is)
+    ∙ sym (drop_more (queue F) k c low ∙ ap (λ d. d ∷ rest) is))
+
+-- none of those behind a claim has its number
+pub fresh_before : (F : Farm) (k : ℕ) (c : Claimed) → IsSound F → k < length (queue F) → get_or (queue F) k c ≡ c
+    → AllByRecursion (λ (x : Queued). x.claim.number ≡ c.number → ⊥) (map queued (drop (k + 1) (queue F)))
+fresh_before F k c sound low is =
+    AllByRecursion-map (λ d. c.number ≡ d.number → ⊥) (λ (x : Queued). x.claim.number ≡ c.number → ⊥) queued (λ d other same. other (sym same)) (drop (k + 1) (queue F))
+    (each_after (λ a b. a.number ≡ b.number → ⊥) (queue F) k c (numbers_differ F sound) low is)

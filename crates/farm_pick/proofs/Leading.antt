@@ -1,0 +1,56 @@
+-- The queue of a claim: that of the type that its group's first member wants, or the reservations'.
+use Rattle.std.proofs.Common.{◌==◌, ◌∙◌, ◌∷◌, ◌≡◌, ◌≤◌, ◌<◌, Bool, List, None, Option, Some, ap, arith, cond, false, inl, inr, map, refl, sym, true, ℕ, []}
+use mathlib.Core.Bool.{true≢false}
+use Rattle.std.specs.List.{AllByRecursion, filter, find}
+use Rattle.std.specs.List.Sorted.{IsStrictlySortedBy}
+use Rattle.std.specs.declared.cmp.Ordering.TheVariants.{Less}
+use Rattle.std.proofs.lemmas.Cmp.{ranked}
+use Rattle.farm_types.specs.Farm.{Farm, job_of}
+use Rattle.farm_types.specs.Pick.{Claimed}
+use Rattle.farm_types.specs.Sound.{IsSound}
+use Rattle.farm_types.specs.Table.{job_cmp}
+use Rattle.farm_types.specs.declared.rows.JobRow.{JobRow}
+use Rattle.farm_types.proofs.Put.{AllByRecursion-weaker, found_has}
+use Rattle.farm_sound.proofs.Claims.{IsClaim, leads}
+use Rattle.farm_sound.proofs.Own.{differs, itself}
+use Rattle.farm_pick.specs.Queued.{first_kind, queue_kind}
+
+-- the first member of a group is the job with the group's number
+first_wants : (g : ℕ) (j : JobRow) (jobs : List JobRow) → IsStrictlySortedBy job_cmp jobs → AllByRecursion (λ m. m.group ≤ m.number) jobs
+    → find (λ m. m.number == g) jobs ≡ Some j → j.number ≡ g → j.group ≡ g → first_kind (map (λ m. m.want) (filter (λ m. m.group == g) jobs)) ≡ j.want.kind
+unfolding IsStrictlySortedBy
+first_wants g j [] sorted near found at mine = cc
+first_wants g j (k ∷ jobs) sorted near found at mine = by (k.number == g) found (λ later. first_wants g j jobs sorted.1 near.1 later at mine)
+  where
+    kind_with : Bool → Option (List ℕ)
+    kind_with v = first_kind (map (λ (m : JobRow). m.want) (cond v (k ∷ filter (λ m. m.group == g) jobs) (filter (λ m. m.group == g) jobs)))
+
+    by : (v : Bool) → cond v (Some k) (find (λ m. m.number == g) jobs) ≡ Some j
+        → (find (λ m. m.number == g) jobs ≡ Some j → first_kind (map (λ (m : JobRow). m.want) (filter (λ m. m.group == g) jobs)) ≡ j.want.kind)
+        → kind_with (k.group == g) ≡ j.want.kind
+    by true here rest =
+        let same : k ≡ j = cc in
+        let own : (k.group == g) ≡ true = ap (λ (m : JobRow). m.group == g) same ∙ ap (λ n. n == g) mine ∙ itself g in
+        ap kind_with own ∙ ap (λ (m : JobRow). m.want.kind) same
+    by false here rest =
+        let less : job_cmp k j ≡ Less = found_has (λ m. job_cmp k m ≡ Less) (λ m. m.number == g) j jobs sorted.0 here in
+        let below : k.number < j.number = ranked k.number j.number Less (sym less) in
+        let low : k.group ≤ k.number = near.0 in
+        ap kind_with (differs k.group g (omega (arith, below, low, at))) ∙ rest here
+
+-- a group's queue is that of the type that the job with its number wants
+pub lead_of : (F : Farm) (c : Claimed) → IsSound F → IsClaim F c → c.reservation ≡ false
+    → (j : JobRow) × (job_of F c.number ≡ Some j) × (queue_kind c ≡ j.want.kind)
+lead_of F c sound (inl (r, is)) group = absurd (true≢false (sym (ap (λ (d : Claimed). d.reservation) is.2) ∙ group))
+lead_of F c sound (inr (j, is)) group =
+    let first : j.number ≡ j.group = (leads F j is.1).0 in
+    let at : c.number ≡ j.number = ap (λ (d : Claimed). d.number) is.2 ∙ sym first in
+    let there : job_of F j.group ≡ Some j = ap (job_of F) (sym first) ∙ is.0 in (
+      j,
+      ap (job_of F) at ∙ is.0,
+      ap queue_kind is.2 ∙ first_wants j.group j F.jobs sound.steady.jobs_sorted (AllByRecursion-weaker (λ m row. row.group.0) F.jobs sound.steady.jobs) there first refl,
+    )
+
+-- a reservation stands in the queue of no type
+pub of_reservation : (F : Farm) (c : Claimed) → IsClaim F c → c.reservation ≡ true → queue_kind c ≡ None
+of_reservation F c claim is = ap (λ v. cond v None (first_kind c.wants)) is

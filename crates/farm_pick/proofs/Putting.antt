@@ -1,0 +1,191 @@
+-- A new group and a new reservation put one claim into the queue.
+use Rattle.std.proofs.Common.{◌&&◌, ◌++◌, ◌+◌, ◌<◌, ◌==◌, ◌∙◌, ◌∷◌, ◌≡◌, ◌≤◌, Bool, List, None, Option, ap, arith, cond, false, length, map, refl, sym, true, ℕ, []}
+use Rattle.std.specs.Cmp.{nat_cmp_is}
+use Rattle.std.specs.List.{AllByRecursion, filter, list_all}
+use Rattle.std.specs.Ordering.{nat_cmp, ordering_then}
+use Rattle.std.specs.declared.cmp.Ordering.{Ordering}
+use Rattle.std.specs.declared.cmp.Ordering.TheVariants.{Equal, Greater, Less}
+use Rattle.std.proofs.lemmas.Cmp.{ranked}
+use Rattle.std.proofs.lemmas.List.{append-nil, append_assoc, map-append}
+use Rattle.std.proofs.lemmas.List.Elements.{filter-append}
+use Rattle.std.proofs.lemmas.List.Sums.{fold-append}
+use Rattle.farm_types.specs.Change.{new_members}
+use Rattle.farm_types.specs.Farm.{Farm, members, put_jobs, put_res}
+use Rattle.farm_types.specs.Pick.{Claimed, claim_cmp, claims, group_claim, is_waiting, leads_claim, queue, res_claim}
+use Rattle.farm_types.specs.Sound.{IsSound}
+use Rattle.farm_types.specs.Table.{job_cmp, put, put_all, res_cmp}
+use Rattle.farm_types.specs.declared.rows.JobRow.{JobRow}
+use Rattle.farm_types.specs.declared.rows.JobState.{JobState}
+use Rattle.farm_types.specs.declared.rows.ResRow.{ResRow}
+use Rattle.farm_types.specs.declared.rows.Want.{Want}
+use Rattle.farm_types.proofs.Put.{AllByRecursion-weaker}
+use Rattle.farm_sound.proofs.Claims.{claim_total}
+use Rattle.farm_sound.proofs.Lists.{all_join, filter_all, none_pass}
+use Rattle.farm_sound.proofs.Own.{differs, differs_more, itself}
+use Rattle.farm_sound.proofs.Where.{AllByRecursion-map}
+use Rattle.farm_pick.specs.Queue.{is_submitted}
+use Rattle.farm_pick.proofs.Adding.{claims_added, put_behind}
+use Rattle.farm_pick.proofs.Entries.{IsApart, put_late}
+
+-- ---- the members of a new group
+
+abbrev member : ℕ → ℕ → List ℕ → ℕ → Want → Option (List ℕ) → List ℕ → JobRow
+member group number owner priority want role body = record {
+  number = number;
+  group = group;
+  checking = false;
+  owner = owner;
+  priority = priority;
+  want = want;
+  role = role;
+  state = JobState.Submitted;
+  outcome = None;
+  board = None;
+  body = body;
+}
+
+module _ (group : ℕ) (owner : List ℕ) (priority : ℕ) where
+  -- they are put behind jobs with smaller numbers
+  members_behind : (wants : List Want) (roles : List (Option (List ℕ))) (number : ℕ) (body : List ℕ) (jobs : List JobRow)
+      → AllByRecursion (λ j. j.number < number) jobs
+      → put_all job_cmp jobs (new_members group number owner priority wants roles body) ≡ jobs ++ new_members group number owner priority wants roles body
+  members_behind [] roles number body jobs below = sym (append-nil jobs)
+  members_behind (want ∷ wants) [] number body jobs below = sym (append-nil jobs)
+  members_behind (want ∷ wants) (role ∷ roles) number body jobs below =
+      let one = member group number owner priority want role body in
+      ap (λ js. put_all job_cmp js (new_members group (number + 1) owner priority wants roles []))
+      (put_behind job_cmp one jobs (AllByRecursion-weaker (λ j low. sym (nat_cmp_is number j.number Greater low)) jobs below))
+      ∙ members_behind wants roles (number + 1) [] (jobs ++ one ∷ [])
+      (all_join (λ j. j.number < number + 1) jobs (one ∷ []) (AllByRecursion-weaker (λ j low. omega arith) jobs below) (omega arith, tt))
+      ∙ append_assoc jobs (one ∷ []) (new_members group (number + 1) owner priority wants roles [])
+
+  abbrev IsMember : ℕ → JobRow → Type 0
+  IsMember number m = (number ≤ m.number) × (m.group ≡ group) × (is_submitted m ≡ true)
+
+  are_members : (wants : List Want) (roles : List (Option (List ℕ))) (number : ℕ) (body : List ℕ)
+      → AllByRecursion (IsMember number) (new_members group number owner priority wants roles body)
+  are_members [] roles number body = tt
+  are_members (want ∷ wants) [] number body = tt
+  are_members (want ∷ wants) (role ∷ roles) number body = (
+    (omega arith, refl, refl),
+    AllByRecursion-weaker (λ m is. (omega (arith, is.0), is.1, is.2)) (new_members group (number + 1) owner priority wants roles [])
+        (are_members wants roles (number + 1) []),
+  )
+
+  members_wants : (wants : List Want) (roles : List (Option (List ℕ))) (number : ℕ) (body : List ℕ) → length roles ≡ length wants
+      → map (λ (m : JobRow). m.want) (new_members group number owner priority wants roles body) ≡ wants
+  members_wants [] roles number body long = refl
+  members_wants (want ∷ wants) [] number body long = absurd (omega arith)
+  members_wants (want ∷ wants) (role ∷ roles) number body long = ap (λ ws. want ∷ ws) (members_wants wants roles (number + 1) [] (omega arith))
+
+all_pass : {A : Type 0} (test : A → Bool) (xs : List A) → AllByRecursion (λ x. test x ≡ true) xs → (filter test xs ≡ xs) × (list_all test xs ≡ true)
+all_pass test [] all = (refl, refl)
+all_pass test (x ∷ xs) all =
+    let rest = all_pass test xs all.1 in
+    (ap (λ v. cond v (x ∷ filter test xs) (filter test xs)) all.0 ∙ ap (λ ys. x ∷ ys) rest.0, ap (λ v. v && list_all test xs) all.0 ∙ rest.1)
+
+-- ---- a new group
+
+module _ (F : Farm) (sound : IsSound F) (caller : List ℕ) (priority : ℕ) (want : Want) (wants : List Want) (role : Option (List ℕ))
+    (roles : List (Option (List ℕ))) (body : List ℕ) where
+  abbrev one : JobRow
+  one = member F.next F.next caller priority want role body
+
+  abbrev more : List JobRow
+  more = new_members F.next (F.next + 1) caller priority wants roles []
+
+  abbrev new : List JobRow
+  new = one ∷ more
+
+  abbrev G : Farm
+  G = record (put_jobs F (new_members F.next F.next caller priority (want ∷ wants) (role ∷ roles) body)) { next = F.next + length (want ∷ wants) }
+
+  abbrev claim : Claimed
+  claim = record { reservation = false; number = F.next; owner = caller; priority = priority; wants = want ∷ wants }
+
+  abbrev mine : JobRow → Bool
+  mine r = r.group == F.next
+
+  jobs_are : G.jobs ≡ F.jobs ++ new
+  jobs_are = members_behind F.next caller priority (want ∷ wants) (role ∷ roles) F.next body F.jobs
+      (AllByRecursion-weaker (λ j row. row.number.1) F.jobs sound.steady.jobs)
+
+  new_are : AllByRecursion (IsMember F.next caller priority F.next) new
+  new_are = are_members F.next caller priority (want ∷ wants) (role ∷ roles) F.next body
+
+  -- the new jobs are the members of the new group
+  members_are : members G F.next ≡ new
+  members_are =
+      ap (filter mine) jobs_are ∙ filter-append mine F.jobs new
+      ∙ ap (λ ms. ms ++ filter mine new)
+      (none_pass mine F.jobs (AllByRecursion-weaker (λ j row. differs j.group F.next (omega (arith, row.group.0, row.number.1))) F.jobs sound.steady.jobs))
+      ∙ (all_pass mine new (AllByRecursion-weaker (λ m is. ap (λ g. g == F.next) is.1 ∙ itself F.next) new new_are)).0
+
+  -- the first of them leads its claim, and the others lead none
+  first_leads : leads_claim G one ≡ true
+  first_leads =
+      ap (λ v. v && list_all is_submitted (members G F.next)) (itself F.next)
+      ∙ ap (list_all is_submitted) members_are ∙ (all_pass is_submitted new (AllByRecursion-weaker (λ m is. is.2) new new_are)).1
+
+  one_leads : filter (leads_claim G) new ≡ one ∷ []
+  one_leads =
+      ap (λ v. cond v (one ∷ filter (leads_claim G) more) (filter (leads_claim G) more)) first_leads
+      ∙ ap (λ ms. one ∷ ms) (none_pass (leads_claim G) more
+      (AllByRecursion-weaker (λ m is. ap (λ v. v && list_all is_submitted (members G m.group)) (differs_more m.number m.group (omega (arith, is.0, is.1)))) more
+      (are_members F.next caller priority wants roles (F.next + 1) [])))
+
+  claim_is : length (role ∷ roles) ≡ length (want ∷ wants) → group_claim G one ≡ claim
+  claim_is long =
+      ap (λ ms. record claim { wants = map (λ (m : JobRow). m.want) ms }) members_are
+      ∙ ap (λ ws. record claim { wants = ws }) (members_wants F.next caller priority (want ∷ wants) (role ∷ roles) F.next body long)
+
+  group_puts : length (role ∷ roles) ≡ length (want ∷ wants) → queue G ≡ put claim_cmp (queue F) claim
+  group_puts long =
+      ap (put_all claim_cmp [])
+      (claims_added F G new jobs_are refl
+      (AllByRecursion-weaker (λ j row. AllByRecursion-weaker (λ m is. differs_more m.group j.group (omega (arith, is.1, row.group.0, row.number.1))) new new_are)
+      F.jobs sound.steady.jobs)
+      ∙ ap (λ ms. claims F ++ map (group_claim G) ms) one_leads ∙ ap (λ c. claims F ++ c ∷ []) (claim_is long))
+      ∙ fold-append (put claim_cmp) [] (claims F) (claim ∷ [])
+
+pub submit_puts : (F : Farm) → IsSound F → (caller : List ℕ) (priority : ℕ) (wants : List Want) (roles : List (Option (List ℕ))) (body : List ℕ)
+    → 1 ≤ length wants → length roles ≡ length wants
+    → queue (record (put_jobs F (new_members F.next F.next caller priority wants roles body)) { next = F.next + length wants })
+    ≡ put claim_cmp (queue F) (record { reservation = false; number = F.next; owner = caller; priority = priority; wants = wants })
+submit_puts F sound caller priority [] roles body some long = absurd (omega arith)
+submit_puts F sound caller priority (want ∷ wants) [] body some long = absurd (omega arith)
+submit_puts F sound caller priority (want ∷ wants) (role ∷ roles) body some long = group_puts F sound caller priority want wants role roles body long
+
+-- ---- a new reservation
+
+claim_ties : (c d : Claimed) → claim_cmp c d ≡ Equal → c.number ≡ d.number
+claim_ties c d ties = by (nat_cmp d.priority c.priority) ties
+  where
+    by : (o : Ordering) → ordering_then o (nat_cmp c.number d.number) ≡ Equal → c.number ≡ d.number
+    by Less is = cc
+    by Equal is = ranked c.number d.number Equal (sym is)
+    by Greater is = cc
+
+pub reserve_puts : (F : Farm) → IsSound F → (row : ResRow) (next : ℕ) → row.number ≡ F.next → is_waiting row ≡ true
+    → queue (record (put_res F row) { next = next }) ≡ put claim_cmp (queue F) (res_claim row)
+reserve_puts F sound row next fresh waits =
+    let R = map res_claim (filter is_waiting F.reservations) in
+    let J = map (group_claim F) (filter (leads_claim F) F.jobs) in
+    let behind : put res_cmp F.reservations row ≡ F.reservations ++ row ∷ [] =
+    put_behind res_cmp row F.reservations
+    (AllByRecursion-weaker (λ r is. sym (nat_cmp_is row.number r.number Greater (omega (arith, fresh, is.number.1)))) F.reservations sound.steady.reservations) in
+    let apart : AllByRecursion (IsApart claim_cmp (res_claim row)) J =
+    AllByRecursion-map (λ (j : JobRow). j.group < F.next) (IsApart claim_cmp (res_claim row)) (group_claim F)
+    (λ j low ties. let same : row.number ≡ j.group = claim_ties (res_claim row) (group_claim F j) ties in absurd (omega (arith, same, low, fresh)))
+    (filter (leads_claim F) F.jobs)
+    (AllByRecursion-weaker (λ j two. two.0) (filter (leads_claim F) F.jobs)
+    (filter_all (λ (j : JobRow). j.group < F.next) (leads_claim F) F.jobs
+    (AllByRecursion-weaker (λ j is. omega (arith, is.group.0, is.number.1)) F.jobs sound.steady.jobs))) in
+    ap (λ rs. put_all claim_cmp [] (map res_claim (filter is_waiting rs) ++ J)) behind
+    ∙ ap (λ rs. put_all claim_cmp [] (map res_claim rs ++ J))
+    (filter-append is_waiting F.reservations (row ∷ []) ∙ ap (λ v. filter is_waiting F.reservations ++ cond v (row ∷ []) []) waits)
+    ∙ ap (λ cs. put_all claim_cmp [] (cs ++ J)) (map-append res_claim (filter is_waiting F.reservations) (row ∷ []))
+    ∙ fold-append (put claim_cmp) [] (R ++ res_claim row ∷ []) J
+    ∙ ap (λ rows. put_all claim_cmp rows J) (fold-append (put claim_cmp) [] R (res_claim row ∷ []))
+    ∙ put_late claim_cmp claim_total (res_claim row) J (put_all claim_cmp [] R) apart
+    ∙ ap (λ rows. put claim_cmp rows (res_claim row)) (sym (fold-append (put claim_cmp) [] R J))
