@@ -1,9 +1,9 @@
 #!/bin/sh
 # What `make test` runs: every proof, every wrong body that has a name, every test and program from nothing
-# (rt ci), and then the program that it built: its words, statuses and examples, and SQLite's shell, refused
-# memory and real clients, where the machine has what these want. It tells what that cost by kind, and the
-# last line counts all: 'N passed, 0 failed'. The further wrong bodies are only
-# read: `make wrong` tries them.
+# (rt ci), and then the program that it built: its words, statuses and examples, SQLite's shell, refused memory,
+# real clients, malformed requests, kills, and the tools of tools/, where the machine has what these want. It
+# tells what that cost by kind, and the last line counts all: 'N passed, 0 failed'. The further wrong bodies are
+# only read: `make wrong` tries them.
 set -u
 cd "$(dirname "$0")/.."
 folder=$(mktemp -d)
@@ -41,11 +41,20 @@ status=0
 counting proofs rt ci || status=1
 limited "tests of scripts" python3 tests/waves.py --read || status=1
 if [ "$status" = 0 ]; then
-    for script in words.sh statuses.sh examples.sh shell.sh refused_memory.sh real_clients.sh sockets.py; do
+    farm=crates/farm/out/farm
+    player=crates/farm_play/out/farm_play
+    for script in words.sh statuses.sh examples.sh shell.sh refused_memory.sh real_clients.sh sockets.py \
+        malformed.py kills.py dispatch.py client.py importers.py page.py proxy.py generated.py; do
+        # (those that go by chance are run longer by hand, as each says)
         case $script in
-            *.py) limited "scripts over the program" python3 "tests/$script" crates/farm/out/farm ;;
-            *) limited "scripts over the program" sh "tests/$script" crates/farm/out/farm ;;
+            generated.py) set -- python3 "tests/$script" "$player" ;;
+            refused_memory.sh) set -- sh "tests/$script" "$farm" "$player" ;;
+            malformed.py) set -- python3 "tests/$script" "$farm" 5000 ;;
+            kills.py) set -- python3 "tests/$script" "$farm" 100 ;;
+            *.py) set -- python3 "tests/$script" "$farm" ;;
+            *) set -- sh "tests/$script" "$farm" ;;
         esac
+        limited "scripts over the program" "$@"
         case $? in
             0) passed=$((passed + 1)) ;;
             77) ;; # it wasn't tried, as it said

@@ -3,16 +3,23 @@
 # a request over a farm in memory, and one over a farm in a file. Each run answers as it would with
 # ample memory, or with 503 and code 1 (60 where the store's own growth was refused), or ends with the
 # line of that fault; and whatever was answered 200 is in the file. Then the same of a program that serves
-# (refused_serving.py), whose keeper is closed where the growth was refused in the middle of a change.
-#     sh tests/refused_memory.sh bin/farm
-# Wants a C compiler (`cc`) and a C library whose functions can be preloaded.
+# (refused_serving.py), whose keeper is closed where the growth was refused in the middle of a change; and
+# where the player of transcripts is given too, of four rows that it plays (refused_rows.py).
+#     sh tests/refused_memory.sh bin/farm [crates/farm_play/out/farm_play]
+# Wants what tests/library.sh wants, and a C library whose functions can be preloaded.
 set -eu
 farm=$(realpath "$1")
+player=${2:+$(realpath "$2")}
 tests=$(cd "$(dirname "$0")" && pwd)
-command -v cc > /dev/null || { echo "refused memory: not tried, since there is no C compiler"; exit 77; }
 folder=$(mktemp -d)
 trap 'rm -r "$folder"' EXIT
-cc -O1 -shared -fPIC -o "$folder/refuse.so" "$tests/refuse.c"
+made=0
+sh "$tests/library.sh" "$tests/refuse.c" "$folder/refuse.so" || made=$?
+if [ "$made" = 77 ]; then
+    echo "refused memory: not tried, since there is no C compiler"
+    exit 77
+fi
+[ "$made" = 0 ] || { echo "refused memory: tests/refuse.c isn't compiled"; exit 1; }
 cd "$folder"
 
 printf 'POST /types HTTP/1.1\r\nx-user: admin\r\nx-key: k1\r\ncontent-length: 14\r\n\r\n{"name":"bbb"}' > request
@@ -86,3 +93,4 @@ refuse $((number / 2)) once --db farm.db --at 1700000000
 cat done done | cmp again -
 
 python3 "$tests/refused_serving.py" "$farm" "$folder/refuse.so"
+[ -z "$player" ] || python3 "$tests/refused_rows.py" "$player" "$folder/refuse.so"

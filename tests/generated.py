@@ -1,0 +1,406 @@
+#!/usr/bin/env python3
+"""generated.py PLAYER [SEED]: lists of commands by chance, played beside a machine written out plainly.
+
+200 lists of 60 commands each are made over labs of two to four types and up to six boards, with
+groups, reservations with tags, checks, cancels, leases that end, and a pass now and then. What is
+to be answered, and which boards, reservations, queue and status then stand, is computed here, from
+the text of docs/MACHINE.md alone: at each pass all claims are sorted anew, and for each every list
+of free boards is tried in order of names. The transcripts are played by the player that
+`crates/farm_play` built; each list has to be as computed, byte by byte.
+"""
+import itertools
+import json
+import os
+import random
+import subprocess
+import sys
+import tempfile
+
+LISTS, COMMANDS = 200, 60
+GOOD, UNKNOWN, BAD, MAINTENANCE = "Good", "Unknown", "Bad", "Maintenance"
+
+
+class Lab:
+    """The machine, as plain tables and plain loops."""
+
+    def __init__(self):
+        self.types, self.boards, self.jobs, self.leases = {}, {}, {}, {}
+        self.clock, self.count, self.next = 0, 0, 1
+
+    # ---- what a claim may be given
+
+    def serves(self, board):
+        check = self.types[board["type"]]
+        return board["health"] == GOOD or (board["health"] == UNKNOWN and check[0] == "none")
+
+    def is_free(self, board):
+        return board["holder"] == "none" and self.serves(board)
+
+    @staticmethod
+    def fits(board, want):
+        kind, tags = want
+        own = board["tags"] + ["name=" + board["name"]]
+        return (kind is None or board["type"] == kind) and all(tag in own for tag in tags)
+
+    def least(self, wants, test):
+        names = sorted(name for name, board in self.boards.items() if test(board))
+        for some in itertools.permutations(names, len(wants)):
+            if all(self.fits(self.boards[name], want) for name, want in zip(some, wants)):
+                return some
+        return None
+
+    # ---- who waits
+
+    def members(self, group):
+        return [self.jobs[n] for n in sorted(self.jobs) if self.jobs[n]["group"] == group]
+
+    def claims(self):
+        found = []
+        for number, lease in self.leases.items():
+            if lease["state"] == "waiting":
+                found.append((-lease["priority"], number, "reservation", lease["owner"], [(None, lease["tags"])]))
+        for number, job in self.jobs.items():
+            group = self.members(number)
+            if job["group"] == number and all(one["state"] == "Submitted" for one in group):
+                found.append((-job["priority"], number, "group", job["owner"], [one["want"] for one in group]))
+        return sorted(found, key=lambda claim: claim[:2])
+
+    # ---- boards in hands
+
+    def hold(self, name, holder, state):
+        self.boards[name]["holder"], self.boards[name]["state"] = holder, state
+
+    def free(self, holder):
+        for board in self.boards.values():
+            if board["holder"] == holder:
+                board["holder"], board["state"] = "none", "Idle"
+
+    def turn(self, holder, state):
+        for board in self.boards.values():
+            if board["holder"] == holder:
+                board["state"] = state
+
+    # ---- the pass
+
+    def is_due(self, board):
+        kind, every = self.types[board["type"]]
+        if board["holder"] != "none" or kind == "none":
+            return False
+        if board["health"] == UNKNOWN:
+            return True
+        if board["health"] != GOOD:
+            return False
+        if kind == "hours":
+            return 3600 * every <= self.clock - board["last_check"]
+        return every <= board["jobs_since"]
+
+    def run_pass(self):
+        ended = 0
+        for number, lease in self.leases.items():
+            if lease["state"] in ("waiting", "allocated") and lease["deadline"] <= self.clock:
+                lease["state"] = "expired"
+                self.free("reservation %d" % number)
+                ended += 1
+        checks = 0
+        for name in sorted(self.boards):
+            if self.is_due(self.boards[name]):
+                number = self.next
+                self.jobs[number] = {
+                    "number": number, "group": number, "checking": True, "owner": "admin", "priority": 100,
+                    "want": (self.boards[name]["type"], []), "state": "Scheduled", "board": name,
+                }
+                self.hold(name, "job %d" % number, "Reserved")
+                self.next += 1
+                checks += 1
+        served = 0
+        for _, number, kind, _, wants in self.claims():
+            some = self.least(wants, self.is_free)
+            if some is None:
+                continue
+            served += 1
+            if kind == "group":
+                for job, name in zip(self.members(number), some):
+                    job["state"], job["board"] = "Scheduled", name
+                    self.hold(name, "job %d" % job["number"], "Reserved")
+            else:
+                lease = self.leases[number]
+                lease["state"], lease["board"], lease["deadline"] = "allocated", some[0], self.clock + 60
+                self.hold(some[0], "reservation %d" % number, "Reserved")
+        return {"checks": checks, "expired": ended, "served": served}
+
+    # ---- the other commands
+
+    def submit(self, owner, priority, wants):
+        group = self.next
+        for at, want in enumerate(wants):
+            self.jobs[group + at] = {
+                "number": group + at, "group": group, "checking": False, "owner": owner, "priority": priority,
+                "want": want, "state": "Submitted", "board": "",
+            }
+        self.next += len(wants)
+        return group
+
+    def reserve(self, owner, priority, tags):
+        number = self.next
+        self.leases[number] = {
+            "owner": owner, "priority": priority, "tags": tags, "state": "waiting",
+            "deadline": self.clock + 60, "board": "",
+        }
+        self.next += 1
+        return number
+
+    def cancel(self, number):
+        for job in self.members(self.jobs[number]["group"]):
+            if job["state"] in ("Submitted", "Scheduled"):
+                job["state"] = "Finished"
+                self.free("job %d" % job["number"])
+            elif job["state"] == "Running":
+                job["state"] = "Canceling"
+        return self.jobs[number]["group"]
+
+    def start(self, number):
+        for job in self.members(self.jobs[number]["group"]):
+            job["state"] = "Running"
+            self.turn("job %d" % job["number"], "Running")
+        return self.jobs[number]["group"]
+
+    def finish(self, number, outcome):
+        job = self.jobs[number]
+        if job["state"] == "Canceling":
+            outcome = "Canceled"
+        job["state"] = "Finished"
+        for board in self.boards.values():
+            if board["holder"] == "job %d" % number:
+                if job["checking"]:
+                    self.grade_check(board, outcome)
+                else:
+                    board["jobs_since"] += 1
+                    if outcome == "Infra" and board["health"] in (GOOD, UNKNOWN):
+                        board["health"] = UNKNOWN
+        self.free("job %d" % number)
+        return number
+
+    def grade_check(self, board, outcome):
+        if outcome == "Complete":
+            board["jobs_since"], board["last_check"] = 0, self.clock
+        if outcome != "Canceled" and board["health"] in (GOOD, UNKNOWN):
+            board["health"] = GOOD if outcome == "Complete" else BAD
+
+    # ---- what is shown
+
+    def shown(self):
+        boards = [
+            {key: self.boards[name][key] for key in
+             ("health", "holder", "jobs_since", "last_check", "name", "state", "tags", "type")}
+            for name in sorted(self.boards)
+        ]
+        queue = [
+            {"boards": len(wants), "kind": kind, "number": number, "owner": owner, "priority": -priority}
+            for priority, number, kind, owner, wants in self.claims()
+        ]
+        leases = [
+            {key: dict(self.leases[n], number=n)[key] for key in
+             ("board", "deadline", "number", "owner", "priority", "state", "tags")}
+            for n in sorted(self.leases)
+        ]
+        status = {
+            "boards": len(self.boards), "clock": self.clock, "count": self.count, "jobs": len(self.jobs),
+            "next": self.next, "reservations": len(self.leases), "types": len(self.types),
+        }
+        return [("/boards", {"boards": boards}), ("/queue", {"queue": queue}),
+                ("/reservations", {"reservations": leases}), ("/status", status)]
+
+
+class List:
+    """A list of commands by chance, as lines of a transcript."""
+
+    def __init__(self, chance, name):
+        self.chance, self.lab = chance, Lab()
+        self.lines = ["# A list by chance.", "== " + name]
+        self.now = 10
+
+    def ask(self, who, path, body, answer, text=None):
+        self.lab.count += 1
+        self.lines.append("> %s POST %s%s" % (who, path, " " + spelled(body) if body else ""))
+        if text:
+            self.lines += ["| " + line for line in text]
+        self.lines.append("< 200 " + spelled(answer))
+
+    def look(self):
+        for path, view in self.lab.shown():
+            self.lines += ["> - GET " + path, "< 200 " + spelled(view)]
+
+    def at(self, seconds):
+        self.now += seconds
+        self.lab.clock = self.now
+        self.lines.append("at %d" % self.now)
+
+    def build(self):
+        chance, lab = self.chance, self.lab
+        self.at(0)
+        for name in ["aaa", "bbb", "ccc", "ddd"][: chance.randint(2, 4)]:
+            check = chance.choice([("none", 0), ("none", 0), ("hours", 1), ("jobs", 2)])
+            lab.types[name] = check
+            body = {"name": name}
+            if check[0] != "none":
+                body.update(check=check[0], every=check[1])
+            self.ask("admin", "/types", body, {"number": 0})
+        for at in range(chance.randint(2, 6)):
+            kind = chance.choice(sorted(lab.types))
+            tags = sorted(chance.sample(["hdmi", "usb"], chance.randint(0, 2)))
+            name = "%s%d" % (kind[0], at)
+            lab.boards[name] = {
+                "name": name, "type": kind, "tags": tags, "health": MAINTENANCE, "holder": "none",
+                "state": "Idle", "jobs_since": 0, "last_check": 0,
+            }
+            self.ask("admin", "/boards", {"name": name, "tags": tags, "type": kind}, {"number": 0})
+            if chance.random() < 0.8:
+                self.health(name, GOOD)
+
+    def health(self, name, health):
+        self.lab.boards[name]["health"] = health
+        self.ask("admin", "/boards/%s/health" % name, {"health": health}, {"number": 0})
+
+    # ---- commands that are accepted as the lab stands
+
+    def submit(self):
+        lab, chance = self.lab, self.chance
+        wants, text = [], []
+        priority = chance.choice([10, 50, 50, 60, 90])
+        count = chance.choice([1, 1, 1, 2, 2, 3])
+        for at in range(count):
+            tags = chance.choice([[], [], [], ["hdmi"], ["usb"]])
+            wants.append((chance.choice(sorted(lab.types)), tags))
+        if lab.least(wants, lambda board: True) is None:
+            return False
+        text = ['job_name = "made"', "priority = %d" % priority]
+        for at, (kind, tags) in enumerate(wants):
+            if count > 1:
+                text.append("[roles.r%d]" % at)
+            text.append('device_type = "%s"' % kind)
+            if count > 1:
+                text.append("count = 1")
+            if tags:
+                text.append("tags = [%s]" % ", ".join('"%s"' % tag for tag in tags))
+        self.ask("ann", "/jobs", None, {"number": lab.submit("ann", priority, wants)}, text)
+        return True
+
+    def reserve(self):
+        lab, chance = self.lab, self.chance
+        tags = chance.choice([[], [], ["hdmi"], ["name=" + chance.choice(sorted(lab.boards))]])
+        if lab.least([(None, tags)], lambda board: True) is None:
+            return False
+        priority = chance.choice([10, 40, 50, 95])
+        answer = {"number": lab.reserve("bob", priority, tags)}
+        self.ask("bob", "/reservations", {"priority": priority, "tags": tags}, answer)
+        return True
+
+    def pass_now(self):
+        self.ask("dispatcher", "/pass", None, self.lab.run_pass())
+        self.look()
+        return True
+
+    def of_jobs(self, states):
+        return [n for n, job in self.lab.jobs.items() if job["state"] in states]
+
+    def start(self):
+        numbers = self.of_jobs(["Scheduled"])
+        if not numbers:
+            return False
+        number = self.chance.choice(numbers)
+        self.ask("dispatcher", "/jobs/%d/start" % number, None, {"number": self.lab.start(number)})
+        return True
+
+    def finish(self):
+        numbers = self.of_jobs(["Running", "Canceling"])
+        if not numbers:
+            return False
+        number = self.chance.choice(numbers)
+        outcome = self.chance.choice(["Complete", "Complete", "Incomplete", "Infra"])
+        answer = {"number": self.lab.finish(number, outcome)}
+        self.ask("dispatcher", "/jobs/%d/finish" % number, {"outcome": outcome}, answer)
+        return True
+
+    def cancel(self):
+        numbers = self.of_jobs(["Submitted", "Scheduled", "Running"])
+        if not numbers:
+            return False
+        number = self.chance.choice(numbers)
+        self.ask("admin", "/jobs/%d/cancel" % number, None, {"number": self.lab.cancel(number)})
+        return True
+
+    def of_leases(self, states):
+        lab = self.lab
+        return [n for n, lease in lab.leases.items()
+                if lease["state"] in states and (lease["state"] == "acquired" or lab.clock < lease["deadline"])]
+
+    def lease(self):
+        lab, chance = self.lab, self.chance
+        verb = chance.choice(["acquire", "release", "refresh", "cancel"])
+        states = {"acquire": ["allocated"], "release": ["acquired"]}.get(verb, ["waiting", "allocated", "acquired"])
+        numbers = self.of_leases(states)
+        if not numbers:
+            return False
+        number = chance.choice(numbers)
+        lease, holder = lab.leases[number], "reservation %d" % number
+        if verb == "acquire":
+            lease["state"] = "acquired"
+            lab.turn(holder, "Running")
+        elif verb == "release":
+            lease["state"], lease["deadline"] = "allocated", lab.clock + 60
+            lab.turn(holder, "Reserved")
+        elif verb == "refresh":
+            lease["deadline"] = lab.clock + 60
+        else:
+            lease["state"] = "canceled"
+            lab.free(holder)
+        self.ask("bob", "/reservations/%d/%s" % (number, verb), None, {"number": number})
+        return True
+
+    def change_health(self):
+        name = self.chance.choice(sorted(self.lab.boards))
+        self.health(name, self.chance.choice([GOOD, GOOD, GOOD, UNKNOWN, BAD, MAINTENANCE]))
+        return True
+
+    def made(self):
+        self.build()
+        commands = [self.submit] * 5 + [self.reserve] * 3 + [self.pass_now] * 4 + [self.start] * 3 \
+            + [self.finish] * 4 + [self.cancel] * 2 + [self.lease] * 4 + [self.change_health] * 3
+        done = 0
+        while done < COMMANDS:
+            if self.chance.random() < 0.5:
+                self.at(self.chance.choice([1, 5, 20, 45, 3600]))
+            done += self.chance.choice(commands)()
+        self.pass_now()
+        return self.lines
+
+
+def spelled(value):
+    return json.dumps(value, sort_keys=True, separators=(",", ":"))
+
+
+def main():
+    player = os.path.abspath(sys.argv[1])
+    chance = random.Random(int(sys.argv[2]) if len(sys.argv) > 2 else 22)
+    names = ["list_%03d" % at for at in range(LISTS)]
+    with tempfile.TemporaryDirectory() as folder:
+        for at in range(0, LISTS, 10):
+            lines = []
+            for name in names[at:at + 10]:
+                lines += List(chance, name).made() + [""]
+            with open(os.path.join(folder, "lists_%02d" % (at // 10)), "w") as file:
+                file.write("\n".join(lines) + "\n")
+        said = subprocess.run([player] + sorted(os.listdir(folder)), cwd=folder, capture_output=True, text=True)
+        told = said.stdout.split("\n")
+        wrong = [line for line in told if line and not line.endswith(": ok")]
+        if wrong or [line[:-4] for line in told if line] != names:
+            keep = tempfile.mkdtemp(prefix="generated-")
+            subprocess.run(["cp", "-r", folder, keep])
+            print("generated: not as computed; the transcripts are kept in", keep)
+            print("\n".join(wrong[:10]) or said.stderr[-500:])
+            sys.exit(1)
+    print("generated: %d lists of %d commands, each answer and each farm after a pass as computed plainly"
+          % (LISTS, COMMANDS))
+
+
+main()

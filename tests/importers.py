@@ -1,0 +1,239 @@
+#!/usr/bin/env python3
+"""Writes lab files from places of labgrid and devices of LAVA: python3 tests/importers.py bin/farm
+
+Each row demands the lab file and the lines of what it couldn't carry over, byte by byte, and lets
+the program import it. Ends with status 1 at the first thing that isn't as it should be, and with 77
+where PyYAML isn't there, after the rows that do without it. Takes a few seconds.
+"""
+import os
+import subprocess
+import sys
+import tempfile
+
+from served import TOOLS, demand, environment
+
+# As labgrid's coordinator writes its places.
+PLACES = """\
+bbb 1:
+  acquired: null
+  acquired_resources: []
+  aliases:
+  - beagle
+  allowed: []
+  changed: 1700000100.5
+  comment: next to the
+    window
+  created: 1700000000.25
+  matches:
+  - cls: '*'
+    exporter: exporter1
+    group: bbb-1
+    name: null
+    rename: null
+  - cls: NetworkPowerPort
+    exporter: '*'
+    group: pdu
+    name: outlet1
+    rename: power
+  reservation: null
+  tags:
+    board: beaglebone-black
+    name: beagle
+    rack: 01
+    empty: ''
+rpi.lab:
+  acquired: host/ann
+  acquired_resources:
+  - exporter1/rpi/NetworkSerialPort/serial
+  aliases: []
+  allowed:
+  - host/bob
+  comment: ''
+  matches: []
+  reservation: ABCDEFGHIJ
+  tags: {}
+"""
+LAB_OF_PLACES = """\
+[types.beaglebone-black]
+
+[types.place]
+
+[boards.bbb-1]
+type = "beaglebone-black"
+tags = ["board=beaglebone-black", "empty", "rack=01"]
+
+[boards."rpi.lab"]
+type = "place"
+tags = []
+"""
+NOTES_OF_PLACES = """\
+place bbb 1: board 'bbb 1' isn't carried over as it is: it is bbb-1
+place bbb 1: tag name=beagle isn't carried over: a board's name is its tag of this key
+place bbb 1: tag empty= isn't carried over as it is: it is empty
+place bbb 1: alias beagle isn't carried over
+place bbb 1: comment 'next to the window' isn't carried over
+place bbb 1: match exporter1/bbb-1/* isn't carried over
+place bbb 1: match */pdu/NetworkPowerPort/outlet1 -> power isn't carried over
+place bbb 1: changed 1700000100.5 isn't carried over
+place bbb 1: created 1700000000.25 isn't carried over
+place rpi.lab: it has no tag board: its type is place
+place rpi.lab: acquired host/ann isn't carried over: the board is nobody's
+place rpi.lab: reservation ABCDEFGHIJ isn't carried over: the board is nobody's
+place rpi.lab: allowed host/bob isn't carried over: a board is its holder's alone
+"""
+# As a LAVA server has its devices.
+DEVICES = {
+    "devices/bbb-01.jinja2": """\
+{# the first
+   board #}
+{% extends 'beaglebone-black.jinja2' %}
+{% set connection_command = 'telnet ser2net 7001' %}
+{%- set power_on_command = '/usr/bin/pdu --port 1 on' -%}
+{% set device_info = [
+  {'board_id': '0123'}] %}
+""",
+    "devices/qemu.lab.jinja2": '{% extends "qemu.jinja2" %}\n',
+    "devices/broken.jinja2": "{% set mac_addr = '00:00:00:00:00:01' %}\n",
+    "devices/README": "nothing\n",
+    "device-types/base-uboot.jinja2": "{% extends 'base.jinja2' %}\n",
+    "device-types/beaglebone-black.jinja2": "{% extends 'base-uboot.jinja2' %}\n",
+    "health-checks/beaglebone-black.yaml": "job_name: health\n",
+    "health-checks/x86.yaml": "job_name: health\n",
+    "tags": "bbb-01 usb hdmi hdmi\ngone a\n\n",
+}
+LAB_OF_DEVICES = """\
+[types.beaglebone-black]
+check = "hours"
+every = 12
+
+[types.qemu]
+
+[boards.bbb-01]
+type = "beaglebone-black"
+tags = ["hdmi", "usb"]
+
+[boards."qemu.lab"]
+type = "qemu"
+tags = []
+"""
+NOTES_OF_DEVICES = """\
+device-types/beaglebone-black.jinja2: what it says isn't carried over, but for its name
+devices/bbb-01.jinja2:4: connection_command isn't carried over
+devices/bbb-01.jinja2:5: power_on_command isn't carried over
+devices/bbb-01.jinja2:6: device_info isn't carried over
+devices/broken.jinja2: device broken isn't carried over: it extends no device type
+devices/qemu.lab.jinja2: its tags, which stand in LAVA's database, aren't carried over
+health-checks/beaglebone-black.yaml: its job isn't carried over: see farm-dispatch --check
+health-checks/beaglebone-black.yaml: how often isn't carried over: it is every 12 hours
+health-checks/x86.yaml: it isn't carried over: no device is of this type
+FOLDER/tags: tags of gone aren't carried over: there is no such device
+FOLDER: what stands in LAVA's database alone isn't carried over: owners, workers, permissions
+"""
+
+
+def run(*words):
+    """What a tool comes to: its status, output and errors."""
+    ran = subprocess.run(
+        [sys.executable, os.path.join(TOOLS, words[0]), *words[1:]],
+        capture_output=True,
+        text=True,
+        check=False,
+        env=environment(),
+    )
+    return ran.returncode, ran.stdout, ran.stderr
+
+
+def notes(tool, text):
+    """Lines of what couldn't be carried over, as a tool tells them."""
+    return "".join(f"{tool}: {line}\n" for line in text.splitlines())
+
+
+def write(folder, name, text):
+    file = os.path.join(folder, name)
+    os.makedirs(os.path.dirname(file), exist_ok=True)
+    with open(file, "w", encoding="utf-8") as opened:
+        opened.write(text)
+    return file
+
+
+def imported(folder, lab):
+    """What the program prints where it imports a lab file into a new farm."""
+    file = os.path.join(folder, "farm.db")
+    subprocess.run([FARM, "init", "--db", file], check=True, capture_output=True)
+    words = [FARM, "import", "--db", file, "--at", "1700000000", lab]
+    ran = subprocess.run(words, capture_output=True, text=True, check=False)
+    return ran.stdout + ran.stderr
+
+
+def lava(folder):
+    for name, text in DEVICES.items():
+        write(folder, name, text)
+    lab = os.path.join(folder, "lab.toml")
+    words = ["farm-from-lava", folder, "--hours", "12", "--tags", f"{folder}/tags"]
+    told = notes(words[0], NOTES_OF_DEVICES.replace("FOLDER", folder))
+    demand("its output", (1, LAB_OF_DEVICES, told), run(*words))
+    demand("to a file", (1, "", told), run(*words, "--output", lab))
+    with open(lab, encoding="utf-8") as text:
+        demand("the file", LAB_OF_DEVICES, text.read())
+    demand("its import", "accepted 4, kept 0\n", imported(folder, lab))
+    for wrong in (["/nonexistent"], [folder, "--tags", "/nonexistent"], [f"{folder}/devices"]):
+        status, output, errors = run("farm-from-lava", *wrong)
+        demand(f"farm-from-lava {wrong}", (4, "", 1), (status, output, errors.count("\n")))
+    for wrong in ([], [folder, "--hours", "0"], [folder, "--hours", "10001"]):
+        demand(f"farm-from-lava {wrong}", 2, run("farm-from-lava", *wrong)[0])
+    return "devices of LAVA become boards, their types types, and the rest is told"
+
+
+def limits(folder):
+    for place in range(65):
+        write(folder, f"devices/b{place}.jinja2", "{% extends 'bbb.jinja2' %}")
+    many = " ".join(f"t{place}" for place in range(10, 27))
+    tags = write(folder, "tags", f"b0 {many} a=b=c {'k' * 33} v={'w' * 65} name=x\n")
+    status, output, errors = run("farm-from-lava", folder, "--tags", tags)
+    demand("its status", 1, status)
+    kept = ["a=b-c", "k" * 32, *(f"t{place}" for place in range(10, 24))]
+    demand("the tags of b0", True, ", ".join(f'"{it}"' for it in kept) in output)
+    told = "".join(errors)
+    for tag in ("t24", "t25", "t26", f"v={'w' * 64}"):
+        line = f"devices/b0.jinja2: tag {tag} isn't carried over: a board has 16 tags at most\n"
+        demand(f"it tells of {tag}", True, line in told)
+    line = "lab file: it has 65 boards of type bbb, and a farm has room for 64\n"
+    demand("it tells what a farm has no room for", True, line in told)
+    lab = write(folder, "lab.toml", output)
+    demand("its import", "farm: 4 full at 66\n", imported(folder, lab))
+    return "tags and boards that a farm has no room for are told"
+
+
+def labgrid(folder):
+    places = write(folder, "places.yaml", PLACES)
+    lab = os.path.join(folder, "lab.toml")
+    told = notes("farm-from-labgrid", NOTES_OF_PLACES)
+    demand("its output", (1, LAB_OF_PLACES, told), run("farm-from-labgrid", places))
+    demand("to a file", (1, "", told), run("farm-from-labgrid", places, "--output", lab))
+    demand("its import", "accepted 4, kept 0\n", imported(folder, lab))
+    simple = write(folder, "simple.yaml", "b1:\n  tags:\n    kind: bbb\n")
+    words = ["farm-from-labgrid", simple, "--type-tag", "kind"]
+    wanted = '[types.bbb]\n\n[boards.b1]\ntype = "bbb"\ntags = ["kind=bbb"]\n'
+    demand("one that is carried over whole", (0, wanted, ""), run(*words))
+    empty = write(folder, "empty.yaml", "{}\n")
+    demand("no places", (0, "", ""), run("farm-from-labgrid", empty))
+    for text in ("- a\n", "b1: 3\n", "{", "b1:\n  tags: [a]\n"):
+        wrong = write(folder, "wrong.yaml", text)
+        status, output, errors = run("farm-from-labgrid", wrong)
+        demand(f"places {text!r}", (4, "", 1), (status, output, errors.count("\n")))
+    demand("places that aren't there", 4, run("farm-from-labgrid", "/nonexistent")[0])
+    demand("no places at all", 2, run("farm-from-labgrid")[0])
+    return "places of labgrid become boards, a tag their type, and the rest is told"
+
+
+if __name__ == "__main__":
+    FARM = os.path.realpath(sys.argv[1])
+    with tempfile.TemporaryDirectory() as room:
+        for row in (lava, limits):
+            print(f"importers: {row(tempfile.mkdtemp(dir=room))}", flush=True)
+        try:
+            import yaml  # noqa: F401
+        except ImportError:
+            print("importers: places of labgrid weren't tried, since PyYAML isn't there")
+            sys.exit(77)
+        print(f"importers: {labgrid(tempfile.mkdtemp(dir=room))}", flush=True)
