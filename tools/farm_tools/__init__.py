@@ -1,0 +1,1 @@
+"""What the tools around the desk of a board farm share."""

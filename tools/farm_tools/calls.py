@@ -1,0 +1,141 @@
+"""Calls to the desk: one HTTP request each, sent again under one key where no answer came."""
+import base64
+import copy
+import http.client
+import json
+import secrets
+import ssl
+import time
+import urllib.parse
+
+FULL = 4
+NO_JOB = 20
+WRONG_JOB_STATE = 21
+EXPIRED = 31
+WRONG_RESERVATION_STATE = 32
+
+# Statuses after which nobody knows whether a command was done: those of a proxy that reached no
+# desk, and the desk's own 503.
+UNKNOWN = (502, 503, 504)
+FIRST_WAIT = 0.2
+LONGEST_WAIT = 5.0
+
+
+class Refused(Exception):
+    """The desk, or the proxy in front of it, refused. `code` is the desk's number, 0 where it gave
+    none."""
+
+    def __init__(self, status: int, code: int, text: str):
+        super().__init__(f"{code} {text}" if code else f"{status} {text}")
+        self.status = status
+        self.code = code
+
+
+class NoAnswer(Exception):
+    """No answer came in time, or none that is the desk's: nobody knows whether a command was
+    done."""
+
+
+def fresh_key() -> str:
+    """A key that no other command has."""
+    return secrets.token_hex(16)
+
+
+class Desk:
+    """A desk at a server's address, as one user sees it."""
+
+    def __init__(self, settings, patience: float):
+        """`patience` is for how many seconds a call is sent again where no answer comes."""
+        address = urllib.parse.urlsplit(settings.server)
+        self.server = settings.server
+        self.user = settings.user
+        self.host = address.hostname
+        self.port = address.port
+        self.front = address.path.rstrip("/")
+        self.timeout = settings.timeout
+        self.patience = patience
+        self.context = None
+        if address.scheme == "https":
+            self.context = ssl.create_default_context(cafile=settings.ca_file)
+        self.fields = {"x-user": settings.user}
+        if settings.password is not None:
+            pair = f"{settings.user}:{settings.password}".encode()
+            self.fields["authorization"] = "Basic " + base64.b64encode(pair).decode()
+
+    def of_patience(self, seconds: float):
+        """The same desk, whose calls are sent again for so many seconds."""
+        other = copy.copy(self)
+        other.patience = seconds
+        return other
+
+    def look(self, path: str) -> dict:
+        """What a view shows."""
+        return self._answer("GET", path, None, {}, True)
+
+    def tell(self, path: str, body=None, key=None) -> dict:
+        """Gives a command, again and again under its key until an answer comes; without a key it is
+        sent once."""
+        fields = {"x-key": key} if key else {}
+        return self._answer("POST", path, _bytes_of(body), fields, key is not None)
+
+    def nudge(self, path: str) -> dict:
+        """Gives a command that does no harm when it is done twice, a pass or a refresh, so it needs
+        no key."""
+        return self._answer("POST", path, None, {}, True)
+
+    def _answer(self, method, path, body, fields, again) -> dict:
+        until = time.monotonic() + self.patience
+        wait = FIRST_WAIT
+        while True:
+            try:
+                status, reason, said = self._exchange(method, path, body, {**self.fields, **fields})
+                if status not in UNKNOWN:
+                    return _meaning(status, reason, said)
+                trouble = f"{status} {reason}"
+            except ssl.SSLError as fault:
+                raise NoAnswer(str(fault)) from fault
+            except (OSError, http.client.HTTPException) as fault:
+                trouble = str(fault) or type(fault).__name__
+            if not again or time.monotonic() + wait > until:
+                raise NoAnswer(trouble)
+            time.sleep(wait)
+            wait = min(2 * wait, LONGEST_WAIT)
+
+    def _exchange(self, method, path, body, fields):
+        """One request and its answer: status, reason and body."""
+        if self.context:
+            line = http.client.HTTPSConnection(
+                self.host, self.port, timeout=self.timeout, context=self.context
+            )
+        else:
+            line = http.client.HTTPConnection(self.host, self.port, timeout=self.timeout)
+        try:
+            line.request(method, self.front + path, body=body, headers=fields)
+            answer = line.getresponse()
+            if not (answer.getheader("content-length") or answer.getheader("transfer-encoding")):
+                raise http.client.HTTPException("the answer was cut in its head")
+            return answer.status, answer.reason, answer.read()
+        finally:
+            line.close()
+
+
+def _bytes_of(body):
+    """A body as it is sent: bytes stay, all else becomes JSON."""
+    if body is None or isinstance(body, bytes):
+        return body
+    return json.dumps(body).encode()
+
+
+def _meaning(status: int, reason: str, said: bytes) -> dict:
+    """What an answer says, where it isn't a refusal."""
+    try:
+        told = json.loads(said)
+    except ValueError:
+        told = None
+    if not isinstance(told, dict):
+        if 200 <= status < 300:
+            raise NoAnswer("the answer isn't a desk's")
+        raise Refused(status, 0, reason)
+    if status != 200:
+        raise Refused(status, told.get("code", 0), told.get("text", reason))
+    return told

@@ -1,0 +1,320 @@
+"""desk: the desk of a board farm, from a terminal or a script."""
+import argparse
+import json
+import os
+import sys
+
+from farm_tools import calls, holding, settings, tables, waiting
+
+ENDED, REFUSED, FAULT = 1, 3, 4
+PATIENCE = 15
+ABOUT = "Asks the desk of a board farm, and tells it what its user wants."
+STATUSES = """\
+exit status: 0 done; 1 the job that was waited for didn't end Complete, or the
+reservation ended before it had a board; 2 bad words; 3 refused by the desk;
+4 no answer, or bad settings; 128 and the number of a signal. Of 'with': the
+command's; 125 where it couldn't be run with a board, or the board not given
+back; 126 and 127 where the command can't be run or found."""
+
+
+def main(words=None) -> int:
+    options = options_of(sys.argv[1:] if words is None else words)
+    holding.catch_signals()
+    fault_status = holding.OF_ITSELF if options.does is holding.run_with_board else FAULT
+    try:
+        desk = calls.Desk(settings.read_settings("desk", options), PATIENCE)
+        return options.does(desk, options)
+    except calls.Refused as refusal:
+        return told(REFUSED, f"refused: {refusal}")
+    except waiting.Gone as end:
+        return told(ENDED, str(end))
+    except calls.NoAnswer as fault:
+        return told(fault_status, f"no answer from the desk: {fault}")
+    except BrokenPipeError:
+        os.dup2(os.open(os.devnull, os.O_WRONLY), sys.stdout.fileno())
+        return fault_status
+    except (settings.BadSettings, OSError) as fault:
+        return told(fault_status, str(fault))
+    except holding.Interrupted as it:
+        return it.status
+
+
+def told(status: int, text: str) -> int:
+    try:
+        print(f"desk: {text}", file=sys.stderr, flush=True)
+    except OSError:
+        pass  # nobody is there to be told
+    return status
+
+
+# ---- words
+
+
+def options_of(words):
+    """The options of these words. What stands behind `--` is the command of `with`."""
+    command = None
+    if "--" in words and "with" in words[: words.index("--")]:
+        words, command = words[: words.index("--")], words[words.index("--") + 1 :]
+    parser = parser_of()
+    options = parser.parse_args(words)
+    if options.does is holding.run_with_board:
+        if not command:
+            parser.error("with: give a command behind --")
+        options.words = command
+    return options
+
+
+def parser_of():
+    parser = argparse.ArgumentParser(
+        prog="desk",
+        description=ABOUT,
+        epilog=STATUSES,
+        formatter_class=argparse.RawDescriptionHelpFormatter,
+    )
+    settings.add_options(parser)
+    parser.add_argument("--json", action="store_true", help="print what the desk answers")
+    also = argparse.ArgumentParser(add_help=False)
+    also.add_argument(
+        "--json", action="store_true", default=argparse.SUPPRESS, help="print what the desk answers"
+    )
+    commands = parser.add_subparsers(metavar="COMMAND", required=True)
+
+    def command(name, does, about):
+        added = commands.add_parser(name, parents=[also], help=about, description=about)
+        added.set_defaults(does=does)
+        return added
+
+    add_views(command)
+    add_jobs(command)
+    add_reservations(command)
+    return parser
+
+
+def add_views(command) -> None:
+    boards = command("boards", show_boards, "show the boards, or those that have all of these tags")
+    boards.add_argument("tags", metavar="TAG", nargs="*", help="a tag of the board, or name=BOARD")
+    command("queue", show_queue, "show what waits for boards, in the order in which it is served")
+    rows = command("reservations", show_reservations, "show the reservations that haven't ended")
+    rows.add_argument("--all", action="store_true", help="those that have ended too")
+    rows.add_argument("--mine", action="store_true", help="those of the user alone")
+
+
+def add_jobs(command) -> None:
+    jobs = command("jobs", show_jobs, "show jobs")
+    jobs.add_argument("--text", action="store_true", help="print the text that was submitted")
+    jobs.add_argument("numbers", metavar="N", nargs="+", type=number, help="a job's number")
+    submit = command("submit", submit_job, "submit a job file, and print the job's number")
+    submit.add_argument("file", metavar="FILE", help="the job file, - for the input")
+    add_waiting(submit, "wait until all of its members have ended, and print how")
+    cancel = command("cancel", cancel_job, "cancel a job and its group")
+    cancel.add_argument("number", metavar="N", type=number)
+
+
+def add_reservations(command) -> None:
+    reserve = command(
+        "reserve", reserve_board, "reserve a board that has these tags, and print the number"
+    )
+    add_wants(reserve)
+    add_waiting(reserve, "wait until it has a board, and print that")
+    reserve.add_argument("--acquire", action="store_true", help="wait, and acquire the board")
+    wait = command("wait", wait_for, "wait for a job's end, or for a reservation's board")
+    wait.add_argument("number", metavar="N", type=number)
+    add_every(wait)
+    for name, about in [
+        ("acquire", "acquire the board that a reservation was given, and print its name"),
+        ("release", "release an acquired board: the reservation keeps it for a minute"),
+        ("refresh", "let a reservation live a minute from now"),
+        ("cancel-reservation", "end a reservation, and give its board back"),
+    ]:
+        change = command(name, change_reservation, about)
+        change.add_argument("number", metavar="N", type=number)
+        change.set_defaults(action=name.split("-")[0])
+    hold = command(
+        "with", holding.run_with_board, "run a command with a board, and give the board back"
+    )
+    hold.usage = "desk with [--priority P] [TAG ..] -- COMMAND [ARGUMENT ..]"
+    add_wants(hold)
+    add_every(hold)
+
+
+def add_wants(parser) -> None:
+    parser.add_argument("tags", metavar="TAG", nargs="*", help="a tag of the board, or name=BOARD")
+    parser.add_argument(
+        "--priority", metavar="P", type=priority, help="low, medium, high, or 0 to 100 (50)"
+    )
+
+
+def add_waiting(parser, about: str) -> None:
+    parser.add_argument("--wait", action="store_true", help=about)
+    add_every(parser)
+
+
+def add_every(parser) -> None:
+    parser.add_argument(
+        "--every", metavar="SECONDS", type=seconds, default=2, help="between two looks (2)"
+    )
+
+
+def number(text: str) -> int:
+    if not (text.isascii() and text.isdigit() and 0 < int(text) < 10**9):
+        raise ValueError
+    return int(text)
+
+
+def priority(text: str):
+    return int(text) if text.isascii() and text.isdigit() else text
+
+
+def seconds(text: str) -> float:
+    given = float(text)
+    if not 0.05 <= given <= 60:
+        raise ValueError
+    return given
+
+
+# ---- views
+
+
+def show(options, said: dict, rows, columns) -> int:
+    """Prints what the desk answered, or its rows as lines."""
+    if options.json:
+        print_json(said)
+    else:
+        print("\n".join(tables.lines_of(rows, columns)))
+    return 0
+
+
+def print_json(said) -> None:
+    print(json.dumps(said, ensure_ascii=False, separators=(",", ":")), flush=True)
+
+
+def show_boards(desk, options) -> int:
+    wanted = set(options.tags)
+    rows = [
+        it for it in desk.look("/boards")["boards"] if wanted <= {*it["tags"], f"name={it['name']}"}
+    ]
+    return show(options, {"boards": rows}, rows, tables.BOARDS)
+
+
+def show_queue(desk, options) -> int:
+    said = desk.look("/queue")
+    rows = [{**it, "place": place} for place, it in enumerate(said["queue"], 1)]
+    return show(options, said, rows, tables.QUEUE)
+
+
+def show_reservations(desk, options) -> int:
+    rows = desk.look("/reservations")["reservations"]
+    if not options.all:
+        rows = [it for it in rows if it["state"] not in tables.ENDED]
+    if options.mine:
+        rows = [it for it in rows if it["owner"] == desk.user]
+    return show(options, {"reservations": rows}, rows, tables.RESERVATIONS)
+
+
+def show_jobs(desk, options) -> int:
+    rows = [desk.look(f"/jobs/{it}") for it in options.numbers]
+    if options.text:
+        sys.stdout.write("".join(it["text"] for it in rows))
+        return 0
+    return show(options, {"jobs": rows}, rows, tables.JOBS)
+
+
+# ---- jobs
+
+
+def submit_job(desk, options) -> int:
+    if options.file == "-":
+        text = sys.stdin.buffer.read()
+    else:
+        with open(options.file, "rb") as file:
+            text = file.read()
+    said = desk.tell("/jobs", text, calls.fresh_key())
+    print_number(options, said)
+    return await_end(desk, options, said["number"]) if options.wait else 0
+
+
+def cancel_job(desk, options) -> int:
+    said = desk.tell(f"/jobs/{options.number}/cancel", key=calls.fresh_key())
+    if options.json:
+        print_json(said)
+    return 0
+
+
+def print_number(options, said: dict) -> None:
+    if options.json:
+        print_json(said)
+    else:
+        print(said["number"], flush=True)
+
+
+def await_end(desk, options, job: int) -> int:
+    """Waits for a job's end, and prints how it ended. The status says whether all members are
+    Complete."""
+    members = waiting.wait_for_end(desk, job, options.every)
+    if options.json:
+        print_json({"jobs": members})
+    else:
+        for it in members:
+            print(f"{it['number']} {it['result']} {it['board'] or '-'}")
+    return 0 if all(it["result"] == "Complete" for it in members) else ENDED
+
+
+# ---- reservations
+
+
+def reserve_board(desk, options) -> int:
+    reservation = holding.Reservation(desk, options.tags, options.priority)
+    if not (options.wait or options.acquire):
+        reservation.ask()
+        print_number(options, {"number": reservation.number})
+        return 0
+    try:
+        reservation.ask()
+        print_number(options, {"number": reservation.number})
+        return await_board(reservation, options)
+    except holding.Interrupted as it:
+        reservation.give_back()
+        return it.status
+
+
+def await_board(reservation, options) -> int:
+    """Waits for a reservation's board, acquires it where that is asked for, and prints it."""
+    board = waiting.wait_for_board(reservation.desk, reservation.number, options.every)
+    if options.acquire:
+        reservation.acquire()
+    if options.json:
+        print_json({"board": board["name"], "number": reservation.number})
+    else:
+        print(board["name"], flush=True)
+    return 0
+
+
+def wait_for(desk, options) -> int:
+    """Waits for a job's end or a reservation's board: both draw their numbers from one counter."""
+    try:
+        desk.look(f"/jobs/{options.number}")
+    except calls.Refused as refusal:
+        if refusal.code != calls.NO_JOB:
+            raise
+    else:
+        return await_end(desk, options, options.number)
+    desk.nudge(f"/reservations/{options.number}/refresh")
+    reservation = holding.Reservation(desk, [], None)
+    reservation.number = options.number
+    options.acquire = False
+    return await_board(reservation, options)
+
+
+def change_reservation(desk, options) -> int:
+    """Acquires, releases, refreshes or cancels. A refresh that is done twice does no harm, and has
+    no key."""
+    path = f"/reservations/{options.number}/{options.action}"
+    said = desk.nudge(path) if options.action == "refresh" else desk.tell(
+        path, key=calls.fresh_key()
+    )
+    if options.json:
+        print_json(said)
+    elif options.action == "acquire":
+        board = waiting.board_of(desk, options.number)
+        print(board["name"] if board else "-")
+    return 0

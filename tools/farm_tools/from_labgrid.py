@@ -1,0 +1,113 @@
+"""farm-from-labgrid: a lab file from the places that labgrid's coordinator keeps."""
+import argparse
+import sys
+
+from farm_tools import lab_file
+
+PROGRAM = "farm-from-labgrid"
+ABOUT = """\
+Reads places.yaml, in which labgrid's coordinator keeps its places, and writes a
+lab file: a board for each place, with its tags. A board's type is the value of
+the tag 'board' (--type-tag); the tag stays."""
+NOTHING = (None, "", "null", "Null", "NULL", "~", [], {})
+
+
+def main(words=None) -> int:
+    options = options_of(words)
+    try:
+        lab = lab_file.LabFile()
+        for name, place in places_of(options.places).items():
+            carry(lab, name, place, options)
+        return lab_file.write(PROGRAM, lab, options.output)
+    except (lab_file.Unreadable, OSError) as fault:
+        print(f"{PROGRAM}: {fault}", file=sys.stderr)
+        return lab_file.FAULT
+
+
+def options_of(words):
+    parser = argparse.ArgumentParser(
+        prog=PROGRAM,
+        description=ABOUT,
+        epilog=lab_file.STATUSES,
+        formatter_class=argparse.RawDescriptionHelpFormatter,
+    )
+    parser.add_argument("places", metavar="PLACES", help="the coordinator's places.yaml")
+    parser.add_argument("--output", metavar="FILE", help="the lab file (the output)")
+    parser.add_argument(
+        "--type-tag", metavar="KEY", default="board", help="the tag that names the type (board)"
+    )
+    parser.add_argument(
+        "--type", metavar="NAME", default="place", help="the type of places without it (place)"
+    )
+    return parser.parse_args(words)
+
+
+def places_of(file: str) -> dict:
+    """The places of a file by their names. All words in it are texts, as they are written."""
+    try:
+        import yaml
+    except ImportError as fault:
+        raise lab_file.Unreadable("PyYAML isn't there (python3-yaml)") from fault
+    try:
+        with open(file, encoding="utf-8") as text:
+            places = yaml.load(text, Loader=yaml.BaseLoader)
+    except (yaml.YAMLError, UnicodeDecodeError) as fault:
+        raise lab_file.Unreadable(f"{file} isn't YAML: {' '.join(str(fault).split())}") from fault
+    places = {} if places in NOTHING else places
+    if not isinstance(places, dict) or not all(isinstance(it, dict) for it in places.values()):
+        raise lab_file.Unreadable(f"{file} has no places by their names")
+    return places
+
+
+def carry(lab, name: str, place: dict, options) -> None:
+    """Makes a place a board, and notes what a board has no room for."""
+    where = f"place {name}"
+    tags = {} if place.get("tags") in NOTHING else place["tags"]
+    if not isinstance(tags, dict) or not all(isinstance(it, str) for it in tags.values()):
+        raise lab_file.Unreadable(f"{where}: its tags aren't words by their keys")
+    kind = tags.get(options.type_tag)
+    if not kind:
+        lab.note(where, f"it has no tag {options.type_tag}: its type is {options.type}")
+    kind = lab.add_type(where, kind or options.type)
+    lab.add_board(where, name, kind, [f"{key}={value}" for key, value in tags.items()])
+    note_rest(lab, where, place)
+
+
+def note_rest(lab, where: str, place: dict) -> None:
+    for alias in _items(place.get("aliases")):
+        lab.note(where, f"alias {alias} isn't carried over")
+    if place.get("comment") not in NOTHING:
+        lab.note(where, f"comment {' '.join(str(place['comment']).split())!r} isn't carried over")
+    for match in _items(place.get("matches")):
+        lab.note(where, f"match {_match_text(match)} isn't carried over")
+    for key in ("acquired", "reservation"):
+        if place.get(key) not in NOTHING:
+            lab.note(where, f"{key} {place[key]} isn't carried over: the board is nobody's")
+    for user in _items(place.get("allowed")):
+        lab.note(where, f"allowed {user} isn't carried over: a board is its holder's alone")
+    known = (
+        "name",
+        "tags",
+        "aliases",
+        "comment",
+        "matches",
+        "acquired",
+        "acquired_resources",
+        "reservation",
+    )
+    for key in place:
+        if key not in (*known, "allowed") and place[key] not in NOTHING:
+            lab.note(where, f"{key} {place[key]} isn't carried over")
+
+
+def _items(value) -> list:
+    return value if isinstance(value, list) else []
+
+
+def _match_text(match) -> str:
+    """A match as labgrid prints it: exporter, group, class, and the resource's name."""
+    if not isinstance(match, dict):
+        return str(match)
+    words = [match.get(key) or "*" for key in ("exporter", "group", "cls")]
+    text = "/".join(words + ([match["name"]] if match.get("name") not in NOTHING else []))
+    return text + (f" -> {match['rename']}" if match.get("rename") not in NOTHING else "")

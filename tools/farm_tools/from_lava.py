@@ -1,0 +1,146 @@
+"""farm-from-lava: a lab file from the device dictionaries and device types of a LAVA server."""
+import argparse
+import os
+import re
+import sys
+
+from farm_tools import lab_file
+
+PROGRAM = "farm-from-lava"
+ABOUT = """\
+Reads FOLDER, as LAVA's server has it in /etc/lava-server/dispatcher-config:
+devices/NAME.jinja2, whose 'extends' names the device's type,
+device-types/TYPE.jinja2, and health-checks/TYPE.yaml. It writes a lab file: a
+board for each device, a type for each device type, and a check every 24 hours
+(--hours) for each type that has a health check. Tags stand in LAVA's database;
+--tags gives them."""
+SUFFIX = ".jinja2"
+PARTS = re.compile(r"{%-?\s*(\w+)\s*(.*?)\s*-?%}|{{.*?}}", re.DOTALL)
+COMMENT = re.compile(r"{#.*?#}", re.DOTALL)
+
+
+def main(words=None) -> int:
+    options = options_of(words)
+    try:
+        return lab_file.write(PROGRAM, lab_of(options), options.output)
+    except (lab_file.Unreadable, OSError, UnicodeDecodeError) as fault:
+        print(f"{PROGRAM}: {fault}", file=sys.stderr)
+        return lab_file.FAULT
+
+
+def options_of(words):
+    parser = argparse.ArgumentParser(
+        prog=PROGRAM,
+        description=ABOUT,
+        epilog=lab_file.STATUSES,
+        formatter_class=argparse.RawDescriptionHelpFormatter,
+    )
+    parser.add_argument("folder", metavar="FOLDER", help="the server's dispatcher-config")
+    parser.add_argument("--output", metavar="FILE", help="the lab file (the output)")
+    parser.add_argument(
+        "--hours", metavar="N", type=hours, default=24, help="between two checks of a board (24)"
+    )
+    parser.add_argument(
+        "--tags", metavar="FILE", help="a line 'DEVICE TAG ..' for each device with tags"
+    )
+    return parser.parse_args(words)
+
+
+def hours(text: str) -> int:
+    number = int(text)
+    if not 1 <= number <= 10_000:
+        raise ValueError
+    return number
+
+
+def lab_of(options) -> lab_file.LabFile:
+    """The lab of a server's folder."""
+    lab = lab_file.LabFile()
+    tags = tags_of(options.tags)
+    devices = files_of(options.folder, "devices", SUFFIX)
+    if devices is None:
+        raise lab_file.Unreadable(f"{options.folder} has no folder devices")
+    types = {}
+    for name in files_of(options.folder, "device-types", SUFFIX) or []:
+        if not name.startswith("base"):
+            where = f"device-types/{name}{SUFFIX}"
+            types[name] = lab.add_type(where, name)
+            lab.note(where, "what it says isn't carried over, but for its name")
+    for name in devices:
+        carry(lab, options.folder, name, tags.pop(name, None), types)
+    for name in files_of(options.folder, "health-checks", ".yaml") or []:
+        carry_check(lab, name, types, options.hours)
+    for name in tags:
+        lab.note(options.tags, f"tags of {name} aren't carried over: there is no such device")
+    rest = "what stands in LAVA's database alone isn't carried over: owners, workers, permissions"
+    lab.note(options.folder, rest)
+    return lab
+
+
+def files_of(folder: str, part: str, suffix: str):
+    """The names of the files of a part, without their suffix, in order; None where there is no such
+    folder."""
+    try:
+        names = os.listdir(os.path.join(folder, part))
+    except FileNotFoundError:
+        return None
+    return sorted(it[: -len(suffix)] for it in names if it.endswith(suffix))
+
+
+def carry(lab, folder: str, name: str, tags, types: dict) -> None:
+    """Makes a device a board, and notes each setting of its dictionary."""
+    where = f"devices/{name}{SUFFIX}"
+    kind, notes = dictionary_of(os.path.join(folder, where))
+    if kind is None:
+        lab.note(where, f"device {name} isn't carried over: it extends no device type")
+        return
+    if kind not in types:
+        types[kind] = lab.add_type(where, kind)
+    lab.add_board(where, name, types[kind], tags or [])
+    if tags is None:
+        lab.note(where, "its tags, which stand in LAVA's database, aren't carried over")
+    for line, what in notes:
+        lab.note(f"{where}:{line}", f"{what} isn't carried over")
+
+
+def dictionary_of(file: str):
+    """The type that a device dictionary extends, or None, and what else it says: line and text of
+    each part."""
+    with open(file, encoding="utf-8") as opened:
+        text = COMMENT.sub(lambda it: "\n" * it.group().count("\n"), opened.read())
+    kind, notes = None, []
+    for part in PARTS.finditer(text):
+        word, rest = part.group(1), part.group(2) or ""
+        extended = re.fullmatch(
+            """['"]([^'"]+?)(?:[.]jinja2)?['"]""", rest
+        ) if word == "extends" else None
+        if extended and kind is None:
+            kind = extended.group(1)
+        elif word != "endset":
+            said = " ".join(
+                rest.partition("=")[0].split()
+            ) if word == "set" else " ".join(part.group().split())
+            notes.append((text.count("\n", 0, part.start()) + 1, said))
+    return kind, notes
+
+
+def carry_check(lab, name: str, types: dict, every: int) -> None:
+    where = f"health-checks/{name}.yaml"
+    if name not in types:
+        lab.note(where, "it isn't carried over: no device is of this type")
+        return
+    lab.check_type(types[name], every)
+    lab.note(where, "its job isn't carried over: see farm-dispatch --check")
+    lab.note(where, f"how often isn't carried over: it is every {every} hours")
+
+
+def tags_of(file) -> dict:
+    """The tags of each device that a file of them names."""
+    tags = {}
+    if file is not None:
+        with open(file, encoding="utf-8") as lines:
+            for line in lines:
+                words = line.split()
+                if words:
+                    tags.setdefault(words[0], []).extend(words[1:])
+    return tags

@@ -1,0 +1,152 @@
+"""A reservation that is given back whatever happens, and the command that runs while it is held."""
+import os
+import shutil
+import signal
+import subprocess
+import sys
+import time
+
+from farm_tools import calls, waiting
+
+SIGNALS = (signal.SIGINT, signal.SIGTERM, signal.SIGHUP)
+OF_ITSELF, NOT_RUN, NOT_FOUND = 125, 126, 127
+GIVES_UP = 60
+
+
+class Interrupted(BaseException):
+    """A signal came that ends the tool."""
+
+    def __init__(self, number: int):
+        super().__init__(number)
+        self.status = 128 + number
+
+
+def catch_signals() -> None:
+    """Lets a signal that ends the tool be raised as Interrupted, once."""
+    for number in SIGNALS:
+        if signal.getsignal(number) != signal.SIG_IGN:
+            signal.signal(number, interrupt)
+
+
+def interrupt(number: int, _frame) -> None:
+    for each in SIGNALS:
+        signal.signal(each, signal.SIG_IGN)
+    raise Interrupted(number)
+
+
+class Reservation:
+    """A reservation of one's own, from its asking to its end."""
+
+    def __init__(self, desk, tags, priority):
+        self.desk = desk
+        self.body = {"tags": tags} if priority is None else {"tags": tags, "priority": priority}
+        self.key = calls.fresh_key()
+        self.number = None
+
+    def ask(self) -> int:
+        """Reserves. Asked again, it is the same reservation."""
+        self.number = self.desk.tell("/reservations", self.body, self.key)["number"]
+        return self.number
+
+    def acquire(self) -> None:
+        """Makes the board that it was given its owner's."""
+        try:
+            self.desk.tell(f"/reservations/{self.number}/acquire", key=calls.fresh_key())
+        except calls.Refused as refusal:
+            if refusal.code == calls.EXPIRED:
+                raise waiting.Gone(f"reservation {self.number} has expired") from refusal
+            raise
+
+    def give_back(self) -> bool:
+        """Cancels the reservation, so that its board is free, and tries so for a minute. Returns
+        whether it is given back; what isn't is told."""
+        until = time.monotonic() + (GIVES_UP if self.number else 0)
+        key = calls.fresh_key()
+        while True:
+            try:
+                number = self.number or self.ask()
+                self.desk.tell(f"/reservations/{number}/cancel", key=key)
+                return True
+            except calls.Refused as refusal:
+                if refusal.code in (calls.EXPIRED, calls.WRONG_RESERVATION_STATE):
+                    return True  # it has ended already, and holds nothing
+                fault = refusal
+            except calls.NoAnswer as silence:
+                fault = silence
+            if isinstance(fault, calls.Refused) or time.monotonic() > until:
+                print(f"desk: {fault}: {self._left()}", file=sys.stderr)
+                return False
+            time.sleep(1)
+
+    def _left(self) -> str:
+        if self.number is None:
+            return "a reservation may be left, which ends by itself within two minutes"
+        return f"reservation {self.number} is left: desk cancel-reservation {self.number}"
+
+
+def run_with_board(desk, options) -> int:
+    """Reserves, waits, acquires, runs the command, and gives back whatever happens. Returns the
+    exit status."""
+    if not shutil.which(options.words[0]):
+        print(f"desk: {options.words[0]}: no such command", file=sys.stderr)
+        return NOT_FOUND
+    reservation = Reservation(desk, options.tags, options.priority)
+    try:
+        status = ran_with(reservation, options)
+        # (no signal is raised from here on)
+        signal.pthread_sigmask(signal.SIG_BLOCK, SIGNALS)
+        asked = reservation.number is not None
+    except Interrupted as it:
+        status, asked = it.status, True
+    except Exception:
+        # Whatever it was, the board isn't kept.
+        if reservation.number is not None:
+            reservation.give_back()
+        raise
+    if asked and not reservation.give_back():
+        return OF_ITSELF
+    return status
+
+
+def ran_with(reservation, options) -> int:
+    """The exit status of the command that ran with a reservation's board, or that of a fault."""
+    try:
+        reservation.ask()
+        board = waiting.wait_for_board(reservation.desk, reservation.number, options.every)
+        reservation.acquire()
+        return run(options.words, board, reservation.number)
+    except (calls.Refused, calls.NoAnswer, waiting.Gone) as fault:
+        print(f"desk: {fault}", file=sys.stderr)
+        return OF_ITSELF
+
+
+def run(words, board: dict, number: int) -> int:
+    """Runs a command, and hands signals on to it. Returns its exit status, 128 and the number for a
+    signal.
+
+    Signals are blocked from here on: the terminal sends its own to the command too, and those of
+    other processes are handed on.
+    """
+    environment = {
+        **os.environ,
+        "BOARD": board["name"],
+        "BOARD_TYPE": board["type"],
+        "BOARD_TAGS": " ".join(board["tags"]),
+        "RESERVATION": str(number),
+    }
+    signal.signal(signal.SIGCHLD, lambda *_: None)
+    before = signal.pthread_sigmask(signal.SIG_BLOCK, (*SIGNALS, signal.SIGCHLD))
+
+    def unblock():
+        signal.pthread_sigmask(signal.SIG_SETMASK, before)
+
+    try:
+        child = subprocess.Popen(words, env=environment, preexec_fn=unblock)
+    except (OSError, subprocess.SubprocessError) as fault:
+        print(f"desk: {fault}", file=sys.stderr)
+        return NOT_RUN
+    while child.poll() is None:
+        came = signal.sigwaitinfo((*SIGNALS, signal.SIGCHLD))
+        if came.si_signo != signal.SIGCHLD and came.si_pid > 0:
+            child.send_signal(came.si_signo)
+    return child.returncode if child.returncode >= 0 else 128 - child.returncode

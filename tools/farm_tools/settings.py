@@ -1,0 +1,127 @@
+"""Where the desk is and who asks: from options, the environment, a file of settings, and
+~/.netrc."""
+import configparser
+import dataclasses
+import getpass
+import netrc
+import os
+import re
+import stat
+import urllib.parse
+
+SYSTEM_FILE = "/etc/farm/desk.ini"
+SERVER = "http://127.0.0.1:8080"
+LOOPBACK = ("127.0.0.1", "localhost", "::1")
+WORDS = ("server", "user", "password_file", "ca_file", "timeout")
+
+
+class BadSettings(Exception):
+    """The settings can't be read, or can't be used."""
+
+
+@dataclasses.dataclass(frozen=True)
+class Settings:
+    """An address, a user, and how many seconds a network call may wait."""
+
+    server: str
+    user: str
+    password: str
+    ca_file: str
+    timeout: float
+
+
+def add_options(parser) -> None:
+    """The options that each tool has for its server and user."""
+    parser.add_argument("--config", metavar="FILE", help="the file of settings")
+    parser.add_argument("--server", metavar="URL", help=f"the desk's address ({SERVER})")
+    parser.add_argument("--user", metavar="NAME", help="who asks")
+    parser.add_argument(
+        "--password-file", metavar="FILE", help="a file whose first line is the password"
+    )
+    parser.add_argument(
+        "--ca-file", metavar="FILE", help="certificates that the server's is checked by"
+    )
+    parser.add_argument(
+        "--timeout", metavar="SECONDS", help="how long a network call may wait (30)"
+    )
+
+
+def read_settings(section: str, options, user=None) -> Settings:
+    """The settings of a tool: options go before the environment (SECTION_SERVER), and files last.
+
+    `user` is who asks where nothing names one; without it, the name in ~/.netrc or of the login.
+    """
+    files = _files_read(section, options.config or os.environ.get(f"{section.upper()}_CONFIG"))
+    found = {}
+    for word in WORDS:
+        around = os.environ.get(f"{section.upper()}_{word.upper()}")
+        found[word] = getattr(options, word) or around or files.get(word)
+    server = found["server"] or SERVER
+    address = _address(server)
+    login, password = _password_of(found["password_file"], address.hostname)
+    asks = found["user"] or user or login or getpass.getuser()
+    if not re.fullmatch("[A-Za-z0-9_.-]{1,48}", asks):
+        raise BadSettings(f"{asks!r} is no name of a user")
+    if login is not None and login != asks:
+        password = None
+    if password is not None and address.scheme == "http" and address.hostname not in LOOPBACK:
+        raise BadSettings(f"a password isn't sent to {server}, which has no TLS")
+    ca_file = found["ca_file"] and os.path.expanduser(found["ca_file"])
+    return Settings(server, asks, password, ca_file, _seconds(found["timeout"] or "30"))
+
+
+def _files_read(section: str, named) -> dict:
+    """The section of the named file, or of the user's file over the system's."""
+    own = os.environ.get("XDG_CONFIG_HOME") or os.path.expanduser("~/.config")
+    files = [named] if named else [SYSTEM_FILE, os.path.join(own, "farm", "desk.ini")]
+    read = configparser.ConfigParser(interpolation=None)
+    try:
+        done = read.read(files, encoding="utf-8")
+    except (configparser.Error, OSError, UnicodeDecodeError) as fault:
+        raise BadSettings(f"settings: {' '.join(str(fault).split())}") from fault
+    if named and not done:
+        raise BadSettings(f"{named} can't be read")
+    return dict(read[section]) if read.has_section(section) else {}
+
+
+def _address(server: str):
+    try:
+        address = urllib.parse.urlsplit(server)
+        if address.scheme in ("http", "https") and address.hostname and (address.port or 1) > 0:
+            return address
+    except ValueError:
+        pass
+    raise BadSettings(f"{server} is no address of a server, as {SERVER} is one")
+
+
+def _password_of(file, host: str):
+    """Whom a password belongs to, where ~/.netrc says so, and the password."""
+    if file:
+        return None, _first_line(os.path.expanduser(file))
+    try:
+        entry = netrc.netrc().authenticators(host)
+    except FileNotFoundError:
+        return None, None
+    except (netrc.NetrcParseError, OSError) as fault:
+        raise BadSettings(f"~/.netrc: {' '.join(str(fault).split())}") from fault
+    return (entry[0], entry[2]) if entry else (None, None)
+
+
+def _first_line(file: str) -> str:
+    try:
+        with open(file, encoding="utf-8") as text:
+            if stat.S_IMODE(os.fstat(text.fileno()).st_mode) & 0o077:
+                raise BadSettings(f"{file} holds a password, and others may read it: chmod 600")
+            return text.readline().rstrip("\r\n")
+    except (OSError, UnicodeDecodeError) as fault:
+        raise BadSettings(f"{file} can't be read: {fault}") from fault
+
+
+def _seconds(text: str) -> float:
+    try:
+        seconds = float(text)
+    except ValueError:
+        seconds = 0
+    if not 0 < seconds <= 3600:
+        raise BadSettings(f"{text} is no number of seconds from 0 to 3600")
+    return seconds

@@ -1,0 +1,68 @@
+"""Views of the desk as lines of text."""
+import time
+
+# The columns of each view: title, and what a row has there.
+BOARDS = [
+    ("NAME", lambda it: it["name"]),
+    ("TYPE", lambda it: it["type"]),
+    ("HEALTH", lambda it: it["health"]),
+    ("STATE", lambda it: it["state"]),
+    ("HOLDER", lambda it: it["holder"].replace("none", "-")),
+    ("TAGS", lambda it: " ".join(it["tags"])),
+]
+QUEUE = [
+    ("PLACE", lambda it: it["place"]),
+    ("NUMBER", lambda it: it["number"]),
+    ("KIND", lambda it: it["kind"]),
+    ("PRIORITY", lambda it: it["priority"]),
+    ("BOARDS", lambda it: it["boards"]),
+    ("OWNER", lambda it: it["owner"]),
+]
+JOBS = [
+    ("NUMBER", lambda it: it["number"]),
+    ("GROUP", lambda it: it["group"]),
+    ("KIND", lambda it: it["kind"]),
+    ("STATE", lambda it: it["state"]),
+    ("RESULT", lambda it: it["result"] or "-"),
+    ("BOARD", lambda it: it["board"] or "-"),
+    ("TYPE", lambda it: it["type"]),
+    ("ROLE", lambda it: it["role"] or "-"),
+    ("PRIORITY", lambda it: it["priority"]),
+    ("OWNER", lambda it: it["owner"]),
+    ("TAGS", lambda it: " ".join(it["tags"])),
+]
+RESERVATIONS = [
+    ("NUMBER", lambda it: it["number"]),
+    ("STATE", lambda it: it["state"]),
+    ("LEFT", lambda it: time_left(it, time.time())),
+    ("BOARD", lambda it: it["board"] or "-"),
+    ("PRIORITY", lambda it: it["priority"]),
+    ("OWNER", lambda it: it["owner"]),
+    ("TAGS", lambda it: " ".join(it["tags"])),
+]
+LEASED = ("waiting", "allocated")
+ENDED = ("expired", "canceled")
+
+
+def time_left(reservation: dict, now: float) -> str:
+    """For how long a lease still runs by this machine's clock; an acquired reservation has no
+    end."""
+    if reservation["state"] not in LEASED:
+        return "-"
+    return f"{max(0, reservation['deadline'] - int(now))} s"
+
+
+def lines_of(rows, columns) -> list:
+    """A line of titles and a line a row; numbers stand at the right of their column."""
+    cells = [[call(row) for _, call in columns] for row in rows]
+    texts = [[title for title, _ in columns]] + [[str(it) for it in row] for row in cells]
+    widths = [max(len(line[place]) for line in texts) for place in range(len(columns))]
+    right = [bool(cells) and isinstance(cells[0][place], int) for place in range(len(columns))]
+    lines = []
+    for line in texts:
+        padded = [
+            text.rjust(width) if at_right else text.ljust(width)
+            for text, width, at_right in zip(line, widths, right)
+        ]
+        lines.append(" ".join(padded).rstrip())
+    return lines
