@@ -1,7 +1,4 @@
 """farm-from-labgrid: a lab file from the places that labgrid's coordinator keeps."""
-import argparse
-import sys
-
 from farm_tools import lab_file
 
 PROGRAM = "farm-from-labgrid"
@@ -9,30 +6,21 @@ ABOUT = """\
 Reads places.yaml, in which labgrid's coordinator keeps its places, and writes a
 lab file: a board for each place, with its tags. A board's type is the value of
 the tag 'board' (--type-tag); the tag stays."""
+# What a place has that is carried over, or told in words of its own.
+KNOWN = (
+    "name", "tags", "aliases", "comment", "matches", "acquired", "acquired_resources",
+    "reservation", "allowed",
+)
 NOTHING = (None, "", "null", "Null", "NULL", "~", [], {})
 
 
 def main(words=None) -> int:
-    options = options_of(words)
-    try:
-        lab = lab_file.LabFile()
-        for name, place in places_of(options.places).items():
-            carry(lab, name, place, options)
-        return lab_file.write(PROGRAM, lab, options.output)
-    except (lab_file.Unreadable, OSError) as fault:
-        print(f"{PROGRAM}: {fault}", file=sys.stderr)
-        return lab_file.FAULT
+    return lab_file.status_of(PROGRAM, lab_of, options_of(words))
 
 
 def options_of(words):
-    parser = argparse.ArgumentParser(
-        prog=PROGRAM,
-        description=ABOUT,
-        epilog=lab_file.STATUSES,
-        formatter_class=argparse.RawDescriptionHelpFormatter,
-    )
+    parser = lab_file.parser_of(PROGRAM, ABOUT)
     parser.add_argument("places", metavar="PLACES", help="the coordinator's places.yaml")
-    parser.add_argument("--output", metavar="FILE", help="the lab file (the output)")
     parser.add_argument(
         "--type-tag", metavar="KEY", default="board", help="the tag that names the type (board)"
     )
@@ -40,6 +28,14 @@ def options_of(words):
         "--type", metavar="NAME", default="place", help="the type of places without it (place)"
     )
     return parser.parse_args(words)
+
+
+def lab_of(options) -> lab_file.LabFile:
+    """The lab of a coordinator's places."""
+    lab = lab_file.LabFile()
+    for name, place in places_of(options.places).items():
+        carry(lab, name, place, options)
+    return lab
 
 
 def places_of(file: str) -> dict:
@@ -85,18 +81,8 @@ def note_rest(lab, where: str, place: dict) -> None:
             lab.note(where, f"{key} {place[key]} isn't carried over: the board is nobody's")
     for user in _items(place.get("allowed")):
         lab.note(where, f"allowed {user} isn't carried over: a board is its holder's alone")
-    known = (
-        "name",
-        "tags",
-        "aliases",
-        "comment",
-        "matches",
-        "acquired",
-        "acquired_resources",
-        "reservation",
-    )
     for key in place:
-        if key not in (*known, "allowed") and place[key] not in NOTHING:
+        if key not in KNOWN and place[key] not in NOTHING:
             lab.note(where, f"{key} {place[key]} isn't carried over")
 
 

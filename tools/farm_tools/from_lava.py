@@ -1,8 +1,6 @@
 """farm-from-lava: a lab file from the device dictionaries and device types of a LAVA server."""
-import argparse
 import os
 import re
-import sys
 
 from farm_tools import lab_file
 
@@ -20,23 +18,12 @@ COMMENT = re.compile(r"{#.*?#}", re.DOTALL)
 
 
 def main(words=None) -> int:
-    options = options_of(words)
-    try:
-        return lab_file.write(PROGRAM, lab_of(options), options.output)
-    except (lab_file.Unreadable, OSError, UnicodeDecodeError) as fault:
-        print(f"{PROGRAM}: {fault}", file=sys.stderr)
-        return lab_file.FAULT
+    return lab_file.status_of(PROGRAM, lab_of, options_of(words))
 
 
 def options_of(words):
-    parser = argparse.ArgumentParser(
-        prog=PROGRAM,
-        description=ABOUT,
-        epilog=lab_file.STATUSES,
-        formatter_class=argparse.RawDescriptionHelpFormatter,
-    )
+    parser = lab_file.parser_of(PROGRAM, ABOUT)
     parser.add_argument("folder", metavar="FOLDER", help="the server's dispatcher-config")
-    parser.add_argument("--output", metavar="FILE", help="the lab file (the output)")
     parser.add_argument(
         "--hours", metavar="N", type=hours, default=24, help="between two checks of a board (24)"
     )

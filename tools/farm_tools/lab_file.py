@@ -1,5 +1,6 @@
 """A lab file that is written from what another system knows of its boards, and what couldn't be
 carried over."""
+import argparse
 import os
 import re
 import sys
@@ -17,6 +18,27 @@ class Unreadable(Exception):
     """What is to be read isn't of its kind."""
 
 
+def parser_of(program: str, about: str):
+    """The words that each program has which writes a lab file."""
+    parser = argparse.ArgumentParser(
+        prog=program,
+        description=about,
+        epilog=STATUSES,
+        formatter_class=argparse.RawDescriptionHelpFormatter,
+    )
+    parser.add_argument("--output", metavar="FILE", help="the lab file (the output)")
+    return parser
+
+
+def status_of(program: str, lab_of, options) -> int:
+    """Writes the lab file that `lab_of` gives for the options. Returns the exit status."""
+    try:
+        return write(program, lab_of(options), options.output)
+    except (Unreadable, OSError, UnicodeDecodeError) as fault:
+        print(f"{program}: {fault}", file=sys.stderr)
+        return FAULT
+
+
 class LabFile:
     """Types and boards in the words that the desk takes. Whatever doesn't fit is noted, as `WHERE:
     WHAT`."""
@@ -29,18 +51,20 @@ class LabFile:
     def note(self, where: str, what: str) -> None:
         self.notes.append(f"{where}: {what}")
 
-    def add_type(self, where: str, name: str) -> str:
-        """Adds a type, where it isn't there already. Returns its name in the lab file."""
+    def add_type(self, where: str, name: str, check: str = "none", every: int = 0) -> str:
+        """Adds a type with its check, where it isn't there already. Returns its name in the lab
+        file."""
         word = self._word(where, "type", name, NAME)
-        self.types.setdefault(word, None)
+        self.types.setdefault(word, (check, every))
         return word
 
     def check_type(self, name: str, hours: int) -> None:
         """Lets the boards of a type be checked every so many hours."""
-        self.types[name] = hours
+        self.types[name] = ("hours", hours)
 
-    def add_board(self, where: str, name: str, kind: str, tags) -> None:
-        """Adds a board of a type that was added, with its tags as texts `key` or `key=value`."""
+    def add_board(self, where: str, name: str, kind: str, tags, health=None) -> None:
+        """Adds a board of a type that was added, with its tags as texts `key` or `key=value`, and
+        its health, which `farm import` passes over."""
         word = self._word(where, "board", name, NAME)
         if word in self.boards:
             self.note(where, f"board {name} isn't carried over: there is a {word} already")
@@ -48,23 +72,24 @@ class LabFile:
         kept = sorted({self._tag(where, it) for it in tags} - {None})
         for tag in kept[MOST_TAGS:]:
             self.note(where, f"tag {tag} isn't carried over: a board has {MOST_TAGS} tags at most")
-        self.boards[word] = (kind, kept[:MOST_TAGS])
+        self.boards[word] = (kind, kept[:MOST_TAGS], health)
 
     def text(self) -> str:
         """The lab file."""
         lines = []
-        for name, hours in sorted(self.types.items()):
+        for name, (check, every) in sorted(self.types.items()):
             lines += [f"[types.{_key(name)}]"]
-            lines += ['check = "hours"', f"every = {hours}"] if hours else []
+            lines += [f'check = "{check}"', f"every = {every}"] if check != "none" else []
             lines += [""]
-        for name, (kind, tags) in sorted(self.boards.items()):
+        for name, (kind, tags, health) in sorted(self.boards.items()):
             listed = ", ".join(f'"{it}"' for it in tags)
-            lines += [f"[boards.{_key(name)}]", f'type = "{kind}"', f"tags = [{listed}]", ""]
+            lines += [f"[boards.{_key(name)}]", f'type = "{kind}"', f"tags = [{listed}]"]
+            lines += [f'health = "{health}"', ""] if health else [""]
         return "\n".join(lines)
 
     def note_limits(self) -> None:
         """Notes what a farm has no room for, where `farm import` will stop."""
-        kinds = [kind for kind, _ in self.boards.values()]
+        kinds = [board[0] for board in self.boards.values()]
         for what, most, found in [
             ("types", MOST_TYPES, len(self.types)),
             ("boards", MOST_BOARDS, len(self.boards)),

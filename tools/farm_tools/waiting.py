@@ -37,7 +37,7 @@ class Progress:
 
 
 def place_of(desk, kind: str, number: int):
-    """The place in the queue, as ` (2 of 5)`, or None where it isn't in the queue."""
+    """Where a claim stands, as `place 2 of 5 in the queue`, or None where it isn't in the queue."""
     queue = desk.look("/queue")["queue"]
     for place, claim in enumerate(queue, 1):
         if (claim["kind"], claim["number"]) == (kind, number):
