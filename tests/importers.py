@@ -1,5 +1,6 @@
 #!/usr/bin/env python3
-"""Writes lab files from places of labgrid and devices of LAVA: python3 tests/importers.py bin/farm
+"""Writes lab files from places of labgrid, devices of LAVA and boards of a desk:
+python3 tests/importers.py bin/farm
 
 Each row demands the lab file and the lines of what it couldn't carry over, byte by byte, and lets
 the program import it. Ends with status 1 at the first thing that isn't as it should be, and with 77
@@ -10,7 +11,7 @@ import subprocess
 import sys
 import tempfile
 
-from served import TOOLS, demand, environment
+from served import TOOLS, Farm, demand, environment, free_port
 
 # As labgrid's coordinator writes its places.
 PLACES = """\
@@ -131,6 +132,36 @@ FOLDER: what stands in LAVA's database alone isn't carried over: owners, workers
 """
 
 
+# What a farm's boards come to.
+LAB_OF_DESK = """\
+[types.bbb]
+
+[types.rpi]
+check = "jobs"
+every = 20
+
+[boards.b1]
+type = "bbb"
+tags = ["hdmi", "rack=1"]
+health = "Good"
+
+[boards.b2]
+type = "bbb"
+tags = []
+health = "Maintenance"
+
+[boards."r.1"]
+type = "rpi"
+tags = []
+health = "Unknown"
+"""
+NOTES_OF_DESK = """\
+board b1: reservation 1, which has it, isn't carried over
+board b3: it isn't carried over: it is Retired
+queue: reservation 2 of bob isn't carried over
+"""
+
+
 def run(*words):
     """What a tool comes to: its status, output and errors."""
     ran = subprocess.run(
@@ -226,10 +257,59 @@ def labgrid(folder):
     return "places of labgrid become boards, a tag their type, and the rest is told"
 
 
+def farm_of_desk(folder):
+    """A served farm with a board of each health, one that is held, and one that waits."""
+    farm = Farm(FARM, folder, [("b1", "bbb", ["rack=1", "hdmi"]), ("b2", "bbb", [])])
+    farm.tell("admin", "/types", {"name": "rpi", "check": "jobs", "every": 20})
+    farm.tell("admin", "/boards", {"name": "r.1", "type": "rpi"})
+    farm.tell("admin", "/boards", {"name": "b3", "type": "bbb"})
+    farm.tell("ann", "/reservations", {"tags": ["name=b1"]})
+    farm.tell("dispatcher", "/pass")
+    farm.tell("bob", "/reservations", {"tags": ["name=b1"]})
+    for board, health in [("b2", "Maintenance"), ("r.1", "Unknown"), ("b3", "Retired")]:
+        farm.tell("admin", f"/boards/{board}/health", {"health": health})
+    return farm
+
+
+def desk(folder):
+    farm = farm_of_desk(folder)
+    lab = os.path.join(folder, "lab.toml")
+    words = ["farm-from-desk", "--server", farm.server]
+    told = notes(words[0], NOTES_OF_DESK)
+    demand("its output", (1, LAB_OF_DESK, told), run(*words))
+    demand("to a file", (1, "", told), run(*words, "--output", lab))
+    farm.kill()
+    next_folder = tempfile.mkdtemp(dir=folder)
+    demand("its import", "accepted 5, kept 0\n", imported(next_folder, lab))
+    farm.db = os.path.join(next_folder, "farm.db")
+    farm.start()
+    words += ["--set-health", lab]
+    for _ in range(2):
+        demand("health", (0, "b1 Good\nr.1 Unknown\n", ""), run(*words))
+    healths = [(it["name"], it["health"]) for it in farm.look("/boards")["boards"]]
+    demand("boards", [("b1", "Good"), ("b2", "Maintenance"), ("r.1", "Unknown")], healths)
+    demand("as a user", (3, 1), refused(run(*words, "--user", "ann")))
+    demand("without health", (4, 1), refused(run(*words[:-1], write(folder, "lab", LAB_OF_PLACES))))
+    farm.kill()
+    return "boards of a desk become boards of the next, with their tags and health"
+
+
+def refused(ran):
+    """The status, and how many lines were told."""
+    return ran[0], ran[2].count("\n")
+
+
+def has_loopback():
+    try:
+        return free_port() > 0
+    except OSError:
+        return False
+
+
 if __name__ == "__main__":
     FARM = os.path.realpath(sys.argv[1])
     with tempfile.TemporaryDirectory() as room:
-        for row in (lava, limits):
+        for row in (lava, limits, *([desk] if has_loopback() else [])):
             print(f"importers: {row(tempfile.mkdtemp(dir=room))}", flush=True)
         try:
             import yaml  # noqa: F401
