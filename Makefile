@@ -2,7 +2,8 @@
 # make bin    proves and builds the program, and leaves it at bin/farm
 # make test   every proof, named wrong body, test and program, from nothing (rt ci), then the scripts of tests/
 # make wrong  the further wrong bodies of wrong/, many to a check, over what make test or make bin proved
-.PHONY: run bin test wrong
+# make deb    a Debian package of bin/farm and the tools, in bin/
+.PHONY: run bin test wrong deb
 
 run:
 	@sh tests/day.sh
@@ -16,3 +17,6 @@ test:
 wrong:
 	@python3 tests/waves_test.py
 	@python3 tests/waves.py
+
+deb:
+	@sh packaging/build.sh bin/farm bin
