@@ -16,6 +16,9 @@ umask 022
 
 # ---- program, tools, page
 install -D -m 755 "$program" "$tree/usr/bin/farm"
+if command -v strip > /dev/null; then
+    strip --strip-unneeded "$tree/usr/bin/farm"
+fi
 mkdir -p "$share/farm_tools" "$share/page" "$doc/examples"
 cp tools/farm_tools/*.py "$share/farm_tools"
 cp tools/page/farm.html "$share/page"

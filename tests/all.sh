@@ -45,7 +45,7 @@ if [ "$status" = 0 ]; then
     player=crates/farm_play/out/farm_play
     for script in words.sh statuses.sh examples.sh shell.sh refused_memory.sh real_clients.sh sockets.py \
         malformed.py kills.py dispatch.py client.py importers.py page.py proxy.py generated.py \
-        api.py package.sh; do
+        api.py package.sh using.sh; do
         # (those that go by chance are run longer by hand, as each says)
         case $script in
             generated.py) set -- python3 "tests/$script" "$player" ;;
