@@ -18,7 +18,8 @@ use Rattle.farm_types.proofs.Put.{found_passes}
 use Rattle.farm_sound.proofs.Own.{text_itself}
 use Rattle.farm_sound.proofs.Tests.{both}
 use Rattle.farm_pick.specs.Choice.{IsShortlist, candidate_at}
-use Rattle.farm_pick.specs.Fitting.{named_at}
+use Rattle.farm_sound.specs.Place.{board_in}
+use Rattle.farm_pick.specs.Fitting.{is_named, named_at}
 use Rattle.farm_pick.specs.Kept.{IsIdle, kind_at, shown_idle}
 use Rattle.farm_pick.specs.Queued.{IdleBoard, idle_board}
 use Rattle.farm_pick.specs.declared.idle.IdleRow.{IdleRow}
@@ -27,16 +28,36 @@ use Rattle.farm_pick.proofs.Places.{names_differ, same_from_some}
 
 -- ---- the board of a name
 
+board_is : (boards : List BoardRow) (p : ℕ) → p < length boards → (b : BoardRow) → b ≡ get_or boards p b → slice_get boards p ≡ Some b
+board_is boards p low b is = slice_get-get_or boards p b low ∙ ap Some (sym is)
+
+-- the board at a place, and its name
+its_name : (boards : List BoardRow) (name : List ℕ) (p : ℕ) → p < length boards → is_named boards name p ≡ true → (b : BoardRow) → b ≡ get_or boards p b
+    → bytes_eq b.name name ≡ true
+its_name boards name p low named b is = sym (ap (λ o. option_map_or (λ (c : BoardRow). bytes_eq c.name name) o false) (board_is boards p low b is)) ∙ named
+
+pub named_near : (boards : List BoardRow) (name : List ℕ) (p : ℕ) → p < length boards → (b : BoardRow) → b ≡ get_or boards p b → bytes_eq b.name name ≡ true
+    → is_named boards name p ≡ true
+named_near boards name p low b is same = ap (λ o. option_map_or (λ (c : BoardRow). bytes_eq c.name name) o false) (board_is boards p low b is) ∙ same
+
+-- the board that a search finds
+pub named_found : (boards : List BoardRow) (name : List ℕ) (p : ℕ) → p < length boards → ((d : BoardRow) → board_in boards name ≡ Some (get_or boards p d))
+    → is_named boards name p ≡ true
+named_found [] name p low found = absurd (omega arith)
+named_found (b ∷ boards) name p low found =
+    ap (λ o. option_map_or (λ (c : BoardRow). bytes_eq c.name name) o false) (slice_get-get_or (b ∷ boards) p b low)
+    ∙ found_passes (λ (c : BoardRow). bytes_eq c.name name) (get_or (b ∷ boards) p b) (b ∷ boards) (found b)
+
 module _ (boards : List BoardRow) (sorted : IsStrictlySortedBy board_cmp boards) (name : List ℕ) (want : Want) where
   abbrev has_name : BoardRow → Bool
   has_name b = bytes_eq b.name name
 
   -- the board that is found, if it fits
-  pub named_here : (p : ℕ) → p < length boards → ((d : BoardRow) → find has_name boards ≡ Some (get_or boards p d)) → (b : BoardRow) → b ≡ get_or boards p b
+  pub named_here : (p : ℕ) → p < length boards → is_named boards name p ≡ true → (b : BoardRow) → b ≡ get_or boards p b
       → fits b want ≡ true → named_at boards name want p ≡ true
-  named_here p low found b is fit =
-      ap (λ o. option_map_or (λ b. has_name b && fits b want) o false) (slice_get-get_or boards p b low ∙ ap Some (sym is))
-      ∙ ap (λ v. v && fits b want) (ap has_name is ∙ found_passes has_name (get_or boards p b) boards (found b)) ∙ fit
+  named_here p low named b is fit =
+      ap (λ o. option_map_or (λ b. has_name b && fits b want) o false) (board_is boards p low b is)
+      ∙ ap (λ v. v && fits b want) (its_name boards name p low named b is) ∙ fit
 
   -- what stands at a place
   named_by : (o : Option BoardRow) → ((b : BoardRow) → o ≡ Some b → (has_name b && fits b want) ≡ false) → option_map_or (λ b. has_name b && fits b want) o false ≡ false
@@ -47,15 +68,15 @@ module _ (boards : List BoardRow) (sorted : IsStrictlySortedBy board_cmp boards)
   and_false true b f = f refl
   and_false false b f = refl
 
-  pub none_fits : (p : ℕ) → p < length boards → ((d : BoardRow) → find has_name boards ≡ Some (get_or boards p d)) → (b : BoardRow) → b ≡ get_or boards p b
+  pub none_fits : (p : ℕ) → p < length boards → is_named boards name p ≡ true → (b : BoardRow) → b ≡ get_or boards p b
       → fits b want ≡ false → (q : ℕ) → named_at boards name want q ≡ false
-  none_fits p low found b is unfit q = named_by (slice_get boards q) (λ c at. and_false (has_name c) (fits c want) (λ same. by c at same (cases_order p q)))
+  none_fits p low named b is unfit q = named_by (slice_get boards q) (λ c at. and_false (has_name c) (fits c want) (λ same. by c at same (cases_order p q)))
     where
       here : slice_get boards p ≡ Some b
-      here = slice_get-get_or boards p b low ∙ ap Some (sym is)
+      here = board_is boards p low b is
 
       mine : bytes_eq b.name name ≡ true
-      mine = ap has_name is ∙ found_passes has_name (get_or boards p b) boards (found b)
+      mine = its_name boards name p low named b is
 
       apart : (c : BoardRow) → slice_get boards q ≡ Some c → has_name c ≡ true → (p ≡ q → ⊥) → ⊥
       apart c at same other =

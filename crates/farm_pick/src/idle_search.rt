@@ -1,11 +1,12 @@
 //! The least list out of the free boards alone.
 ghost use Rattle.std.specs.Prelude.{◌≡◌, ◌≢◌, ◌==◌, ◌||◌, ◌<◌, ◌≤◌, ℕ, true, false, All, AllPairs};
-ghost use Rattle.std.specs.Prelude.{filter, length, map, IfNone, IfSome, option_map};
+ghost use Rattle.std.specs.Prelude.{filter, length, map, None, IfNone, IfSome, option_map};
 ghost use Rattle.std.specs.List.Sorted.{IsStrictlySortedBy};
 ghost use Rattle.farm_types.specs.Table.{board_cmp};
 ghost use Rattle.farm_types.specs.Pick.{is_free, least};
 ghost use Rattle.farm_pick.specs.Choice.{IsShortlist, candidate_at};
-ghost use Rattle.farm_pick.specs.Fitting.{named_at};
+ghost use Rattle.farm_sound.specs.Place.{board_in};
+ghost use Rattle.farm_pick.specs.Fitting.{is_named, named_at};
 ghost use Rattle.farm_pick.specs.Kept.{AreIdle, shown_idle};
 ghost use Rattle.farm_pick.specs.Least.{boards_at};
 ghost use Rattle.farm_pick.specs.Queued.{idle_board};
@@ -17,9 +18,39 @@ use farm_sound::seek;
 use farm_types::rows::{BoardRow, TypeRow, Want};
 use farm_types::words::Name;
 
+/// How many boards are looked at one by one before a binary search.
+const NEARBY: usize = 8;
+
+/// The place of the board of a name: one of the next few from a place on, or else by binary search.
+/// For names that come in their order, each asked for behind the one before it, it costs as many
+/// comparisons as boards were passed, and at most those few and a binary search.
+fn place_of(boards: &[BoardRow], name: &Name, from: usize) -> Option<usize>
+    requires { IsStrictlySortedBy board_cmp boards.now }
+    ensures within { IfSome result (λ p. p < length boards.now) }
+    ensures found { IfSome result (λ p. is_named boards.now name.now p ≡ true) }
+    ensures none { IfNone result (board_in boards.now name.now ≡ None) }
+{
+    let end = from.saturating_add(NEARBY).min(boards.len());
+    for at in from..end {
+        if boards[at].name.is(name) {
+            return Some(at);
+        }
+    }
+    match seek::board_at(boards, name) {
+        Ok(at) => Some(at),
+        Err(_gap) => None,
+    }
+}
+
 /// The place of a free board, if it is of the queue's type and fits the want. A board of another
-/// type isn't looked up.
-fn fitting_place(row: &IdleRow, queue: usize, boards: &[BoardRow], want: &Want) -> Option<usize>
+/// type isn't looked up; the others are looked for behind the one that was looked up last.
+fn fitting_place(
+    row: &IdleRow,
+    queue: usize,
+    boards: &[BoardRow],
+    want: &Want,
+    behind: &mut usize,
+) -> Option<usize>
     requires { IsStrictlySortedBy board_cmp boards.now }
     ensures found { IfSome result (λ p. named_at boards.now row.now.name want.now p ≡ true) }
     ensures none { IfNone result (((queue == 0) || (row.now.queue == queue)) ≡ true
@@ -28,21 +59,23 @@ fn fitting_place(row: &IdleRow, queue: usize, boards: &[BoardRow], want: &Want) 
     if !idle::is_in(row, queue) {
         return None;
     }
-    match seek::board_at(boards, &row.name) {
-        Ok(place) => {
+    match place_of(boards, &row.name, *behind) {
+        Some(place) => {
+            *behind = place + 1;
             if fit::fits(&boards[place], want) {
                 Some(place)
             } else {
                 None
             }
         }
-        Err(_gap) => None,
+        None => None,
     }
 }
 
-/// The first places of free boards for the want: all of them, or as many as the limit. With n
-/// boards each free board of the want's type costs a binary search and a test; a board that isn't
-/// free costs nothing.
+/// The first places of free boards for the want: all of them, or as many as the limit. The free
+/// boards and the rows of all boards are walked side by side, in name order: each free board of the
+/// want's type costs a test, and a comparison for each board since the last one; where these are
+/// more than a few, a binary search.
 fn shortlist(
     kinds: &[Name],
     rows: &[IdleRow],
@@ -60,11 +93,12 @@ fn shortlist(
 {
     let queue = kind::asked_queue(kinds, &want.kind);
     let mut found = Picked::new();
+    let mut behind = 0;
     for row in rows {
         if found.len() >= limit {
             break;
         }
-        match fitting_place(row, queue, boards, want) {
+        match fitting_place(row, queue, boards, want, &mut behind) {
             Some(place) => found = found.with(place),
             None => {}
         }

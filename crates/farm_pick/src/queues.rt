@@ -181,8 +181,10 @@ impl Queues {
     /// a look at boards that aren't free. The boards here are the free ones of `boards`, each with
     /// its type. It takes no memory.
     ///
-    /// Each want costs a number's comparison a free board, and for those of its type a binary
-    /// search and a test, up to as many that fit as there are wants.
+    /// The free boards and the rows of all boards are walked side by side: each want costs a
+    /// number's comparison a free board, and for those of its type a test and a name's comparison
+    /// for each board since the last of them, at most a few and a binary search; it ends at as many
+    /// boards that fit as there are wants.
     pub fn least_of(
         &self,
         boards: &[BoardRow],

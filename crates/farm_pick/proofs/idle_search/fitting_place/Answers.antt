@@ -4,13 +4,13 @@ use Rattle.farm_pick.proofs.idle_search.fitting_place.Goals as goal
 
 pub returns-then-fits-clause-found : goal.returns-then-fits-clause-found
 returns-then-fits-clause-found c =
-    named_here c.args.boards.now c.requires c.args.row.now.name c.args.want.now c.in-Ok.place c.in-Ok.ensures.within c.in-Ok.ensures.row
+    named_here c.args.boards.now c.requires c.args.row.now.name c.args.want.now c.in-Some.place c.in-Some.ensures.within c.in-Some.ensures.found
     c.index-boards-place.result c.index-boards-place.is (sym c.fits.ensures ∙ c.if-fits.true)
 
 pub returns-else-fits-clause-none : goal.returns-else-fits-clause-none
 returns-else-fits-clause-none c = λ asked q.
-    none_fits c.args.boards.now c.requires c.args.row.now.name c.args.want.now c.in-Ok.place c.in-Ok.ensures.within c.in-Ok.ensures.row
+    none_fits c.args.boards.now c.requires c.args.row.now.name c.args.want.now c.in-Some.place c.in-Some.ensures.within c.in-Some.ensures.found
     c.index-boards-place.result c.index-boards-place.is (sym c.fits.ensures ∙ c.if-fits.false) q
 
-pub returns-in-Err-clause-none : goal.returns-in-Err-clause-none
-returns-in-Err-clause-none c = λ asked q. none_named c.args.boards.now c.requires c.args.row.now.name c.args.want.now c.in-Err.ensures.row q
+pub returns-in-None-clause-none : goal.returns-in-None-clause-none
+returns-in-None-clause-none c = λ asked q. none_named c.args.boards.now c.requires c.args.row.now.name c.args.want.now c.in-None.ensures.none q
