@@ -19,5 +19,6 @@ pub mod Free
 pub mod Given
 pub mod Leasing
 pub mod Trying
+pub mod Skipping
 pub mod Commanded
 pub mod Filled

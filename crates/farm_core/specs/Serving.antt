@@ -1,17 +1,20 @@
 -- What the program does for one claim of a pass.
-use Rattle.std.specs.Prelude.{◌≡◌, ◌==◌, ◌+◌, ℕ, Bool, true, false, List, [], ◌∷◌, map, not, IsSomeAnd}
+use Rattle.std.specs.Prelude.{◌≡◌, ◌==◌, ◌+◌, ℕ, Bool, true, false, List, [], ◌∷◌, map, not}
+use Rattle.std.specs.Prelude.{IsSomeAnd, Option, Some, None}
 use Rattle.std.specs.Prelude.{if◌then◌else◌}
-use Rattle.std.specs.List.{filter}
+use Rattle.std.specs.List.{AllByRecursion, filter}
 use Rattle.std.specs.Option.{option_map_or}
 use Rattle.std.specs.Str.{bytes_eq}
 use Rattle.farm_types.specs.Table.{change_where}
 use Rattle.farm_types.specs.Farm.{Farm, members, res_of}
 use Rattle.farm_types.specs.Pass.{allocated, held, scheduled, serve}
-use Rattle.farm_types.specs.Pick.{Claimed, is_free, least}
+use Rattle.farm_types.specs.Pick.{Among, Claimed, is_free, least, queue, shown_claim}
 use Rattle.farm_pick.specs.Queued.{Lists}
 use Rattle.farm_types.specs.declared.rows.Holder.{Holder}
 use Rattle.farm_types.specs.declared.rows.State.{State}
+use Rattle.farm_types.specs.declared.claims.ClaimKind.{ClaimKind}
 use Rattle.farm_types.specs.declared.rows.BoardRow.{BoardRow}
+use Rattle.farm_types.specs.declared.rows.Want.{Want}
 use Rattle.farm_core.specs.Drafted.{Drafted}
 use Rattle.farm_core.specs.Following.{without_boards}
 
@@ -36,6 +39,28 @@ give_first F number (name ∷ names) = record F {
 abbrev pub Asks : Bool → Farm → Claimed → Type 0
 Asks true F c = IsSomeAnd (res_of F c.number) (λ r. c.wants ≡ r.want ∷ [])
 Asks false F c = c.wants ≡ map (λ m. m.want) (members F c.number)
+
+-- what a claim wants, by the rows of its reservation or its group
+abbrev pub wants_of : Farm → ClaimKind → ℕ → List Want
+wants_of F ClaimKind.Reservation number =
+    option_map_or (λ r. r.want ∷ []) (res_of F number) []
+wants_of F ClaimKind.Group number = map (λ m. m.want) (members F number)
+
+-- a claim that waits and that no free boards meet
+pub record IsUnmet (F : Farm) (kind : ClaimKind) (number : ℕ) : Type 0 where
+  pub claimed : Claimed
+  pub among : Among claimed (queue F)
+  pub of_kind : (shown_claim claimed).kind ≡ kind
+  pub numbered : claimed.number ≡ number
+  pub unmet : least F.boards (is_free F.types) claimed.wants ≡ None
+
+-- each claim that is remembered is such a one
+abbrev pub IfUnmet : Farm → Option (ClaimKind × ℕ) → Type 0
+IfUnmet F None = Unit {0}
+IfUnmet F (Some known) = IsUnmet F known.0 known.1
+
+abbrev pub AreUnmet : Farm → List (Option (ClaimKind × ℕ)) → Type 0
+AreUnmet F places = AllByRecursion (IfUnmet F) places
 
 -- one more, if a claim was served
 abbrev pub counted : ℕ → Bool → ℕ

@@ -1,4 +1,5 @@
 use Rattle.std.proofs.Common.{◌≡◌}
+use Rattle.farm_core.specs.Serving.{AreUnmet}
 use Rattle.farm_core.proofs.Trying.{Tries, left}
 use Rattle.farm_core.proofs.draft.Draft.serve.Given as goal
 
@@ -6,6 +7,7 @@ abbrev pub invariant-loop-claim : goal.invariant-loop-claim
 invariant-loop-claim l = record {
   tries : Tries l.fn.self.farm l.draft.farm l.draft.queues l.count l.last;
   start : l.draft.start ≡ l.fn.self.start;
+  unmet : AreUnmet l.draft.farm l.unmet;
 }
 
 abbrev pub decreases-loop-claim : goal.decreases-loop-claim

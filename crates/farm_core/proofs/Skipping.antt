@@ -1,0 +1,186 @@
+-- Claims that want what was found unmet are passed over.
+use Rattle.std.proofs.Common.{◌≡◌, ◌∙◌, ◌==◌, ◌+◌, ◌<◌, ◌++◌, ℕ, zero, suc, List, [], ◌∷◌, map, length, take, slice_set, get_or, Bool, true, false, cond, not, Option, Some, None, IsSomeAnd, inl, inr, refl, sym, ap, subst, arith}
+use Rattle.std.specs.List.{AllByRecursion, filter}
+use Rattle.std.specs.Option.{option_map_or}
+use Rattle.std.specs.Str.{bytes_eq}
+use Rattle.std.proofs.lemmas.List.{map-append, take_more}
+use Rattle.std.proofs.lemmas.Slice.Eq.{bytes_eq-Decides}
+use Rattle.farm_types.specs.Farm.{Farm, res_of}
+use Rattle.farm_types.specs.Pass.{Served, give, serve}
+use Rattle.farm_types.specs.Pick.{Among, Claimed, is_free, least, queue, shown_claim}
+use Rattle.farm_types.specs.Small.{IsSmall}
+use Rattle.farm_types.specs.Sound.{EachTwo, IsSound}
+use Rattle.farm_types.specs.declared.claims.ClaimKind.{ClaimKind}
+use Rattle.farm_types.specs.declared.rows.BoardRow.{BoardRow}
+use Rattle.farm_types.specs.declared.rows.ResRow.{ResRow}
+use Rattle.farm_sound.proofs.Claims.{IsClaim, queue_claims}
+use Rattle.farm_sound.proofs.Lists.{among_has}
+use Rattle.farm_sound.proofs.Tests.{same_number}
+use Rattle.farm_pick.specs.Queued.{Lists, Queued}
+use Rattle.farm_pick.proofs.Filling.{numbers_differ}
+use Rattle.farm_pick.proofs.Giving.{giving_follows}
+use Rattle.farm_pick.proofs.Merging.{among_later, unmet_stays, unserved}
+use Rattle.farm_core.specs.Drafted.{Drafted}
+use Rattle.farm_core.specs.Following.{without_boards}
+use Rattle.farm_core.specs.Serving.{AreUnmet, Asks, IfUnmet, IsUnmet, Serves, counted, wants_of}
+use Rattle.farm_core.proofs.Passing.{asks_claim, small_claim}
+use Rattle.farm_core.proofs.Serving.{names_of}
+
+-- ---- equal lists
+
+-- one more item of a list
+taken_one : {A : Type 0} (xs : List A) (i : ℕ) (x : A) → i < length xs → x ≡ get_or xs i x → take (i + 1) xs ≡ take i xs ++ (x ∷ [])
+taken_one xs i x low is = take_more xs i x low ∙ ap (λ y. take i xs ++ (y ∷ [])) (sym is)
+
+pub same_more : {A : Type 0} (xs ys : List A) (i : ℕ) (x y : A) → i < length xs → i < length ys → x ≡ get_or xs i x → y ≡ get_or ys i y
+    → take i xs ≡ take i ys → x ≡ y → take (i + 1) xs ≡ take (i + 1) ys
+same_more xs ys i x y low less here there so same = taken_one xs i x low here ∙ (λ k. so k ++ (same k ∷ [])) ∙ sym (taken_one ys i y less there)
+
+-- two texts that are compared
+pub same_text : (a b x y : List ℕ) → a ≡ x → b ≡ y → false ≡ not (bytes_eq a b) → x ≡ y
+same_text a b x y one two same = sym one ∙ (bytes_eq-Decides a b).0 (by (bytes_eq a b) same) ∙ two
+  where
+    by : (v : Bool) → false ≡ not v → v ≡ true
+    by true is = refl
+    by false is = cc
+
+module _ {A U : Type 0} (f : A → U) (xs ys : List A) (i : ℕ) where
+  pub mapped_more : (x y : A) → i < length xs → i < length ys → x ≡ get_or xs i x → y ≡ get_or ys i y
+      → map f (take i xs) ≡ map f (take i ys) → f x ≡ f y → map f (take (i + 1) xs) ≡ map f (take (i + 1) ys)
+  mapped_more x y low less here there so same =
+      ap (map f) (taken_one xs i x low here) ∙ map-append f (take i xs) (x ∷ []) ∙ (λ k. so k ++ (same k ∷ []))
+      ∙ sym (ap (map f) (taken_one ys i y less there) ∙ map-append f (take i ys) (y ∷ []))
+
+-- ---- what a claim wants, by its rows
+
+wants_asked : (F : Farm) (c : Claimed) → Asks c.reservation F c → c.wants ≡ wants_of F (shown_claim c).kind c.number
+wants_asked F c asks = by c.reservation asks
+  where
+    some : (o : Option ResRow) → IsSomeAnd o (λ r. c.wants ≡ r.want ∷ []) → c.wants ≡ option_map_or (λ (r : ResRow). r.want ∷ []) o []
+    some None asks = absurd asks
+    some (Some r) asks = asks
+
+    by : (v : Bool) → Asks v F c → c.wants ≡ wants_of F (cond v ClaimKind.Reservation ClaimKind.Group) c.number
+    by true asks = some (res_of F c.number) asks
+    by false asks = asks
+
+module _ (F : Farm) (kind : ClaimKind) (number : ℕ) (sound : IsSound F) (u : IsUnmet F kind number) where
+  is_claim : IsClaim F u.claimed
+  is_claim = among_has (IsClaim F) u.claimed (queue F) (queue_claims F sound.steady) u.among
+
+  pub wants_unmet : least F.boards (is_free F.types) (wants_of F kind number) ≡ None
+  wants_unmet =
+      let wants : u.claimed.wants ≡ wants_of F kind number = wants_asked F u.claimed (asks_claim F u.claimed is_claim) ∙ (λ i. wants_of F (u.of_kind i) (u.numbered i)) in
+      ap (least F.boards (is_free F.types)) (sym wants) ∙ u.unmet
+
+  pub unmet_small : IsSmall number
+  unmet_small = subst IsSmall u.numbered (small_claim F u.claimed sound is_claim)
+
+-- each that is remembered
+pub unmet_at : (F : Farm) (places : List (Option (ClaimKind × ℕ))) (i : ℕ) (d x : Option (ClaimKind × ℕ)) → AreUnmet F places → i < length places → get_or places i d ≡ x
+    → IfUnmet F x
+unmet_at F [] i d x all low is = absurd (omega arith)
+unmet_at F (p ∷ places) zero d x all low is = subst (IfUnmet F) is all.0
+unmet_at F (p ∷ places) (suc i) d x all low is = unmet_at F places i d x all.1 (omega arith) is
+
+-- ---- a claim that is passed over
+
+pub skipped : (D : Drafted) (c : Claimed) (kind : ClaimKind) → (shown_claim c).kind ≡ kind → (number : ℕ) → c.number ≡ number → Asks c.reservation D.farm c
+    → least D.farm.boards (is_free D.farm.types) (wants_of D.farm kind number) ≡ None → Serves D c false D
+skipped D c kind is number same asks none =
+    let unmet : least D.farm.boards (is_free D.farm.types) c.wants ≡ None =
+    ap (least D.farm.boards (is_free D.farm.types)) (wants_asked D.farm c asks ∙ (λ i. wants_of D.farm (is i) (same i))) ∙ none in (
+      λ n. unserved D.farm.clock (record { farm = D.farm; claims = n }) c unmet,
+      refl,
+      sym (ap (λ o. option_map_or {U = Lists} (λ bs. record {
+        claims = filter (λ (x : Queued). not (x.claim.number == c.number)) D.queues.claims;
+        boards = without_boards (names_of bs) D.queues.boards;
+      }) o D.queues) unmet),
+    )
+
+-- ---- what is unmet stays so
+
+one_of : (a b : Claimed) (xs : List Claimed) → EachTwo (λ (c d : Claimed). c.number ≡ d.number → ⊥) xs → Among a xs → Among b xs → a.number ≡ b.number → a ≡ b
+one_of a b [] each here there same = absurd here
+one_of a b (x ∷ xs) each (inl here) (inl there) same = here ∙ sym there
+one_of a b (x ∷ xs) each (inl here) (inr there) same =
+    absurd (among_has (λ (d : Claimed). x.number ≡ d.number → ⊥) b xs each.0 there (sym (ap (λ (c : Claimed). c.number) here) ∙ same))
+one_of a b (x ∷ xs) each (inr here) (inl there) same =
+    absurd (among_has (λ (d : Claimed). x.number ≡ d.number → ⊥) a xs each.0 here (sym (ap (λ (c : Claimed). c.number) there) ∙ sym same))
+one_of a b (x ∷ xs) each (inr here) (inr there) same = one_of a b xs each.1 here there same
+
+module _ (F G : Farm) (c : Claimed) (served : Bool) (sound : IsSound F) (at : Among c (queue F))
+    (serves : (n : ℕ) → serve F.clock (record { farm = F; claims = n }) c ≡ record { farm = G; claims = counted n served }) where
+  abbrev come : Option (List BoardRow) → Farm
+  come o = (option_map_or {U = Served} (λ bs. record { farm = give F c bs F.clock; claims = 0 + 1 }) o (record { farm = F; claims = 0 })).farm
+
+  still_among : (d : Claimed) → Among d (queue F) → least F.boards (is_free F.types) d.wants ≡ None → Among d (queue G)
+  still_among d here unmet =
+      subst (λ (H : Farm). Among d (queue H)) (ap (λ (s : Served). s.farm) (serves 0)) (by (least F.boards (is_free F.types) c.wants) refl)
+    where
+      other : (bs : List BoardRow) → least F.boards (is_free F.types) c.wants ≡ Some bs → (v : Bool) → (d.number == c.number) ≡ v → not (d.number == c.number) ≡ true
+      other bs met true same =
+          let is : d ≡ c = one_of d c (queue F) (numbers_differ F sound) here at (same_number d.number c.number same) in
+          let both : ◌≡◌ {A = Option (List BoardRow)} None (Some bs) = sym unmet ∙ ap (λ (e : Claimed). least F.boards (is_free F.types) e.wants) is ∙ met in
+          cc
+      other bs met false differs = ap not differs
+
+      by : (o : Option (List BoardRow)) → least F.boards (is_free F.types) c.wants ≡ o → Among d (queue (come o))
+      by None is = here
+      by (Some bs) is =
+          let two = giving_follows F c bs F.clock sound (omega arith) at is in
+          subst (Among d) (sym two.0) (among_later (λ (e : Claimed). not (e.number == c.number)) d (queue F) here (other bs is (d.number == c.number) refl))
+
+  unmet_on : (kind : ClaimKind) (number : ℕ) → IsUnmet F kind number → IsUnmet G kind number
+  unmet_on kind number u = record {
+    claimed = u.claimed;
+    among = still_among u.claimed u.among u.unmet;
+    of_kind = u.of_kind;
+    numbered = u.numbered;
+    unmet = subst (λ (s : Served). least s.farm.boards (is_free s.farm.types) u.claimed.wants ≡ None) (serves 0)
+        (unmet_stays F.clock (record { farm = F; claims = 0 }) c u.claimed.wants sound (omega arith) at u.unmet);
+  }
+
+  pub all_on : (places : List (Option (ClaimKind × ℕ))) → AreUnmet F places → AreUnmet G places
+  all_on [] all = tt
+  all_on (None ∷ places) all = (tt, all_on places all.1)
+  all_on (Some k ∷ places) all = (unmet_on k.0 k.1 all.0, all_on places all.1)
+
+  -- a claim that wasn't served is unmet
+  pub not_met : served ≡ false → IsUnmet G (shown_claim c).kind c.number
+  not_met is = unmet_on (shown_claim c).kind c.number (record { claimed = c; among = at; of_kind = refl; numbered = refl; unmet = by (least F.boards (is_free F.types) c.wants) refl })
+    where
+      by : (o : Option (List BoardRow)) → least F.boards (is_free F.types) c.wants ≡ o → o ≡ None
+      by None same = refl
+      by (Some bs) same =
+          let counts : ◌≡◌ {A = ℕ} 1 0 =
+          sym (ap (λ o. (option_map_or {U = Served} (λ bs. record { farm = give F c bs F.clock; claims = 0 + 1 }) o (record { farm = F; claims = 0 })).claims) same)
+          ∙ ap (λ (s : Served). s.claims) (serves 0) ∙ ap (counted 0) is in
+          absurd (omega (arith, counts))
+
+-- ---- the places
+
+pub all_set : (F : Farm) (places : List (Option (ClaimKind × ℕ))) (i : ℕ) (k : ClaimKind × ℕ) → AreUnmet F places → IsUnmet F k.0 k.1 → AreUnmet F (slice_set places i (Some k))
+all_set F [] i k all new = tt
+all_set F (p ∷ places) zero k all new = (new, all.1)
+all_set F (p ∷ places) (suc i) k all new = (all.0, all_set F places i k all.1 new)
+
+pub all_none : (F : Farm) (places : List (Option (ClaimKind × ℕ))) → AllByRecursion (λ o. o ≡ None) places → AreUnmet F places
+all_none F [] all = tt
+all_none F (p ∷ places) all = (subst (IfUnmet F) (sym all.0) tt, all_none F places all.1)
+
+-- ---- a claim that is tried
+
+module _ (D E : Drafted) (c : Claimed) (served : Bool) (sound : IsSound D.farm) (at : Among c (queue D.farm))
+    (serves : Asks c.reservation D.farm c → Serves D c served E) (places : List (Option (ClaimKind × ℕ))) (all : AreUnmet D.farm places) where
+  abbrev done : Serves D c served E
+  done = serves (asks_claim D.farm c (among_has (IsClaim D.farm) c (queue D.farm) (queue_claims D.farm sound.steady) at))
+
+  pub known_on : AreUnmet E.farm places
+  known_on = all_on D.farm E.farm c served sound at done.0 places all
+
+  pub known_more : served ≡ false → (kind : ClaimKind) → (shown_claim c).kind ≡ kind → (number : ℕ) → c.number ≡ number → (place : ℕ)
+      → AreUnmet E.farm (slice_set places place (Some (kind, number)))
+  known_more unmet kind is number same place =
+      all_set E.farm places place (kind, number) known_on
+      (subst (λ n. IsUnmet E.farm kind n) same (subst (λ k. IsUnmet E.farm k c.number) is (not_met D.farm E.farm c served sound at done.0 unmet)))
