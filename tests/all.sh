@@ -1,9 +1,9 @@
 #!/bin/sh
 # What `make test` runs: every proof, every wrong body that has a name, every test and program from nothing
-# (rt ci), and then the program that it built: its words, statuses and examples, SQLite's shell, refused memory,
-# real clients, malformed requests, kills, and the tools of tools/, where the machine has what these want. It
-# tells what that cost by kind, and the last line counts all: 'N passed, 0 failed'. The further wrong bodies are
-# only read: `make wrong` tries them.
+# (rt ci), and then the program that it built: its words, statuses and examples, an admin's mistakes, SQLite's
+# shell, refused memory, real clients, malformed requests, kills, power cuts, and the tools of tools/, where the
+# machine has what these want. It tells what that cost by kind, and the last line counts all: 'N passed, 0
+# failed'. The further wrong bodies are only read: `make wrong` tries them.
 set -u
 cd "$(dirname "$0")/.."
 folder=$(mktemp -d)
@@ -43,15 +43,16 @@ limited "tests of scripts" python3 tests/waves.py --read || status=1
 if [ "$status" = 0 ]; then
     farm=crates/farm/out/farm
     player=crates/farm_play/out/farm_play
-    for script in words.sh statuses.sh examples.sh shell.sh refused_memory.sh real_clients.sh sockets.py \
-        malformed.py kills.py dispatch.py client.py importers.py page.py proxy.py generated.py \
-        api.py package.sh using.sh; do
+    for script in words.sh statuses.sh mistakes.sh examples.sh using.sh api.py shell.sh refused_memory.sh \
+        real_clients.sh sockets.py malformed.py kills.py power_cuts.py dispatch.py client.py importers.py \
+        page.py proxy.py package.sh generated.py; do
         # (those that go by chance are run longer by hand, as each says)
         case $script in
             generated.py) set -- python3 "tests/$script" "$player" ;;
             refused_memory.sh) set -- sh "tests/$script" "$farm" "$player" ;;
             malformed.py) set -- python3 "tests/$script" "$farm" 5000 ;;
             kills.py) set -- python3 "tests/$script" "$farm" 100 ;;
+            power_cuts.py) set -- python3 "tests/$script" "$farm" 500 ;;
             *.py) set -- python3 "tests/$script" "$farm" ;;
             *) set -- sh "tests/$script" "$farm" ;;
         esac

@@ -7,6 +7,7 @@ ghost use Rattle.farm_desk.specs.InFiles.{ShowsFiles, FindsTables, FindsFarm, Ma
 ghost use Rattle.farm_desk.specs.InFiles.{MakesFarm, DeniesTables, GivesReason, IsOpenFault};
 
 use crate::fault::DeskFault;
+use crate::ground::Ground;
 use farm_jobfile::lab::LONGEST_LAB_FILE;
 use farm_keep::{KeepFault, Keeper};
 use farm_store::laws::opened_stands;
@@ -20,10 +21,11 @@ use std::io::{ErrorKind, Read};
 /// The keeper of a farm in a file, and of the log beside it. `S` stands for what the two held.
 pub type FileKeeper<S> = Keeper<FileStore<FileFrom<S>>>;
 
-/// Opens a store at a path, and makes it where there is none. What is refused, memory too, is a
-/// fault of the store.
+/// Opens a store at a path. What is refused, memory too, is a fault of the store; then what was
+/// made is taken away, once what is left of the store is closed.
 fn open<S: Start>(
     rt: &HostRuntime,
+    ground: &Ground<'_>,
     path: &str,
     start: S,
 ) -> Result<Connection<FileStore<FileFrom<S>>>, DeskFault>
@@ -33,13 +35,18 @@ fn open<S: Start>(
 {
     match Connection::open_from(rt, path, false, start) {
         Ok(conn) => Ok(conn),
-        Err(_) => Err(DeskFault::Keep(KeepFault::Store)),
+        Err((_, left)) => {
+            drop(left);
+            ground.clear(rt);
+            Err(DeskFault::Keep(KeepFault::Store))
+        }
     }
 }
 
-/// A keeper of the farm that stands in the file at a path. A file without its tables is a fault of
-/// the store, and one with the tables of no sound farm is bad. What a fault leaves of a store is
-/// said of `farm_keep::found`, which is lent the connection.
+/// A keeper of the farm that stands in the file at a path. Where no database stands, or one without
+/// the farm's tables, that is a fault of the store, and one with the tables of no sound farm is
+/// bad. Nothing is made where nothing stands. What a fault leaves of a store is said of
+/// `farm_keep::found`, which is lent the connection.
 ///
 /// Costs one reading of the file.
 pub fn open_farm<S: Start>(
@@ -55,12 +62,21 @@ pub fn open_farm<S: Start>(
     ensures denied { GivesReason (image_at S.Start) result }
     ensures fault { IfErr result IsOpenFault }
 {
-    let conn = open(rt, path, start)?;
-    farm_on(alloc, conn)
+    let Some(ground) = Ground::of_farm(rt, alloc, path) else {
+        return Err(DeskFault::Keep(KeepFault::Store));
+    };
+    let conn = open(rt, &ground, path, start)?;
+    let found = farm_on(alloc, conn);
+    if found.is_err() {
+        ground.clear(rt);
+    }
+    found
 }
 
-/// A keeper of the empty farm in the file at a path. A file that has a table of these names is
-/// refused by the store, and stays as it is. What else a fault leaves of a store is said of
+/// A keeper of the empty farm in the file at a path, which is made where nothing stands. A file
+/// that has a table of these names is refused by the store, and stays as it is; so does a file that
+/// is neither empty nor a database, and a log without its file. What was made for a store that
+/// fails is taken away again where it holds nothing. What else a fault leaves of one is said of
 /// `farm_store::create`, which is lent the connection.
 pub fn make_farm<S: Start>(
     rt: &HostRuntime,
@@ -71,8 +87,15 @@ pub fn make_farm<S: Start>(
     ensures made { IfOk result (MakesFarm (image_at S.Start)) }
     ensures fault { IfErr result (λ fault. fault ≡ DeskFault.Keep KeepFault.Store) }
 {
-    let conn = open(rt, path, start)?;
-    new_farm_on(alloc, conn)
+    let Some(ground) = Ground::of_new_farm(rt, alloc, path) else {
+        return Err(DeskFault::Keep(KeepFault::Store));
+    };
+    let conn = open(rt, &ground, path, start)?;
+    let made = new_farm_on(alloc, conn);
+    if made.is_err() {
+        ground.clear(rt);
+    }
+    made
 }
 
 /// A keeper of the farm that files hold which were just opened. That its one call is of any store

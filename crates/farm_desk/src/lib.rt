@@ -16,6 +16,7 @@ pub mod converse;
 mod due;
 pub mod fault;
 pub mod files;
+mod ground;
 mod hear;
 pub mod import;
 pub mod known;

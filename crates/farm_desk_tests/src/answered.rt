@@ -150,6 +150,35 @@ fn one_byte_a_call(rt: HostRuntime) -> Result<(), Fail> {
     bytes_one_by_one(&rt, alloc, Connection::open_in_memory(alloc)?)
 }
 
+/// The head of a pass with the largest body.
+const LARGEST: &[u8] = b"POST /pass HTTP/1.1\r\nx-user: admin\r\ncontent-length: 65536\r\n\r\n";
+
+const PASSED: &[u8] =
+    b"HTTP/1.1 200 OK\r\ncontent-type: application/json\r\ncontent-length: 35\r\nconnection: close\r\n\r\n{\"checks\":0,\"expired\":0,\"served\":0}";
+
+/// The largest body, of which each call gives one byte.
+fn largest_body<S: Alter + Drop>(
+    rt: &impl Abort,
+    alloc: Global,
+    conn: Connection<S>,
+) -> Result<(), Fail> {
+    let mut keeper = made(alloc, conn).ok_or("no farm")?;
+    let mut request = LARGEST.to_vec(alloc)?;
+    request.extend_from_slice(vec![in alloc; b'z'; 65_536]?.as_slice())?;
+    let mut input = Slow::whole(request.as_slice(), 0);
+    let (answer, end) = heard(rt, alloc, &mut keeper, &mut input);
+    assert_eq!(rt; end, (200, 65_597, false));
+    assert_eq!(rt; answer.as_slice(), PASSED);
+    assert_eq!(rt; counts(&keeper), Some((1, 0)));
+    Ok(())
+}
+
+#[test]
+fn largest_body_byte_by_byte(rt: HostRuntime) -> Result<(), Fail> {
+    let alloc = rt.alloc();
+    largest_body(&rt, alloc, Connection::open_in_memory(alloc)?)
+}
+
 /// Hears the next request, and demands that answer and status 200.
 fn expect<R: Read, S: Alter>(
     rt: &impl Abort,

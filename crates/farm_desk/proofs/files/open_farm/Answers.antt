@@ -4,7 +4,7 @@ use Rattle.farm_desk.proofs.files.open_farm.Goals as goal
 
 pub returns-clause-found : goal.returns-clause-found
 returns-clause-found g c =
-    IfOk-weaker c.farm_on.result _ _ (λ k found. found (image_at g.S.Start) c.in_ok-conn.ensures.shows) c.farm_on.ensures.found
+    IfOk-weaker c.farm_on-found.result _ _ (λ k found. found (image_at g.S.Start) c.in_ok-conn.ensures.shows) c.farm_on-found.ensures.found
 
 pub returns-clause-denied : goal.returns-clause-denied
-returns-clause-denied g c = c.farm_on.ensures.denied (image_at g.S.Start) c.in_ok-conn.ensures.shows
+returns-clause-denied g c = c.farm_on-found.ensures.denied (image_at g.S.Start) c.in_ok-conn.ensures.shows
