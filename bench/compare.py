@@ -5,8 +5,10 @@ rounds, the least and the greatest in brackets, and how the program compares.
 usage: compare.py commands FARM FOLDER ROUNDS   commands to `farm serve` on a file; echo.c, and the commits of peer.c
        compare.py views FARM FOLDER ROUNDS      views and refusals of `farm serve`; echo.c
        compare.py open FARM FOLDER ROUNDS       a farm of 99,000 jobs is opened; the sqlite3 shell reads the jobs
+       compare.py waiting FARM FOLDER ROUNDS    commands to a farm in which 1,000 jobs wait, and 99,000
+       compare.py passes BENCH FOLDER ROUNDS    passes in memory; the plain pass of pass.c
 
-FARM is the program (bin/farm), FOLDER a folder on the disk that is measured. Each request goes over a
+BENCH is the program of crates/farm_bench. FARM is the program (bin/farm), FOLDER a folder on the disk that is measured. Each request goes over a
 connection of its own (client.c). Farms are made by `farm init` and filled by the real SQLite. It needs
 cc, SQLite's header and library, and the sqlite3 shell.
 """
@@ -200,6 +202,20 @@ def views():
     return [item(name, line, "ann", status=status) for name, line, status in asked for _ in range(TIMES)]
 
 
+def claims(first):
+    """Jobs and reservations are made and canceled, one by one. Numbers begin at `first`."""
+    listed = []
+    for number in range(first, first + 2 * TIMES, 2):
+        listed += [
+            item("submit", "POST /jobs", "ann", JOB_FILE),
+            item("reserve", "POST /reservations", "ann", '{"tags":["k01","k07"]}'),
+            item("refresh", f"POST /reservations/{number + 1}/refresh", "ann"),
+            item("cancel", f"POST /jobs/{number}/cancel", "ann"),
+            item("cancel_reservation", f"POST /reservations/{number + 1}/cancel", "ann"),
+        ]
+    return listed
+
+
 # Comparisons
 
 def compare_commands(farm, folder, rounds):
@@ -271,8 +287,58 @@ def compare_opening(farm, folder, rounds):
     clear(path)
 
 
+def compare_waiting(farm, folder, rounds):
+    served, table = Served(folder), Table()
+    full, path = f"{folder}/full.db", f"{folder}/bench.db"
+    for size in (FEW, MANY):
+        fill(farm, f"{full}.{size}", 64, jobs(1, size, "'aaa'", 0, 0, "''"))
+    for _ in range(rounds):
+        for size in (FEW, MANY):
+            copy(f"{full}.{size}", path)
+            table.add(served.ask(desk(farm, path), claims(size + 1)), f"{size} ")
+    for name in names_of(table, f"{FEW} "):
+        each = [many / few for few, many in zip(table.times[f"{FEW} {name}"], table.times[f"{MANY} {name}"])]
+        print(f"{name}: {table.text(f'{FEW} {name}')} with {FEW} waiting, {table.text(f'{MANY} {name}')} with {MANY}; ratio {spread(each)}")
+    for size in (FEW, MANY):
+        clear(f"{full}.{size}")
+    clear(path)
+
+
+PASSES = [(f"{shape}-{count}", f"{count} jobs, {what}") for count in (1_000, 100_000)
+          for shape, what in (("serve", "boards fit"), ("nofit", "no free board fits"), ("busy", "no board is free"))]
+
+
+def measures(bench):
+    """What the program of crates/farm_bench prints, as pairs of a measure's name and its median in nanoseconds."""
+    ran = subprocess.run([bench, "time"], stdout=subprocess.PIPE, check=True)
+    heading, found = "", []
+    for line in ran.stdout.decode().splitlines():
+        if not line.startswith("  "):
+            heading = line
+            continue
+        what, nanos = line.strip().rsplit(": ", 1)
+        found.append((f"{heading}, {what}", int(nanos.split()[0])))
+    return found
+
+
+def compare_passes(bench, folder, rounds):
+    table, plain = Table(), built("pass", folder)
+    for _ in range(rounds):
+        table.add(lines(plain), "plain ")
+        table.add(measures(bench), "desk ")
+    for name in names_of(table, "desk "):
+        print(f"{name}: {table.text(f'desk {name}')}")
+    for shape, what in PASSES:
+        name = next(it for it in table.times if it.startswith(f"desk {what}"))
+        each = [a / b for a, b in zip(table.times[name], table.times[f"plain {shape}"])]
+        print(f"{what}: plain C {table.text(f'plain {shape}')}; ratio {spread(each)}")
+
+
 def main(words):
-    compare = {"commands": compare_commands, "views": compare_views, "open": compare_opening}
+    compare = {
+        "commands": compare_commands, "views": compare_views, "open": compare_opening,
+        "waiting": compare_waiting, "passes": compare_passes,
+    }
     try:
         what, farm, folder, rounds = words
         compare, rounds = compare[what], int(rounds)

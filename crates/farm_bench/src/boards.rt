@@ -1,4 +1,4 @@
-//! The boards that are measured, with eight tags each.
+//! The boards that are measured: 256 of four types, as those of the plain pass in bench/pass.c.
 use farm_types::fault::WordFault;
 use farm_types::rows::{BoardRow, Check, Health, Holder, State, TypeRow};
 use farm_types::tags::{Tag, Tags};
@@ -8,43 +8,38 @@ use std::alloc::Global;
 /// The most boards that a farm can have.
 pub const MOST: u64 = 256;
 
-/// How many of a farm's boards have the rare tag.
+/// How many of a farm's boards have the rare tag: one of each type.
 pub const RARE: u64 = 4;
 
 /// A farm's types.
-const KINDS: [&str; 4] = ["aaa", "bbb", "ccc", "ddd"];
+const KINDS: [&str; 4] = [
+    "beaglebone-black-0",
+    "beaglebone-black-1",
+    "beaglebone-black-2",
+    "beaglebone-black-3",
+];
 
 pub fn name(alloc: Global, text: &str) -> Result<Name, WordFault> {
     Name::parse(alloc, text.as_bytes())
 }
 
-fn tags(alloc: Global, texts: &[&str]) -> anyhow::Result<Tags> {
-    let mut items = Vec::new(alloc);
-    for text in texts {
-        items.push(Tag::parse(alloc, text.as_bytes())?)?;
-    }
-    Ok(Tags::of(alloc, items.as_slice())?)
-}
-
-/// The tags of a claim: two that each board has, and where it is so told the rare one.
+/// The tag of a claim: one that each board has, or the rare one.
 pub fn asked_tags(alloc: Global, rare: bool) -> anyhow::Result<Tags> {
-    if rare {
-        tags(alloc, &["k01", "k07", "k15"])
-    } else {
-        tags(alloc, &["k01", "k07"])
-    }
+    let text = if rare { "jtag" } else { "hdmi" };
+    let tag = Tag::parse(alloc, text.as_bytes())?;
+    Ok(Tags::of(alloc, &[tag])?)
 }
 
 /// The name of the board at a place.
 pub fn board_name(alloc: Global, place: u64) -> anyhow::Result<Name> {
-    let text = format!(in alloc; "board-{place:04}")?;
+    let text = format!(in alloc; "board-{place:03}")?;
     Ok(name(alloc, text.as_str())?)
 }
 
-/// The type of the board at a place: the first quarter is of the first type.
+/// The type of the board at a place, or of what wants a board: each in its turn.
 pub fn kind_at(place: u64) -> &'static str {
-    let turn = place / (MOST / 4);
-    KINDS.get(turn as usize).copied().unwrap_or("ddd")
+    let turn = place % 4;
+    KINDS.get(turn as usize).copied().unwrap_or("")
 }
 
 /// The types of a farm, without checks.
@@ -58,12 +53,19 @@ pub fn types(alloc: Global) -> anyhow::Result<Vec<TypeRow>> {
     Ok(rows)
 }
 
-/// A free board of eight tags; `last` is the greatest of them.
-fn board(alloc: Global, place: u64, kind: &str, last: &str) -> anyhow::Result<BoardRow> {
+/// The tags of the board at a place.
+fn tags_at(alloc: Global, place: u64, rare: bool) -> anyhow::Result<Tags> {
+    let rack = place % 8;
+    let last = if rare { ",jtag" } else { "" };
+    let text = format!(in alloc; "hdmi{last},rack={rack}")?;
+    Ok(Tags::parse(alloc, text.as_bytes())?)
+}
+
+/// A free board.
+fn board(alloc: Global, place: u64, rare: bool) -> anyhow::Result<BoardRow> {
     let name = board_name(alloc, place)?;
-    let kind = self::name(alloc, kind)?;
-    let texts = ["k01", "k02", "k03", "k04", "k05", "k06", "k07", last];
-    let tags = tags(alloc, &texts)?;
+    let kind = self::name(alloc, kind_at(place))?;
+    let tags = tags_at(alloc, place, rare)?;
     Ok(BoardRow {
         name,
         kind,
@@ -76,17 +78,12 @@ fn board(alloc: Global, place: u64, kind: &str, last: &str) -> anyhow::Result<Bo
     })
 }
 
-/// 256 boards in name order, a quarter of each of four types. The last `rare` have the rare tag,
-/// and the last `away` are in maintenance.
+/// 256 boards in name order, of four types in turn, with two tags each. The last `rare` have the
+/// rare tag besides, and the last `away` are in maintenance.
 pub fn boards(alloc: Global, rare: u64, away: u64) -> anyhow::Result<Vec<BoardRow>> {
     let mut rows = Vec::new(alloc);
     for place in 0..MOST {
-        let last = if place.saturating_add(rare) < MOST {
-            "k16"
-        } else {
-            "k15"
-        };
-        let mut row = board(alloc, place, kind_at(place), last)?;
+        let mut row = board(alloc, place, place.saturating_add(rare) >= MOST)?;
         if place.saturating_add(away) >= MOST {
             row.health = Health::Maintenance;
         }

@@ -14,7 +14,7 @@ const FITTING: [u64; 5] = [0, 1, 3, 4, boards::MOST];
 /// How many looks are timed together.
 const LOOKS: u64 = 1000;
 
-/// Four wants of three tags.
+/// Four wants of a tag.
 fn wants(alloc: Global) -> anyhow::Result<Wants> {
     let mut items = Vec::new(alloc);
     for _ in 0..4 {

@@ -26,21 +26,20 @@ fn run_claims(watch: &Watch<'_>, heading: &str, shape: &Shape) -> anyhow::Result
     measure(watch, "no board is free", &none, PASS)
 }
 
-/// Passes over so many claims of three kinds, single jobs behind finished ones.
-fn run_passes(watch: &Watch<'_>, finished: u64, claims: u64) -> anyhow::Result<()> {
+/// Passes over so many single jobs, groups of four, and reservations.
+fn run_passes(watch: &Watch<'_>, claims: u64, fours: u64) -> anyhow::Result<()> {
     let singles = Shape {
-        finished,
         groups: claims,
         ..IDLE
     };
-    let heading = format!(in watch.alloc(); "{claims} jobs behind {finished} finished ones")?;
+    let heading = format!(in watch.alloc(); "{claims} jobs")?;
     run_claims(watch, heading.as_str(), &singles)?;
     let groups = Shape {
+        groups: fours,
         members: 4,
-        finished: 0,
-        ..singles
+        ..IDLE
     };
-    let heading = format!(in watch.alloc(); "{claims} groups of four")?;
+    let heading = format!(in watch.alloc(); "{fours} groups of four")?;
     run_claims(watch, heading.as_str(), &groups)?;
     let reservations = Shape {
         waiting: claims,
@@ -51,19 +50,23 @@ fn run_passes(watch: &Watch<'_>, finished: u64, claims: u64) -> anyhow::Result<(
     measure(watch, "all end", &reservations, Deed::Pass(NOW + LEASE))
 }
 
-/// A pass over jobs that are finished, and taking as many reservations besides.
+/// A pass over so many finished jobs and canceled reservations; and taking them, and as many that
+/// wait.
 fn run_rows(watch: &Watch<'_>, rows: u64) -> anyhow::Result<()> {
     watch.begin("rows")?;
-    let finished = Shape {
+    let ended = Shape {
         finished: rows,
+        canceled: rows,
         ..IDLE
     };
-    measure(watch, "pass over finished jobs", &finished, PASS)?;
-    let full = Shape {
+    measure(watch, "pass over what has ended", &ended, PASS)?;
+    measure(watch, "what has ended", &ended, Deed::Take)?;
+    let waiting = Shape {
+        groups: rows,
         waiting: rows,
-        ..finished
+        ..IDLE
     };
-    measure(watch, "all", &full, Deed::Take)
+    measure(watch, "what waits", &waiting, Deed::Take)
 }
 
 /// The queue of claims, half of them groups of four, alone and behind finished jobs.
@@ -83,12 +86,13 @@ fn run_queue(watch: &Watch<'_>, finished: u64, claims: u64) -> anyhow::Result<()
 /// The measures on the scale of a full farm where the watch takes times, else on a small scale.
 pub fn run(watch: &Watch<'_>) -> anyhow::Result<()> {
     if watch.timed {
-        run_passes(watch, 0, 1_000)?;
-        run_passes(watch, 75_000, 25_000)?;
+        run_passes(watch, 1_000, 1_000)?;
+        run_passes(watch, 100_000, 25_000)?;
+        run_rows(watch, 1_000)?;
         run_rows(watch, 100_000)?;
         run_queue(watch, 97_000, 1_000)
     } else {
-        run_passes(watch, 40, 20)?;
+        run_passes(watch, 20, 20)?;
         run_rows(watch, 40)?;
         run_queue(watch, 40, 10)
     }

@@ -25,6 +25,8 @@ pub struct Shape {
     pub groups: u64,
     /// How many jobs are in each group.
     pub members: u64,
+    /// Reservations that were canceled.
+    pub canceled: u64,
     /// Reservations that wait.
     pub waiting: u64,
     /// Whether those that wait ask for the tag that four boards have.
@@ -37,6 +39,7 @@ pub const IDLE: Shape = Shape {
     finished: 0,
     groups: 0,
     members: 1,
+    canceled: 0,
     waiting: 0,
     rare: false,
 };
@@ -48,11 +51,16 @@ fn take_number(rows: &mut Rows) -> u64 {
     number
 }
 
+/// The priority of what has a number: 0, 50 and 100 in turn.
+fn priority_of(number: u64) -> anyhow::Result<Priority> {
+    Ok(Priority::of(number % 3 * 50).map_err(WordFault::Refused)?)
+}
+
 /// A job that waits for a board of a type; the first of its group has a text of 300 bytes.
-fn job(alloc: Global, number: u64, group: u64, kind: &str, rare: bool) -> anyhow::Result<JobRow> {
+fn job(alloc: Global, number: u64, group: u64, rare: bool) -> anyhow::Result<JobRow> {
     let owner = boards::name(alloc, "ann")?;
-    let priority = Priority::of(50).map_err(WordFault::Refused)?;
-    let kind = Some(boards::name(alloc, kind)?);
+    let priority = priority_of(group)?;
+    let kind = Some(boards::name(alloc, boards::kind_at(group))?);
     let tags = boards::asked_tags(alloc, rare)?;
     let length = if number == group { 300 } else { 0 };
     let text = format!(in alloc; "{:x>length$}", "")?;
@@ -71,17 +79,17 @@ fn job(alloc: Global, number: u64, group: u64, kind: &str, rare: bool) -> anyhow
     })
 }
 
-/// A reservation that waits for a board of any type.
-fn reservation(alloc: Global, number: u64, rare: bool) -> anyhow::Result<ResRow> {
+/// A reservation for a board of any type.
+fn reservation(alloc: Global, number: u64, state: ResState, rare: bool) -> anyhow::Result<ResRow> {
     let owner = boards::name(alloc, "ann")?;
-    let priority = Priority::of(50).map_err(WordFault::Refused)?;
+    let priority = priority_of(number)?;
     let tags = boards::asked_tags(alloc, rare)?;
     Ok(ResRow {
         number,
         owner,
         priority,
         want: Want { kind: None, tags },
-        state: ResState::Waiting,
+        state,
         deadline: NOW + LEASE,
         board: None,
     })
@@ -89,35 +97,33 @@ fn reservation(alloc: Global, number: u64, rare: bool) -> anyhow::Result<ResRow>
 
 fn add_finished(alloc: Global, rows: &mut Rows) -> anyhow::Result<()> {
     let number = take_number(rows);
-    let place = number % boards::MOST;
-    let mut row = job(alloc, number, number, boards::kind_at(place), false)?;
+    let mut row = job(alloc, number, number, false)?;
     row.state = JobState::Finished;
     row.outcome = Some(Outcome::Complete);
-    row.board = Some(boards::board_name(alloc, place)?);
+    row.board = Some(boards::board_name(alloc, number % boards::MOST)?);
     rows.jobs.push(row)?;
     Ok(())
 }
 
-/// A group that waits, for boards of one type: of the last where it asks for the rare tag, which no
-/// other has.
+/// A group that waits, for boards of one type.
 fn add_group(alloc: Global, rows: &mut Rows, shape: &Shape) -> anyhow::Result<()> {
     let group = rows.meta.next;
-    let place = if shape.rare {
-        boards::MOST
-    } else {
-        group % boards::MOST
-    };
     for _ in 0..shape.members {
         let number = take_number(rows);
-        let row = job(alloc, number, group, boards::kind_at(place), shape.rare)?;
+        let row = job(alloc, number, group, shape.rare)?;
         rows.jobs.push(row)?;
     }
     Ok(())
 }
 
-fn add_waiting(alloc: Global, rows: &mut Rows, rare: bool) -> anyhow::Result<()> {
+fn add_reservation(
+    alloc: Global,
+    rows: &mut Rows,
+    state: ResState,
+    rare: bool,
+) -> anyhow::Result<()> {
     let number = take_number(rows);
-    let row = reservation(alloc, number, rare)?;
+    let row = reservation(alloc, number, state, rare)?;
     rows.reservations.push(row)?;
     Ok(())
 }
@@ -145,11 +151,14 @@ pub fn rows(alloc: Global, shape: &Shape) -> anyhow::Result<Rows> {
     for _ in 0..shape.finished {
         add_finished(alloc, &mut rows)?;
     }
+    for _ in 0..shape.canceled {
+        add_reservation(alloc, &mut rows, ResState::Canceled, false)?;
+    }
     for _ in 0..shape.groups {
         add_group(alloc, &mut rows, shape)?;
     }
     for _ in 0..shape.waiting {
-        add_waiting(alloc, &mut rows, shape.rare)?;
+        add_reservation(alloc, &mut rows, ResState::Waiting, shape.rare)?;
     }
     Ok(rows)
 }
