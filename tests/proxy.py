@@ -7,6 +7,7 @@ a line and says what it saw: TLS, names and passwords, the status page, long job
 away. Ends with status 1 at the first thing that isn't as it should be, and with 77 where nginx or
 openssl isn't there. Takes about 25 seconds, most of it for the desk that is away.
 """
+import json
 import os
 import shutil
 import subprocess
@@ -189,6 +190,36 @@ def dispatcher(farm, door):
     return "farm-dispatch runs a job from behind the proxy"
 
 
+def refused(door, *words, user="ann"):
+    """The status, the kind of body and the body that curl gets."""
+    words = ["-w", "\n%{http_code} %{content_type}", *words]
+    if user:
+        words = ["-u", f"{user}:{WORDS[user]}", *words]
+    head = ["curl", "-s", "--cacert", door.certificate, *words[:-1]]
+    ran = subprocess.run([*head, door.server + words[-1]], capture_output=True, check=False)
+    body, _, end = ran.stdout.rpartition(b"\n")
+    status, _, kind = end.decode().partition(" ")
+    return int(status), kind, json.loads(body)
+
+
+def own_refusals(farm, door):
+    kind = "application/json"
+    told = {"code": 401, "text": "Unauthorized"}
+    demand("no password", (401, kind, told), refused(door, "/queue", user=""))
+    told = {"code": 413, "text": "Request Entity Too Large"}
+    file = write(door.folder, "large", "x" * 65_537, 0o600)
+    demand("a long body", (413, kind, told), refused(door, "--data-binary", f"@{file}", "/jobs"))
+    told = {"code": 400, "text": "Bad Request"}
+    demand("a long head", (400, kind, told), refused(door, "-H", f"x-long: {'x' * 40_000}", "/queue"))
+    told = {"code": 52, "text": "no such route"}
+    demand("the desk's own", (404, kind, told), refused(door, "/refused-by-door/x"))
+    farm.kill()
+    told = {"code": 502, "text": "Bad Gateway"}
+    demand("no desk", (502, kind, told), refused(door, "/queue"))
+    farm.start()
+    return "what nginx refuses is told in JSON, with its status for the code"
+
+
 def desk_that_is_away(farm, door):
     farm.kill()
     demand(
@@ -199,7 +230,14 @@ def desk_that_is_away(farm, door):
     return "where the desk is away the client asks again, and then ends with status 4"
 
 
-ROWS = [names_and_passwords, status_page, long_jobs, dispatcher, desk_that_is_away]
+ROWS = [
+    names_and_passwords,
+    status_page,
+    long_jobs,
+    dispatcher,
+    own_refusals,
+    desk_that_is_away,
+]
 
 if __name__ == "__main__":
     if NGINX is None or shutil.which("openssl") is None or shutil.which("curl") is None:
