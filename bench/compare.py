@@ -291,7 +291,7 @@ def compare_waiting(farm, folder, rounds):
     served, table = Served(folder), Table()
     full, path = f"{folder}/full.db", f"{folder}/bench.db"
     for size in (FEW, MANY):
-        fill(farm, f"{full}.{size}", 64, jobs(1, size, "'aaa'", 0, 0, "''"))
+        fill(farm, f"{full}.{size}", 128, jobs(1, size, "'aaa'", 0, 0, "''"))
     for _ in range(rounds):
         for size in (FEW, MANY):
             copy(f"{full}.{size}", path)

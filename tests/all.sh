@@ -52,7 +52,7 @@ if [ "$status" = 0 ]; then
             refused_memory.sh) set -- sh "tests/$script" "$farm" "$player" ;;
             malformed.py) set -- python3 "tests/$script" "$farm" 5000 ;;
             kills.py) set -- python3 "tests/$script" "$farm" 100 ;;
-            power_cuts.py) set -- python3 "tests/$script" "$farm" 500 ;;
+            power_cuts.py) set -- python3 "tests/$script" "$farm" 200 ;;
             *.py) set -- python3 "tests/$script" "$farm" ;;
             *) set -- sh "tests/$script" "$farm" ;;
         esac

@@ -14,8 +14,8 @@ by its reports, by its status and, row by row, by SQLite; and the next command i
 What isn't tried: a disk that tears a sector, or forgets what it said is synced, and a folder that forgets
 a file's name once it is synced.
 
-CUTS different pairs are tried, 10,000 where no number is given: some minutes on four processors. SEED is where
-chance begins. `make test` tries 500. Wants what tests/library.sh wants, and python3's sqlite3; ends with status
+CUTS different pairs are tried, 10,000 where no number is given: some 20 minutes on four processors. SEED is where
+chance begins. `make test` tries 200. Wants what tests/library.sh wants, and python3's sqlite3; ends with status
 77 where they aren't there.
 """
 import bisect
