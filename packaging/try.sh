@@ -9,10 +9,11 @@ root=${2:-}
 if [ -z "$root" ]; then
     command -v debootstrap > /dev/null || { echo "package: not tried, since there is no debootstrap"; exit 77; }
     root=$(mktemp -d)
-    trap 'rm -rf "$root"' EXIT
+    trap 'rm -rf "$root" "$root.log"' EXIT
+    chmod 755 "$root"
     debootstrap --variant=minbase bookworm "$root" > "$root.log"
 fi
 cp "$package" "$root/tmp/fizgruk.deb"
 cp "$(dirname "$0")/inside.sh" "$root/tmp/inside.sh"
-exec unshare --mount --pid --fork sh -c '
+unshare --mount --pid --fork sh -c '
     mount -t proc proc "$1/proc" && chroot "$1" /bin/sh /tmp/inside.sh' sh "$root"
