@@ -15,7 +15,7 @@ use Rattle.std.proofs.lemmas.Cmp.{tied_itself}
 use Rattle.farm_types.specs.Codes.{same_health}
 use Rattle.farm_types.specs.Change.{act, cancel_group, done, finish_one, start_group}
 use Rattle.farm_types.specs.Farm.{Farm, board_of, job_of, put_board, put_type, type_of}
-use Rattle.farm_types.specs.Pass.{check_job, check_one, checks, expire, has_room, held, is_due}
+use Rattle.farm_types.specs.Pass.{back, check_job, check_one, checks, expire, has_room, held, is_due}
 use Rattle.farm_types.specs.Pick.{is_checked, is_free, is_nobody}
 use Rattle.farm_types.specs.Sound.{IsBoardRow, IsSound, IsSteady}
 use Rattle.farm_types.specs.Table.{board_cmp, change_where, job_cmp, put, put_all, type_cmp}
@@ -212,8 +212,8 @@ checked_types (b ∷ bs) F = checked_types bs (check_one F b) ∙ by (has_room F
     by true = refl
     by false = refl
 
-pub prepared_types : (F : Farm) → (checks (expire F F.clock) F.clock).types ≡ F.types
-prepared_types F = checked_types (filter (is_due (expire F F.clock) F.clock) (expire F F.clock).boards) (expire F F.clock)
+pub prepared_types : (F : Farm) → (checks (expire (back F) F.clock) F.clock).types ≡ F.types
+prepared_types F = checked_types (filter (is_due (expire (back F) F.clock) F.clock) (expire (back F) F.clock).boards) (expire (back F) F.clock)
 
 -- ---- from no boards at all
 

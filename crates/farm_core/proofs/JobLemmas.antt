@@ -3,6 +3,7 @@ use Rattle.std.proofs.Common.{◌≡◌, ℕ, zero, suc, ◌+◌, ◌-◌, ◌<�
 use Rattle.std.proofs.lemmas.List.{get_or-drop}
 use Rattle.std.specs.List.{AllByRecursion, find, filter}
 use Rattle.std.specs.Option.{option_map_or, option_copied}
+use Rattle.std.specs.Prelude.{if◌then◌else◌}
 use Rattle.std.proofs.lemmas.Bool.Decides.{nat_tests}
 use Rattle.farm_types.specs.Farm.{Farm, job_of}
 use Rattle.farm_types.specs.Table.{change_where}
@@ -18,10 +19,17 @@ use Rattle.farm_core.specs.declared.job_edit.JobEdit.{JobEdit}
 use Rattle.farm_core.specs.Edits.{job_passes, job_changed, board_after, after, outcome_of}
 use Rattle.farm_core.proofs.EditLemmas.{jobs_alone}
 
-pub canceled : (F G H : Farm) (n : ℕ) (j : JobRow) → job_of F n ≡ Some j → G ≡ change_jobs (job_passes (JobEdit.End j.group)) (job_changed (JobEdit.End j.group)) idle F → H ≡ record G { jobs = change_where (job_passes (JobEdit.Cancel j.group)) (job_changed (JobEdit.Cancel j.group)) G.jobs } → act F [] (Cmd.Cancel n) ≡ done j.group H
-canceled F G H n j found first then =
+-- a group collects no more, if it did
+abbrev pub no_more : ℕ → Farm → Farm
+no_more group F = record F { collector = if F.collector == group then 0 else F.collector }
+
+pub canceled : (F G K H : Farm) (n : ℕ) (j : JobRow) → job_of F n ≡ Some j → G ≡ change_jobs (job_passes (JobEdit.End j.group)) (job_changed (JobEdit.End j.group)) idle F
+    → K ≡ no_more j.group G → H ≡ record K { jobs = change_where (job_passes (JobEdit.Cancel j.group)) (job_changed (JobEdit.Cancel j.group)) K.jobs }
+    → act F [] (Cmd.Cancel n) ≡ done j.group H
+canceled F G K H n j found first second then =
     ap (λ o. option_map_or (λ (j : JobRow). done j.group (cancel_group j.group F)) o (done 0 F)) found
-    ∙ ap (done j.group) (sym (jobs_alone G H (job_passes (JobEdit.Cancel j.group)) (job_changed (JobEdit.Cancel j.group)) then ∙ ap (change_jobs (job_passes (JobEdit.Cancel j.group)) (job_changed (JobEdit.Cancel j.group)) (λ b. b)) first))
+    ∙ ap (done j.group) (sym (jobs_alone K H (job_passes (JobEdit.Cancel j.group)) (job_changed (JobEdit.Cancel j.group)) then
+    ∙ ap (change_jobs (job_passes (JobEdit.Cancel j.group)) (job_changed (JobEdit.Cancel j.group)) (λ b. b)) (second ∙ ap (no_more j.group) first)))
 
 after_is : (checking : Bool) (o : Outcome) (t : ℕ) (b : BoardRow) → board_after (after checking o t) b ≡ idle (cond checking (after_check o t b) (after_job o b))
 after_is true o t b = refl

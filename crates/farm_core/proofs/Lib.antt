@@ -9,10 +9,12 @@ pub mod EditLemmas
 pub mod JobLemmas
 pub mod AcceptedCalls
 pub mod Members
+pub mod Collected
 pub mod OneWant
 pub mod Serving
 pub mod Passing
 pub mod Checking
+pub mod Collected
 pub mod Whole
 pub mod BoardWindow
 pub mod Free

@@ -10,12 +10,13 @@ use Rattle.std.proofs.lemmas.List.{take_more, map-append, length-map}
 use Rattle.std.proofs.lemmas.List.Elements.{filter_map-append}
 use Rattle.farm_types.specs.Farm.{Farm, members, res_of}
 use Rattle.farm_types.specs.Table.{job_cmp}
-use Rattle.farm_types.specs.Pass.{Served, give, give_res, give_group, give_member, serve}
+use Rattle.farm_types.specs.Pass.{Served, give, give_res, give_group, give_member, pass_over, serve}
 use Rattle.farm_types.specs.Pick.{Claimed, least, is_free}
 use Rattle.farm_types.specs.Small.{IsSmall, IsSmallJob}
 use Rattle.farm_types.specs.declared.claims.ClaimKind.{ClaimKind}
 use Rattle.farm_types.specs.declared.rows.BoardRow.{BoardRow}
 use Rattle.farm_types.specs.declared.rows.JobRow.{JobRow}
+use Rattle.farm_types.specs.declared.rows.JobState.{JobState}
 use Rattle.farm_types.specs.declared.rows.ResRow.{ResRow}
 use Rattle.farm_types.specs.declared.rows.Want.{Want}
 use Rattle.farm_types.proofs.Put.{AllByRecursion-weaker}
@@ -83,10 +84,10 @@ small_at (n ∷ ns) zero all low = all.0
 small_at (n ∷ ns) (suc k) all low = small_at ns k all.1 (omega arith)
 
 -- members are given boards by their numbers and names
-pub given_named : (ms : List JobRow) (bs : List BoardRow) (F : Farm) → fold give_member F (zip ms bs) ≡ fold give_named F (zip (numbers_of ms) (names_of bs))
-given_named [] bs F = refl
-given_named (m ∷ ms) [] F = refl
-given_named (m ∷ ms) (b ∷ bs) F = given_named ms bs (give_member F (m, b))
+pub given_named : (state : JobState) (ms : List JobRow) (bs : List BoardRow) (F : Farm) → fold (give_member state) F (zip ms bs) ≡ fold (give_named state) F (zip (numbers_of ms) (names_of bs))
+given_named state [] bs F = refl
+given_named state (m ∷ ms) [] F = refl
+given_named state (m ∷ ms) (b ∷ bs) F = given_named state ms bs (give_member state F (m, b))
 
 -- ---- a group is small
 
@@ -131,17 +132,10 @@ module _ (F : Farm) (c : Claimed) (n : ℕ) (wants : List Want) (asks : c.wants 
   start = record { farm = F; claims = n }
 
   abbrev found : (o : Option (List BoardRow)) → Served
-  found o = option_map_or (λ bs. record { farm = give F c bs F.clock; claims = n + 1 }) o start
+  found o = option_map_or (λ bs. record { farm = give F c bs F.clock; claims = n + 1 }) o (record { farm = pass_over F c; claims = n })
 
   serves : serve F.clock start c ≡ found (least F.boards (is_free F.types) wants)
   serves = ap (λ w. found (least F.boards (is_free F.types) w)) asks
-
-  pub not_served : None ≡ option_map names_of (least F.boards (is_free F.types) wants) → serve F.clock (record { farm = F; claims = n }) c ≡ record { farm = F; claims = n }
-  not_served none = serves ∙ by (least F.boards (is_free F.types) wants) none
-    where
-      by : (o : Option (List BoardRow)) → None ≡ option_map names_of o → found o ≡ start
-      by None is = refl
-      by (Some bs) is = cc
 
   pub is_served : (G : Farm) (names : List (List ℕ)) → Some names ≡ option_map names_of (least F.boards (is_free F.types) wants)
       → ((bs : List BoardRow) → names ≡ names_of bs → give F c bs F.clock ≡ G) → serve F.clock (record { farm = F; claims = n }) c ≡ record { farm = G; claims = n + 1 }
@@ -151,23 +145,22 @@ module _ (F : Farm) (c : Claimed) (n : ℕ) (wants : List Want) (asks : c.wants 
       by None is = cc
       by (Some bs) is = let same : names ≡ names_of bs = cc in ap (λ (H : Farm). record { farm = H; claims = n + 1 }) (gives bs same)
 
--- a group
-pub group_not_served : (F : Farm) (group : ℕ) (c : Claimed) (n : ℕ) → c.number ≡ group → Asks false F c
-    → None ≡ option_map names_of (least F.boards (is_free F.types) (wants_of (members F group)))
-    → serve F.clock (record { farm = F; claims = n }) c ≡ record { farm = F; claims = n }
-group_not_served F group c n same asks none =
-    not_served F c n (wants_of (members F group)) (asks ∙ ap (λ g. wants_of (members F g)) same) none
+-- no names, no list
+pub unnamed : (o : Option (List BoardRow)) → None ≡ option_map names_of o → o ≡ None
+unnamed None is = refl
+unnamed (Some bs) is = cc
 
+-- a group
 pub group_served : (F G : Farm) (group : ℕ) (c : Claimed) (n : ℕ) (names : List (List ℕ)) (numbers : List ℕ) → c.reservation ≡ false → c.number ≡ group → Asks false F c
     → Some names ≡ option_map names_of (least F.boards (is_free F.types) (wants_of (members F group))) → numbers ≡ numbers_of (members F group)
-    → G ≡ fold give_named F (zip numbers names) → serve F.clock (record { farm = F; claims = n }) c ≡ record { farm = G; claims = n + 1 }
+    → G ≡ fold (give_named JobState.Scheduled) F (zip numbers names) → serve F.clock (record { farm = F; claims = n }) c ≡ record { farm = G; claims = n + 1 }
 group_served F G group c n names numbers of_group same asks picked are made =
     is_served F c n (wants_of (members F group)) (asks ∙ ap (λ g. wants_of (members F g)) same) G names picked
     (λ bs called.
     ap (λ v. cond v (give_res F c.number bs F.clock) (give_group F c.number bs)) of_group
     ∙ ap (λ g. give_group F g bs) same
-    ∙ given_named (members F group) bs F
-    ∙ (λ i. fold give_named F (zip (sym are i) (sym called i)))
+    ∙ given_named JobState.Scheduled (members F group) bs F
+    ∙ (λ i. fold (give_named JobState.Scheduled) F (zip (sym are i) (sym called i)))
     ∙ sym made)
 
 -- a reservation
@@ -181,12 +174,6 @@ asked F c asks = by (res_of F c.number) refl asks
 
 abbrev pub Picks : Farm → ℕ → Option (List (List ℕ)) → Type 0
 Picks F number picked = (r : ResRow) → res_of F number ≡ Some r → picked ≡ option_map names_of (least F.boards (is_free F.types) (r.want ∷ []))
-
-pub res_not_served : (F : Farm) (number : ℕ) (c : Claimed) (n : ℕ) → c.number ≡ number → Asks true F c → Picks F number None
-    → serve F.clock (record { farm = F; claims = n }) c ≡ record { farm = F; claims = n }
-res_not_served F number c n same asks none =
-    let it = asked F c asks in
-    not_served F c n (it.0.want ∷ []) it.2 (none it.0 (ap (res_of F) (sym same) ∙ it.1))
 
 first_given : (F : Farm) (number : ℕ) (bs : List BoardRow) → give_res F number bs F.clock ≡ give_first F number (names_of bs)
 first_given F number [] = refl

@@ -1,8 +1,9 @@
 -- What a sound farm gives the commands.
-use Rattle.std.proofs.Common.{◌≡◌, Option, Some, None, refl, ap, arith}
+use Rattle.std.proofs.Common.{◌≡◌, ◌≤◌, ◌==◌, ℕ, zero, suc, List, [], ◌∷◌, length, Bool, true, false, cond, Option, Some, None, refl, ap, subst, arith}
+use Rattle.std.specs.List.{AllByRecursion, filter}
 use Rattle.std.specs.Option.{option_map_or}
 use Rattle.farm_types.specs.Farm.{Farm, job_of, res_of}
-use Rattle.farm_types.specs.Small.{IsSmall, held_by, IsSmallBoard, AreSmall}
+use Rattle.farm_types.specs.Small.{IsSmall, held_by, IsSmallBoard, IsSmallJob, AreSmall}
 use Rattle.farm_types.specs.Sound.{IsSound, IsBoardRow, IsHeldBy, job_hold, res_hold, shown}
 use Rattle.farm_types.specs.declared.rows.Holder.{Holder}
 use Rattle.farm_types.specs.declared.rows.BoardRow.{BoardRow}
@@ -15,6 +16,7 @@ use Rattle.farm_core.specs.Tracks.{AreSmallRows}
 use Rattle.farm_core.proofs.Small.{small_frequency}
 use Rattle.farm_types.proofs.Put.{AllByRecursion-weaker}
 use Rattle.farm_sound.proofs.Accepted.{low_job, low_res}
+use Rattle.farm_sound.proofs.Tests.{same_number}
 use Rattle.farm_sound.proofs.Where.{AllByRecursion-both}
 
 module _ (F : Farm) (sound : IsSound F) where
@@ -53,8 +55,27 @@ module _ (F : Farm) (sound : IsSound F) where
     near = AllByRecursion-weaker (λ r is. is.group) F.jobs sound.steady.jobs;
   }
 
--- the changed rows' numbers and the sound farm's own three are small
-pub AreSmall-sound : (c : Changes) (G : Farm) → AreSmallRows c → c.meta ≡ record { clock = G.clock; count = G.count; next = G.next } → IsSound G → AreSmall c
+-- a group that has a member has a small number
+small_group : (group : ℕ) (jobs : List JobRow) → AllByRecursion IsSmallJob jobs → 1 ≤ length (filter (λ j. j.group == group) jobs) → IsSmall group
+small_group group [] all some = absurd (omega arith)
+small_group group (j ∷ jobs) all some = by (j.group == group) refl some
+  where
+    by : (v : Bool) → (j.group == group) ≡ v → 1 ≤ length (cond v (j ∷ filter (λ k. k.group == group) jobs) (filter (λ k. k.group == group) jobs)) → IsSmall group
+    by true is some = subst IsSmall (same_number j.group group is) all.0.group
+    by false is some = small_group group jobs all.1 some
+
+-- and so has the group that collects
+pub small_collector : (F : Farm) → IsSound F → IsSmall F.collector
+small_collector F sound = by F.collector refl
+  where
+    by : (n : ℕ) → F.collector ≡ n → IsSmall F.collector
+    by zero is = omega (arith, is)
+    by (suc n) is =
+        let two = sound.collecting.several (omega (arith, is)) in
+        small_group F.collector F.jobs (IsOrderly-sound F sound).small_jobs (omega (arith, two))
+
+-- the changed rows' numbers and the sound farm's own four are small
+pub AreSmall-sound : (c : Changes) (G : Farm) → AreSmallRows c → c.meta ≡ record { clock = G.clock; collector = G.collector; count = G.count; next = G.next } → IsSound G → AreSmall c
 AreSmall-sound c G rows meta sound = record {
   types = rows.types;
   boards = rows.boards;
@@ -62,6 +83,7 @@ AreSmall-sound c G rows meta sound = record {
   reservations = rows.reservations;
   kept = rows.kept;
   clock = rw (ap (λ (m : MetaRow). m.clock) meta) (omega (arith, sound.steady.clock));
+  collector = rw (ap (λ (m : MetaRow). m.collector) meta) (small_collector G sound);
   count = rw (ap (λ (m : MetaRow). m.count) meta) sound.steady.count;
   next = rw (ap (λ (m : MetaRow). m.next) meta) (omega (arith, sound.steady.next.1));
 }

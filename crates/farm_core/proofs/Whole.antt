@@ -1,41 +1,51 @@
--- The three parts of a pass make the whole.
-use Rattle.std.proofs.Common.{◌≡◌, ◌==◌, map, not, sym, ap, ◌∙◌}
+-- The four parts of a pass make the whole.
+use Rattle.std.proofs.Common.{◌≡◌, ◌==◌, ℕ, map, not, sym, ap, ◌∙◌}
 use Rattle.std.specs.List.{filter, list_any}
 use Rattle.farm_types.specs.Farm.{Farm}
-use Rattle.farm_types.specs.Pass.{checks, expire, is_dead, is_due, serve_all}
-use Rattle.farm_types.specs.Pick.{queue}
+use Rattle.farm_types.specs.Pass.{back, checks, expire, is_dead, is_due, serve_all}
+use Rattle.farm_types.specs.Pick.{Claimed, queue}
 use Rattle.farm_types.specs.declared.rows.ResRow.{ResRow}
 use Rattle.farm_types.specs.Sound.{IsSound}
 use Rattle.farm_pick.specs.Queued.{queued}
+use Rattle.farm_pick.proofs.Backing.{back_follows}
 use Rattle.farm_pick.proofs.Checking.{checks_follow}
 use Rattle.farm_pick.proofs.Ending.{ends_follow}
 use Rattle.farm_pick.proofs.Filling.{queued_filter}
 use Rattle.farm_core.specs.Following.{without_all}
 use Rattle.farm_core.proofs.Given.{without_each}
 use Rattle.farm_sound.proofs.Checks.{IsSound-checks, check_clock}
+use Rattle.farm_sound.proofs.Jobs.{IsSound-back}
 use Rattle.farm_sound.proofs.Reservations.{IsSound-expire}
 
 -- the farm before the claims are served
 abbrev pub prepared : Farm → Farm
-prepared F = checks (expire F F.clock) F.clock
+prepared F = checks (expire (back F) F.clock) F.clock
 
 pub prepared_clock : (F : Farm) → (prepared F).clock ≡ F.clock
-prepared_clock F = check_clock (filter (is_due (expire F F.clock) F.clock) (expire F F.clock).boards) (expire F F.clock)
+prepared_clock F = check_clock (filter (is_due (expire (back F) F.clock) F.clock) (expire (back F) F.clock).boards) (expire (back F) F.clock)
+
+expired_sound : (F : Farm) → IsSound F → IsSound (expire (back F) F.clock)
+expired_sound F sound = IsSound-expire (back F) F.clock (IsSound-back F sound)
 
 pub prepared_sound : (F : Farm) → IsSound F → IsSound (prepared F)
-prepared_sound F sound = IsSound-checks (expire F F.clock) F.clock (IsSound-expire F F.clock sound)
+prepared_sound F sound = IsSound-checks (expire (back F) F.clock) F.clock (expired_sound F sound)
 
-module _ (F G H : Farm) (ended : G ≡ expire F F.clock) (checked : H ≡ checks G G.clock) where
+module _ (F B G H : Farm) (given : B ≡ back F) (ended : G ≡ expire B B.clock) (checked : H ≡ checks G G.clock) where
+  pub is_expired : G ≡ expire (back F) F.clock
+  is_expired = ended ∙ (λ i. expire (given i) (given i).clock)
+
   pub is_prepared : H ≡ prepared F
-  is_prepared = checked ∙ (λ i. checks (ended i) (ended i).clock)
+  is_prepared = checked ∙ (λ i. checks (is_expired i) (is_expired i).clock)
 
-  pub served_is : serve_all H H.clock ≡ serve_all (prepared F) F.clock
-  served_is = (λ i. serve_all (is_prepared i) (is_prepared i).clock) ∙ ap (serve_all (prepared F)) (prepared_clock F)
+  pub served_is : (group : ℕ) → serve_all H group H.clock ≡ serve_all (prepared F) group F.clock
+  served_is group = (λ i. serve_all (is_prepared i) group (is_prepared i).clock) ∙ ap (serve_all (prepared F) group) (prepared_clock F)
 
 -- ---- who waits before the claims are served
 
 pub prepared_queue : (F : Farm) → IsSound F → without_all (filter (is_dead F.clock) F.reservations) (map queued (queue F)) ≡ map queued (queue (prepared F))
 prepared_queue F sound =
+    let over = λ (n : ℕ). not (list_any (λ (r : ResRow). r.number == n) (filter (is_dead F.clock) F.reservations)) in
     without_each (filter (is_dead F.clock) F.reservations) (map queued (queue F))
-    ∙ sym (queued_filter (λ n. not (list_any (λ (r : ResRow). r.number == n) (filter (is_dead F.clock) F.reservations))) (queue F))
-    ∙ ap (map queued) (sym (ends_follow F F.clock sound) ∙ sym (checks_follow (expire F F.clock) (IsSound-expire F F.clock sound)))
+    ∙ sym (queued_filter over (queue F))
+    ∙ ap (λ cs. map queued (filter (λ (c : Claimed). over c.number) cs)) (sym (back_follows F sound))
+    ∙ ap (map queued) (sym (ends_follow (back F) F.clock (IsSound-back F sound)) ∙ sym (checks_follow (expire (back F) F.clock) (expired_sound F sound)))

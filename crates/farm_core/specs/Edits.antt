@@ -2,7 +2,7 @@
 use Rattle.std.specs.Prelude.{ℕ, ◌==◌, ◌&&◌, Bool, true, false, List, [], Some, if◌then◌else◌}
 use Rattle.std.specs.Option.{option_map_or}
 use Rattle.farm_types.specs.Codes.{same_job_state}
-use Rattle.farm_types.specs.Pass.{idle, is_dead, scheduled}
+use Rattle.farm_types.specs.Pass.{idle, is_dead, placed, unplaced}
 use Rattle.farm_types.specs.Change.{in_state, is_unstarted, after_check, after_job}
 use Rattle.farm_types.specs.Small.{IsSmall}
 use Rattle.farm_sound.specs.Place.{job_in, res_in}
@@ -23,7 +23,9 @@ job_passes (JobEdit.Start group) j = j.group == group
 job_passes (JobEdit.End group) j = (j.group == group) && is_unstarted j
 job_passes (JobEdit.Cancel group) j = (j.group == group) && same_job_state j.state JobState.Running
 job_passes (JobEdit.Finish number outcome) j = j.number == number
-job_passes (JobEdit.Schedule number board) j = j.number == number
+job_passes (JobEdit.Place state number board) j = j.number == number
+job_passes (JobEdit.Back group) j = (j.group == group)
+    && same_job_state j.state JobState.Scheduling
 
 abbrev pub job_changed : JobEdit → JobRow → JobRow
 job_changed (JobEdit.Start group) j = record j { state = JobState.Running }
@@ -36,7 +38,8 @@ job_changed (JobEdit.Finish number outcome) j = record j {
   state = JobState.Finished;
   outcome = Some outcome;
 }
-job_changed (JobEdit.Schedule number board) j = scheduled board.now j
+job_changed (JobEdit.Place state number board) j = placed state board.now j
+job_changed (JobEdit.Back group) j = unplaced j
 
 -- the least number of a job that passes; the others are among the next three
 abbrev pub first_of : JobEdit → ℕ
@@ -44,7 +47,8 @@ first_of (JobEdit.Start group) = group
 first_of (JobEdit.End group) = group
 first_of (JobEdit.Cancel group) = group
 first_of (JobEdit.Finish number outcome) = number
-first_of (JobEdit.Schedule number board) = number
+first_of (JobEdit.Place state number board) = number
+first_of (JobEdit.Back group) = group
 
 -- which reservations change, and to what
 abbrev pub res_passes : ResEdit → ResRow → Bool

@@ -5,6 +5,7 @@ pub mod Tracks
 pub mod Drafted
 pub mod Following
 pub mod Edits
+pub mod Collecting
 pub mod Calls
 pub mod Serving
 pub mod Shown

@@ -10,6 +10,7 @@ plain t = record {
   reservations = t.reservations.items;
   kept = t.kept;
   clock = t.clock;
+  collector = t.collector;
   count = t.count;
   next = t.next;
 }

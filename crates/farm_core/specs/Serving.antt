@@ -1,16 +1,19 @@
 -- What the program does for one claim of a pass.
-use Rattle.std.specs.Prelude.{◌≡◌, ◌==◌, ◌+◌, ℕ, Bool, true, false, List, [], ◌∷◌, map, not}
+use Rattle.std.specs.Prelude.{◌≡◌, ◌==◌, ◌&&◌, ◌+◌, ℕ, Bool, true, false, List, [], ◌∷◌, length}
+use Rattle.std.specs.Prelude.{map, not}
 use Rattle.std.specs.Prelude.{IsSomeAnd, Option, Some, None}
 use Rattle.std.specs.Prelude.{if◌then◌else◌}
-use Rattle.std.specs.List.{AllByRecursion, filter}
+use Rattle.std.specs.List.{AllByRecursion, filter, fold, list_all}
 use Rattle.std.specs.Option.{option_map_or}
 use Rattle.std.specs.Str.{bytes_eq}
 use Rattle.farm_types.specs.Table.{change_where}
-use Rattle.farm_types.specs.Farm.{Farm, members, res_of}
-use Rattle.farm_types.specs.Pass.{allocated, held, scheduled, serve}
-use Rattle.farm_types.specs.Pick.{Among, Claimed, is_free, least, queue, shown_claim}
-use Rattle.farm_pick.specs.Queued.{Lists}
+use Rattle.farm_types.specs.Farm.{Farm, job_of, members, res_of}
+use Rattle.farm_types.specs.Pass.{allocated, held, is_group, pass_over, placed, serve}
+use Rattle.farm_types.specs.Pick.{Among, Claimed, is_free, leads_claim, least, queue}
+use Rattle.farm_types.specs.Pick.{shown_claim}
+use Rattle.farm_pick.specs.Queued.{Lists, idle_boards, lists_of}
 use Rattle.farm_types.specs.declared.rows.Holder.{Holder}
+use Rattle.farm_types.specs.declared.rows.JobState.{JobState}
 use Rattle.farm_types.specs.declared.rows.State.{State}
 use Rattle.farm_types.specs.declared.claims.ClaimKind.{ClaimKind}
 use Rattle.farm_types.specs.declared.rows.BoardRow.{BoardRow}
@@ -18,10 +21,10 @@ use Rattle.farm_types.specs.declared.rows.Want.{Want}
 use Rattle.farm_core.specs.Drafted.{Drafted}
 use Rattle.farm_core.specs.Following.{without_boards}
 
--- a job, told by its number, is given the board of a name
-abbrev pub give_named : Farm → ℕ × List ℕ → Farm
-give_named F (number, name) = record F {
-  jobs = change_where (λ m. m.number == number) (scheduled name) F.jobs;
+-- a job, told by its number, is in a state and holds the board of a name
+abbrev pub give_named : JobState → Farm → ℕ × List ℕ → Farm
+give_named state F (number, name) = record F {
+  jobs = change_where (λ m. m.number == number) (placed state name) F.jobs;
   boards = change_where (λ c. bytes_eq c.name name) (held (Holder.Job number) State.Reserved)
       F.boards;
 }
@@ -66,12 +69,13 @@ AreUnmet F places = AllByRecursion (IfUnmet F) places
 abbrev pub counted : ℕ → Bool → ℕ
 counted n served = if served then n + 1 else n
 
--- the queues once a claim was given the boards that meet it, if some do
+-- the queues once a claim was given the boards that meet it, if some do, and else perhaps collects
 abbrev pub queues_given : Farm → Claimed → Lists → Lists
 queues_given F c lists = option_map_or (λ bs. record {
   claims = filter (λ x. not (x.claim.number == c.number)) lists.claims;
   boards = without_boards (map (λ (b : BoardRow). b.name) bs) lists.boards;
-}) (least F.boards (is_free F.types) c.wants) lists
+}) (least F.boards (is_free F.types) c.wants)
+    (record lists { boards = idle_boards (pass_over F c) })
 
 -- serving the claim, the machine comes to the farm that the draft comes to, and the queues follow
 abbrev pub Serves : Drafted → Claimed → Bool → Drafted → Type 0
@@ -80,3 +84,20 @@ Serves D c served E =
       farm = E.farm;
       claims = counted n served;
     }) × (E.start ≡ D.start) × (E.queues ≡ queues_given D.farm c D.queues)
+
+-- a claim that is met is served, and one that isn't leaves all as it is
+pub record Tries (D : Drafted) (c : Claimed) (served : Bool) (E : Drafted) : Type 0 where
+  pub met : served ≡ true → Serves D c true E
+  pub unmet : served ≡ false → (E ≡ D) × (least D.farm.boards (is_free D.farm.types) c.wants ≡ None)
+
+-- for how many boards a group waits, if it is a claim, and else none
+abbrev pub boards_for : Farm → ℕ → ℕ
+boards_for F group = option_map_or (λ j. if leads_claim F j then length (members F group) else 0)
+    (job_of F group) 0
+
+-- the group that collected before is served, if it is a claim, and so many were served
+pub record Begins (D : Drafted) (former count : ℕ) (E : Drafted) : Type 0 where
+  pub serves : fold (serve D.farm.clock) (record { farm = D.farm; claims = 0 })
+      (filter (is_group former) (queue D.farm)) ≡ record { farm = E.farm; claims = count }
+  pub start : E.start ≡ D.start
+  pub fits : E.queues ≡ lists_of E.farm

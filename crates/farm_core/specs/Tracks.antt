@@ -8,7 +8,7 @@ use Rattle.farm_types.specs.Table.{put_all, type_cmp, board_cmp, job_cmp, res_cm
 use Rattle.farm_types.specs.declared.rows.Reply.{Reply}
 use Rattle.farm_types.specs.declared.calls.Changes.{Changes}
 
--- each number of the changed rows is small, the farm's own three aside
+-- each number of the changed rows is small, the farm's own four aside
 pub record AreSmallRows (c : Changes) : Type 0 where
   pub types : AllByRecursion IsSmallType c.types.items
   pub boards : AllByRecursion IsSmallBoard c.boards.items

@@ -38,6 +38,7 @@ impl Tables {
         ensures small { IfOk result (λ r. AreSmallRows r.1) }
         ensures meta { IfOk result (λ r. r.1.meta ≡ record {
           clock = self.new.clock;
+          collector = self.new.collector;
           count = self.new.count;
           next = self.new.next;
         }) }
@@ -54,6 +55,7 @@ impl Tables {
         self.count = count;
         changes.meta = MetaRow {
             clock: self.clock,
+            collector: self.collector,
             count: self.count,
             next: self.next,
         };

@@ -61,7 +61,7 @@ impl From<AllocError> for StepFault {
     }
 }
 
-/// The board farm: types, boards, jobs, reservations, kept replies and three numbers, the queues of
+/// The board farm: types, boards, jobs, reservations, kept replies and four numbers, the queues of
 /// those who wait, and the leases that may end. A farm that has not failed is sound, its queues are
 /// its claims and its free boards, and each lease that may end is noted.
 #[derive(Debug, Drop)]
@@ -154,13 +154,14 @@ impl Farm {
         self.tables.find_job(number)
     }
 
-    /// How many rows there are, and the farm's three numbers.
+    /// How many rows there are, and the farm's four numbers.
     pub fn status(&self) -> Status
         ensures { result ≡ status_of self.now.farm }
     {
         Status {
             boards: self.tables.boards.len() as u64,
             clock: self.tables.clock,
+            collector: self.tables.collector,
             count: self.tables.count,
             jobs: self.tables.jobs.len() as u64,
             next: self.tables.next,

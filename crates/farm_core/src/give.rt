@@ -7,6 +7,7 @@ ghost use Rattle.farm_types.specs.Table.{board_cmp, change_where};
 ghost use Rattle.farm_types.specs.Farm.{Farm};
 ghost use Rattle.farm_types.specs.Pass.{held};
 ghost use Rattle.farm_types.specs.Small.{IsSmall, held_by};
+ghost use Rattle.farm_types.specs.declared.rows.JobState.{JobState};
 ghost use Rattle.farm_types.specs.declared.rows.State.{State};
 ghost use Rattle.farm_core.specs.Drafted.{at_farm};
 ghost use Rattle.farm_core.specs.Plain.{plain};
@@ -23,7 +24,7 @@ use crate::reservations::LEASE_SECONDS;
 use crate::tables::Tables;
 use farm_sound::seek;
 use farm_types::calls::Changes;
-use farm_types::rows::{BoardRow, Holder};
+use farm_types::rows::{BoardRow, Holder, JobState};
 use farm_types::words::Name;
 use std::alloc::AllocError;
 
@@ -61,26 +62,33 @@ impl Draft {
         Ok(self)
     }
 
-    /// A job is given the board of that name.
-    fn give_job(self, number: u64, name: &Name) -> Result<Draft, AllocError>
+    /// A job is in that state and holds the board of that name.
+    pub fn give_job(
+        self,
+        state: JobState,
+        number: u64,
+        name: &Name,
+    ) -> Result<Draft, AllocError>
         requires { IsSmall number }
-        ensures { IfOk result (λ d. d ≡ at_farm (give_named self.farm (number, name.now)) self) }
+        ensures { IfOk result
+            (λ d. d ≡ at_farm (give_named state self.farm (number, name.now)) self) }
     {
-        let draft = self.edit_jobs(JobEdit::Schedule(number, name))?;
+        let draft = self.edit_jobs(JobEdit::Place(state, number, name))?;
         let draft = draft.hold_board(name, Holder::Job(number))?;
         Ok(draft)
     }
 
-    /// Each job is given the board at its place among the names.
+    /// Each job is Scheduled on the board at its place among the names.
     pub fn give_jobs(self, numbers: &[u64], names: &[Name]) -> Result<Draft, AllocError>
         requires { AllByRecursion IsSmall numbers.now }
         ensures { IfOk result
-            (λ d. d ≡ at_farm (fold give_named self.farm (zip numbers.now names.now)) self) }
+            (λ d. d ≡ at_farm (fold (give_named JobState.Scheduled) self.farm
+            (zip numbers.now names.now)) self) }
     {
         let count = numbers.len().min(names.len());
         let mut draft = self;
         for at in 0..count {
-            draft = draft.give_job(numbers[at], &names[at])?;
+            draft = draft.give_job(JobState::Scheduled, numbers[at], &names[at])?;
         }
         Ok(draft)
     }

@@ -12,14 +12,16 @@ use std::alloc::AllocError;
 pub enum JobEdit<'a> {
     /// The members of the group run.
     Start(u64),
-    /// The Submitted and Scheduled members of the group end as canceled.
+    /// The members of the group that have not been started end as canceled.
     End(u64),
     /// The Running members of the group are being canceled.
     Cancel(u64),
     /// The job ends.
     Finish(u64, Outcome),
-    /// The job is given the board of that name.
-    Schedule(u64, &'a Name),
+    /// The job is in that state and has the board of that name.
+    Place(JobState, u64, &'a Name),
+    /// The Scheduling members of the group are Submitted, and have no board.
+    Back(u64),
 }
 
 impl JobEdit<'_> {
@@ -35,7 +37,8 @@ impl JobEdit<'_> {
             JobEdit::End(group) => group,
             JobEdit::Cancel(group) => group,
             JobEdit::Finish(number, _) => number,
-            JobEdit::Schedule(number, _) => number,
+            JobEdit::Place(_, number, _) => number,
+            JobEdit::Back(group) => group,
         }
     }
 }
@@ -44,7 +47,10 @@ impl JobEdit<'_> {
 fn is_unstarted(row: &JobRow) -> bool
     ensures { result ≡ is_unstarted row.now }
 {
-    matches!(row.state, JobState::Submitted | JobState::Scheduled)
+    matches!(
+        row.state,
+        JobState::Submitted | JobState::Scheduling | JobState::Scheduled
+    )
 }
 
 impl Edit<JobRow> for JobEdit<'_> {
@@ -60,7 +66,10 @@ impl Edit<JobRow> for JobEdit<'_> {
             JobEdit::End(group) => row.group == group && is_unstarted(row),
             JobEdit::Cancel(group) => row.group == group && matches!(row.state, JobState::Running),
             JobEdit::Finish(number, _) => row.number == number,
-            JobEdit::Schedule(number, _) => row.number == number,
+            JobEdit::Place(_, number, _) => row.number == number,
+            JobEdit::Back(group) => {
+                row.group == group && matches!(row.state, JobState::Scheduling)
+            }
         }
     }
 
@@ -76,9 +85,13 @@ impl Edit<JobRow> for JobEdit<'_> {
                 row.state = JobState::Finished;
                 row.outcome = Some(outcome);
             }
-            JobEdit::Schedule(_, board) => {
-                row.state = JobState::Scheduled;
+            JobEdit::Place(state, _, board) => {
+                row.state = state;
                 row.board = Some(board.copy()?);
+            }
+            JobEdit::Back(_) => {
+                row.state = JobState::Submitted;
+                row.board = None;
             }
         }
         Ok(())

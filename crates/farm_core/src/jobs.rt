@@ -41,7 +41,7 @@ fn can_cancel(row: &JobRow) -> bool
 {
     matches!(
         row.state,
-        JobState::Submitted | JobState::Scheduled | JobState::Running
+        JobState::Submitted | JobState::Scheduling | JobState::Scheduled | JobState::Running
     )
 }
 
@@ -164,7 +164,7 @@ impl Tables {
 
 impl Draft {
     /// Cancels a job's whole group: the members that were not started end, and their boards are
-    /// free; those that run are being canceled. Gives the group's number.
+    /// free; those that run are being canceled; it collects no more. Gives the group's number.
     pub fn cancel(self, number: u64) -> Result<(Draft, u64), AllocError>
         ensures { IfOk result (λ r. Acts self [] (Cmd.Cancel number) r.1 r.0) }
     {
@@ -173,6 +173,7 @@ impl Draft {
             Some(job) => job.group,
         };
         let draft = self.edit_jobs_and_boards(JobEdit::End(group), Becomes::Idle)?;
+        let draft = draft.collects_no_more(group);
         let draft = draft.edit_jobs(JobEdit::Cancel(group))?;
         Ok((draft.take_claim(group), group))
     }

@@ -6,6 +6,7 @@
 
 mod boards;
 mod change;
+mod collect;
 mod checks;
 mod draft;
 mod edit;

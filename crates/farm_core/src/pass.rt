@@ -29,9 +29,10 @@ impl Tables {
 }
 
 impl Draft {
-    /// A pass: leases that have come to their ends are over, each due board is checked while there
-    /// is room, and then the claims are served in turn. Gives how many boards were checked, how
-    /// many leases ended and how many claims were served.
+    /// A pass: the group that collects gives its boards back, leases that have come to their ends
+    /// are over, each due board is checked while there is room, and then the claims are served in
+    /// turn, that group first. Gives how many boards were checked, how many leases ended and how
+    /// many claims were served.
     pub fn pass(self) -> Result<(Draft, Reply), AllocError>
         requires sound { IsSound self.farm }
         requires begun { self.start ≡ self.farm }
@@ -42,10 +43,12 @@ impl Draft {
         }) }
         ensures reply { IfOk result (λ r. r.1 ≡ (act self.farm [] Cmd.Pass).reply) }
     {
-        let (draft, ended) = self.expire()?;
+        let former = self.tables.collector;
+        let draft = self.give_back()?;
+        let (draft, ended) = draft.expire()?;
         let (draft, checked) = draft.checks()?;
         let draft = draft.follow_boards()?;
-        let (draft, served) = draft.serve()?;
+        let (draft, served) = draft.serve(former)?;
         Ok((draft, Reply(checked, ended, served)))
     }
 }

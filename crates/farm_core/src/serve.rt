@@ -1,21 +1,25 @@
 //! Claims are served: each is given the least list of free boards that meets it.
 ghost use Rattle.std.specs.Prelude.{◌≡◌, ◌≤◌, ◌==◌, ◌∷◌, [], ℕ, true, false, None, Some, map};
-ghost use Rattle.std.specs.Prelude.{length};
+ghost use Rattle.std.specs.Prelude.{◌&&◌, ◌||◌, length, nat_le};
 ghost use Rattle.std.specs.Prelude.{OnOk, IfOk, option_map};
-ghost use Rattle.std.specs.List.{filter};
+ghost use Rattle.std.specs.List.{filter, find, list_all};
+ghost use Rattle.std.specs.Option.{option_copied};
 ghost use Rattle.farm_types.specs.Farm.{Farm, members, res_of};
 ghost use Rattle.farm_types.specs.Pass.{serve, serve_all};
 ghost use Rattle.farm_types.specs.Pick.{Among, Claimed, least, is_free, queue, shown_claim};
+ghost use Rattle.farm_types.specs.Pick.{waits};
 ghost use Rattle.farm_types.specs.Small.{IsSmall};
 ghost use Rattle.farm_types.specs.Sound.{IsSound};
 ghost use Rattle.farm_types.specs.declared.rows.BoardRow.{BoardRow};
 ghost use Rattle.farm_types.specs.declared.rows.ResRow.{ResRow};
 ghost use Rattle.farm_pick.specs.Least.{boards_at};
-ghost use Rattle.farm_pick.specs.Queued.{idle_boards, lists_of};
+ghost use Rattle.farm_pick.specs.Heads.{is_later, last_spot};
+ghost use Rattle.farm_pick.specs.Queued.{Queued, idle_boards, is_open, lists_of};
 ghost use Rattle.farm_core.specs.Drafted.{at_farm};
 ghost use Rattle.farm_core.specs.Plain.{plain};
 ghost use Rattle.farm_core.specs.Orderly.{IsOrderly};
-ghost use Rattle.farm_core.specs.Serving.{AreUnmet, Asks, Serves, counted, wants_of};
+ghost use Rattle.farm_core.specs.Serving.{AreUnmet, Asks, Begins, Serves, Tries, boards_for};
+ghost use Rattle.farm_core.specs.Serving.{counted, wants_of};
 ghost use Rattle.farm_core.specs.Tracks.{Tracks};
 
 use crate::draft::Draft;
@@ -23,13 +27,13 @@ use crate::same::same_wants;
 use crate::tables::Tables;
 use crate::unmet::Unmet;
 use farm_types::calls::Changes;
-use farm_types::claims::ClaimKind;
-use farm_types::rows::{JobRow, Want};
-use farm_types::words::Name;
+use farm_types::claims::{Claim, ClaimKind};
+use farm_types::rows::{JobRow, JobState, Want};
+use farm_types::words::{Name, Priority};
 use std::alloc::{AllocError, Global};
 
 /// The numbers of a group's members among some rows.
-fn numbers_in(alloc: Global, rows: &[JobRow], group: u64) -> Result<Vec<u64>, AllocError>
+pub fn numbers_in(alloc: Global, rows: &[JobRow], group: u64) -> Result<Vec<u64>, AllocError>
     ensures { IfOk result (λ numbers. numbers.items ≡ map (λ j. j.number)
         (filter (λ j. j.group == group) rows.now)) }
 {
@@ -37,6 +41,22 @@ fn numbers_in(alloc: Global, rows: &[JobRow], group: u64) -> Result<Vec<u64>, Al
         .filter(|row| row.group == group)
         .map(|row| row.number)
         .collect(alloc)
+}
+
+/// Whether a group's members all wait for boards, among some rows.
+fn all_wait(rows: &[JobRow], group: u64) -> bool
+    ensures { result ≡ list_all waits (filter (λ j. j.group == group) rows.now) }
+{
+    rows.iter()
+        .filter(|row| row.group == group)
+        .all(|row| matches!(row.state, JobState::Submitted | JobState::Scheduling))
+}
+
+/// How many members a group has among some rows.
+fn count_in(rows: &[JobRow], group: u64) -> u64
+    ensures { result ≡ length (filter (λ j. j.group == group) rows.now) }
+{
+    rows.iter().filter(|row| row.group == group).count() as u64
 }
 
 /// What a group's members want, among some rows.
@@ -70,7 +90,7 @@ impl Tables {
 
     /// The names of the least list of free boards that meets some wants. At most 4 tests a free
     /// board.
-    fn pick(&self, wants: &[&Want]) -> Result<Option<Vec<Name>>, AllocError>
+    pub fn pick(&self, wants: &[&Want]) -> Result<Option<Vec<Name>>, AllocError>
         requires orderly { IsOrderly (plain self.now) }
         requires free { self.now.queues.boards ≡ idle_boards (plain self.now) }
         requires few { length wants.now ≤ 4 }
@@ -167,13 +187,43 @@ impl Tables {
     }
 }
 
+impl Tables {
+    /// How many boards a group waits for, if it is a claim, and else none.
+    fn waits_for(&self, group: u64) -> u64
+        requires orderly { IsOrderly (plain self.now) }
+        requires small { IsSmall group }
+        ensures { result ≡ boards_for (plain self.now) group }
+    {
+        let near = self.near(group);
+        match self.find_job(group) {
+            Some(job) if job.group == group && all_wait(near, group) => count_in(near, group),
+            _ => 0,
+        }
+    }
+
+    /// The next claim behind a priority and a number that may be served, since its queue is open,
+    /// or that may collect, since none does yet and it is of two boards or more.
+    fn next_claim(&self, last: Option<(Priority, u64)>) -> Option<&Claim>
+        ensures { option_copied result ≡ option_map (λ (x : Queued). x.claim)
+            (find (λ (x : Queued). is_later (last_spot last) x.claim
+            && (is_open self.now.queues.boards x.kind
+            || ((self.now.collector == 0) && nat_le 2 x.claim.boards))) self.now.queues.claims) }
+    {
+        if self.collector == 0 {
+            self.queues.next_or_several(last)
+        } else {
+            self.queues.next(last, false)
+        }
+    }
+}
+
 impl Draft {
     /// Gives a group its boards, where free ones meet it.
     fn serve_group(self, group: u64) -> Result<(Draft, bool), AllocError>
         requires small { IsSmall group }
         requires free { self.queues.boards ≡ idle_boards self.farm }
         ensures { IfOk result (λ r. (c : Claimed) → c.reservation ≡ false → c.number ≡ group
-            → Asks false self.farm c → Serves self c r.1 r.0) }
+            → Asks false self.farm c → Tries self c r.1 r.0) }
     {
         match self.tables.pick_for_group(group)? {
             None => Ok((self, false)),
@@ -192,7 +242,7 @@ impl Draft {
         requires clock { self.farm.clock ≤ 250000000000 }
         requires free { self.queues.boards ≡ idle_boards self.farm }
         ensures { IfOk result (λ r. (c : Claimed) → c.reservation ≡ true → c.number ≡ number
-            → Asks true self.farm c → Serves self c r.1 r.0) }
+            → Asks true self.farm c → Tries self c r.1 r.0) }
     {
         match self.tables.pick_for_reservation(number)? {
             None => Ok((self, false)),
@@ -209,7 +259,7 @@ impl Draft {
         requires clock { self.farm.clock ≤ 250000000000 }
         requires free { self.queues.boards ≡ idle_boards self.farm }
         ensures { IfOk result (λ r. (c : Claimed) → (shown_claim c).kind ≡ kind
-            → c.number ≡ number → Asks c.reservation self.farm c → Serves self c r.1 r.0) }
+            → c.number ≡ number → Asks c.reservation self.farm c → Tries self c r.1 r.0) }
     {
         let served = match kind {
             ClaimKind::Reservation => self.serve_reservation(number)?,
@@ -218,63 +268,111 @@ impl Draft {
         Ok(served)
     }
 
+    /// A claim that isn't met stays; a group of two members or more collects, where none does yet.
+    fn pass_over(self, kind: ClaimKind, number: u64, boards: u64) -> Result<Draft, AllocError>
+        requires sound { IsSound self.farm }
+        requires small { IsSmall number }
+        requires free { self.queues.boards ≡ idle_boards self.farm }
+        ensures { IfOk result (λ d. (c : Claimed) → (shown_claim c).kind ≡ kind → c.number ≡ number
+            → length c.wants ≡ boards
+            → least self.farm.boards (is_free self.farm.types) c.wants ≡ None
+            → Serves self c false d) }
+    {
+        if self.tables.collector == 0 && kind == ClaimKind::Group && boards >= 2 {
+            self.collect_group(number)
+        } else {
+            Ok(self)
+        }
+    }
+
     /// Tries a claim, unless it wants the same as one that was found unmet: where boards are only
-    /// taken away, what was unmet stays so. One that isn't met is remembered.
+    /// taken away, what was unmet stays so. One that isn't met is remembered, and may collect.
     fn try_claim(
         self,
         unmet: &mut Unmet,
         kind: ClaimKind,
         number: u64,
+        boards: u64,
     ) -> Result<(Draft, bool), AllocError>
         requires sound { IsSound self.farm }
         requires waits { (c : Claimed) × Among c (queue self.farm) × ((shown_claim c).kind ≡ kind)
-            × (c.number ≡ number) }
+            × (c.number ≡ number) × (length c.wants ≡ boards) }
         requires small { IsSmall number }
         requires clock { self.farm.clock ≤ 250000000000 }
         requires free { self.queues.boards ≡ idle_boards self.farm }
         requires known { AreUnmet self.farm unmet.old }
         ensures serves { IfOk result (λ r. (c : Claimed) → (shown_claim c).kind ≡ kind
-            → c.number ≡ number → Asks c.reservation self.farm c → Serves self c r.1 r.0) }
+            → c.number ≡ number → Among c (queue self.farm) → Serves self c r.1 r.0) }
         ensures known { IfOk result (λ r. AreUnmet r.0.farm unmet.new) }
     {
-        if self.tables.is_unmet(unmet, kind, number)? {
-            return Ok((self, false));
-        }
-        let (draft, served) = self.serve_claim(kind, number)?;
-        if !served {
+        let mut draft = self;
+        if !draft.tables.is_unmet(unmet, kind, number)? {
+            let (next, served) = draft.serve_claim(kind, number)?;
+            if served {
+                return Ok((next, true));
+            }
+            draft = next;
             unmet.note(kind, number);
         }
-        Ok((draft, served))
+        let draft = draft.pass_over(kind, number, boards)?;
+        Ok((draft, false))
     }
 
-    /// Serves the claims of the open queues, one after the other in the order of the whole queue,
-    /// each where free boards meet it: one that waits holds up none behind it. Gives how many were
+    /// Tries the group that collected before, if it is still a claim: it goes first. Gives how many
+    /// were served, one or none.
+    fn serve_former(
+        self,
+        unmet: &mut Unmet,
+        former: u64,
+    ) -> Result<(Draft, u64), AllocError>
+        requires sound { IsSound self.farm }
+        requires small { IsSmall former }
+        requires fits { self.queues ≡ lists_of self.farm }
+        requires known { AreUnmet self.farm unmet.old }
+        ensures begun { IfOk result (λ r. Begins self former r.1 r.0) }
+        ensures known { IfOk result (λ r. AreUnmet r.0.farm unmet.new) }
+    {
+        let boards = self.tables.waits_for(former);
+        if boards == 0 {
+            return Ok((self, 0));
+        }
+        let (draft, served) = self.try_claim(unmet, ClaimKind::Group, former, boards)?;
+        Ok((draft, u64::from(served)))
+    }
+
+    /// Serves the claims, first that of the group that collected before and then the others of the
+    /// open queues, one after the other in the order of the whole queue, each where free boards
+    /// meet it: one that waits holds up none behind it. While nobody collects, the first group of
+    /// two members or more that isn't met does, be its queue open or not. Gives how many were
     /// served.
     ///
-    /// A claim whose queue has no free board isn't looked at, and for one that wants the same as
-    /// one of the last eight that were found unmet no boards are searched. With K queues, C claims
-    /// in open ones, J jobs and F free boards it costs O(K log C + log J) for each of the C claims,
-    /// and O(F) more for each for which boards are searched.
-    pub fn serve(self) -> Result<(Draft, u64), AllocError>
+    /// A single claim whose queue has no free board isn't looked at, and for one that wants the
+    /// same as one of the last eight that were found unmet no boards are searched. With K queues, C
+    /// claims in open ones, J jobs and F free boards it costs O(K log C + log J) for each of the C
+    /// claims, and O(F) more for each for which boards are searched.
+    pub fn serve(self, former: u64) -> Result<(Draft, u64), AllocError>
         requires sound { IsSound self.farm }
+        requires small { IsSmall former }
         requires fits { self.queues ≡ lists_of self.farm }
         ensures farm { IfOk result (λ r. r.0 ≡ record self {
-          farm = (serve_all self.farm self.farm.clock).farm;
-          queues = lists_of (serve_all self.farm self.farm.clock).farm;
+          farm = (serve_all self.farm former self.farm.clock).farm;
+          queues = lists_of (serve_all self.farm former self.farm.clock).farm;
         }) }
-        ensures count { IfOk result (λ r. r.1 ≡ (serve_all self.farm self.farm.clock).claims) }
+        ensures count { IfOk result
+            (λ r. r.1 ≡ (serve_all self.farm former self.farm.clock).claims) }
     {
-        let mut draft = self;
-        let mut count = 0;
-        let mut last = None;
         let mut unmet = Unmet::none();
-        while let Some(claim) = draft.tables.queues.next(last, false) {
-            let (kind, number) = (claim.kind, claim.number);
+        let (mut draft, mut count) = self.serve_former(&mut unmet, former)?;
+        let mut last = None;
+        while let Some(claim) = draft.tables.next_claim(last) {
+            let (kind, number, boards) = (claim.kind, claim.number, claim.boards);
             last = Some((claim.priority, number));
-            let (next, served) = draft.try_claim(&mut unmet, kind, number)?;
-            draft = next;
-            if served {
-                count += 1;
+            if kind != ClaimKind::Group || number != former {
+                let (next, served) = draft.try_claim(&mut unmet, kind, number, boards)?;
+                draft = next;
+                if served {
+                    count += 1;
+                }
             }
         }
         Ok((draft, count))

@@ -25,7 +25,7 @@ use std::alloc::{AllocError, Global};
 use std::collections::BTreeSet;
 use std::fmt;
 
-/// The eight things of a farm, its queues and its leases. Types and boards stand in name order,
+/// The nine things of a farm, its queues and its leases. Types and boards stand in name order,
 /// jobs and reservations in order of number.
 #[derive(Drop)]
 pub struct Tables {
@@ -42,6 +42,8 @@ pub struct Tables {
     /// those that run.
     pub leases: BTreeSet<Lease>,
     pub clock: u64,
+    /// The number of the group that collects boards, 0 while none does.
+    pub collector: u64,
     pub count: u64,
     pub next: u64,
 }
@@ -57,6 +59,7 @@ impl fmt::Debug for Tables {
             .field("reservations", &self.reservations)
             .field("kept", &self.kept)
             .field("clock", &self.clock)
+            .field("collector", &self.collector)
             .field("count", &self.count)
             .field("next", &self.next)
             .finish()
@@ -75,6 +78,7 @@ pub fn no_changes(alloc: Global) -> Changes
         kept: Vec::new(alloc),
         meta: MetaRow {
             clock: 0,
+            collector: 0,
             count: 0,
             next: 1,
         },
@@ -96,6 +100,7 @@ impl Tables {
             queues: Queues::new(alloc),
             leases: BTreeSet::new(alloc),
             clock: 0,
+            collector: 0,
             count: 0,
             next: 1,
         }
@@ -117,6 +122,7 @@ impl Tables {
             queues: Queues::new(alloc),
             leases: BTreeSet::new(alloc),
             clock: rows.meta.clock,
+            collector: rows.meta.collector,
             count: rows.meta.count,
             next: rows.meta.next,
         }
