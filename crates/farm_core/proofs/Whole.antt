@@ -7,7 +7,7 @@ use Rattle.farm_types.specs.Pick.{Claimed, queue}
 use Rattle.farm_types.specs.declared.rows.ResRow.{ResRow}
 use Rattle.farm_types.specs.Sound.{IsSound}
 use Rattle.farm_pick.specs.Queued.{queued}
-use Rattle.farm_pick.proofs.Backing.{back_follows}
+use Rattle.farm_pick.proofs.Commands.{backs_follow}
 use Rattle.farm_pick.proofs.Checking.{checks_follow}
 use Rattle.farm_pick.proofs.Ending.{ends_follow}
 use Rattle.farm_pick.proofs.Filling.{queued_filter}
@@ -47,5 +47,5 @@ prepared_queue F sound =
     let over = λ (n : ℕ). not (list_any (λ (r : ResRow). r.number == n) (filter (is_dead F.clock) F.reservations)) in
     without_each (filter (is_dead F.clock) F.reservations) (map queued (queue F))
     ∙ sym (queued_filter over (queue F))
-    ∙ ap (λ cs. map queued (filter (λ (c : Claimed). over c.number) cs)) (sym (back_follows F sound))
+    ∙ ap (λ cs. map queued (filter (λ (c : Claimed). over c.number) cs)) (sym (backs_follow F))
     ∙ ap (map queued) (sym (ends_follow (back F) F.clock (IsSound-back F sound)) ∙ sym (checks_follow (expire (back F) F.clock) (expired_sound F sound)))
