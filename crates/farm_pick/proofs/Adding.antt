@@ -7,12 +7,11 @@ use Rattle.std.specs.declared.cmp.Ordering.TheVariants.{Greater}
 use Rattle.std.proofs.lemmas.List.{append-nil, append_assoc, map-append}
 use Rattle.std.proofs.lemmas.List.Elements.{filter-append}
 use Rattle.farm_types.specs.Farm.{Farm, members}
-use Rattle.farm_types.specs.Pick.{claims, group_claim, is_waiting, leads_claim, res_claim}
+use Rattle.farm_types.specs.Pick.{claims, group_claim, is_waiting, leads_claim, res_claim, waits}
 use Rattle.farm_types.specs.Table.{put}
 use Rattle.farm_types.specs.declared.rows.JobRow.{JobRow}
 use Rattle.farm_types.proofs.Put.{AllByRecursion-weaker}
 use Rattle.farm_sound.proofs.Lists.{none_pass}
-use Rattle.farm_pick.specs.Queue.{is_submitted}
 
 -- a row above all others is put behind them
 pub put_behind : {R : Type 0} (cmp : R → R → Ordering) (row : R) (rows : List R) → AllByRecursion (λ r. cmp row r ≡ Greater) rows
@@ -49,7 +48,7 @@ module _ (F G : Farm) (new : List JobRow) (jobs : G.jobs ≡ F.jobs ++ new) (res
       ∙ ap (λ cs. R ++ (cs ++ map (group_claim G) (filter (leads_claim G) new)))
       (seen_alike (leads_claim G) (leads_claim F) (group_claim G) (group_claim F) F.jobs
       (AllByRecursion-weaker (λ j others. (
-        ap (λ ms. (j.number == j.group) && list_all is_submitted ms) (members_still j.group others),
+        ap (λ ms. (j.number == j.group) && list_all waits ms) (members_still j.group others),
         ap (λ ms. record { reservation = false; number = j.group; owner = j.owner; priority = j.priority; wants = map (λ (m : JobRow). m.want) ms }) (members_still j.group others),
       )) F.jobs apart))
       ∙ sym (append_assoc R (map (group_claim F) (filter (leads_claim F) F.jobs)) (map (group_claim G) (filter (leads_claim G) new)))

@@ -8,7 +8,7 @@ use Rattle.std.proofs.Math.Bool.{and-false}
 use Rattle.std.proofs.lemmas.List.{append-nil, append_assoc}
 use Rattle.farm_types.specs.Farm.{Farm}
 use Rattle.farm_types.specs.Pass.{check_job, check_one, checks, has_room, held, is_due}
-use Rattle.farm_types.specs.Pick.{Among, claim_cmp, claims, group_claim, leads_claim, queue}
+use Rattle.farm_types.specs.Pick.{Among, claim_cmp, claims, group_claim, leads_claim, queue, waits}
 use Rattle.farm_types.specs.Sound.{IsSound}
 use Rattle.farm_types.specs.Table.{change_where, job_cmp, put, put_all}
 use Rattle.farm_types.specs.declared.rows.BoardRow.{BoardRow}
@@ -19,7 +19,6 @@ use Rattle.farm_types.proofs.Put.{AllByRecursion-weaker}
 use Rattle.farm_sound.proofs.Lists.{all_join, none_pass}
 use Rattle.farm_sound.proofs.Own.{differs_more, itself}
 use Rattle.farm_sound.proofs.Where.{AllByRecursion-both}
-use Rattle.farm_pick.specs.Queue.{is_submitted}
 use Rattle.farm_pick.proofs.Adding.{claims_added, put_behind}
 use Rattle.farm_pick.proofs.Taking.{among_itself, one_fails}
 
@@ -28,7 +27,7 @@ AreBelow n jobs = AllByRecursion (λ j. j.number < n) jobs
 
 -- a job of a new group that doesn't wait
 abbrev IsNew : ℕ → JobRow → Type 0
-IsNew n j = (n ≤ j.group) × (is_submitted j ≡ false)
+IsNew n j = (n ≤ j.group) × (waits j ≡ false)
 
 -- some such jobs are added
 record Checks (F G : Farm) : Type 0 where
@@ -71,8 +70,8 @@ among_behind x [] ys at = at
 among_behind x (y ∷ xs) ys at = inr (among_behind x xs ys at)
 
 -- a job that doesn't wait leads no claim
-leads_none : (G : Farm) (j : JobRow) → Among j G.jobs → is_submitted j ≡ false → leads_claim G j ≡ false
-leads_none G j at is = ap (λ v. (j.number == j.group) && v) (one_fails (λ r. r.group == j.group) is_submitted j G.jobs at (itself j.group) is)
+leads_none : (G : Farm) (j : JobRow) → Among j G.jobs → waits j ≡ false → leads_claim G j ≡ false
+leads_none G j at is = ap (λ v. (j.number == j.group) && v) (one_fails (λ r. r.group == j.group) waits j G.jobs at (itself j.group) is)
     ∙ and-false (j.number == j.group)
 
 claims_checked : (F G : Farm) → IsSound F → Checks F G → claims G ≡ claims F

@@ -9,8 +9,8 @@ use Rattle.std.proofs.lemmas.Simd.{map-map}
 use Rattle.farm_types.specs.Change.{act, after_check, after_job, cancel_group, done, finish_one, in_state, is_unstarted, moved, new_res, start_group}
 use Rattle.farm_types.specs.Codes.{same_job_state, same_res_state}
 use Rattle.farm_types.specs.Farm.{Farm, board_of, job_of, put_board, res_of}
-use Rattle.farm_types.specs.Pass.{change_jobs, change_res, idle, is_dead}
-use Rattle.farm_types.specs.Pick.{is_waiting, queue, res_claim}
+use Rattle.farm_types.specs.Pass.{back, change_jobs, change_res, idle, is_dead, unplaced}
+use Rattle.farm_types.specs.Pick.{is_waiting, queue, res_claim, waits}
 use Rattle.farm_types.specs.Proper.{is_priority, is_proper_cmd, is_want}
 use Rattle.farm_types.specs.Refuse.{first_code, is_alive, moment, own_refusal, owned_by, reasons, refusal, res_is, res_reasons}
 use Rattle.farm_types.specs.Sound.{IsSound, phase}
@@ -28,24 +28,26 @@ use Rattle.farm_types.specs.declared.rows.Want.{Want}
 use Rattle.farm_types.proofs.Put.{AllByRecursion-weaker, found_has, found_passes}
 use Rattle.farm_sound.proofs.Answered.{unrefused}
 use Rattle.farm_sound.proofs.Clear.{first_clear, passes, some_of}
-use Rattle.farm_sound.proofs.Jobs.{IsSound-cancel}
 use Rattle.farm_sound.proofs.Own.{only_job, only_res}
-use Rattle.farm_sound.proofs.Reservations.{IsSound-cancel_res}
 use Rattle.farm_sound.proofs.Step.{IsSound-moved_to}
-use Rattle.farm_sound.proofs.Tests.{acquired_from, allocated_from, both, same_number, scheduled_from, started_from}
+use Rattle.farm_sound.proofs.Tests.{acquired_from, allocated_from, both, same_number, scheduled_from, scheduling_from, started_from}
 use Rattle.farm_sound.proofs.Where.{all_true, by_cases, map_id}
 use Rattle.farm_sound.proofs.Whole.{Alike}
 use Rattle.farm_pick.specs.Follow.{queue_after, without}
-use Rattle.farm_pick.specs.Queue.{is_submitted}
 use Rattle.farm_pick.proofs.Groups.{groups_differ, reservations_differ}
 use Rattle.farm_pick.proofs.Putting.{reserve_puts, submit_puts}
 use Rattle.farm_pick.proofs.Taking.{SameClaim, and_other, other, queue_stays, queue_takes, same_claim, same_then}
 
 -- ---- states
 
--- a job waits for boards in its first phase
-waits_by_phase : (s : JobState) → same_job_state s JobState.Submitted ≡ (phase s == 0)
+-- whether a job of the state waits for boards
+abbrev in_queue : JobState → Bool
+in_queue s = same_job_state s JobState.Submitted || same_job_state s JobState.Scheduling
+
+-- it does so in its first phase
+waits_by_phase : (s : JobState) → in_queue s ≡ (phase s == 0)
 waits_by_phase JobState.Submitted = refl
+waits_by_phase JobState.Scheduling = refl
 waits_by_phase JobState.Scheduled = refl
 waits_by_phase JobState.Running = refl
 waits_by_phase JobState.Canceling = refl
@@ -53,18 +55,20 @@ waits_by_phase JobState.Finished = refl
 
 -- of a group that is canceled none waits after the first step, and the second changes nothing of that
 waits_ended : (v : Bool) (s : JobState)
-    → cond (v && (same_job_state s JobState.Submitted || same_job_state s JobState.Scheduled)) false (same_job_state s JobState.Submitted)
-    ≡ (same_job_state s JobState.Submitted && not v)
+    → cond (v && (in_queue s || same_job_state s JobState.Scheduled)) false (in_queue s)
+    ≡ (in_queue s && not v)
 waits_ended true JobState.Submitted = refl
+waits_ended true JobState.Scheduling = refl
 waits_ended true JobState.Scheduled = refl
 waits_ended true JobState.Running = refl
 waits_ended true JobState.Canceling = refl
 waits_ended true JobState.Finished = refl
-waits_ended false s = sym (and-true (same_job_state s JobState.Submitted))
+waits_ended false s = sym (and-true (in_queue s))
 
 waits_still : (v : Bool) (s : JobState)
-    → cond (v && same_job_state s JobState.Running) false (same_job_state s JobState.Submitted) ≡ same_job_state s JobState.Submitted
+    → cond (v && same_job_state s JobState.Running) false (in_queue s) ≡ in_queue s
 waits_still true JobState.Submitted = refl
+waits_still true JobState.Scheduling = refl
 waits_still true JobState.Scheduled = refl
 waits_still true JobState.Running = refl
 waits_still true JobState.Canceling = refl
@@ -75,16 +79,16 @@ waits_still false s = refl
 
 module _ (F : Farm) where
   jobs_stay : (test : JobRow → Bool) (f : JobRow → JobRow) (g : BoardRow → BoardRow) → ((j : JobRow) → SameClaim j (f j))
-      → AllByRecursion (λ j. test j ≡ true → is_submitted (f j) ≡ is_submitted j) F.jobs → queue (change_jobs test f g F) ≡ queue F
+      → AllByRecursion (λ j. test j ≡ true → waits (f j) ≡ waits j) F.jobs → queue (change_jobs test f g F) ≡ queue F
   jobs_stay test f g same stay = queue_stays F (change_jobs test f g F) (λ j. cond (test j) (f j) j) (λ r. r)
       (record {
         jobs = refl;
         reservations = sym (map_id F.reservations);
         same_job = λ j. by_cases (SameClaim j) (test j) (f j) j (λ _. same j) (λ _. same_claim j);
         same_res = λ r. refl;
-        submitted = AllByRecursion-weaker (λ j stays. by_cases (λ k. is_submitted k ≡ (is_submitted j && true)) (test j) (f j) j
-            (λ so. stays so ∙ sym (and-true (is_submitted j))) (λ _. sym (and-true (is_submitted j)))) F.jobs stay;
-        waiting = AllByRecursion-weaker (λ r _. sym (and-true (is_waiting r))) F.reservations (all_true F.reservations);
+        jobs_wait = AllByRecursion-weaker (λ j stays. by_cases (λ k. waits k ≡ (waits j && true)) (test j) (f j) j
+            (λ so. stays so ∙ sym (and-true (waits j))) (λ _. sym (and-true (waits j)))) F.jobs stay;
+        reservations_wait = AllByRecursion-weaker (λ r _. sym (and-true (is_waiting r))) F.reservations (all_true F.reservations);
       })
 
   reservations_stay : (test : ResRow → Bool) (f : ResRow → ResRow) (g : BoardRow → BoardRow) → ((r : ResRow) → res_claim (f r) ≡ res_claim r)
@@ -95,10 +99,18 @@ module _ (F : Farm) where
         reservations = refl;
         same_job = same_claim;
         same_res = λ r. by_cases (λ q. res_claim q ≡ res_claim r) (test r) (f r) r (λ _. same r) (λ _. refl);
-        submitted = AllByRecursion-weaker (λ j _. sym (and-true (is_submitted j))) F.jobs (all_true F.jobs);
-        waiting = AllByRecursion-weaker (λ r stays. by_cases (λ q. is_waiting q ≡ (is_waiting r && true)) (test r) (f r) r
+        jobs_wait = AllByRecursion-weaker (λ j _. sym (and-true (waits j))) F.jobs (all_true F.jobs);
+        reservations_wait = AllByRecursion-weaker (λ r stays. by_cases (λ q. is_waiting q ≡ (is_waiting r && true)) (test r) (f r) r
             (λ so. stays so ∙ sym (and-true (is_waiting r))) (λ _. sym (and-true (is_waiting r)))) F.reservations stay;
       })
+
+-- the collecting group that gives its boards back waits on
+pub backs_follow : (F : Farm) → queue (back F) ≡ queue F
+backs_follow F =
+    jobs_stay F (λ j. (j.group == F.collector) && same_job_state j.state JobState.Scheduling) unplaced idle
+    (λ j. record { number = refl; group = refl; owner = refl; priority = refl; want = refl })
+    (AllByRecursion-weaker (λ j _ so. sym (ap in_queue (scheduling_from j.state
+    (both (j.group == F.collector) (same_job_state j.state JobState.Scheduling) so).1))) F.jobs (all_true F.jobs))
 
 module _ (F : Farm) (sound : IsSound F) where
   -- ---- jobs
@@ -119,7 +131,7 @@ module _ (F : Farm) (sound : IsSound F) where
       (λ b. idle (cond j.checking (after_check outcome t b) (after_job outcome b)))
       (λ m. record { number = refl; group = refl; owner = refl; priority = refl; want = refl })
       (AllByRecursion-weaker
-      (λ m only so. sym (ap is_submitted (only (same_number m.number j.number so ∙ at)) ∙ waits_by_phase j.state ∙ ap (λ p. p == 0) started))
+      (λ m only so. sym (ap waits (only (same_number m.number j.number so ∙ at)) ∙ waits_by_phase j.state ∙ ap (λ p. p == 0) started))
       F.jobs (only_job F sound.steady n j there))
 
   -- the two steps of a canceled group, at one job
@@ -137,11 +149,11 @@ module _ (F : Farm) (sound : IsSound F) where
   stopped_same g m = by_cases (SameClaim m) ((m.group == g) && same_job_state m.state JobState.Running) (record m { state = JobState.Canceling }) m
       (λ _. record { number = refl; group = refl; owner = refl; priority = refl; want = refl }) (λ _. same_claim m)
 
-  waits_in : (v : Bool) (k m : JobRow) → is_submitted k ≡ false → is_submitted (cond v k m) ≡ cond v false (is_submitted m)
+  waits_in : (v : Bool) (k m : JobRow) → waits k ≡ false → waits (cond v k m) ≡ cond v false (waits m)
   waits_in true k m is = is
   waits_in false k m is = refl
 
-  canceled_waits : (g : ℕ) (m : JobRow) → is_submitted (stopped g (ended g m)) ≡ (is_submitted m && other g m.group)
+  canceled_waits : (g : ℕ) (m : JobRow) → waits (stopped g (ended g m)) ≡ (waits m && other g m.group)
   canceled_waits g m =
       let k : JobRow = ended g m in
       waits_in ((k.group == g) && same_job_state k.state JobState.Running) (record k { state = JobState.Canceling }) k refl
@@ -157,11 +169,11 @@ module _ (F : Farm) (sound : IsSound F) where
         reservations = sym (map_id F.reservations);
         same_job = λ m. same_then m (ended j.group m) (stopped j.group (ended j.group m)) (ended_same j.group m) (stopped_same j.group (ended j.group m));
         same_res = λ r. refl;
-        submitted = AllByRecursion-weaker (λ m _. canceled_waits j.group m) F.jobs (all_true F.jobs);
-        waiting = AllByRecursion-weaker (λ r differs. and_other (is_waiting r) r.number j.group differs) F.reservations
+        jobs_wait = AllByRecursion-weaker (λ m _. canceled_waits j.group m) F.jobs (all_true F.jobs);
+        reservations_wait = AllByRecursion-weaker (λ r differs. and_other (is_waiting r) r.number j.group differs) F.reservations
             (reservations_differ F sound.steady n j there);
       })
-      sound.steady (IsSound-cancel F j.group sound).steady
+      sound.steady
 
   cancel_by : (n : ℕ) (o : Option JobRow) → job_of F n ≡ o
       → queue (option_map_or (λ j. done j.group (cancel_group j.group F)) o (done 0 F)).farm ≡ option_map_or (λ j. without j.group (queue F)) o (queue F)
@@ -191,14 +203,14 @@ module _ (F : Farm) (sound : IsSound F) where
         reservations = refl;
         same_job = same_claim;
         same_res = λ q. by_cases (λ p. res_claim p ≡ res_claim q) (q.number == n) (record q { state = ResState.Canceled }) q (λ _. refl) (λ _. refl);
-        submitted = AllByRecursion-weaker (λ j differs. and_other (is_submitted j) j.group n differs) F.jobs (groups_differ F sound.steady n r there);
-        waiting = AllByRecursion-weaker (λ q _. waits q (q.number == n)) F.reservations (all_true F.reservations);
+        jobs_wait = AllByRecursion-weaker (λ j differs. and_other (waits j) j.group n differs) F.jobs (groups_differ F sound.steady n r there);
+        reservations_wait = AllByRecursion-weaker (λ q _. waits_after q (q.number == n)) F.reservations (all_true F.reservations);
       })
-      sound.steady (IsSound-cancel_res F n sound).steady
+      sound.steady
     where
-      waits : (q : ResRow) (v : Bool) → is_waiting (cond v (record q { state = ResState.Canceled }) q) ≡ (is_waiting q && not v)
-      waits q true = sym (and-false (is_waiting q))
-      waits q false = sym (and-true (is_waiting q))
+      waits_after : (q : ResRow) (v : Bool) → is_waiting (cond v (record q { state = ResState.Canceled }) q) ≡ (is_waiting q && not v)
+      waits_after q true = sym (and-false (is_waiting q))
+      waits_after q false = sym (and-true (is_waiting q))
 
 -- ---- each command
 

@@ -102,7 +102,7 @@ module _ (F : Farm) (steady : IsSteady F) where
       true≢false (subst IsNone there (job_row F steady d j other).apart)
 
   -- there is one claim of a number at most
-  one_claim : (c d : Claimed) → IsClaim F c → IsClaim F d → c.number ≡ d.number → c ≡ d
+  pub one_claim : (c d : Claimed) → IsClaim F c → IsClaim F d → c.number ≡ d.number → c ≡ d
   one_claim c d (inl (r, one)) (inl (s, other)) same =
       let at : r.number ≡ s.number = sym (ap (λ (e : Claimed). e.number) one.2) ∙ same ∙ ap (λ (e : Claimed). e.number) other.2 in
       let both : Some r ≡ Some s = sym one.0 ∙ ap (res_of F) at ∙ other.0 in

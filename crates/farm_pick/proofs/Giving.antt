@@ -5,10 +5,9 @@ use Rattle.std.specs.List.{filter, fold, list_any, zip}
 use Rattle.std.specs.Str.{bytes_eq}
 use Rattle.std.proofs.Math.Bool.{and-false, and-true}
 use Rattle.std.proofs.lemmas.List.{length-map}
-use Rattle.farm_types.specs.Codes.{same_job_state}
-use Rattle.farm_types.specs.Farm.{Farm, members}
-use Rattle.farm_types.specs.Pass.{allocated, give, give_group, give_member, give_res, held, scheduled}
-use Rattle.farm_types.specs.Pick.{Among, Claimed, group_claim, is_free, is_nobody, is_waiting, least, queue, res_claim, serves}
+use Rattle.farm_types.specs.Farm.{Farm, job_of, members}
+use Rattle.farm_types.specs.Pass.{allocated, give, give_group, give_member, give_res, held, placed}
+use Rattle.farm_types.specs.Pick.{Among, Claimed, group_claim, is_free, is_nobody, is_waiting, least, queue, res_claim, serves, waits}
 use Rattle.farm_types.specs.Sound.{IsSound}
 use Rattle.farm_types.specs.Table.{change_where}
 use Rattle.farm_types.specs.declared.rows.BoardRow.{BoardRow}
@@ -19,18 +18,18 @@ use Rattle.farm_types.specs.declared.rows.ResRow.{ResRow}
 use Rattle.farm_types.specs.declared.rows.State.{State}
 use Rattle.farm_types.specs.declared.rows.TypeRow.{TypeRow}
 use Rattle.farm_types.proofs.Put.{AllByRecursion-weaker}
-use Rattle.farm_sound.proofs.Claims.{IsClaim, IsGroupClaim, IsResClaim, leads, queue_claims}
+use Rattle.farm_sound.proofs.Claims.{IsClaim, IsGroupClaim, IsResClaim, queue_claims}
 use Rattle.farm_sound.proofs.Free.{free_boards}
-use Rattle.farm_sound.proofs.Group.{given, jobs_given, parts}
+use Rattle.farm_sound.proofs.Group.{given, jobs_given}
 use Rattle.farm_sound.proofs.Lists.{among_has}
-use Rattle.farm_sound.proofs.Serve.{IsSound-give, res_kept}
+use Rattle.farm_sound.proofs.Own.{itself, only_job, own_job}
+use Rattle.farm_sound.proofs.Serve.{res_kept}
 use Rattle.farm_sound.proofs.Tests.{same_number}
-use Rattle.farm_sound.proofs.Where.{all_true, by_cases, map_id}
+use Rattle.farm_sound.proofs.Where.{AllByRecursion-both, all_true, by_cases, map_id}
 use Rattle.farm_pick.specs.Follow.{without}
-use Rattle.farm_pick.specs.Queue.{is_submitted}
 use Rattle.farm_pick.specs.Queued.{IdleBoard, idle_board, idle_boards}
 use Rattle.farm_pick.proofs.Groups.{groups_differ, reservations_differ}
-use Rattle.farm_pick.proofs.Taking.{SameClaim, and_other, other, queue_takes, same_claim, same_then, taken}
+use Rattle.farm_pick.proofs.Taking.{SameClaim, among_itself, and_other, any_own, other, queue_takes, same_claim, same_then, taken}
 
 -- ---- the free boards
 
@@ -79,12 +78,12 @@ left_twice b bs (x ∷ xs) = by (bytes_eq b.name x.name) (left_twice b bs xs)
 
 -- each member's board goes
 group_given : (ms : List JobRow) (bs : List BoardRow) (F : Farm) → length bs ≡ length ms
-    → idle_boards (fold give_member F (zip ms bs)) ≡ filter (is_left bs) (idle_boards F)
+    → idle_boards (fold (give_member JobState.Scheduled) F (zip ms bs)) ≡ filter (is_left bs) (idle_boards F)
 group_given [] [] F long = sym (all_left (idle_boards F))
 group_given [] (b ∷ bs) F long = absurd (omega arith)
 group_given (m ∷ ms) [] F long = absurd (omega arith)
 group_given (m ∷ ms) (b ∷ bs) F long =
-    group_given ms bs (give_member F (m, b)) (omega arith)
+    group_given ms bs (give_member JobState.Scheduled F (m, b)) (omega arith)
     ∙ ap (filter (is_left bs)) (one_given F.types (Holder.Job m.number) b.name refl F.boards)
     ∙ left_twice b bs (idle_boards F)
 
@@ -94,71 +93,88 @@ group_given (m ∷ ms) (b ∷ bs) F long =
 abbrev Leaves : Farm → Claimed → List BoardRow → ℕ → Type 0
 Leaves F c bs t = (queue (give F c bs t) ≡ without c.number (queue F)) × (idle_boards (give F c bs t) ≡ filter (is_left bs) (idle_boards F))
 
+-- a member that is given a board waits no more
+given_waits : (ps : List (JobRow × BoardRow)) (m : JobRow)
+    → waits (given JobState.Scheduled ps m) ≡ (waits m && not (list_any (λ (p : JobRow × BoardRow). m.number == p.0.number) ps))
+given_waits [] m = sym (and-true (waits m))
+given_waits (p ∷ ps) m = by (m.number == p.0.number) (given_waits ps (placed JobState.Scheduled p.1.name m)) (given_waits ps m)
+  where
+    by : (v : Bool) → waits (given JobState.Scheduled ps (placed JobState.Scheduled p.1.name m)) ≡ false
+        → waits (given JobState.Scheduled ps m) ≡ (waits m && not (list_any (λ (p : JobRow × BoardRow). m.number == p.0.number) ps))
+        → waits (given JobState.Scheduled ps (cond v (placed JobState.Scheduled p.1.name m) m))
+        ≡ (waits m && not (v || list_any (λ (p : JobRow × BoardRow). m.number == p.0.number) ps))
+    by true one other = one ∙ sym (and-false (waits m))
+    by false one other = other
+
+given_same : (ps : List (JobRow × BoardRow)) (m : JobRow) → SameClaim m (given JobState.Scheduled ps m)
+given_same [] m = same_claim m
+given_same (p ∷ ps) m =
+    let after = cond (m.number == p.0.number) (placed JobState.Scheduled p.1.name m) m in
+    same_then m after (given JobState.Scheduled ps after)
+    (by_cases (SameClaim m) (m.number == p.0.number) (placed JobState.Scheduled p.1.name m) m
+    (λ _. record { number = refl; group = refl; owner = refl; priority = refl; want = refl }) (λ _. same_claim m))
+    (given_same ps after)
+
+-- each member has a board
+zip_any : (n : ℕ) (ms : List JobRow) (bs : List BoardRow) → length bs ≡ length ms
+    → list_any (λ (p : JobRow × BoardRow). n == p.0.number) (zip ms bs) ≡ list_any (λ (m : JobRow). n == m.number) ms
+zip_any n [] bs long = refl
+zip_any n (m ∷ ms) [] long = absurd (omega arith)
+zip_any n (m ∷ ms) (b ∷ bs) long = ap (λ v. (n == m.number) || v) (zip_any n ms bs (omega arith))
+
 module _ (F : Farm) (bs : List BoardRow) (t : ℕ) (sound : IsSound F) where
   -- a reservation is given its board
-  after_res : (r : ResRow) (c : Claimed) → IsResClaim F c r → length bs ≡ 1 → IsSound (give F (res_claim r) bs t) → Leaves F (res_claim r) bs t
-  after_res r c is one later = by bs one later
+  after_res : (r : ResRow) (c : Claimed) → IsResClaim F c r → length bs ≡ 1 → Leaves F (res_claim r) bs t
+  after_res r c is one = by bs one
     where
-      by : (bs : List BoardRow) → length bs ≡ 1 → IsSound (give F (res_claim r) bs t) → Leaves F (res_claim r) bs t
-      by [] one later = absurd (omega arith)
-      by (b ∷ a ∷ bs) one later = absurd (omega arith)
-      by (b ∷ []) one later = (
+      by : (bs : List BoardRow) → length bs ≡ 1 → Leaves F (res_claim r) bs t
+      by [] one = absurd (omega arith)
+      by (b ∷ a ∷ bs) one = absurd (omega arith)
+      by (b ∷ []) one = (
         queue_takes F (give_res F r.number (b ∷ []) t) (other r.number) (λ j. j) (λ q. cond (q.number == r.number) (allocated b.name t q) q)
             (record {
               jobs = sym (map_id F.jobs);
               reservations = refl;
               same_job = same_claim;
               same_res = λ q. by_cases (λ k. res_claim k ≡ res_claim q) (q.number == r.number) (allocated b.name t q) q (λ _. refl) (λ _. refl);
-              submitted = AllByRecursion-weaker (λ j differs. and_other (is_submitted j) j.group r.number differs) F.jobs
+              jobs_wait = AllByRecursion-weaker (λ j differs. and_other (waits j) j.group r.number differs) F.jobs
                   (groups_differ F sound.steady r.number r is.0);
-              waiting = AllByRecursion-weaker (λ q _. waits q (q.number == r.number)) F.reservations (all_true F.reservations);
+              reservations_wait = AllByRecursion-weaker (λ q _. waits_after q (q.number == r.number)) F.reservations (all_true F.reservations);
             })
-            sound.steady later.steady,
+            sound.steady,
         one_given F.types (Holder.Res r.number) b.name refl F.boards ∙ sym (all_left _) ∙ left_twice b [] (idle_boards F),
       )
         where
-          waits : (q : ResRow) (v : Bool) → is_waiting (cond v (allocated b.name t q) q) ≡ (is_waiting q && not v)
-          waits q true = sym (and-false (is_waiting q))
-          waits q false = sym (and-true (is_waiting q))
+          waits_after : (q : ResRow) (v : Bool) → is_waiting (cond v (allocated b.name t q) q) ≡ (is_waiting q && not v)
+          waits_after q true = sym (and-false (is_waiting q))
+          waits_after q false = sym (and-true (is_waiting q))
 
   -- a group is given its boards
-  given_same : (ps : List (JobRow × BoardRow)) (m : JobRow) → SameClaim m (given ps m)
-  given_same [] m = same_claim m
-  given_same (p ∷ ps) m =
-      let after = cond (m.number == p.0.number) (scheduled p.1.name m) m in
-      same_then m after (given ps after)
-      (by_cases (SameClaim m) (m.number == p.0.number) (scheduled p.1.name m) m
-      (λ _. record { number = refl; group = refl; owner = refl; priority = refl; want = refl }) (λ _. same_claim m))
-      (given_same ps after)
-
-  abbrev now : JobRow → JobRow → JobRow
-  now j m = given (zip (members F j.group) bs) m
-
-  after_group : (j : JobRow) (c : Claimed) → IsGroupClaim F c j → least F.boards (is_free F.types) c.wants ≡ Some bs → length bs ≡ length (members F j.group)
-      → IsSound (give F (group_claim F j) bs t) → Leaves F (group_claim F j) bs t
-  after_group j c is found long later =
-      let free = free_boards F c.wants bs sound.steady found in (
-        queue_takes F (give_group F j.group bs) (other j.group) (given (zip (members F j.group) bs)) (λ r. r)
-            (record {
-              jobs = jobs_given (zip (members F j.group) bs) F;
-              reservations = res_kept (zip (members F j.group) bs) F ∙ sym (map_id F.reservations);
-              same_job = given_same (zip (members F j.group) bs);
-              same_res = λ r. refl;
-              submitted = AllByRecursion-weaker (λ m part. waits m part.0 part.1 (m.group == j.group) refl) F.jobs
-                  (parts F j.group bs sound (leads F j is.1).1 free.0 free.1 long);
-              waiting = AllByRecursion-weaker (λ r differs. and_other (is_waiting r) r.number j.group differs) F.reservations
-                  (reservations_differ F sound.steady j.number j is.0);
-            })
-            sound.steady later.steady,
-        group_given (members F j.group) bs F long,
-      )
+  after_group : (j : JobRow) (c : Claimed) → IsGroupClaim F c j → length bs ≡ length (members F j.group) → Leaves F (group_claim F j) bs t
+  after_group j c is long = (
+    queue_takes F (give_group F j.group bs) (other j.group) (given JobState.Scheduled (zip (members F j.group) bs)) (λ r. r)
+        (record {
+          jobs = jobs_given JobState.Scheduled (zip (members F j.group) bs) F;
+          reservations = res_kept (zip (members F j.group) bs) F ∙ sym (map_id F.reservations);
+          same_job = given_same (zip (members F j.group) bs);
+          same_res = λ r. refl;
+          jobs_wait = AllByRecursion-weaker (λ m two. waits_after m two.0 two.1) F.jobs
+              (AllByRecursion-both (λ m. Among m F.jobs) (λ m. job_of F m.number ≡ Some m) F.jobs (among_itself F.jobs) (own_job F sound.steady));
+          reservations_wait = AllByRecursion-weaker (λ r differs. and_other (is_waiting r) r.number j.group differs) F.reservations
+              (reservations_differ F sound.steady j.number j is.0);
+        })
+        sound.steady,
+    group_given (members F j.group) bs F long,
+  )
     where
-      waits : (m : JobRow) → (m.group ≡ j.group → (now j m).state ≡ JobState.Scheduled) → ((m.group == j.group) ≡ false → now j m ≡ m) → (v : Bool)
-          → (m.group == j.group) ≡ v → is_submitted (now j m) ≡ (is_submitted m && other j.group m.group)
-      waits m mine others true same =
-          ap (λ s. same_job_state s JobState.Submitted) (mine (same_number m.group j.group same))
-          ∙ sym (ap (λ v. is_submitted m && not v) same ∙ and-false (is_submitted m))
-      waits m mine others false differs = ap is_submitted (others differs) ∙ and_other (is_submitted m) m.group j.group differs
+      waits_after : (m : JobRow) → Among m F.jobs → job_of F m.number ≡ Some m
+          → waits (given JobState.Scheduled (zip (members F j.group) bs) m) ≡ (waits m && other j.group m.group)
+      waits_after m at own =
+          given_waits (zip (members F j.group) bs) m
+          ∙ ap (λ v. waits m && not v)
+          (zip_any m.number (members F j.group) bs long
+          ∙ any_own (λ k. k.group == j.group) (λ k. m.number == k.number) m F.jobs at (itself m.number)
+          (AllByRecursion-weaker (λ k only same. only (sym (same_number m.number k.number same))) F.jobs (only_job F sound.steady m.number m own)))
 
 -- a claim of the queue that is met
 pub giving_follows : (F : Farm) (c : Claimed) (bs : List BoardRow) (t : ℕ) → IsSound F → t ≤ F.clock → Among c (queue F)
@@ -167,11 +183,9 @@ giving_follows F c bs t sound low at found = by (among_has (IsClaim F) c (queue 
   where
     by : IsClaim F c → Leaves F c bs t
     by (inl (r, is)) =
-        let later = IsSound-give F c bs t (inl (r, is)) found low sound in
         let long : length bs ≡ 1 = (free_boards F c.wants bs sound.steady found).2 ∙ ap (λ (e : Claimed). length e.wants) is.2 in
-        subst (λ d. Leaves F d bs t) (sym is.2) (after_res F bs t sound r c is long (subst (λ d. IsSound (give F d bs t)) is.2 later))
+        subst (λ d. Leaves F d bs t) (sym is.2) (after_res F bs t sound r c is long)
     by (inr (j, is)) =
-        let later = IsSound-give F c bs t (inr (j, is)) found low sound in
         let long : length bs ≡ length (members F j.group) =
         (free_boards F c.wants bs sound.steady found).2 ∙ ap (λ (e : Claimed). length e.wants) is.2 ∙ length-map (members F j.group) (λ m. m.want) in
-        subst (λ d. Leaves F d bs t) (sym is.2) (after_group F bs t sound j c is found long (subst (λ d. IsSound (give F d bs t)) is.2 later))
+        subst (λ d. Leaves F d bs t) (sym is.2) (after_group F bs t sound j c is long)

@@ -1,12 +1,12 @@
 -- The claims that come after the one tried last, and the next that is tried.
-use Rattle.std.proofs.Common.{◌&&◌, ◌<◌, ◌∙◌, ◌∷◌, ◌≡◌, Bool, List, None, Option, Some, ap, arith, cond, false, length, refl, suc, sym, true, []}
-use mathlib.Core.Bool.{false≢true}
+use Rattle.std.proofs.Common.{◌&&◌, ◌<◌, ◌∙◌, ◌∷◌, ◌≡◌, Bool, List, None, Option, Some, ap, arith, cond, false, inl, inr, length, refl, suc, sym, true, []}
+use mathlib.Core.Bool.{false≢true, true≢false}
 use Rattle.std.specs.List.{AllByRecursion, filter, find, fold}
 use Rattle.std.specs.List.Sorted.{IsStrictlySortedBy}
 use Rattle.std.specs.Ordering.{is_lt}
 use Rattle.std.specs.declared.cmp.Ordering.{Ordering}
 use Rattle.std.specs.declared.cmp.Ordering.TheVariants.{Equal, Greater, Less}
-use Rattle.farm_types.specs.Pick.{Claimed, claim_cmp}
+use Rattle.farm_types.specs.Pick.{Among, Claimed, claim_cmp}
 use Rattle.farm_types.proofs.Put.{AllByRecursion-weaker, found_has}
 use Rattle.farm_sound.proofs.Claims.{claim_total}
 use Rattle.farm_pick.specs.Merged.{comes_after}
@@ -15,6 +15,16 @@ use Rattle.farm_pick.proofs.Ordered.{not_below_itself}
 -- the claims after a place
 abbrev pub later : Option Claimed → List Claimed → List Claimed
 later last xs = filter (comes_after last) xs
+
+pub among_later : (test : Claimed → Bool) (d : Claimed) (xs : List Claimed) → Among d xs → test d ≡ true → Among d (filter test xs)
+among_later test d [] at is = at
+among_later test d (x ∷ xs) at is = by (test x) refl at (λ more. among_later test d xs more is)
+  where
+    by : (v : Bool) → test x ≡ v → Among d (x ∷ xs) → (Among d xs → Among d (filter test xs)) → Among d (cond v (x ∷ filter test xs) (filter test xs))
+    by true has (inl same) rest = inl same
+    by true has (inr more) rest = inr (rest more)
+    by false has (inl same) rest = absurd (true≢false (sym is ∙ ap test same ∙ has))
+    by false has (inr more) rest = rest more
 
 -- ---- the order
 
@@ -35,14 +45,14 @@ not_less a b none = by (claim_cmp a b) refl
     by Greater is = refl
 
 -- one that is below another isn't after it
-not_back : (a b : Claimed) → claim_cmp a b ≡ Less → is_lt (claim_cmp b a) ≡ false
+pub not_back : (a b : Claimed) → claim_cmp a b ≡ Less → is_lt (claim_cmp b a) ≡ false
 not_back a b less = not_less b a (λ more. not_below_itself claim_cmp claim_total a (claim_total.trans a b a less more))
 
-not_itself : (a : Claimed) → is_lt (claim_cmp a a) ≡ false
-not_itself a = not_less a a (λ less. not_below_itself claim_cmp claim_total a less)
+pub after_itself : (a : Claimed) → is_lt (claim_cmp a a) ≡ false
+after_itself a = not_less a a (λ less. not_below_itself claim_cmp claim_total a less)
 
 -- what comes after one that comes after the last one does so too
-after_more : (last : Option Claimed) (x y : Claimed) → comes_after last x ≡ true → claim_cmp x y ≡ Less → comes_after last y ≡ true
+pub after_more : (last : Option Claimed) (x y : Claimed) → comes_after last x ≡ true → claim_cmp x y ≡ Less → comes_after last y ≡ true
 after_more None x y is less = refl
 after_more (Some l) x y is less = ap is_lt (claim_total.trans l x y (less_from l x is) less)
 
@@ -82,7 +92,7 @@ module _ {S : Type 0} (serve : S → Claimed → S) (s : S) (opens : Claimed →
       let those : later last (x ∷ xs) ≡ x ∷ xs =
       ap (λ v. cond v (x ∷ later last xs) (later last xs)) is ∙ ap (λ ys. x ∷ ys) (all_after last x xs is above) in
       let these : later (Some x) (x ∷ xs) ≡ xs =
-      ap (λ v. cond v (x ∷ later (Some x) xs) (later (Some x) xs)) (not_itself x) ∙ all_above x xs above in
+      ap (λ v. cond v (x ∷ later (Some x) xs) (later (Some x) xs)) (after_itself x) ∙ all_above x xs above in
       record {
         folds = ap (fold serve s) those ∙ sym (ap (fold serve (serve s x)) these);
         fewer = (let a : length (later last (x ∷ xs)) ≡ suc (length xs) = ap length those in let b : length (later (Some x) (x ∷ xs)) ≡ length xs = ap length these in omega (arith, a, b));

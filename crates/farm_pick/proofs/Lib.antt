@@ -9,6 +9,7 @@ pub mod Ordered
 pub mod Queued
 pub mod Closed
 pub mod Later
+pub mod Collects
 pub mod Merging
 pub mod Entries
 pub mod Keeping

@@ -1,30 +1,42 @@
--- Trying the claims of open queues alone serves just what trying all of them serves.
-use Rattle.std.proofs.Common.{◌+◌, ◌==◌, ◌<◌, ◌≤◌, ◌∙◌, ◌∷◌, ◌≡◌, Bool, List, None, Option, Some, ap, arith, cond, false, inl, inr, length, refl, suc, zero, sym, true, ℕ, []}
+-- Trying alone the claims that may change the farm serves just what trying all of them serves.
+use Rattle.std.proofs.Common.{◌&&◌, ◌||◌, ◌+◌, ◌==◌, ◌<◌, ◌≤◌, ◌∙◌, ◌∷◌, ◌≡◌, Bool, List, None, Option, Some, ap, arith, cond, false, inl, inr, length, nat_le, not, refl, subst, suc, sym, true, zero, ℕ, []}
 use mathlib.Core.Bool.{true≢false}
-use Rattle.std.specs.List.{AllByRecursion, filter, find, fold}
+use Rattle.std.specs.List.{AllByRecursion, filter, find, fold, zip}
+use Rattle.std.specs.List.Sorted.{IsStrictlySortedBy}
 use Rattle.std.specs.Option.{option_map_or}
+use Rattle.std.specs.Str.{bytes_eq}
+use Rattle.std.proofs.Math.Bool.{and-false}
 use Rattle.std.proofs.lemmas.List.{length-map}
-use Rattle.std.proofs.lemmas.List.Kept.{IsStrictlySortedBy-filter}
+use Rattle.std.proofs.lemmas.List.Sums.{fold-append}
 use Rattle.farm_types.specs.Farm.{Farm, members}
-use Rattle.farm_types.specs.Pass.{Served, give, serve, serve_all}
-use Rattle.farm_types.specs.Pick.{Among, Claimed, claim_cmp, is_free, least, queue}
-use Rattle.farm_types.specs.Sound.{IsSound}
+use Rattle.farm_types.specs.Pass.{Served, collect, give, give_group, give_member, give_res, held, is_group, may_collect, pass_over, serve, serve_all}
+use Rattle.farm_types.specs.Pick.{Among, Claimed, is_free, least, queue}
+use Rattle.farm_types.specs.Sound.{EachTwo, IsSound}
+use Rattle.farm_types.specs.Table.{board_cmp, change_where}
+use Rattle.farm_types.specs.Words.{text_cmp}
 use Rattle.farm_types.specs.declared.rows.BoardRow.{BoardRow}
+use Rattle.farm_types.specs.declared.rows.Holder.{Holder}
 use Rattle.farm_types.specs.declared.rows.JobRow.{JobRow}
-use Rattle.farm_types.proofs.Put.{AllByRecursion-weaker, found_has}
-use Rattle.farm_sound.proofs.Claims.{IsClaim, claim_total, queue_claims, queue_sorted}
-use Rattle.farm_sound.proofs.Lists.{among_has, filter_all}
+use Rattle.farm_types.specs.declared.rows.JobState.{JobState}
+use Rattle.farm_types.specs.declared.rows.State.{State}
+use Rattle.farm_types.specs.declared.rows.Want.{Want}
+use Rattle.farm_types.proofs.Put.{AllByRecursion-weaker, found_passes}
+use Rattle.farm_sound.proofs.Claims.{IsClaim, IsOpen, claim_of_open, open_of_claim, queue_claims, queue_sorted}
+use Rattle.farm_sound.proofs.Lists.{among_has, filter_all, filter_back, length_filter, none_pass}
 use Rattle.farm_sound.proofs.Own.{itself}
 use Rattle.farm_sound.proofs.Queue.{among_queue}
-use Rattle.farm_sound.proofs.Serve.{IsClaim-give, IsSound-give, give_clock}
-use Rattle.farm_sound.proofs.Served.{IsOld-give}
-use Rattle.farm_sound.proofs.Unmet.{IsUnmet-give}
-use Rattle.farm_types.specs.declared.rows.Want.{Want}
+use Rattle.farm_sound.proofs.Serve.{IsOpen-give, IsSound-give, give_clock, over}
+use Rattle.farm_sound.proofs.Tests.{both, same_number}
+use Rattle.farm_sound.proofs.Unmet.{IsUnmet, IsUnmet-give}
+use Rattle.farm_sound.proofs.Where.{AllByRecursion-both, all_true, by_cases, sorted_map}
+use Rattle.farm_pick.specs.Follow.{without}
 use Rattle.farm_pick.specs.Queued.{idle_boards, is_open, queue_kind}
-use Rattle.farm_pick.specs.Merged.{comes_after, is_tried, next_tried, merged}
+use Rattle.farm_pick.specs.Merged.{comes_after, first_tried, is_tried, may_act, merged, next_lent, next_tried, rest}
 use Rattle.farm_pick.proofs.Closed.{closed_is_unmet}
-use Rattle.farm_pick.proofs.Ordered.{same_elements}
-use Rattle.farm_pick.proofs.Later.{later, later_none, less_from, leads_on, leads_nowhere}
+use Rattle.farm_pick.proofs.Collects.{collecting_follows}
+use Rattle.farm_pick.proofs.Filling.{numbers_differ, one_claim}
+use Rattle.farm_pick.proofs.Giving.{giving_follows}
+use Rattle.farm_pick.proofs.Later.{Leads, after_itself, after_more, among_later, later, later_none, leads_nowhere, leads_on, less_from}
 
 -- ---- a claim has a want
 
@@ -45,126 +57,451 @@ some_want F c (inr (j, is)) =
     let some = some_pass (λ m. m.group == j.group) (λ m. m.number == j.number) j F.jobs is.0 (itself j.group) in
     omega (arith, same, some)
 
--- ---- one claim served leaves those behind it
+-- ---- what trying a claim leaves
 
-pub among_later : (test : Claimed → Bool) (d : Claimed) (xs : List Claimed) → Among d xs → test d ≡ true → Among d (filter test xs)
-among_later test d [] at is = at
-among_later test d (x ∷ xs) at is = by (test x) refl at (λ more. among_later test d xs more is)
+-- no claim but those of a number fails the test
+filter_without : (p : Claimed → Bool) (n : ℕ) (cs : List Claimed) → AllByRecursion (λ d. d.number ≡ n → p d ≡ false) cs → filter p (without n cs) ≡ filter p cs
+filter_without p n [] all = refl
+filter_without p n (d ∷ cs) all = by (d.number == n) refl (filter_without p n cs all.1)
   where
-    by : (v : Bool) → test x ≡ v → Among d (x ∷ xs) → (Among d xs → Among d (filter test xs)) → Among d (cond v (x ∷ filter test xs) (filter test xs))
-    by true has (inl same) rest = inl same
-    by true has (inr more) rest = inr (rest more)
-    by false has (inl same) rest = absurd (true≢false (sym is ∙ ap test same ∙ has))
-    by false has (inr more) rest = rest more
+    by : (v : Bool) → (d.number == n) ≡ v → filter p (without n cs) ≡ filter p cs
+        → filter p (cond (not v) (d ∷ without n cs) (without n cs)) ≡ cond (p d) (d ∷ filter p cs) (filter p cs)
+    by true is more = more ∙ sym (ap (λ v. cond v (d ∷ filter p cs) (filter p cs)) (all.0 (same_number d.number n is)))
+    by false is more = ap (λ ds. cond (p d) (d ∷ ds) ds) more
 
-module _ (F : Farm) (c : Claimed) (bs : List BoardRow) (t : ℕ) (low : t ≤ F.clock) (sound : IsSound F) (claim : IsClaim F c)
-    (found : least F.boards (is_free F.types) c.wants ≡ Some bs) where
-  after_given : IsSound (give F c bs t)
-  after_given = IsSound-give F c bs t claim found low sound
-
-  later_given : later (Some c) (queue (give F c bs t)) ≡ later (Some c) (queue F)
-  later_given =
-      same_elements claim_cmp claim_total (later (Some c) (queue (give F c bs t))) (later (Some c) (queue F))
-      (IsStrictlySortedBy-filter claim_cmp (comes_after (Some c)) (queue (give F c bs t)) (queue_sorted (give F c bs t)))
-      (IsStrictlySortedBy-filter claim_cmp (comes_after (Some c)) (queue F) (queue_sorted F))
-      (AllByRecursion-weaker (λ d two. among_later (comes_after (Some c)) d (queue F)
-      (among_queue F sound.steady d (IsOld-give F c d bs t claim found sound two.0).0) two.1) (later (Some c) (queue (give F c bs t)))
-      (filter_all (IsClaim (give F c bs t)) (comes_after (Some c)) (queue (give F c bs t)) (queue_claims (give F c bs t) after_given.steady)))
-      (AllByRecursion-weaker (λ d two. among_later (comes_after (Some c)) d (queue (give F c bs t))
-      (among_queue (give F c bs t) after_given.steady d (IsClaim-give F c d bs t claim two.0 (less_from c d two.1) found sound)) two.1) (later (Some c) (queue F))
-      (filter_all (IsClaim F) (comes_after (Some c)) (queue F) (queue_claims F sound.steady)))
-
--- what trying a claim leaves
-pub record Goes (t : ℕ) (s : Served) (c : Claimed) : Type 0 where
+pub record Leaves (t : ℕ) (s : Served) (c : Claimed) : Type 0 where
   pub low : t ≤ (serve t s c).farm.clock
   pub sound : IsSound (serve t s c).farm
-  pub later : later (Some c) (queue (serve t s c).farm) ≡ later (Some c) (queue s.farm)
+  -- the claims that are open stay so, but the one that was tried
+  pub opens : (d : Claimed) → (c ≡ d → ⊥) → IsOpen s.farm d → IsOpen (serve t s c).farm d
+  -- of the queue it leaves those that pass a test which it fails
+  pub keeps : (p : Claimed → Bool) → p c ≡ false → filter p (queue (serve t s c).farm) ≡ filter p (queue s.farm)
 
-pub goes : (t : ℕ) (s : Served) (c : Claimed) → t ≤ s.farm.clock → IsSound s.farm → IsClaim s.farm c → Goes t s c
-goes t s c low sound claim = record { low = parts.0; sound = parts.1; later = parts.2 }
+pub leaves : (t : ℕ) (s : Served) (c : Claimed) → t ≤ s.farm.clock → IsSound s.farm → IsOpen s.farm c → Leaves t s c
+leaves t s c low sound is = record { low = parts.0; sound = parts.1; opens = parts.2; keeps = parts.3 }
   where
+    claim : IsClaim s.farm c
+    claim = claim_of_open s.farm c is
+
+    among : Among c (queue s.farm)
+    among = among_queue s.farm sound.steady c claim
+
+    fails : (p : Claimed → Bool) → p c ≡ false → AllByRecursion (λ d. d.number ≡ c.number → p d ≡ false) (queue s.farm)
+    fails p none = AllByRecursion-weaker (λ d has same. ap p (one_claim s.farm sound.steady d c has claim same) ∙ none) (queue s.farm)
+        (queue_claims s.farm sound.steady)
+
     Parts : Served → Type 0
-    Parts u = (t ≤ u.farm.clock) × IsSound u.farm × (later (Some c) (queue u.farm) ≡ later (Some c) (queue s.farm))
+    Parts u = (t ≤ u.farm.clock) × IsSound u.farm × ((d : Claimed) → (c ≡ d → ⊥) → IsOpen s.farm d → IsOpen u.farm d)
+        × ((p : Claimed → Bool) → p c ≡ false → filter p (queue u.farm) ≡ filter p (queue s.farm))
 
     by : (o : Option (List BoardRow)) → least s.farm.boards (is_free s.farm.types) c.wants ≡ o
-        → Parts (option_map_or (λ bs. record { farm = give s.farm c bs t; claims = s.claims + 1 }) o s)
-    by None is = (low, sound, refl)
-    by (Some bs) is = (
-      omega (arith, low, give_clock s.farm c bs t),
-      IsSound-give s.farm c bs t claim is low sound,
-      later_given s.farm c bs t low sound claim is,
-    )
+        → Parts (option_map_or (λ bs. record { farm = give s.farm c bs t; claims = s.claims + 1 }) o (record { farm = pass_over s.farm c; claims = s.claims }))
+    by None met =
+        let passed = over s.farm c is sound in (
+          (let same = passed.clock in omega (arith, low, same)),
+          passed.sound,
+          passed.opens,
+          λ p none. ap (filter p) (collecting_follows s.farm sound c among),
+        )
+    by (Some bs) met =
+        let two = giving_follows s.farm c bs t sound low among met in (
+          omega (arith, low, give_clock s.farm c bs t),
+          IsSound-give s.farm c bs t is met low sound,
+          λ d apart has. IsOpen-give s.farm c d bs t is has apart met sound,
+          λ p none. ap (filter p) two.0 ∙ filter_without p c.number (queue s.farm) (fails p none),
+        )
 
     parts : Parts (serve t s c)
     parts = by (least s.farm.boards (is_free s.farm.types) c.wants) refl
 
+-- one claim that is served is one less in the queue
+length_without : (c : Claimed) (cs : List Claimed) → Among c cs → 1 + length (without c.number cs) ≤ length cs
+length_without c [] at = absurd at
+length_without c (d ∷ cs) (inl same) =
+    subst (λ v. 1 + length (cond (not v) (d ∷ without c.number cs) (without c.number cs)) ≤ length (d ∷ cs))
+    (sym (ap (λ (e : Claimed). d.number == e.number) same ∙ itself d.number))
+    (let few = length_filter (λ (e : Claimed). not (e.number == c.number)) cs in omega (arith, few))
+length_without c (d ∷ cs) (inr at) = by (d.number == c.number) (length_without c cs at)
+  where
+    by : (v : Bool) → 1 + length (without c.number cs) ≤ length cs → 1 + length (cond (not v) (d ∷ without c.number cs) (without c.number cs)) ≤ length (d ∷ cs)
+    by true few = omega (arith, few)
+    by false few = omega (arith, few)
+
+pub served_few : (t : ℕ) (s : Served) (c : Claimed) → IsSound s.farm → t ≤ s.farm.clock → Among c (queue s.farm)
+    → (serve t s c).claims + length (queue (serve t s c).farm) ≤ s.claims + length (queue s.farm)
+served_few t s c sound low at = by (least s.farm.boards (is_free s.farm.types) c.wants) refl
+  where
+    Few : Served → Type 0
+    Few u = u.claims + length (queue u.farm) ≤ s.claims + length (queue s.farm)
+
+    by : (o : Option (List BoardRow)) → least s.farm.boards (is_free s.farm.types) c.wants ≡ o
+        → Few (option_map_or (λ bs. record { farm = give s.farm c bs t; claims = s.claims + 1 }) o (record { farm = pass_over s.farm c; claims = s.claims }))
+    by None met = let same : length (queue (pass_over s.farm c)) ≡ length (queue s.farm) = ap length (collecting_follows s.farm sound c at) in omega (arith, same)
+    by (Some bs) met =
+        let same : length (queue (give s.farm c bs t)) ≡ length (without c.number (queue s.farm)) = ap length (giving_follows s.farm c bs t sound low at met).0 in
+        omega (arith, same, length_without c (queue s.farm) at)
+
 -- ---- claims that are passed over
 
-pub unserved : (t : ℕ) (s : Served) (c : Claimed) → least s.farm.boards (is_free s.farm.types) c.wants ≡ None → serve t s c ≡ s
-unserved t s c none = ap (λ o. option_map_or (λ bs. record { farm = give s.farm c bs t; claims = s.claims + 1 }) o s) none
+pub unserved : (t : ℕ) (s : Served) (c : Claimed) → least s.farm.boards (is_free s.farm.types) c.wants ≡ None → may_collect s.farm c ≡ false → serve t s c ≡ s
+unserved t s c none out =
+    ap (λ o. option_map_or (λ bs. record { farm = give s.farm c bs t; claims = s.claims + 1 }) o (record { farm = pass_over s.farm c; claims = s.claims })) none
+    ∙ by (may_collect s.farm c) out
+  where
+    by : (v : Bool) → v ≡ false → record { farm = cond v (collect s.farm c.number) s.farm; claims = s.claims } ≡ s
+    by true is = absurd (true≢false is)
+    by false is = refl
 
-skips : (t : ℕ) (s : Served) → IsSound s.farm → AllByRecursion (λ d. is_open (idle_boards s.farm) (queue_kind d) ≡ false → serve t s d ≡ s) (queue s.farm)
-skips t s sound = AllByRecursion-weaker
-    (λ d claim closed. unserved t s d (closed_is_unmet s.farm sound.steady.boards_sorted d (some_want s.farm d claim) closed)) (queue s.farm)
-    (queue_claims s.farm sound.steady)
+either : (a b : Bool) → (a || b) ≡ false → (a ≡ false) × (b ≡ false)
+either true b is = absurd (true≢false is)
+either false b is = (refl, is)
+
+-- the claim of a group is passed over, as it went first
+abbrev serve_but : ℕ → ℕ → Served → Claimed → Served
+serve_but former t s c = cond (is_group former c) s (serve t s c)
+
+skips : (former t : ℕ) (s : Served) → IsSound s.farm
+    → AllByRecursion (λ d. (not (is_group former d) && may_act s.farm d) ≡ false → serve_but former t s d ≡ s) (queue s.farm)
+skips former t s sound = AllByRecursion-weaker (λ d claim. by d claim (is_group former d)) (queue s.farm) (queue_claims s.farm sound.steady)
+  where
+    by : (d : Claimed) → IsClaim s.farm d → (v : Bool) → (not v && may_act s.farm d) ≡ false → cond v s (serve t s d) ≡ s
+    by d claim true out = refl
+    by d claim false out =
+        let two = either (is_open (idle_boards s.farm) (queue_kind d)) (may_collect s.farm d) out in
+        unserved t s d (closed_is_unmet s.farm sound.steady.boards_sorted d (some_want s.farm d claim) two.0) two.1
+
+-- all claims but that of a group
+fold_but : (former t : ℕ) (last : Option Claimed) (s : Served) (cs : List Claimed)
+    → fold (serve_but former t) s (later last cs) ≡ fold (serve t) s (filter (λ c. comes_after last c && not (is_group former c)) cs)
+fold_but former t last s [] = refl
+fold_but former t last s (c ∷ cs) = by (comes_after last c) (is_group former c) refl (fold_but former t last s cs) (fold_but former t last (serve t s c) cs)
+  where
+    by : (v w : Bool) → is_group former c ≡ w
+        → fold (serve_but former t) s (later last cs) ≡ fold (serve t) s (filter (λ c. comes_after last c && not (is_group former c)) cs)
+        → fold (serve_but former t) (serve t s c) (later last cs) ≡ fold (serve t) (serve t s c) (filter (λ c. comes_after last c && not (is_group former c)) cs)
+        → fold (serve_but former t) s (cond v (c ∷ later last cs) (later last cs))
+        ≡ fold (serve t) s (cond (v && not w) (c ∷ filter (λ c. comes_after last c && not (is_group former c)) cs) (filter (λ c. comes_after last c && not (is_group former c)) cs))
+    by true true is here tried = ap (λ v. fold (serve_but former t) (cond v s (serve t s c)) (later last cs)) is ∙ here
+    by true false is here tried = ap (λ v. fold (serve_but former t) (cond v s (serve t s c)) (later last cs)) is ∙ tried
+    by false w is here tried = here
 
 -- ---- all claims in turn
 
--- one claim more is tried
-pub tried : (t : ℕ) (s : Served) (last : Option Claimed) (c : Claimed) → t ≤ s.farm.clock → IsSound s.farm → next_tried s.farm last ≡ Some c
-    → IsClaim s.farm c × Goes t s c × (fold (serve t) s (later last (queue s.farm)) ≡ fold (serve t) (serve t s c) (later (Some c) (queue (serve t s c).farm)))
-    × (length (later (Some c) (queue (serve t s c).farm)) < length (later last (queue s.farm)))
-tried t s last c low sound next =
-    let claim : IsClaim s.farm c = found_has (IsClaim s.farm) (is_tried s.farm last) c (queue s.farm) (queue_claims s.farm sound.steady) next in
-    let on = leads_on (serve t) s (λ d. is_open (idle_boards s.farm) (queue_kind d)) last c (queue s.farm) (queue_sorted s.farm) (skips t s sound) next in
-    let is = goes t s c low sound claim in (
-      claim,
-      is,
-      on.folds ∙ sym (ap (fold (serve t) (serve t s c)) is.later),
-      (let same : length (later (Some c) (queue (serve t s c).farm)) ≡ length (later (Some c) (queue s.farm)) = ap length is.later in omega (arith, same, on.fewer)),
-    )
+-- the claims that are left may be given boards
+pub record IsTrying (former t : ℕ) (s : Served) (last : Option Claimed) : Type 0 where
+  pub low : t ≤ s.farm.clock
+  pub sound : IsSound s.farm
+  pub coming : AllByRecursion (IsOpen s.farm) (rest former last s.farm)
+
+-- a claim of the group, or of another, is behind
+pub record Goes (former t : ℕ) (s u : Served) (last : Option Claimed) (c : Claimed) : Type 0 where
+  pub on : IsTrying former t u (Some c)
+  pub folds : fold (serve t) s (rest former last s.farm) ≡ fold (serve t) u (rest former (Some c) u.farm)
+  pub fewer : length (later (Some c) (queue u.farm)) < length (later last (queue s.farm))
+
+-- those behind a claim that is left are left
+rest_behind : (former : ℕ) (F : Farm) (last : Option Claimed) (c : Claimed) → comes_after last c ≡ true → AllByRecursion (IsOpen F) (rest former last F)
+    → AllByRecursion (IsOpen F) (rest former (Some c) F)
+rest_behind former F last c after all =
+    AllByRecursion-weaker (λ d two. two.0 (behind d (both (comes_after (Some c) d) (not (is_group former d)) two.1)))
+    (rest former (Some c) F)
+    (filter_all (λ d. (comes_after last d && not (is_group former d)) ≡ true → IsOpen F d) (λ d. comes_after (Some c) d && not (is_group former d)) (queue F)
+    (filter_back (IsOpen F) (λ d. comes_after last d && not (is_group former d)) (queue F) all))
+  where
+    behind : (d : Claimed) → (comes_after (Some c) d ≡ true) × (not (is_group former d) ≡ true) → (comes_after last d && not (is_group former d)) ≡ true
+    behind d two = λ i. after_more last c d after (less_from c d two.0) i && two.1 i
+
+-- what the queues lend next is behind the last one, and may change the farm
+lent_is : (F : Farm) (last : Option Claimed) (c : Claimed) → next_lent F last ≡ Some c → (comes_after last c ≡ true) × (may_act F c ≡ true)
+lent_is F last c next = both (comes_after last c) (may_act F c) (found_passes (λ d. comes_after last d && may_act F d) c (queue F) next)
+
+not_true : (v : Bool) → not v ≡ true → v ≡ false
+not_true true is = absurd (true≢false (sym is))
+not_true false is = refl
+
+-- what is found stands in the list
+pub found_among : (p : Claimed → Bool) (c : Claimed) (cs : List Claimed) → find p cs ≡ Some c → Among c cs
+found_among p c [] is = cc
+found_among p c (d ∷ cs) is = by (p d) is (λ more. found_among p c cs more)
+  where
+    by : (v : Bool) → cond v (Some d) (find p cs) ≡ Some c → (find p cs ≡ Some c → Among c cs) → Among c (d ∷ cs)
+    by true is more = let same : d ≡ c = cc in inl (sym same)
+    by false is more = inr (more is)
+
+module _ (former t : ℕ) (s : Served) (last : Option Claimed) (c : Claimed) (trying : IsTrying former t s last) where
+  abbrev is_left : Claimed → Bool
+  is_left d = comes_after (Some c) d && not (is_group former d)
+
+  -- one claim more is tried
+  pub tried : next_tried former s.farm last ≡ Some c → IsOpen s.farm c × Goes former t s (serve t s c) last c
+  tried next = (
+    open_claim,
+    record {
+      on = record { low = after.low; sound = after.sound; coming = subst (AllByRecursion (IsOpen (serve t s c).farm)) (sym same) coming };
+      folds = sym (fold_but former t last s (queue s.farm)) ∙ on.folds
+          ∙ ap (λ v. fold (serve_but former t) (cond v s (serve t s c)) (later (Some c) (queue s.farm))) other
+          ∙ fold_but former t (Some c) (serve t s c) (queue s.farm) ∙ ap (fold (serve t) (serve t s c)) (sym same);
+      fewer = (let l : length (later (Some c) (queue (serve t s c).farm)) ≡ length (later (Some c) (queue s.farm)) =
+          ap length (after.keeps (comes_after (Some c)) (after_itself c)) in omega (arith, l, on.fewer));
+    },
+  )
+    where
+      passes : (comes_after last c ≡ true) × ((not (is_group former c) && may_act s.farm c) ≡ true)
+      passes = both (comes_after last c) (not (is_group former c) && may_act s.farm c) (found_passes (is_tried former s.farm last) c (queue s.farm) next)
+
+      differs : not (is_group former c) ≡ true
+      differs = (both (not (is_group former c)) (may_act s.farm c) passes.1).0
+
+      other : is_group former c ≡ false
+      other = not_true (is_group former c) differs
+
+      open_claim : IsOpen s.farm c
+      open_claim = among_has (IsOpen s.farm) c (rest former last s.farm) trying.coming
+          (among_later (λ d. comes_after last d && not (is_group former d)) c (queue s.farm)
+          (found_among (is_tried former s.farm last) c (queue s.farm) next) (λ i. passes.0 i && differs i))
+
+      after : Leaves t s c
+      after = leaves t s c trying.low trying.sound open_claim
+
+      on : Leads (serve_but former t) s (λ d. not (is_group former d) && may_act s.farm d) last c (queue s.farm)
+      on = leads_on (serve_but former t) s (λ d. not (is_group former d) && may_act s.farm d) last c (queue s.farm) (queue_sorted s.farm)
+          (skips former t s trying.sound) next
+
+      same : rest former (Some c) (serve t s c).farm ≡ rest former (Some c) s.farm
+      same = after.keeps is_left (ap (λ v. v && not (is_group former c)) (after_itself c))
+
+      coming : AllByRecursion (IsOpen (serve t s c).farm) (rest former (Some c) s.farm)
+      coming = AllByRecursion-weaker (λ d two. after.opens d (differ d two.1.1) two.0) (rest former (Some c) s.farm)
+          (AllByRecursion-both (IsOpen s.farm) (λ d. Unit {0} × (is_left d ≡ true)) (rest former (Some c) s.farm)
+          (rest_behind former s.farm last c passes.0 trying.coming) (filter_all (λ _. Unit {0}) is_left (queue s.farm) (all_true (queue s.farm))))
+        where
+          differ : (d : Claimed) → is_left d ≡ true → c ≡ d → ⊥
+          differ d left is = true≢false (sym left ∙ ap is_left (sym is) ∙ ap (λ v. v && not (is_group former c)) (after_itself c))
+
+  -- the claim of the group that went first is passed over
+  pub passed : next_lent s.farm last ≡ Some c → is_group former c ≡ true → Goes former t s s last c
+  passed next is = record {
+    on = record { low = trying.low; sound = trying.sound; coming = rest_behind former s.farm last c (lent_is s.farm last c next).0 trying.coming };
+    folds = sym (fold_but former t last s (queue s.farm)) ∙ on.folds
+        ∙ ap (λ v. fold (serve_but former t) (cond v s (serve t s c)) (later (Some c) (queue s.farm))) is
+        ∙ fold_but former t (Some c) s (queue s.farm);
+    fewer = on.fewer;
+  }
+    where
+      on : Leads (serve_but former t) s (may_act s.farm) last c (queue s.farm)
+      on = leads_on (serve_but former t) s (may_act s.farm) last c (queue s.farm) (queue_sorted s.farm)
+          (AllByRecursion-weaker (λ d skip out. skip (ap (λ v. not (is_group former d) && v) out ∙ and-false (not (is_group former d)))) (queue s.farm)
+          (skips former t s trying.sound)) next
 
 -- none is left to try
-pub none_tried : (t : ℕ) (s : Served) (last : Option Claimed) → IsSound s.farm → next_tried s.farm last ≡ None → fold (serve t) s (later last (queue s.farm)) ≡ s
-none_tried t s last sound none = leads_nowhere (serve t) s (λ d. is_open (idle_boards s.farm) (queue_kind d)) last (queue s.farm) (skips t s sound) none
+pub none_tried : (former t : ℕ) (s : Served) (last : Option Claimed) → IsSound s.farm → next_tried former s.farm last ≡ None
+    → fold (serve t) s (rest former last s.farm) ≡ s
+none_tried former t s last sound none =
+    sym (fold_but former t last s (queue s.farm))
+    ∙ leads_nowhere (serve_but former t) s (λ d. not (is_group former d) && may_act s.farm d) last (queue s.farm) (skips former t s sound) none
+
+-- ---- what is lent is what is tried, but for the group that went first
+
+out_of : (former : ℕ) (F : Farm) (last : Option Claimed) (d : Claimed) → (comes_after last d && may_act F d) ≡ false → is_tried former F last d ≡ false
+out_of former F last d out = by (comes_after last d) out
+  where
+    by : (v : Bool) → (v && may_act F d) ≡ false → (v && (not (is_group former d) && may_act F d)) ≡ false
+    by true none = ap (λ w. not (is_group former d) && w) none ∙ and-false (not (is_group former d))
+    by false none = refl
+
+pub lent_tried : (former : ℕ) (F : Farm) (last : Option Claimed) (c : Claimed) → next_lent F last ≡ Some c → is_group former c ≡ false
+    → next_tried former F last ≡ Some c
+lent_tried former F last c next other = narrow (queue F) next
+  where
+    passes : is_tried former F last c ≡ true
+    passes = let two = lent_is F last c next in λ i. two.0 i && (not (other i) && two.1 i)
+
+    narrow : (cs : List Claimed) → find (λ d. comes_after last d && may_act F d) cs ≡ Some c → find (is_tried former F last) cs ≡ Some c
+    narrow [] found = cc
+    narrow (d ∷ cs) found = by (comes_after last d && may_act F d) refl found (λ more. narrow cs more)
+      where
+        by : (v : Bool) → (comes_after last d && may_act F d) ≡ v → cond v (Some d) (find (λ e. comes_after last e && may_act F e) cs) ≡ Some c
+            → (find (λ e. comes_after last e && may_act F e) cs ≡ Some c → find (is_tried former F last) cs ≡ Some c)
+            → cond (is_tried former F last d) (Some d) (find (is_tried former F last) cs) ≡ Some c
+        by true is here more =
+            let same : d ≡ c = cc in
+            ap (λ v. cond v (Some d) (find (is_tried former F last) cs)) (ap (is_tried former F last) same ∙ passes) ∙ here
+        by false is here more = ap (λ v. cond v (Some d) (find (is_tried former F last) cs)) (out_of former F last d is) ∙ more here
+
+pub lent_none : (former : ℕ) (F : Farm) (last : Option Claimed) → next_lent F last ≡ None → next_tried former F last ≡ None
+lent_none former F last next = narrow (queue F) next
+  where
+    narrow : (cs : List Claimed) → find (λ d. comes_after last d && may_act F d) cs ≡ None → find (is_tried former F last) cs ≡ None
+    narrow [] none = refl
+    narrow (d ∷ cs) none = by (comes_after last d && may_act F d) refl none (λ more. narrow cs more)
+      where
+        by : (v : Bool) → (comes_after last d && may_act F d) ≡ v → cond v (Some d) (find (λ e. comes_after last e && may_act F e) cs) ≡ None
+            → (find (λ e. comes_after last e && may_act F e) cs ≡ None → find (is_tried former F last) cs ≡ None)
+            → cond (is_tried former F last d) (Some d) (find (is_tried former F last) cs) ≡ None
+        by true is here more = cc
+        by false is here more = ap (λ v. cond v (Some d) (find (is_tried former F last) cs)) (out_of former F last d is) ∙ more here
+
+-- ---- the first part of a pass
+
+-- a group has one claim at most
+one_group : (g : ℕ) (cs : List Claimed) → EachTwo (λ a b. a.number ≡ b.number → ⊥) cs
+    → filter (is_group g) cs ≡ option_map_or (λ c. c ∷ []) (find (is_group g) cs) []
+one_group g [] apart = refl
+one_group g (d ∷ cs) apart = by (is_group g d) refl (one_group g cs apart.1)
+  where
+    other : is_group g d ≡ true → (e : Claimed) → (d.number ≡ e.number → ⊥) → (v : Bool) → is_group g e ≡ v → is_group g e ≡ false
+    other is e differ true has = absurd (differ
+        (same_number d.number g (both (not d.reservation) (d.number == g) is).1 ∙ sym (same_number e.number g (both (not e.reservation) (e.number == g) has).1)))
+    other is e differ false has = has
+
+    by : (v : Bool) → is_group g d ≡ v → filter (is_group g) cs ≡ option_map_or (λ c. c ∷ []) (find (is_group g) cs) []
+        → cond v (d ∷ filter (is_group g) cs) (filter (is_group g) cs) ≡ option_map_or (λ c. c ∷ []) (cond v (Some d) (find (is_group g) cs)) []
+    by true is more = ap (λ ds. d ∷ ds) (none_pass (is_group g) cs (AllByRecursion-weaker (λ e differ. other is e differ (is_group g e) refl) cs apart.0))
+    by false is more = more
+
+module _ (F : Farm) (group t : ℕ) (sound : IsSound F) (none : F.collector ≡ 0) (low : t ≤ F.clock) where
+  abbrev start : Served
+  start = record { farm = F; claims = 0 }
+
+  -- the pass goes on from here with the claims that are left
+  pub record Begins (s : Served) : Type 0 where
+    pub on : IsTrying group t s None
+    pub folds : serve_all F group t ≡ fold (serve t) s (rest group None s.farm)
+    pub few : s.claims + length (queue s.farm) ≤ length (queue F)
+
+  are_open : AllByRecursion (IsOpen F) (queue F)
+  are_open = AllByRecursion-weaker (open_of_claim F none sound.collecting) (queue F) (queue_claims F sound.steady)
+
+  begin : (o : Option Claimed) → find (is_group group) (queue F) ≡ o
+      → serve_all F group t ≡ fold (serve t) (fold (serve t) start (option_map_or (λ c. c ∷ []) o [])) (rest group None F)
+  begin o found =
+      fold-append (serve t) start (filter (is_group group) (queue F)) (filter (λ c. not (is_group group c)) (queue F))
+      ∙ ap (λ cs. fold (serve t) (fold (serve t) start cs) (rest group None F))
+      (one_group group (queue F) (numbers_differ F sound) ∙ ap (λ o. option_map_or (λ c. c ∷ []) o []) found)
+
+  -- where it is no claim
+  pub begins_without : find (is_group group) (queue F) ≡ None → Begins start
+  begins_without found = record {
+    on = record {
+      low = low;
+      sound = sound;
+      coming = AllByRecursion-weaker (λ d two. two.0) (rest group None F) (filter_all (IsOpen F) (λ d. not (is_group group d)) (queue F) are_open);
+    };
+    folds = begin None found;
+    few = omega arith;
+  }
+
+  -- and where it is one
+  pub begins_with : (c : Claimed) → find (is_group group) (queue F) ≡ Some c → Among c (queue F) × Begins (serve t start c)
+  begins_with c found = (
+    among,
+    record {
+      on = record {
+        low = after.low;
+        sound = after.sound;
+        coming = subst (AllByRecursion (IsOpen (serve t start c).farm)) (sym same)
+            (AllByRecursion-weaker (λ d two. after.opens d (λ at. true≢false (sym two.1 ∙ ap others (sym at) ∙ own)) two.0) (rest group None F)
+            (filter_all (IsOpen F) others (queue F) are_open));
+      };
+      folds = begin (Some c) found ∙ ap (fold (serve t) (serve t start c)) (sym same);
+      few = (let few = served_few t start c sound low among in omega (arith, few));
+    },
+  )
+    where
+      others : Claimed → Bool
+      others d = not (is_group group d)
+
+      own : others c ≡ false
+      own = ap not (found_passes (is_group group) c (queue F) found)
+
+      among : Among c (queue F)
+      among = found_among (is_group group) c (queue F) found
+
+      after : Leaves t start c
+      after = leaves t start c low sound (among_has (IsOpen F) c (queue F) are_open among)
+
+      same : rest group None (serve t start c).farm ≡ rest group None F
+      same = after.keeps others own
+
+-- ---- a pass that tries them alone
 
 no_length : (xs : List Claimed) → length xs ≤ 0 → xs ≡ []
 no_length [] low = refl
 no_length (x ∷ xs) low = absurd (omega arith)
 
-merged_on : (n t : ℕ) (s : Served) (last : Option Claimed) → t ≤ s.farm.clock → IsSound s.farm → length (later last (queue s.farm)) ≤ n
-    → merged n t s last ≡ fold (serve t) s (later last (queue s.farm))
-merged_on zero t s last low sound few = sym (ap (fold (serve t) s) (no_length (later last (queue s.farm)) few))
-merged_on (suc n) t s last low sound few =
-    by (next_tried s.farm last) refl (λ c low sound few. merged_on n t (serve t s c) (Some c) low sound few)
+merged_on : (n former t : ℕ) (s : Served) (last : Option Claimed) → IsTrying former t s last → length (later last (queue s.farm)) ≤ n
+    → merged former n t s last ≡ fold (serve t) s (rest former last s.farm)
+merged_on zero former t s last trying few =
+    sym (ap (fold (serve_but former t) s) (no_length (later last (queue s.farm)) few)) ∙ fold_but former t last s (queue s.farm)
+merged_on (suc n) former t s last trying few =
+    by (next_tried former s.farm last) refl (λ c on few. merged_on n former t (serve t s c) (Some c) on few)
   where
-    by : (o : Option Claimed) → next_tried s.farm last ≡ o
-        → ((c : Claimed) → t ≤ (serve t s c).farm.clock → IsSound (serve t s c).farm → length (later (Some c) (queue (serve t s c).farm)) ≤ n
-        → merged n t (serve t s c) (Some c) ≡ fold (serve t) (serve t s c) (later (Some c) (queue (serve t s c).farm)))
-        → option_map_or (λ c. merged n t (serve t s c) (Some c)) o s ≡ fold (serve t) s (later last (queue s.farm))
-    by None is rest = sym (none_tried t s last sound is)
-    by (Some c) is rest =
-        let one = tried t s last c low sound is in
-        rest c one.1.low one.1.sound (omega (arith, one.3, few)) ∙ sym one.2
+    by : (o : Option Claimed) → next_tried former s.farm last ≡ o
+        → ((c : Claimed) → IsTrying former t (serve t s c) (Some c) → length (later (Some c) (queue (serve t s c).farm)) ≤ n
+        → merged former n t (serve t s c) (Some c) ≡ fold (serve t) (serve t s c) (rest former (Some c) (serve t s c).farm))
+        → option_map_or (λ c. merged former n t (serve t s c) (Some c)) o s ≡ fold (serve t) s (rest former last s.farm)
+    by None is more = sym (none_tried former t s last trying.sound is)
+    by (Some c) is more =
+        let one = tried former t s last c trying is in
+        more c one.1.on (omega (arith, one.1.fewer, few)) ∙ sym one.1.folds
 
-pub merging_serves : (F : Farm) (t n : ℕ) → IsSound F → t ≤ F.clock → length (queue F) ≤ n → merged n t (record { farm = F; claims = 0 }) None ≡ serve_all F t
-merging_serves F t n sound low few =
-    merged_on n t (record { farm = F; claims = 0 }) None low sound (let same : length (later None (queue F)) ≡ length (queue F) = ap length (later_none (queue F)) in omega (arith, same, few))
-    ∙ ap (fold (serve t) (record { farm = F; claims = 0 })) (later_none (queue F))
+pub merging_serves : (F : Farm) (group t n : ℕ) → IsSound F → F.collector ≡ 0 → t ≤ F.clock → length (queue F) ≤ n
+    → merged group n t (first_tried group t (record { farm = F; claims = 0 })) None ≡ serve_all F group t
+merging_serves F group t n sound none low few = by (find (is_group group) (queue F)) refl
+  where
+    on : (s : Served) → Begins F group t sound none low s → merged group n t s None ≡ serve_all F group t
+    on s begins =
+        merged_on n group t s None begins.on
+        (let same : length (later None (queue s.farm)) ≡ length (queue s.farm) = ap length (later_none (queue s.farm)) in omega (arith, same, begins.few, few))
+        ∙ sym begins.folds
+
+    by : (o : Option Claimed) → find (is_group group) (queue F) ≡ o
+        → merged group n t (option_map_or (λ c. serve t (record { farm = F; claims = 0 }) c) o (record { farm = F; claims = 0 })) None ≡ serve_all F group t
+    by None found = on (record { farm = F; claims = 0 }) (begins_without F group t sound none low found)
+    by (Some c) found = on (serve t (record { farm = F; claims = 0 }) c) (begins_with F group t sound none low c found).1
 
 -- ---- wants that were found unmet
 
+held_sorted : (h : Holder) (name : List ℕ) (bs : List BoardRow) → IsStrictlySortedBy board_cmp bs
+    → IsStrictlySortedBy board_cmp (change_where (λ b. bytes_eq b.name name) (held h State.Reserved) bs)
+held_sorted h name bs sorted =
+    sorted_map board_cmp (λ b. cond (bytes_eq b.name name) (held h State.Reserved b) b) (λ a b i. text_cmp (name_kept a i) (name_kept b i)) bs sorted
+  where
+    name_kept : (b : BoardRow) → (cond (bytes_eq b.name name) (held h State.Reserved b) b).name ≡ b.name
+    name_kept b = by_cases (λ (c : BoardRow). c.name ≡ b.name) (bytes_eq b.name name) (held h State.Reserved b) b (λ _. refl) (λ _. refl)
+
+members_sorted : (ps : List (JobRow × BoardRow)) (F : Farm) → IsStrictlySortedBy board_cmp F.boards
+    → IsStrictlySortedBy board_cmp (fold (give_member JobState.Scheduled) F ps).boards
+members_sorted [] F sorted = sorted
+members_sorted (p ∷ ps) F sorted =
+    members_sorted ps (give_member JobState.Scheduled F (p.0, p.1)) (held_sorted (Holder.Job p.0.number) p.1.name F.boards sorted)
+
+res_sorted : (F : Farm) (n : ℕ) (bs : List BoardRow) (t : ℕ) → IsStrictlySortedBy board_cmp F.boards → IsStrictlySortedBy board_cmp (give_res F n bs t).boards
+res_sorted F n [] t sorted = sorted
+res_sorted F n (b ∷ bs) t sorted = held_sorted (Holder.Res n) b.name F.boards sorted
+
+give_sorted : (F : Farm) (c : Claimed) (bs : List BoardRow) (t : ℕ) → IsStrictlySortedBy board_cmp F.boards → IsStrictlySortedBy board_cmp (give F c bs t).boards
+give_sorted F c bs t sorted = by_cases (λ (G : Farm). IsStrictlySortedBy board_cmp G.boards) c.reservation (give_res F c.number bs t) (give_group F c.number bs)
+    (λ _. res_sorted F c.number bs t sorted) (λ _. members_sorted (zip (members F c.number) bs) F sorted)
+
 pub unmet_stays : (t : ℕ) (s : Served) (c : Claimed) (wants : List Want) → IsSound s.farm → t ≤ s.farm.clock → Among c (queue s.farm)
     → least s.farm.boards (is_free s.farm.types) wants ≡ None → least (serve t s c).farm.boards (is_free (serve t s c).farm.types) wants ≡ None
-unmet_stays t s c wants sound low at none = by (least s.farm.boards (is_free s.farm.types) c.wants) refl
+unmet_stays t s c wants sound low at none = by (least s.farm.boards (is_free s.farm.types) c.wants)
   where
     claim : IsClaim s.farm c
     claim = among_has (IsClaim s.farm) c (queue s.farm) (queue_claims s.farm sound.steady) at
 
-    Stays : Served → Type 0
-    Stays u = least u.farm.boards (is_free u.farm.types) wants ≡ None
+    -- while none collects each claim is open
+    when : may_collect s.farm c ≡ true → IsUnmet (pass_over s.farm c) wants
+    when may =
+        let nobody = (both (s.farm.collector == 0) (not c.reservation) (both ((s.farm.collector == 0) && not c.reservation) (nat_le 2 (length c.wants)) may).0).0 in
+        (over s.farm c (open_of_claim s.farm (same_number s.farm.collector 0 nobody) sound.collecting c claim) sound).unmet wants none
 
-    by : (o : Option (List BoardRow)) → least s.farm.boards (is_free s.farm.types) c.wants ≡ o
-        → Stays (option_map_or (λ bs. record { farm = give s.farm c bs t; claims = s.claims + 1 }) o s)
-    by None is = none
-    by (Some bs) is = IsUnmet-give s.farm c bs t wants ((IsSound-give s.farm c bs t claim is low sound).steady.boards_sorted) none
+    passed_over : (v : Bool) → may_collect s.farm c ≡ v → IsUnmet (pass_over s.farm c) wants
+    passed_over true may = when may
+    passed_over false may = subst (λ (G : Farm). IsUnmet G wants) (sym (ap (λ v. cond v (collect s.farm c.number) s.farm) may)) none
+
+    by : (o : Option (List BoardRow))
+        → IsUnmet (option_map_or {U = Served} (λ bs. record { farm = give s.farm c bs t; claims = s.claims + 1 }) o (record { farm = pass_over s.farm c; claims = s.claims })).farm wants
+    by None = passed_over (may_collect s.farm c) refl
+    by (Some bs) = IsUnmet-give s.farm c bs t wants (give_sorted s.farm c bs t sound.steady.boards_sorted) none

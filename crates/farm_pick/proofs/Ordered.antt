@@ -55,6 +55,19 @@ module _ {R : Type 0} (cmp : R → R → Ordering) (total : IsTotalOrder cmp) wh
       (among_rest y xs ys rises.0 (subst (λ w. AllByRecursion (λ z. Among z (w ∷ xs)) ys) same there.1)) in
       ap (λ w. w ∷ xs) same ∙ ap (λ zs. y ∷ zs) rest
 
+  -- two of a list in strict order that tie are one
+  pub tied_same : (x y : R) (xs : List R) → IsStrictlySortedBy cmp xs → Among x xs → Among y xs → cmp x y ≡ Equal → x ≡ y
+  unfolding IsStrictlySortedBy
+  tied_same x y [] rise here there tie = absurd here
+  tied_same x y (z ∷ xs) rise (inl is) (inl same) tie = is ∙ sym same
+  tied_same x y (z ∷ xs) rise (inl is) (inr at) tie =
+      let less : cmp z y ≡ Less = among_has (λ w. cmp z w ≡ Less) y xs rise.0 at in
+      let e : Equal ≡ Less = sym tie ∙ ap (λ w. cmp w y) is ∙ less in cc
+  tied_same x y (z ∷ xs) rise (inr at) (inl same) tie =
+      let less : cmp z x ≡ Less = among_has (λ w. cmp z w ≡ Less) x xs rise.0 at in
+      let e : Equal ≡ Less = sym (total.antisymm y x ∙ ap ordering_reverse tie) ∙ ap (λ w. cmp w x) same ∙ less in cc
+  tied_same x y (z ∷ xs) rise (inr at) (inr more) tie = tied_same x y xs rise.1 at more tie
+
   -- ---- permutations
 
   among_itself : (xs : List R) → AllByRecursion (λ x. Among x xs) xs

@@ -11,7 +11,7 @@ use Rattle.std.proofs.lemmas.List.Elements.{filter-append}
 use Rattle.std.proofs.lemmas.List.Sums.{fold-append}
 use Rattle.farm_types.specs.Change.{new_members}
 use Rattle.farm_types.specs.Farm.{Farm, members, put_jobs, put_res}
-use Rattle.farm_types.specs.Pick.{Claimed, claim_cmp, claims, group_claim, is_waiting, leads_claim, queue, res_claim}
+use Rattle.farm_types.specs.Pick.{Claimed, claim_cmp, claims, group_claim, is_waiting, leads_claim, queue, res_claim, waits}
 use Rattle.farm_types.specs.Sound.{IsSound}
 use Rattle.farm_types.specs.Table.{job_cmp, put, put_all, res_cmp}
 use Rattle.farm_types.specs.declared.rows.JobRow.{JobRow}
@@ -23,7 +23,6 @@ use Rattle.farm_sound.proofs.Claims.{claim_total}
 use Rattle.farm_sound.proofs.Lists.{all_join, filter_all, none_pass}
 use Rattle.farm_sound.proofs.Own.{differs, differs_more, itself}
 use Rattle.farm_sound.proofs.Where.{AllByRecursion-map}
-use Rattle.farm_pick.specs.Queue.{is_submitted}
 use Rattle.farm_pick.proofs.Adding.{claims_added, put_behind}
 use Rattle.farm_pick.proofs.Entries.{IsApart, put_late}
 
@@ -60,7 +59,7 @@ module _ (group : ℕ) (owner : List ℕ) (priority : ℕ) where
       ∙ append_assoc jobs (one ∷ []) (new_members group (number + 1) owner priority wants roles [])
 
   abbrev IsMember : ℕ → JobRow → Type 0
-  IsMember number m = (number ≤ m.number) × (m.group ≡ group) × (is_submitted m ≡ true)
+  IsMember number m = (number ≤ m.number) × (m.group ≡ group) × (waits m ≡ true)
 
   are_members : (wants : List Want) (roles : List (Option (List ℕ))) (number : ℕ) (body : List ℕ)
       → AllByRecursion (IsMember number) (new_members group number owner priority wants roles body)
@@ -124,14 +123,14 @@ module _ (F : Farm) (sound : IsSound F) (caller : List ℕ) (priority : ℕ) (wa
   -- the first of them leads its claim, and the others lead none
   first_leads : leads_claim G one ≡ true
   first_leads =
-      ap (λ v. v && list_all is_submitted (members G F.next)) (itself F.next)
-      ∙ ap (list_all is_submitted) members_are ∙ (all_pass is_submitted new (AllByRecursion-weaker (λ m is. is.2) new new_are)).1
+      ap (λ v. v && list_all waits (members G F.next)) (itself F.next)
+      ∙ ap (list_all waits) members_are ∙ (all_pass waits new (AllByRecursion-weaker (λ m is. is.2) new new_are)).1
 
   one_leads : filter (leads_claim G) new ≡ one ∷ []
   one_leads =
       ap (λ v. cond v (one ∷ filter (leads_claim G) more) (filter (leads_claim G) more)) first_leads
       ∙ ap (λ ms. one ∷ ms) (none_pass (leads_claim G) more
-      (AllByRecursion-weaker (λ m is. ap (λ v. v && list_all is_submitted (members G m.group)) (differs_more m.number m.group (omega (arith, is.0, is.1)))) more
+      (AllByRecursion-weaker (λ m is. ap (λ v. v && list_all waits (members G m.group)) (differs_more m.number m.group (omega (arith, is.0, is.1)))) more
       (are_members F.next caller priority wants roles (F.next + 1) [])))
 
   claim_is : length (role ∷ roles) ≡ length (want ∷ wants) → group_claim G one ≡ claim

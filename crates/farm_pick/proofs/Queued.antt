@@ -10,7 +10,7 @@ use Rattle.std.proofs.lemmas.List.{append-nil, length-map, map-append}
 use Rattle.std.proofs.lemmas.List.Sorted.{IsPermutation-map, IsPermutation-sym, IsPermutation-trans}
 use Rattle.std.proofs.lemmas.Simd.{map-map}
 use Rattle.farm_types.specs.Farm.{Farm, members}
-use Rattle.farm_types.specs.Pick.{Claimed, claim_cmp, claims, group_claim, is_waiting, leads_claim, queue, res_claim, shown_claim, shown_cmp}
+use Rattle.farm_types.specs.Pick.{Claimed, claim_cmp, claims, group_claim, is_waiting, leads_claim, queue, res_claim, shown_claim, shown_cmp, waits}
 use Rattle.farm_types.specs.Sound.{IsSteady}
 use Rattle.farm_types.specs.Table.{job_cmp}
 use Rattle.farm_types.specs.declared.claims.Claim.{Claim}
@@ -24,7 +24,7 @@ use Rattle.farm_sound.proofs.Own.{differs, differs_more, itself}
 use Rattle.farm_sound.proofs.Queue.{queue_permutes}
 use Rattle.farm_sound.proofs.Tests.{both, same_number}
 use Rattle.farm_sound.proofs.Where.{AllByRecursion-both, AllByRecursion-map}
-use Rattle.farm_pick.specs.Queue.{is_submitted, leads, mates, shown_group, shown_groups, shown_reservation}
+use Rattle.farm_pick.specs.Queue.{leads, mates, shown_group, shown_groups, shown_reservation}
 use Rattle.farm_pick.proofs.Ordered.{sorted_is_one}
 
 -- ---- the members of a group stand near its first one
@@ -78,8 +78,8 @@ module _ (F : Farm) where
   leads_same : (j : JobRow) (near : List JobRow) → (j.number ≡ j.group → members F j.group ≡ j ∷ mates j near) → leads_claim F j ≡ leads j near
   leads_same j near own = by (j.number == j.group) refl
     where
-      by : (v : Bool) → (j.number == j.group) ≡ v → (v && list_all is_submitted (members F j.group)) ≡ (v && (is_submitted j && list_all is_submitted (mates j near)))
-      by true is = ap (list_all is_submitted) (own (same_number j.number j.group is))
+      by : (v : Bool) → (j.number == j.group) ≡ v → (v && list_all waits (members F j.group)) ≡ (v && (waits j && list_all waits (mates j near)))
+      by true is = ap (list_all waits) (own (same_number j.number j.group is))
       by false is = refl
 
   group_same : (j : JobRow) (near : List JobRow) → members F j.group ≡ j ∷ mates j near → shown_claim (group_claim F j) ≡ shown_group j near
@@ -101,7 +101,7 @@ module _ (F : Farm) where
           → map shown_claim (map (group_claim F) (cond v (j ∷ filter (leads_claim F) jobs) (filter (leads_claim F) jobs)))
           ≡ cond (leads j (take 3 jobs)) (shown_group j (take 3 jobs) ∷ shown_groups jobs) (shown_groups jobs)
       by true is rest =
-          let first = same_number j.number j.group (both (j.number == j.group) (list_all is_submitted (members F j.group)) is).0 in
+          let first = same_number j.number j.group (both (j.number == j.group) (list_all waits (members F j.group)) is).0 in
           ap (λ c. c ∷ map shown_claim (map (group_claim F) (filter (leads_claim F) jobs))) (group_same j (take 3 jobs) (own first))
           ∙ ap (λ cs. shown_group j (take 3 jobs) ∷ cs) rest
           ∙ ap (λ v. cond v (shown_group j (take 3 jobs) ∷ shown_groups jobs) (shown_groups jobs)) (sym is ∙ leads_same j (take 3 jobs) own)

@@ -5,7 +5,7 @@ use Rattle.std.specs.Option.{option_map_or}
 use Rattle.std.specs.Str.{bytes_eq}
 use Rattle.farm_types.specs.Change.{act, moved, new_res}
 use Rattle.farm_types.specs.Farm.{Farm, job_of}
-use Rattle.farm_types.specs.Pass.{checks, expire, give, is_dead}
+use Rattle.farm_types.specs.Pass.{back, checks, expire, give, is_dead, pass_over}
 use Rattle.farm_types.specs.Pick.{Among, Claimed, claim_cmp, is_free, least, queue, res_claim}
 use Rattle.farm_types.specs.Refuse.{refusal}
 use Rattle.farm_types.specs.Sound.{IsSound}
@@ -44,7 +44,11 @@ CommandsFollow = (F : Farm) (call : Call) → IsSound F → None ≡ refusal F c
     → queue (act (moved F call) call.caller call.cmd).farm
     ≡ queue_after (moved F call) call.caller call.cmd
 
--- a pass begins with the end of the dead reservations: their claims go
+-- a pass begins with the boards that the collecting group gives back: it still waits
+abbrev pub BacksFollow : Type 0
+BacksFollow = (F : Farm) → queue (back F) ≡ queue F
+
+-- then the dead reservations end: their claims go
 abbrev pub EndsFollow : Type 0
 EndsFollow = (F : Farm) (t : ℕ) → IsSound F → t ≤ F.clock
     → queue (expire F t)
@@ -62,3 +66,8 @@ GivingFollows = (F : Farm) (c : Claimed) (bs : List BoardRow) (t : ℕ) → IsSo
     → (queue (give F c bs t) ≡ without c.number (queue F))
     × (idle_boards (give F c bs t)
     ≡ filter (λ x. not (list_any (λ b. bytes_eq b.name x.name) bs)) (idle_boards F))
+
+-- and each that isn't stays, also where it collects
+abbrev pub CollectingFollows : Type 0
+CollectingFollows = (F : Farm) (c : Claimed) → IsSound F → Among c (queue F)
+    → queue (pass_over F c) ≡ queue F

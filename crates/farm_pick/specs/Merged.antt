@@ -1,39 +1,57 @@
--- A pass that goes over the heads of the open queues alone, and what it comes to.
-use Rattle.std.specs.Prelude.{◌≡◌, ◌≤◌, ℕ, zero, suc, Bool, true, ◌&&◌, List, length, Option, Some}
-use Rattle.std.specs.Prelude.{None}
-use Rattle.std.specs.List.{find}
+-- A pass that tries, one after the other, the claims alone that may be met or may collect, and what
+-- it comes to.
+use Rattle.std.specs.Prelude.{◌≡◌, ◌≤◌, ◌&&◌, ◌||◌, ℕ, zero, suc, Bool, true, false, not, List}
+use Rattle.std.specs.Prelude.{length, nat_le, Option, Some, None, if◌then◌else◌, option_map}
+use Rattle.std.specs.List.{filter, find}
 use Rattle.std.specs.Option.{option_map_or}
 use Rattle.std.specs.Ordering.{is_lt}
 use Rattle.farm_types.specs.Farm.{Farm}
-use Rattle.farm_types.specs.Pass.{Served, serve, serve_all}
+use Rattle.farm_types.specs.Pass.{Served, is_group, may_collect, serve, serve_all}
 use Rattle.farm_types.specs.Pick.{Among, Claimed, claim_cmp, is_free, least, queue}
+use Rattle.farm_types.specs.declared.claims.Claim.{Claim}
 use Rattle.farm_types.specs.declared.rows.Want.{Want}
 use Rattle.farm_types.specs.Sound.{IsSound}
-use Rattle.farm_pick.specs.Queued.{idle_boards, is_open, queue_kind}
+use Rattle.farm_pick.specs.Heads.{earlier, is_later, last_spot}
+use Rattle.farm_pick.specs.Queued.{Lists, idle_boards, is_open, queue_kind}
 
 -- whether a claim comes after the one tried last, if one was
 abbrev pub comes_after : Option Claimed → Claimed → Bool
 comes_after None c = true
 comes_after (Some last) c = is_lt (claim_cmp last c)
 
-abbrev pub is_tried : Farm → Option Claimed → Claimed → Bool
-is_tried F last c = comes_after last c && is_open (idle_boards F) (queue_kind c)
+-- whether to try a claim may change the farm: its queue is open, or it is a group that may collect
+abbrev pub may_act : Farm → Claimed → Bool
+may_act F c = is_open (idle_boards F) (queue_kind c) || may_collect F c
 
--- the next claim that is tried: of the farm as it now stands, the first after the last one whose
--- queue is open
-abbrev pub next_tried : Farm → Option Claimed → Option Claimed
-next_tried F last = find (is_tried F last) (queue F)
+-- the claims that are left: of the farm as it now stands, those after the last one, but not that of
+-- the group `former`, which went first
+abbrev pub rest : ℕ → Option Claimed → Farm → List Claimed
+rest former last F = filter (λ c. comes_after last c && not (is_group former c)) (queue F)
+
+abbrev pub is_tried : ℕ → Farm → Option Claimed → Claimed → Bool
+is_tried former F last c = comes_after last c && (not (is_group former c) && may_act F c)
+
+-- the next claim that is tried: the first of these that may change the farm
+abbrev pub next_tried : ℕ → Farm → Option Claimed → Option Claimed
+next_tried former F last = find (is_tried former F last) (queue F)
 
 -- so many claims are tried
-abbrev pub merged : ℕ → ℕ → Served → Option Claimed → Served
-merged zero t s last = s
-merged (suc n) t s last = option_map_or (λ c. merged n t (serve t s c) (Some c))
-    (next_tried s.farm last) s
+abbrev pub merged : ℕ → ℕ → ℕ → Served → Option Claimed → Served
+merged former zero t s last = s
+merged former (suc n) t s last = option_map_or (λ c. merged former n t (serve t s c) (Some c))
+    (next_tried former s.farm last) s
 
--- trying these alone serves just what trying every claim of the queue serves
+-- the claim of a group is tried, if it is one
+abbrev pub first_tried : ℕ → ℕ → Served → Served
+first_tried group t s = option_map_or (λ c. serve t s c) (find (is_group group) (queue s.farm)) s
+
+-- once the group's claim was tried, to try these alone serves just what a pass over all claims
+-- serves
 abbrev pub MergingServes : Type 0
-MergingServes = (F : Farm) (t n : ℕ) → IsSound F → t ≤ F.clock → length (queue F) ≤ n
-    → merged n t (record { farm = F; claims = 0 }) None ≡ serve_all F t
+MergingServes = (F : Farm) (group t n : ℕ) → IsSound F → F.collector ≡ 0 → t ≤ F.clock
+    → length (queue F) ≤ n
+    → merged group n t (first_tried group t (record { farm = F; claims = 0 })) None
+    ≡ serve_all F group t
 
 -- what no free boards meet stays so while another claim is tried
 abbrev pub UnmetStays : Type 0
@@ -43,7 +61,30 @@ UnmetStays =
     → least s.farm.boards (is_free s.farm.types) wants ≡ None
     → least (serve t s c).farm.boards (is_free (serve t s c).farm.types) wants ≡ None
 
--- and to try a claim with such wants changes nothing
+-- and to try a claim with such wants changes nothing, unless it may collect
 abbrev pub UnmetIsSkipped : Type 0
 UnmetIsSkipped = (t : ℕ) (s : Served) (c : Claimed)
-    → least s.farm.boards (is_free s.farm.types) c.wants ≡ None → serve t s c ≡ s
+    → least s.farm.boards (is_free s.farm.types) c.wants ≡ None → may_collect s.farm c ≡ false
+    → serve t s c ≡ s
+
+-- ---- what the queues lend
+
+-- the first claim after a place of the queues that are open
+abbrev pub lent_open : Lists → Option (ℕ × ℕ) → Option Claim
+lent_open lists after = option_map (λ x. x.claim)
+    (find (λ x. is_later (last_spot after) x.claim && is_open lists.boards x.kind) lists.claims)
+
+-- and that of two boards or more, of all queues
+abbrev pub lent_several : Lists → Option (ℕ × ℕ) → Option Claim
+lent_several lists after = option_map (λ x. x.claim)
+    (find (λ x. is_later (last_spot after) x.claim && nat_le 2 x.claim.boards) lists.claims)
+
+-- while nobody collects the one that goes first
+abbrev pub lent : Bool → Lists → Option (ℕ × ℕ) → Option Claim
+lent nobody lists after =
+    if nobody then earlier (lent_open lists after) (lent_several lists after)
+    else lent_open lists after
+
+-- it is the next claim, `former`'s among them, that may change the farm
+abbrev pub next_lent : Farm → Option Claimed → Option Claimed
+next_lent F last = find (λ c. comes_after last c && may_act F c) (queue F)

@@ -2,9 +2,7 @@
 -- and the rows behind it.
 use Rattle.std.specs.Prelude.{◌==◌, ◌&&◌, Bool, List, [], ◌∷◌, length, take, filter, if◌then◌else◌}
 use Rattle.std.specs.List.{list_all}
-use Rattle.farm_types.specs.Codes.{same_job_state}
-use Rattle.farm_types.specs.Pick.{res_claim, shown_claim}
-use Rattle.farm_types.specs.declared.rows.JobState.{JobState}
+use Rattle.farm_types.specs.Pick.{res_claim, shown_claim, waits}
 use Rattle.farm_types.specs.declared.rows.JobRow.{JobRow}
 use Rattle.farm_types.specs.declared.rows.ResRow.{ResRow}
 use Rattle.farm_types.specs.declared.claims.Claim.{Claim}
@@ -13,16 +11,13 @@ use Rattle.farm_types.specs.declared.claims.ClaimKind.{ClaimKind}
 abbrev pub shown_reservation : ResRow → Claim
 shown_reservation r = shown_claim (res_claim r)
 
-abbrev pub is_submitted : JobRow → Bool
-is_submitted j = same_job_state j.state JobState.Submitted
-
 -- the members of a job's group among the rows near it
 abbrev pub mates : JobRow → List JobRow → List JobRow
 mates j near = filter (λ m. m.group == j.group) near
 
--- whether a job is the first of a group whose members are all Submitted
+-- whether a job is the first of a group whose members all wait for boards
 abbrev pub leads : JobRow → List JobRow → Bool
-leads j near = (j.number == j.group) && (is_submitted j && list_all is_submitted (mates j near))
+leads j near = (j.number == j.group) && (waits j && list_all waits (mates j near))
 
 abbrev pub shown_group : JobRow → List JobRow → Claim
 shown_group j near = record {

@@ -1,6 +1,7 @@
 //! Laws on the least list, on a pass over the queues, and on how the queue and the free boards
 //! follow from one farm to the next.
-ghost use Rattle.farm_pick.specs.Follow.{CommandsFollow, EndsFollow, ChecksFollow, GivingFollows};
+ghost use Rattle.farm_pick.specs.Follow.{CommandsFollow, BacksFollow, EndsFollow, ChecksFollow};
+ghost use Rattle.farm_pick.specs.Follow.{GivingFollows, CollectingFollows};
 ghost use Rattle.farm_pick.specs.Least.{SearchGivesLeast, LeastIsOne};
 ghost use Rattle.farm_pick.specs.Merged.{MergingServes, UnmetStays, UnmetIsSkipped};
 
@@ -15,8 +16,9 @@ pub fn one_least()
     ensures { LeastIsOne }
 {}
 
-/// A pass that tries, one after the other, the first claim of the farm as it then stands that comes
-/// after the last one and whose queue is open, serves just what a pass over the whole queue serves.
+/// A pass that tries the claim of the group that collected and then, one after the other, the first
+/// claim of the farm as it then stands that comes after the last one and whose queue is open or
+/// that may collect, serves just what a pass over all claims serves.
 pub fn merging_serves()
     ensures { MergingServes }
 {}
@@ -26,7 +28,7 @@ pub fn unmet_stays()
     ensures { UnmetStays }
 {}
 
-/// To try a claim with such wants changes nothing, so it may be passed over.
+/// To try a claim with such wants changes nothing, so it may be passed over, unless it may collect.
 pub fn unmet_is_skipped()
     ensures { UnmetIsSkipped }
 {}
@@ -35,6 +37,11 @@ pub fn unmet_is_skipped()
 /// and the other commands leave it as it is, a pass aside.
 pub fn commands_follow()
     ensures { CommandsFollow }
+{}
+
+/// The collecting group that gives its boards back stays in the queue.
+pub fn backs_follow()
+    ensures { BacksFollow }
 {}
 
 /// When the dead reservations end, their claims go from the queue, and no others.
@@ -50,4 +57,9 @@ pub fn checks_follow()
 /// A claim that is met goes from the queue, and its boards from the free ones: no others.
 pub fn giving_follows()
     ensures { GivingFollows }
+{}
+
+/// A claim that isn't met stays in the queue, also where it collects.
+pub fn collecting_follows()
+    ensures { CollectingFollows }
 {}

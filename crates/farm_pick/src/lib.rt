@@ -29,8 +29,8 @@ pub use fit::{carries_all, is_free};
 pub use free::Free;
 pub use heads::Heads;
 pub use laws::{
-    checks_follow, commands_follow, ends_follow, giving_follows, least_is_least, merging_serves,
-    one_least, unmet_is_skipped, unmet_stays,
+    backs_follow, checks_follow, collecting_follows, commands_follow, ends_follow, giving_follows,
+    least_is_least, merging_serves, one_least, unmet_is_skipped, unmet_stays,
 };
 pub use order::{before, queue_order};
 pub use picked::Picked;

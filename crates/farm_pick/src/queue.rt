@@ -3,8 +3,8 @@ ghost use Rattle.std.specs.Prelude.{◌≡◌, ◌++◌, ◌==◌, ◌≤◌, le
 ghost use Rattle.std.specs.List.{list_all};
 ghost use Rattle.farm_types.specs.Farm.{Farm};
 ghost use Rattle.farm_types.specs.Sound.{IsSteady};
-ghost use Rattle.farm_types.specs.Pick.{is_waiting, queue, shown_claim, shown_cmp};
-ghost use Rattle.farm_pick.specs.Queue.{shown_reservation, is_submitted, leads, shown_group};
+ghost use Rattle.farm_types.specs.Pick.{is_waiting, queue, shown_claim, shown_cmp, waits};
+ghost use Rattle.farm_pick.specs.Queue.{shown_reservation, leads, shown_group};
 ghost use Rattle.farm_pick.specs.Queue.{shown_groups};
 
 use crate::order::queue_order;
@@ -47,10 +47,11 @@ fn add_reservations(claims: &mut Vec<Claim>, reservations: &[ResRow]) -> Result<
     Ok(())
 }
 
-fn is_submitted(job: &JobRow) -> bool
-    ensures { result ≡ is_submitted job.now }
+/// A Submitted job waits for boards, and so does a Scheduling one: its board can be taken back.
+fn waits(job: &JobRow) -> bool
+    ensures { result ≡ waits job.now }
 {
-    job.state == JobState::Submitted
+    matches!(job.state, JobState::Submitted | JobState::Scheduling)
 }
 
 /// The rows that may be members of a group whose first one stands before them.
@@ -61,21 +62,21 @@ fn nearby(behind: &[JobRow]) -> &[JobRow]
     &behind[..behind.len().min(MOST_MATES)]
 }
 
-/// Whether the job is the first of a group whose members are all Submitted. The rows near it are
-/// looked at only where it is Submitted itself.
+/// Whether the job is the first of a group whose members all wait for boards. The rows near it are
+/// looked at only where it waits itself.
 fn leads(job: &JobRow, near: &[JobRow]) -> bool
     ensures { result ≡ leads job.now near.now }
 {
-    job.number == job.group && is_submitted(job) && are_submitted(job.group, near)
+    job.number == job.group && waits(job) && all_wait(job.group, near)
 }
 
-/// Whether all members of the group among these rows are Submitted.
-fn are_submitted(group: u64, near: &[JobRow]) -> bool
-    ensures { result ≡ list_all is_submitted (filter (λ m. m.group == group) near.now) }
+/// Whether all members of the group among these rows wait for boards.
+fn all_wait(group: u64, near: &[JobRow]) -> bool
+    ensures { result ≡ list_all waits (filter (λ m. m.group == group) near.now) }
 {
     near.iter()
         .filter(|job| job.group == group)
-        .all(|job| is_submitted(job))
+        .all(|job| waits(job))
 }
 
 fn count_mates(group: u64, near: &[JobRow]) -> u64
@@ -99,7 +100,7 @@ fn shown_group(job: &JobRow, near: &[JobRow]) -> Result<Claim, AllocError>
     })
 }
 
-/// Adds a claim for each group whose members are all Submitted.
+/// Adds a claim for each group whose members all wait for boards.
 fn add_groups(claims: &mut Vec<Claim>, jobs: &[JobRow]) -> Result<(), AllocError>
     ensures { OnOk result (claims.new.items ≡ claims.old.items ++ shown_groups jobs.now) }
 {
@@ -114,8 +115,8 @@ fn add_groups(claims: &mut Vec<Claim>, jobs: &[JobRow]) -> Result<(), AllocError
     Ok(())
 }
 
-/// The claims that wait, in the order in which they are taken: a waiting reservation, or a group
-/// whose members are all Submitted. As in LAVA the higher priority goes first, and of equal ones
+/// The claims that wait, in the order of the queue: a waiting reservation, or a group whose members
+/// all wait for boards, the one that collects included. As in LAVA the higher priority goes first, and of equal ones
 /// the earlier job; jobs and reservations share their numbers, so no two claims tie.
 ///
 /// The rows are those of a sound farm. Each claim has a copy of its owner's name, and `boards` is
