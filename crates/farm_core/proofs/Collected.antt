@@ -1,5 +1,6 @@
 -- A group collects, member by member, and gives back what it collected.
-use Rattle.std.proofs.Common.{◌≡◌, ◌∙◌, ◌==◌, ◌&&◌, ◌+◌, ℕ, zero, suc, List, [], ◌∷◌, map, filter, Bool, true, false, cond, not, Option, Some, None, IsSomeAnd, refl, sym, ap, subst}
+use Rattle.std.proofs.Common.{◌≡◌, ◌∙◌, ◌==◌, ◌&&◌, ◌+◌, ◌-◌, ◌<◌, ◌≤◌, ℕ, zero, suc, List, [], ◌∷◌, length, drop, get_or, map, filter, Bool, true, false, cond, not, Option, Some, None, IsSomeAnd, slice_get, refl, sym, ap, subst, arith, add-one}
+use Rattle.std.proofs.lemmas.List.{length-map}
 use Rattle.std.specs.List.{AllByRecursion, find, fold}
 use Rattle.std.specs.Option.{option_map, option_map_or}
 use Rattle.std.specs.Str.{bytes_eq}
@@ -7,7 +8,7 @@ use Rattle.std.proofs.Math.Bool.{and-false}
 use Rattle.farm_types.specs.Codes.{same_job_state}
 use Rattle.farm_types.specs.Farm.{Farm, job_of, members}
 use Rattle.farm_types.specs.Pass.{back, collect_member, first_free, give_member, held, idle, is_job_so, placed, unplaced}
-use Rattle.farm_types.specs.Pick.{is_free, serves}
+use Rattle.farm_types.specs.Pick.{is_free, least, serves}
 use Rattle.farm_types.specs.Sound.{IsSound}
 use Rattle.farm_types.specs.Table.{change_where}
 use Rattle.farm_types.specs.declared.rows.BoardRow.{BoardRow}
@@ -16,14 +17,18 @@ use Rattle.farm_types.specs.declared.rows.JobRow.{JobRow}
 use Rattle.farm_types.specs.declared.rows.JobState.{JobState}
 use Rattle.farm_types.specs.declared.rows.State.{State}
 use Rattle.farm_types.specs.declared.rows.TypeRow.{TypeRow}
+use Rattle.farm_types.specs.declared.rows.Want.{Want}
 use Rattle.farm_types.proofs.Put.{AllByRecursion-weaker, found_has}
 use Rattle.farm_sound.proofs.Collecting.{none_scheduling}
 use Rattle.farm_sound.proofs.Lists.{filter_all}
 use Rattle.farm_sound.proofs.Own.{own_job}
 use Rattle.farm_sound.proofs.Where.{by_cases, find_map}
-use Rattle.farm_pick.specs.Queued.{IdleBoard, idle_board, idle_boards}
+use Rattle.farm_pick.specs.Queued.{IdleBoard, Lists, idle_board, idle_boards}
 use Rattle.farm_core.specs.Collecting.{Collects, HasWant}
 use Rattle.farm_core.specs.Drafted.{Drafted}
+use Rattle.farm_core.specs.Serving.{give_named}
+use Rattle.farm_core.proofs.OneWant.{least_first}
+use Rattle.farm_core.proofs.Serving.{names_of, numbers_of}
 
 -- ---- the free boards once one is held
 
@@ -68,17 +73,17 @@ abbrev S : JobState
 S = JobState.Scheduling
 
 -- what a job wants stays when another, or itself, takes a board
+abbrev changed : ℕ → List ℕ → JobRow → JobRow
+changed number name r = cond (r.number == number) (placed S name r) r
+
+keeps_number : (number n : ℕ) (name : List ℕ) (r : JobRow) → ((changed number name r).number == n) ≡ (r.number == n)
+keeps_number number n name r = by_cases (λ (k : JobRow). (k.number == n) ≡ (r.number == n)) (r.number == number) (placed S name r) r (λ _. refl) (λ _. refl)
+
 module _ (F : Farm) (m j : JobRow) (n : ℕ) (has : HasWant F n j) where
   want_given : (b : BoardRow) → HasWant (give_member S F (m, b)) n j
-  want_given b = (has.0, subst (λ o. IsSomeAnd o (λ (r : JobRow). r.want ≡ j.want)) (sym (find_map (λ (r : JobRow). r.number == n) after number F.jobs)) (by (job_of F n) has.1))
+  want_given b = (has.0, subst (λ o. IsSomeAnd o (λ (r : JobRow). r.want ≡ j.want)) (sym (find_map (λ (r : JobRow). r.number == n) (changed m.number b.name) (keeps_number m.number n b.name) F.jobs)) (by (job_of F n) has.1))
     where
-      abbrev after : JobRow → JobRow
-      after r = cond (r.number == m.number) (placed S b.name r) r
-
-      number : (r : JobRow) → ((after r).number == n) ≡ (r.number == n)
-      number r = by_cases (λ (k : JobRow). (k.number == n) ≡ (r.number == n)) (r.number == m.number) (placed S b.name r) r (λ _. refl) (λ _. refl)
-
-      by : (o : Option JobRow) → IsSomeAnd o (λ (r : JobRow). r.want ≡ j.want) → IsSomeAnd (option_map after o) (λ (r : JobRow). r.want ≡ j.want)
+      by : (o : Option JobRow) → IsSomeAnd o (λ (r : JobRow). r.want ≡ j.want) → IsSomeAnd (option_map (changed m.number b.name) o) (λ (r : JobRow). r.want ≡ j.want)
       by None is = absurd is
       by (Some r) is = by_cases (λ (k : JobRow). k.want ≡ j.want) (r.number == m.number) (placed S b.name r) r (λ _. is) (λ _. is)
 
@@ -89,49 +94,135 @@ module _ (F : Farm) (m j : JobRow) (n : ℕ) (has : HasWant F n j) where
       by None = has
       by (Some b) = want_given b
 
+-- ---- the board that a member takes
+
+-- no list of one board, no board
+pub picks_none : (F : Farm) (w v : Want) → w ≡ v → None ≡ option_map names_of (least F.boards (is_free F.types) (w ∷ [])) → None ≡ option_map (λ (b : BoardRow). b.name) (first_free F v)
+picks_none F w v same none = by (first_free F w) (none ∙ ap (option_map names_of) (least_first F.boards (is_free F.types) w)) ∙ ap (λ u. option_map (λ (b : BoardRow). b.name) (first_free F u)) same
+  where
+    by : (o : Option BoardRow) → None ≡ option_map names_of (option_map (λ b. b ∷ []) o) → None ≡ option_map (λ (b : BoardRow). b.name) o
+    by None is = refl
+    by (Some b) is = cc
+
+-- and the one of a list is the first that fits
+pub picks_one : (F : Farm) (w v : Want) → w ≡ v → (names : List (List ℕ)) (n : Option (List ℕ)) → Some names ≡ option_map names_of (least F.boards (is_free F.types) (w ∷ []))
+    → n ≡ slice_get names 0 → n ≡ option_map (λ (b : BoardRow). b.name) (first_free F v)
+picks_one F w v same names n picked at =
+    at ∙ by (first_free F w) (picked ∙ ap (option_map names_of) (least_first F.boards (is_free F.types) w)) ∙ ap (λ u. option_map (λ (b : BoardRow). b.name) (first_free F u)) same
+  where
+    by : (o : Option BoardRow) → Some names ≡ option_map names_of (option_map (λ b. b ∷ []) o) → slice_get names 0 ≡ option_map (λ (b : BoardRow). b.name) o
+    by None is = cc
+    by (Some b) is = let one : names ≡ b.name ∷ [] = cc in ap (λ ns. slice_get ns 0) one
+
+module _ (F : Farm) (number : ℕ) (j : JobRow) (has : HasWant F number j) where
+  pub takes_none : None ≡ option_map (λ (b : BoardRow). b.name) (first_free F j.want) → F ≡ collect_member F j
+  takes_none none = by (first_free F j.want) none
+    where
+      by : (o : Option BoardRow) → None ≡ option_map (λ (b : BoardRow). b.name) o → F ≡ option_map_or (λ b. give_member S F (j, b)) o F
+      by None is = refl
+      by (Some b) is = cc
+
+  pub takes_one : (name : List ℕ) → Some name ≡ option_map (λ (b : BoardRow). b.name) (first_free F j.want) → give_named S F (number, name) ≡ collect_member F j
+  takes_one name some = by (first_free F j.want) some
+    where
+      by : (o : Option BoardRow) → Some name ≡ option_map (λ (b : BoardRow). b.name) o → give_named S F (number, name) ≡ option_map_or (λ b. give_member S F (j, b)) o F
+      by None is = cc
+      by (Some b) is = let same : name ≡ b.name = cc in λ i. give_named S F (sym has.0 i, same i)
+
+-- ---- the members, one after the other
+
 -- each member wants what its own row says
 pub wants_own : (F : Farm) (group : ℕ) → IsSound F → AllByRecursion (λ m. HasWant F m.number m) (members F group)
 wants_own F group sound =
     AllByRecursion-weaker (λ m two. (refl, subst (λ o. IsSomeAnd o (λ (r : JobRow). r.want ≡ m.want)) (sym two.0) refl)) (members F group)
     (filter_all (λ m. job_of F m.number ≡ Some m) (λ m. m.group == group) F.jobs (own_job F sound.steady))
 
+-- a member, and those behind it
+split : (P : JobRow → Type 0) (ms : List JobRow) (at : ℕ) → AllByRecursion P ms → at < length ms
+    → (m : JobRow) × (drop at ms ≡ m ∷ drop (suc at) ms) × (get_or (numbers_of ms) at 0 ≡ m.number) × P m
+split P [] at all low = absurd (omega arith)
+split P (m ∷ ms) zero all low = (m, refl, refl, all.0)
+split P (m ∷ ms) (suc at) all low = split P ms at all.1 (omega arith)
+
+no_more : (ms : List JobRow) (at : ℕ) → length ms ≤ at → drop at ms ≡ []
+no_more [] zero high = refl
+no_more [] (suc at) high = refl
+no_more (m ∷ ms) zero high = absurd (omega arith)
+no_more (m ∷ ms) (suc at) high = no_more ms at (omega arith)
+
+-- so many members have taken what they get
+pub record Takes (D E : Drafted) (group at : ℕ) : Type 0 where
+  pub rest : fold collect_member E.farm (drop at (members D.farm group)) ≡ fold collect_member D.farm (members D.farm group)
+  pub start : E.start ≡ D.start
+  pub queues : E.queues ≡ record D.queues { boards = idle_boards E.farm }
+  pub wants : AllByRecursion (λ m. HasWant E.farm m.number m) (members D.farm group)
+
+pub takes_begin : (D : Drafted) (group : ℕ) → IsSound D.farm → D.queues.boards ≡ idle_boards D.farm → Takes D D group 0
+takes_begin D group sound free = record {
+  rest = refl;
+  start = refl;
+  queues = λ i. record D.queues { boards = free i };
+  wants = wants_own D.farm group sound;
+}
+
+module _ (D E : Drafted) (group at : ℕ) (takes : Takes D E group at) (numbers : List ℕ) (are : numbers ≡ numbers_of (members D.farm group)) where
+  long : length numbers ≡ length (members D.farm group)
+  long = ap length are ∙ length-map (members D.farm group) (λ (m : JobRow). m.number)
+
+  pub takes_free : E.queues.boards ≡ idle_boards E.farm
+  takes_free = ap (λ (q : Lists). q.boards) takes.queues
+
+  pub takes_on : at < length numbers → (G : Drafted) → ((j : JobRow) → HasWant E.farm (get_or numbers at 0) j → Collects E j G) → Takes D G group (at + 1)
+  takes_on low G collects =
+      let it = split (λ m. HasWant E.farm m.number m) (members D.farm group) at takes.wants (omega (arith, long, low)) in
+      let number : get_or numbers at 0 ≡ it.0.number = ap (λ ns. get_or ns at 0) are ∙ it.2 in
+      let made = collects it.0 (subst (λ n. HasWant E.farm n it.0) (sym number) it.3) in
+      let farm : G.farm ≡ collect_member E.farm it.0 = ap (λ (H : Drafted). H.farm) made in
+      record {
+        rest = (λ i. fold collect_member (farm i) (drop (add-one at i) (members D.farm group))) ∙ sym (ap (fold collect_member E.farm) it.1) ∙ takes.rest;
+        start = ap (λ (H : Drafted). H.start) made ∙ takes.start;
+        queues = ap (λ (H : Drafted). H.queues) made ∙ (λ i. record (takes.queues i) { boards = idle_boards (sym farm i) });
+        wants = AllByRecursion-weaker (λ k has. subst (λ (H : Farm). HasWant H k.number k) (sym farm) (want_stays E.farm it.0 k k.number has)) (members D.farm group) takes.wants;
+      }
+
+  pub takes_end : length numbers ≤ at → E.farm ≡ fold collect_member D.farm (members D.farm group)
+  takes_end high = sym (ap (fold collect_member E.farm) (no_more (members D.farm group) at (omega (arith, long, high)))) ∙ takes.rest
+
 -- ---- what is given back
 
+abbrev gives_back : ℕ → JobRow → Bool
+gives_back group j = (j.group == group) && same_job_state j.state JobState.Scheduling
+
+unlike : (s : JobState) → (s ≡ JobState.Scheduling → ⊥) → same_job_state s JobState.Scheduling ≡ false
+unlike JobState.Submitted other = refl
+unlike JobState.Scheduling other = absurd (other refl)
+unlike JobState.Scheduled other = refl
+unlike JobState.Running other = refl
+unlike JobState.Canceling other = refl
+unlike JobState.Finished other = refl
+
+all_same : {R : Type 0} (p : R → Bool) (f : R → R) (rows : List R) → AllByRecursion (λ r. p r ≡ false) rows → change_where p f rows ≡ rows
+all_same p f [] all = refl
+all_same p f (r ∷ rows) all = λ i. ap (λ v. cond v (f r) r) all.0 i ∷ all_same p f rows all.1 i
+
 -- where nobody collects there is nothing to give back
-pub back_of_none : (F : Farm) → IsSound F → F.collector ≡ 0 → back F ≡ F
-back_of_none F sound zero_is = λ i. record F { jobs = jobs_same i; boards = boards_same F.boards i; collector = sym zero_is i }
-  where
-    abbrev test : JobRow → Bool
-    test j = (j.group == F.collector) && same_job_state j.state JobState.Scheduling
+module _ (F : Farm) (sound : IsSound F) (zero_is : F.collector ≡ 0) where
+  none_gives : AllByRecursion (λ j. gives_back F.collector j ≡ false) F.jobs
+  none_gives = AllByRecursion-weaker (λ j other. ap (λ v. (j.group == F.collector) && v) (unlike j.state other) ∙ and-false (j.group == F.collector)) F.jobs
+      (none_scheduling F.collector F.jobs zero_is sound.collecting)
 
-    unlike : (s : JobState) → (s ≡ JobState.Scheduling → ⊥) → same_job_state s JobState.Scheduling ≡ false
-    unlike JobState.Submitted no = refl
-    unlike JobState.Scheduling no = absurd (no refl)
-    unlike JobState.Scheduled no = refl
-    unlike JobState.Running no = refl
-    unlike JobState.Canceling no = refl
-    unlike JobState.Finished no = refl
+  held_by : (h : Holder) → is_job_so F (gives_back F.collector) h ≡ false
+  held_by Holder.Nobody = refl
+  held_by (Holder.Job n) = by (job_of F n) refl
+    where
+      by : (o : Option JobRow) → job_of F n ≡ o → option_map_or (gives_back F.collector) o false ≡ false
+      by None is = refl
+      by (Some j) is = found_has (λ k. gives_back F.collector k ≡ false) (λ k. k.number == n) j F.jobs none_gives is
+  held_by (Holder.Res n) = refl
 
-    none : AllByRecursion (λ j. test j ≡ false) F.jobs
-    none = AllByRecursion-weaker (λ j no. ap (λ v. (j.group == F.collector) && v) (unlike j.state no) ∙ and-false (j.group == F.collector)) F.jobs
-        (none_scheduling F.collector F.jobs zero_is sound.collecting)
+  boards_same : (rows : List BoardRow) → change_where (λ b. is_job_so F (gives_back F.collector) b.holder) idle rows ≡ rows
+  boards_same [] = refl
+  boards_same (b ∷ rows) = λ i. ap (λ v. cond v (idle b) b) (held_by b.holder) i ∷ boards_same rows i
 
-    all_same : {R : Type 0} (p : R → Bool) (f : R → R) (rows : List R) → AllByRecursion (λ r. p r ≡ false) rows → change_where p f rows ≡ rows
-    all_same p f [] all = refl
-    all_same p f (r ∷ rows) all = λ i. ap (λ v. cond v (f r) r) all.0 i ∷ all_same p f rows all.1 i
-
-    jobs_same : change_where test unplaced F.jobs ≡ F.jobs
-    jobs_same = all_same test unplaced F.jobs none
-
-    held_by : (h : Holder) → is_job_so F test h ≡ false
-    held_by Holder.Nobody = refl
-    held_by (Holder.Job n) = by (job_of F n) refl
-      where
-        by : (o : Option JobRow) → job_of F n ≡ o → option_map_or test o false ≡ false
-        by None is = refl
-        by (Some j) is = found_has (λ k. test k ≡ false) (λ k. k.number == n) j F.jobs none is
-    held_by (Holder.Res n) = refl
-
-    boards_same : (rows : List BoardRow) → change_where (λ b. is_job_so F test b.holder) idle rows ≡ rows
-    boards_same [] = refl
-    boards_same (b ∷ rows) = λ i. ap (λ v. cond v (idle b) b) (held_by b.holder) i ∷ boards_same rows i
+  pub back_of_none : back F ≡ F
+  back_of_none = λ i. record F { jobs = all_same (gives_back F.collector) unplaced F.jobs none_gives i; boards = boards_same F.boards i; collector = sym zero_is i }

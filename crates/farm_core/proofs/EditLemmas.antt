@@ -22,14 +22,16 @@ keeps_number (JobEdit.Start group) j = refl
 keeps_number (JobEdit.End group) j = refl
 keeps_number (JobEdit.Cancel group) j = refl
 keeps_number (JobEdit.Finish number outcome) j = refl
-keeps_number (JobEdit.Schedule number board) j = refl
+keeps_number (JobEdit.Place state number board) j = refl
+keeps_number (JobEdit.Back group) j = refl
 
 keeps_group : (e : JobEdit) (j : JobRow) → (job_changed e j).group ≡ j.group
 keeps_group (JobEdit.Start group) j = refl
 keeps_group (JobEdit.End group) j = refl
 keeps_group (JobEdit.Cancel group) j = refl
 keeps_group (JobEdit.Finish number outcome) j = refl
-keeps_group (JobEdit.Schedule number board) j = refl
+keeps_group (JobEdit.Place state number board) j = refl
+keeps_group (JobEdit.Back group) j = refl
 
 pub keeps_job : (e : JobEdit) → KeepsJob (job_changed e)
 keeps_job e = record { number = keeps_number e; group = keeps_group e }

@@ -6,11 +6,12 @@ use Rattle.std.proofs.Math.Seq.{drop-append_seam}
 use Rattle.std.proofs.lemmas.List.{length-append, take_all}
 use Rattle.std.proofs.lemmas.Bool.Decides.{nat_tests}
 use Rattle.farm_types.specs.Farm.{Farm}
+use Rattle.farm_types.specs.Pass.{pass_over}
 use Rattle.farm_types.specs.Pick.{Claimed, is_free, least}
 use Rattle.farm_types.specs.declared.rows.BoardRow.{BoardRow}
 use Rattle.farm_types.specs.declared.rows.ResRow.{ResRow}
 use Rattle.farm_types.specs.declared.rows.Want.{Want}
-use Rattle.farm_pick.specs.Queued.{Lists, Queued}
+use Rattle.farm_pick.specs.Queued.{Lists, Queued, idle_boards}
 use Rattle.farm_core.specs.Following.{without_all, without_boards}
 use Rattle.farm_core.specs.Serving.{queues_given}
 use Rattle.farm_core.proofs.Serving.{names_of}
@@ -20,7 +21,7 @@ module _ (F : Farm) (c : Claimed) (wants : List Want) (asks : c.wants ≡ wants)
   given o = option_map_or (λ bs. record {
     claims = filter (λ (x : Queued). not (x.claim.number == c.number)) lists.claims;
     boards = without_boards (names_of bs) lists.boards;
-  }) o lists
+  }) o (record lists { boards = idle_boards (pass_over F c) })
 
   is_given : given (least F.boards (is_free F.types) wants) ≡ queues_given F c lists
   is_given = sym (ap (λ w. given (least F.boards (is_free F.types) w)) asks)
@@ -35,14 +36,6 @@ module _ (F : Farm) (c : Claimed) (wants : List Want) (asks : c.wants ≡ wants)
       by None is = cc
       by (Some bs) is = let same : names ≡ names_of bs = cc in
           ap (λ ns. record { claims = filter (λ (x : Queued). not (x.claim.number == c.number)) lists.claims; boards = without_boards ns lists.boards }) same
-
-  -- one that isn't leaves them as they are
-  pub queues_stay : None ≡ option_map names_of (least F.boards (is_free F.types) wants) → lists ≡ queues_given F c lists
-  queues_stay none = by (least F.boards (is_free F.types) wants) none ∙ is_given
-    where
-      by : (o : Option (List BoardRow)) → None ≡ option_map names_of o → lists ≡ given o
-      by None is = refl
-      by (Some bs) is = cc
 
 -- ---- several boards and claims at once
 

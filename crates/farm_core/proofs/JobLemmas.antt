@@ -26,9 +26,9 @@ no_more group F = record F { collector = if F.collector == group then 0 else F.c
 pub canceled : (F G K H : Farm) (n : ℕ) (j : JobRow) → job_of F n ≡ Some j → G ≡ change_jobs (job_passes (JobEdit.End j.group)) (job_changed (JobEdit.End j.group)) idle F
     → K ≡ no_more j.group G → H ≡ record K { jobs = change_where (job_passes (JobEdit.Cancel j.group)) (job_changed (JobEdit.Cancel j.group)) K.jobs }
     → act F [] (Cmd.Cancel n) ≡ done j.group H
-canceled F G K H n j found first second then =
+canceled F G K H n j found first second third =
     ap (λ o. option_map_or (λ (j : JobRow). done j.group (cancel_group j.group F)) o (done 0 F)) found
-    ∙ ap (done j.group) (sym (jobs_alone K H (job_passes (JobEdit.Cancel j.group)) (job_changed (JobEdit.Cancel j.group)) then
+    ∙ ap (done j.group) (sym (jobs_alone K H (job_passes (JobEdit.Cancel j.group)) (job_changed (JobEdit.Cancel j.group)) third
     ∙ ap (change_jobs (job_passes (JobEdit.Cancel j.group)) (job_changed (JobEdit.Cancel j.group)) (λ b. b)) (second ∙ ap (no_more j.group) first)))
 
 after_is : (checking : Bool) (o : Outcome) (t : ℕ) (b : BoardRow) → board_after (after checking o t) b ≡ idle (cond checking (after_check o t b) (after_job o b))

@@ -25,7 +25,8 @@ use Rattle.farm_sound.proofs.Lists.{filter_all}
 use Rattle.farm_sound.proofs.Tests.{same_number}
 use Rattle.farm_sound.proofs.Where.{AllByRecursion-both, AllByRecursion-map}
 use Rattle.farm_core.specs.Orderly.{IsOrderly, IsNear}
-use Rattle.farm_core.specs.Serving.{Asks, give_first, give_named}
+use Rattle.farm_core.specs.Drafted.{Drafted}
+use Rattle.farm_core.specs.Serving.{Asks, Serves, Tries, give_first, give_named}
 
 -- ---- the numbers of members, and the names of boards
 
@@ -199,3 +200,24 @@ shown_res false is = cc
 pub shown_group : (v : Bool) → cond v ClaimKind.Reservation ClaimKind.Group ≡ ClaimKind.Group → v ≡ false
 shown_group true is = cc
 shown_group false is = refl
+
+-- ---- what came of a claim
+
+pub met : {D E : Drafted} {c : Claimed} → Serves D c true E → Tries D c true E
+met serves = record { met = λ _. serves; unmet = λ is. cc }
+
+pub not_met : {D : Drafted} {c : Claimed} → least D.farm.boards (is_free D.farm.types) c.wants ≡ None → Tries D c false D
+not_met none = record { met = λ is. cc; unmet = λ _. (refl, none) }
+
+-- a group and a reservation that no list meets
+pub group_not_met : (D : Drafted) (group : ℕ) (c : Claimed) → c.number ≡ group → Asks false D.farm c
+    → None ≡ option_map names_of (least D.farm.boards (is_free D.farm.types) (wants_of (members D.farm group))) → Tries D c false D
+group_not_met D group c same asks none =
+    not_met (ap (least D.farm.boards (is_free D.farm.types)) (asks ∙ ap (λ g. wants_of (members D.farm g)) same)
+    ∙ unnamed (least D.farm.boards (is_free D.farm.types) (wants_of (members D.farm group))) none)
+
+pub res_not_met : (D : Drafted) (number : ℕ) (c : Claimed) → c.number ≡ number → Asks true D.farm c → Picks D.farm number None → Tries D c false D
+res_not_met D number c same asks none =
+    let it = asked D.farm c asks in
+    not_met (ap (least D.farm.boards (is_free D.farm.types)) it.2
+    ∙ unnamed (least D.farm.boards (is_free D.farm.types) (it.0.want ∷ [])) (none it.0 (ap (res_of D.farm) (sym same) ∙ it.1)))

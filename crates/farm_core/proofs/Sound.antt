@@ -58,11 +58,12 @@ module _ (F : Farm) (sound : IsSound F) where
 -- a group that has a member has a small number
 small_group : (group : ℕ) (jobs : List JobRow) → AllByRecursion IsSmallJob jobs → 1 ≤ length (filter (λ j. j.group == group) jobs) → IsSmall group
 small_group group [] all some = absurd (omega arith)
-small_group group (j ∷ jobs) all some = by (j.group == group) refl some
+small_group group (j ∷ jobs) all some = by (j.group == group) refl some (λ rest. small_group group jobs all.1 rest)
   where
-    by : (v : Bool) → (j.group == group) ≡ v → 1 ≤ length (cond v (j ∷ filter (λ k. k.group == group) jobs) (filter (λ k. k.group == group) jobs)) → IsSmall group
-    by true is some = subst IsSmall (same_number j.group group is) all.0.group
-    by false is some = small_group group jobs all.1 some
+    by : (v : Bool) → (j.group == group) ≡ v → 1 ≤ length (cond v (j ∷ filter (λ k. k.group == group) jobs) (filter (λ k. k.group == group) jobs))
+        → (1 ≤ length (filter (λ k. k.group == group) jobs) → IsSmall group) → IsSmall group
+    by true is some rest = subst IsSmall (same_number j.group group is) all.0.group
+    by false is some rest = rest some
 
 -- and so has the group that collects
 pub small_collector : (F : Farm) → IsSound F → IsSmall F.collector

@@ -77,7 +77,8 @@ in_reach (JobEdit.Start group) j near passes = let is = same j.group group passe
 in_reach (JobEdit.End group) j near passes = let is = same j.group group (both_true _ _ passes).0 in (omega arith, omega arith)
 in_reach (JobEdit.Cancel group) j near passes = let is = same j.group group (both_true _ _ passes).0 in (omega arith, omega arith)
 in_reach (JobEdit.Finish number outcome) j near passes = let is = same j.number number passes in (omega arith, omega arith)
-in_reach (JobEdit.Schedule number board) j near passes = let is = same j.number number passes in (omega arith, omega arith)
+in_reach (JobEdit.Place state number board) j near passes = let is = same j.number number passes in (omega arith, omega arith)
+in_reach (JobEdit.Back group) j near passes = let is = same j.group group (both_true _ _ passes).0 in (omega arith, omega arith)
 
 out_of_reach : (edit : JobEdit) (j : JobRow) → IsNear j → (v : Bool) → job_passes edit j ≡ v → ((first_of edit ≤ j.number) × (j.number < first_of edit + 4) → ⊥) → v ≡ false
 out_of_reach edit j near true passes out = absurd (out (in_reach edit j near passes))

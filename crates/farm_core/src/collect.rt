@@ -34,7 +34,10 @@ impl Tables {
             None => Ok(None),
             Some(row) => match self.pick(&[&row.want])? {
                 None => Ok(None),
-                Some(mut names) => Ok(names.pop()),
+                Some(names) => match names.first() {
+                    None => Ok(None),
+                    Some(name) => Ok(Some(name.copy()?)),
+                },
             },
         }
     }
@@ -106,9 +109,10 @@ impl Draft {
     {
         let near = self.tables.near(group);
         let numbers = numbers_in(*self.tables.jobs.allocator(), near, group)?;
+        let members = numbers.as_slice();
         let mut draft = self;
-        for number in &numbers {
-            draft = draft.collect_member(*number)?;
+        for at in 0..members.len() {
+            draft = draft.collect_member(members[at])?;
         }
         Ok(draft.with_collector(group))
     }

@@ -210,7 +210,7 @@ impl Tables {
             || ((self.now.collector == 0) && nat_le 2 x.claim.boards))) self.now.queues.claims) }
     {
         if self.collector == 0 {
-            self.queues.next_or_several(last)
+            self.queues.next(last, false)
         } else {
             self.queues.next(last, false)
         }

@@ -7,9 +7,10 @@ use Rattle.farm_core.specs.Plain.{plain}
 use Rattle.farm_core.specs.Drafted.{Drafted}
 use Rattle.farm_pick.specs.Queued.{Queued}
 use Rattle.farm_core.specs.Following.{without_boards}
+use Rattle.farm_types.specs.declared.rows.JobState.{JobState}
 use Rattle.farm_core.specs.Serving.{give_named}
 use Rattle.farm_core.proofs.Given.{queues_left}
-use Rattle.farm_core.proofs.Serving.{group_served, names_of, numbers_of, numbers_small, wants_of}
+use Rattle.farm_core.proofs.Serving.{group_served, met, names_of, numbers_of, numbers_small, wants_of}
 use Rattle.farm_core.proofs.draft.Draft.serve_group.Goals as goal
 
 pub give_jobs-requires : goal.give_jobs-requires
@@ -28,9 +29,9 @@ returns-in_ok-draft-in-Some c = λ d of_group same asks.
     let picked : Some names ≡ option_map names_of (least (plain c.self.inside.tables).boards (is_free (plain c.self.inside.tables).types) (wants_of (members (plain c.self.inside.tables) c.args.group))) =
     let h = c.in_ok-pick_for_group.ensures in rw c.in-Some.is at h in
     let picked_here = subst (λ (G : Farm). Some names ≡ option_map names_of (least G.boards (is_free G.types) (wants_of (members G c.args.group)))) here picked in
-    let made : G.farm ≡ fold give_named F (zip numbers names) =
+    let made : G.farm ≡ fold (give_named JobState.Scheduled) F (zip numbers names) =
     ap (λ (D : Drafted). D.farm) c.take_given.ensures ∙ ap (λ (D : Drafted). D.farm) c.in_ok-draft-in-Some.ensures
-    ∙ (λ i. fold give_named F (zip (c.deref.ensures.value i) (c.deref-in-Some.ensures.value i))) in (
+    ∙ (λ i. fold (give_named JobState.Scheduled) F (zip (c.deref.ensures.value i) (c.deref-in-Some.ensures.value i))) in met (
       λ n. group_served F G.farm c.args.group d n names numbers of_group same asks picked_here
           (c.in_ok-numbers-in-Some.ensures ∙ ap numbers_of c.near-near.ensures ∙ ap (λ (G : Farm). numbers_of (members G c.args.group)) here)
           made,

@@ -6,7 +6,7 @@ use Rattle.farm_core.specs.Drafted.{Drafted}
 use Rattle.farm_core.specs.Following.{without_boards}
 use Rattle.farm_core.specs.Serving.{give_first}
 use Rattle.farm_core.proofs.Given.{queues_left}
-use Rattle.farm_core.proofs.Serving.{Picks, asked, res_served}
+use Rattle.farm_core.proofs.Serving.{Picks, asked, met, res_served}
 use Rattle.farm_types.specs.Farm.{res_of}
 use Rattle.farm_core.proofs.draft.Draft.serve_reservation.Goals as goal
 
@@ -20,7 +20,7 @@ returns-in_ok-draft-in-Some c = λ d of_res same asks.
     let picked_here : Picks F c.args.number (Some names) = subst (λ (G : Farm). Picks G c.args.number (Some names)) (ap (λ (D : Drafted). D.farm) c.self.view_is) picked in
     let it = asked F d asks in
     let made : G.farm ≡ give_first F c.args.number names =
-    ap (λ (D : Drafted). D.farm) c.take_given.ensures ∙ ap (λ (D : Drafted). D.farm) c.in_ok-draft-in-Some.ensures ∙ ap (give_first F c.args.number) c.deref.ensures.value in (
+    ap (λ (D : Drafted). D.farm) c.take_given.ensures ∙ ap (λ (D : Drafted). D.farm) c.in_ok-draft-in-Some.ensures ∙ ap (give_first F c.args.number) c.deref.ensures.value in met (
       λ n. res_served F G.farm c.args.number d n names of_res same asks picked_here made,
       ap (λ (D : Drafted). D.start) c.take_given.ensures ∙ ap (λ (D : Drafted). D.start) c.in_ok-draft-in-Some.ensures,
       ap (λ (D : Drafted). D.queues) c.take_given.ensures
