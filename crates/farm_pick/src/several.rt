@@ -125,15 +125,9 @@ pub fn take(
     ensures several { AreSeveral claims.old.entries several.old.keys
         → AreSeveral claims.new.entries several.new.keys }
 {
-    if let Some(place) = places.get(&number) {
-        let spot = Spot {
-            queue: place.queue,
-            priority: place.priority,
-            number,
-        };
+    if let Some(spot) = waiting::take(claims, places, number) {
         forget(several, spot);
     }
-    waiting::take(claims, places, number);
 }
 
 /// The first spot behind a spot.
