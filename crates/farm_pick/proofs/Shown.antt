@@ -68,12 +68,12 @@ some_there test e (d ∷ es) at is = by (test d.0) refl at (λ later. some_there
     by false has (inr more) rest = rest more
 
 -- whether a claim comes after a spot, and by its own spot
-rank_of : (last s : Spot) (c : Claim) → IsRanked s c → rank_of_claim last c ≡ rank_cmp last s
+pub rank_of : (last s : Spot) (c : Claim) → IsRanked s c → rank_of_claim last c ≡ rank_cmp last s
 rank_of last s c r =
     ap (λ p. ordering_then (nat_cmp p last.priority) (nat_cmp last.number c.number)) (sym r.priority)
     ∙ ap (λ n. ordering_then (nat_cmp s.priority last.priority) (nat_cmp last.number n)) (sym r.number)
 
-less_is : (o : Ordering) → is_lt o ≡ true → o ≡ Less
+pub less_is : (o : Ordering) → is_lt o ≡ true → o ≡ Less
 less_is Less is = refl
 less_is Equal is = absurd (false≢true is)
 less_is Greater is = absurd (false≢true is)
@@ -92,7 +92,7 @@ module _ (kinds : List (List ℕ)) (es : List (Spot × Claim)) (keyed : AllByRec
   entries_self [] inside = tt
   entries_self (d ∷ ds) inside = ((d, inside d (inl refl), refl), entries_self ds (λ e at. inside e (inr at)))
 
-  entry_of : (x : Queued) → Among x (shown_claims kinds es) → IsEntry x
+  pub entry_of : (x : Queued) → Among x (shown_claims kinds es) → IsEntry x
   entry_of x at = among_has IsEntry x (shown_claims kinds es) (all_put queued_cmp queued_total IsEntry (map (shown_entry kinds) es) [] tt (entries_self es (λ e at. at))) at
 
   among_map : (e : Spot × Claim) (ds : List (Spot × Claim)) → Among e ds → Among (shown_entry kinds e) (map (shown_entry kinds) ds)
@@ -100,7 +100,7 @@ module _ (kinds : List (List ℕ)) (es : List (Spot × Claim)) (keyed : AllByRec
   among_map e (d ∷ ds) (inl same) = inl (ap (shown_entry kinds) same)
   among_map e (d ∷ ds) (inr at) = inr (among_map e ds at)
 
-  shown_at : (e : Spot × Claim) → Among e es → Among (shown_entry kinds e) (shown_claims kinds es)
+  pub shown_at : (e : Spot × Claim) → Among e es → Among (shown_entry kinds e) (shown_claims kinds es)
   shown_at e at = among_has (λ x. Among x (shown_claims kinds es)) (shown_entry kinds e) (map (shown_entry kinds) es)
       (all_among queued_cmp queued_total (map (shown_entry kinds) es) (shown_apart kinds es apart)) (among_map e es at)
 
@@ -114,7 +114,7 @@ module _ (kinds : List (List ℕ)) (es : List (Spot × Claim)) (keyed : AllByRec
       let key = keyed_at e at in
       (sym (rank_of last e.0 e.1 (record { number = key.number; priority = key.priority })) ∙ less_is (rank_of_claim last e.1) two.0, same_test e.0.queue key.queue ∙ two.1)
 
-  IsSome-at : (e : Spot × Claim) → Among e es → IsSome (claim_at es e.0)
+  pub IsSome-at : (e : Spot × Claim) → Among e es → IsSome (claim_at es e.0)
   IsSome-at e at = some_there (λ x. is_eq (spot_cmp e.0 x)) e es at (tie e.0 e.0 (record { queue = refl; priority = refl; number = refl }))
 
   pub first_shown : (o : Option Claim) → IsFirst es test (length kinds + 1) last o → o ≡ option_map (λ (x : Queued). x.claim) (find passes (shown_claims kinds es))

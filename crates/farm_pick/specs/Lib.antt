@@ -6,5 +6,6 @@ pub mod Queued
 pub mod Merged
 pub mod Heads
 pub mod Kept
+pub mod Several
 pub mod Fitting
 pub mod Follow

@@ -3,8 +3,8 @@
 //!
 //! Read `specs/` in the order Test, Choice, Least, Queue for the least list and the queue of a
 //! farm's rows; then Queued, what stands in the queues that are kept, and Merged, the pass over
-//! them, and Follow, what commands and a pass leave of them; then Kept, how they are kept, Heads,
-//! how their first claims are found, and Fitting.
+//! them, and Follow, what commands and a pass leave of them; then Kept and Several, how they are
+//! kept, Heads, how their first claims are found, and Fitting.
 #![tactic(auto)]
 
 mod candidates;
@@ -21,6 +21,7 @@ mod picked;
 mod queue;
 mod queues;
 mod search;
+mod several;
 mod spot;
 mod waiting;
 

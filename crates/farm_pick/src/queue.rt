@@ -116,8 +116,9 @@ fn add_groups(claims: &mut Vec<Claim>, jobs: &[JobRow]) -> Result<(), AllocError
 }
 
 /// The claims that wait, in the order of the queue: a waiting reservation, or a group whose members
-/// all wait for boards, the one that collects included. As in LAVA the higher priority goes first, and of equal ones
-/// the earlier job; jobs and reservations share their numbers, so no two claims tie.
+/// all wait for boards, the one that collects included. As in LAVA the higher priority goes first,
+/// and of equal ones the earlier job; jobs and reservations share their numbers, so no two claims
+/// tie.
 ///
 /// The rows are those of a sound farm. Each claim has a copy of its owner's name, and `boards` is
 /// the number of its wants. With J jobs, R reservations and C claims it costs O(J + R + C log C):

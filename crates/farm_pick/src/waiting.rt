@@ -1,6 +1,6 @@
 //! The claims of all queues in one ordered map, one queue behind the other.
 ghost use Rattle.std.specs.Prelude.{◌≡◌, ◌≤◌, ◌+◌, ◌||◌, ℕ, length, cond, Some, None, OnOk, OnErr};
-ghost use Rattle.std.specs.Prelude.{IfOk};
+ghost use Rattle.std.specs.Prelude.{IfOk, MatchOption};
 ghost use Rattle.std.specs.List.{AllByRecursion};
 ghost use Rattle.std.specs.List.Sorted.{IsPermutation, IsSortedBy};
 ghost use Rattle.std.specs.BTreeMap.{insert_entry, values};
@@ -52,19 +52,29 @@ pub fn put(
     Ok(())
 }
 
-/// Takes the claim of a number from its spot, if there is one.
-pub fn take(claims: &mut BTreeMap<Spot, Claim>, places: &mut BTreeMap<u64, Place>, number: u64)
-    ensures { TakesOrStays claims.old.entries claims.new.entries places.old.entries
-        places.new.entries
-        number (place_at places.old.entries number) }
+/// Takes the claim of a number from its spot, if there is one, and gives this spot.
+pub fn take(
+    claims: &mut BTreeMap<Spot, Claim>,
+    places: &mut BTreeMap<u64, Place>,
+    number: u64,
+) -> Option<Spot>
+    ensures taken { TakesOrStays claims.old.entries claims.new.entries places.old.entries
+        places.new.entries number (place_at places.old.entries number) }
+    ensures spot { MatchOption result (claims.new.entries ≡ claims.old.entries)
+        (λ spot. (s : Spot) → claim_at claims.new.entries s
+        ≡ cond (is_eq (spot_cmp spot s)) None (claim_at claims.old.entries s)) }
 {
-    if let Some(place) = places.remove(&number) {
-        let spot = Spot {
-            queue: place.queue,
-            priority: place.priority,
-            number,
-        };
-        let _claim = claims.remove(&spot);
+    match places.remove(&number) {
+        None => None,
+        Some(place) => {
+            let spot = Spot {
+                queue: place.queue,
+                priority: place.priority,
+                number,
+            };
+            let _claim = claims.remove(&spot);
+            Some(spot)
+        }
     }
 }
 

@@ -4,11 +4,11 @@ use Rattle.farm_pick.proofs.queues.Queues.heads.Goals as goal
 
 pub new-requires : goal.new-requires
 new-requires c =
-    heads_well c.self.inside.kinds.items c.self.inside.claims.entries c.self.inside.places.entries c.self.inside.idle.items c.self.invariant
+    heads_well c.self.inside.kinds.items c.self.inside.claims.entries c.self.inside.places.entries c.self.inside.idle.items c.self.invariant.well
     c.deref.result.now c.deref.ensures.value c.deref-2.result.now c.deref-2.ensures.value
 
 pub returns : goal.returns
 returns c =
-    heads_seen c.self.inside.kinds.items c.self.inside.claims.entries c.self.inside.places.entries c.self.inside.idle.items c.self.invariant c.args.all c.args.self.now c.self.view_is
+    heads_seen c.self.inside.kinds.items c.self.inside.claims.entries c.self.inside.places.entries c.self.inside.idle.items c.self.invariant.well c.args.all c.args.self.now c.self.view_is
     c.last_spot-last.result (last_spot c.args.after) c.last_spot-last.ensures c.deref.result.now c.deref.ensures.value c.deref-2.result.now c.deref-2.ensures.value
     c.new.result c.new.ensures

@@ -5,6 +5,6 @@ use Rattle.farm_pick.proofs.queues.Queues.next.Goals as goal
 
 pub returns : goal.returns
 returns c =
-    first_seen c.self.inside.kinds.items c.self.inside.claims.entries c.self.inside.places.entries c.self.inside.idle.items c.self.invariant c.args.all c.args.self.now c.self.view_is
+    first_seen c.self.inside.kinds.items c.self.inside.claims.entries c.self.inside.places.entries c.self.inside.idle.items c.self.invariant.well c.args.all c.args.self.now c.self.view_is
     c.last_spot-last.result (last_spot c.args.after) c.last_spot-last.ensures c.deref.result.now c.deref.ensures.value c.deref-2.result.now c.deref-2.ensures.value
     (option_copied c.first.result) c.first.ensures
