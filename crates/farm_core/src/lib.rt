@@ -29,5 +29,6 @@ mod same;
 mod serve;
 mod submit;
 mod tables;
+mod tried;
 mod types;
 mod unmet;

@@ -19,9 +19,8 @@ ghost use Rattle.farm_core.specs.Serving.{AreUnmet, Asks, Serves, counted, wants
 ghost use Rattle.farm_core.specs.Tracks.{Tracks};
 
 use crate::draft::Draft;
-use crate::same::same_wants;
 use crate::tables::Tables;
-use crate::unmet::Unmet;
+use crate::unmet::{Known, Unmet};
 use farm_types::calls::Changes;
 use farm_types::claims::ClaimKind;
 use farm_types::rows::{JobRow, Want};
@@ -113,58 +112,6 @@ impl Tables {
             Some(row) => self.pick(&[&row.want]),
         }
     }
-
-    /// What a claim wants.
-    fn wants_of(&self, kind: ClaimKind, number: u64) -> Result<Vec<&Want>, AllocError>
-        requires orderly { IsOrderly (plain self.now) }
-        requires small { IsSmall number }
-        ensures { IfOk result (λ wants. map (λ w. w.now) wants.items
-            ≡ wants_of (plain self.now) kind number) }
-    {
-        let alloc = *self.jobs.allocator();
-        match kind {
-            ClaimKind::Group => wants_in(alloc, self.near(number), number),
-            ClaimKind::Reservation => {
-                let mut wants = Vec::new(alloc);
-                if let Some(row) = self.find_reservation(number) {
-                    wants.push(&row.want)?;
-                }
-                Ok(wants)
-            }
-        }
-    }
-
-    /// Whether a claim wants these boards.
-    fn wants_same(&self, wants: &[&Want], kind: ClaimKind, number: u64) -> Result<bool, AllocError>
-        requires orderly { IsOrderly (plain self.now) }
-        requires small { IsSmall number }
-        ensures { IfOk result (λ same. same ≡ true → map (λ w. w.now) wants.now
-            ≡ wants_of (plain self.now) kind number) }
-    {
-        let others = self.wants_of(kind, number)?;
-        Ok(same_wants(wants, &others))
-    }
-
-    /// Whether a claim wants the same as one that was found unmet, so that no free boards meet it
-    /// either. With J jobs and R reservations it costs O(log (J + R)) and a comparison for each of
-    /// the eight that is looked at.
-    fn is_unmet(&self, unmet: &Unmet, kind: ClaimKind, number: u64) -> Result<bool, AllocError>
-        requires sound { IsSound (plain self.now) }
-        requires small { IsSmall number }
-        requires known { AreUnmet (plain self.now) unmet.now }
-        ensures { IfOk result (λ known. known ≡ true → least (plain self.now).boards
-            (is_free (plain self.now).types) (wants_of (plain self.now) kind number) ≡ None) }
-    {
-        let wants = self.wants_of(kind, number)?;
-        for known in unmet.claims() {
-            if let Some((other, at)) = *known {
-                if other == kind && self.wants_same(&wants, other, at)? {
-                    return Ok(true);
-                }
-            }
-        }
-        Ok(false)
-    }
 }
 
 impl Draft {
@@ -218,8 +165,8 @@ impl Draft {
         Ok(served)
     }
 
-    /// Tries a claim, unless it wants the same as one that was found unmet: where boards are only
-    /// taken away, what was unmet stays so. One that isn't met is remembered.
+    /// Tries a claim. One that isn't met is remembered: where boards are only taken away, what was
+    /// unmet stays so.
     fn try_claim(
         self,
         unmet: &mut Unmet,
@@ -237,12 +184,14 @@ impl Draft {
             → c.number ≡ number → Asks c.reservation self.farm c → Serves self c r.1 r.0) }
         ensures known { IfOk result (λ r. AreUnmet r.0.farm unmet.new) }
     {
-        if self.tables.is_unmet(unmet, kind, number)? {
-            return Ok((self, false));
-        }
         let (draft, served) = self.serve_claim(kind, number)?;
         if !served {
-            unmet.note(kind, number);
+            let place = draft.tables.place_of_claim(kind, number);
+            unmet.note(Known {
+                kind,
+                number,
+                place,
+            });
         }
         Ok((draft, served))
     }
@@ -251,10 +200,10 @@ impl Draft {
     /// each where free boards meet it: one that waits holds up none behind it. Gives how many were
     /// served.
     ///
-    /// A claim whose queue has no free board isn't looked at, and for one that wants the same as
-    /// one of the last eight that were found unmet no boards are searched. With K queues, C claims
-    /// in open ones, J jobs and F free boards it costs O(K log C + log J) for each of the C claims,
-    /// and O(F) more for each for which boards are searched.
+    /// A claim whose queue has no free board isn't looked at, and one that wants the same as one of
+    /// the last eight that were found unmet is passed over. With K queues, C claims in open ones, J
+    /// jobs and F free boards it costs O(K) for each of the C claims, and O(K log C + log J + F)
+    /// more for each for which boards are searched.
     pub fn serve(self) -> Result<(Draft, u64), AllocError>
         requires sound { IsSound self.farm }
         requires fits { self.queues ≡ lists_of self.farm }
@@ -268,7 +217,7 @@ impl Draft {
         let mut count = 0;
         let mut last = None;
         let mut unmet = Unmet::none();
-        while let Some(claim) = draft.tables.queues.next(last, false) {
+        while let Some(claim) = draft.tables.next_claim(&unmet, last)? {
             let (kind, number) = (claim.kind, claim.number);
             last = Some((claim.priority, number));
             let (next, served) = draft.try_claim(&mut unmet, kind, number)?;

@@ -5,6 +5,7 @@ pub mod Queue
 pub mod Queued
 pub mod Merged
 pub mod Heads
+pub mod Walked
 pub mod Kept
 pub mod Fitting
 pub mod Follow
