@@ -23,6 +23,8 @@ for name in farm desk farm-dispatch farm-from-desk farm-from-labgrid farm-from-l
     "$folder/tree/usr/bin/$name" --help > "$folder/help" || fail "$name --help"
     grep -qi "^usage: $name" "$folder/help" || fail "$name --help prints '$(cat "$folder/help")'"
 done
+said=$("$folder/tree/usr/bin/farm" --version)
+[ "$said" = "farm $(sed -n 's/^Version: //p' "$folder/tree/DEBIAN/control")" ] || fail "farm --version printed '$said'"
 for page in docs/*.[18]; do
     gunzip -c "$folder/tree/usr/share/man/man${page##*.}/$(basename "$page").gz" | cmp -s - "$page" ||
         fail "$page isn't in it"

@@ -1,5 +1,5 @@
 #!/usr/bin/env python3
-"""waves.py [CRATE ..]: tries the wrong bodies crates/NAME/wrong/*.edit, many in one check.
+"""waves.py [CRATE | CRATE/EDIT ..]: tries the wrong bodies crates/NAME/wrong/*.edit, many in one check.
 waves.py --read: only reads them, within a second: each has to be the text of one function, and to apply once.
 
 An edit has the form of a must-fail edit of rt ci: a line 'file: src/..', then pairs of lines 'old: TEXT' and
@@ -146,16 +146,17 @@ def try_wave(crate, wave, sources, kept):
     return [(f"{crate.name}/{edit.name}", *judge(edit, lines, texts)) for edit in wave]
 
 
-def edit_files(crate):
-    """Returns the files of a crate's edits."""
+def edit_files(crate, chosen=()):
+    """Returns the files of a crate's edits: of those that are chosen, or of all."""
     folder = f"{crate.folder}/wrong"
-    return [f"{folder}/{it}" for it in sorted(os.listdir(folder))] if os.path.isdir(folder) else []
+    names = sorted(os.listdir(folder)) if os.path.isdir(folder) else []
+    return [f"{folder}/{it}" for it in names if not chosen or it.removesuffix(".edit") in chosen]
 
 
-def edits_of(crate, sources):
+def edits_of(crate, sources, chosen=()):
     """Returns the edits of a crate that can be tried, and of the others what to say."""
     edits, told = [], []
-    for file in edit_files(crate):
+    for file in edit_files(crate, chosen):
         try:
             edits.append(read_edit(crate, file, sources))
         except BadEdit as why:
@@ -172,10 +173,10 @@ def read_all(crates):
     return 1 if bad else 0
 
 
-def try_edits(crate):
-    """Tries all edits of a crate, says of each what came of it, and returns whether each was refused."""
+def try_edits(crate, chosen=()):
+    """Tries the edits of a crate, says of each what came of it, and returns whether each was refused."""
     sources = sources_of(crate.folder)
-    edits, told = edits_of(crate, sources)
+    edits, told = edits_of(crate, sources, chosen)
     waves = waves_of(edits)
     # (further waves take what the first checked of the functions that they leave alone)
     with tempfile.TemporaryDirectory(prefix="waves-") as kept:
@@ -216,7 +217,7 @@ def is_of_one_run(libraries):
     return True
 
 
-def tasks_of(crates):
+def tasks_of(crates, chosen):
     """Returns the tasks that try the crates' edits, and before them those that build what is missing below."""
     libraries = libraries_of(crates)
     stand, tasks = is_of_one_run(libraries), {}
@@ -233,25 +234,35 @@ def tasks_of(crates):
 
         def tried(given, _jobs, it=it, waits=waits):
             if all(given[key] for key in waits):
-                return try_edits(it)
+                return try_edits(it, chosen.get(it.name, ()))
             return tell([(it.name, False, "a library below was not built")])
 
         tasks[it.name, "edits"] = (waits, it.count(rb"\n"), rt.need(it), tried)
     return tasks
 
 
-def main(names):
+def chosen_edits(words):
+    """Returns the crates that the words name, each with the edits that are chosen of it, none for all."""
+    chosen = {}
+    for word in words:
+        name, _, edit = word.partition("/")
+        chosen.setdefault(name, set()).update([edit] if edit else [])
+    return chosen
+
+
+def main(words):
     os.environ.pop(rt.rtlib.ALLOW_C, None)
-    reads = names == ["--read"]
-    names = [] if reads else names
-    crates = [it for it in rt.rtlib.crates_below(os.getcwd()) if edit_files(it) and (not names or it.name in names)]
-    lost = {*names} - {it.name for it in crates}
+    reads = words == ["--read"]
+    chosen = chosen_edits([] if reads else words)
+    crates = [it for it in rt.rtlib.crates_below(os.getcwd())
+              if edit_files(it, chosen.get(it.name, ())) and (not chosen or it.name in chosen)]
+    lost = {*chosen} - {it.name for it in crates}
     if lost or not crates:
-        sys.exit(f"waves.py: no folder crates/NAME/wrong here for {', '.join(sorted(lost)) or 'any crate'}")
+        sys.exit(f"waves.py: no such file in crates/NAME/wrong here for {', '.join(sorted(lost)) or 'any crate'}")
     if reads:
         return read_all(crates)
     held = rt.rtlib.lock([*crates, *libraries_of(crates)])
-    given = rt.in_lanes(tasks_of(crates))
+    given = rt.in_lanes(tasks_of(crates, chosen))
     for it in held:
         os.close(it)
     refused = [it for crate in crates for it in given[crate.name, "edits"]]

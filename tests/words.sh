@@ -30,7 +30,7 @@ refuses() {
     head -n 1 errors | grep -q '^error: ' && grep -qF -e "$wrong" errors || fail "farm $* told '$(cat errors)'"
 }
 
-# Demands that words ask for help: status 0, nothing told, and a text that has $1 in it.
+# Demands that words ask for help or the version: status 0, nothing told, and a text that has $1 in it.
 helps() {
     usage=$1
     shift
@@ -92,6 +92,10 @@ helps 'Usage: farm init --db <FILE>' init --help
 helps 'Usage: farm import --db <FILE> --at <SECONDS> <LAB>' import --help
 helps 'Usage: farm serve --db <FILE> --port <PORT> --max <CONNECTIONS>' serve --help
 helps 'Usage: farm report [OPTIONS] --db <FILE> <WHICH>' report --help
+helps 'farm 1.0' --version
+helps 'farm 1.0' -V
+[ "$(wc -l < output)" = 1 ] || fail "farm -V printed '$(cat output)'"
+refuses "unexpected argument '--version' found" once --version
 
 # ---- once: a pass is taken at the last moment of a farm and not a second later, so the moment is read.
 

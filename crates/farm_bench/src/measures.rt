@@ -19,6 +19,8 @@ pub enum Deed {
     Take,
     /// A farm that has them passes, at a moment.
     Pass(u64),
+    /// A farm that has them passes twice at a moment; the second pass is timed.
+    PassAgain(u64),
     /// A farm that has them lists its queue.
     Queue,
 }
@@ -61,8 +63,8 @@ fn pass_at(alloc: Global, now: u64) -> anyhow::Result<Call> {
     call(alloc, None, now, Cmd::Pass)
 }
 
-fn pass(watch: &Watch<'_>, rows: Rows, now: u64) -> anyhow::Result<Done> {
-    let mut farm = farm_of(rows)?;
+/// What a pass came to, in words, and how long it took.
+fn timed_pass(watch: &Watch<'_>, farm: &mut Farm, now: u64) -> anyhow::Result<Done> {
     let call = pass_at(watch.alloc(), now)?;
     let start = watch.start()?;
     let answer = farm.step(&call);
@@ -71,6 +73,21 @@ fn pass(watch: &Watch<'_>, rows: Rows, now: u64) -> anyhow::Result<Done> {
         bail!("refused");
     };
     let what = format!(in watch.alloc(); "{ended} ended, {served} served")?;
+    Ok(Done { what, nanos })
+}
+
+fn pass(watch: &Watch<'_>, rows: Rows, now: u64) -> anyhow::Result<Done> {
+    let mut farm = farm_of(rows)?;
+    timed_pass(watch, &mut farm, now)
+}
+
+/// Passes twice at a moment, and times the second pass.
+fn pass_again(watch: &Watch<'_>, rows: Rows, now: u64) -> anyhow::Result<Done> {
+    let mut farm = farm_of(rows)?;
+    let first = timed_pass(watch, &mut farm, now)?;
+    let second = timed_pass(watch, &mut farm, now)?;
+    let what = format!(in watch.alloc(); "{}, then {}", first.what, second.what)?;
+    let nanos = second.nanos;
     Ok(Done { what, nanos })
 }
 
@@ -89,6 +106,7 @@ fn perform(watch: &Watch<'_>, shape: &Shape, deed: Deed) -> anyhow::Result<Done>
     match deed {
         Deed::Take => take(watch, rows),
         Deed::Pass(now) => pass(watch, rows, now),
+        Deed::PassAgain(now) => pass_again(watch, rows, now),
         Deed::Queue => queue(watch, rows),
     }
 }

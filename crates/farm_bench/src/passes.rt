@@ -50,8 +50,8 @@ fn run_passes(watch: &Watch<'_>, claims: u64, fours: u64) -> anyhow::Result<()> 
     measure(watch, "all end", &reservations, Deed::Pass(NOW + LEASE))
 }
 
-/// A pass over so many finished jobs and canceled reservations; and taking them, and as many that
-/// wait.
+/// A pass over so many finished jobs and canceled reservations, and the pass after it, which finds
+/// the boards in the processor's cache; and taking them, and as many that wait.
 fn run_rows(watch: &Watch<'_>, rows: u64) -> anyhow::Result<()> {
     watch.begin("rows")?;
     let ended = Shape {
@@ -60,6 +60,7 @@ fn run_rows(watch: &Watch<'_>, rows: u64) -> anyhow::Result<()> {
         ..IDLE
     };
     measure(watch, "pass over what has ended", &ended, PASS)?;
+    measure(watch, "the pass after it", &ended, Deed::PassAgain(NOW))?;
     measure(watch, "what has ended", &ended, Deed::Take)?;
     let waiting = Shape {
         groups: rows,

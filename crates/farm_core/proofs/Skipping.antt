@@ -1,9 +1,9 @@
 -- Claims that want what was found unmet are passed over.
-use Rattle.std.proofs.Common.{◌≡◌, ◌∙◌, ◌==◌, ◌+◌, ◌<◌, ◌++◌, ℕ, zero, suc, List, [], ◌∷◌, map, length, take, slice_set, get_or, Bool, true, false, cond, not, Option, Some, None, IsSomeAnd, inl, inr, refl, sym, ap, subst, arith}
+use Rattle.std.proofs.Common.{◌≡◌, ◌∙◌, ◌==◌, ◌+◌, ◌<◌, ◌≤◌, ◌++◌, ℕ, zero, suc, List, [], ◌∷◌, add-one, append_assoc, map, length, take, slice_set, get_or, Bool, true, false, cond, not, Option, Some, None, IsSomeAnd, inl, inr, refl, sym, ap, subst, arith}
 use Rattle.std.specs.List.{AllByRecursion, filter}
-use Rattle.std.specs.Option.{option_map_or}
+use Rattle.std.specs.Option.{option_map_or, option_to_list}
 use Rattle.std.specs.Str.{bytes_eq}
-use Rattle.std.proofs.lemmas.List.{map-append, take_more}
+use Rattle.std.proofs.lemmas.List.{take_more}
 use Rattle.std.proofs.lemmas.Slice.Eq.{bytes_eq-Decides}
 use Rattle.farm_types.specs.Farm.{Farm, res_of}
 use Rattle.farm_types.specs.Pass.{Served, give, serve}
@@ -12,7 +12,9 @@ use Rattle.farm_types.specs.Small.{IsSmall}
 use Rattle.farm_types.specs.Sound.{EachTwo, IsSound}
 use Rattle.farm_types.specs.declared.claims.ClaimKind.{ClaimKind}
 use Rattle.farm_types.specs.declared.rows.BoardRow.{BoardRow}
+use Rattle.farm_types.specs.declared.rows.JobRow.{JobRow}
 use Rattle.farm_types.specs.declared.rows.ResRow.{ResRow}
+use Rattle.farm_types.specs.declared.rows.Want.{Want}
 use Rattle.farm_sound.proofs.Claims.{IsClaim, queue_claims}
 use Rattle.farm_sound.proofs.Lists.{among_has}
 use Rattle.farm_sound.proofs.Tests.{same_number}
@@ -22,7 +24,8 @@ use Rattle.farm_pick.proofs.Giving.{giving_follows}
 use Rattle.farm_pick.proofs.Merging.{among_later, unmet_stays, unserved}
 use Rattle.farm_core.specs.Drafted.{Drafted}
 use Rattle.farm_core.specs.Following.{without_boards}
-use Rattle.farm_core.specs.Serving.{AreUnmet, Asks, IfUnmet, IsUnmet, Serves, counted, wants_of}
+use Rattle.farm_core.specs.declared.unmet.Known.{Known}
+use Rattle.farm_core.specs.Serving.{AreUnmet, Asks, IfUnmet, IsLike, IsUnmet, Serves, counted, member_wants, want_at, want_in, wants_of}
 use Rattle.farm_core.proofs.Passing.{asks_claim, small_claim}
 use Rattle.farm_core.proofs.Serving.{names_of}
 
@@ -44,12 +47,42 @@ same_text a b x y one two same = sym one ∙ (bytes_eq-Decides a b).0 (by (bytes
     by true is = refl
     by false is = cc
 
-module _ {A U : Type 0} (f : A → U) (xs ys : List A) (i : ℕ) where
-  pub mapped_more : (x y : A) → i < length xs → i < length ys → x ≡ get_or xs i x → y ≡ get_or ys i y
-      → map f (take i xs) ≡ map f (take i ys) → f x ≡ f y → map f (take (i + 1) xs) ≡ map f (take (i + 1) ys)
-  mapped_more x y low less here there so same =
-      ap (map f) (taken_one xs i x low here) ∙ map-append f (take i xs) (x ∷ []) ∙ (λ k. so k ++ (same k ∷ []))
-      ∙ sym (ap (map f) (taken_one ys i y less there) ∙ map-append f (take i ys) (y ∷ []))
+-- ---- the wants of members, one by one
+
+member_one : (group : ℕ) (row : JobRow) (rows : List JobRow) → member_wants (row ∷ rows) group ≡ option_to_list (want_in group (Some row)) ++ member_wants rows group
+member_one group row rows = by (row.group == group)
+  where
+    by : (v : Bool) → map (λ (m : JobRow). m.want) (cond v (row ∷ filter (λ j. j.group == group) rows) (filter (λ j. j.group == group) rows))
+        ≡ option_to_list (cond v (Some row.want) None) ++ member_wants rows group
+    by true = refl
+    by false = refl
+
+-- one place more
+members_more : (rows : List JobRow) (group place : ℕ) → member_wants (take (suc place) rows) group ≡ member_wants (take place rows) group ++ option_to_list (want_at rows group place)
+members_more [] group zero = refl
+members_more [] group (suc place) = refl
+members_more (row ∷ rows) group zero = member_one group row [] ∙ by (want_in group (Some row))
+  where
+    by : (o : Option Want) → option_to_list o ++ [] ≡ option_to_list o
+    by None = refl
+    by (Some w) = refl
+members_more (row ∷ rows) group (suc place) =
+    member_one group row (take (suc place) rows)
+    ∙ ap (λ ws. option_to_list (want_in group (Some row)) ++ ws) (members_more rows group place)
+    ∙ sym (append_assoc (option_to_list (want_in group (Some row))) (member_wants (take place rows) group) (option_to_list (want_at rows group place)))
+    ∙ ap (λ ws. ws ++ option_to_list (want_at rows group place)) (sym (member_one group row (take place rows)))
+
+pub same_members_more : (first second : List JobRow) (group other place : ℕ) → member_wants (take place first) group ≡ member_wants (take place second) other
+    → want_at first group place ≡ want_at second other place → member_wants (take (place + 1) first) group ≡ member_wants (take (place + 1) second) other
+same_members_more first second group other place so same =
+    ap (λ n. member_wants (take n first) group) (add-one place) ∙ members_more first group place ∙ (λ i. so i ++ option_to_list (same i)) ∙ sym (members_more second other place)
+    ∙ sym (ap (λ n. member_wants (take n second) other) (add-one place))
+
+pub all_taken : {A : Type 0} (n : ℕ) (xs : List A) → length xs ≤ n → take n xs ≡ xs
+all_taken zero [] low = refl
+all_taken zero (x ∷ xs) low = absurd (omega arith)
+all_taken (suc n) [] low = refl
+all_taken (suc n) (x ∷ xs) low = ap (λ ys. x ∷ ys) (all_taken n xs (omega arith))
 
 -- ---- what a claim wants, by its rows
 
@@ -77,11 +110,18 @@ module _ (F : Farm) (kind : ClaimKind) (number : ℕ) (sound : IsSound F) (u : I
   unmet_small = subst IsSmall u.numbered (small_claim F u.claimed sound is_claim)
 
 -- each that is remembered
-pub unmet_at : (F : Farm) (places : List (Option (ClaimKind × ℕ))) (i : ℕ) (d x : Option (ClaimKind × ℕ)) → AreUnmet F places → i < length places → get_or places i d ≡ x
+pub unmet_at : (F : Farm) (places : List (Option Known)) (i : ℕ) (d x : Option Known) → AreUnmet F places → i < length places → get_or places i d ≡ x
     → IfUnmet F x
 unmet_at F [] i d x all low is = absurd (omega arith)
 unmet_at F (p ∷ places) zero d x all low is = subst (IfUnmet F) is all.0
 unmet_at F (p ∷ places) (suc i) d x all low is = unmet_at F places i d x all.1 (omega arith) is
+
+-- a claim that wants what one that is remembered does
+pub like_unmet : (F : Farm) (places : List (Option Known)) (wants : List Want) (i : ℕ) (d : Option Known) → IsSound F → AreUnmet F places → i < length places
+    → IsLike F wants (get_or places i d) → least F.boards (is_free F.types) wants ≡ None
+like_unmet F places wants i d sound all low like =
+    ap (least F.boards (is_free F.types)) like.2
+    ∙ wants_unmet F like.0.kind like.0.number sound (unmet_at F places i d (Some like.0) all low like.1)
 
 -- ---- a claim that is passed over
 
@@ -141,10 +181,10 @@ module _ (F G : Farm) (c : Claimed) (served : Bool) (sound : IsSound F) (at : Am
         (unmet_stays F.clock (record { farm = F; claims = 0 }) c u.claimed.wants sound (omega arith) at u.unmet);
   }
 
-  pub all_on : (places : List (Option (ClaimKind × ℕ))) → AreUnmet F places → AreUnmet G places
+  pub all_on : (places : List (Option Known)) → AreUnmet F places → AreUnmet G places
   all_on [] all = tt
   all_on (None ∷ places) all = (tt, all_on places all.1)
-  all_on (Some k ∷ places) all = (unmet_on k.0 k.1 all.0, all_on places all.1)
+  all_on (Some k ∷ places) all = (unmet_on k.kind k.number all.0, all_on places all.1)
 
   -- a claim that wasn't served is unmet
   pub not_met : served ≡ false → IsUnmet G (shown_claim c).kind c.number
@@ -160,27 +200,26 @@ module _ (F G : Farm) (c : Claimed) (served : Bool) (sound : IsSound F) (at : Am
 
 -- ---- the places
 
-pub all_set : (F : Farm) (places : List (Option (ClaimKind × ℕ))) (i : ℕ) (k : ClaimKind × ℕ) → AreUnmet F places → IsUnmet F k.0 k.1 → AreUnmet F (slice_set places i (Some k))
+pub all_set : (F : Farm) (places : List (Option Known)) (i : ℕ) (k : Known) → AreUnmet F places → IsUnmet F k.kind k.number → AreUnmet F (slice_set places i (Some k))
 all_set F [] i k all new = tt
 all_set F (p ∷ places) zero k all new = (new, all.1)
 all_set F (p ∷ places) (suc i) k all new = (all.0, all_set F places i k all.1 new)
 
-pub all_none : (F : Farm) (places : List (Option (ClaimKind × ℕ))) → AllByRecursion (λ o. o ≡ None) places → AreUnmet F places
+pub all_none : (F : Farm) (places : List (Option Known)) → AllByRecursion (λ o. o ≡ None) places → AreUnmet F places
 all_none F [] all = tt
 all_none F (p ∷ places) all = (subst (IfUnmet F) (sym all.0) tt, all_none F places all.1)
 
 -- ---- a claim that is tried
 
 module _ (D E : Drafted) (c : Claimed) (served : Bool) (sound : IsSound D.farm) (at : Among c (queue D.farm))
-    (serves : Asks c.reservation D.farm c → Serves D c served E) (places : List (Option (ClaimKind × ℕ))) (all : AreUnmet D.farm places) where
+    (serves : Asks c.reservation D.farm c → Serves D c served E) (places : List (Option Known)) (all : AreUnmet D.farm places) where
   abbrev done : Serves D c served E
   done = serves (asks_claim D.farm c (among_has (IsClaim D.farm) c (queue D.farm) (queue_claims D.farm sound.steady) at))
 
   pub known_on : AreUnmet E.farm places
   known_on = all_on D.farm E.farm c served sound at done.0 places all
 
-  pub known_more : served ≡ false → (kind : ClaimKind) → (shown_claim c).kind ≡ kind → (number : ℕ) → c.number ≡ number → (place : ℕ)
-      → AreUnmet E.farm (slice_set places place (Some (kind, number)))
-  known_more unmet kind is number same place =
-      all_set E.farm places place (kind, number) known_on
-      (subst (λ n. IsUnmet E.farm kind n) same (subst (λ k. IsUnmet E.farm k c.number) is (not_met D.farm E.farm c served sound at done.0 unmet)))
+  pub known_more : served ≡ false → (k : Known) → (shown_claim c).kind ≡ k.kind → c.number ≡ k.number → (place : ℕ) → AreUnmet E.farm (slice_set places place (Some k))
+  known_more unmet k is same place =
+      all_set E.farm places place k known_on
+      (subst (λ n. IsUnmet E.farm k.kind n) same (subst (λ kind. IsUnmet E.farm kind c.number) is (not_met D.farm E.farm c served sound at done.0 unmet)))

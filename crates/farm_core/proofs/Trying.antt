@@ -1,7 +1,8 @@
 -- The claims that the queues lend are tried one after the other, and lead to the end of the pass.
-use Rattle.std.proofs.Common.{◌≡◌, ◌∙◌, ◌==◌, ◌||◌, ◌&&◌, ◌+◌, ◌<◌, ◌≤◌, ℕ, List, [], ◌∷◌, length, map, filter, Bool, true, false, cond, not, Option, Some, None, inl, inr, refl, sym, ap, subst, arith}
+use Rattle.std.proofs.Common.{◌≡◌, ◌∙◌, ◌==◌, ◌||◌, ◌&&◌, ◌+◌, ◌++◌, ◌<◌, ◌≤◌, ℕ, List, [], ◌∷◌, length, map, filter, Bool, true, false, cond, not, Option, Some, None, inl, inr, refl, sym, ap, subst, append-nil, arith, Bor}
 use Rattle.std.specs.List.{AllByRecursion, find, fold, list_any}
-use Rattle.std.specs.Option.{option_map, option_map_or}
+use Rattle.std.specs.List.Sorted.{IsStrictlySortedBy}
+use Rattle.std.specs.Option.{option_copied, option_map, option_map_or}
 use Rattle.std.specs.Ordering.{match_ordering}
 use Rattle.std.specs.Str.{bytes_eq}
 use Rattle.std.specs.declared.cmp.Ordering.{Ordering}
@@ -15,6 +16,8 @@ use Rattle.farm_types.specs.Table.{put, put_all}
 use Rattle.farm_types.specs.declared.claims.Claim.{Claim}
 use Rattle.farm_types.specs.declared.rows.BoardRow.{BoardRow}
 use Rattle.farm_pick.specs.Heads.{is_later, last_spot}
+use Rattle.farm_pick.specs.Kept.{queued_cmp}
+use Rattle.farm_pick.specs.Walked.{walked}
 use Rattle.farm_pick.specs.Merged.{comes_after, is_tried, next_tried}
 use Rattle.farm_pick.specs.Queued.{IdleBoard, Lists, Queued, idle_boards, is_open, lists_of, queued}
 use Rattle.farm_pick.proofs.Apart.{same_bytes_back}
@@ -23,14 +26,17 @@ use Rattle.farm_pick.proofs.Filling.{low_priority, queued_filter}
 use Rattle.farm_pick.proofs.Giving.{giving_follows}
 use Rattle.farm_pick.proofs.Later.{later, later_none}
 use Rattle.farm_pick.proofs.Merging.{none_tried, tried}
-use Rattle.farm_sound.proofs.Claims.{IsClaim}
+use Rattle.farm_pick.proofs.Walking.{walked_none, walked_on}
+use Rattle.farm_sound.proofs.Where.{AllByRecursion-map}
+use Rattle.farm_sound.proofs.Claims.{IsClaim, queue_sorted}
 use Rattle.farm_sound.proofs.Serve.{give_clock}
 use Rattle.farm_core.specs.Following.{without_board, without_boards}
 use Rattle.farm_core.specs.Drafted.{Drafted}
-use Rattle.farm_core.specs.Serving.{Asks, Serves, counted, queues_given}
+use Rattle.farm_core.specs.Serving.{Asks, IsMissed, Reaches, Serves, counted, queues_given}
 use Rattle.farm_core.proofs.Given.{all_pass, taken_more}
 use Rattle.farm_core.proofs.Passing.{asks_claim}
 use Rattle.farm_core.proofs.Serving.{names_of}
+use Rattle.farm_core.proofs.Skipping.{skipped}
 
 -- ---- the queues of the farm once a claim was tried
 
@@ -263,3 +269,105 @@ module _ (F : Farm) (D E : Drafted) (count : ℕ) (place : Option (ℕ × ℕ)) 
 
   pub turn_less : left E.queues (Some (claim.priority, claim.number)) < left D.queues place
   turn_less = fewer F D.farm D.queues count place tries it.claimed E.farm served E.queues (Some (claim.priority, claim.number)) it.next serves.0 serves.2 here
+
+-- ---- claims that are passed over
+
+-- what the queues lend after a place, all of it
+abbrev pub lent_after : Lists → Option (ℕ × ℕ) → List Claim
+lent_after queues place = walked (λ k. false || is_open queues.boards k) (last_spot place) queues.claims
+
+queued_rise : (cs : List Claimed) → IsStrictlySortedBy claim_cmp cs → IsStrictlySortedBy queued_cmp (map queued cs)
+unfolding IsStrictlySortedBy
+queued_rise [] sorted = tt
+queued_rise (c ∷ cs) sorted =
+    (AllByRecursion-map (λ d. claim_cmp c d ≡ Less) (λ x. queued_cmp (queued c) x ≡ Less) queued (λ d less. less) cs sorted.0, queued_rise cs sorted.1)
+
+claims_rise : (F G : Farm) (queues : Lists) (count : ℕ) (place : Option (ℕ × ℕ)) → Tries F G queues count place → IsStrictlySortedBy queued_cmp queues.claims
+claims_rise F G queues count place tries =
+    subst (λ (l : Lists). IsStrictlySortedBy queued_cmp l.claims) (sym tries.fits) (queued_rise (queue G) (queue_sorted G))
+
+abbrev pub place_after : Claim → Option (ℕ × ℕ)
+place_after claim = Some (claim.priority, claim.number)
+
+abbrev pub AreMissed : Farm → List Claim → Type 0
+AreMissed F claims = AllByRecursion (λ c. IsMissed F c.kind c.number) claims
+
+-- one more is passed over
+pub missed_more : (F : Farm) (missed : List Claim) (c : Claim) → AreMissed F missed → IsMissed F c.kind c.number → AreMissed F (missed ++ (c ∷ []))
+missed_more F [] c all new = (new, tt)
+missed_more F (m ∷ missed) c all new = (all.0, missed_more F missed c all.1 new)
+
+-- where the pass stands once some claims were passed over
+pub record Passed (F : Farm) (D : Drafted) (count : ℕ) (place : Option (ℕ × ℕ)) (rest : List Claim) : Type 0 where
+  pub behind : Option (ℕ × ℕ)
+  pub tries : Tries F D.farm D.queues count behind
+  pub lent : lent_after D.queues behind ≡ rest
+  pub less : left D.queues behind ≤ left D.queues place
+
+module _ (F : Farm) (D : Drafted) (count : ℕ) where
+  pub passed_over : (missed rest : List Claim) (place : Option (ℕ × ℕ)) → Tries F D.farm D.queues count place → lent_after D.queues place ≡ missed ++ rest → AreMissed D.farm missed
+      → Passed F D count place rest
+  passed_over [] rest place tries is all = record { behind = place; tries = tries; lent = is; less = omega arith }
+  passed_over (m ∷ missed) rest place tries is all =
+      let two = walked_on (λ k. false || is_open D.queues.boards k) (last_spot place) D.queues.claims (claims_rise F D.farm D.queues count place tries) m (missed ++ rest) is
+      (last_spot (place_after m)) refl refl in
+      let serving : (c : Claimed) → (shown_claim c).kind ≡ m.kind → c.number ≡ m.number → Asks c.reservation D.farm c → Serves D c false D =
+      λ c kind number asks. skipped D c m.kind kind m.number number asks all.0 in
+      let on = turn_on F D D count place tries m (sym two.0) false serving false refl in
+      let more = passed_over missed rest (place_after m) on (sym two.1) all.1 in
+      let less = turn_less F D D count place tries m (sym two.0) false serving in
+      record { behind = more.behind; tries = more.tries; lent = more.lent; less = omega (arith, more.less, less) }
+
+  -- the claim that is reached is lent next
+  pub reached : (place : Option (ℕ × ℕ)) (claim : Claim) → Tries F D.farm D.queues count place → Reaches D.farm (lent_after D.queues place) (Some claim)
+      → (behind : Option (ℕ × ℕ)) × Tries F D.farm D.queues count behind × (Some claim ≡ lends D.queues behind) × (left D.queues behind ≤ left D.queues place)
+  reached place claim tries reaches =
+      let it = passed_over reaches.0 (claim ∷ reaches.1) place tries reaches.2 reaches.3 in
+      let two = walked_on (λ k. false || is_open D.queues.boards k) (last_spot it.behind) D.queues.claims (claims_rise F D.farm D.queues count it.behind it.tries) claim reaches.1 it.lent
+      (last_spot (place_after claim)) refl refl in
+      (it.behind, it.tries, sym two.0, it.less)
+
+  -- where none is, the pass is at its end
+  pub reaches_end : (place : Option (ℕ × ℕ)) → Tries F D.farm D.queues count place → Reaches D.farm (lent_after D.queues place) None
+      → (behind : Option (ℕ × ℕ)) × Tries F D.farm D.queues count behind × (None ≡ lends D.queues behind)
+  reaches_end place tries all =
+      let it = passed_over (lent_after D.queues place) [] place tries (sym (append-nil (lent_after D.queues place))) all in
+      (it.behind, it.tries, sym (walked_none (λ k. false || is_open D.queues.boards k) (last_spot it.behind) D.queues.claims it.lent))
+
+-- what is ensured of the tables is so of the draft
+pub reaches_here : (V D : Drafted) → V ≡ D → (place : Option (ℕ × ℕ)) (o : Option (Bor Claim)) (claim : Bor Claim) → o ≡ Some claim
+    → Reaches V.farm (lent_after V.queues place) (option_copied o) → Reaches D.farm (lent_after D.queues place) (Some claim.now)
+reaches_here V D view place o claim is reaches =
+    subst (λ o. Reaches D.farm (lent_after D.queues place) (option_copied o)) is (subst (λ (E : Drafted). Reaches E.farm (lent_after E.queues place) (option_copied o)) view reaches)
+
+pub ends_here : (V D : Drafted) → V ≡ D → (place : Option (ℕ × ℕ)) (o : Option (Bor Claim)) → o ≡ None
+    → Reaches V.farm (lent_after V.queues place) (option_copied o) → Reaches D.farm (lent_after D.queues place) None
+ends_here V D view place o is reaches =
+    subst (λ o. Reaches D.farm (lent_after D.queues place) (option_copied o)) is (subst (λ (E : Drafted). Reaches E.farm (lent_after E.queues place) (option_copied o)) view reaches)
+
+-- ---- one turn, with the claims that are passed over before it
+
+module _ (F : Farm) (D : Drafted) (count : ℕ) (place : Option (ℕ × ℕ)) (tries : Tries F D.farm D.queues count place) (claim : Claim)
+    (reaches : Reaches D.farm (lent_after D.queues place) (Some claim)) where
+  stands : (behind : Option (ℕ × ℕ)) × Tries F D.farm D.queues count behind × (Some claim ≡ lends D.queues behind) × (left D.queues behind ≤ left D.queues place)
+  stands = reached F D count place claim tries reaches
+
+  pub reached_claim : (d : Claimed) × IsClaim D.farm d × (shown_claim d ≡ claim)
+  reached_claim = let it = lent_some F D.farm D.queues count stands.0 stands.1 claim stands.2 in (it.claimed, it.is, it.shown)
+
+  module _ (E : Drafted) (served : Bool) (serving : (c : Claimed) → (shown_claim c).kind ≡ claim.kind → c.number ≡ claim.number → Asks c.reservation D.farm c → Serves D c served E) where
+    pub goes_on : (v : Bool) → served ≡ v → Tries F E.farm E.queues (counted count v) (place_after claim)
+    goes_on v so = turn_on F D E count stands.0 stands.1 claim stands.2 served serving v so
+
+    pub goes_start : E.start ≡ D.start
+    goes_start = turn_start F D E count stands.0 stands.1 claim stands.2 served serving
+
+    pub goes_less : left E.queues (place_after claim) < left D.queues place
+    goes_less = let less = turn_less F D E count stands.0 stands.1 claim stands.2 served serving in omega (arith, less, stands.3)
+
+-- and the end
+pub goes_end : (F : Farm) (D : Drafted) (count : ℕ) (place : Option (ℕ × ℕ)) → Tries F D.farm D.queues count place → Reaches D.farm (lent_after D.queues place) None
+    → record { farm = D.farm; claims = count } ≡ serve_all F F.clock
+goes_end F D count place tries reaches =
+    let it = reaches_end F D count place tries reaches in
+    tries_end F D.farm D.queues count it.0 it.1 it.2

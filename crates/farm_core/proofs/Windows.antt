@@ -1,12 +1,16 @@
 -- The jobs whose numbers are near one another stand side by side.
-use Rattle.std.proofs.Common.{◌≡◌, ℕ, zero, suc, ◌+◌, ◌<◌, ◌≤◌, ◌==◌, ◌&&◌, ◌⊎◌, inl, inr, Bool, true, false, List, [], ◌∷◌, length, get_or, Result, Ok, Err, MatchResult, sym, ap, ◌∙◌, refl, subst, arith}
-use Rattle.std.specs.List.{AllByRecursion}
+use Rattle.std.proofs.Common.{◌≡◌, ℕ, zero, suc, ◌+◌, ◌<◌, ◌≤◌, ◌-◌, ◌==◌, ◌&&◌, ◌⊎◌, inl, inr, Bool, true, false, List, [], ◌∷◌, length, get_or, Some, cond, Result, Ok, Err, MatchResult, sym, ap, ◌∙◌, refl, subst, arith}
+use Rattle.std.specs.List.{AllByRecursion, find}
+use Rattle.farm_types.specs.Table.{job_cmp, res_cmp}
+use Rattle.farm_sound.proofs.Own.{itself}
+use Rattle.farm_sound.proofs.Tests.{same_number}
 use Rattle.std.specs.List.Sorted.{IsStrictlySortedBy, IsSortedBy, IsSearchInRange, IsBinarySearchResult}
 use Rattle.std.specs.Cmp.{nat_cmp_total}
 use Rattle.std.specs.Ordering.{ordering_reverse, is_lt, nat_cmp}
 use Rattle.std.specs.declared.cmp.Ordering.TheVariants.{Less, Equal, Greater}
 use Rattle.std.proofs.lemmas.Bool.Decides.{nat_tests}
 use Rattle.std.proofs.lemmas.Cmp.{ranked}
+use Rattle.std.proofs.lemmas.List.{get_or_default}
 use Rattle.std.proofs.lemmas.List.Sorted.{searchable_from_sorted}
 use Rattle.std.proofs.lemmas.Map.Keys.{Less-from_sorted}
 use Rattle.farm_types.specs.declared.rows.JobRow.{JobRow}
@@ -30,19 +34,48 @@ module _ {R : Type 0} (key : R → ℕ) where
   rises : (rows : List R) (j k : ℕ) (d : R) → Rise rows → j < k → k < length rows → key (get_or rows j d) < key (get_or rows k d)
   rises rows j k d sorted less in_range = ranked (key (get_or rows j d)) (key (get_or rows k d)) Less (sym (Less-from_sorted (λ a b. nat_cmp (key a) (key b)) rows j k d sorted less in_range))
 
-  -- where a binary search ends
-  pub searched : (rows : List R) (number : ℕ) → Rise rows → (found : Result ℕ ℕ) → IsSearchInRange found (length rows) → IsBinarySearchResult (λ r. nat_cmp (key r) number) rows found → MatchResult found (IsPlaceOf key rows number) (IsPlaceOf key rows number)
-  searched rows number sorted (Ok i) in_range equal = record {
+  -- where a row of a number stands
+  pub placed : (rows : List R) (number i : ℕ) → Rise rows → i < length rows → ((d : R) → key (get_or rows i d) ≡ number) → IsPlaceOf key rows number i
+  placed rows number i sorted in_range equal = record {
     below = λ k d less.
-        let tie : key (get_or rows i d) ≡ number = ranked (key (get_or rows i d)) number Equal (sym (equal d)) in
+        let tie = equal d in
         let rise = rises rows k i d sorted less in_range in omega arith;
     above = λ k d le low.
-        let tie : key (get_or rows i d) ≡ number = ranked (key (get_or rows i d)) number Equal (sym (equal d)) in
+        let tie = equal d in
         elim (same_or_less i k le) [
           | inl same ↦ let P : ℕ → Type 0 = λ k. number ≤ key (get_or rows k d) in subst P same (omega arith)
           | inr less ↦ let rise = rises rows i k d sorted less low in omega arith
         ];
   }
+
+  pub placed_at : (rows : List R) (number i : ℕ) (x : R) → Rise rows → i < length rows → x ≡ get_or rows i x → key x ≡ number → IsPlaceOf key rows number i
+  placed_at rows number i x sorted in_range is equal =
+      placed rows number i sorted in_range (λ d. ap key (get_or_default rows i d x in_range) ∙ sym (ap key is) ∙ equal)
+
+  -- numbers rise at least as fast as places
+  pub rises_by : (rows : List R) (j k : ℕ) (d : R) → Rise rows → j + k < length rows → key (get_or rows j d) + k ≤ key (get_or rows (j + k) d)
+  rises_by rows j zero d sorted in_range =
+      let same : j + 0 ≡ j = omega arith in
+      let there : key (get_or rows (j + 0) d) ≡ key (get_or rows j d) = ap (λ n. key (get_or rows n d)) same in
+      omega (arith, there)
+  rises_by rows j (suc k) d sorted in_range =
+      let less = rises_by rows j k d sorted (omega arith) in
+      let more = rises rows (j + k) (j + suc k) d sorted (omega arith) in_range in
+      omega (arith, less, more)
+
+  -- rows from some places on have numbers that are so much greater
+  pub far_on : (rows : List R) (number start reach : ℕ) → Rise rows → IsPlaceOf key rows number start → (k : ℕ) (d : R) → start + reach ≤ k → k < length rows
+      → number + reach ≤ key (get_or rows k d)
+  far_on rows number start reach sorted place k d far low =
+      let first = place.above start d (omega arith) (omega arith) in
+      let rise = rises_by rows start (k - start) d sorted (omega arith) in
+      let same : start + (k - start) ≡ k = omega arith in
+      let there : key (get_or rows (start + (k - start)) d) ≡ key (get_or rows k d) = ap (λ n. key (get_or rows n d)) same in
+      omega (arith, first, rise, there, far)
+
+  -- where a binary search ends
+  pub searched : (rows : List R) (number : ℕ) → Rise rows → (found : Result ℕ ℕ) → IsSearchInRange found (length rows) → IsBinarySearchResult (λ r. nat_cmp (key r) number) rows found → MatchResult found (IsPlaceOf key rows number) (IsPlaceOf key rows number)
+  searched rows number sorted (Ok i) in_range equal = placed rows number i sorted in_range (λ d. ranked (key (get_or rows i d)) number Equal (sym (equal d)))
   searched rows number sorted (Err i) in_range parted =
       let ascending : IsSortedBy (λ a b. is_lt (nat_cmp (key a) (key b))) rows = λ j d low high. ap is_lt (nat_cmp_total.antisymm (key (get_or rows (j + 1) d)) (key (get_or rows j d)) ∙ ap ordering_reverse (Less-from_sorted (λ a b. nat_cmp (key a) (key b)) rows j (j + 1) d sorted (omega arith) high)) in
       let both = parted (searchable_from_sorted nat_cmp_total key rows number ascending) in
@@ -90,6 +123,33 @@ module _ (jobs : List JobRow) (edit : JobEdit) (near : AllByRecursion IsNear job
 
   pub none_behind : (end : ℕ) → IsPlaceOf (λ (r : JobRow). r.number) jobs (first_of edit + 4) end → (k : ℕ) (d : JobRow) → end ≤ k → k < length jobs → job_passes edit (get_or jobs k d) ≡ false
   none_behind end place k d high low = out_of_reach edit (get_or jobs k d) (all_at IsNear jobs k d near low) _ refl (λ both. let more = place.above k d high low in absurd (omega (arith, both.1)))
+
+-- none from four places behind a group's first one on is a member
+pub no_member : (jobs : List JobRow) (near : AllByRecursion IsNear jobs) (group start : ℕ) → IsStrictlySortedBy job_cmp jobs → IsPlaceOf (λ (r : JobRow). r.number) jobs group start
+    → (k : ℕ) (d : JobRow) → start + 4 ≤ k → k < length jobs → ((get_or jobs k d).group == group) ≡ false
+no_member jobs near group start sorted place k d far low =
+    let high = far_on (λ (r : JobRow). r.number) jobs group start 4 sorted place k d far low in
+    out_of_reach (JobEdit.Start group) (get_or jobs k d) (all_at IsNear jobs k d near low) _ refl (λ both. absurd (omega (arith, both.1, high)))
+
+-- a row is found by its number
+pub found_res : (rows : List ResRow) (i number : ℕ) (x : ResRow) → IsStrictlySortedBy res_cmp rows → i < length rows → x ≡ get_or rows i x → x.number ≡ number
+    → find (λ (r : ResRow). r.number == number) rows ≡ Some x
+unfolding IsStrictlySortedBy
+found_res [] i number x sorted low is same = absurd (omega arith)
+found_res (r ∷ rows) zero number x sorted low is same =
+    ap (λ v. cond v (Some r) (find (λ (d : ResRow). d.number == number) rows)) (ap (λ n. n == number) (ap (λ (d : ResRow). d.number) (sym is) ∙ same) ∙ itself number) ∙ ap Some (sym is)
+found_res (r ∷ rows) (suc i) number x sorted low is same =
+    by (r.number == number) refl ∙ found_res rows i number x sorted.1 (omega arith) is same
+  where
+    less : res_cmp r x ≡ Less
+    less = subst (λ y. res_cmp r y ≡ Less) (sym is) (all_at (λ y. res_cmp r y ≡ Less) rows i x sorted.0 (omega arith))
+
+    by : (v : Bool) → (r.number == number) ≡ v → cond v (Some r) (find (λ (d : ResRow). d.number == number) rows) ≡ find (λ (d : ResRow). d.number == number) rows
+    by true at =
+        let tie = same_number r.number number at in
+        let below = ranked r.number x.number Less (sym less) in
+        absurd (omega (arith, tie, below, same))
+    by false at = refl
 
 res_out : (edit : ResEdit) (number : ℕ) (r : ResRow) → ((r : ResRow) → res_passes edit r ≡ (r.number == number)) → (r.number ≡ number → ⊥) → res_passes edit r ≡ false
 res_out edit number r one out = one r ∙ by (r.number == number) refl

@@ -1,6 +1,6 @@
 -- What the program does for one claim of a pass.
-use Rattle.std.specs.Prelude.{◌≡◌, ◌==◌, ◌&&◌, ◌+◌, ℕ, Bool, true, false, List, [], ◌∷◌, length}
-use Rattle.std.specs.Prelude.{map, not}
+use Rattle.std.specs.Prelude.{◌≡◌, ◌==◌, ◌&&◌, ◌+◌, ◌++◌, ℕ, Bool, true, false, List, [], ◌∷◌}
+use Rattle.std.specs.Prelude.{length, map, not, slice_get}
 use Rattle.std.specs.Prelude.{IsSomeAnd, Option, Some, None}
 use Rattle.std.specs.Prelude.{if◌then◌else◌}
 use Rattle.std.specs.List.{AllByRecursion, filter, fold, list_all}
@@ -15,11 +15,14 @@ use Rattle.farm_pick.specs.Queued.{Lists, idle_boards, lists_of}
 use Rattle.farm_types.specs.declared.rows.Holder.{Holder}
 use Rattle.farm_types.specs.declared.rows.JobState.{JobState}
 use Rattle.farm_types.specs.declared.rows.State.{State}
+use Rattle.farm_types.specs.declared.claims.Claim.{Claim}
 use Rattle.farm_types.specs.declared.claims.ClaimKind.{ClaimKind}
 use Rattle.farm_types.specs.declared.rows.BoardRow.{BoardRow}
+use Rattle.farm_types.specs.declared.rows.JobRow.{JobRow}
 use Rattle.farm_types.specs.declared.rows.Want.{Want}
 use Rattle.farm_core.specs.Drafted.{Drafted}
 use Rattle.farm_core.specs.Following.{without_boards}
+use Rattle.farm_core.specs.declared.unmet.Known.{Known}
 
 -- a job, told by its number, is in a state and holds the board of a name
 abbrev pub give_named : JobState → Farm → ℕ × List ℕ → Farm
@@ -49,6 +52,21 @@ wants_of F ClaimKind.Reservation number =
     option_map_or (λ r. r.want ∷ []) (res_of F number) []
 wants_of F ClaimKind.Group number = map (λ m. m.want) (members F number)
 
+-- what the members of a group among some rows want, and what the row at a place does
+abbrev pub member_wants : List JobRow → ℕ → List Want
+member_wants rows group = map (λ m. m.want) (filter (λ j. j.group == group) rows)
+
+abbrev pub want_in : ℕ → Option JobRow → Option Want
+want_in group None = None
+want_in group (Some row) = if row.group == group then Some row.want else None
+
+abbrev pub want_at : List JobRow → ℕ → ℕ → Option Want
+want_at rows group place = want_in group (slice_get rows place)
+
+-- no free boards meet what a claim wants
+abbrev pub IsMissed : Farm → ClaimKind → ℕ → Type 0
+IsMissed F kind number = least F.boards (is_free F.types) (wants_of F kind number) ≡ None
+
 -- a claim that waits and that no free boards meet
 pub record IsUnmet (F : Farm) (kind : ClaimKind) (number : ℕ) : Type 0 where
   pub claimed : Claimed
@@ -58,12 +76,24 @@ pub record IsUnmet (F : Farm) (kind : ClaimKind) (number : ℕ) : Type 0 where
   pub unmet : least F.boards (is_free F.types) claimed.wants ≡ None
 
 -- each claim that is remembered is such a one
-abbrev pub IfUnmet : Farm → Option (ClaimKind × ℕ) → Type 0
+abbrev pub IfUnmet : Farm → Option Known → Type 0
 IfUnmet F None = Unit {0}
-IfUnmet F (Some known) = IsUnmet F known.0 known.1
+IfUnmet F (Some known) = IsUnmet F known.kind known.number
 
-abbrev pub AreUnmet : Farm → List (Option (ClaimKind × ℕ)) → Type 0
+abbrev pub AreUnmet : Farm → List (Option Known) → Type 0
 AreUnmet F places = AllByRecursion (IfUnmet F) places
+
+-- a claim with some wants wants the same as one that is remembered
+abbrev pub IsLike : Farm → List Want → Option Known → Type 0
+IsLike F wants known =
+    (k : Known) × (known ≡ Some k) × (wants ≡ wants_of F k.kind k.number)
+
+-- of some claims one is reached behind such as no free boards meet, or all are such
+abbrev pub Reaches : Farm → List Claim → Option Claim → Type 0
+Reaches F claims None = AllByRecursion (λ c. IsMissed F c.kind c.number) claims
+Reaches F claims (Some c) =
+    (missed rest : List Claim) × (claims ≡ missed ++ c ∷ rest)
+    × AllByRecursion (λ m. IsMissed F m.kind m.number) missed
 
 -- one more, if a claim was served
 abbrev pub counted : ℕ → Bool → ℕ

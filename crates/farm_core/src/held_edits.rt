@@ -30,6 +30,9 @@ use std::alloc::AllocError;
 /// How far the numbers of a group's members reach.
 pub const GROUP_REACH: u64 = 4;
 
+/// How many places from a guess on are looked at before a search.
+pub const GUESS_REACH: usize = 5;
+
 /// How many jobs have a smaller number, by binary search.
 pub fn place_of(jobs: &[JobRow], number: u64) -> usize
     requires { IsStrictlySortedBy job_cmp jobs.now }
@@ -42,8 +45,25 @@ pub fn place_of(jobs: &[JobRow], number: u64) -> usize
     }
 }
 
+/// How many jobs have a smaller number: where the job of that number is one of the few from a guess
+/// on without a search, else by binary search.
+pub fn place_near(jobs: &[JobRow], guess: usize, number: u64) -> usize
+    requires { IsStrictlySortedBy job_cmp jobs.now }
+    ensures within { result ≤ length jobs.now }
+    ensures place { IsPlaceOf (λ (r : JobRow). r.number) jobs.now number result }
+{
+    for place in guess..guess.saturating_add(GUESS_REACH) {
+        if let Some(row) = jobs.get(place) {
+            if row.number == number {
+                return place;
+            }
+        }
+    }
+    place_of(jobs, number)
+}
+
 /// How many reservations have a smaller number, by binary search.
-fn res_place_of(reservations: &[ResRow], number: u64) -> usize
+pub fn res_place_of(reservations: &[ResRow], number: u64) -> usize
     requires { IsStrictlySortedBy res_cmp reservations.now }
     ensures within { result ≤ length reservations.now }
     ensures place { IsPlaceOf (λ (r : ResRow). r.number) reservations.now number result }

@@ -1,5 +1,6 @@
 //! The commands on jobs that are there: Cancel, Start and Finish.
-ghost use Rattle.std.specs.Prelude.{◌≡◌, ◌==◌, ◌∷◌, ◌||◌, [], not, is_none, OnOk, IfOk, IfSome};
+ghost use Rattle.std.specs.Prelude.{◌≡◌, ◌≤◌, ◌==◌, ◌∷◌, ◌||◌, [], not, is_none, length};
+ghost use Rattle.std.specs.Prelude.{OnOk, IfOk, IfSome};
 ghost use Rattle.std.specs.List.{filter, list_any};
 ghost use Rattle.std.specs.Option.{option_copied};
 ghost use Rattle.farm_types.specs.Codes.{same_job_state};
@@ -8,16 +9,17 @@ ghost use Rattle.farm_types.specs.Refuse.{first_code, job_is, owned_by, can_canc
 ghost use Rattle.farm_types.specs.Change.{act, done};
 ghost use Rattle.farm_types.specs.Small.{IsSmall, IsSmallJob};
 ghost use Rattle.farm_types.specs.declared.calls.Cmd.{Cmd};
+ghost use Rattle.farm_types.specs.declared.rows.JobRow.{JobRow};
 ghost use Rattle.farm_types.specs.declared.rows.JobState.{JobState};
 ghost use Rattle.farm_core.specs.Edits.{outcome_of};
 ghost use Rattle.farm_core.specs.Drafted.{Acts};
 ghost use Rattle.farm_core.specs.Plain.{plain};
-ghost use Rattle.farm_core.specs.Orderly.{IsOrderly};
+ghost use Rattle.farm_core.specs.Orderly.{IsOrderly, IsPlaceOf};
 ghost use Rattle.farm_core.specs.Tracks.{Tracks};
 
 use crate::draft::Draft;
 use crate::held::Becomes;
-use crate::held_edits::{GROUP_REACH, place_of};
+use crate::held_edits::place_of;
 use crate::job_edit::JobEdit;
 use crate::refusal::is_admin;
 use crate::tables::Tables;
@@ -27,6 +29,9 @@ use farm_types::refusal::{FORBIDDEN, NO_JOB, WRONG_STATE};
 use farm_types::rows::{JobRow, JobState, Outcome, State};
 use farm_types::words::Name;
 use std::alloc::AllocError;
+
+/// The most members of a group.
+const MEMBERS: usize = 4;
 
 /// Whether a row's owner or the admin calls.
 pub fn owned_by(caller: &Name, owner: &Name) -> bool
@@ -74,6 +79,20 @@ impl Tables {
         seek::job_of(&self.jobs, number)
     }
 
+    /// The few rows from a place on that stand where the members of a group do: no other row is a
+    /// member.
+    pub fn near_from(&self, group: u64, start: usize) -> &[JobRow]
+        requires orderly { IsOrderly (plain self.now) }
+        requires within { start ≤ length (plain self.now).jobs }
+        requires place { IsPlaceOf (λ (r : JobRow). r.number) (plain self.now).jobs group start }
+        ensures members { filter (λ j. j.group == group) result.now
+            ≡ members (plain self.now) group }
+        ensures few { length result.now ≤ 4 }
+    {
+        let end = self.jobs.len().min(start.saturating_add(MEMBERS));
+        &self.jobs[start..end]
+    }
+
     /// The few rows that stand where the members of a group do: no other row is a member.
     pub fn near(&self, group: u64) -> &[JobRow]
         requires orderly { IsOrderly (plain self.now) }
@@ -81,8 +100,7 @@ impl Tables {
         ensures { filter (λ j. j.group == group) result.now ≡ members (plain self.now) group }
     {
         let start = place_of(&self.jobs, group);
-        let end = place_of(&self.jobs, group + GROUP_REACH);
-        &self.jobs[start..end]
+        self.near_from(group, start)
     }
 
     /// Whether some member of a group can be canceled.

@@ -30,5 +30,6 @@ mod same;
 mod serve;
 mod submit;
 mod tables;
+mod tried;
 mod types;
 mod unmet;

@@ -1,8 +1,10 @@
 //! Whether two claims want the same. A no costs a search and nothing else, so contracts say what a
 //! yes means.
-ghost use Rattle.std.specs.Prelude.{◌≡◌, true, map};
+ghost use Rattle.std.specs.Prelude.{◌≡◌, ◌≤◌, true, length};
+ghost use Rattle.std.specs.Option.{option_copied};
+ghost use Rattle.farm_core.specs.Serving.{member_wants, want_at};
 
-use farm_types::rows::Want;
+use farm_types::rows::{JobRow, Want};
 use farm_types::words::{Name, Tag};
 
 /// Whether two types are one, or neither is named.
@@ -32,21 +34,48 @@ fn same_tags(first: &[Tag], second: &[Tag]) -> bool
 }
 
 /// Whether two wants ask for the same type and the same tags.
-fn same_want(first: &Want, second: &Want) -> bool
+pub fn same_want(first: &Want, second: &Want) -> bool
     ensures { result ≡ true → first.now ≡ second.now }
 {
     same_type(&first.kind, &second.kind) && same_tags(first.tags.items(), second.tags.items())
 }
 
-/// Whether two lists want the same, want for want.
-pub fn same_wants(first: &[&Want], second: &[&Want]) -> bool
-    ensures { result ≡ true → map (λ w. w.now) first.now ≡ map (λ w. w.now) second.now }
+/// What the row at a place wants, if it is there and of the group.
+fn want_at(rows: &[JobRow], place: usize, group: u64) -> Option<&Want>
+    ensures { option_copied result ≡ want_at rows.now group place }
 {
-    if first.len() != second.len() {
-        return false;
+    match rows.get(place) {
+        None => None,
+        Some(row) => {
+            if row.group == group {
+                Some(&row.want)
+            } else {
+                None
+            }
+        }
     }
-    for at in 0..first.len() {
-        if !same_want(first[at], second[at]) {
+}
+
+/// Whether two wants are the same, or neither is there.
+fn same_option(first: Option<&Want>, second: Option<&Want>) -> bool
+    ensures { result ≡ true → option_copied first.entry ≡ option_copied second.entry }
+{
+    match (first, second) {
+        (None, None) => true,
+        (Some(first), Some(second)) => same_want(first, second),
+        _ => false,
+    }
+}
+
+/// Whether the members of two groups want the same, member for member, where the rows are at most
+/// four and the members stand at the same places.
+pub fn same_members(first: &[JobRow], group: u64, second: &[JobRow], other: u64) -> bool
+    requires few { length first.now ≤ 4 }
+    requires few_others { length second.now ≤ 4 }
+    ensures { result ≡ true → member_wants first.now group ≡ member_wants second.now other }
+{
+    for place in 0..4 {
+        if !same_option(want_at(first, place, group), want_at(second, place, other)) {
             return false;
         }
     }

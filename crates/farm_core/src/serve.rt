@@ -23,9 +23,8 @@ ghost use Rattle.farm_core.specs.Serving.{counted, wants_of};
 ghost use Rattle.farm_core.specs.Tracks.{Tracks};
 
 use crate::draft::Draft;
-use crate::same::same_wants;
 use crate::tables::Tables;
-use crate::unmet::Unmet;
+use crate::unmet::{Known, Unmet};
 use farm_types::calls::Changes;
 use farm_types::claims::{Claim, ClaimKind};
 use farm_types::rows::{JobRow, JobState, Want};
@@ -133,58 +132,6 @@ impl Tables {
             Some(row) => self.pick(&[&row.want]),
         }
     }
-
-    /// What a claim wants.
-    fn wants_of(&self, kind: ClaimKind, number: u64) -> Result<Vec<&Want>, AllocError>
-        requires orderly { IsOrderly (plain self.now) }
-        requires small { IsSmall number }
-        ensures { IfOk result (λ wants. map (λ w. w.now) wants.items
-            ≡ wants_of (plain self.now) kind number) }
-    {
-        let alloc = *self.jobs.allocator();
-        match kind {
-            ClaimKind::Group => wants_in(alloc, self.near(number), number),
-            ClaimKind::Reservation => {
-                let mut wants = Vec::new(alloc);
-                if let Some(row) = self.find_reservation(number) {
-                    wants.push(&row.want)?;
-                }
-                Ok(wants)
-            }
-        }
-    }
-
-    /// Whether a claim wants these boards.
-    fn wants_same(&self, wants: &[&Want], kind: ClaimKind, number: u64) -> Result<bool, AllocError>
-        requires orderly { IsOrderly (plain self.now) }
-        requires small { IsSmall number }
-        ensures { IfOk result (λ same. same ≡ true → map (λ w. w.now) wants.now
-            ≡ wants_of (plain self.now) kind number) }
-    {
-        let others = self.wants_of(kind, number)?;
-        Ok(same_wants(wants, &others))
-    }
-
-    /// Whether a claim wants the same as one that was found unmet, so that no free boards meet it
-    /// either. With J jobs and R reservations it costs O(log (J + R)) and a comparison for each of
-    /// the eight that is looked at.
-    fn is_unmet(&self, unmet: &Unmet, kind: ClaimKind, number: u64) -> Result<bool, AllocError>
-        requires sound { IsSound (plain self.now) }
-        requires small { IsSmall number }
-        requires known { AreUnmet (plain self.now) unmet.now }
-        ensures { IfOk result (λ known. known ≡ true → least (plain self.now).boards
-            (is_free (plain self.now).types) (wants_of (plain self.now) kind number) ≡ None) }
-    {
-        let wants = self.wants_of(kind, number)?;
-        for known in unmet.claims() {
-            if let Some((other, at)) = *known {
-                if other == kind && self.wants_same(&wants, other, at)? {
-                    return Ok(true);
-                }
-            }
-        }
-        Ok(false)
-    }
 }
 
 impl Tables {
@@ -198,21 +145,6 @@ impl Tables {
         match self.find_job(group) {
             Some(job) if job.group == group && all_wait(near, group) => count_in(near, group),
             _ => 0,
-        }
-    }
-
-    /// The next claim behind a priority and a number that may be served, since its queue is open,
-    /// or that may collect, since none does yet and it is of two boards or more.
-    fn next_claim(&self, last: Option<(Priority, u64)>) -> Option<&Claim>
-        ensures { option_copied result ≡ option_map (λ (x : Queued). x.claim)
-            (find (λ (x : Queued). is_later (last_spot last) x.claim
-            && (is_open self.now.queues.boards x.kind
-            || ((self.now.collector == 0) && nat_le 2 x.claim.boards))) self.now.queues.claims) }
-    {
-        if self.collector == 0 {
-            self.queues.next(last, false)
-        } else {
-            self.queues.next(last, false)
         }
     }
 }
@@ -285,8 +217,8 @@ impl Draft {
         }
     }
 
-    /// Tries a claim, unless it wants the same as one that was found unmet: where boards are only
-    /// taken away, what was unmet stays so. One that isn't met is remembered, and may collect.
+    /// Tries a claim. One that isn't met is remembered, since where boards are only taken away, what
+    /// was unmet stays so; and it may collect.
     fn try_claim(
         self,
         unmet: &mut Unmet,
@@ -305,16 +237,17 @@ impl Draft {
             → c.number ≡ number → Among c (queue self.farm) → Serves self c r.1 r.0) }
         ensures known { IfOk result (λ r. AreUnmet r.0.farm unmet.new) }
     {
-        let mut draft = self;
-        if !draft.tables.is_unmet(unmet, kind, number)? {
-            let (next, served) = draft.serve_claim(kind, number)?;
-            if served {
-                return Ok((next, true));
-            }
-            draft = next;
-            unmet.note(kind, number);
+        let (mut draft, served) = self.serve_claim(kind, number)?;
+        if served {
+            return Ok((draft, true));
         }
-        let draft = draft.pass_over(kind, number, boards)?;
+        let place = draft.tables.place_of_claim(kind, number);
+        unmet.note(Known {
+            kind,
+            number,
+            place,
+        });
+        draft = draft.pass_over(kind, number, boards)?;
         Ok((draft, false))
     }
 
@@ -346,10 +279,10 @@ impl Draft {
     /// two members or more that isn't met does, be its queue open or not. Gives how many were
     /// served.
     ///
-    /// A single claim whose queue has no free board isn't looked at, and for one that wants the
-    /// same as one of the last eight that were found unmet no boards are searched. With K queues, C
-    /// claims in open ones, J jobs and F free boards it costs O(K log C + log J) for each of the C
-    /// claims, and O(F) more for each for which boards are searched.
+    /// A single claim whose queue has no free board isn't looked at, and one that wants the same as
+    /// one of the last eight that were found unmet is passed over, unless it may collect. With K
+    /// queues, C claims in open ones, J jobs and F free boards it costs O(K) for each of the C
+    /// claims, and O(K log C + log J + F) more for each for which boards are searched.
     pub fn serve(self, former: u64) -> Result<(Draft, u64), AllocError>
         requires sound { IsSound self.farm }
         requires small { IsSmall former }
@@ -364,7 +297,7 @@ impl Draft {
         let mut unmet = Unmet::none();
         let (mut draft, mut count) = self.serve_former(&mut unmet, former)?;
         let mut last = None;
-        while let Some(claim) = draft.tables.next_claim(last) {
+        while let Some(claim) = draft.tables.next_claim(&unmet, last)? {
             let (kind, number, boards) = (claim.kind, claim.number, claim.boards);
             last = Some((claim.priority, number));
             if kind != ClaimKind::Group || number != former {

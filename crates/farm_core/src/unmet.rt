@@ -8,20 +8,28 @@ use std::marker::Model;
 /// How many claims are remembered.
 const MOST: usize = 8;
 
-/// The last eight claims that were found unmet in a pass, told by their kinds and numbers. It takes
-/// no memory. Contracts see the eight places.
+/// A claim that was found unmet, and where its first row stands in its table, as a guess.
+#[derive(Clone, Copy, Debug, PartialEq, Eq)]
+pub struct Known {
+    pub kind: ClaimKind,
+    pub number: u64,
+    pub place: usize,
+}
+
+/// The last eight claims that were found unmet in a pass. It takes no memory. Contracts see the
+/// eight places.
 #[derive(Drop)]
 pub struct Unmet {
-    claims: [Option<(ClaimKind, u64)>; 8],
+    claims: [Option<Known>; 8],
     /// The place for the next one.
     next: usize,
 }
 
 impl Model for Unmet {
-    ghost use Rattle.std.specs.Prelude.{◌<◌, ℕ, List, Option};
-    ghost use Rattle.farm_types.specs.declared.claims.ClaimKind.{ClaimKind};
+    ghost use Rattle.std.specs.Prelude.{◌<◌, List, Option};
+    ghost use Rattle.farm_core.specs.declared.unmet.Known.{Known};
 
-    ghost Value = { List (Option (ClaimKind × ℕ)) };
+    ghost Value = { List (Option Known) };
 
     ghost view = { λ u. u.claims };
 
@@ -40,17 +48,17 @@ impl Unmet {
     }
 
     /// The claims that are remembered.
-    pub fn claims(&self) -> &[Option<(ClaimKind, u64)>]
+    pub fn claims(&self) -> &[Option<Known>]
         ensures { result.now ≡ self.now }
     {
         &self.claims
     }
 
     /// Remembers a claim, in the place of the oldest one.
-    pub fn note(&mut self, kind: ClaimKind, number: u64)
-        ensures { (place : ℕ) × (self.new ≡ slice_set self.old place (Some (kind, number))) }
+    pub fn note(&mut self, claim: Known)
+        ensures { (place : ℕ) × (self.new ≡ slice_set self.old place (Some claim)) }
     {
-        self.claims[self.next] = Some((kind, number));
+        self.claims[self.next] = Some(claim);
         self.next = (self.next + 1) % MOST;
     }
 }

@@ -46,8 +46,8 @@ fn expect_gone(rt: &impl Abort, clients: &KnownClients<'_>, wanted: &[(&[u8], &[
     let gone = clients.gone();
     assert_eq!(rt; gone.len(), wanted.len());
     for (client, (answer, rest)) in gone.iter().zip(wanted) {
-        assert_eq!(rt; client.answer.as_slice(), *answer);
-        assert_eq!(rt; client.rest, *rest);
+        assert!(rt; client.answer.as_slice() == *answer);
+        assert!(rt; client.rest == *rest);
     }
 }
 

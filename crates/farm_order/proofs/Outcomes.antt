@@ -3,23 +3,31 @@ use Rattle.std.proofs.Common.{Bool, List, [], true, None, Option, Some, inl, inr
 use Rattle.clap.specs.Kinds.{HasKind, IsAmong, Kinds}
 use Rattle.clap.specs.Words.{App, HasMatchesOf, Row, Text, fault_of, is_simple_and_free, kind_of, subcommand_of, subcommand_rows_of}
 use Rattle.clap.specs.declared.error.Error.{Error}
-use Rattle.clap.specs.declared.error.kind.ErrorKind.TheVariants.{DisplayHelp, OutOfMemory}
+use Rattle.clap.specs.declared.error.kind.ErrorKind.{ErrorKind}
+use Rattle.clap.specs.declared.error.kind.ErrorKind.TheVariants.{DisplayHelp, DisplayVersion, OutOfMemory}
 use Rattle.clap.specs.declared.parser.matches.ArgMatches.{ArgMatches}
 use Rattle.farm_order.specs.App.{farm_app}
-use Rattle.farm_order.specs.Faults.{IsFaultAmong, IsOfKind}
+use Rattle.farm_order.specs.Faults.{IsAnswer, IsFaultAmong, IsOfKind}
 use Rattle.farm_order.specs.Orders.{Form, IsInBounds, leaves_choice, order_in}
 use Rattle.farm_order.specs.declared.fault.OrderFault.{OrderFault}
 use Rattle.farm_order.specs.declared.fault.OrderFault.TheVariants.{Help, Words, NoMemory}
 use Rattle.farm_order.proofs.Values.{IsSettled}
 use Rattle.farm_order.proofs.WalkedFarm.{faultless_order}
 
-two_kinds : OutOfMemory ≡ DisplayHelp → ⊥
-two_kinds h = cc
+is_help : OutOfMemory ≡ DisplayHelp → ⊥
+is_help h = cc
+
+is_version : OutOfMemory ≡ DisplayVersion → ⊥
+is_version h = cc
+
+no_answer : (kind : ErrorKind) → kind ≡ OutOfMemory → IsAnswer kind → ⊥
+no_answer kind m (inl h) = is_help (sym m ∙ h)
+no_answer kind m (inr v) = is_version (sym m ∙ v)
 
 among : (kinds : Kinds) (named : Option (Text × List Row)) (e : Error) (f : OrderFault) → HasKind kinds e → IsOfKind (kind_of e) f
     → IsFaultAmong kinds named f
-among kinds named e (Help t) (inl m) o = absurd (two_kinds (sym m ∙ o))
-among kinds named e (Help t) (inr a) o = subst (λ k. IsAmong k kinds) o a
+among kinds named e (Help t) (inl m) o = absurd (no_answer (kind_of e) m o)
+among kinds named e (Help t) (inr a) o = (kind_of e, a, o)
 among kinds named e (Words t) (inl m) o = absurd (o.0 m)
 among kinds named e (Words t) (inr a) o = inl (kind_of e, a, o.1)
 among kinds named e NoMemory h o = tt
@@ -34,7 +42,7 @@ parse_fault app words e f is kinds o =
 
 -- an error for want of memory
 pub memory_fault : (e : Error) (f : OrderFault) → kind_of e ≡ OutOfMemory → IsOfKind (kind_of e) f → f ≡ NoMemory
-memory_fault e (Help t) m o = absurd (two_kinds (sym m ∙ o))
+memory_fault e (Help t) m o = absurd (no_answer (kind_of e) m o)
 memory_fault e (Words t) m o = absurd (o.0 m)
 memory_fault e NoMemory m o = refl
 

@@ -82,10 +82,11 @@ report_app = with_rule (with_rule (with_rule (with_rule (new_app (codes "report"
     (db_rule true)) (offset_rule (codes "east"))) (offset_rule (codes "west")))
     (positional_rule (codes "which"))
 
--- the program: one of its subcommands has to follow
+-- the program: it tells its version, or one of its subcommands has to follow
 abbrev pub farm_app : App
 farm_app = with_subcommand (with_subcommand (with_subcommand (with_subcommand (with_subcommand
-    (on_top (λ s. record s { subcommand_required = true }) (new_app (codes "farm")))
+    (on_top (λ s. record s { has_version = true; subcommand_required = true })
+    (new_app (codes "farm")))
     once_app.top) init_app.top) import_app.top) serve_app.top) report_app.top
 
 -- a command that is this subcommand of each command that it is added to

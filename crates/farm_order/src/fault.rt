@@ -10,7 +10,7 @@ use thiserror::Error;
 /// Why words give no order.
 #[derive(Debug, Drop, Error)]
 pub enum OrderFault {
-    /// Help was asked for: the text to print on the output.
+    /// Help, or the version, was asked for: the text to print on the output.
     #[error("help")]
     Help(String),
     /// The words are refused: the text to print beside the output.
@@ -40,7 +40,7 @@ pub(crate) fn fault_of(alloc: Global, error: &ClapError) -> OrderFault
     };
     match error.kind() {
         ErrorKind::OutOfMemory => OrderFault::NoMemory,
-        ErrorKind::DisplayHelp => OrderFault::Help(text),
+        ErrorKind::DisplayHelp | ErrorKind::DisplayVersion => OrderFault::Help(text),
         _ => OrderFault::Words(text),
     }
 }

@@ -27,7 +27,8 @@ pub fn order_of(alloc: Global, words: &[String]) -> Result<Order, OrderFault>
         kinds_of farm_app (map string_bytes words.now) ≡ []) }
     ensures bounds { IfOk result (λ order. IsInBounds (form_of order)) }
 
-    // Help comes where the words ask for it, and Words where something else is wrong with them.
+    // Help comes where the words ask for it or for the version, and Words where something else is
+    // wrong with them.
     ensures fault { IfErr result (IsFaultAmong
         (kinds_of farm_app (map string_bytes words.now))
         (subcommand_of farm_app (map string_bytes words.now))) }
@@ -54,6 +55,9 @@ fn open_choice(matches: &ArgMatches<'_>) -> &'static str {
         NO_REPORT
     }
 }
+
+/// The program's version, which `--version` prints behind its name.
+const VERSION: &str = "1.0";
 
 const NO_PLACE: &str = "\
 error: exactly one of '--memory' and '--db <FILE>' has to be provided
@@ -234,6 +238,7 @@ fn farm_command<'a>(alloc: Global) -> Result<Command<'a>, AllocError>
 {
     Command::new(alloc, "farm")
         .about("The desk of a board farm: people and queued test jobs share the boards of a lab")
+        .version(VERSION)
         .subcommand_required(true)
         .subcommand(once_command(alloc)?)?
         .subcommand(init_command(alloc)?)?

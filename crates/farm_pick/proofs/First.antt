@@ -19,7 +19,7 @@ pub rank_total : IsTotalOrder rank_cmp
 rank_total = then_total (on_total (λ (s : Spot). s.priority) (back_total nat_cmp_total)) (on_total (λ (s : Spot). s.number) nat_cmp_total)
 
 -- in one queue
-same_queue : (s t : Spot) → s.queue ≡ t.queue → spot_cmp s t ≡ rank_cmp s t
+pub same_queue : (s t : Spot) → s.queue ≡ t.queue → spot_cmp s t ≡ rank_cmp s t
 same_queue s t is = ap (λ o. ordering_then o (rank_cmp s t)) (ap (nat_cmp s.queue) (sym is) ∙ tied_itself nat_cmp_total s.queue)
 
 -- the claim that is found has the rank of its spot
@@ -51,7 +51,7 @@ shown_rank s t c d one other =
     ∙ ap (λ n. ordering_then (nat_cmp t.priority s.priority) (nat_cmp n d.number)) (sym one.number)
     ∙ ap (λ n. ordering_then (nat_cmp t.priority s.priority) (nat_cmp s.number n)) (sym other.number)
 
-below : (n q : ℕ) → q < n + 1 → (q < n) ⊎ (q ≡ n)
+pub below : (n q : ℕ) → q < n + 1 → (q < n) ⊎ (q ≡ n)
 below n q low = by (nat_lt_or n q)
   where
     nat_lt_or : (n q : ℕ) → (q < n) ⊎ (n ≤ q)

@@ -19,6 +19,8 @@ pub mod Shown
 pub mod Apart
 pub mod Taken
 pub mod Headed
+pub mod Sieved
+pub mod Walking
 pub mod Listed
 pub mod Bridge
 pub mod Spots

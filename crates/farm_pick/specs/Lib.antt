@@ -5,6 +5,7 @@ pub mod Queue
 pub mod Queued
 pub mod Merged
 pub mod Heads
+pub mod Walked
 pub mod Kept
 pub mod Several
 pub mod Fitting

@@ -4,7 +4,7 @@
 //! Read `specs/` in the order Test, Choice, Least, Queue for the least list and the queue of a
 //! farm's rows; then Queued, what stands in the queues that are kept, and Merged, the pass over
 //! them, and Follow, what commands and a pass leave of them; then Kept and Several, how they are
-//! kept, Heads, how their first claims are found, and Fitting.
+//! kept, Heads, how their first claims are found, Walked, how all are lent in order, and Fitting.
 #![tactic(auto)]
 
 mod candidates;
@@ -24,6 +24,7 @@ mod search;
 mod several;
 mod spot;
 mod waiting;
+mod walk;
 
 pub use candidates::Candidates;
 pub use fit::{carries_all, is_free};
@@ -38,3 +39,4 @@ pub use picked::Picked;
 pub use queue::queue_of;
 pub use queues::Queues;
 pub use search::{least, least_of};
+pub use walk::Walk;

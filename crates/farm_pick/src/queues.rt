@@ -11,6 +11,7 @@ ghost use Rattle.farm_types.specs.Table.{board_cmp, put};
 ghost use Rattle.farm_pick.specs.Least.{boards_at};
 ghost use Rattle.farm_pick.specs.Heads.{is_later, last_spot};
 ghost use Rattle.farm_pick.specs.Queued.{AreKindsOf, head_of, idle_board, is_open};
+ghost use Rattle.farm_pick.specs.Walked.{walked};
 ghost use Rattle.farm_pick.specs.Kept.{queued_cmp, named_cmp};
 
 use crate::heads::Heads;
@@ -18,6 +19,7 @@ use crate::idle::{self, IdleRow};
 use crate::picked::Picked;
 use crate::several::{self, Rank};
 use crate::spot::{self, Place, Spot};
+use crate::walk::Walk;
 use crate::{idle_search, kind, waiting};
 use farm_types::asked::Wants;
 use farm_types::claims::Claim;
@@ -175,6 +177,22 @@ impl Queues {
     {
         let last = spot::last_spot(after);
         Heads::new(&self.kinds, &self.claims, &self.idle, last, all)
+    }
+
+    /// Lends the claims that come after a priority and a number, if they are given, in the order
+    /// `before`; without `all` only those of queues that are open. It takes memory for one place in
+    /// each queue.
+    ///
+    /// With C claims and K types it costs O(K log C) to begin, and then a comparison a queue for
+    /// each claim that is lent, and no search.
+    pub fn walk(&self, after: Option<(Priority, u64)>, all: bool) -> Result<Walk<'_>, AllocError>
+        ensures { IfOk result (λ walk. walk ≡ walked (λ k. all || is_open self.now.boards k)
+            (last_spot after) self.now.claims) }
+    {
+        let alloc = *self.kinds.allocator();
+        let last = spot::last_spot(after);
+        let walk = Walk::new(alloc, &self.kinds, &self.claims, &self.idle, last, all)?;
+        Ok(walk)
     }
 
     /// The first claim that comes after a priority and a number, if they are given, in the order

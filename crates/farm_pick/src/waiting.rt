@@ -116,7 +116,7 @@ fn earlier<'a>(first: Option<&'a Claim>, second: Option<&'a Claim>) -> Option<&'
 }
 
 /// Whether the queue is looked at.
-fn is_seen(rows: &[IdleRow], queue: usize, all: bool) -> bool
+pub fn is_seen(rows: &[IdleRow], queue: usize, all: bool) -> bool
     ensures { result ≡ (all || queue_open rows.now queue) }
 {
     all || idle::is_open(rows, queue)

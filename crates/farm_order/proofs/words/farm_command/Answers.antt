@@ -6,7 +6,7 @@ use Rattle.farm_order.proofs.Commands.{last_sub, sub_added}
 use Rattle.farm_order.proofs.words.farm_command.Goals as goal
 
 abbrev bare : App
-bare = on_top (λ s. record s { subcommand_required = true }) (new_app (codes "farm"))
+bare = on_top (λ s. record s { has_version = true; subcommand_required = true }) (new_app (codes "farm"))
 
 pub returns : goal.returns
 returns c =

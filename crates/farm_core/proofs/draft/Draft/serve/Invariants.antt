@@ -3,12 +3,12 @@ use Rattle.farm_core.specs.Serving.{AreUnmet}
 use Rattle.farm_core.proofs.Trying.{Tries, left}
 use Rattle.farm_core.proofs.draft.Draft.serve.Given as goal
 
-abbrev pub invariant-loop-claim : goal.invariant-loop-claim
-invariant-loop-claim l = record {
+abbrev pub invariant-loop-draft : goal.invariant-loop-draft
+invariant-loop-draft l = record {
   tries : Tries l.fn.self.farm l.draft.farm l.draft.queues l.count l.last;
   start : l.draft.start ≡ l.fn.self.start;
   unmet : AreUnmet l.draft.farm l.unmet;
 }
 
-abbrev pub decreases-loop-claim : goal.decreases-loop-claim
-decreases-loop-claim l = left l.draft.queues l.last
+abbrev pub decreases-loop-draft : goal.decreases-loop-draft
+decreases-loop-draft l = left l.draft.queues l.last

@@ -1,0 +1,189 @@
+//! Which claim a pass tries next: claims that want the same as one that was found unmet are passed
+//! over.
+ghost use Rattle.std.specs.Prelude.{◌≡◌, ◌≤◌, ◌||◌, ◌∷◌, [], true, false, length, IfOk, option_map};
+ghost use Rattle.std.specs.Option.{option_copied};
+ghost use Rattle.farm_types.specs.Farm.{Farm, members, res_of};
+ghost use Rattle.farm_types.specs.Sound.{IsSound};
+ghost use Rattle.farm_types.specs.declared.claims.ClaimKind.{ClaimKind};
+ghost use Rattle.farm_types.specs.declared.rows.JobRow.{JobRow};
+ghost use Rattle.farm_pick.specs.Heads.{last_spot};
+ghost use Rattle.farm_pick.specs.Queued.{is_open};
+ghost use Rattle.farm_pick.specs.Walked.{walked};
+ghost use Rattle.farm_core.specs.Plain.{plain};
+ghost use Rattle.farm_core.specs.Orderly.{IsOrderly, IsPlaceOf};
+ghost use Rattle.farm_core.specs.Serving.{AreUnmet, IsLike, IsMissed, Reaches, member_wants};
+
+use crate::held_edits::{GUESS_REACH, place_near, place_of, res_place_of};
+use crate::same::{same_members, same_want};
+use crate::tables::Tables;
+use crate::unmet::{Known, Unmet};
+use farm_sound::seek;
+use farm_types::claims::{Claim, ClaimKind};
+use farm_types::rows::{JobRow, ResRow, Want};
+use farm_types::words::Priority;
+use std::alloc::AllocError;
+
+/// Where the rows of the claims stand that were looked at last, as a guess at those of the next.
+#[derive(Clone, Copy)]
+pub struct Guess {
+    job: usize,
+    reservation: usize,
+}
+
+impl Tables {
+    /// Where the first row of a claim stands in its table, by binary search.
+    pub fn place_of_claim(&self, kind: ClaimKind, number: u64) -> usize
+        requires { IsOrderly (plain self.now) }
+    {
+        match kind {
+            ClaimKind::Group => place_of(&self.jobs, number),
+            ClaimKind::Reservation => res_place_of(&self.reservations, number),
+        }
+    }
+
+    /// The reservation of a number, and its place: one of the few from a guess on, else by binary
+    /// search.
+    fn reservation_near(&self, guess: usize, number: u64) -> Option<(usize, &ResRow)>
+        requires { IsOrderly (plain self.now) }
+        ensures { option_map (λ p. p.1.now) result ≡ res_of (plain self.now) number }
+    {
+        for place in guess..guess.saturating_add(GUESS_REACH) {
+            if let Some(row) = self.reservations.get(place) {
+                if row.number == number {
+                    return Some((place, row));
+                }
+            }
+        }
+        match seek::res_at(&self.reservations, number) {
+            Ok(place) => Some((place, &self.reservations[place])),
+            Err(_gap) => None,
+        }
+    }
+
+    /// Whether a group, whose members are among some rows, wants the same as one that is
+    /// remembered.
+    fn is_like_group(&self, rows: &[JobRow], group: u64, known: &Option<Known>) -> bool
+        requires orderly { IsOrderly (plain self.now) }
+        requires few { length rows.now ≤ 4 }
+        ensures { result ≡ true → IsLike (plain self.now) (member_wants rows.now group) known.now }
+    {
+        match known {
+            None => false,
+            Some(known) => match known.kind {
+                ClaimKind::Reservation => false,
+                ClaimKind::Group => {
+                    let start = place_near(&self.jobs, known.place, known.number);
+                    let others = self.near_from(known.number, start);
+                    same_members(rows, group, others, known.number)
+                }
+            },
+        }
+    }
+
+    /// Whether a reservation's want is that of one that is remembered.
+    fn is_like_reservation(&self, want: &Want, known: &Option<Known>) -> bool
+        requires { IsOrderly (plain self.now) }
+        ensures { result ≡ true → IsLike (plain self.now) (want.now ∷ []) known.now }
+    {
+        match known {
+            None => false,
+            Some(known) => match known.kind {
+                ClaimKind::Group => false,
+                ClaimKind::Reservation => {
+                    match self.reservation_near(known.place, known.number) {
+                        None => false,
+                        Some((_place, row)) => same_want(want, &row.want),
+                    }
+                }
+            },
+        }
+    }
+
+    /// Whether a group, whose first row stands at a place, wants the same as one that was found
+    /// unmet.
+    fn is_group_unmet(&self, unmet: &Unmet, group: u64, start: usize) -> bool
+        requires sound { IsSound (plain self.now) }
+        requires within { start ≤ length (plain self.now).jobs }
+        requires place { IsPlaceOf (λ (r : JobRow). r.number) (plain self.now).jobs group start }
+        requires known { AreUnmet (plain self.now) unmet.now }
+        ensures { result ≡ true → IsMissed (plain self.now) ClaimKind.Group group }
+    {
+        let rows = self.near_from(group, start);
+        for known in unmet.claims() {
+            if self.is_like_group(rows, group, known) {
+                return true;
+            }
+        }
+        false
+    }
+
+    /// Whether a reservation wants the same as one that was found unmet.
+    fn is_reservation_unmet(&self, unmet: &Unmet, row: &ResRow, number: u64) -> bool
+        requires sound { IsSound (plain self.now) }
+        requires row { res_of (plain self.now) number ≡ Some row.now }
+        requires known { AreUnmet (plain self.now) unmet.now }
+        ensures { result ≡ true → IsMissed (plain self.now) ClaimKind.Reservation number }
+    {
+        for known in unmet.claims() {
+            if self.is_like_reservation(&row.want, known) {
+                return true;
+            }
+        }
+        false
+    }
+
+    /// Whether a claim wants the same as one that was found unmet, so that no free boards meet it
+    /// either. Its rows are looked for at a guess first, which comes to where they stand: where
+    /// they are near it costs a comparison for each of the eight that is looked at, else with J
+    /// jobs and R reservations O(log (J + R)) besides.
+    fn is_unmet(&self, unmet: &Unmet, claim: &Claim, guess: &mut Guess) -> bool
+        requires sound { IsSound (plain self.now) }
+        requires known { AreUnmet (plain self.now) unmet.now }
+        ensures { result ≡ true → IsMissed (plain self.now) claim.now.kind claim.now.number }
+    {
+        match claim.kind {
+            ClaimKind::Group => {
+                guess.job = place_near(&self.jobs, guess.job, claim.number);
+                self.is_group_unmet(unmet, claim.number, guess.job)
+            }
+            ClaimKind::Reservation => {
+                match self.reservation_near(guess.reservation, claim.number) {
+                    None => false,
+                    Some((place, row)) => {
+                        guess.reservation = place;
+                        self.is_reservation_unmet(unmet, row, claim.number)
+                    }
+                }
+            }
+        }
+    }
+
+    /// The first claim of the open queues after a priority and a number, if they are given, that
+    /// doesn't want the same as one that was found unmet; no free boards meet those before it.
+    ///
+    /// It takes memory for one place in each queue. With K queues, C claims in open ones and J jobs
+    /// it costs O(K log C + log J) to begin, and then a comparison a queue and one for each of the
+    /// eight that were found unmet for each claim that is passed over.
+    pub fn next_claim(
+        &self,
+        unmet: &Unmet,
+        last: Option<(Priority, u64)>,
+    ) -> Result<Option<&Claim>, AllocError>
+        requires sound { IsSound (plain self.now) }
+        requires known { AreUnmet (plain self.now) unmet.now }
+        ensures { IfOk result (λ claim. Reaches (plain self.now)
+            (walked (λ k. false || is_open self.now.queues.boards k) (last_spot last)
+            self.now.queues.claims) (option_copied claim)) }
+    {
+        let mut guess = Guess {
+            job: 0,
+            reservation: 0,
+        };
+        for claim in self.queues.walk(last, false)? {
+            if !self.is_unmet(unmet, claim, &mut guess) {
+                return Ok(Some(claim));
+            }
+        }
+        Ok(None)
+    }
+}

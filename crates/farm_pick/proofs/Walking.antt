@@ -1,0 +1,532 @@
+-- A walk over several queues lends the claims in the order of the whole queue.
+use Rattle.std.proofs.Common.{◌≡◌, ◌∙◌, ◌&&◌, ◌||◌, ◌<◌, ◌≤◌, ◌+◌, ◌++◌, ◌==◌, ◌⊎◌, ℕ, zero, suc, List, [], ◌∷◌, length, map, get_or, slice_set, Bool, true, false, cond, Option, Some, None, IsSome, is_some, inl, inr, refl, sym, ap, subst, arith}
+use mathlib.Core.Bool.{true≢false}
+use Rattle.std.specs.Cmp.{IsTotalOrder, nat_cmp_total, on_total, then_total}
+use Rattle.std.specs.List.{AllByRecursion, filter, find}
+use Rattle.std.specs.List.Sorted.{IsStrictlySortedBy}
+use Rattle.std.specs.Option.{option_map}
+use Rattle.std.specs.Ordering.{is_eq, is_gt, is_lt, nat_cmp, ordering_then, ordering_reverse}
+use Rattle.std.specs.declared.cmp.Ordering.{Ordering}
+use Rattle.std.specs.declared.cmp.Ordering.TheVariants.{Equal, Greater, Less}
+use Rattle.std.proofs.lemmas.Cmp.{ranked, tied_itself}
+use Rattle.std.proofs.lemmas.List.{get_or-set_same, get_or-set_other, get_or_append_left, get_or_default, get_or_push, length-append, length-set}
+use Rattle.farm_types.specs.Pick.{Among, shown_cmp}
+use Rattle.farm_types.specs.Sound.{EachTwo}
+use Rattle.farm_types.specs.declared.claims.Claim.{Claim}
+use Rattle.farm_sound.proofs.Lists.{among_has}
+use Rattle.farm_sound.proofs.Own.{itself}
+use Rattle.farm_sound.proofs.Tests.{same_number}
+use Rattle.farm_pick.proofs.Apart.{same_open}
+use Rattle.farm_pick.specs.Heads.{AreHeads, IsFirst, is_later, queue_open, rank_cmp, rank_of_claim}
+use Rattle.farm_pick.specs.Kept.{IsKeyed, claim_at, queued_cmp, shown_claims, shown_entry, shown_idle, spot_cmp}
+use Rattle.farm_pick.specs.Queued.{Queued, is_open}
+use Rattle.farm_pick.specs.declared.idle.IdleRow.{IdleRow}
+use Rattle.farm_pick.specs.Walked.{AreCursors, IsAt, IsCursor, IsLeastOf, IsWalk, StandsIn, StepsTo, behind, earlier_place, walk_from, walked}
+use Rattle.farm_pick.specs.declared.spot.Spot.{Spot}
+use Rattle.farm_pick.specs.declared.walk.Cursor.{Cursor}
+use Rattle.farm_pick.proofs.First.{IsRanked, below, found_entry, rank_total, ranked_at, same_queue, shown_rank}
+use Rattle.farm_pick.proofs.Keeping.{queued_total, tie, tied}
+use Rattle.farm_pick.proofs.Ordered.{not_below_itself}
+use Rattle.farm_pick.proofs.Queued.{shown_total}
+use Rattle.farm_pick.proofs.Shown.{first_shown, sorted_put_all}
+use Rattle.farm_pick.proofs.Sieved.{filter_of_none, found_first, found_of_filter, found_passes, found_there, none_of_filter, none_passes, sieve, sieve_on}
+
+-- ---- the entries of a map in order
+
+spot_total : IsTotalOrder spot_cmp
+spot_total = then_total (on_total (λ (s : Spot). s.queue) nat_cmp_total) rank_total
+
+abbrev entry_cmp : Spot × Claim → Spot × Claim → Ordering
+entry_cmp a b = spot_cmp a.0 b.0
+
+entry_total : IsTotalOrder entry_cmp
+entry_total = on_total (λ (e : Spot × Claim). e.0) spot_total
+
+all_unmap : {A B : Type 0} (P : B → Type 0) (f : A → B) (xs : List A) → AllByRecursion P (map f xs) → AllByRecursion (λ x. P (f x)) xs
+all_unmap P f [] all = tt
+all_unmap P f (x ∷ xs) all = (all.0, all_unmap P f xs all.1)
+
+entries_rise : (es : List (Spot × Claim)) → IsStrictlySortedBy spot_cmp (map (λ e. e.0) es) → IsStrictlySortedBy entry_cmp es
+unfolding IsStrictlySortedBy
+entries_rise [] sorted = tt
+entries_rise (e ∷ es) sorted = (all_unmap (λ s. spot_cmp e.0 s ≡ Less) (λ (d : Spot × Claim). d.0) es sorted.0, entries_rise es sorted.1)
+
+-- two spots that are tied are one
+one_spot : (s t : Spot) → is_eq (spot_cmp s t) ≡ true → t ≡ s
+one_spot s t is = let same = tied s t is in λ i. record { queue = sym same.queue i; priority = sym same.priority i; number = sym same.number i }
+
+-- each entry is found at its spot
+found_at : (es : List (Spot × Claim)) → IsStrictlySortedBy entry_cmp es → (e : Spot × Claim) → Among e es → claim_at es e.0 ≡ Some e.1
+unfolding IsStrictlySortedBy
+found_at [] sorted e at = absurd at
+found_at (d ∷ es) sorted e (inl same) =
+    ap (λ o. cond (is_eq o) (Some d.1) (claim_at es e.0)) (ap (spot_cmp e.0) (sym (ap (λ (x : Spot × Claim). x.0) same)) ∙ tied_itself spot_total e.0)
+    ∙ ap (λ (x : Spot × Claim). Some x.1) (sym same)
+found_at (d ∷ es) sorted e (inr later) =
+    by (is_eq (spot_cmp e.0 d.0)) refl ∙ found_at es sorted.1 e later
+  where
+    less : entry_cmp d e ≡ Less
+    less = among_has (λ (x : Spot × Claim). entry_cmp d x ≡ Less) e es sorted.0 later
+
+    by : (v : Bool) → is_eq (spot_cmp e.0 d.0) ≡ v → cond v (Some d.1) (claim_at es e.0) ≡ claim_at es e.0
+    by true is = absurd (not_below_itself spot_cmp spot_total d.0 (subst (λ s. spot_cmp d.0 s ≡ Less) (sym (one_spot e.0 d.0 is)) less))
+    by false is = refl
+
+-- ---- a queue's first claim behind a spot
+
+-- what stands at a spot is an entry
+all_any : (es : List (Spot × Claim)) → AllByRecursion (λ e. Unit {0}) es
+all_any [] = tt
+all_any (e ∷ es) = (tt, all_any es)
+
+entry_at : (es : List (Spot × Claim)) (t : Spot) → IsSome (claim_at es t) → (d : Spot × Claim) × Among d es × (d.0 ≡ t)
+entry_at es t some = by (claim_at es t) refl some
+  where
+    by : (o : Option Claim) → claim_at es t ≡ o → IsSome o → (d : Spot × Claim) × Among d es × (d.0 ≡ t)
+    by None is some = absurd (true≢false (sym some))
+    by (Some c) is some =
+        let e = found_entry (λ e. Unit {0}) (λ x. is_eq (spot_cmp t x)) c es (all_any es) is in
+        (e.0, e.4, one_spot t e.0.0 e.2)
+
+-- a spot behind another isn't in an earlier queue
+queue_rises : (s t : Spot) → is_gt (spot_cmp s t) ≡ false → s.queue ≤ t.queue
+queue_rises s t is = by (nat_cmp s.queue t.queue) refl is
+  where
+    by : (o : Ordering) → nat_cmp s.queue t.queue ≡ o → is_gt (ordering_then o (rank_cmp s t)) ≡ false → s.queue ≤ t.queue
+    by Less so is = let less = ranked s.queue t.queue Less (sym so) in omega arith
+    by Equal so is = let same = ranked s.queue t.queue Equal (sym so) in omega arith
+    by Greater so is = absurd (true≢false is)
+
+not_greater : (o : Ordering) → o ≡ Less → is_gt o ≡ false
+not_greater o is = ap is_gt is
+
+less_of : (o : Ordering) → is_lt o ≡ true → o ≡ Less
+less_of Less is = refl
+less_of Equal is = absurd (true≢false (sym is))
+less_of Greater is = absurd (true≢false (sym is))
+
+true_left : (v w : Bool) → (v && w) ≡ true → v ≡ true
+true_left true w is = refl
+true_left false w is = is
+
+module _ (es : List (Spot × Claim)) (sorted : IsStrictlySortedBy spot_cmp (map (λ e. e.0) es)) (s : Spot) where
+  abbrev is_behind : Spot × Claim → Bool
+  is_behind e = is_lt (spot_cmp s e.0) && true
+
+  rises : IsStrictlySortedBy entry_cmp es
+  rises = entries_rise es sorted
+
+  behind_is : (e : Spot × Claim) → spot_cmp s e.0 ≡ Less → is_behind e ≡ true
+  behind_is e less = ap (λ o. is_lt o && true) less
+
+  -- the first that is left is the first behind the spot
+  first_left : (e : Spot × Claim) (more : List (Spot × Claim)) → behind es s ≡ e ∷ more → (t : Spot) → spot_cmp s t ≡ Less → IsSome (claim_at es t) → is_gt (spot_cmp e.0 t) ≡ false
+  first_left e more is t less some =
+      let d = entry_at es t some in
+      subst (λ u. is_gt (spot_cmp e.0 u) ≡ false) d.2
+      (found_first entry_cmp entry_total is_behind e es rises (found_of_filter is_behind es e more is) d.0 d.1
+      (behind_is d.0 (ap (spot_cmp s) d.2 ∙ less)))
+
+  after_left : (e : Spot × Claim) (more : List (Spot × Claim)) → behind es s ≡ e ∷ more → spot_cmp s e.0 ≡ Less
+  after_left e more is = less_of (spot_cmp s e.0) (true_left (is_lt (spot_cmp s e.0)) true (found_passes is_behind e es (found_of_filter is_behind es e more is)))
+
+  none_left : behind es s ≡ [] → (t : Spot) → spot_cmp s t ≡ Less → claim_at es t ≡ None
+  none_left is t less = by (claim_at es t) refl
+    where
+      by : (o : Option Claim) → claim_at es t ≡ o → o ≡ None
+      by None so = refl
+      by (Some c) so =
+          let d = entry_at es t (ap is_some so) in
+          absurd (none_passes is_behind d.0 es (none_of_filter is_behind es is) d.1 (behind_is d.0 (ap (spot_cmp s) d.2 ∙ less)))
+
+  -- one step on
+  pub stands_in : (rest : List (Spot × Claim)) (o : Option Cursor) → rest ≡ behind es s → StepsTo rest s.queue o → StandsIn es s o
+  stands_in rest None is steps = λ t same less. by (behind es s) refl t same less
+    where
+      by : (xs : List (Spot × Claim)) → behind es s ≡ xs → (t : Spot) → t.queue ≡ s.queue → spot_cmp s t ≡ Less → claim_at es t ≡ None
+      by [] left t same less = none_left left t less
+      by (e ∷ more) left t same less = open_end (claim_at es t) refl
+        where
+          open_end : (o : Option Claim) → claim_at es t ≡ o → o ≡ None
+          open_end None so = refl
+          open_end (Some c) so =
+              let low = queue_rises s e.0 (not_greater (spot_cmp s e.0) (after_left e more left)) in
+              let high = queue_rises e.0 t (first_left e more left t less (ap is_some so)) in
+              absurd (steps e more (is ∙ left) (omega (arith, low, high, same)))
+  stands_in rest (Some x) is steps =
+      let left : behind es s ≡ (steps.0, x.claim.now) ∷ x.rest = sym is ∙ steps.1 in
+      record {
+        spot = steps.0;
+        queue = steps.2;
+        after = after_left (steps.0, x.claim.now) x.rest left;
+        claim = found_at es rises (steps.0, x.claim.now) (found_there is_behind (steps.0, x.claim.now) es (found_of_filter is_behind es (steps.0, x.claim.now) x.rest left));
+        first = λ t same less some. first_left (steps.0, x.claim.now) x.rest left t less some;
+        rest = sieve_on entry_cmp entry_total (λ e. is_lt (spot_cmp s e.0)) (λ e. true)
+            (λ a b is less. ap is_lt (spot_total.trans s a.0 b.0 (less_of (spot_cmp s a.0) is) less)) (steps.0, x.claim.now) x.rest es rises left;
+        sorted = sorted;
+      }
+
+-- ---- the places of a walk
+
+-- a cursor more
+pub cursor_more : (es : List (Spot × Claim)) (test : ℕ → Bool) (last : Spot) (n : ℕ) (cursors : List (Option Cursor)) (o : Option Cursor) → AreCursors es test last n cursors
+    → IsCursor es test (record last { queue = n }) o → AreCursors es test last (n + 1) (cursors ++ (o ∷ []))
+cursor_more es test last n cursors o are new = record {
+  len = length-append cursors (o ∷ []) ∙ ap (λ m. m + 1) are.len;
+  each = λ q low. by q low (below n q low);
+}
+  where
+    by : (q : ℕ) → q < n + 1 → (q < n) ⊎ (q ≡ n) → IsCursor es test (record last { queue = q }) (get_or (cursors ++ (o ∷ [])) q None)
+    by q low (inl less) = subst (IsCursor es test (record last { queue = q })) (sym (get_or_append_left cursors (o ∷ []) None q (let len = are.len in omega (arith, len)))) (are.each q less)
+    by q low (inr same) =
+        subst (λ m. IsCursor es test (record last { queue = m }) (get_or (cursors ++ (o ∷ [])) m None)) (sym same)
+        (subst (IsCursor es test (record last { queue = n })) (sym (get_or_push cursors o None n are.len)) new)
+
+-- one of an open queue, and one of a closed one
+pub cursor_seen : (es : List (Spot × Claim)) (test : ℕ → Bool) (last : Spot) (o : Option Cursor) → test last.queue ≡ true → StandsIn es last o → IsCursor es test last o
+cursor_seen es test last None is stands = λ _. stands
+cursor_seen es test last (Some x) is stands = (is, stands)
+
+pub cursor_unseen : (es : List (Spot × Claim)) (test : ℕ → Bool) (last : Spot) → test last.queue ≡ false → IsCursor es test last None
+cursor_unseen es test last closed = λ is. absurd (true≢false (sym is ∙ closed))
+
+-- two entries of one number are one
+one_entry : (es : List (Spot × Claim)) → EachTwo (λ a b. a.1.number ≡ b.1.number → ⊥) es → (a b : Spot × Claim) → Among a es → Among b es → a.1.number ≡ b.1.number → a ≡ b
+one_entry [] each a b here there same = absurd here
+one_entry (e ∷ es) each a b (inl here) (inl there) same = here ∙ sym there
+one_entry (e ∷ es) each a b (inl here) (inr there) same =
+    absurd (among_has (λ (d : Spot × Claim). e.1.number ≡ d.1.number → ⊥) b es each.0 there (sym (ap (λ (d : Spot × Claim). d.1.number) here) ∙ same))
+one_entry (e ∷ es) each a b (inr here) (inl there) same =
+    absurd (among_has (λ (d : Spot × Claim). e.1.number ≡ d.1.number → ⊥) a es each.0 here (sym (ap (λ (d : Spot × Claim). d.1.number) there) ∙ sym same))
+one_entry (e ∷ es) each a b (inr here) (inr there) same = one_entry es each.1 a b here there same
+
+same_rank : (s t : Spot) → rank_cmp s t ≡ Equal → s.number ≡ t.number
+same_rank s t is = by (nat_cmp t.priority s.priority) is
+  where
+    by : (o : Ordering) → ordering_then o (nat_cmp s.number t.number) ≡ Equal → s.number ≡ t.number
+    by Less is = cc
+    by Equal is = ranked s.number t.number Equal (sym is)
+    by Greater is = cc
+
+-- ---- which claim goes first
+
+-- one that isn't after another goes before what the other does
+no_later : (s t u : Spot) → is_gt (rank_cmp s t) ≡ false → rank_cmp t u ≡ Less → rank_cmp s u ≡ Less
+no_later s t u le less = by (rank_cmp s t) refl le
+  where
+    by : (o : Ordering) → rank_cmp s t ≡ o → is_gt o ≡ false → rank_cmp s u ≡ Less
+    by Less is le = rank_total.trans s t u is less
+    by Equal is le = rank_total.congr s t u is ∙ less
+    by Greater is le = absurd (true≢false le)
+
+-- so far
+abbrev pub LeastBelow : List (Option Cursor) → ℕ → Option (ℕ × Claim) → Type 0
+LeastBelow cursors n None = (i : ℕ) → i < n → get_or cursors i None ≡ None
+LeastBelow cursors n (Some first) =
+    (x : Cursor) × (first.0 < n) × (get_or cursors first.0 None ≡ Some x) × (x.claim.now ≡ first.1)
+    × ((i : ℕ) (y : Cursor) → i < n → get_or cursors i None ≡ Some y → is_lt (shown_cmp y.claim.now first.1) ≡ false)
+
+not_itself : (c : Claim) → is_lt (shown_cmp c c) ≡ false
+not_itself c = ap is_lt (tied_itself shown_total c)
+
+-- what isn't before one isn't before an earlier one
+not_before_less : (a b c : Claim) → is_lt (shown_cmp a c) ≡ false → is_lt (shown_cmp b c) ≡ true → is_lt (shown_cmp a b) ≡ false
+not_before_less a b c above less = by (is_lt (shown_cmp a b)) refl
+  where
+    by : (v : Bool) → is_lt (shown_cmp a b) ≡ v → v ≡ false
+    by true is = absurd (true≢false (sym (ap is_lt (shown_total.trans a b c (less_of (shown_cmp a b) is) (less_of (shown_cmp b c) less))) ∙ above))
+    by false is = refl
+
+some_one : {X : Type 0} (x y : X) → Some x ≡ Some y → x ≡ y
+some_one x y is = cc
+
+pub least_more : (cursors : List (Option Cursor)) (n : ℕ) (o : Option Cursor) (f : Option (ℕ × Claim)) → get_or cursors n None ≡ o → LeastBelow cursors n f
+    → LeastBelow cursors (n + 1) (earlier_place f n o)
+least_more cursors n None None is least = λ i low. by i (below n i low)
+  where
+    by : (i : ℕ) → (i < n) ⊎ (i ≡ n) → get_or cursors i None ≡ None
+    by i (inl less) = least i less
+    by i (inr same) = ap (λ m. get_or cursors m None) same ∙ is
+least_more cursors n None (Some f) is least =
+    (least.0, (let low = least.1 in omega arith), least.2, least.3, λ i y low at. by i y at (below n i low))
+  where
+    by : (i : ℕ) (y : Cursor) → get_or cursors i None ≡ Some y → (i < n) ⊎ (i ≡ n) → is_lt (shown_cmp y.claim.now f.1) ≡ false
+    by i y at (inl less) = least.4 i y less at
+    by i y at (inr same) = let none : ◌≡◌ {A = Option Cursor} None (Some y) = sym is ∙ ap (λ m. get_or cursors m None) (sym same) ∙ at in cc
+least_more cursors n (Some x) None is least = (x, omega arith, is, refl, λ i y low at. by i y at (below n i low))
+  where
+    by : (i : ℕ) (y : Cursor) → get_or cursors i None ≡ Some y → (i < n) ⊎ (i ≡ n) → is_lt (shown_cmp y.claim.now x.claim.now) ≡ false
+    by i y at (inl less) = let none : ◌≡◌ {A = Option Cursor} None (Some y) = sym (least i less) ∙ at in cc
+    by i y at (inr same) =
+        let here = some_one x y (sym is ∙ ap (λ m. get_or cursors m None) (sym same) ∙ at) in
+        ap (λ (z : Cursor). is_lt (shown_cmp z.claim.now x.claim.now)) (sym here) ∙ not_itself x.claim.now
+least_more cursors n (Some x) (Some f) is least = by (is_lt (shown_cmp x.claim.now f.1)) refl
+  where
+    here_or : (d : Claim) → is_lt (shown_cmp x.claim.now d) ≡ false → ((i : ℕ) (y : Cursor) → i < n → get_or cursors i None ≡ Some y → is_lt (shown_cmp y.claim.now d) ≡ false)
+        → (i : ℕ) (y : Cursor) → get_or cursors i None ≡ Some y → (i < n) ⊎ (i ≡ n) → is_lt (shown_cmp y.claim.now d) ≡ false
+    here_or d here_no old i y at (inl less) = old i y less at
+    here_or d here_no old i y at (inr same) =
+        let here = some_one x y (sym is ∙ ap (λ m. get_or cursors m None) (sym same) ∙ at) in
+        ap (λ (z : Cursor). is_lt (shown_cmp z.claim.now d)) (sym here) ∙ here_no
+
+    by : (v : Bool) → is_lt (shown_cmp x.claim.now f.1) ≡ v → LeastBelow cursors (n + 1) (cond v (Some (n, x.claim.now)) (Some f))
+    by true less = (
+      x,
+      omega arith,
+      is,
+      refl,
+      λ i y low at. here_or x.claim.now (not_itself x.claim.now)
+          (λ i y low at. not_before_less y.claim.now x.claim.now f.1 (least.4 i y low at) less) i y at (below n i low),
+    )
+    by false above = (least.0, (let low = least.1 in omega arith), least.2, least.3, λ i y low at. here_or f.1 above least.4 i y at (below n i low))
+
+-- at the end
+pub least_all : (cursors : List (Option Cursor)) (place : ℕ) (claim : Claim) → LeastBelow cursors (length cursors) (Some (place, claim)) → IsLeastOf cursors (Some place)
+least_all cursors place claim least =
+    (least.0, least.1, least.2, λ i y low at. ap (λ d. is_lt (shown_cmp y.claim.now d)) least.3 ∙ least.4 i y low at)
+
+module _ (kinds : List (List ℕ)) (es : List (Spot × Claim)) (keyed : AllByRecursion (IsKeyed kinds) es) (test : ℕ → Bool) (last : Spot) (n : ℕ)
+    (cursors : List (Option Cursor)) (are : AreCursors es test last n cursors) where
+  pub first_none : ((i : ℕ) → i < length cursors → get_or cursors i None ≡ None) → IsFirst es test n last None
+  first_none none = λ t low is less.
+      let cursor = subst (IsCursor es test (record last { queue = t.queue })) (none t.queue (let len = are.len in omega (arith, len))) (are.each t.queue low) in
+      cursor is t refl (same_queue (record last { queue = t.queue }) t refl ∙ less)
+
+  module _ (place : ℕ) (x : Cursor) (low : place < length cursors) (here : get_or cursors place None ≡ Some x)
+      (least : (i : ℕ) (y : Cursor) → i < length cursors → get_or cursors i None ≡ Some y → is_lt (shown_cmp y.claim.now x.claim.now) ≡ false) where
+    pub in_range : place < n
+    in_range = let len = are.len in omega (arith, len)
+
+    pub stands : (test place ≡ true) × IsAt es (record last { queue = place }) x
+    stands = subst (IsCursor es test (record last { queue = place })) here (are.each place in_range)
+
+    abbrev pub at : IsAt es (record last { queue = place }) x
+    at = stands.1
+
+    pub ranked_x : IsRanked at.spot x.claim.now
+    ranked_x = ranked_at kinds es at.spot x.claim.now keyed at.claim
+
+    after_x : rank_cmp last at.spot ≡ Less
+    after_x = sym (same_queue (record last { queue = place }) at.spot (sym at.queue)) ∙ at.after
+
+    -- no claim of another cursor goes before it
+    not_before : (i : ℕ) (y : Cursor) → i < length cursors → get_or cursors i None ≡ Some y → (s : Spot) → claim_at es s ≡ Some y.claim.now → rank_cmp s at.spot ≡ Less → ⊥
+    not_before i y below is s found less =
+        true≢false (sym (ap is_lt (shown_rank s at.spot y.claim.now x.claim.now (ranked_at kinds es s y.claim.now keyed found) ranked_x ∙ less)) ∙ least i y below is)
+
+    nothing_before : (t : Spot) → t.queue < n → test t.queue ≡ true → rank_cmp last t ≡ Less → IsSome (claim_at es t) → rank_cmp t at.spot ≡ Less → ⊥
+    nothing_before t below is after some less = by (get_or cursors t.queue None) refl (are.each t.queue below)
+      where
+        here_less : spot_cmp (record last { queue = t.queue }) t ≡ Less
+        here_less = same_queue (record last { queue = t.queue }) t refl ∙ after
+
+        by : (o : Option Cursor) → get_or cursors t.queue None ≡ o → IsCursor es test (record last { queue = t.queue }) o → ⊥
+        by None so cursor = true≢false (sym some ∙ ap is_some (cursor is t refl here_less))
+        by (Some y) so cursor =
+            let other = cursor.1 in
+            let le = other.first t refl here_less some in
+            not_before t.queue y (let len = are.len in omega (arith, len)) so other.spot other.claim
+            (no_later other.spot t at.spot (sym (ap is_gt (same_queue other.spot t other.queue)) ∙ le) less)
+
+    pub first_some : IsFirst es test n last (Some x.claim.now)
+    first_some = (at.spot, ap_low, ap test at.queue ∙ stands.0, after_x, at.claim, nothing_before)
+      where
+        ap_low : at.spot.queue < n
+        ap_low = let same = at.queue in let low = in_range in omega (arith, same, low)
+
+    -- ---- and the walk goes on
+
+    module _ (apart : EachTwo (λ a b. a.1.number ≡ b.1.number → ⊥) es) (l : Spot) (priority : l.priority ≡ at.spot.priority) (number : l.number ≡ at.spot.number) where
+      same_ranks : (t : Spot) → rank_cmp l t ≡ rank_cmp at.spot t
+      same_ranks t = λ i. ordering_then (nat_cmp t.priority (priority i)) (nat_cmp (number i) t.number)
+
+      later_too : (t : Spot) → rank_cmp l t ≡ Less → rank_cmp last t ≡ Less
+      later_too t less = rank_total.trans last at.spot t after_x (sym (same_ranks t) ∙ less)
+
+      -- a claim of another queue isn't that which was lent
+      differs : (s : Spot) (c : Claim) → claim_at es s ≡ Some c → (s.queue ≡ at.spot.queue → ⊥) → rank_cmp at.spot s ≡ Equal → ⊥
+      differs s c found other tie =
+          let e = found_entry (IsKeyed kinds) (λ t. is_eq (spot_cmp s t)) c es keyed found in
+          let d = found_entry (IsKeyed kinds) (λ t. is_eq (spot_cmp at.spot t)) x.claim.now es keyed at.claim in
+          let es_number = sym e.1.number ∙ sym (tied s e.0.0 e.2).number in
+          let ds_number = sym d.1.number ∙ sym (tied at.spot d.0.0 d.2).number in
+          let one = one_entry es apart e.0 d.0 e.4 d.4 (es_number ∙ sym (same_rank at.spot s tie) ∙ sym ds_number) in
+          other ((tied s e.0.0 e.2).queue ∙ ap (λ (y : Spot × Claim). y.0.queue) one ∙ sym (tied at.spot d.0.0 d.2).queue)
+
+      stays : (q : ℕ) → q < n → (q ≡ place → ⊥) → (o : Option Cursor) → get_or cursors q None ≡ o → IsCursor es test (record last { queue = q }) o
+          → IsCursor es test (record l { queue = q }) o
+      stays q below_n other None is cursor = λ opens t same less.
+          cursor opens t same (same_queue (record last { queue = q }) t (sym same) ∙ later_too t (sym (same_queue (record l { queue = q }) t (sym same)) ∙ less))
+      stays q below_n other (Some y) is cursor = (
+        cursor.0,
+        record {
+          spot = cursor.1.spot;
+          queue = cursor.1.queue;
+          after = same_queue (record l { queue = q }) cursor.1.spot (sym cursor.1.queue) ∙ same_ranks cursor.1.spot ∙ by (rank_cmp at.spot cursor.1.spot) refl;
+          claim = cursor.1.claim;
+          first = λ t same less some.
+              cursor.1.first t same (same_queue (record last { queue = q }) t (sym same) ∙ later_too t (sym (same_queue (record l { queue = q }) t (sym same)) ∙ less)) some;
+          rest = cursor.1.rest;
+          sorted = cursor.1.sorted;
+        },
+      )
+        where
+          by : (o : Ordering) → rank_cmp at.spot cursor.1.spot ≡ o → o ≡ Less
+          by Less so = refl
+          by Equal so = absurd (differs cursor.1.spot y.claim.now cursor.1.claim (λ same. other (sym cursor.1.queue ∙ same ∙ at.queue)) so)
+          by Greater so =
+              absurd (not_before q y (let len = are.len in omega (arith, len)) is cursor.1.spot cursor.1.claim
+              (rank_total.antisymm cursor.1.spot at.spot ∙ ap ordering_reverse so))
+
+      moved : (o : Option Cursor) → StepsTo x.rest place o → IsCursor es test (record l { queue = place }) o
+      moved o steps =
+          let here_is : at.spot ≡ record l { queue = place } = λ i. record { queue = at.queue i; priority = sym priority i; number = sym number i } in
+          cursor_seen es test (record l { queue = place }) o stands.0
+          (subst (λ s. StandsIn es s o) here_is
+          (stands_in es at.sorted at.spot x.rest o at.rest (subst (λ q. StepsTo x.rest q o) (sym at.queue) steps)))
+
+      pub cursors_on : (o : Option Cursor) → StepsTo x.rest place o → AreCursors es test l n (slice_set cursors place o)
+      cursors_on o steps = record {
+        len = length-set cursors place o ∙ are.len;
+        each = λ q below_n. by q below_n (q == place) refl;
+      }
+        where
+          by : (q : ℕ) → q < n → (v : Bool) → (q == place) ≡ v → IsCursor es test (record l { queue = q }) (get_or (slice_set cursors place o) q None)
+          by q below_n true is =
+              let same = same_number q place is in
+              subst (λ m. IsCursor es test (record l { queue = m }) (get_or (slice_set cursors place o) m None)) (sym same)
+              (subst (IsCursor es test (record l { queue = place })) (sym (get_or-set_same cursors place o None low)) (moved o steps))
+          by q below_n false is =
+              let other : q ≡ place → ⊥ = λ same. true≢false (sym (ap (λ m. m == place) same ∙ itself place) ∙ is) in
+              subst (IsCursor es test (record l { queue = q })) (sym (get_or-set_other cursors place q o None other))
+              (stays q below_n other (get_or cursors q None) refl (are.each q below_n))
+
+-- ---- what the walk shows
+
+-- what is behind one that is after a spot is so too
+rank_up : (last : Spot) (x y : Queued) → is_later last x.claim ≡ true → queued_cmp x y ≡ Less → is_later last y.claim ≡ true
+rank_up last x y is less =
+    ap is_lt (rank_total.trans last (record { queue = 0; priority = x.claim.priority; number = x.claim.number }) (record { queue = 0; priority = y.claim.priority; number = y.claim.number })
+    (less_of (rank_of_claim last x.claim) is) less)
+
+-- behind a claim there are those that are after it
+pub walked_on : (opens : Option (List ℕ) → Bool) (last : Spot) (xs : List Queued) → IsStrictlySortedBy queued_cmp xs → (c : Claim) (cs : List Claim) → walked opens last xs ≡ c ∷ cs
+    → (l : Spot) → l.priority ≡ c.priority → l.number ≡ c.number
+    → (option_map (λ (x : Queued). x.claim) (find (λ x. is_later last x.claim && opens x.kind) xs) ≡ Some c) × (cs ≡ walked opens l xs)
+walked_on opens last xs sorted c cs is l priority number = by (filter (λ x. is_later last x.claim && opens x.kind) xs) refl is
+  where
+    by : (ys : List Queued) → filter (λ x. is_later last x.claim && opens x.kind) xs ≡ ys → map (λ (x : Queued). x.claim) ys ≡ c ∷ cs
+        → (option_map (λ (x : Queued). x.claim) (find (λ x. is_later last x.claim && opens x.kind) xs) ≡ Some c) × (cs ≡ walked opens l xs)
+    by [] at is = cc
+    by (x ∷ ys) at is =
+        let same : x.claim ≡ c = cc in
+        let rest : map (λ (x : Queued). x.claim) ys ≡ cs = cc in
+        let low : x.claim.priority ≡ l.priority = ap (λ (d : Claim). d.priority) same ∙ sym priority in
+        let num : x.claim.number ≡ l.number = ap (λ (d : Claim). d.number) same ∙ sym number in (
+          ap (option_map (λ (x : Queued). x.claim)) (found_of_filter (λ x. is_later last x.claim && opens x.kind) xs x ys at) ∙ ap Some same,
+          sym rest
+              ∙ ap (map (λ (y : Queued). y.claim))
+              (sieve_on queued_cmp queued_total (λ y. is_later last y.claim) (λ y. opens y.kind) (λ y z so less. rank_up last y z so less) x ys xs sorted at)
+              ∙ (λ i. map (λ (y : Queued). y.claim)
+              (filter (λ y. is_lt (ordering_then (nat_cmp y.claim.priority (low i)) (nat_cmp (num i) y.claim.number)) && opens y.kind) xs)),
+        )
+
+-- and where none is left none is found
+pub walked_none : (opens : Option (List ℕ) → Bool) (last : Spot) (xs : List Queued) → walked opens last xs ≡ []
+    → option_map (λ (x : Queued). x.claim) (find (λ x. is_later last x.claim && opens x.kind) xs) ≡ None
+walked_none opens last xs is = by (filter (λ x. is_later last x.claim && opens x.kind) xs) refl is
+  where
+    by : (ys : List Queued) → filter (λ x. is_later last x.claim && opens x.kind) xs ≡ ys → map (λ (x : Queued). x.claim) ys ≡ []
+        → option_map (λ (x : Queued). x.claim) (find (λ x. is_later last x.claim && opens x.kind) xs) ≡ None
+    by [] at is = ap (option_map (λ (x : Queued). x.claim)) (none_of_filter (λ x. is_later last x.claim && opens x.kind) xs at)
+    by (x ∷ ys) at is = cc
+
+module _ (kinds : List (List ℕ)) (es : List (Spot × Claim)) (rows : List IdleRow) (are : AreHeads kinds es rows) (all : Bool) (last : Spot) where
+  abbrev opens : Option (List ℕ) → Bool
+  opens k = all || is_open (map (shown_idle kinds) rows) k
+
+  abbrev shows : Queued → Bool
+  shows x = is_later last x.claim && opens x.kind
+
+  abbrev shown : List Queued
+  shown = shown_claims kinds es
+
+  found : (o : Option Claim) → IsFirst es (λ q. all || queue_open rows q) (length kinds + 1) last o → o ≡ option_map (λ (x : Queued). x.claim) (find shows shown)
+  found o first =
+      first_shown kinds es are.keyed are.apart last (λ q. all || queue_open rows q) opens
+      (λ q low. ap (λ v. all || v) (same_open kinds are.idle.apart rows are.idle.each q low)) o first
+
+  pub walk_end : IsFirst es (λ q. all || queue_open rows q) (length kinds + 1) last None → walk_from kinds es rows all last ≡ []
+  walk_end first = by (find shows shown) refl (found None first)
+    where
+      by : (o : Option Queued) → find shows shown ≡ o → None ≡ option_map (λ (x : Queued). x.claim) o → walk_from kinds es rows all last ≡ []
+      by None is none = ap (map (λ (x : Queued). x.claim)) (filter_of_none shows shown is)
+      by (Some x) is none = cc
+
+  pub walk_on : (c : Claim) (l : Spot) → l.priority ≡ c.priority → l.number ≡ c.number → IsFirst es (λ q. all || queue_open rows q) (length kinds + 1) last (Some c)
+      → walk_from kinds es rows all last ≡ c ∷ walk_from kinds es rows all l
+  walk_on c l priority number first = by (find shows shown) refl (found (Some c) first)
+    where
+      by : (o : Option Queued) → find shows shown ≡ o → Some c ≡ option_map (λ (x : Queued). x.claim) o → walk_from kinds es rows all last ≡ c ∷ walk_from kinds es rows all l
+      by None is some = cc
+      by (Some x) is some =
+          let same : c ≡ x.claim = cc in
+          let low : x.claim.priority ≡ l.priority = sym (priority ∙ ap (λ (d : Claim). d.priority) same) in
+          let num : x.claim.number ≡ l.number = sym (number ∙ ap (λ (d : Claim). d.number) same) in
+          ap (map (λ (y : Queued). y.claim))
+          (sieve queued_cmp queued_total (λ y. is_later last y.claim) (λ y. opens y.kind) (λ y z so less. rank_up last y z so less) x shown (sorted_put_all queued_cmp queued_total shows (map (shown_entry kinds) es)) is)
+          ∙ (λ i. sym same i ∷ map (λ (y : Queued). y.claim)
+          (filter (λ y. is_lt (ordering_then (nat_cmp y.claim.priority (low i)) (nat_cmp (num i) y.claim.number)) && opens y.kind) shown))
+
+-- ---- a turn of the walk
+
+pub walk_none : (kinds : List (List ℕ)) (es : List (Spot × Claim)) (rows : List IdleRow) (all : Bool) (last : Spot) (cursors cs : List (Option Cursor)) → cs ≡ cursors
+    → IsWalk kinds es rows all last cursors → IsLeastOf cs None → walk_from kinds es rows all last ≡ []
+walk_none kinds es rows all last cursors cs same walk none =
+    walk_end kinds es rows walk.heads all last
+    (first_none kinds es walk.heads.keyed (λ q. all || queue_open rows q) last (length kinds + 1) cursors walk.cursors_at (subst (λ xs. IsLeastOf xs None) same none))
+
+-- the cursor that is taken is there
+pub taken_there : (cursors cs : List (Option Cursor)) (place : ℕ) → cs ≡ cursors → IsLeastOf cs (Some place) → (o : Option Cursor) → o ≡ get_or cursors place o → o ≡ get_or cursors place None
+taken_there cursors cs place same least o is =
+    is ∙ get_or_default cursors place o None (let low = least.1 in let len : length cs ≡ length cursors = ap length same in omega (arith, low, len))
+
+pub not_none : (cursors cs : List (Option Cursor)) (place : ℕ) → cs ≡ cursors → IsLeastOf cs (Some place) → None ≡ get_or cursors place None → ⊥
+not_none cursors cs place same least none =
+    let two : ◌≡◌ {A = Option Cursor} None (Some least.0) = none ∙ ap (λ xs. get_or xs place None) (sym same) ∙ least.2 in
+    cc
+
+set_twice : (xs : List (Option Cursor)) (i : ℕ) (a b : Option Cursor) → slice_set (slice_set xs i a) i b ≡ slice_set xs i b
+set_twice [] i a b = refl
+set_twice (x ∷ xs) zero a b = refl
+set_twice (x ∷ xs) (suc i) a b = ap (λ ys. x ∷ ys) (set_twice xs i a b)
+
+module _ (kinds : List (List ℕ)) (es : List (Spot × Claim)) (rows : List IdleRow) (all : Bool) (last : Spot) (cursors cs : List (Option Cursor)) (same : cs ≡ cursors)
+    (walk : IsWalk kinds es rows all last cursors) (place : ℕ) (least : IsLeastOf cs (Some place)) (x : Cursor) (taken : Some x ≡ get_or cursors place None) where
+  abbrev opens_at : ℕ → Bool
+  opens_at q = all || queue_open rows q
+
+  least_here : IsLeastOf cursors (Some place)
+  least_here = subst (λ xs. IsLeastOf xs (Some place)) same least
+
+  is_x : least_here.0 ≡ x
+  is_x = some_one least_here.0 x (sym least_here.2 ∙ sym taken)
+
+  least_x : (i : ℕ) (y : Cursor) → i < length cursors → get_or cursors i None ≡ Some y → is_lt (shown_cmp y.claim.now x.claim.now) ≡ false
+  least_x i y low at = ap (λ (z : Cursor). is_lt (shown_cmp y.claim.now z.claim.now)) (sym is_x) ∙ least_here.3 i y low at
+
+  pub lends_on : (l : Spot) → l.priority ≡ x.claim.now.priority → l.number ≡ x.claim.now.number → walk_from kinds es rows all last ≡ x.claim.now ∷ walk_from kinds es rows all l
+  lends_on l priority number =
+      walk_on kinds es rows walk.heads all last x.claim.now l priority number
+      (first_some kinds es walk.heads.keyed opens_at last (length kinds + 1) cursors walk.cursors_at place x least_here.1 (sym taken) least_x)
+
+  pub walks_on : (l : Spot) → l.priority ≡ x.claim.now.priority → l.number ≡ x.claim.now.number → (a o : Option Cursor) → StepsTo x.rest place o
+      → IsWalk kinds es rows all l (slice_set (slice_set cursors place a) place o)
+  walks_on l priority number a o steps =
+      let ranked = ranked_x kinds es walk.heads.keyed opens_at last (length kinds + 1) cursors walk.cursors_at place x least_here.1 (sym taken) least_x in
+      record {
+        heads = walk.heads;
+        cursors_at = subst (AreCursors es opens_at l (length kinds + 1)) (sym (set_twice cursors place a o))
+            (cursors_on kinds es walk.heads.keyed opens_at last (length kinds + 1) cursors walk.cursors_at place x least_here.1 (sym taken) least_x walk.heads.apart l
+            (priority ∙ sym ranked.priority) (number ∙ sym ranked.number) o steps);
+      }
