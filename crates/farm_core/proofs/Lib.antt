@@ -14,13 +14,13 @@ pub mod OneWant
 pub mod Serving
 pub mod Passing
 pub mod Checking
-pub mod Collected
 pub mod Whole
 pub mod BoardWindow
 pub mod Free
 pub mod Given
 pub mod Leasing
-pub mod Trying
 pub mod Skipping
+pub mod Next
+pub mod Trying
 pub mod Commanded
 pub mod Filled

@@ -6,7 +6,7 @@ use Rattle.std.specs.Str.{bytes_eq}
 use Rattle.std.proofs.lemmas.List.{take_more}
 use Rattle.std.proofs.lemmas.Slice.Eq.{bytes_eq-Decides}
 use Rattle.farm_types.specs.Farm.{Farm, res_of}
-use Rattle.farm_types.specs.Pass.{Served, give, serve}
+use Rattle.farm_types.specs.Pass.{Served, give, pass_over, serve}
 use Rattle.farm_types.specs.Pick.{Among, Claimed, is_free, least, queue, shown_claim}
 use Rattle.farm_types.specs.Small.{IsSmall}
 use Rattle.farm_types.specs.Sound.{EachTwo, IsSound}
@@ -18,16 +18,15 @@ use Rattle.farm_types.specs.declared.rows.Want.{Want}
 use Rattle.farm_sound.proofs.Claims.{IsClaim, queue_claims}
 use Rattle.farm_sound.proofs.Lists.{among_has}
 use Rattle.farm_sound.proofs.Tests.{same_number}
-use Rattle.farm_pick.specs.Queued.{Lists, Queued}
 use Rattle.farm_pick.proofs.Filling.{numbers_differ}
 use Rattle.farm_pick.proofs.Giving.{giving_follows}
-use Rattle.farm_pick.proofs.Merging.{among_later, unmet_stays, unserved}
+use Rattle.farm_pick.proofs.Collects.{collecting_follows}
+use Rattle.farm_pick.proofs.Later.{among_later}
+use Rattle.farm_pick.proofs.Merging.{unmet_stays}
 use Rattle.farm_core.specs.Drafted.{Drafted}
-use Rattle.farm_core.specs.Following.{without_boards}
 use Rattle.farm_core.specs.declared.unmet.Known.{Known}
 use Rattle.farm_core.specs.Serving.{AreUnmet, Asks, IfUnmet, IsLike, IsUnmet, Serves, counted, member_wants, want_at, want_in, wants_of}
 use Rattle.farm_core.proofs.Passing.{asks_claim, small_claim}
-use Rattle.farm_core.proofs.Serving.{names_of}
 
 -- ---- equal lists
 
@@ -86,7 +85,7 @@ all_taken (suc n) (x ∷ xs) low = ap (λ ys. x ∷ ys) (all_taken n xs (omega a
 
 -- ---- what a claim wants, by its rows
 
-wants_asked : (F : Farm) (c : Claimed) → Asks c.reservation F c → c.wants ≡ wants_of F (shown_claim c).kind c.number
+pub wants_asked : (F : Farm) (c : Claimed) → Asks c.reservation F c → c.wants ≡ wants_of F (shown_claim c).kind c.number
 wants_asked F c asks = by c.reservation asks
   where
     some : (o : Option ResRow) → IsSomeAnd o (λ r. c.wants ≡ r.want ∷ []) → c.wants ≡ option_map_or (λ (r : ResRow). r.want ∷ []) o []
@@ -123,24 +122,9 @@ like_unmet F places wants i d sound all low like =
     ap (least F.boards (is_free F.types)) like.2
     ∙ wants_unmet F like.0.kind like.0.number sound (unmet_at F places i d (Some like.0) all low like.1)
 
--- ---- a claim that is passed over
-
-pub skipped : (D : Drafted) (c : Claimed) (kind : ClaimKind) → (shown_claim c).kind ≡ kind → (number : ℕ) → c.number ≡ number → Asks c.reservation D.farm c
-    → least D.farm.boards (is_free D.farm.types) (wants_of D.farm kind number) ≡ None → Serves D c false D
-skipped D c kind is number same asks none =
-    let unmet : least D.farm.boards (is_free D.farm.types) c.wants ≡ None =
-    ap (least D.farm.boards (is_free D.farm.types)) (wants_asked D.farm c asks ∙ (λ i. wants_of D.farm (is i) (same i))) ∙ none in (
-      λ n. unserved D.farm.clock (record { farm = D.farm; claims = n }) c unmet,
-      refl,
-      sym (ap (λ o. option_map_or {U = Lists} (λ bs. record {
-        claims = filter (λ (x : Queued). not (x.claim.number == c.number)) D.queues.claims;
-        boards = without_boards (names_of bs) D.queues.boards;
-      }) o D.queues) unmet),
-    )
-
 -- ---- what is unmet stays so
 
-one_of : (a b : Claimed) (xs : List Claimed) → EachTwo (λ (c d : Claimed). c.number ≡ d.number → ⊥) xs → Among a xs → Among b xs → a.number ≡ b.number → a ≡ b
+pub one_of : (a b : Claimed) (xs : List Claimed) → EachTwo (λ (c d : Claimed). c.number ≡ d.number → ⊥) xs → Among a xs → Among b xs → a.number ≡ b.number → a ≡ b
 one_of a b [] each here there same = absurd here
 one_of a b (x ∷ xs) each (inl here) (inl there) same = here ∙ sym there
 one_of a b (x ∷ xs) each (inl here) (inr there) same =
@@ -152,7 +136,7 @@ one_of a b (x ∷ xs) each (inr here) (inr there) same = one_of a b xs each.1 he
 module _ (F G : Farm) (c : Claimed) (served : Bool) (sound : IsSound F) (at : Among c (queue F))
     (serves : (n : ℕ) → serve F.clock (record { farm = F; claims = n }) c ≡ record { farm = G; claims = counted n served }) where
   abbrev come : Option (List BoardRow) → Farm
-  come o = (option_map_or {U = Served} (λ bs. record { farm = give F c bs F.clock; claims = 0 + 1 }) o (record { farm = F; claims = 0 })).farm
+  come o = (option_map_or {U = Served} (λ bs. record { farm = give F c bs F.clock; claims = 0 + 1 }) o (record { farm = pass_over F c; claims = 0 })).farm
 
   still_among : (d : Claimed) → Among d (queue F) → least F.boards (is_free F.types) d.wants ≡ None → Among d (queue G)
   still_among d here unmet =
@@ -166,7 +150,7 @@ module _ (F G : Farm) (c : Claimed) (served : Bool) (sound : IsSound F) (at : Am
       other bs met false differs = ap not differs
 
       by : (o : Option (List BoardRow)) → least F.boards (is_free F.types) c.wants ≡ o → Among d (queue (come o))
-      by None is = here
+      by None is = subst (Among d) (sym (collecting_follows F sound c at)) here
       by (Some bs) is =
           let two = giving_follows F c bs F.clock sound (omega arith) at is in
           subst (Among d) (sym two.0) (among_later (λ (e : Claimed). not (e.number == c.number)) d (queue F) here (other bs is (d.number == c.number) refl))
@@ -194,7 +178,7 @@ module _ (F G : Farm) (c : Claimed) (served : Bool) (sound : IsSound F) (at : Am
       by None same = refl
       by (Some bs) same =
           let counts : ◌≡◌ {A = ℕ} 1 0 =
-          sym (ap (λ o. (option_map_or {U = Served} (λ bs. record { farm = give F c bs F.clock; claims = 0 + 1 }) o (record { farm = F; claims = 0 })).claims) same)
+          sym (ap (λ o. (option_map_or {U = Served} (λ bs. record { farm = give F c bs F.clock; claims = 0 + 1 }) o (record { farm = pass_over F c; claims = 0 })).claims) same)
           ∙ ap (λ (s : Served). s.claims) (serves 0) ∙ ap (counted 0) is in
           absurd (omega (arith, counts))
 
@@ -211,15 +195,12 @@ all_none F (p ∷ places) all = (subst (IfUnmet F) (sym all.0) tt, all_none F pl
 
 -- ---- a claim that is tried
 
-module _ (D E : Drafted) (c : Claimed) (served : Bool) (sound : IsSound D.farm) (at : Among c (queue D.farm))
-    (serves : Asks c.reservation D.farm c → Serves D c served E) (places : List (Option Known)) (all : AreUnmet D.farm places) where
-  abbrev done : Serves D c served E
-  done = serves (asks_claim D.farm c (among_has (IsClaim D.farm) c (queue D.farm) (queue_claims D.farm sound.steady) at))
-
+module _ (D E : Drafted) (c : Claimed) (served : Bool) (sound : IsSound D.farm) (at : Among c (queue D.farm)) (serves : Serves D c served E)
+    (places : List (Option Known)) (all : AreUnmet D.farm places) where
   pub known_on : AreUnmet E.farm places
-  known_on = all_on D.farm E.farm c served sound at done.0 places all
+  known_on = all_on D.farm E.farm c served sound at serves.0 places all
 
   pub known_more : served ≡ false → (k : Known) → (shown_claim c).kind ≡ k.kind → c.number ≡ k.number → (place : ℕ) → AreUnmet E.farm (slice_set places place (Some k))
   known_more unmet k is same place =
       all_set E.farm places place k known_on
-      (subst (λ n. IsUnmet E.farm k.kind n) same (subst (λ kind. IsUnmet E.farm kind c.number) is (not_met D.farm E.farm c served sound at done.0 unmet)))
+      (subst (λ n. IsUnmet E.farm k.kind n) same (subst (λ kind. IsUnmet E.farm kind c.number) is (not_met D.farm E.farm c served sound at serves.0 unmet)))

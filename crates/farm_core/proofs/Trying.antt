@@ -1,42 +1,54 @@
--- The claims that the queues lend are tried one after the other, and lead to the end of the pass.
-use Rattle.std.proofs.Common.{◌≡◌, ◌∙◌, ◌==◌, ◌||◌, ◌&&◌, ◌+◌, ◌++◌, ◌<◌, ◌≤◌, ℕ, List, [], ◌∷◌, length, map, filter, Bool, true, false, cond, not, Option, Some, None, inl, inr, refl, sym, ap, subst, append-nil, arith, Bor}
-use Rattle.std.specs.List.{AllByRecursion, find, fold, list_any}
+-- The claims that may change the farm are tried one after the other, and lead to the end of the pass.
+use Rattle.std.proofs.Common.{◌≡◌, ◌∙◌, ◌==◌, ◌||◌, ◌&&◌, ◌+◌, ◌++◌, ◌<◌, ◌≤◌, ℕ, List, [], ◌∷◌, length, map, filter, nat_le, Bool, true, false, cond, not, Option, Some, None, inl, inr, refl, sym, ap, subst, arith, Bor}
+use mathlib.Core.Bool.{true≢false}
+use Rattle.std.specs.List.{AllByRecursion, find, fold, list_all, list_any}
 use Rattle.std.specs.List.Sorted.{IsStrictlySortedBy}
-use Rattle.std.specs.Option.{option_copied, option_map, option_map_or}
-use Rattle.std.specs.Ordering.{match_ordering}
+use Rattle.std.specs.Option.{option_copied, option_map_or}
+use Rattle.std.specs.Ordering.{is_lt, match_ordering}
 use Rattle.std.specs.Str.{bytes_eq}
 use Rattle.std.specs.declared.cmp.Ordering.{Ordering}
 use Rattle.std.specs.declared.cmp.Ordering.TheVariants.{Less, Equal, Greater}
+use Rattle.std.proofs.Math.Bool.{and-false}
+use Rattle.std.proofs.lemmas.Bool.Decides.{nat_tests}
 use Rattle.std.proofs.lemmas.List.{length-append, length-map}
-use Rattle.farm_types.specs.Farm.{Farm}
-use Rattle.farm_types.specs.Pass.{Served, give, serve, serve_all}
-use Rattle.farm_types.specs.Pick.{Among, Claimed, claim_cmp, claims, group_claim, is_free, is_waiting, leads_claim, least, queue, res_claim, shown_claim}
+use Rattle.farm_types.specs.Farm.{Farm, job_of, members}
+use Rattle.farm_types.specs.Pass.{Served, collect, give, is_group, may_collect, pass_over, serve, serve_all}
+use Rattle.farm_types.specs.Pick.{Among, Claimed, claim_cmp, claims, group_claim, is_free, is_waiting, leads_claim, least, queue, res_claim, shown_claim, shown_cmp, waits}
+use Rattle.farm_types.specs.Small.{IsSmall}
 use Rattle.farm_types.specs.Sound.{IsSound}
 use Rattle.farm_types.specs.Table.{put, put_all}
 use Rattle.farm_types.specs.declared.claims.Claim.{Claim}
+use Rattle.farm_types.specs.declared.claims.ClaimKind.{ClaimKind}
 use Rattle.farm_types.specs.declared.rows.BoardRow.{BoardRow}
+use Rattle.farm_types.specs.declared.rows.JobRow.{JobRow}
+use Rattle.farm_types.specs.declared.rows.JobState.{JobState}
+use Rattle.farm_types.proofs.Put.{found_passes}
+use Rattle.farm_sound.proofs.Claims.{IsClaim, queue_claims, queue_sorted}
+use Rattle.farm_sound.proofs.Collect.{collect_is, pairs_for}
+use Rattle.farm_sound.proofs.Lists.{among_has, none_pass}
+use Rattle.farm_sound.proofs.Own.{itself}
+use Rattle.farm_sound.proofs.Queue.{among_queue}
+use Rattle.farm_sound.proofs.Serve.{clock_kept, give_clock}
+use Rattle.farm_sound.proofs.Tests.{both, same_number}
+use Rattle.farm_sound.proofs.Where.{by_cases}
 use Rattle.farm_pick.specs.Heads.{is_later, last_spot}
-use Rattle.farm_pick.specs.Kept.{queued_cmp}
-use Rattle.farm_pick.specs.Walked.{walked}
-use Rattle.farm_pick.specs.Merged.{comes_after, is_tried, next_tried}
-use Rattle.farm_pick.specs.Queued.{IdleBoard, Lists, Queued, idle_boards, is_open, lists_of, queued}
+use Rattle.farm_pick.specs.Merged.{comes_after, rest}
+use Rattle.farm_pick.specs.Queued.{IdleBoard, Lists, Queued, idle_boards, lists_of, queued}
 use Rattle.farm_pick.proofs.Apart.{same_bytes_back}
-use Rattle.farm_pick.proofs.Bridge.{later_same, lends_tried, place_of}
-use Rattle.farm_pick.proofs.Filling.{low_priority, queued_filter}
+use Rattle.farm_pick.proofs.Bridge.{later_same, place_of}
+use Rattle.farm_pick.proofs.Collects.{collecting_follows}
+use Rattle.farm_pick.proofs.Filling.{low_priority, numbers_differ, queued_filter}
 use Rattle.farm_pick.proofs.Giving.{giving_follows}
-use Rattle.farm_pick.proofs.Later.{later, later_none}
-use Rattle.farm_pick.proofs.Merging.{none_tried, tried}
-use Rattle.farm_pick.proofs.Walking.{walked_none, walked_on}
-use Rattle.farm_sound.proofs.Where.{AllByRecursion-map}
-use Rattle.farm_sound.proofs.Claims.{IsClaim, queue_sorted}
-use Rattle.farm_sound.proofs.Serve.{give_clock}
+use Rattle.farm_pick.proofs.Later.{after_itself, later, later_none, not_back}
+use Rattle.farm_pick.proofs.Merging.{Begins, Goes, IsTrying, Skips, begins_with, begins_without, found_among, none_by, one_group, passed_by, serve_but, some_want, tried_by, unserved}
 use Rattle.farm_core.specs.Following.{without_board, without_boards}
 use Rattle.farm_core.specs.Drafted.{Drafted}
-use Rattle.farm_core.specs.Serving.{Asks, IsMissed, Reaches, Serves, counted, queues_given}
+use Rattle.farm_core.specs.Serving.{Begins as FirstServed, IsIdle, NextIs, Serves, boards_for, counted, queues_given}
 use Rattle.farm_core.proofs.Given.{all_pass, taken_more}
-use Rattle.farm_core.proofs.Passing.{asks_claim}
-use Rattle.farm_core.proofs.Serving.{names_of}
-use Rattle.farm_core.proofs.Skipping.{skipped}
+use Rattle.farm_core.proofs.Passing.{asks_claim, small_claim}
+use Rattle.farm_core.proofs.Next.{found_nowhere}
+use Rattle.farm_core.proofs.Serving.{names_of, shown_group}
+use Rattle.farm_core.proofs.Skipping.{one_of, wants_asked}
 
 -- ---- the queues of the farm once a claim was tried
 
@@ -63,8 +75,9 @@ given_fits F c n sound among = by (least F.boards (is_free F.types) c.wants) ref
         → option_map_or {U = Lists} (λ bs. record {
           claims = filter (λ (x : Queued). not (x.claim.number == c.number)) (lists_of F).claims;
           boards = without_boards (names_of bs) (lists_of F).boards;
-        }) o (lists_of F) ≡ lists_of (option_map_or {U = Served} (λ bs. record { farm = give F c bs F.clock; claims = n + 1 }) o (record { farm = F; claims = n })).farm
-    by None is = refl
+        }) o (record (lists_of F) { boards = idle_boards (pass_over F c) })
+        ≡ lists_of (option_map_or {U = Served} (λ bs. record { farm = give F c bs F.clock; claims = n + 1 }) o (record { farm = pass_over F c; claims = n })).farm
+    by None is = λ i. record { claims = map queued (sym (collecting_follows F sound c among) i); boards = idle_boards (pass_over F c) }
     by (Some bs) is =
         let two = giving_follows F c bs F.clock sound (omega arith) among is in
         let claims = sym (queued_filter (λ m. not (m == c.number)) (queue F)) ∙ ap (map queued) (sym two.0) in
@@ -107,33 +120,31 @@ queue_few F =
 
 -- ---- from one claim to the next
 
-served_clock : (G : Farm) (c : Claimed) (n t : ℕ) → (serve t (record { farm = G; claims = n }) c).farm.clock ≡ G.clock
-served_clock G c n t = by (least G.boards (is_free G.types) c.wants)
+over_clock : (G : Farm) (c : Claimed) → (pass_over G c).clock ≡ G.clock
+over_clock G c = by_cases (λ (H : Farm). H.clock ≡ G.clock) (may_collect G c) (collect G c.number) G
+    (λ _. ap (λ (H : Farm). H.clock) (collect_is (members G c.number) G) ∙ clock_kept JobState.Scheduling (pairs_for G (members G c.number)) G) (λ _. refl)
+
+served_clock : (t : ℕ) (s : Served) (c : Claimed) → (serve t s c).farm.clock ≡ s.farm.clock
+served_clock t s c = by (least s.farm.boards (is_free s.farm.types) c.wants)
   where
-    by : (o : Option (List BoardRow)) → (option_map_or {U = Served} (λ bs. record { farm = give G c bs t; claims = n + 1 }) o (record { farm = G; claims = n })).farm.clock ≡ G.clock
-    by None = refl
-    by (Some bs) = give_clock G c bs t
+    by : (o : Option (List BoardRow))
+        → (option_map_or {U = Served} (λ bs. record { farm = give s.farm c bs t; claims = s.claims + 1 }) o (record { farm = pass_over s.farm c; claims = s.claims })).farm.clock
+        ≡ s.farm.clock
+    by None = over_clock s.farm c
+    by (Some bs) = give_clock s.farm c bs t
+
+abbrev come_to : Farm → ℕ → Served
+come_to G count = record { farm = G; claims = count }
 
 -- what the pass has come to, and the claim tried last
-pub record Tries (F G : Farm) (queues : Lists) (count : ℕ) (place : Option (ℕ × ℕ)) : Type 0 where
+pub record Trying (F : Farm) (former : ℕ) (G : Farm) (queues : Lists) (count : ℕ) (place : Option (ℕ × ℕ)) : Type 0 where
   pub last : Option Claimed
   pub tried : place ≡ place_of last
-  pub rest : fold (serve F.clock) (record { farm = G; claims = count }) (later last (queue G)) ≡ serve_all F F.clock
+  pub on : IsTrying former F.clock (come_to G count) last
+  pub folds : serve_all F former F.clock ≡ fold (serve F.clock) (come_to G count) (rest former last G)
   pub few : count + length (later last (queue G)) ≤ length (queue F)
   pub clock : G.clock ≡ F.clock
-  pub sound : IsSound G
   pub fits : queues ≡ lists_of G
-
-pub tries_begin : (F : Farm) (queues : Lists) → IsSound F → queues ≡ lists_of F → Tries F F queues 0 None
-tries_begin F queues sound fits = record {
-  last = None;
-  tried = refl;
-  rest = ap (fold (serve F.clock) (record { farm = F; claims = 0 })) (later_none (queue F));
-  few = let same : length (later None (queue F)) ≡ length (queue F) = ap length (later_none (queue F)) in omega (arith, same);
-  clock = refl;
-  sound = sound;
-  fits = fits;
-}
 
 -- so many claims are left
 abbrev pub left : Lists → Option (ℕ × ℕ) → ℕ
@@ -147,227 +158,351 @@ length_mapped p q P same (c ∷ cs) all =
   where
     by : (v : Bool) → length (filter p (map queued cs)) ≡ length (filter q cs) → length (cond v (queued c ∷ filter p (map queued cs)) (filter p (map queued cs))) ≡ length (cond v (c ∷ filter q cs) (filter q cs))
     by true rest = omega (arith, rest)
-    by false rest = rest
+    by false rest = omega (arith, rest)
 
-pub left_is : (F G : Farm) (queues : Lists) (count : ℕ) (place : Option (ℕ × ℕ)) (tries : Tries F G queues count place) → left queues place ≡ length (later tries.last (queue G))
-left_is F G queues count place tries =
-    (λ i. left (tries.fits i) (tries.tried i))
-    ∙ length_mapped (λ x. is_later (last_spot (place_of tries.last)) x.claim) (comes_after tries.last) (λ c. c.priority ≤ 100) (λ c low. later_same tries.last c low) (queue G) (low_priority G tries.sound)
+pub left_is : (F : Farm) (former : ℕ) (G : Farm) (queues : Lists) (count : ℕ) (place : Option (ℕ × ℕ)) (trying : Trying F former G queues count place)
+    → left queues place ≡ length (later trying.last (queue G))
+left_is F former G queues count place trying =
+    (λ i. left (trying.fits i) (trying.tried i))
+    ∙ length_mapped (λ x. is_later (last_spot (place_of trying.last)) x.claim) (comes_after trying.last) (λ c. c.priority ≤ 100) (λ c low. later_same trying.last c low) (queue G)
+    (low_priority G trying.on.sound)
 
--- what the queues lend after a place
-abbrev pub lends : Lists → Option (ℕ × ℕ) → Option Claim
-lends queues place = option_map (λ (x : Queued). x.claim) (find (λ x. is_later (last_spot place) x.claim && (false || is_open queues.boards x.kind)) queues.claims)
+-- ---- a claim that is passed over
 
--- what the queues lend next is the next claim that is tried
-pub lent : (F G : Farm) (queues : Lists) (count : ℕ) (place : Option (ℕ × ℕ)) (tries : Tries F G queues count place)
-    → lends queues place
-    ≡ option_map shown_claim (next_tried G tries.last)
-lent F G queues count place tries =
-    (λ i. lends (tries.fits i) (tries.tried i))
-    ∙ lends_tried G tries.last (low_priority G tries.sound)
+all_from : (P : Claimed → Type 0) (xs : List Claimed) → ((x : Claimed) → Among x xs → P x) → AllByRecursion P xs
+all_from P [] each = tt
+all_from P (x ∷ xs) each = (each x (inl refl), all_from P xs (λ y at. each y (inr at)))
 
--- a claim that is shown
-shown_some : (o : Option Claimed) (claim : Claim) → Some claim ≡ option_map shown_claim o → (c : Claimed) × (o ≡ Some c) × (shown_claim c ≡ claim)
-shown_some None claim is = cc
-shown_some (Some c) claim is = let same : claim ≡ shown_claim c = cc in (c, refl, sym same)
+not_two : (n : ℕ) → n ≤ 1 → nat_le 2 n ≡ false
+not_two n low = grind (arith, nat_tests, low)
 
-shown_none : (o : Option Claimed) → None ≡ option_map shown_claim o → o ≡ None
-shown_none None is = refl
-shown_none (Some c) is = cc
-
--- what is found stands in the list
-found_among : (p : Claimed → Bool) (c : Claimed) (cs : List Claimed) → find p cs ≡ Some c → Among c cs
-found_among p c [] is = cc
-found_among p c (d ∷ cs) is = by (p d) is (λ rest. found_among p c cs rest)
+idle_stays : (t n : ℕ) (G : Farm) (e : Claimed) → IsClaim G e → IsIdle G (shown_claim e) → serve t (come_to G n) e ≡ come_to G n
+idle_stays t n G e claim idle =
+    unserved t (come_to G n) e (ap (least G.boards (is_free G.types)) (wants_asked G e (asks_claim G e claim)) ∙ idle.0) (by (G.collector == 0) refl)
   where
-    by : (v : Bool) → cond v (Some d) (find p cs) ≡ Some c → (find p cs ≡ Some c → Among c cs) → Among c (d ∷ cs)
-    by true is rest = let same : d ≡ c = cc in inl (sym same)
-    by false is rest = inr (rest is)
+    by : (v : Bool) → (G.collector == 0) ≡ v → ((v && not e.reservation) && nat_le 2 (length e.wants)) ≡ false
+    by true nobody =
+        ap (λ w. (true && not e.reservation) && w) (not_two (length e.wants) (idle.1 (same_number G.collector 0 nobody))) ∙ and-false (true && not e.reservation)
+    by false nobody = refl
 
-module _ (F G : Farm) (queues : Lists) (count : ℕ) (place : Option (ℕ × ℕ)) (tries : Tries F G queues count place) where
-  -- a claim that is lent
-  pub record Lent (claim : Claim) : Type 0 where
-    pub claimed : Claimed
-    pub is : IsClaim G claimed
-    pub shown : shown_claim claimed ≡ claim
-    pub next : next_tried G tries.last ≡ Some claimed
+-- in a list in order the first that passes a test that those before it fail
+first_found : (test : Claimed → Bool) (d : Claimed) (xs : List Claimed) → IsStrictlySortedBy claim_cmp xs → Among d xs → test d ≡ true
+    → ((e : Claimed) → is_lt (claim_cmp e d) ≡ true → test e ≡ false) → find test xs ≡ Some d
+unfolding IsStrictlySortedBy
+first_found test d [] sorted at is before = absurd at
+first_found test d (x ∷ xs) sorted (inl same) is before = ap (λ v. cond v (Some x) (find test xs)) (ap test (sym same) ∙ is) ∙ ap Some (sym same)
+first_found test d (x ∷ xs) sorted (inr at) is before =
+    ap (λ v. cond v (Some x) (find test xs)) (before x (ap is_lt (among_has (λ y. claim_cmp x y ≡ Less) d xs sorted.0 at)))
+    ∙ first_found test d xs sorted.1 at is before
 
-  pub lent_some : (claim : Claim)
-      → Some claim ≡ lends queues place → Lent claim
-  lent_some claim is =
-      let three = shown_some (next_tried G tries.last) claim (is ∙ lent F G queues count place tries) in
-      let one = tried F.clock (record { farm = G; claims = count }) tries.last three.0 (omega (arith, tries.clock)) tries.sound three.1 in
-      record { claimed = three.0; is = one.0; shown = three.2; next = three.1 }
+found_none : (test : Claimed → Bool) (xs : List Claimed) → AllByRecursion (λ x. test x ≡ false) xs → find test xs ≡ None
+found_none test [] all = refl
+found_none test (x ∷ xs) all = ap (λ v. cond v (Some x) (find test xs)) all.0 ∙ found_none test xs all.1
 
-  -- it was tried, and the pass goes on behind it
-  pub tries_on : (c : Claimed) (H : Farm) (served : Bool) (news : Lists) (place' : Option (ℕ × ℕ)) → next_tried G tries.last ≡ Some c
-      → ((n : ℕ) → serve G.clock (record { farm = G; claims = n }) c ≡ record { farm = H; claims = counted n served }) → news ≡ queues_given G c queues → place' ≡ Some (c.priority, c.number)
-      → Tries F H news (counted count served) place'
-  tries_on c H served news place' next serves given at =
-      let one = tried F.clock (record { farm = G; claims = count }) tries.last c (omega (arith, tries.clock)) tries.sound next in
-      let s : serve F.clock (record { farm = G; claims = count }) c ≡ record { farm = H; claims = counted count served } = ap (λ t. serve t (record { farm = G; claims = count }) c) (sym tries.clock) ∙ serves count in
-      let among = found_among (is_tried G tries.last) c (queue G) next in
-      record {
-        last = Some c;
-        tried = at;
-        rest = sym (ap (λ (u : Served). fold (serve F.clock) u (later (Some c) (queue u.farm))) s) ∙ sym one.2 ∙ tries.rest;
-        few = fewer_left s one.3;
-        clock = ap (λ (u : Served). u.farm.clock) (sym s) ∙ served_clock G c count F.clock ∙ tries.clock;
-        sound = subst (λ (u : Served). IsSound u.farm) s one.1.sound;
-        fits = given ∙ ap (queues_given G c) tries.fits ∙ given_fits G c count tries.sound among ∙ ap (λ (u : Served). lists_of u.farm) (serves count);
-      }
-    where
-      fewer_left : serve F.clock (record { farm = G; claims = count }) c ≡ record { farm = H; claims = counted count served }
-          → length (later (Some c) (queue (serve F.clock (record { farm = G; claims = count }) c).farm)) < length (later tries.last (queue G))
-          → counted count served + length (later (Some c) (queue H)) ≤ length (queue F)
-      fewer_left s less = by served (subst (λ (u : Served). length (later (Some c) (queue u.farm)) < length (later tries.last (queue G))) s less)
-        where
-          by : (v : Bool) → length (later (Some c) (queue H)) < length (later tries.last (queue G)) → counted count v + length (later (Some c) (queue H)) ≤ length (queue F)
-          by true less = omega (arith, less, tries.few)
-          by false less = omega (arith, less, tries.few)
-
-  -- and fewer claims are left
-  pub fewer : (c : Claimed) (H : Farm) (served : Bool) (news : Lists) (place' : Option (ℕ × ℕ)) → next_tried G tries.last ≡ Some c
-      → ((n : ℕ) → serve G.clock (record { farm = G; claims = n }) c ≡ record { farm = H; claims = counted n served }) → news ≡ queues_given G c queues → place' ≡ Some (c.priority, c.number)
-      → left news place' < left queues place
-  unfolding tries_on
-  fewer c H served news place' next serves given at =
-      let one = tried F.clock (record { farm = G; claims = count }) tries.last c (omega (arith, tries.clock)) tries.sound next in
-      let s : serve F.clock (record { farm = G; claims = count }) c ≡ record { farm = H; claims = counted count served } = ap (λ t. serve t (record { farm = G; claims = count }) c) (sym tries.clock) ∙ serves count in
-      let less = subst (λ (u : Served). length (later (Some c) (queue u.farm)) < length (later tries.last (queue G))) s one.3 in
-      let here = left_is F G queues count place tries in
-      let there = left_is F H news (counted count served) place' (tries_on c H served news place' next serves given at) in
-      let after : left news place' ≡ length (later (Some c) (queue H)) = there in
-      omega (arith, less, here, after)
-
-  -- none is lent: the pass is at its end
-  pub tries_end : None ≡ lends queues place
-      → record { farm = G; claims = count } ≡ serve_all F F.clock
-  tries_end is =
-      sym (none_tried F.clock (record { farm = G; claims = count }) tries.last tries.sound (shown_none (next_tried G tries.last) (is ∙ lent F G queues count place tries)))
-      ∙ tries.rest
+is_true : (v : Bool) → not v ≡ false → v ≡ true
+is_true true is = refl
+is_true false is = absurd (true≢false is)
 
 -- ---- one turn of the pass
 
-module _ (F : Farm) (D E : Drafted) (count : ℕ) (place : Option (ℕ × ℕ)) (tries : Tries F D.farm D.queues count place) (claim : Claim) (is : Some claim ≡ lends D.queues place)
-    (served : Bool) (serving : (c : Claimed) → (shown_claim c).kind ≡ claim.kind → c.number ≡ claim.number → Asks c.reservation D.farm c → Serves D c served E) where
-  it : Lent F D.farm D.queues count place tries claim
-  it = lent_some F D.farm D.queues count place tries claim is
+module _ (F : Farm) (former : ℕ) (G : Farm) (queues : Lists) (count : ℕ) (place : Option (ℕ × ℕ)) (trying : Trying F former G queues count place) where
+  sound : IsSound G
+  sound = trying.on.sound
 
-  serves : Serves D it.claimed served E
-  serves = serving it.claimed (ap (λ (k : Claim). k.kind) it.shown) (ap (λ (k : Claim). k.number) it.shown) (asks_claim D.farm it.claimed it.is)
+  low_at : (e : Claimed) → Among e (queue G) → e.priority ≤ 100
+  low_at e at = among_has (λ c. c.priority ≤ 100) e (queue G) (low_priority G sound) at
 
-  here : ◌≡◌ {A = Option (ℕ × ℕ)} (Some (claim.priority, claim.number)) (Some (it.claimed.priority, it.claimed.number))
-  here = sym (ap (λ (k : Claim). Some (k.priority, k.number)) it.shown)
+  claim_at : (e : Claimed) → Among e (queue G) → IsClaim G e
+  claim_at e at = among_has (IsClaim G) e (queue G) (queue_claims G sound.steady) at
 
-  pub turn_on : (v : Bool) → served ≡ v → Tries F E.farm E.queues (counted count v) (Some (claim.priority, claim.number))
-  turn_on v so = subst (λ v. Tries F E.farm E.queues (counted count v) (Some (claim.priority, claim.number))) so
-      (tries_on F D.farm D.queues count place tries it.claimed E.farm served E.queues (Some (claim.priority, claim.number)) it.next serves.0 serves.2 here)
+  -- behind the place is behind the claim tried last
+  later_is : (e : Claimed) → Among e (queue G) → is_later (last_spot place) (shown_claim e) ≡ comes_after trying.last e
+  later_is e at = ap (λ p. is_later (last_spot p) (shown_claim e)) trying.tried ∙ later_same trying.last e (low_at e at)
 
-  pub turn_start : E.start ≡ D.start
-  turn_start = serves.1
+  module _ (claim : Claim) (next : NextIs G place (Some claim)) where
+    abbrev it : Claimed
+    it = next.0
 
-  pub turn_less : left E.queues (Some (claim.priority, claim.number)) < left D.queues place
-  turn_less = fewer F D.farm D.queues count place tries it.claimed E.farm served E.queues (Some (claim.priority, claim.number)) it.next serves.0 serves.2 here
+    after : comes_after trying.last it ≡ true
+    after = sym (later_is it next.1) ∙ ap (is_later (last_spot place)) next.2 ∙ next.3
 
--- ---- claims that are passed over
+    -- those between are passed over
+    test : Claimed → Bool
+    test e = not (comes_after trying.last e && is_lt (claim_cmp e it))
 
--- what the queues lend after a place, all of it
-abbrev pub lent_after : Lists → Option (ℕ × ℕ) → List Claim
-lent_after queues place = walked (λ k. false || is_open queues.boards k) (last_spot place) queues.claims
+    skip : Skips former F.clock (come_to G count) test
+    skip = all_from (λ e. (not (is_group former e) && test e) ≡ false → serve_but former F.clock (come_to G count) e ≡ come_to G count) (queue G)
+        (λ e at. by e at (is_group former e))
+      where
+        stays : (e : Claimed) → Among e (queue G) → test e ≡ false → serve F.clock (come_to G count) e ≡ come_to G count
+        stays e at out =
+            let two = both (comes_after trying.last e) (is_lt (claim_cmp e it)) (is_true (comes_after trying.last e && is_lt (claim_cmp e it)) out) in
+            idle_stays F.clock count G e (claim_at e at)
+            (next.4 e at (later_is e at ∙ two.0) (ap (λ k. is_lt (shown_cmp (shown_claim e) k)) (sym next.2) ∙ two.1))
 
-queued_rise : (cs : List Claimed) → IsStrictlySortedBy claim_cmp cs → IsStrictlySortedBy queued_cmp (map queued cs)
-unfolding IsStrictlySortedBy
-queued_rise [] sorted = tt
-queued_rise (c ∷ cs) sorted =
-    (AllByRecursion-map (λ d. claim_cmp c d ≡ Less) (λ x. queued_cmp (queued c) x ≡ Less) queued (λ d less. less) cs sorted.0, queued_rise cs sorted.1)
+        by : (e : Claimed) → Among e (queue G) → (v : Bool) → (not v && test e) ≡ false
+            → cond v (come_to G count) (serve F.clock (come_to G count) e) ≡ come_to G count
+        by e at true out = refl
+        by e at false out = stays e at out
 
-claims_rise : (F G : Farm) (queues : Lists) (count : ℕ) (place : Option (ℕ × ℕ)) → Tries F G queues count place → IsStrictlySortedBy queued_cmp queues.claims
-claims_rise F G queues count place tries =
-    subst (λ (l : Lists). IsStrictlySortedBy queued_cmp l.claims) (sym tries.fits) (queued_rise (queue G) (queue_sorted G))
+    passes : test it ≡ true
+    passes = λ i. not (after i && after_itself it i)
+
+    fails : (e : Claimed) → is_lt (claim_cmp e it) ≡ true → (comes_after trying.last e && test e) ≡ false
+    fails e less = by (comes_after trying.last e)
+      where
+        by : (v : Bool) → (v && not (v && is_lt (claim_cmp e it))) ≡ false
+        by true = ap not less
+        by false = refl
+
+    pub found : find (λ e. comes_after trying.last e && test e) (queue G) ≡ Some it
+    found = first_found (λ e. comes_after trying.last e && test e) it (queue G) (queue_sorted G) next.1 (λ i. after i && passes i) fails
+
+    pub found_other : is_group former it ≡ false → find (λ e. comes_after trying.last e && (not (is_group former e) && test e)) (queue G) ≡ Some it
+    found_other other =
+        first_found (λ e. comes_after trying.last e && (not (is_group former e) && test e)) it (queue G) (queue_sorted G) next.1
+        (λ i. after i && (not (other i) && passes i)) (λ e less. by e (fails e less))
+      where
+        by : (e : Claimed) → (comes_after trying.last e && test e) ≡ false → (comes_after trying.last e && (not (is_group former e) && test e)) ≡ false
+        by e out = at (comes_after trying.last e) out
+          where
+            at : (v : Bool) → (v && test e) ≡ false → (v && (not (is_group former e) && test e)) ≡ false
+            at true none = ap (λ w. not (is_group former e) && w) none ∙ and-false (not (is_group former e))
+            at false none = refl
+
+    -- the claim was passed over, or tried
+    pub Went : Served → Type 0
+    Went u = Goes former F.clock (come_to G count) u trying.last it
+
+    pub went_on : is_group former it ≡ true → Went (come_to G count)
+    went_on own = passed_by former F.clock (come_to G count) trying.last it trying.on test skip found own
+
+    pub went_by : is_group former it ≡ false → Went (serve F.clock (come_to G count) it)
+    went_by other = (tried_by former F.clock (come_to G count) trying.last it trying.on test skip (found_other other)).1
+
+    abbrev here : Option (ℕ × ℕ)
+    here = Some (claim.priority, claim.number)
+
+    at_it : here ≡ place_of (Some it)
+    at_it = sym (ap (λ (k : Claim). Some (k.priority, k.number)) next.2)
+
+    module _ (H : Farm) (news : Lists) (more : ℕ) (went : Went (come_to H more)) (high : more ≤ count + 1) (clock : H.clock ≡ G.clock) (fits : news ≡ lists_of H) where
+      pub goes_on : Trying F former H news more here
+      goes_on = record {
+        last = Some it;
+        tried = at_it;
+        on = went.on;
+        folds = trying.folds ∙ went.folds;
+        few = omega (arith, went.fewer, trying.few, high);
+        clock = clock ∙ trying.clock;
+        fits = fits;
+      }
+
+      -- and fewer claims are left
+      pub goes_less : left news here < left queues place
+      unfolding goes_on
+      goes_less =
+          let now = left_is F former G queues count place trying in
+          let then : left news here ≡ length (later (Some it) (queue H)) = left_is F former H news more here goes_on in
+          omega (arith, now, then, went.fewer)
+
+  -- none is left: the pass is at its end
+  pub goes_end : NextIs G place None → come_to G count ≡ serve_all F former F.clock
+  goes_end next =
+      sym (none_by former F.clock (come_to G count) trying.last front skip
+      (found_none (λ e. comes_after trying.last e && (not (is_group former e) && front e)) (queue G)
+      (all_from (λ e. (comes_after trying.last e && (not (is_group former e) && front e)) ≡ false) (queue G) (λ e at. out e (comes_after trying.last e)))))
+      ∙ sym trying.folds
+    where
+      front : Claimed → Bool
+      front e = not (comes_after trying.last e)
+
+      out : (e : Claimed) → (v : Bool) → (v && (not (is_group former e) && not v)) ≡ false
+      out e true = and-false (not (is_group former e))
+      out e false = refl
+
+      skip : Skips former F.clock (come_to G count) front
+      skip = all_from (λ e. (not (is_group former e) && front e) ≡ false → serve_but former F.clock (come_to G count) e ≡ come_to G count) (queue G)
+          (λ e at. by e at (is_group former e))
+        where
+          by : (e : Claimed) → Among e (queue G) → (v : Bool) → (not v && front e) ≡ false
+              → cond v (come_to G count) (serve F.clock (come_to G count) e) ≡ come_to G count
+          by e at true out = refl
+          by e at false out =
+              idle_stays F.clock count G e (claim_at e at) (next e at (later_is e at ∙ is_true (comes_after trying.last e) out))
+
+-- ---- a turn of the program
 
 abbrev pub place_after : Claim → Option (ℕ × ℕ)
 place_after claim = Some (claim.priority, claim.number)
 
-abbrev pub AreMissed : Farm → List Claim → Type 0
-AreMissed F claims = AllByRecursion (λ c. IsMissed F c.kind c.number) claims
+module _ (F : Farm) (former : ℕ) (D : Drafted) (count : ℕ) (place : Option (ℕ × ℕ)) (trying : Trying F former D.farm D.queues count place) (claim : Claim)
+    (next : NextIs D.farm place (Some claim)) where
+  own_kind : (shown_claim next.0).kind ≡ claim.kind
+  own_kind = ap (λ (k : Claim). k.kind) next.2
 
--- one more is passed over
-pub missed_more : (F : Farm) (missed : List Claim) (c : Claim) → AreMissed F missed → IsMissed F c.kind c.number → AreMissed F (missed ++ (c ∷ []))
-missed_more F [] c all new = (new, tt)
-missed_more F (m ∷ missed) c all new = (all.0, missed_more F missed c all.1 new)
+  own_number : next.0.number ≡ claim.number
+  own_number = ap (λ (k : Claim). k.number) next.2
 
--- where the pass stands once some claims were passed over
-pub record Passed (F : Farm) (D : Drafted) (count : ℕ) (place : Option (ℕ × ℕ)) (rest : List Claim) : Type 0 where
-  pub behind : Option (ℕ × ℕ)
-  pub tries : Tries F D.farm D.queues count behind
-  pub lent : lent_after D.queues behind ≡ rest
-  pub less : left D.queues behind ≤ left D.queues place
+  -- the claim that is next
+  pub next_small : IsSmall claim.number
+  next_small = subst IsSmall own_number
+      (small_claim D.farm next.0 trying.on.sound (among_has (IsClaim D.farm) next.0 (queue D.farm) (queue_claims D.farm trying.on.sound.steady) next.1))
 
-module _ (F : Farm) (D : Drafted) (count : ℕ) where
-  pub passed_over : (missed rest : List Claim) (place : Option (ℕ × ℕ)) → Tries F D.farm D.queues count place → lent_after D.queues place ≡ missed ++ rest → AreMissed D.farm missed
-      → Passed F D count place rest
-  passed_over [] rest place tries is all = record { behind = place; tries = tries; lent = is; less = omega arith }
-  passed_over (m ∷ missed) rest place tries is all =
-      let two = walked_on (λ k. false || is_open D.queues.boards k) (last_spot place) D.queues.claims (claims_rise F D.farm D.queues count place tries) m (missed ++ rest) is
-      (last_spot (place_after m)) refl refl in
-      let serving : (c : Claimed) → (shown_claim c).kind ≡ m.kind → c.number ≡ m.number → Asks c.reservation D.farm c → Serves D c false D =
-      λ c kind number asks. skipped D c m.kind kind m.number number asks all.0 in
-      let on = turn_on F D D count place tries m (sym two.0) false serving false refl in
-      let more = passed_over missed rest (place_after m) on (sym two.1) all.1 in
-      let less = turn_less F D D count place tries m (sym two.0) false serving in
-      record { behind = more.behind; tries = more.tries; lent = more.lent; less = omega (arith, more.less, less) }
+  pub next_waits : (c : Claimed) × Among c (queue D.farm) × ((shown_claim c).kind ≡ claim.kind) × (c.number ≡ claim.number) × (length c.wants ≡ claim.boards)
+  next_waits = (next.0, next.1, own_kind, own_number, ap (λ (k : Claim). k.boards) next.2)
 
-  -- the claim that is reached is lent next
-  pub reached : (place : Option (ℕ × ℕ)) (claim : Claim) → Tries F D.farm D.queues count place → Reaches D.farm (lent_after D.queues place) (Some claim)
-      → (behind : Option (ℕ × ℕ)) × Tries F D.farm D.queues count behind × (Some claim ≡ lends D.queues behind) × (left D.queues behind ≤ left D.queues place)
-  reached place claim tries reaches =
-      let it = passed_over reaches.0 (claim ∷ reaches.1) place tries reaches.2 reaches.3 in
-      let two = walked_on (λ k. false || is_open D.queues.boards k) (last_spot it.behind) D.queues.claims (claims_rise F D.farm D.queues count it.behind it.tries) claim reaches.1 it.lent
-      (last_spot (place_after claim)) refl refl in
-      (it.behind, it.tries, sym two.0, it.less)
+  -- the group that went first is passed over
+  module _ (own : (c : Claimed) → (shown_claim c).kind ≡ claim.kind → c.number ≡ claim.number → is_group former c ≡ true) where
+    own_went : Goes former F.clock (come_to D.farm count) (come_to D.farm count) trying.last next.0
+    own_went = went_on F former D.farm D.queues count place trying claim next (own next.0 own_kind own_number)
 
-  -- where none is, the pass is at its end
-  pub reaches_end : (place : Option (ℕ × ℕ)) → Tries F D.farm D.queues count place → Reaches D.farm (lent_after D.queues place) None
-      → (behind : Option (ℕ × ℕ)) × Tries F D.farm D.queues count behind × (None ≡ lends D.queues behind)
-  reaches_end place tries all =
-      let it = passed_over (lent_after D.queues place) [] place tries (sym (append-nil (lent_after D.queues place))) all in
-      (it.behind, it.tries, sym (walked_none (λ k. false || is_open D.queues.boards k) (last_spot it.behind) D.queues.claims it.lent))
+    pub passed_on : Trying F former D.farm D.queues count (place_after claim)
+    passed_on = goes_on F former D.farm D.queues count place trying claim next D.farm D.queues count own_went (omega arith) refl trying.fits
 
--- what is ensured of the tables is so of the draft
-pub reaches_here : (V D : Drafted) → V ≡ D → (place : Option (ℕ × ℕ)) (o : Option (Bor Claim)) (claim : Bor Claim) → o ≡ Some claim
-    → Reaches V.farm (lent_after V.queues place) (option_copied o) → Reaches D.farm (lent_after D.queues place) (Some claim.now)
-reaches_here V D view place o claim is reaches =
-    subst (λ o. Reaches D.farm (lent_after D.queues place) (option_copied o)) is (subst (λ (E : Drafted). Reaches E.farm (lent_after E.queues place) (option_copied o)) view reaches)
+    pub passed_less : left D.queues (place_after claim) < left D.queues place
+    passed_less = goes_less F former D.farm D.queues count place trying claim next D.farm D.queues count own_went (omega arith) refl trying.fits
 
-pub ends_here : (V D : Drafted) → V ≡ D → (place : Option (ℕ × ℕ)) (o : Option (Bor Claim)) → o ≡ None
-    → Reaches V.farm (lent_after V.queues place) (option_copied o) → Reaches D.farm (lent_after D.queues place) None
-ends_here V D view place o is reaches =
-    subst (λ o. Reaches D.farm (lent_after D.queues place) (option_copied o)) is (subst (λ (E : Drafted). Reaches E.farm (lent_after E.queues place) (option_copied o)) view reaches)
+  -- another is tried
+  module _ (other : (c : Claimed) → (shown_claim c).kind ≡ claim.kind → c.number ≡ claim.number → is_group former c ≡ false)
+      (E : Drafted) (served : Bool) (serving : (c : Claimed) → (shown_claim c).kind ≡ claim.kind → c.number ≡ claim.number → Among c (queue D.farm) → Serves D c served E) where
+    serves : Serves D next.0 served E
+    serves = serving next.0 own_kind own_number next.1
 
--- ---- one turn, with the claims that are passed over before it
+    went : Goes former F.clock (come_to D.farm count) (come_to E.farm (counted count served)) trying.last next.0
+    went = subst (λ u. Goes former F.clock (come_to D.farm count) u trying.last next.0)
+        (ap (λ t. serve t (come_to D.farm count) next.0) (sym trying.clock) ∙ serves.0 count)
+        (went_by F former D.farm D.queues count place trying claim next (other next.0 own_kind own_number))
 
-module _ (F : Farm) (D : Drafted) (count : ℕ) (place : Option (ℕ × ℕ)) (tries : Tries F D.farm D.queues count place) (claim : Claim)
-    (reaches : Reaches D.farm (lent_after D.queues place) (Some claim)) where
-  stands : (behind : Option (ℕ × ℕ)) × Tries F D.farm D.queues count behind × (Some claim ≡ lends D.queues behind) × (left D.queues behind ≤ left D.queues place)
-  stands = reached F D count place claim tries reaches
+    high : (v : Bool) → counted count v ≤ count + 1
+    high true = omega arith
+    high false = omega arith
 
-  pub reached_claim : (d : Claimed) × IsClaim D.farm d × (shown_claim d ≡ claim)
-  reached_claim = let it = lent_some F D.farm D.queues count stands.0 stands.1 claim stands.2 in (it.claimed, it.is, it.shown)
+    clock : E.farm.clock ≡ D.farm.clock
+    clock = ap (λ (u : Served). u.farm.clock) (sym (serves.0 count)) ∙ served_clock D.farm.clock (come_to D.farm count) next.0
 
-  module _ (E : Drafted) (served : Bool) (serving : (c : Claimed) → (shown_claim c).kind ≡ claim.kind → c.number ≡ claim.number → Asks c.reservation D.farm c → Serves D c served E) where
-    pub goes_on : (v : Bool) → served ≡ v → Tries F E.farm E.queues (counted count v) (place_after claim)
-    goes_on v so = turn_on F D E count stands.0 stands.1 claim stands.2 served serving v so
+    fits : E.queues ≡ lists_of E.farm
+    fits = serves.2 ∙ ap (queues_given D.farm next.0) trying.fits ∙ given_fits D.farm next.0 count trying.on.sound next.1
+        ∙ ap (λ (u : Served). lists_of u.farm) (serves.0 count)
 
-    pub goes_start : E.start ≡ D.start
-    goes_start = turn_start F D E count stands.0 stands.1 claim stands.2 served serving
+    pub tried_on : (v : Bool) → served ≡ v → Trying F former E.farm E.queues (counted count v) (place_after claim)
+    tried_on v so = subst (λ v. Trying F former E.farm E.queues (counted count v) (place_after claim)) so
+        (goes_on F former D.farm D.queues count place trying claim next E.farm E.queues (counted count served) went (high served) clock fits)
 
-    pub goes_less : left E.queues (place_after claim) < left D.queues place
-    goes_less = let less = turn_less F D E count stands.0 stands.1 claim stands.2 served serving in omega (arith, less, stands.3)
+    pub tried_start : E.start ≡ D.start
+    tried_start = serves.1
 
--- and the end
-pub goes_end : (F : Farm) (D : Drafted) (count : ℕ) (place : Option (ℕ × ℕ)) → Tries F D.farm D.queues count place → Reaches D.farm (lent_after D.queues place) None
-    → record { farm = D.farm; claims = count } ≡ serve_all F F.clock
-goes_end F D count place tries reaches =
-    let it = reaches_end F D count place tries reaches in
-    tries_end F D.farm D.queues count it.0 it.1 it.2
+    pub tried_less : left E.queues (place_after claim) < left D.queues place
+    tried_less = goes_less F former D.farm D.queues count place trying claim next E.farm E.queues (counted count served) went (high served) clock fits
+
+-- ---- where the pass begins
+
+pub trying_begins : (D E : Drafted) (former count : ℕ) → IsSound D.farm → D.farm.collector ≡ 0 → FirstServed D former count E → Trying D.farm former E.farm E.queues count None
+trying_begins D E former count sound none first = by (find (is_group former) (queue D.farm)) refl
+  where
+    low : D.farm.clock ≤ D.farm.clock
+    low = omega arith
+
+    from : (s : Served) → Begins D.farm former D.farm.clock sound none low s → s ≡ come_to E.farm count → s.farm.clock ≡ D.farm.clock
+        → Trying D.farm former E.farm E.queues count None
+    from s begins same clock =
+        let moved : Begins D.farm former D.farm.clock sound none low (come_to E.farm count) = subst (Begins D.farm former D.farm.clock sound none low) same begins in
+        let all : length (later None (queue E.farm)) ≡ length (queue E.farm) = ap length (later_none (queue E.farm)) in
+        record {
+          last = None;
+          tried = refl;
+          on = moved.on;
+          folds = moved.folds;
+          few = omega (arith, all, moved.few);
+          clock = ap (λ (u : Served). u.farm.clock) (sym same) ∙ clock;
+          fits = first.fits;
+        }
+
+    came : (o : Option Claimed) → find (is_group former) (queue D.farm) ≡ o
+        → fold (serve D.farm.clock) (come_to D.farm 0) (option_map_or (λ c. c ∷ []) o []) ≡ come_to E.farm count
+    came o found =
+        ap (fold (serve D.farm.clock) (come_to D.farm 0))
+        (sym (one_group former (queue D.farm) (numbers_differ D.farm sound) ∙ ap (λ o. option_map_or (λ c. c ∷ []) o []) found)) ∙ first.serves
+
+    by : (o : Option Claimed) → find (is_group former) (queue D.farm) ≡ o → Trying D.farm former E.farm E.queues count None
+    by None found = from (come_to D.farm 0) (begins_without D.farm former D.farm.clock sound none low found) (came None found) refl
+    by (Some c) found = from (serve D.farm.clock (come_to D.farm 0) c) (begins_with D.farm former D.farm.clock sound none low c found).1 (came (Some c) found)
+        (served_clock D.farm.clock (come_to D.farm 0) c)
+
+-- ---- the group that collected before
+
+-- where it is no claim, there is nothing to serve
+pub none_first : (D : Drafted) (former : ℕ) → IsSound D.farm → D.queues ≡ lists_of D.farm → boards_for D.farm former ≡ 0 → FirstServed D former 0 D
+none_first D former sound fits none = record {
+  serves = ap (fold (serve D.farm.clock) (come_to D.farm 0))
+      (none_pass (is_group former) (queue D.farm) (all_from (λ d. is_group former d ≡ false) (queue D.farm) (λ d at. by d at (is_group former d) refl)));
+  start = refl;
+  fits = fits;
+}
+  where
+    F : Farm
+    F = D.farm
+
+    leads_none : (d : Claimed) → IsClaim F d → is_group former d ≡ true → ⊥
+    leads_none d (inl (r, is)) own = true≢false (sym (both (not d.reservation) (d.number == former) own).0 ∙ ap (λ (e : Claimed). not e.reservation) is.2)
+    leads_none d (inr (j, is)) own =
+        let number : j.number ≡ former = same_number j.number j.group (both (j.number == j.group) (list_all waits (members F j.group)) is.1).0
+        ∙ sym (ap (λ (e : Claimed). e.number) is.2) ∙ same_number d.number former (both (not d.reservation) (d.number == former) own).1 in
+        let there : boards_for F former ≡ length (members F former) =
+        ap (λ o. option_map_or (λ k. cond (leads_claim F k) (length (members F former)) 0) o 0) (ap (job_of F) (sym number) ∙ is.0)
+        ∙ ap (λ v. cond v (length (members F former)) 0) is.1 in
+        let wants : length d.wants ≡ length (members F j.group) = ap (λ (e : Claimed). length e.wants) is.2 ∙ length-map (members F j.group) (λ m. m.want) in
+        let group : j.group ≡ former = sym (same_number j.number j.group (both (j.number == j.group) (list_all waits (members F j.group)) is.1).0) ∙ number in
+        let same : length (members F j.group) ≡ length (members F former) = ap (λ g. length (members F g)) group in
+        let some = some_want F d (inr (j, is)) in
+        omega (arith, none, there, wants, same, some)
+
+    by : (d : Claimed) → Among d (queue F) → (v : Bool) → is_group former d ≡ v → v ≡ false
+    by d at true own = absurd (leads_none d (among_has (IsClaim F) d (queue F) (queue_claims F sound.steady) at) own)
+    by d at false own = refl
+
+-- and where it is one
+pub former_waits : (F : Farm) (former boards : ℕ) → IsSound F → boards ≡ boards_for F former → (boards ≡ 0 → ⊥)
+    → (c : Claimed) × Among c (queue F) × ((shown_claim c).kind ≡ ClaimKind.Group) × (c.number ≡ former) × (length c.wants ≡ boards)
+former_waits F former boards sound are some = by (job_of F former) refl (are, some)
+  where
+    by : (o : Option JobRow) → job_of F former ≡ o
+        → (boards ≡ option_map_or (λ j. cond (leads_claim F j) (length (members F former)) 0) o 0) × (boards ≡ 0 → ⊥)
+        → (c : Claimed) × Among c (queue F) × ((shown_claim c).kind ≡ ClaimKind.Group) × (c.number ≡ former) × (length c.wants ≡ boards)
+    by None is two = absurd (two.1 two.0)
+    by (Some j) is two = led (leads_claim F j) refl two.0
+      where
+        number : j.number ≡ former
+        number = same_number j.number former (found_passes (λ (k : JobRow). k.number == former) j F.jobs is)
+
+        led : (v : Bool) → leads_claim F j ≡ v → boards ≡ cond v (length (members F former)) 0
+            → (c : Claimed) × Among c (queue F) × ((shown_claim c).kind ≡ ClaimKind.Group) × (c.number ≡ former) × (length c.wants ≡ boards)
+        led false leads none = absurd (two.1 none)
+        led true leads all =
+            let group : j.group ≡ former = sym (same_number j.number j.group (both (j.number == j.group) (list_all waits (members F j.group)) leads).0) ∙ number in (
+              group_claim F j,
+              among_queue F sound.steady (group_claim F j) (inr (j, (ap (job_of F) number ∙ is, leads, refl))),
+              refl,
+              group,
+              length-map (members F j.group) (λ m. m.want) ∙ ap (λ g. length (members F g)) group ∙ sym all,
+            )
+
+-- it was tried
+pub one_first : (D E : Drafted) (former : ℕ) (served : Bool) (c : Claimed) → IsSound D.farm → D.queues ≡ lists_of D.farm → Among c (queue D.farm)
+    → (shown_claim c).kind ≡ ClaimKind.Group → c.number ≡ former → Serves D c served E → FirstServed D former (counted 0 served) E
+one_first D E former served c sound fits at kind number serves = record {
+  serves = ap (fold (serve D.farm.clock) (come_to D.farm 0))
+      (one_group former (queue D.farm) (numbers_differ D.farm sound) ∙ by (find (is_group former) (queue D.farm)) refl) ∙ serves.0 0;
+  start = serves.1;
+  fits = serves.2 ∙ ap (queues_given D.farm c) fits ∙ given_fits D.farm c 0 sound at ∙ ap (λ (u : Served). lists_of u.farm) (serves.0 0);
+}
+  where
+    own : is_group former c ≡ true
+    own = (λ i. not (shown_group c.reservation kind i) && (number i == former)) ∙ itself former
+
+    by : (o : Option Claimed) → find (is_group former) (queue D.farm) ≡ o → option_map_or {U = List Claimed} (λ d. d ∷ []) o [] ≡ c ∷ []
+    by None found = absurd (true≢false (sym own ∙ found_nowhere (is_group former) (queue D.farm) found c at))
+    by (Some d) found =
+        let group = both (not d.reservation) (d.number == former) (found_passes (is_group former) d (queue D.farm) found) in
+        ap (λ e. e ∷ [])
+        (one_of d c (queue D.farm) (numbers_differ D.farm sound) (found_among (is_group former) d (queue D.farm) found) at (same_number d.number former group.1 ∙ sym number))

@@ -1,16 +1,18 @@
 -- What the program does for one claim of a pass.
-use Rattle.std.specs.Prelude.{◌≡◌, ◌==◌, ◌&&◌, ◌+◌, ◌++◌, ℕ, Bool, true, false, List, [], ◌∷◌}
+use Rattle.std.specs.Prelude.{◌≡◌, ◌≤◌, ◌==◌, ◌&&◌, ◌+◌, ◌++◌, ℕ, Bool, true, false, List, [], ◌∷◌}
 use Rattle.std.specs.Prelude.{length, map, not, slice_get}
 use Rattle.std.specs.Prelude.{IsSomeAnd, Option, Some, None}
 use Rattle.std.specs.Prelude.{if◌then◌else◌}
 use Rattle.std.specs.List.{AllByRecursion, filter, fold, list_all}
 use Rattle.std.specs.Option.{option_map_or}
+use Rattle.std.specs.Ordering.{is_lt}
 use Rattle.std.specs.Str.{bytes_eq}
 use Rattle.farm_types.specs.Table.{change_where}
 use Rattle.farm_types.specs.Farm.{Farm, job_of, members, res_of}
 use Rattle.farm_types.specs.Pass.{allocated, held, is_group, pass_over, placed, serve}
 use Rattle.farm_types.specs.Pick.{Among, Claimed, is_free, leads_claim, least, queue}
-use Rattle.farm_types.specs.Pick.{shown_claim}
+use Rattle.farm_types.specs.Pick.{shown_claim, shown_cmp}
+use Rattle.farm_pick.specs.Heads.{is_later, last_spot}
 use Rattle.farm_pick.specs.Queued.{Lists, idle_boards, lists_of}
 use Rattle.farm_types.specs.declared.rows.Holder.{Holder}
 use Rattle.farm_types.specs.declared.rows.JobState.{JobState}
@@ -88,12 +90,25 @@ abbrev pub IsLike : Farm → List Want → Option Known → Type 0
 IsLike F wants known =
     (k : Known) × (known ≡ Some k) × (wants ≡ wants_of F k.kind k.number)
 
--- of some claims one is reached behind such as no free boards meet, or all are such
+-- to serve a claim changes nothing: no free boards meet it, and it may not collect
+abbrev pub IsIdle : Farm → Claim → Type 0
+IsIdle F c = IsMissed F c.kind c.number × (F.collector ≡ 0 → c.boards ≤ 1)
+
+-- of some claims one is reached behind such ones, or all are such
 abbrev pub Reaches : Farm → List Claim → Option Claim → Type 0
-Reaches F claims None = AllByRecursion (λ c. IsMissed F c.kind c.number) claims
+Reaches F claims None = AllByRecursion (IsIdle F) claims
 Reaches F claims (Some c) =
-    (missed rest : List Claim) × (claims ≡ missed ++ c ∷ rest)
-    × AllByRecursion (λ m. IsMissed F m.kind m.number) missed
+    (passed rest : List Claim) × (claims ≡ passed ++ c ∷ rest)
+    × AllByRecursion (IsIdle F) passed
+
+-- the claim is the next of the queue after a place, but for such ones; or all after it are such
+abbrev pub NextIs : Farm → Option (ℕ × ℕ) → Option Claim → Type 0
+NextIs F last None = (d : Claimed) → Among d (queue F)
+    → is_later (last_spot last) (shown_claim d) ≡ true → IsIdle F (shown_claim d)
+NextIs F last (Some c) =
+    (d : Claimed) × Among d (queue F) × (shown_claim d ≡ c) × (is_later (last_spot last) c ≡ true)
+    × ((e : Claimed) → Among e (queue F) → is_later (last_spot last) (shown_claim e) ≡ true
+    → is_lt (shown_cmp (shown_claim e) c) ≡ true → IsIdle F (shown_claim e))
 
 -- one more, if a claim was served
 abbrev pub counted : ℕ → Bool → ℕ

@@ -6,22 +6,42 @@ ghost use Rattle.farm_types.specs.Farm.{Farm, members, res_of};
 ghost use Rattle.farm_types.specs.Sound.{IsSound};
 ghost use Rattle.farm_types.specs.declared.claims.ClaimKind.{ClaimKind};
 ghost use Rattle.farm_types.specs.declared.rows.JobRow.{JobRow};
-ghost use Rattle.farm_pick.specs.Heads.{last_spot};
-ghost use Rattle.farm_pick.specs.Queued.{is_open};
+ghost use Rattle.farm_pick.specs.Heads.{earlier, last_spot};
+ghost use Rattle.farm_pick.specs.Queued.{is_open, lists_of};
 ghost use Rattle.farm_pick.specs.Walked.{walked};
 ghost use Rattle.farm_core.specs.Plain.{plain};
 ghost use Rattle.farm_core.specs.Orderly.{IsOrderly, IsPlaceOf};
-ghost use Rattle.farm_core.specs.Serving.{AreUnmet, IsLike, IsMissed, Reaches, member_wants};
+ghost use Rattle.farm_core.specs.Serving.{AreUnmet, IsIdle, IsLike, IsMissed, NextIs, Reaches};
+ghost use Rattle.farm_core.specs.Serving.{member_wants};
 
 use crate::held_edits::{GUESS_REACH, place_near, place_of, res_place_of};
 use crate::same::{same_members, same_want};
 use crate::tables::Tables;
 use crate::unmet::{Known, Unmet};
+use farm_pick::before;
 use farm_sound::seek;
 use farm_types::claims::{Claim, ClaimKind};
 use farm_types::rows::{JobRow, ResRow, Want};
 use farm_types::words::Priority;
 use std::alloc::AllocError;
+
+/// Of two claims the one that goes first.
+fn earlier<'a>(first: Option<&'a Claim>, second: Option<&'a Claim>) -> Option<&'a Claim>
+    ensures { option_copied result ≡ earlier (option_copied first.entry)
+        (option_copied second.entry) }
+{
+    match (first, second) {
+        (None, second) => second,
+        (first, None) => first,
+        (Some(first), Some(second)) => {
+            if before(second, first) {
+                Some(second)
+            } else {
+                Some(first)
+            }
+        }
+    }
+}
 
 /// Where the rows of the claims stand that were looked at last, as a guess at those of the next.
 #[derive(Clone, Copy)]
@@ -158,13 +178,23 @@ impl Tables {
         }
     }
 
+    /// Whether a claim is passed over, since to serve it would change nothing: it wants the same as
+    /// one that was found unmet, and it waits for one board or a group collects already.
+    fn is_idle(&self, unmet: &Unmet, claim: &Claim, guess: &mut Guess) -> bool
+        requires sound { IsSound (plain self.now) }
+        requires known { AreUnmet (plain self.now) unmet.now }
+        ensures { result ≡ true → IsIdle (plain self.now) claim.now }
+    {
+        (self.collector != 0 || claim.boards < 2) && self.is_unmet(unmet, claim, guess)
+    }
+
     /// The first claim of the open queues after a priority and a number, if they are given, that
-    /// doesn't want the same as one that was found unmet; no free boards meet those before it.
+    /// isn't passed over.
     ///
     /// It takes memory for one place in each queue. With K queues, C claims in open ones and J jobs
     /// it costs O(K log C + log J) to begin, and then a comparison a queue and one for each of the
     /// eight that were found unmet for each claim that is passed over.
-    pub fn next_claim(
+    fn next_open(
         &self,
         unmet: &Unmet,
         last: Option<(Priority, u64)>,
@@ -180,10 +210,35 @@ impl Tables {
             reservation: 0,
         };
         for claim in self.queues.walk(last, false)? {
-            if !self.is_unmet(unmet, claim, &mut guess) {
+            if !self.is_idle(unmet, claim, &mut guess) {
                 return Ok(Some(claim));
             }
         }
         Ok(None)
+    }
+
+    /// The first claim after a priority and a number, if they are given, that may be served or may
+    /// collect: to serve those before it would change nothing. While nobody collects that is a
+    /// group of two members or more of any queue, or a claim of an open queue that doesn't want the
+    /// same as one that was found unmet; else the latter alone.
+    ///
+    /// It costs what a walk over the open queues does, and a look at the first claim of two boards
+    /// or more, in O(log C).
+    pub fn next_claim(
+        &self,
+        unmet: &Unmet,
+        last: Option<(Priority, u64)>,
+    ) -> Result<Option<&Claim>, AllocError>
+        requires sound { IsSound (plain self.now) }
+        requires fits { self.now.queues ≡ lists_of (plain self.now) }
+        requires known { AreUnmet (plain self.now) unmet.now }
+        ensures { IfOk result (λ claim. NextIs (plain self.now) last (option_copied claim)) }
+    {
+        let open = self.next_open(unmet, last)?;
+        if self.collector == 0 {
+            Ok(earlier(open, self.queues.next_several(last)))
+        } else {
+            Ok(open)
+        }
     }
 }

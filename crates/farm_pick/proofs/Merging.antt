@@ -157,7 +157,7 @@ either true b is = absurd (true≢false is)
 either false b is = (refl, is)
 
 -- the claim of a group is passed over, as it went first
-abbrev serve_but : ℕ → ℕ → Served → Claimed → Served
+abbrev pub serve_but : ℕ → ℕ → Served → Claimed → Served
 serve_but former t s c = cond (is_group former c) s (serve t s c)
 
 skips : (former t : ℕ) (s : Served) → IsSound s.farm
@@ -228,13 +228,17 @@ found_among p c (d ∷ cs) is = by (p d) is (λ more. found_among p c cs more)
     by true is more = let same : d ≡ c = cc in inl (sym same)
     by false is more = inr (more is)
 
-module _ (former t : ℕ) (s : Served) (last : Option Claimed) (c : Claimed) (trying : IsTrying former t s last) where
+-- claims that fail a test are passed over
+abbrev pub Skips : ℕ → ℕ → Served → (Claimed → Bool) → Type 0
+Skips former t s test = AllByRecursion (λ d. (not (is_group former d) && test d) ≡ false → serve_but former t s d ≡ s) (queue s.farm)
+
+module _ (former t : ℕ) (s : Served) (last : Option Claimed) (c : Claimed) (trying : IsTrying former t s last) (test : Claimed → Bool) (skip : Skips former t s test) where
   abbrev is_left : Claimed → Bool
   is_left d = comes_after (Some c) d && not (is_group former d)
 
   -- one claim more is tried
-  pub tried : next_tried former s.farm last ≡ Some c → IsOpen s.farm c × Goes former t s (serve t s c) last c
-  tried next = (
+  pub tried_by : find (λ d. comes_after last d && (not (is_group former d) && test d)) (queue s.farm) ≡ Some c → IsOpen s.farm c × Goes former t s (serve t s c) last c
+  tried_by next = (
     open_claim,
     record {
       on = record { low = after.low; sound = after.sound; coming = subst (AllByRecursion (IsOpen (serve t s c).farm)) (sym same) coming };
@@ -246,11 +250,12 @@ module _ (former t : ℕ) (s : Served) (last : Option Claimed) (c : Claimed) (tr
     },
   )
     where
-      passes : (comes_after last c ≡ true) × ((not (is_group former c) && may_act s.farm c) ≡ true)
-      passes = both (comes_after last c) (not (is_group former c) && may_act s.farm c) (found_passes (is_tried former s.farm last) c (queue s.farm) next)
+      passes : (comes_after last c ≡ true) × ((not (is_group former c) && test c) ≡ true)
+      passes = both (comes_after last c) (not (is_group former c) && test c)
+          (found_passes (λ d. comes_after last d && (not (is_group former d) && test d)) c (queue s.farm) next)
 
       differs : not (is_group former c) ≡ true
-      differs = (both (not (is_group former c)) (may_act s.farm c) passes.1).0
+      differs = (both (not (is_group former c)) (test c) passes.1).0
 
       other : is_group former c ≡ false
       other = not_true (is_group former c) differs
@@ -258,14 +263,13 @@ module _ (former t : ℕ) (s : Served) (last : Option Claimed) (c : Claimed) (tr
       open_claim : IsOpen s.farm c
       open_claim = among_has (IsOpen s.farm) c (rest former last s.farm) trying.coming
           (among_later (λ d. comes_after last d && not (is_group former d)) c (queue s.farm)
-          (found_among (is_tried former s.farm last) c (queue s.farm) next) (λ i. passes.0 i && differs i))
+          (found_among (λ d. comes_after last d && (not (is_group former d) && test d)) c (queue s.farm) next) (λ i. passes.0 i && differs i))
 
       after : Leaves t s c
       after = leaves t s c trying.low trying.sound open_claim
 
-      on : Leads (serve_but former t) s (λ d. not (is_group former d) && may_act s.farm d) last c (queue s.farm)
-      on = leads_on (serve_but former t) s (λ d. not (is_group former d) && may_act s.farm d) last c (queue s.farm) (queue_sorted s.farm)
-          (skips former t s trying.sound) next
+      on : Leads (serve_but former t) s (λ d. not (is_group former d) && test d) last c (queue s.farm)
+      on = leads_on (serve_but former t) s (λ d. not (is_group former d) && test d) last c (queue s.farm) (queue_sorted s.farm) skip next
 
       same : rest former (Some c) (serve t s c).farm ≡ rest former (Some c) s.farm
       same = after.keeps is_left (ap (λ v. v && not (is_group former c)) (after_itself c))
@@ -279,26 +283,41 @@ module _ (former t : ℕ) (s : Served) (last : Option Claimed) (c : Claimed) (tr
           differ d left is = true≢false (sym left ∙ ap is_left (sym is) ∙ ap (λ v. v && not (is_group former c)) (after_itself c))
 
   -- the claim of the group that went first is passed over
-  pub passed : next_lent s.farm last ≡ Some c → is_group former c ≡ true → Goes former t s s last c
-  passed next is = record {
-    on = record { low = trying.low; sound = trying.sound; coming = rest_behind former s.farm last c (lent_is s.farm last c next).0 trying.coming };
+  pub passed_by : find (λ d. comes_after last d && test d) (queue s.farm) ≡ Some c → is_group former c ≡ true → Goes former t s s last c
+  passed_by next is = record {
+    on = record {
+      low = trying.low;
+      sound = trying.sound;
+      coming = rest_behind former s.farm last c
+          (both (comes_after last c) (test c) (found_passes (λ d. comes_after last d && test d) c (queue s.farm) next)).0 trying.coming;
+    };
     folds = sym (fold_but former t last s (queue s.farm)) ∙ on.folds
         ∙ ap (λ v. fold (serve_but former t) (cond v s (serve t s c)) (later (Some c) (queue s.farm))) is
         ∙ fold_but former t (Some c) s (queue s.farm);
     fewer = on.fewer;
   }
     where
-      on : Leads (serve_but former t) s (may_act s.farm) last c (queue s.farm)
-      on = leads_on (serve_but former t) s (may_act s.farm) last c (queue s.farm) (queue_sorted s.farm)
-          (AllByRecursion-weaker (λ d skip out. skip (ap (λ v. not (is_group former d) && v) out ∙ and-false (not (is_group former d)))) (queue s.farm)
-          (skips former t s trying.sound)) next
+      on : Leads (serve_but former t) s test last c (queue s.farm)
+      on = leads_on (serve_but former t) s test last c (queue s.farm) (queue_sorted s.farm)
+          (AllByRecursion-weaker (λ d skips out. skips (ap (λ v. not (is_group former d) && v) out ∙ and-false (not (is_group former d)))) (queue s.farm) skip) next
 
 -- none is left to try
+pub none_by : (former t : ℕ) (s : Served) (last : Option Claimed) (test : Claimed → Bool) → Skips former t s test
+    → find (λ d. comes_after last d && (not (is_group former d) && test d)) (queue s.farm) ≡ None → fold (serve t) s (rest former last s.farm) ≡ s
+none_by former t s last test skip none =
+    sym (fold_but former t last s (queue s.farm)) ∙ leads_nowhere (serve_but former t) s (λ d. not (is_group former d) && test d) last (queue s.farm) skip none
+
+-- of the claims that may change the farm
+module _ (former t : ℕ) (s : Served) (last : Option Claimed) (c : Claimed) (trying : IsTrying former t s last) where
+  pub tried : next_tried former s.farm last ≡ Some c → IsOpen s.farm c × Goes former t s (serve t s c) last c
+  tried = tried_by former t s last c trying (may_act s.farm) (skips former t s trying.sound)
+
+  pub passed : next_lent s.farm last ≡ Some c → is_group former c ≡ true → Goes former t s s last c
+  passed = passed_by former t s last c trying (may_act s.farm) (skips former t s trying.sound)
+
 pub none_tried : (former t : ℕ) (s : Served) (last : Option Claimed) → IsSound s.farm → next_tried former s.farm last ≡ None
     → fold (serve t) s (rest former last s.farm) ≡ s
-none_tried former t s last sound none =
-    sym (fold_but former t last s (queue s.farm))
-    ∙ leads_nowhere (serve_but former t) s (λ d. not (is_group former d) && may_act s.farm d) last (queue s.farm) (skips former t s sound) none
+none_tried former t s last sound = none_by former t s last (may_act s.farm) (skips former t s sound)
 
 -- ---- what is lent is what is tried, but for the group that went first
 
