@@ -16,7 +16,7 @@ use Rattle.farm_sound.proofs.Claims.{IsClaim, claim_total, queue_claims, queue_s
 use Rattle.farm_sound.proofs.Lists.{among_has, filter_all}
 use Rattle.farm_sound.proofs.Tests.{both}
 use Rattle.farm_pick.specs.Heads.{earlier, is_later, last_spot}
-use Rattle.farm_pick.specs.Queued.{Queued, idle_boards, is_open, lists_of, queue_kind, queued}
+use Rattle.farm_pick.specs.Queued.{Lists, Queued, idle_boards, is_open, lists_of, queue_kind, queued}
 use Rattle.farm_pick.specs.Walked.{walked}
 use Rattle.farm_pick.proofs.Closed.{closed_is_unmet}
 use Rattle.farm_pick.proofs.Later.{after_itself, among_later, less_from, not_back}
@@ -274,3 +274,32 @@ module _ (F : Farm) (sound : IsSound F) (place : Option (ℕ × ℕ)) where
             idle e at behind (shown e two.0 one.0 ((before_both one.0 two.0 one.1 two.1 e).0 (compared true is)) b a two.2 one.2 less) less)
             choose false is = (one.0, one.1, one.2, one.3, λ e at behind less.
             idle e at behind less (shown e one.0 two.0 ((before_both one.0 two.0 one.1 two.1 e).1 (compared false is)) a b one.2 two.2 less))
+
+-- ---- claims that are passed over
+
+-- what the queues lend after a place, all of it
+abbrev pub lent_after : Lists → Option (ℕ × ℕ) → List Claim
+lent_after queues place = walked (λ k. false || is_open queues.boards k) (last_spot place) queues.claims
+
+-- one more is passed over
+pub idle_more : (F : Farm) (passed : List Claim) (c : Claim) → AllByRecursion (IsIdle F) passed → IsIdle F c → AllByRecursion (IsIdle F) (passed ++ (c ∷ []))
+idle_more F [] c all new = (new, tt)
+idle_more F (m ∷ passed) c all new = (all.0, idle_more F passed c all.1 new)
+
+-- the queues are those of the farm
+pub first_lent : (F : Farm) (sound : IsSound F) (place : Option (ℕ × ℕ)) (queues : Lists) → queues ≡ lists_of F → (o : Option Claim)
+    → Reaches F (lent_after queues place) o → First F sound place (opens F sound place) (IsIdle F) o
+first_lent F sound place queues fits o reaches = first_open F sound place o (subst (λ (l : Lists). Reaches F (lent_after l place) o) fits reaches)
+
+pub next_lent : (F : Farm) (sound : IsSound F) (place : Option (ℕ × ℕ)) (queues : Lists) → queues ≡ lists_of F → (open several : Option Claim)
+    → Reaches F (lent_after queues place) open
+    → several ≡ option_map (λ (x : Queued). x.claim) (find (λ x. is_later (last_spot place) x.claim && nat_le 2 x.claim.boards) queues.claims)
+    → NextIs F place (earlier open several)
+next_lent F sound place queues fits open several reaches found =
+    next_of_both F sound place open several (first_lent F sound place queues fits open reaches)
+    (first_several F sound place several (found ∙ ap (λ (l : Lists). option_map (λ (x : Queued). x.claim)
+    (find (λ x. is_later (last_spot place) x.claim && nat_le 2 x.claim.boards) l.claims)) fits))
+
+pub next_collects : (F : Farm) (sound : IsSound F) (place : Option (ℕ × ℕ)) (queues : Lists) → queues ≡ lists_of F → (open : Option Claim)
+    → Reaches F (lent_after queues place) open → (F.collector ≡ 0 → ⊥) → NextIs F place open
+next_collects F sound place queues fits open reaches one = next_alone F sound place one open (first_lent F sound place queues fits open reaches)

@@ -1,10 +1,15 @@
 -- The four parts of a pass make the whole.
-use Rattle.std.proofs.Common.{◌≡◌, ◌==◌, ℕ, map, not, sym, ap, ◌∙◌}
-use Rattle.std.specs.List.{filter, list_any}
+use Rattle.std.proofs.Common.{◌≡◌, ◌==◌, ◌+◌, ◌∷◌, [], ℕ, List, Bool, true, false, cond, map, not, refl, sym, ap, ◌∙◌}
+use Rattle.std.specs.List.{filter, fold, list_any}
+use Rattle.std.specs.Str.{bytes_eq}
+use Rattle.farm_types.specs.Table.{change_where, job_cmp, put}
 use Rattle.farm_types.specs.Farm.{Farm}
-use Rattle.farm_types.specs.Pass.{back, checks, expire, is_dead, is_due, serve_all}
+use Rattle.farm_types.specs.Pass.{back, check_job, check_one, checks, expire, has_room, held, is_dead, is_due, serve_all}
 use Rattle.farm_types.specs.Pick.{Claimed, queue}
+use Rattle.farm_types.specs.declared.rows.BoardRow.{BoardRow}
+use Rattle.farm_types.specs.declared.rows.Holder.{Holder}
 use Rattle.farm_types.specs.declared.rows.ResRow.{ResRow}
+use Rattle.farm_types.specs.declared.rows.State.{State}
 use Rattle.farm_types.specs.Sound.{IsSound}
 use Rattle.farm_pick.specs.Queued.{queued}
 use Rattle.farm_pick.proofs.Commands.{backs_follow}
@@ -29,6 +34,22 @@ expired_sound F sound = IsSound-expire (back F) F.clock (IsSound-back F sound)
 
 pub prepared_sound : (F : Farm) → IsSound F → IsSound (prepared F)
 prepared_sound F sound = IsSound-checks (expire (back F) F.clock) F.clock (expired_sound F sound)
+
+check_collector : (bs : List BoardRow) (F : Farm) → (fold check_one F bs).collector ≡ F.collector
+check_collector [] F = refl
+check_collector (b ∷ bs) F = check_collector bs (check_one F b) ∙ by (has_room F 1)
+  where
+    by : (v : Bool) → (cond v (record F {
+      jobs = put job_cmp F.jobs (check_job F.next b);
+      boards = change_where (λ c. bytes_eq c.name b.name) (held (Holder.Job F.next) State.Reserved) F.boards;
+      next = F.next + 1;
+    }) F).collector ≡ F.collector
+    by true = refl
+    by false = refl
+
+-- nobody collects then
+pub prepared_nobody : (F : Farm) → (prepared F).collector ≡ 0
+prepared_nobody F = check_collector (filter (is_due (expire (back F) F.clock) F.clock) (expire (back F) F.clock).boards) (expire (back F) F.clock)
 
 module _ (F B G H : Farm) (given : B ≡ back F) (ended : G ≡ expire B B.clock) (checked : H ≡ checks G G.clock) where
   pub is_expired : G ≡ expire (back F) F.clock

@@ -5,7 +5,7 @@ ghost use Rattle.std.specs.Prelude.{OnOk, IfOk, option_map};
 ghost use Rattle.std.specs.List.{filter, find, list_all};
 ghost use Rattle.std.specs.Option.{option_copied};
 ghost use Rattle.farm_types.specs.Farm.{Farm, members, res_of};
-ghost use Rattle.farm_types.specs.Pass.{serve, serve_all};
+ghost use Rattle.farm_types.specs.Pass.{is_group, serve, serve_all};
 ghost use Rattle.farm_types.specs.Pick.{Among, Claimed, least, is_free, queue, shown_claim};
 ghost use Rattle.farm_types.specs.Pick.{waits};
 ghost use Rattle.farm_types.specs.Small.{IsSmall};
@@ -70,6 +70,14 @@ fn wants_in<'a>(alloc: Global, rows: &'a [JobRow], group: u64) -> Result<Vec<&'a
         }
     }
     Ok(wants)
+}
+
+/// Whether a claim, told by its kind and its number, is that of a group.
+fn is_of_group(kind: ClaimKind, number: u64, group: u64) -> bool
+    ensures { (c : Claimed) → (shown_claim c).kind ≡ kind → c.number ≡ number
+        → is_group group c ≡ result }
+{
+    matches!(kind, ClaimKind::Group) && number == group
 }
 
 impl Tables {
@@ -285,6 +293,7 @@ impl Draft {
     /// claims, and O(K log C + log J + F) more for each for which boards are searched.
     pub fn serve(self, former: u64) -> Result<(Draft, u64), AllocError>
         requires sound { IsSound self.farm }
+        requires nobody { self.farm.collector ≡ 0 }
         requires small { IsSmall former }
         requires fits { self.queues ≡ lists_of self.farm }
         ensures farm { IfOk result (λ r. r.0 ≡ record self {
@@ -300,7 +309,7 @@ impl Draft {
         while let Some(claim) = draft.tables.next_claim(&unmet, last)? {
             let (kind, number, boards) = (claim.kind, claim.number, claim.boards);
             last = Some((claim.priority, number));
-            if kind != ClaimKind::Group || number != former {
+            if !is_of_group(kind, number, former) {
                 let (next, served) = draft.try_claim(&mut unmet, kind, number, boards)?;
                 draft = next;
                 if served {

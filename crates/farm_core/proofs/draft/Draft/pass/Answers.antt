@@ -1,4 +1,4 @@
-use Rattle.std.proofs.Common.{◌≡◌, ◌-◌, filter, ap, sym, ◌∙◌, subst}
+use Rattle.std.proofs.Common.{◌≡◌, ◌-◌, filter, length, ap, sym, ◌∙◌, subst}
 use Rattle.std.specs.List.Sorted.{IsStrictlySortedBy}
 use Rattle.farm_types.specs.Farm.{Farm}
 use Rattle.farm_types.specs.Pass.{Served, back, checks, expire, is_dead, serve_all}
@@ -11,7 +11,7 @@ use Rattle.farm_core.specs.Drafted.{Drafted}
 use Rattle.farm_core.specs.Following.{free_of, without_all}
 use Rattle.farm_core.proofs.Free.{prepared_types}
 use Rattle.farm_core.proofs.Sound.{small_collector}
-use Rattle.farm_core.proofs.Whole.{is_prepared, prepared, prepared_queue, prepared_sound, served_is}
+use Rattle.farm_core.proofs.Whole.{is_prepared, prepared, prepared_nobody, prepared_queue, prepared_sound, served_is}
 use Rattle.farm_core.proofs.draft.Draft.pass.Goals as goal
 
 -- what the first three parts lead to
