@@ -22,7 +22,7 @@ use Rattle.farm_pick.proofs.Closed.{closed_is_unmet}
 use Rattle.farm_pick.proofs.Later.{after_itself, among_later, less_from, not_back}
 use Rattle.farm_pick.proofs.Merging.{found_among, some_want}
 use Rattle.farm_pick.proofs.Ordered.{tied_same}
-use Rattle.farm_core.specs.Serving.{IsIdle, IsMissed, NextIs, Reaches}
+use Rattle.farm_core.specs.Serving.{IsSkipped, IsMissed, NextIs, Reaches}
 use Rattle.farm_core.proofs.Passing.{asks_claim}
 use Rattle.farm_core.proofs.Skipping.{wants_asked}
 
@@ -161,19 +161,19 @@ module _ (F : Farm) (sound : IsSound F) (place : Option (ℕ × ℕ)) where
     stands : Stands o
     before : (e : Claimed) → Among e (queue F) → is_behind e ≡ true → test e ≡ true → IsBefore e o → P (shown_claim e)
 
-  pub first_open : (o : Option Claim) → Reaches F (walked (λ k. false || is_open (idle_boards F) k) (last_spot place) (map queued (queue F))) o → First opens (IsIdle F) o
+  pub first_open : (o : Option Claim) → Reaches F (walked (λ k. false || is_open (idle_boards F) k) (last_spot place) (map queued (queue F))) o → First opens (IsSkipped F) o
   first_open o reaches = by o (subst (λ cs. Reaches F cs o) (map_passing (λ x. is_later (last_spot place) x.claim && is_open (idle_boards F) x.kind) (queue F)) reaches)
     where
       test : Claimed → Bool
       test d = is_behind d && opens d
 
-      by : (o : Option Claim) → Reaches F (map shown_claim (filter test (queue F))) o → First opens (IsIdle F) o
+      by : (o : Option Claim) → Reaches F (map shown_claim (filter test (queue F))) o → First opens (IsSkipped F) o
       by None all = record {
         stands = tt;
-        before = λ e at behind open _. all_shown (IsIdle F) (filter test (queue F)) all e (among_later test e (queue F) at (λ i. behind i && open i));
+        before = λ e at behind open _. all_shown (IsSkipped F) (filter test (queue F)) all e (among_later test e (queue F) at (λ i. behind i && open i));
       }
       by (Some c) reaches =
-          let it = split (IsIdle F) (filter test (queue F)) (filter_sorted test (queue F) (queue_sorted F)) reaches.0 reaches.1 c reaches.2 reaches.3 in
+          let it = split (IsSkipped F) (filter test (queue F)) (filter_sorted test (queue F) (queue_sorted F)) reaches.0 reaches.1 c reaches.2 reaches.3 in
           let here = among_filter test it.0 (queue F) it.1 in
           record {
             stands = (it.0, here.0, it.2, ap (is_later (last_spot place)) (sym it.2) ∙ (both (is_behind it.0) (opens it.0) here.1).0);
@@ -206,7 +206,7 @@ module _ (F : Farm) (sound : IsSound F) (place : Option (ℕ × ℕ)) where
           }
 
   -- one that is passed over, or whose queue is closed, isn't met
-  missed : (o : Option Claim) → First opens (IsIdle F) o → (e : Claimed) → Among e (queue F) → is_behind e ≡ true → IsBefore e o → IsMissed F (shown_claim e).kind e.number
+  missed : (o : Option Claim) → First opens (IsSkipped F) o → (e : Claimed) → Among e (queue F) → is_behind e ≡ true → IsBefore e o → IsMissed F (shown_claim e).kind e.number
   missed o first e at behind less = by (opens e) refl
     where
       claim : IsClaim F e
@@ -219,15 +219,15 @@ module _ (F : Farm) (sound : IsSound F) (place : Option (ℕ × ℕ)) where
           ∙ closed_is_unmet F sound.steady.boards_sorted e (some_want F e claim) closed
 
   -- where a group collects
-  pub next_alone : (F.collector ≡ 0 → ⊥) → (o : Option Claim) → First opens (IsIdle F) o → NextIs F place o
+  pub next_alone : (F.collector ≡ 0 → ⊥) → (o : Option Claim) → First opens (IsSkipped F) o → NextIs F place o
   next_alone one None first = λ d at behind. (missed None first d at behind tt, λ none. absurd (one none))
   next_alone one (Some c) first =
       let it = first.stands in
       (it.0, it.1, it.2, it.3, λ e at behind less. (missed (Some c) first e at behind less, λ none. absurd (one none)))
 
   -- and where nobody does
-  module _ (open several : Option Claim) (first : First opens (IsIdle F) open) (other : First (λ d. nat_le 2 (length d.wants)) (λ c. ⊥) several) where
-    idle : (e : Claimed) → Among e (queue F) → is_behind e ≡ true → IsBefore e open → IsBefore e several → IsIdle F (shown_claim e)
+  module _ (open several : Option Claim) (first : First opens (IsSkipped F) open) (other : First (λ d. nat_le 2 (length d.wants)) (λ c. ⊥) several) where
+    idle : (e : Claimed) → Among e (queue F) → is_behind e ≡ true → IsBefore e open → IsBefore e several → IsSkipped F (shown_claim e)
     idle e at behind less less' = (missed open first e at behind less, λ _. few_boards (length e.wants) (by (nat_le 2 (length e.wants)) refl))
       where
         by : (v : Bool) → nat_le 2 (length e.wants) ≡ v → v ≡ false
@@ -253,7 +253,7 @@ module _ (F : Farm) (sound : IsSound F) (place : Option (ℕ × ℕ)) where
     next_of_both = by open several first.stands other.stands idle
       where
         Idle : Option Claim → Option Claim → Type 0
-        Idle o p = (e : Claimed) → Among e (queue F) → is_behind e ≡ true → IsBefore e o → IsBefore e p → IsIdle F (shown_claim e)
+        Idle o p = (e : Claimed) → Among e (queue F) → is_behind e ≡ true → IsBefore e o → IsBefore e p → IsSkipped F (shown_claim e)
 
         by : (o p : Option Claim) → Stands o → Stands p → Idle o p → NextIs F place (earlier o p)
         by None None one two idle = λ d at behind. idle d at behind tt tt
@@ -282,13 +282,13 @@ abbrev pub lent_after : Lists → Option (ℕ × ℕ) → List Claim
 lent_after queues place = walked (λ k. false || is_open queues.boards k) (last_spot place) queues.claims
 
 -- one more is passed over
-pub idle_more : (F : Farm) (passed : List Claim) (c : Claim) → AllByRecursion (IsIdle F) passed → IsIdle F c → AllByRecursion (IsIdle F) (passed ++ (c ∷ []))
-idle_more F [] c all new = (new, tt)
-idle_more F (m ∷ passed) c all new = (all.0, idle_more F passed c all.1 new)
+pub skipped_more : (F : Farm) (passed : List Claim) (c : Claim) → AllByRecursion (IsSkipped F) passed → IsSkipped F c → AllByRecursion (IsSkipped F) (passed ++ (c ∷ []))
+skipped_more F [] c all new = (new, tt)
+skipped_more F (m ∷ passed) c all new = (all.0, skipped_more F passed c all.1 new)
 
 -- the queues are those of the farm
 pub first_lent : (F : Farm) (sound : IsSound F) (place : Option (ℕ × ℕ)) (queues : Lists) → queues ≡ lists_of F → (o : Option Claim)
-    → Reaches F (lent_after queues place) o → First F sound place (opens F sound place) (IsIdle F) o
+    → Reaches F (lent_after queues place) o → First F sound place (opens F sound place) (IsSkipped F) o
 first_lent F sound place queues fits o reaches = first_open F sound place o (subst (λ (l : Lists). Reaches F (lent_after l place) o) fits reaches)
 
 pub next_lent : (F : Farm) (sound : IsSound F) (place : Option (ℕ × ℕ)) (queues : Lists) → queues ≡ lists_of F → (open several : Option Claim)

@@ -43,7 +43,7 @@ use Rattle.farm_pick.proofs.Later.{after_itself, later, later_none, not_back}
 use Rattle.farm_pick.proofs.Merging.{Begins, Goes, IsTrying, Skips, begins_with, begins_without, found_among, none_by, one_group, passed_by, serve_but, some_want, tried_by, unserved}
 use Rattle.farm_core.specs.Following.{without_board, without_boards}
 use Rattle.farm_core.specs.Drafted.{Drafted}
-use Rattle.farm_core.specs.Serving.{Begins as FirstServed, IsIdle, NextIs, Serves, boards_for, counted, queues_given}
+use Rattle.farm_core.specs.Serving.{Begins as FirstServed, IsSkipped, NextIs, Serves, boards_for, counted, queues_given}
 use Rattle.farm_core.proofs.Given.{all_pass, taken_more}
 use Rattle.farm_core.proofs.Passing.{asks_claim, small_claim}
 use Rattle.farm_core.proofs.Next.{found_nowhere}
@@ -176,8 +176,8 @@ all_from P (x ∷ xs) each = (each x (inl refl), all_from P xs (λ y at. each y 
 not_two : (n : ℕ) → n ≤ 1 → nat_le 2 n ≡ false
 not_two n low = grind (arith, nat_tests, low)
 
-idle_stays : (t n : ℕ) (G : Farm) (e : Claimed) → IsClaim G e → IsIdle G (shown_claim e) → serve t (come_to G n) e ≡ come_to G n
-idle_stays t n G e claim idle =
+skipped_stays : (t n : ℕ) (G : Farm) (e : Claimed) → IsClaim G e → IsSkipped G (shown_claim e) → serve t (come_to G n) e ≡ come_to G n
+skipped_stays t n G e claim idle =
     unserved t (come_to G n) e (ap (least G.boards (is_free G.types)) (wants_asked G e (asks_claim G e claim)) ∙ idle.0) (by (G.collector == 0) refl)
   where
     by : (v : Bool) → (G.collector == 0) ≡ v → ((v && not e.reservation) && nat_le 2 (length e.wants)) ≡ false
@@ -237,7 +237,7 @@ module _ (F : Farm) (former : ℕ) (G : Farm) (queues : Lists) (count : ℕ) (pl
         stays : (e : Claimed) → Among e (queue G) → test e ≡ false → serve F.clock (come_to G count) e ≡ come_to G count
         stays e at out =
             let two = both (comes_after trying.last e) (is_lt (claim_cmp e it)) (is_true (comes_after trying.last e && is_lt (claim_cmp e it)) out) in
-            idle_stays F.clock count G e (claim_at e at)
+            skipped_stays F.clock count G e (claim_at e at)
             (next.4 e at (later_is e at ∙ two.0) (ap (λ k. is_lt (shown_cmp (shown_claim e) k)) (sym next.2) ∙ two.1))
 
         by : (e : Claimed) → Among e (queue G) → (v : Bool) → (not v && test e) ≡ false
@@ -329,7 +329,7 @@ module _ (F : Farm) (former : ℕ) (G : Farm) (queues : Lists) (count : ℕ) (pl
               → cond v (come_to G count) (serve F.clock (come_to G count) e) ≡ come_to G count
           by e at true out = refl
           by e at false out =
-              idle_stays F.clock count G e (claim_at e at) (next e at (later_is e at ∙ is_true (comes_after trying.last e) out))
+              skipped_stays F.clock count G e (claim_at e at) (next e at (later_is e at ∙ is_true (comes_after trying.last e) out))
 
 -- ---- a turn of the program
 

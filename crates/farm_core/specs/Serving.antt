@@ -91,24 +91,24 @@ IsLike F wants known =
     (k : Known) × (known ≡ Some k) × (wants ≡ wants_of F k.kind k.number)
 
 -- to serve a claim changes nothing: no free boards meet it, and it may not collect
-abbrev pub IsIdle : Farm → Claim → Type 0
-IsIdle F c = IsMissed F c.kind c.number × (F.collector ≡ 0 → c.boards ≤ 1)
+abbrev pub IsSkipped : Farm → Claim → Type 0
+IsSkipped F c = IsMissed F c.kind c.number × (F.collector ≡ 0 → c.boards ≤ 1)
 
 -- of some claims one is reached behind such ones, or all are such
 abbrev pub Reaches : Farm → List Claim → Option Claim → Type 0
-Reaches F claims None = AllByRecursion (IsIdle F) claims
+Reaches F claims None = AllByRecursion (IsSkipped F) claims
 Reaches F claims (Some c) =
     (passed rest : List Claim) × (claims ≡ passed ++ c ∷ rest)
-    × AllByRecursion (IsIdle F) passed
+    × AllByRecursion (IsSkipped F) passed
 
 -- the claim is the next of the queue after a place, but for such ones; or all after it are such
 abbrev pub NextIs : Farm → Option (ℕ × ℕ) → Option Claim → Type 0
 NextIs F last None = (d : Claimed) → Among d (queue F)
-    → is_later (last_spot last) (shown_claim d) ≡ true → IsIdle F (shown_claim d)
+    → is_later (last_spot last) (shown_claim d) ≡ true → IsSkipped F (shown_claim d)
 NextIs F last (Some c) =
     (d : Claimed) × Among d (queue F) × (shown_claim d ≡ c) × (is_later (last_spot last) c ≡ true)
     × ((e : Claimed) → Among e (queue F) → is_later (last_spot last) (shown_claim e) ≡ true
-    → is_lt (shown_cmp (shown_claim e) c) ≡ true → IsIdle F (shown_claim e))
+    → is_lt (shown_cmp (shown_claim e) c) ≡ true → IsSkipped F (shown_claim e))
 
 -- one more, if a claim was served
 abbrev pub counted : ℕ → Bool → ℕ

@@ -11,7 +11,7 @@ ghost use Rattle.farm_pick.specs.Queued.{is_open, lists_of};
 ghost use Rattle.farm_pick.specs.Walked.{walked};
 ghost use Rattle.farm_core.specs.Plain.{plain};
 ghost use Rattle.farm_core.specs.Orderly.{IsOrderly, IsPlaceOf};
-ghost use Rattle.farm_core.specs.Serving.{AreUnmet, IsIdle, IsLike, IsMissed, NextIs, Reaches};
+ghost use Rattle.farm_core.specs.Serving.{AreUnmet, IsSkipped, IsLike, IsMissed, NextIs, Reaches};
 ghost use Rattle.farm_core.specs.Serving.{member_wants};
 
 use crate::held_edits::{GUESS_REACH, place_near, place_of, res_place_of};
@@ -180,10 +180,10 @@ impl Tables {
 
     /// Whether a claim is passed over, since to serve it would change nothing: it wants the same as
     /// one that was found unmet, and it waits for one board or a group collects already.
-    fn is_idle(&self, unmet: &Unmet, claim: &Claim, guess: &mut Guess) -> bool
+    fn is_skipped(&self, unmet: &Unmet, claim: &Claim, guess: &mut Guess) -> bool
         requires sound { IsSound (plain self.now) }
         requires known { AreUnmet (plain self.now) unmet.now }
-        ensures { result ≡ true → IsIdle (plain self.now) claim.now }
+        ensures { result ≡ true → IsSkipped (plain self.now) claim.now }
     {
         (self.collector != 0 || claim.boards < 2) && self.is_unmet(unmet, claim, guess)
     }
@@ -210,7 +210,7 @@ impl Tables {
             reservation: 0,
         };
         for claim in self.queues.walk(last, false)? {
-            if !self.is_idle(unmet, claim, &mut guess) {
+            if !self.is_skipped(unmet, claim, &mut guess) {
                 return Ok(Some(claim));
             }
         }

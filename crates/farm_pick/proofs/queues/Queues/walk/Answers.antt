@@ -7,7 +7,7 @@ use Rattle.farm_pick.proofs.queues.Queues.walk.Goals as goal
 
 pub new-requires : goal.new-requires
 new-requires c =
-    heads_well c.self.inside.kinds.items c.self.inside.claims.entries c.self.inside.places.entries c.self.inside.idle.items c.self.invariant
+    heads_well c.self.inside.kinds.items c.self.inside.claims.entries c.self.inside.places.entries c.self.inside.idle.items c.self.invariant.well
     c.deref.result.now c.deref.ensures.value c.deref-2.result.now c.deref-2.ensures.value
 
 pub returns : goal.returns
