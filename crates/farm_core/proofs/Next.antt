@@ -1,12 +1,14 @@
 -- The next claim that is tried: of the open queues and, while nobody collects, of those of two boards or more.
 use Rattle.std.proofs.Common.{◌≡◌, ◌∙◌, ◌==◌, ◌||◌, ◌&&◌, ◌++◌, ◌≤◌, ℕ, zero, suc, List, [], ◌∷◌, map, filter, length, nat_le, Bool, true, false, cond, Option, Some, None, inl, inr, refl, sym, ap, subst, arith}
 use mathlib.Core.Bool.{true≢false, false≢true}
+use Rattle.std.specs.Prelude.{if◌then◌else◌}
 use Rattle.std.specs.List.{AllByRecursion, find}
 use Rattle.std.specs.List.Sorted.{IsStrictlySortedBy}
 use Rattle.std.specs.Option.{option_map}
 use Rattle.std.specs.Ordering.{is_lt, ordering_reverse}
 use Rattle.std.specs.declared.cmp.Ordering.{Ordering}
 use Rattle.std.specs.declared.cmp.Ordering.TheVariants.{Less, Equal, Greater}
+use Rattle.std.proofs.lemmas.Bool.Decides.{nat_tests}
 use Rattle.farm_types.specs.Farm.{Farm}
 use Rattle.farm_types.specs.Pick.{Among, Claimed, claim_cmp, is_free, least, queue, shown_claim, shown_cmp}
 use Rattle.farm_types.specs.Sound.{IsSound}
@@ -14,9 +16,11 @@ use Rattle.farm_types.specs.declared.claims.Claim.{Claim}
 use Rattle.farm_types.proofs.Put.{AllByRecursion-weaker, found_passes}
 use Rattle.farm_sound.proofs.Claims.{IsClaim, claim_total, queue_claims, queue_sorted}
 use Rattle.farm_sound.proofs.Lists.{among_has, filter_all}
+use Rattle.farm_sound.proofs.Own.{itself}
 use Rattle.farm_sound.proofs.Tests.{both}
 use Rattle.farm_pick.specs.Heads.{earlier, is_later, last_spot}
 use Rattle.farm_pick.specs.Queued.{Lists, Queued, idle_boards, is_open, lists_of, queue_kind, queued}
+use Rattle.farm_pick.specs.Merged.{lent_several}
 use Rattle.farm_pick.specs.Walked.{walked}
 use Rattle.farm_pick.proofs.Closed.{closed_is_unmet}
 use Rattle.farm_pick.proofs.Later.{after_itself, among_later, less_from, not_back}
@@ -95,24 +99,24 @@ found_first : (test : Claimed → Bool) (c : Claimed) (xs : List Claimed) → Is
     → (e : Claimed) → Among e xs → is_lt (claim_cmp e c) ≡ true → test e ≡ false
 unfolding IsStrictlySortedBy
 found_first test c [] sorted found e at less = absurd at
-found_first test c (x ∷ xs) sorted found e at less = by (test x) refl found at
+found_first test c (x ∷ xs) sorted found e at less = by (test x) refl found at (λ here there. found_first test c xs sorted.1 here e there less)
   where
-    by : (v : Bool) → test x ≡ v → cond v (Some x) (find test xs) ≡ Some c → Among e (x ∷ xs) → test e ≡ false
-    by true is here (inl same) = let at_head : x ≡ c = cc in absurd (true≢false (sym less ∙ (λ i. is_lt (claim_cmp (same i) (sym at_head i))) ∙ after_itself x))
-    by true is here (inr there) =
+    by : (v : Bool) → test x ≡ v → cond v (Some x) (find test xs) ≡ Some c → Among e (x ∷ xs) → (find test xs ≡ Some c → Among e xs → test e ≡ false) → test e ≡ false
+    by true is here (inl same) more = let at_head : x ≡ c = cc in absurd (true≢false (sym less ∙ (λ i. is_lt (claim_cmp (same i) (sym at_head i))) ∙ after_itself x))
+    by true is here (inr there) more =
         let at_head : x ≡ c = cc in
         absurd (true≢false (sym less ∙ ap (λ d. is_lt (claim_cmp e d)) (sym at_head) ∙ not_back x e (among_has (λ y. claim_cmp x y ≡ Less) e xs sorted.0 there)))
-    by false is here (inl same) = ap test same ∙ is
-    by false is here (inr there) = found_first test c xs sorted.1 here e there less
+    by false is here (inl same) more = ap test same ∙ is
+    by false is here (inr there) more = more here there
 
 pub found_nowhere : (test : Claimed → Bool) (xs : List Claimed) → find test xs ≡ None → (e : Claimed) → Among e xs → test e ≡ false
 found_nowhere test [] found e at = absurd at
-found_nowhere test (x ∷ xs) found e at = by (test x) refl found at
+found_nowhere test (x ∷ xs) found e at = by (test x) refl found at (λ here there. found_nowhere test xs here e there)
   where
-    by : (v : Bool) → test x ≡ v → cond v (Some x) (find test xs) ≡ None → Among e (x ∷ xs) → test e ≡ false
-    by true is here at = cc
-    by false is here (inl same) = ap test same ∙ is
-    by false is here (inr there) = found_nowhere test xs here e there
+    by : (v : Bool) → test x ≡ v → cond v (Some x) (find test xs) ≡ None → Among e (x ∷ xs) → (find test xs ≡ None → Among e xs → test e ≡ false) → test e ≡ false
+    by true is here at more = cc
+    by false is here (inl same) more = ap test same ∙ is
+    by false is here (inr there) more = more here there
 
 among_filter : (test : Claimed → Bool) (d : Claimed) (xs : List Claimed) → Among d (filter test xs) → Among d xs × (test d ≡ true)
 among_filter test d [] at = absurd at
@@ -135,31 +139,29 @@ filter_sorted test (x ∷ xs) sorted = by (test x) (filter_sorted test xs sorted
 -- ---- the next claim
 
 few_boards : (n : ℕ) → nat_le 2 n ≡ false → n ≤ 1
-few_boards zero is = omega arith
-few_boards (suc zero) is = omega arith
-few_boards (suc (suc n)) is = absurd (true≢false is)
+few_boards n is = grind (arith, nat_tests, is)
 
 module _ (F : Farm) (sound : IsSound F) (place : Option (ℕ × ℕ)) where
-  abbrev is_behind : Claimed → Bool
+  abbrev pub is_behind : Claimed → Bool
   is_behind d = is_later (last_spot place) (shown_claim d)
 
-  abbrev opens : Claimed → Bool
+  abbrev pub opens : Claimed → Bool
   opens d = is_open (idle_boards F) (queue_kind d)
 
   -- before a claim, if one is given, and else everywhere
-  abbrev IsBefore : Claimed → Option Claim → Type 0
+  abbrev pub IsBefore : Claimed → Option Claim → Type 0
   IsBefore e None = Unit {0}
   IsBefore e (Some c) = is_lt (shown_cmp (shown_claim e) c) ≡ true
 
   -- a claim, if one is given, stands in the queue behind the place
-  abbrev Stands : Option Claim → Type 0
+  abbrev pub Stands : Option Claim → Type 0
   Stands None = Unit {0}
   Stands (Some c) = (d : Claimed) × Among d (queue F) × (shown_claim d ≡ c) × (is_later (last_spot place) c ≡ true)
 
   -- no claim behind the place and before this one passes the test, but such as have the property
-  record First (test : Claimed → Bool) (P : Claim → Type 0) (o : Option Claim) : Type 0 where
-    stands : Stands o
-    before : (e : Claimed) → Among e (queue F) → is_behind e ≡ true → test e ≡ true → IsBefore e o → P (shown_claim e)
+  pub record First (test : Claimed → Bool) (P : Claim → Type 0) (o : Option Claim) : Type 0 where
+    pub stands : Stands o
+    pub before : (e : Claimed) → Among e (queue F) → is_behind e ≡ true → test e ≡ true → IsBefore e o → P (shown_claim e)
 
   pub first_open : (o : Option Claim) → Reaches F (walked (λ k. false || is_open (idle_boards F) k) (last_spot place) (map queued (queue F))) o → First opens (IsSkipped F) o
   first_open o reaches = by o (subst (λ cs. Reaches F cs o) (map_passing (λ x. is_later (last_spot place) x.claim && is_open (idle_boards F) x.kind) (queue F)) reaches)
@@ -170,14 +172,14 @@ module _ (F : Farm) (sound : IsSound F) (place : Option (ℕ × ℕ)) where
       by : (o : Option Claim) → Reaches F (map shown_claim (filter test (queue F))) o → First opens (IsSkipped F) o
       by None all = record {
         stands = tt;
-        before = λ e at behind open _. all_shown (IsSkipped F) (filter test (queue F)) all e (among_later test e (queue F) at (λ i. behind i && open i));
+        before = λ e at behind lent _. all_shown (IsSkipped F) (filter test (queue F)) all e (among_later test e (queue F) at (λ i. behind i && lent i));
       }
       by (Some c) reaches =
           let it = split (IsSkipped F) (filter test (queue F)) (filter_sorted test (queue F) (queue_sorted F)) reaches.0 reaches.1 c reaches.2 reaches.3 in
           let here = among_filter test it.0 (queue F) it.1 in
           record {
             stands = (it.0, here.0, it.2, ap (is_later (last_spot place)) (sym it.2) ∙ (both (is_behind it.0) (opens it.0) here.1).0);
-            before = λ e at behind open less. it.3 e (among_later test e (queue F) at (λ i. behind i && open i)) less;
+            before = λ e at behind lent less. it.3 e (among_later test e (queue F) at (λ i. behind i && lent i)) less;
           }
 
   pub first_several : (o : Option Claim)
@@ -213,7 +215,7 @@ module _ (F : Farm) (sound : IsSound F) (place : Option (ℕ × ℕ)) where
       claim = among_has (IsClaim F) e (queue F) (queue_claims F sound.steady) at
 
       by : (v : Bool) → opens e ≡ v → IsMissed F (shown_claim e).kind e.number
-      by true open = (first.before e at behind open less).0
+      by true lent = (first.before e at behind lent less).0
       by false closed =
           ap (least F.boards (is_free F.types)) (sym (wants_asked F e (asks_claim F e claim)))
           ∙ closed_is_unmet F sound.steady.boards_sorted e (some_want F e claim) closed
@@ -226,9 +228,9 @@ module _ (F : Farm) (sound : IsSound F) (place : Option (ℕ × ℕ)) where
       (it.0, it.1, it.2, it.3, λ e at behind less. (missed (Some c) first e at behind less, λ none. absurd (one none)))
 
   -- and where nobody does
-  module _ (open several : Option Claim) (first : First opens (IsSkipped F) open) (other : First (λ d. nat_le 2 (length d.wants)) (λ c. ⊥) several) where
-    idle : (e : Claimed) → Among e (queue F) → is_behind e ≡ true → IsBefore e open → IsBefore e several → IsSkipped F (shown_claim e)
-    idle e at behind less less' = (missed open first e at behind less, λ _. few_boards (length e.wants) (by (nat_le 2 (length e.wants)) refl))
+  module _ (lent several : Option Claim) (first : First opens (IsSkipped F) lent) (other : First (λ d. nat_le 2 (length d.wants)) (λ c. ⊥) several) where
+    idle : (e : Claimed) → Among e (queue F) → is_behind e ≡ true → IsBefore e lent → IsBefore e several → IsSkipped F (shown_claim e)
+    idle e at behind less less' = (missed lent first e at behind less, λ _. few_boards (length e.wants) (by (nat_le 2 (length e.wants)) refl))
       where
         by : (v : Bool) → nat_le 2 (length e.wants) ≡ v → v ≡ false
         by true is = absurd (other.before e at behind is less')
@@ -245,12 +247,12 @@ module _ (F : Farm) (sound : IsSound F) (place : Option (ℕ × ℕ)) where
       where
         by : (o : Ordering) → claim_cmp b a ≡ o → is_lt o ≡ false → is_lt (claim_cmp e a) ≡ true → is_lt (claim_cmp e b) ≡ true
         by Less is not_less less = absurd (true≢false not_less)
-        by Equal is not_less less = ap (λ d. is_lt (claim_cmp e d)) (sym (tied_same claim_cmp claim_total b a (queue F) (queue_sorted F) there here is)) ∙ less
+        by Equal is not_less less = ap (λ d. is_lt (claim_cmp e d)) (tied_same claim_cmp claim_total b a (queue F) (queue_sorted F) there here is) ∙ less
         by Greater is not_less less =
             ap is_lt (claim_total.trans e a b (less_from e a less) (claim_total.antisymm a b ∙ ap ordering_reverse is))
 
-    pub next_of_both : NextIs F place (earlier open several)
-    next_of_both = by open several first.stands other.stands idle
+    pub next_of_both : NextIs F place (earlier lent several)
+    next_of_both = by lent several first.stands other.stands idle
       where
         Idle : Option Claim → Option Claim → Type 0
         Idle o p = (e : Claimed) → Among e (queue F) → is_behind e ≡ true → IsBefore e o → IsBefore e p → IsSkipped F (shown_claim e)
@@ -271,9 +273,9 @@ module _ (F : Farm) (sound : IsSound F) (place : Option (ℕ × ℕ)) where
 
             choose : (v : Bool) → is_lt (shown_cmp b a) ≡ v → NextIs F place (cond v (Some b) (Some a))
             choose true is = (two.0, two.1, two.2, two.3, λ e at behind less.
-            idle e at behind (shown e two.0 one.0 ((before_both one.0 two.0 one.1 two.1 e).0 (compared true is)) b a two.2 one.2 less) less)
+                idle e at behind (shown e two.0 one.0 ((before_both one.0 two.0 one.1 two.1 e).0 (compared true is)) b a two.2 one.2 less) less)
             choose false is = (one.0, one.1, one.2, one.3, λ e at behind less.
-            idle e at behind less (shown e one.0 two.0 ((before_both one.0 two.0 one.1 two.1 e).1 (compared false is)) a b one.2 two.2 less))
+                idle e at behind less (shown e one.0 two.0 ((before_both one.0 two.0 one.1 two.1 e).1 (compared false is)) a b one.2 two.2 less))
 
 -- ---- claims that are passed over
 
@@ -287,19 +289,15 @@ skipped_more F [] c all new = (new, tt)
 skipped_more F (m ∷ passed) c all new = (all.0, skipped_more F passed c all.1 new)
 
 -- the queues are those of the farm
-pub first_lent : (F : Farm) (sound : IsSound F) (place : Option (ℕ × ℕ)) (queues : Lists) → queues ≡ lists_of F → (o : Option Claim)
-    → Reaches F (lent_after queues place) o → First F sound place (opens F sound place) (IsSkipped F) o
-first_lent F sound place queues fits o reaches = first_open F sound place o (subst (λ (l : Lists). Reaches F (lent_after l place) o) fits reaches)
+pub next_lent : (F : Farm) (sound : IsSound F) (place : Option (ℕ × ℕ)) (queues : Lists) → queues ≡ lists_of F → (lent : Option Claim)
+    → Reaches F (lent_after queues place) lent → NextIs F place (if F.collector == 0 then earlier lent (lent_several queues place) else lent)
+next_lent F sound place queues fits lent reaches = by (F.collector == 0) refl
+  where
+    first : First F sound place (opens F sound place) (IsSkipped F) lent
+    first = first_open F sound place lent (subst (λ (l : Lists). Reaches F (lent_after l place) lent) fits reaches)
 
-pub next_lent : (F : Farm) (sound : IsSound F) (place : Option (ℕ × ℕ)) (queues : Lists) → queues ≡ lists_of F → (open several : Option Claim)
-    → Reaches F (lent_after queues place) open
-    → several ≡ option_map (λ (x : Queued). x.claim) (find (λ x. is_later (last_spot place) x.claim && nat_le 2 x.claim.boards) queues.claims)
-    → NextIs F place (earlier open several)
-next_lent F sound place queues fits open several reaches found =
-    next_of_both F sound place open several (first_lent F sound place queues fits open reaches)
-    (first_several F sound place several (found ∙ ap (λ (l : Lists). option_map (λ (x : Queued). x.claim)
-    (find (λ x. is_later (last_spot place) x.claim && nat_le 2 x.claim.boards) l.claims)) fits))
-
-pub next_collects : (F : Farm) (sound : IsSound F) (place : Option (ℕ × ℕ)) (queues : Lists) → queues ≡ lists_of F → (open : Option Claim)
-    → Reaches F (lent_after queues place) open → (F.collector ≡ 0 → ⊥) → NextIs F place open
-next_collects F sound place queues fits open reaches one = next_alone F sound place one open (first_lent F sound place queues fits open reaches)
+    by : (v : Bool) → (F.collector == 0) ≡ v → NextIs F place (cond v (earlier lent (lent_several queues place)) lent)
+    by true nobody =
+        next_of_both F sound place lent (lent_several queues place) first
+        (first_several F sound place (lent_several queues place) (ap (λ (l : Lists). lent_several l place) fits))
+    by false one = next_alone F sound place (λ none. true≢false (sym (itself 0) ∙ ap (λ n. n == 0) (sym none) ∙ one)) lent first

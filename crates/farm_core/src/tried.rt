@@ -1,18 +1,20 @@
 //! Which claim a pass tries next: claims that want the same as one that was found unmet are passed
 //! over.
-ghost use Rattle.std.specs.Prelude.{◌≡◌, ◌≤◌, ◌||◌, ◌∷◌, [], true, false, length, IfOk, option_map};
+ghost use Rattle.std.specs.Prelude.{◌≡◌, ◌≤◌, ◌==◌, ◌||◌, ◌∷◌, [], true, false, length, IfOk};
+ghost use Rattle.std.specs.Prelude.{if◌then◌else◌, option_map};
 ghost use Rattle.std.specs.Option.{option_copied};
 ghost use Rattle.farm_types.specs.Farm.{Farm, members, res_of};
 ghost use Rattle.farm_types.specs.Sound.{IsSound};
 ghost use Rattle.farm_types.specs.declared.claims.ClaimKind.{ClaimKind};
 ghost use Rattle.farm_types.specs.declared.rows.JobRow.{JobRow};
 ghost use Rattle.farm_pick.specs.Heads.{earlier, last_spot};
+ghost use Rattle.farm_pick.specs.Merged.{lent_several};
 ghost use Rattle.farm_pick.specs.Queued.{is_open, lists_of};
 ghost use Rattle.farm_pick.specs.Walked.{walked};
 ghost use Rattle.farm_core.specs.Plain.{plain};
 ghost use Rattle.farm_core.specs.Orderly.{IsOrderly, IsPlaceOf};
-ghost use Rattle.farm_core.specs.Serving.{AreUnmet, IsSkipped, IsLike, IsMissed, NextIs, Reaches};
-ghost use Rattle.farm_core.specs.Serving.{member_wants};
+ghost use Rattle.farm_core.specs.Serving.{AreUnmet, IsLike, IsMissed, IsSkipped};
+ghost use Rattle.farm_core.specs.Serving.{NextIs, Reaches, member_wants};
 
 use crate::held_edits::{GUESS_REACH, place_near, place_of, res_place_of};
 use crate::same::{same_members, same_want};
@@ -40,6 +42,16 @@ fn earlier<'a>(first: Option<&'a Claim>, second: Option<&'a Claim>) -> Option<&'
                 Some(first)
             }
         }
+    }
+}
+
+/// An equal priority and number.
+fn copied(last: &Option<(Priority, u64)>) -> Option<(Priority, u64)>
+    ensures { result ≡ last.now }
+{
+    match last {
+        None => None,
+        Some((priority, number)) => Some((*priority, *number)),
     }
 }
 
@@ -217,6 +229,24 @@ impl Tables {
         Ok(None)
     }
 
+    /// Of a claim, if there is one, and the first one of two boards or more after a priority and a
+    /// number the one that goes first; where a group collects already, that claim.
+    fn or_several<'a>(
+        &'a self,
+        claim: Option<&'a Claim>,
+        last: Option<(Priority, u64)>,
+    ) -> Option<&'a Claim>
+        ensures { option_copied result ≡ (if self.now.collector == 0
+        then earlier (option_copied claim.entry) (lent_several self.now.queues last)
+        else option_copied claim.entry) }
+    {
+        if self.collector == 0 {
+            earlier(claim, self.queues.next_several(last))
+        } else {
+            claim
+        }
+    }
+
     /// The first claim after a priority and a number, if they are given, that may be served or may
     /// collect: to serve those before it would change nothing. While nobody collects that is a
     /// group of two members or more of any queue, or a claim of an open queue that doesn't want the
@@ -234,11 +264,7 @@ impl Tables {
         requires known { AreUnmet (plain self.now) unmet.now }
         ensures { IfOk result (λ claim. NextIs (plain self.now) last (option_copied claim)) }
     {
-        let open = self.next_open(unmet, last)?;
-        if self.collector == 0 {
-            Ok(earlier(open, self.queues.next_several(last)))
-        } else {
-            Ok(open)
-        }
+        let open = self.next_open(unmet, copied(&last))?;
+        Ok(self.or_several(open, copied(&last)))
     }
 }
