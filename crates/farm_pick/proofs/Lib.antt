@@ -21,6 +21,7 @@ pub mod Taken
 pub mod Headed
 pub mod Listed
 pub mod Bridge
+pub mod Former
 pub mod Spots
 pub mod Groups
 pub mod Taking
