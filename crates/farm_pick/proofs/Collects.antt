@@ -1,7 +1,7 @@
 -- A group that collects stays in the queue.
-use Rattle.std.proofs.Common.{◌&&◌, ◌==◌, ◌∙◌, ◌∷◌, ◌≡◌, List, Some, ap, inl, inr, nat_le, length, not, refl, sym, true, []}
+use Rattle.std.proofs.Common.{◌&&◌, ◌==◌, ◌∙◌, ◌∷◌, ◌≡◌, List, Some, ap, inl, inr, nat_le, length, map, not, refl, sym, true, ℕ, []}
 use mathlib.Core.Bool.{true≢false}
-use Rattle.std.specs.List.{AllByRecursion, fold, list_all}
+use Rattle.std.specs.List.{AllByRecursion, filter, fold, list_all}
 use Rattle.std.proofs.Math.Bool.{and-true}
 use Rattle.farm_types.specs.Farm.{Farm, job_of, members}
 use Rattle.farm_types.specs.Pass.{collect, give_member, may_collect, pass_over, placed}
@@ -18,7 +18,7 @@ use Rattle.farm_sound.proofs.Lists.{all_tested, among_has, filter_all}
 use Rattle.farm_sound.proofs.Own.{only_job, own_job}
 use Rattle.farm_sound.proofs.Tests.{both, same_number}
 use Rattle.farm_sound.proofs.Where.{AllByRecursion-both, all_true, by_cases, map_id}
-use Rattle.farm_pick.proofs.Taking.{queue_stays}
+use Rattle.farm_pick.proofs.Taking.{queue_stays, seen_same}
 
 abbrev S : JobState
 S = JobState.Scheduling
@@ -36,11 +36,28 @@ kept : (ps : List (JobRow × BoardRow)) (F : Farm) → (fold (give_member S) F p
 kept [] F = refl
 kept (p ∷ ps) F = kept ps (give_member S F (p.0, p.1))
 
+collected_jobs : (F : Farm) (group : ℕ) → (collect F group).jobs ≡ map (given S (pairs_for F (members F group))) F.jobs
+collected_jobs F group = ap (λ (G : Farm). G.jobs) (collect_is (members F group) F) ∙ jobs_given S (pairs_for F (members F group)) F
+
+-- no member of any group wants something else
+pub wants_stay : (F : Farm) (c : Claimed) (n : ℕ) → map (λ (m : JobRow). m.want) (members (pass_over F c) n) ≡ map (λ (m : JobRow). m.want) (members F n)
+wants_stay F c n = by_cases (λ (G : Farm). map (λ (m : JobRow). m.want) (members G n) ≡ map (λ (m : JobRow). m.want) (members F n))
+    (may_collect F c) (collect F c.number) F (λ _. collected) (λ _. refl)
+  where
+    ps : List (JobRow × BoardRow)
+    ps = pairs_for F (members F c.number)
+
+    collected : map (λ (m : JobRow). m.want) (members (collect F c.number) n) ≡ map (λ (m : JobRow). m.want) (members F n)
+    collected =
+        ap (λ jobs. map (λ (m : JobRow). m.want) (filter (λ (r : JobRow). r.group == n) jobs)) (collected_jobs F c.number)
+        ∙ seen_same (given S ps) (λ (r : JobRow). r.group == n) (λ (m : JobRow). m.want) F.jobs
+        (AllByRecursion-weaker (λ m _. (ap (λ g. g == n) (given_group S ps m), λ _. (given_same S ps m).2)) F.jobs (all_true F.jobs))
+
 module _ (F : Farm) (sound : IsSound F) where
   group_stays : (c : Claimed) (j : JobRow) → IsGroupClaim F c j → queue (collect F j.group) ≡ queue F
   group_stays c j is = queue_stays F (collect F j.group) (given S ps) (λ r. r)
       (record {
-        jobs = ap (λ (G : Farm). G.jobs) (collect_is (members F j.group) F) ∙ jobs_given S ps F;
+        jobs = collected_jobs F j.group;
         reservations = ap (λ (G : Farm). G.reservations) (collect_is (members F j.group) F) ∙ kept ps F ∙ sym (map_id F.reservations);
         same_job = λ m. let same = given_same S ps m in
             record { number = given_number S ps m; group = given_group S ps m; owner = same.0; priority = same.1; want = same.2 };

@@ -41,11 +41,11 @@ use Rattle.farm_pick.proofs.Taking.{SameClaim, and_other, other, queue_stays, qu
 -- ---- states
 
 -- whether a job of the state waits for boards
-abbrev in_queue : JobState → Bool
+abbrev pub in_queue : JobState → Bool
 in_queue s = same_job_state s JobState.Submitted || same_job_state s JobState.Scheduling
 
 -- it does so in its first phase
-waits_by_phase : (s : JobState) → in_queue s ≡ (phase s == 0)
+pub waits_by_phase : (s : JobState) → in_queue s ≡ (phase s == 0)
 waits_by_phase JobState.Submitted = refl
 waits_by_phase JobState.Scheduling = refl
 waits_by_phase JobState.Scheduled = refl

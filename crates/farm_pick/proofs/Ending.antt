@@ -25,7 +25,7 @@ module _ (F : Farm) (t : ℕ) (sound : IsSound F) where
   over r = record r { state = ResState.Expired }
 
   -- a number that no reservation has
-  none_ended : (n : ℕ) → AllByRecursion (λ r. (r.number == n) ≡ false) F.reservations → ended n ≡ false
+  pub none_ended : (n : ℕ) → AllByRecursion (λ r. (r.number == n) ≡ false) F.reservations → ended n ≡ false
   none_ended n differ = none_any (λ r. r.number == n) (filter (is_dead t) F.reservations)
       (AllByRecursion-weaker (λ r two. two.0) (filter (is_dead t) F.reservations) (filter_all (λ r. (r.number == n) ≡ false) (is_dead t) F.reservations differ))
 

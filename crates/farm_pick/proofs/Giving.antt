@@ -58,6 +58,11 @@ one_given types h name is boards =
     taken (λ b. cond (bytes_eq b.name name) (held h State.Reserved b) b) (is_free types) (is_free types) idle_board idle_board
     (λ x. not (bytes_eq name x.name)) boards (AllByRecursion-weaker (λ b _. free_after types h name is b) boards (all_true boards))
 
+-- a member's board goes, whatever state the member comes to
+pub member_given : (state : JobState) (F : Farm) (m : JobRow) (b : BoardRow)
+    → idle_boards (give_member state F (m, b)) ≡ filter (λ x. not (bytes_eq b.name x.name)) (idle_boards F)
+member_given state F m b = one_given F.types (Holder.Job m.number) b.name refl F.boards
+
 -- whether a list's boards are others than this one
 abbrev is_left : List BoardRow → IdleBoard → Bool
 is_left bs x = not (list_any (λ b. bytes_eq b.name x.name) bs)
@@ -84,7 +89,7 @@ group_given [] (b ∷ bs) F long = absurd (omega arith)
 group_given (m ∷ ms) [] F long = absurd (omega arith)
 group_given (m ∷ ms) (b ∷ bs) F long =
     group_given ms bs (give_member JobState.Scheduled F (m, b)) (omega arith)
-    ∙ ap (filter (is_left bs)) (one_given F.types (Holder.Job m.number) b.name refl F.boards)
+    ∙ ap (filter (is_left bs)) (member_given JobState.Scheduled F m b)
     ∙ left_twice b bs (idle_boards F)
 
 -- ---- the claim

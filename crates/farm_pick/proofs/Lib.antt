@@ -23,6 +23,7 @@ pub mod Sieved
 pub mod Walking
 pub mod Listed
 pub mod Bridge
+pub mod Former
 pub mod Spots
 pub mod Groups
 pub mod Taking

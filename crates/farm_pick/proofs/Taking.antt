@@ -45,7 +45,7 @@ taken f test new view seen kept (x ∷ xs) all =
     by false w is rest = rest
 
 -- elements that pass as before, and are seen as before
-seen_same : {A B : Type 0} (f : A → A) (test : A → Bool) (view : A → B) (xs : List A)
+pub seen_same : {A B : Type 0} (f : A → A) (test : A → Bool) (view : A → B) (xs : List A)
     → AllByRecursion (λ x. (test (f x) ≡ test x) × (test x ≡ true → view (f x) ≡ view x)) xs
     → map view (filter test (map f xs)) ≡ map view (filter test xs)
 seen_same f test view [] all = refl

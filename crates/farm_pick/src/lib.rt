@@ -39,4 +39,5 @@ pub use picked::Picked;
 pub use queue::queue_of;
 pub use queues::Queues;
 pub use search::{least, least_of};
+pub use waiting::earlier;
 pub use walk::Walk;

@@ -97,8 +97,8 @@ pub fn head(claims: &BTreeMap<Spot, Claim>, last: Spot) -> Option<&Claim>
     }
 }
 
-/// Of two claims the one that goes first.
-fn earlier<'a>(first: Option<&'a Claim>, second: Option<&'a Claim>) -> Option<&'a Claim>
+/// Of two claims the one that goes first; of one alone this one.
+pub fn earlier<'a>(first: Option<&'a Claim>, second: Option<&'a Claim>) -> Option<&'a Claim>
     ensures { option_copied result ≡ earlier (option_copied first.entry)
         (option_copied second.entry) }
 {
