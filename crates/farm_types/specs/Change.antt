@@ -4,7 +4,8 @@ use Rattle.std.specs.List.{filter}
 use Rattle.std.specs.Option.{option_map_or}
 use Rattle.farm_types.specs.Codes.{same_health, same_job_state, same_outcome}
 use Rattle.farm_types.specs.Farm.{Farm, job_of, put_type, put_board, put_jobs, put_res, put_kept}
-use Rattle.farm_types.specs.Pass.{idle, with_board, change_jobs, change_res, is_dead, expire, checks, serve_all}
+use Rattle.farm_types.specs.Pass.{idle, with_board, change_jobs, change_res, is_dead, back, expire, checks, serve_all}
+use Rattle.farm_types.specs.Pick.{waits}
 use Rattle.farm_types.specs.Refuse.{moment, kind_of}
 use Rattle.farm_types.specs.declared.rows.Health.{Health}
 use Rattle.farm_types.specs.declared.rows.State.{State}
@@ -76,14 +77,16 @@ new_res number owner priority tags deadline = record {
 abbrev pub in_state : State → BoardRow → BoardRow
 in_state state b = record b { state = state }
 
--- the Submitted and Scheduled members of a group are Finished, and their boards free; its Running ones become Canceling
+-- the members of a group that have not started are Finished, and their boards free; its Running ones become Canceling; it collects no longer
 abbrev pub is_unstarted : JobRow → Bool
-is_unstarted j = same_job_state j.state JobState.Submitted || same_job_state j.state JobState.Scheduled
+is_unstarted j = waits j || same_job_state j.state JobState.Scheduled
 
 abbrev pub cancel_group : ℕ → Farm → Farm
 cancel_group group F =
     change_jobs (λ j. (j.group == group) && same_job_state j.state JobState.Running) (λ j. record j { state = JobState.Canceling }) (λ b. b)
-    (change_jobs (λ j. (j.group == group) && is_unstarted j) (λ j. record j { state = JobState.Finished; outcome = Some Outcome.Canceled }) idle F)
+    (record (change_jobs (λ j. (j.group == group) && is_unstarted j) (λ j. record j { state = JobState.Finished; outcome = Some Outcome.Canceled }) idle F) {
+      collector = if F.collector == group then 0 else F.collector;
+    })
 
 -- all members of a group are Running, and so are their boards
 abbrev pub start_group : ℕ → Farm → Farm
@@ -136,9 +139,9 @@ act F caller (Cmd.Refresh number) =
 act F caller (Cmd.CancelRes number) =
     done number (change_res (λ r. r.number == number) (λ r. record r { state = ResState.Canceled }) idle F)
 act F caller Cmd.Pass =
-    let expired = expire F F.clock in
+    let expired = expire (back F) F.clock in
     let checked = checks expired F.clock in
-    let served = serve_all checked F.clock in
+    let served = serve_all checked F.collector F.clock in
     record { reply = replied (checked.next - F.next) (length (filter (is_dead F.clock) F.reservations)) served.claims; farm = served.farm }
 
 -- the farm with the call's reply kept under its key, if it has one

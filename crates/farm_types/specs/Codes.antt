@@ -21,10 +21,11 @@ state_code State.Running = 2
 
 abbrev pub job_state_code : JobState → ℕ
 job_state_code JobState.Submitted = 0
-job_state_code JobState.Scheduled = 1
-job_state_code JobState.Running = 2
-job_state_code JobState.Canceling = 3
-job_state_code JobState.Finished = 4
+job_state_code JobState.Scheduling = 1
+job_state_code JobState.Scheduled = 2
+job_state_code JobState.Running = 3
+job_state_code JobState.Canceling = 4
+job_state_code JobState.Finished = 5
 
 abbrev pub outcome_code : Outcome → ℕ
 outcome_code Outcome.Complete = 1
@@ -60,7 +61,7 @@ abbrev pub state_with : ℕ → Option State
 state_with code = find (λ x. state_code x == code) (State.Idle ∷ State.Reserved ∷ State.Running ∷ [])
 
 abbrev pub job_state_with : ℕ → Option JobState
-job_state_with code = find (λ x. job_state_code x == code) (JobState.Submitted ∷ JobState.Scheduled ∷ JobState.Running ∷ JobState.Canceling ∷ JobState.Finished ∷ [])
+job_state_with code = find (λ x. job_state_code x == code) (JobState.Submitted ∷ JobState.Scheduling ∷ JobState.Scheduled ∷ JobState.Running ∷ JobState.Canceling ∷ JobState.Finished ∷ [])
 
 abbrev pub outcome_with : ℕ → Option Outcome
 outcome_with code = find (λ x. outcome_code x == code) (Outcome.Complete ∷ Outcome.Incomplete ∷ Outcome.Infra ∷ Outcome.Canceled ∷ [])
@@ -83,6 +84,7 @@ state_word State.Running = codes "Running"
 
 abbrev pub job_state_word : JobState → List ℕ
 job_state_word JobState.Submitted = codes "Submitted"
+job_state_word JobState.Scheduling = codes "Scheduling"
 job_state_word JobState.Scheduled = codes "Scheduled"
 job_state_word JobState.Running = codes "Running"
 job_state_word JobState.Canceling = codes "Canceling"

@@ -1,4 +1,4 @@
--- A farm: eight plain things.
+-- A farm: nine plain things.
 use Rattle.std.specs.Prelude.{ℕ, ◌==◌, ◌&&◌, List, [], length, Option}
 use Rattle.std.specs.List.{find, filter}
 use Rattle.std.specs.Str.{bytes_eq}
@@ -12,6 +12,7 @@ use Rattle.farm_types.specs.declared.calls.Changes.{Changes}
 use Rattle.farm_types.specs.declared.calls.Rows.{Rows}
 use Rattle.farm_types.specs.declared.claims.Status.{Status}
 
+-- `collector` is the number of the group that collects boards, and 0 while none does
 pub record Farm : Type 0 where
   pub types : List TypeRow
   pub boards : List BoardRow
@@ -19,12 +20,13 @@ pub record Farm : Type 0 where
   pub reservations : List ResRow
   pub kept : List KeptRow
   pub clock : ℕ
+  pub collector : ℕ
   pub count : ℕ
   pub next : ℕ
 
 -- the farm that nothing was asked of
 abbrev pub empty : Farm
-empty = record { types = []; boards = []; jobs = []; reservations = []; kept = []; clock = 0; count = 0; next = 1 }
+empty = record { types = []; boards = []; jobs = []; reservations = []; kept = []; clock = 0; collector = 0; count = 0; next = 1 }
 
 -- the row with a key
 abbrev pub type_of : Farm → List ℕ → Option TypeRow
@@ -65,7 +67,7 @@ put_res F row = record F { reservations = put res_cmp F.reservations row }
 abbrev pub put_kept : Farm → KeptRow → Farm
 put_kept F row = record F { kept = put kept_cmp F.kept row }
 
--- the farm with each changed row put, and the three numbers
+-- the farm with each changed row put, and the four numbers
 abbrev pub put_rows : Farm → Changes → Farm
 put_rows F c = record {
   types = put_all type_cmp F.types c.types.items;
@@ -74,6 +76,7 @@ put_rows F c = record {
   reservations = put_all res_cmp F.reservations c.reservations.items;
   kept = put_all kept_cmp F.kept c.kept.items;
   clock = c.meta.clock;
+  collector = c.meta.collector;
   count = c.meta.count;
   next = c.meta.next;
 }
@@ -87,6 +90,7 @@ farm_of r = record {
   reservations = r.reservations.items;
   kept = r.kept.items;
   clock = r.meta.clock;
+  collector = r.meta.collector;
   count = r.meta.count;
   next = r.meta.next;
 }
@@ -96,6 +100,7 @@ abbrev pub status_of : Farm → Status
 status_of F = record {
   boards = length F.boards;
   clock = F.clock;
+  collector = F.collector;
   count = F.count;
   jobs = length F.jobs;
   next = F.next;

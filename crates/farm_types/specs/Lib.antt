@@ -17,6 +17,7 @@ pub mod Machine
 pub mod Sound
 pub mod Worked
 pub mod WorkedJobs
+pub mod WorkedCollecting
 pub mod WorkedChecks
 pub mod WorkedReservations
 pub mod WorkedWhole

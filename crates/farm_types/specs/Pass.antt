@@ -1,18 +1,19 @@
 -- The pass.
-use Rattle.std.specs.Prelude.{ℕ, ◌==◌, ◌&&◌, ◌||◌, ◌+◌, ◌-◌, ◌*◌, Bool, true, false, nat_le, List, [], ◌∷◌, length, Option, Some, None, if◌then◌else◌, codes}
-use Rattle.std.specs.List.{filter, fold, zip}
+use Rattle.std.specs.Prelude.{ℕ, ◌==◌, ◌&&◌, ◌||◌, ◌+◌, ◌-◌, ◌*◌, ◌++◌, Bool, true, false, not, nat_le, List, [], ◌∷◌, length, Option, Some, None, if◌then◌else◌, codes}
+use Rattle.std.specs.List.{filter, find, fold, zip}
 use Rattle.std.specs.Option.{option_map_or}
 use Rattle.std.specs.Str.{bytes_eq}
-use Rattle.farm_types.specs.Codes.{same_health, same_res_state}
+use Rattle.farm_types.specs.Codes.{same_health, same_job_state, same_res_state}
 use Rattle.farm_types.specs.Table.{put, job_cmp, change_where}
 use Rattle.farm_types.specs.Farm.{job_of, Farm, board_of, res_of, members, put_board}
-use Rattle.farm_types.specs.Pick.{is_nobody, is_free, check_of, least, Claimed, queue}
+use Rattle.farm_types.specs.Pick.{is_nobody, is_free, fits, check_of, least, Claimed, queue}
 use Rattle.farm_types.specs.declared.rows.Health.{Health}
 use Rattle.farm_types.specs.declared.rows.State.{State}
 use Rattle.farm_types.specs.declared.rows.Holder.{Holder}
 use Rattle.farm_types.specs.declared.rows.JobState.{JobState}
 use Rattle.farm_types.specs.declared.rows.ResState.{ResState}
 use Rattle.farm_types.specs.declared.rows.Check.{Check}
+use Rattle.farm_types.specs.declared.rows.Want.{Want}
 use Rattle.farm_types.specs.declared.rows.BoardRow.{BoardRow}
 use Rattle.farm_types.specs.declared.rows.JobRow.{JobRow}
 use Rattle.farm_types.specs.declared.rows.ResRow.{ResRow}
@@ -23,6 +24,10 @@ held holder state b = record b { holder = holder; state = state }
 
 abbrev pub idle : BoardRow → BoardRow
 idle = held Holder.Nobody State.Idle
+
+-- a job without a board
+abbrev pub unplaced : JobRow → JobRow
+unplaced j = record j { state = JobState.Submitted; board = None }
 
 -- the farm with a named board changed; with none named it stays
 abbrev pub with_board : (BoardRow → BoardRow) → Farm → Option (List ℕ) → Farm
@@ -50,11 +55,15 @@ change_jobs test f g F = record F { jobs = change_where test f F.jobs; boards = 
 abbrev pub change_res : (ResRow → Bool) → (ResRow → ResRow) → (BoardRow → BoardRow) → Farm → Farm
 change_res test f g F = record F { reservations = change_where test f F.reservations; boards = change_where (λ b. is_res_so F test b.holder) g F.boards }
 
--- 1. each dead reservation is expired, and the board that it holds is free
+-- 1. the collecting group gives its boards back, and none collects
+abbrev pub back : Farm → Farm
+back F = record (change_jobs (λ j. (j.group == F.collector) && same_job_state j.state JobState.Scheduling) unplaced idle F) { collector = 0 }
+
+-- 2. each dead reservation is expired, and the board that it holds is free
 abbrev pub expire : Farm → ℕ → Farm
 expire F t = change_res (is_dead t) (λ r. record r { state = ResState.Expired }) idle F
 
--- 2. each due board is checked, while there is room
+-- 3. each due board is checked, while there is room
 abbrev pub is_reached : ℕ → BoardRow → Check → Bool
 is_reached t b Check.Never = false
 is_reached t b (Check.Hours n) = nat_le (3600 * n) (t - b.last_check)
@@ -99,23 +108,23 @@ check_one F b =
 abbrev pub checks : Farm → ℕ → Farm
 checks F t = fold check_one F (filter (is_due F t) F.boards)
 
--- 3. the claims are taken in queue order, and each is given the least list of free boards that meets it
-abbrev pub scheduled : List ℕ → JobRow → JobRow
-scheduled name j = record j { state = JobState.Scheduled; board = Some name }
+-- 4. the claims are taken, the one that collected first and then in queue order, and each is given the least list of free boards that meets it
+abbrev pub placed : JobState → List ℕ → JobRow → JobRow
+placed state name j = record j { state = state; board = Some name }
 
 abbrev pub allocated : List ℕ → ℕ → ResRow → ResRow
 allocated name t r = record r { state = ResState.Allocated; board = Some name; deadline = t + 60 }
 
--- a member is given its board
-abbrev pub give_member : Farm → JobRow × BoardRow → Farm
-give_member F (j, b) = record F {
-  jobs = change_where (λ m. m.number == j.number) (scheduled b.name) F.jobs;
+-- a member is in the state and holds the board
+abbrev pub give_member : JobState → Farm → JobRow × BoardRow → Farm
+give_member state F (j, b) = record F {
+  jobs = change_where (λ m. m.number == j.number) (placed state b.name) F.jobs;
   boards = change_where (λ c. bytes_eq c.name b.name) (held (Holder.Job j.number) State.Reserved) F.boards;
 }
 
 -- each member is given its board
 abbrev pub give_group : Farm → ℕ → List BoardRow → Farm
-give_group F group bs = fold give_member F (zip (members F group) bs)
+give_group F group bs = fold (give_member JobState.Scheduled) F (zip (members F group) bs)
 
 abbrev pub give_res : Farm → ℕ → List BoardRow → ℕ → Farm
 give_res F number [] t = F
@@ -128,6 +137,22 @@ abbrev pub give : Farm → Claimed → List BoardRow → ℕ → Farm
 give F c bs t =
     if c.reservation then give_res F c.number bs t else give_group F c.number bs
 
+-- where no list meets a group of two or more and none collects yet, it collects: each member in turn takes the first free board that fits it
+abbrev pub first_free : Farm → Want → Option BoardRow
+first_free F want = find (λ b. is_free F.types b && fits b want) F.boards
+
+abbrev pub collect_member : Farm → JobRow → Farm
+collect_member F j = option_map_or (λ b. give_member JobState.Scheduling F (j, b)) (first_free F j.want) F
+
+abbrev pub collect : Farm → ℕ → Farm
+collect F group = record (fold collect_member F (members F group)) { collector = group }
+
+abbrev pub may_collect : Farm → Claimed → Bool
+may_collect F c = (F.collector == 0) && not c.reservation && nat_le 2 (length c.wants)
+
+abbrev pub pass_over : Farm → Claimed → Farm
+pass_over F c = if may_collect F c then collect F c.number else F
+
 -- the farm so far, and how many claims were served
 pub record Served : Type 0 where
   pub farm : Farm
@@ -135,7 +160,15 @@ pub record Served : Type 0 where
 
 abbrev pub serve : ℕ → Served → Claimed → Served
 serve t s c =
-    option_map_or (λ bs. record { farm = give s.farm c bs t; claims = s.claims + 1 }) (least s.farm.boards (is_free s.farm.types) c.wants) s
+    option_map_or (λ bs. record { farm = give s.farm c bs t; claims = s.claims + 1 })
+    (least s.farm.boards (is_free s.farm.types) c.wants) (record { farm = pass_over s.farm c; claims = s.claims })
 
-abbrev pub serve_all : Farm → ℕ → Served
-serve_all F t = fold (serve t) (record { farm = F; claims = 0 }) (queue F)
+-- the claim of a group goes first, if it is one
+abbrev pub is_group : ℕ → Claimed → Bool
+is_group group c = not c.reservation && (c.number == group)
+
+abbrev pub taken : Farm → ℕ → List Claimed
+taken F group = filter (is_group group) (queue F) ++ filter (λ c. not (is_group group c)) (queue F)
+
+abbrev pub serve_all : Farm → ℕ → ℕ → Served
+serve_all F group t = fold (serve t) (record { farm = F; claims = 0 }) (taken F group)

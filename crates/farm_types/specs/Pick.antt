@@ -90,7 +90,7 @@ lists_of (suc n) boards = flat_map (λ b. map (λ bs. b ∷ bs) (lists_of n boar
 unfoldable pub least : List BoardRow → (BoardRow → Bool) → List Want → Option (List BoardRow)
 least boards test wants = find (meets test wants) (lists_of (length wants) boards)
 
--- a waiting reservation, or a group whose members are all Submitted
+-- a waiting reservation, or a group whose members all wait for boards
 pub record Claimed : Type 0 where
   pub reservation : Bool
   pub number : ℕ
@@ -108,9 +108,13 @@ is_waiting r = same_res_state r.state ResState.Waiting
 abbrev pub res_claim : ResRow → Claimed
 res_claim r = record { reservation = true; number = r.number; owner = r.owner; priority = r.priority; wants = r.want ∷ [] }
 
--- the first member of a group whose members are all Submitted
+-- a Submitted job waits for boards, and so does a Scheduling one, whose board can still be taken back
+abbrev pub waits : JobRow → Bool
+waits j = same_job_state j.state JobState.Submitted || same_job_state j.state JobState.Scheduling
+
+-- the first member of a group whose members all wait
 abbrev pub leads_claim : Farm → JobRow → Bool
-leads_claim F j = (j.number == j.group) && list_all (λ m. same_job_state m.state JobState.Submitted) (members F j.group)
+leads_claim F j = (j.number == j.group) && list_all waits (members F j.group)
 
 abbrev pub group_claim : Farm → JobRow → Claimed
 group_claim F j = record { reservation = false; number = j.group; owner = j.owner; priority = j.priority; wants = map (λ m. m.want) (members F j.group) }

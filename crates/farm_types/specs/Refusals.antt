@@ -2,7 +2,7 @@
 use Rattle.std.specs.Prelude.{ℕ, ◌==◌, List, [], ◌∷◌, Option, Some, None, codes, if◌then◌else◌}
 use Rattle.std.specs.List.{find}
 use Rattle.std.specs.Option.{option_map, option_map_or}
-use Rattle.farm_types.specs.declared.refusal.TheConstants.{NO_MEMORY, BAD_MOMENT, FORBIDDEN, FULL, BAD_NAME, BAD_TAG, BAD_COUNT, NO_TYPE, TYPE_EXISTS, NO_BOARD, BOARD_EXISTS, HELD, RETIRED, NO_JOB, WRONG_STATE, NO_SUCH_BOARDS, BAD_PRIORITY, NO_RESERVATION, EXPIRED, WRONG_RESERVATION_STATE, KEY_REUSED, BAD_KEY, BAD_REQUEST, TOO_LARGE, NO_ROUTE, WRONG_METHOD, BAD_CODING, STORE, CLOSED, BAD_STORE, OLD_SCHEMA, BAD_JOB_FILE, BAD_LAB_FILE, READ, WRITE}
+use Rattle.farm_types.specs.declared.refusal.TheConstants.{NO_MEMORY, BAD_MOMENT, FORBIDDEN, FULL, BAD_NAME, BAD_TAG, BAD_COUNT, NO_TYPE, TYPE_EXISTS, NO_BOARD, BOARD_EXISTS, HELD, RETIRED, NO_JOB, WRONG_STATE, NO_SUCH_BOARDS, BAD_PRIORITY, NO_RESERVATION, EXPIRED, WRONG_RESERVATION_STATE, KEY_REUSED, BAD_KEY, BAD_REQUEST, TOO_LARGE, NO_ROUTE, WRONG_METHOD, BAD_CODING, STORE, CLOSED, BAD_STORE, OLD_SCHEMA, NEW_SCHEMA, BAD_JOB_FILE, BAD_LAB_FILE, READ, WRITE}
 
 pub record Entry : Type 0 where
   pub code : ℕ
@@ -49,6 +49,7 @@ table =
     ∷ entry CLOSED 503 (codes "closed")
     ∷ fault BAD_STORE (codes "bad store")
     ∷ fault OLD_SCHEMA (codes "old schema")
+    ∷ fault NEW_SCHEMA (codes "new schema")
     ∷ entry BAD_JOB_FILE 400 (codes "bad job file")
     ∷ fault BAD_LAB_FILE (codes "bad lab file")
     ∷ fault READ (codes "read fault")

@@ -6,7 +6,7 @@ use Rattle.std.specs.Bool.{then_some}
 use Rattle.std.specs.Str.{bytes_eq}
 use Rattle.farm_types.specs.Codes.{same_health, same_job_state, same_res_state}
 use Rattle.farm_types.specs.Farm.{Farm, type_of, board_of, job_of, res_of, kept_of, members}
-use Rattle.farm_types.specs.Pick.{is_nobody, least, not_retired}
+use Rattle.farm_types.specs.Pick.{is_nobody, least, not_retired, waits}
 use Rattle.farm_types.specs.Pass.{is_dead, has_room}
 use Rattle.farm_types.specs.declared.rows.Health.{Health}
 use Rattle.farm_types.specs.declared.rows.JobState.{JobState}
@@ -79,9 +79,9 @@ res_is F number test = option_map_or test (res_of F number) false
 abbrev pub is_retired : BoardRow → Bool
 is_retired b = same_health b.health Health.Retired
 
--- a Submitted, Scheduled or Running job can be canceled
+-- a job can be canceled until it is Canceling
 abbrev pub can_cancel : JobRow → Bool
-can_cancel j = same_job_state j.state JobState.Submitted || same_job_state j.state JobState.Scheduled || same_job_state j.state JobState.Running
+can_cancel j = waits j || same_job_state j.state JobState.Scheduled || same_job_state j.state JobState.Running
 
 -- a waiting, allocated or acquired reservation is alive
 abbrev pub is_alive : ResRow → Bool

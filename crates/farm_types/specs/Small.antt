@@ -56,5 +56,6 @@ pub record AreSmall (c : Changes) : Type 0 where
   pub reservations : AllByRecursion IsSmallRes c.reservations.items
   pub kept : AllByRecursion IsSmallKept c.kept.items
   pub clock : IsSmall c.meta.clock
+  pub collector : IsSmall c.meta.collector
   pub count : IsSmall c.meta.count
   pub next : IsSmall c.meta.next

@@ -1,5 +1,5 @@
 -- What every farm that the machine reaches keeps.
-use Rattle.std.specs.Prelude.{◌≡◌, ◌≢◌, ℕ, ◌+◌, ◌-◌, ◌<◌, ◌≤◌, ◌↔◌, ◌++◌, true, false, List, [], ◌∷◌, length, Option, Some, None, unwrap_or, is_some, IsTrue, IsSome, IsNone, IfSome, IsSomeAnd, codes}
+use Rattle.std.specs.Prelude.{◌≡◌, ◌≢◌, ℕ, ◌+◌, ◌-◌, ◌<◌, ◌≤◌, ◌↔◌, ◌==◌, ◌++◌, true, false, List, [], ◌∷◌, length, Option, Some, None, unwrap_or, is_some, IsTrue, IsSome, IsNone, IfSome, IsSomeAnd, codes}
 use Rattle.std.specs.List.{find, filter, AllByRecursion, filter_map}
 use Rattle.std.specs.List.Sorted.{IsStrictlySortedBy}
 use Rattle.std.specs.Option.{option_map_or}
@@ -21,6 +21,7 @@ use Rattle.farm_types.specs.declared.rows.KeptRow.{KeptRow}
 
 -- the state that a job or a reservation gives the board that it holds, if it holds one
 abbrev pub job_gives : JobState → Option State
+job_gives JobState.Scheduling = Some State.Reserved
 job_gives JobState.Scheduled = Some State.Reserved
 job_gives JobState.Running = Some State.Running
 job_gives JobState.Canceling = Some State.Running
@@ -86,15 +87,22 @@ pub record IsHeldOnce (F : Farm) : Type 0 where
   pub once : EachTwo (λ h k. h.board ≢ k.board) (holds F)
   pub told : AllByRecursion (λ b. shown b ≡ unwrap_or (find (λ h. bytes_eq h.board b.name) (holds F)) (no_hold b.name)) F.boards
 
--- 0 while a group waits, 1 when all its members have boards, 2 from the start on
+-- 0 while a group waits for boards, 1 when all its members have boards, 2 from the start on
 abbrev pub phase : JobState → ℕ
 phase JobState.Submitted = 0
+phase JobState.Scheduling = 0
 phase JobState.Scheduled = 1
 phase state = 2
 
 -- no group is half started
 abbrev pub IsWhole : Farm → Type 0
 IsWhole F = AllByRecursion (λ j. AllByRecursion (λ m. m.group ≡ j.group → phase m.state ≡ phase j.state) F.jobs) F.jobs
+
+-- only the collector's members are Scheduling, and it is a group of two or more members that wait
+pub record IsCollecting (collector : ℕ) (jobs : List JobRow) : Type 0 where
+  pub only : AllByRecursion (λ j. j.state ≡ JobState.Scheduling → (1 ≤ collector) × (j.group ≡ collector)) jobs
+  pub several : 1 ≤ collector → 2 ≤ length (filter (λ j. j.group == collector) jobs)
+  pub waits : 1 ≤ collector → AllByRecursion (λ j. j.group ≡ collector → phase j.state ≡ 0) jobs
 
 -- a name that a row of the farm has, if it is there
 abbrev pub IsBoardOf : Farm → Option (List ℕ) → Type 0
@@ -114,12 +122,12 @@ pub record IsBoardRow (F : Farm) (r : BoardRow) : Type 0 where
   pub checked : r.last_check ≤ F.clock
   pub retired : r.health ≡ Health.Retired → r.holder ≡ Holder.Nobody
 
--- a check is a group of one, of the admin, with priority 100, never Submitted, without tags, role and text
+-- a check is a group of one, of the admin, with priority 100, that never waits for boards, without tags, role and text
 pub record IsCheck (r : JobRow) : Type 0 where
   pub alone : r.number ≡ r.group
   pub owner : r.owner ≡ codes "admin"
   pub priority : r.priority ≡ 100
-  pub state : r.state ≢ JobState.Submitted
+  pub state : phase r.state ≢ 0
   pub tags : r.want.tags ≡ []
   pub role : r.role ≡ None
   pub body : r.body ≡ []
@@ -195,3 +203,4 @@ pub record IsSound (F : Farm) : Type 0 where
   pub steady : IsSteady F
   pub held : IsHeldByKeys F
   pub whole : IsWhole F
+  pub collecting : IsCollecting F.collector F.jobs

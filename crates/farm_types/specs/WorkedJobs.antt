@@ -55,19 +55,6 @@ least_of_three_boards =
     ∷ by_dispatcher 30 Cmd.Pass refl
     ∷ []
 
--- a group with one board too few waits whole, and a later single job goes on
-unfoldable pub group_waits_whole : List Call
-unfolding is_proper_cmd is_word is_tag is_tags is_utf8 chars
-group_waits_whole =
-    by_admin 10 (new_type Check.Never) refl
-    ∷ by_admin 10 (new_board (codes "b1") []) refl
-    ∷ by_admin 10 (set (codes "b1") Health.Good) refl
-    ∷ by_admin 10 (new_board (codes "b2") []) refl
-    ∷ by_ann 20 (pair []) refl
-    ∷ by_ann 20 (single 50) refl
-    ∷ by_dispatcher 30 Cmd.Pass refl
-    ∷ []
-
 -- one Start starts a group; its finished member stays when the other is canceled
 unfoldable pub cancel_half_of_a_group : List Call
 unfolding is_proper_cmd is_word is_tag is_tags is_utf8 chars
@@ -160,10 +147,6 @@ pub record AllJobsAsWorked : Type 0 where
   pub least_list_by_tag_job_2 : job_shows (run empty least_list_by_tag) 2 ≡ Some (JobState.Scheduled, Some (codes "b1"), None)
   pub least_of_three_boards_job_1 : job_shows (run empty least_of_three_boards) 1 ≡ Some (JobState.Scheduled, Some (codes "b2"), None)
   pub least_of_three_boards_job_2 : job_shows (run empty least_of_three_boards) 2 ≡ Some (JobState.Scheduled, Some (codes "b1"), None)
-  pub group_waits_whole_job_1 : job_shows (run empty group_waits_whole) 1 ≡ Some (JobState.Submitted, None, None)
-  pub group_waits_whole_job_2 : job_shows (run empty group_waits_whole) 2 ≡ Some (JobState.Submitted, None, None)
-  pub group_waits_whole_job_3 : job_shows (run empty group_waits_whole) 3 ≡ Some (JobState.Scheduled, Some (codes "b1"), None)
-  pub group_waits_whole_answers : answers empty group_waits_whole ≡ did 0 ∷ did 0 ∷ did 0 ∷ did 0 ∷ did 1 ∷ did 3 ∷ passed 0 0 1 ∷ []
   pub cancel_half_of_a_group_job_1 : job_shows (run empty cancel_half_of_a_group) 1 ≡ Some (JobState.Finished, Some (codes "b1"), Some Outcome.Complete)
   pub cancel_half_of_a_group_job_2 : job_shows (run empty cancel_half_of_a_group) 2 ≡ Some (JobState.Finished, Some (codes "b2"), Some Outcome.Canceled)
   pub cancel_half_of_a_group_board__b2 : board_shows (run empty cancel_half_of_a_group) (codes "b2") ≡ Some (Health.Good, State.Idle, Holder.Nobody, 1, 0)

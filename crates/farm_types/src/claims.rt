@@ -9,7 +9,7 @@ pub enum ClaimKind {
 }
 
 /// A claim that waits for boards: a waiting reservation, or a group whose members are all
-/// Submitted. `boards` is the number of its wants.
+/// Submitted or Scheduling. `boards` is the number of its wants.
 #[derive(Debug, Drop)]
 pub struct Claim {
     pub kind: ClaimKind,
@@ -19,11 +19,12 @@ pub struct Claim {
     pub boards: u64,
 }
 
-/// Numbers of rows, and the farm's three numbers.
+/// Numbers of rows, and the farm's four numbers.
 #[derive(Clone, Copy, Debug, PartialEq, Eq)]
 pub struct Status {
     pub boards: u64,
     pub clock: u64,
+    pub collector: u64,
     pub count: u64,
     pub jobs: u64,
     pub next: u64,

@@ -92,10 +92,11 @@ impl JobState {
     {
         match self {
             JobState::Submitted => 0,
-            JobState::Scheduled => 1,
-            JobState::Running => 2,
-            JobState::Canceling => 3,
-            JobState::Finished => 4,
+            JobState::Scheduling => 1,
+            JobState::Scheduled => 2,
+            JobState::Running => 3,
+            JobState::Canceling => 4,
+            JobState::Finished => 5,
         }
     }
 
@@ -105,10 +106,11 @@ impl JobState {
     {
         match code {
             0 => Some(JobState::Submitted),
-            1 => Some(JobState::Scheduled),
-            2 => Some(JobState::Running),
-            3 => Some(JobState::Canceling),
-            4 => Some(JobState::Finished),
+            1 => Some(JobState::Scheduling),
+            2 => Some(JobState::Scheduled),
+            3 => Some(JobState::Running),
+            4 => Some(JobState::Canceling),
+            5 => Some(JobState::Finished),
             _ => None,
         }
     }
@@ -119,6 +121,7 @@ impl JobState {
     {
         match self {
             JobState::Submitted => "Submitted",
+            JobState::Scheduling => "Scheduling",
             JobState::Scheduled => "Scheduled",
             JobState::Running => "Running",
             JobState::Canceling => "Canceling",

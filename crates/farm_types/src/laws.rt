@@ -16,6 +16,7 @@ ghost use Rattle.farm_types.specs.WorkedJobs.{AllJobsAsWorked};
 ghost use Rattle.farm_types.specs.WorkedChecks.{AllChecksAsWorked};
 ghost use Rattle.farm_types.specs.WorkedReservations.{AllReservationsAsWorked};
 ghost use Rattle.farm_types.specs.WorkedWhole.{AllAsWorked};
+ghost use Rattle.farm_types.specs.WorkedCollecting.{AllCollectingAsWorked};
 
 /// A run of no calls stays.
 pub fn nothing_runs()
@@ -56,4 +57,9 @@ pub fn reservations_as_worked()
 /// The scripts of the whole machine answer and leave what was worked out by hand.
 pub fn all_as_worked()
     ensures { AllAsWorked }
+{}
+
+/// The scripts of groups that collect boards answer and leave what was worked out by hand.
+pub fn collecting_as_worked()
+    ensures { AllCollectingAsWorked }
 {}

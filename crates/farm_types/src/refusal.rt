@@ -67,6 +67,8 @@ pub const CLOSED: u16 = 61;
 pub const BAD_STORE: u16 = 62;
 /// The file is of an earlier edition.
 pub const OLD_SCHEMA: u16 = 63;
+/// The file is of this edition, where one of the earlier edition is wanted.
+pub const NEW_SCHEMA: u16 = 64;
 /// A job file can't be read.
 pub const BAD_JOB_FILE: u16 = 70;
 /// A lab file can't be read.
@@ -121,6 +123,7 @@ fn line_of(code: u16) -> Option<Line>
         CLOSED => Some(Line { status: Some(503), text: "closed" }),
         BAD_STORE => Some(Line { status: None, text: "bad store" }),
         OLD_SCHEMA => Some(Line { status: None, text: "old schema" }),
+        NEW_SCHEMA => Some(Line { status: None, text: "new schema" }),
         BAD_JOB_FILE => Some(Line { status: Some(400), text: "bad job file" }),
         BAD_LAB_FILE => Some(Line { status: None, text: "bad lab file" }),
         READ => Some(Line { status: None, text: "read fault" }),

@@ -44,6 +44,7 @@ pub enum Holder {
 #[derive(Clone, Copy, Debug, PartialEq, Eq)]
 pub enum JobState {
     Submitted,
+    Scheduling,
     Scheduled,
     Running,
     Canceling,
@@ -138,10 +139,12 @@ pub struct KeptRow {
     pub reply: Reply,
 }
 
-/// The farm's three numbers: its clock, its accepted commands, and the next free number.
+/// The farm's four numbers: its clock, the group that collects boards (0 for none), its accepted
+/// commands, and the next free number.
 #[derive(Clone, Copy, Debug, PartialEq, Eq)]
 pub struct MetaRow {
     pub clock: u64,
+    pub collector: u64,
     pub count: u64,
     pub next: u64,
 }

@@ -4,11 +4,11 @@ use Rattle.farm_types.specs.Pick.{least}
 use Rattle.farm_types.specs.Refuse.{refusal, early_refusal, own_refusal}
 use Rattle.farm_types.specs.Change.{change}
 use Rattle.farm_types.specs.Machine.{answer, step}
-use Rattle.farm_types.specs.WorkedJobs.{higher_priority_first, least_list_by_tag, least_of_three_boards, group_waits_whole, cancel_half_of_a_group, cancel_before_the_start, retire_a_held_board, more_boards_than_there_are, wrong_callers_and_rows}
+use Rattle.farm_types.specs.WorkedJobs.{higher_priority_first, least_list_by_tag, least_of_three_boards, cancel_half_of_a_group, cancel_before_the_start, retire_a_held_board, more_boards_than_there_are, wrong_callers_and_rows}
 use Rattle.farm_types.proofs.laws.jobs_as_worked.Goals as goal
 
 pub returns : goal.returns
-unfolding higher_priority_first least_list_by_tag least_of_three_boards group_waits_whole cancel_half_of_a_group cancel_before_the_start retire_a_held_board more_boards_than_there_are wrong_callers_and_rows is_word is_tag is_tags least refusal early_refusal own_refusal change answer step
+unfolding higher_priority_first least_list_by_tag least_of_three_boards cancel_half_of_a_group cancel_before_the_start retire_a_held_board more_boards_than_there_are wrong_callers_and_rows is_word is_tag is_tags least refusal early_refusal own_refusal change answer step
 returns c = record {
   higher_priority_first_board__b1 = refl;
   higher_priority_first_job_1 = refl;
@@ -16,10 +16,6 @@ returns c = record {
   least_list_by_tag_job_2 = refl;
   least_of_three_boards_job_1 = refl;
   least_of_three_boards_job_2 = refl;
-  group_waits_whole_job_1 = refl;
-  group_waits_whole_job_2 = refl;
-  group_waits_whole_job_3 = refl;
-  group_waits_whole_answers = refl;
   cancel_half_of_a_group_job_1 = refl;
   cancel_half_of_a_group_job_2 = refl;
   cancel_half_of_a_group_board__b2 = refl;
