@@ -5,7 +5,7 @@ use Rattle.std.proofs.lemmas.Bool.Decides.{nat_tests}
 use Rattle.farm_types.specs.Change.{act}
 use Rattle.farm_types.specs.Codes.{same_res_state}
 use Rattle.farm_types.specs.Farm.{Farm, res_of}
-use Rattle.farm_types.specs.Pass.{checks, expire, is_dead}
+use Rattle.farm_types.specs.Pass.{back, checks, expire, is_dead}
 use Rattle.farm_types.specs.Proper.{is_priority, is_proper_cmd}
 use Rattle.farm_types.specs.Refuse.{first_code, is_alive, owned_by, res_is, res_reasons}
 use Rattle.farm_types.specs.Sound.{IsSound}
@@ -18,11 +18,12 @@ use Rattle.farm_types.proofs.Put.{AllByRecursion-weaker}
 use Rattle.farm_sound.proofs.Accepted.{Acted, IsAccepted, acted_one, low_res}
 use Rattle.farm_sound.proofs.Checks.{IsSound-checks}
 use Rattle.farm_sound.proofs.Clear.{first_clear, passes, some_of}
+use Rattle.farm_sound.proofs.Jobs.{IsSound-back}
 use Rattle.farm_sound.proofs.Lists.{length_filter}
 use Rattle.farm_sound.proofs.Own.{only_res}
 use Rattle.farm_sound.proofs.Replies.{few_served, pass_kept}
 use Rattle.farm_sound.proofs.Reservations.{IsSound-cancel_res, IsSound-expire, IsSound-refresh, IsSound-reserve, goes_on}
-use Rattle.farm_sound.proofs.Serve.{IsSound-pass}
+use Rattle.farm_sound.proofs.Passed.{IsSound-pass}
 use Rattle.farm_sound.proofs.Tests.{acquired_from, allocated_from, both, both_false}
 
 -- the reservation of one of the four commands is there, and in a right state
@@ -79,13 +80,13 @@ module _ (F : Farm) (t : ℕ) (caller : List ℕ) (sound : IsSound F) where
 
   pub acted_pass : Acted F (act F caller Cmd.Pass)
   acted_pass =
-      let expired : Farm = expire F F.clock in
+      let expired : Farm = expire (back F) F.clock in
       let checked : Farm = checks expired F.clock in
-      let steady = (IsSound-checks expired F.clock (IsSound-expire F F.clock sound)).steady in
+      let steady = (IsSound-checks expired F.clock (IsSound-expire (back F) F.clock (IsSound-back F sound))).steady in
       record {
         sound = IsSound-pass F sound;
-        kept = pass_kept expired F.clock;
+        kept = pass_kept expired F.collector F.clock;
         first = omega (arith, steady.next.1);
         second = omega (arith, length_filter (is_dead F.clock) F.reservations, sound.steady.few_reservations);
-        third = omega (arith, few_served checked F.clock, steady.few_jobs, steady.few_reservations);
+        third = omega (arith, few_served checked F.collector F.clock, steady.few_jobs, steady.few_reservations);
       }

@@ -69,6 +69,7 @@ IsSound-put_type F row is room sound =
       };
       held = IsHeldByKeys-same F G same refl sound.held;
       whole = sound.whole;
+      collecting = sound.collecting;
     }
   where
     same : (h : Holder) → hold_of (put_type F row) h ≡ hold_of F h
@@ -184,6 +185,7 @@ IsSound-put_board F row is absent nobody idle room room_of_kind sound = record {
   held = IsHeldByKeys-put_board F row (subst (IsHeldBy F row) (sym nobody) idle)
       (λ h was. absurd (subst (λ o. IsSomeAnd o (λ b. b.holder ≡ h)) absent was)) sound.held;
   whole = sound.whole;
+  collecting = sound.collecting;
 }
 
 -- ---- a board is changed
@@ -225,4 +227,5 @@ IsSound-replace_board F name b row found same is sound =
       held = IsHeldByKeys-put_board F row (subst (IsHeldBy F row) (sym same.holder) (told_same F b row b.holder same told))
           (λ h was. same.holder ∙ subst (λ o. IsSomeAnd o (λ b. b.holder ≡ h)) named was) sound.held;
       whole = sound.whole;
+      collecting = sound.collecting;
     }

@@ -6,12 +6,13 @@ use Rattle.std.specs.Option.{option_map, option_map_or}
 use Rattle.std.specs.Str.{bytes_eq}
 use Rattle.farm_types.specs.Farm.{Farm, job_of}
 use Rattle.farm_types.specs.Pass.{change_jobs, held, is_job_so}
-use Rattle.farm_types.specs.Sound.{IsBoardRow, IsHeldByKeys, IsJobRow, IsSound, IsSteady, IsWhole, hold_of, job_hold, shown}
+use Rattle.farm_types.specs.Sound.{IsBoardRow, IsHeldByKeys, IsJobRow, IsSound, IsCollecting, IsSteady, IsWhole, hold_of, job_hold, shown}
 use Rattle.farm_types.specs.Table.{change_where}
 use Rattle.farm_types.specs.declared.rows.BoardRow.{BoardRow}
 use Rattle.farm_types.specs.declared.rows.Holder.{Holder}
 use Rattle.farm_types.specs.declared.rows.JobRow.{JobRow}
 use Rattle.farm_types.proofs.Put.{found_has}
+use Rattle.farm_sound.proofs.Collecting.{IsHeldByKeys-collector, IsSteady-collector}
 use Rattle.farm_sound.proofs.Held.{IsHeldByKeys-regiven, IsLeft}
 use Rattle.farm_sound.proofs.Mapped.{IsSteady-mapped, SameJob, same_job}
 use Rattle.farm_sound.proofs.Where.{all_true, by_cases, find_map, map_id}
@@ -115,5 +116,12 @@ module _ (F : Farm) (test : JobRow → Bool) (f : JobRow → JobRow) (g : BoardR
         gives = left_of ch;
       }) refl held
 
-  pub IsSound-change_jobs : ChangesJobs → IsWhole (change_jobs test f g F) → IsSound F → IsSound (change_jobs test f g F)
-  IsSound-change_jobs ch whole sound = record { steady = IsSteady-change_jobs ch sound.steady; held = IsHeldByKeys-change_jobs ch sound.held; whole = whole }
+  -- the collector may become another, or none
+  pub IsSound-change_jobs : (c : ℕ) → ChangesJobs → IsWhole (change_jobs test f g F) → IsCollecting c (change_where test f F.jobs) → IsSound F
+      → IsSound (record (change_jobs test f g F) { collector = c })
+  IsSound-change_jobs c ch whole collecting sound = record {
+    steady = IsSteady-collector (change_jobs test f g F) c (IsSteady-change_jobs ch sound.steady);
+    held = IsHeldByKeys-collector (change_jobs test f g F) c (IsHeldByKeys-change_jobs ch sound.held);
+    whole = whole;
+    collecting = collecting;
+  }

@@ -119,4 +119,4 @@ module _ (F : Farm) (test : ResRow → Bool) (f : ResRow → ResRow) (g : BoardR
       }) refl held
 
   pub IsSound-change_res : ChangesRes → IsSound F → IsSound (change_res test f g F)
-  IsSound-change_res ch sound = record { steady = IsSteady-change_res ch sound.steady; held = IsHeldByKeys-change_res ch sound.held; whole = sound.whole }
+  IsSound-change_res ch sound = record { steady = IsSteady-change_res ch sound.steady; held = IsHeldByKeys-change_res ch sound.held; whole = sound.whole; collecting = sound.collecting }

@@ -29,6 +29,7 @@ use Rattle.farm_types.specs.declared.rows.State.{State}
 use Rattle.farm_types.specs.declared.rows.TypeRow.{TypeRow}
 use Rattle.farm_types.proofs.Put.{AllByRecursion-weaker, found_has, found_passes}
 use Rattle.farm_sound.proofs.Add.{IsSteady-add_job, add_job, job_of-add}
+use Rattle.farm_sound.proofs.Collecting.{IsCollecting-add, next_collects_not}
 use Rattle.farm_sound.proofs.Give.{IsFreeBoard, board_row_on, boards_on, on_board}
 use Rattle.farm_sound.proofs.Given.{IsHeldByKeys-given}
 use Rattle.farm_sound.proofs.Lists.{filter_all}
@@ -108,7 +109,7 @@ module _ (F : Farm) (b : BoardRow) (free : IsFreeBoard F b) (sound : IsSound F) 
     holds = λ _. refl;
     group = (omega arith, omega arith);
     follows = λ later. absurd (later refl);
-    check = λ _. record { alone = refl; owner = refl; priority = refl; state = λ e. cc; tags = refl; role = refl; body = refl };
+    check = λ _. record { alone = refl; owner = refl; priority = refl; state = λ e. absurd (omega (arith, e)); tags = refl; role = refl; body = refl };
   }
 
   stays_check : (k : ℕ) (v : Bool) → (F.next == k) ≡ v
@@ -136,6 +137,8 @@ module _ (F : Farm) (b : BoardRow) (free : IsFreeBoard F b) (sound : IsSound F) 
         })
         sound.held;
     whole = IsWhole-add F row (AllByRecursion-weaker (λ m is same. absurd (omega (arith, is.number.1, is.group.0, same))) F.jobs sound.steady.jobs) sound.whole;
+    collecting = IsCollecting-add F row sound.steady refl (λ e. cc)
+        (λ low same. absurd (next_collects_not F sound.steady sound.collecting low same)) sound.collecting;
   }
 
   pub IsSound-check_one : IsSound (check_one F b)

@@ -1,23 +1,23 @@
 -- The claims of a farm, and its queue in order.
-use Rattle.std.proofs.Common.{◌==◌, ◌∷◌, ◌≡◌, ◌⊎◌, List, Some, inl, inr, map, refl, true, []}
+use Rattle.std.proofs.Common.{◌==◌, ◌∷◌, ◌≡◌, ◌≤◌, ◌⊎◌, List, Some, arith, inl, inr, map, refl, true, []}
 use Rattle.std.specs.Cmp.{IsTotalOrder, back_total, nat_cmp_total, on_total, then_total}
 use Rattle.std.specs.List.{AllByRecursion, filter, list_all}
 use Rattle.std.specs.List.Sorted.{IsStrictlySortedBy}
-use Rattle.farm_types.specs.Codes.{same_job_state}
 use Rattle.farm_types.specs.Farm.{Farm, job_of, members, res_of}
-use Rattle.farm_types.specs.Pick.{Claimed, claim_cmp, claims, group_claim, is_waiting, leads_claim, queue, res_claim}
-use Rattle.farm_types.specs.Sound.{IsSteady}
+use Rattle.farm_types.specs.Pick.{Claimed, claim_cmp, claims, group_claim, is_waiting, leads_claim, queue, res_claim, waits}
+use Rattle.farm_types.specs.Sound.{IsCollecting, IsSteady, phase}
 use Rattle.farm_types.specs.Table.{put, put_all}
 use Rattle.farm_types.specs.declared.rows.JobRow.{JobRow}
 use Rattle.farm_types.specs.declared.rows.JobState.{JobState}
 use Rattle.farm_types.specs.declared.rows.ResRow.{ResRow}
 use Rattle.farm_types.proofs.Put.{AllByRecursion-put, AllByRecursion-weaker, put_sorted}
+use Rattle.farm_sound.proofs.Collecting.{none_scheduling}
 use Rattle.farm_sound.proofs.Lists.{all_join, all_tested, filter_all}
 use Rattle.farm_sound.proofs.Own.{own_job, own_res}
-use Rattle.farm_sound.proofs.Tests.{both, same_number, submitted_from}
-use Rattle.farm_sound.proofs.Where.{AllByRecursion-map}
+use Rattle.farm_sound.proofs.Tests.{both, same_number, waits_from}
+use Rattle.farm_sound.proofs.Where.{AllByRecursion-both, AllByRecursion-map}
 
--- a waiting reservation's claim, or that of a group whose members are all Submitted
+-- a waiting reservation's claim, or that of a group whose members all wait for boards
 abbrev pub IsResClaim : Farm → Claimed → ResRow → Type 0
 IsResClaim F c r = (res_of F r.number ≡ Some r) × (is_waiting r ≡ true) × (c ≡ res_claim r)
 
@@ -38,13 +38,50 @@ all_claims F steady = all_join (IsClaim F) (map res_claim (filter is_waiting F.r
     (λ j two. inr (j, (two.0, two.1, refl))) (filter (leads_claim F) F.jobs)
     (filter_all (λ j. job_of F j.number ≡ Some j) (leads_claim F) F.jobs (own_job F steady)))
 
-pub leads : (F : Farm) (j : JobRow) → leads_claim F j ≡ true → (j.number ≡ j.group) × AllByRecursion (λ m. m.state ≡ JobState.Submitted) (members F j.group)
+pub leads : (F : Farm) (j : JobRow) → leads_claim F j ≡ true → (j.number ≡ j.group) × AllByRecursion (λ m. phase m.state ≡ 0) (members F j.group)
 leads F j is =
-    let two = both (j.number == j.group) (list_all (λ m. same_job_state m.state JobState.Submitted) (members F j.group)) is in (
+    let two = both (j.number == j.group) (list_all waits (members F j.group)) is in (
       same_number j.number j.group two.0,
-      AllByRecursion-weaker (λ m one. submitted_from m.state one) (members F j.group)
-          (all_tested (λ m. same_job_state m.state JobState.Submitted) (members F j.group) two.1),
+      AllByRecursion-weaker waits_from (members F j.group) (all_tested waits (members F j.group) two.1),
     )
+
+-- ---- claims that hold nothing
+
+-- a group's claim whose members are all Submitted, and which doesn't collect
+pub record IsOpenGroup (F : Farm) (c : Claimed) (j : JobRow) : Type 0 where
+  pub claim : IsGroupClaim F c j
+  pub submitted : AllByRecursion (λ m. m.state ≡ JobState.Submitted) (members F j.group)
+  pub other : 1 ≤ F.collector → F.collector ≡ j.group → ⊥
+
+abbrev pub IsOpen : Farm → Claimed → Type 0
+IsOpen F c = ((r : ResRow) × IsResClaim F c r) ⊎ ((j : JobRow) × IsOpenGroup F c j)
+
+pub claim_of_open : (F : Farm) (c : Claimed) → IsOpen F c → IsClaim F c
+claim_of_open F c (inl is) = inl is
+claim_of_open F c (inr (j, is)) = inr (j, is.claim)
+
+-- while none collects each claim is so
+pub open_of_claim : (F : Farm) → F.collector ≡ 0 → IsCollecting F.collector F.jobs → (c : Claimed) → IsClaim F c → IsOpen F c
+open_of_claim F none collecting c (inl is) = inl is
+open_of_claim F none collecting c (inr (j, is)) = inr (
+  j,
+  record {
+    claim = is;
+    submitted = AllByRecursion-weaker (λ m two. submitted m.state two.0.0 two.1) (members F j.group)
+        (AllByRecursion-both (λ m. (m.state ≡ JobState.Scheduling → ⊥) × ((m.group == j.group) ≡ true)) (λ m. phase m.state ≡ 0) (members F j.group)
+        (filter_all (λ m. m.state ≡ JobState.Scheduling → ⊥) (λ r. r.group == j.group) F.jobs (none_scheduling F.collector F.jobs none collecting))
+        (leads F j is.1).1);
+    other = λ low. absurd (omega arith);
+  },
+)
+  where
+    submitted : (s : JobState) → (s ≡ JobState.Scheduling → ⊥) → phase s ≡ 0 → s ≡ JobState.Submitted
+    submitted JobState.Submitted apart first = refl
+    submitted JobState.Scheduling apart first = absurd (apart refl)
+    submitted JobState.Scheduled apart first = absurd (omega arith)
+    submitted JobState.Running apart first = absurd (omega arith)
+    submitted JobState.Canceling apart first = absurd (omega arith)
+    submitted JobState.Finished apart first = absurd (omega arith)
 
 -- ---- the queue
 

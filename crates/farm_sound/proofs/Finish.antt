@@ -16,6 +16,7 @@ use Rattle.farm_types.specs.declared.rows.JobState.{JobState}
 use Rattle.farm_types.specs.declared.rows.Outcome.{Outcome}
 use Rattle.farm_types.proofs.Put.{found_passes}
 use Rattle.farm_sound.proofs.ChangeJobs.{IsSound-change_jobs}
+use Rattle.farm_sound.proofs.Collecting.{IsCollecting-map}
 use Rattle.farm_sound.proofs.Own.{only_job}
 use Rattle.farm_sound.proofs.Rows.{hold_nothing, job_row_in, left_off}
 use Rattle.farm_sound.proofs.Tests.{same_number}
@@ -135,7 +136,7 @@ module _ (F : Farm) (n : ℕ) (j : JobRow) (named : Outcome) (there : job_of F n
   IsSound-finish sound =
       let at : j.number ≡ n = same_number j.number n (found_passes (λ (r : JobRow). r.number == n) j F.jobs there) in
       let only = only_job F sound.steady j.number j (ap (job_of F) at ∙ there) in
-      IsSound-change_jobs F (λ m. m.number == j.number) over (λ b. idle (after b)) (λ m. Unit {0})
+      IsSound-change_jobs F (λ m. m.number == j.number) over (λ b. idle (after b)) (λ m. Unit {0}) F.collector
       (record {
         jobs = all_true F.jobs;
         same = λ m. record { number = refl; group = refl; owner = refl; priority = refl; checking = refl };
@@ -147,4 +148,11 @@ module _ (F : Farm) (n : ℕ) (j : JobRow) (named : Outcome) (there : job_of F n
         left = λ m b so p is. left_off (Holder.Job m.number) m.board (idle (after b)) refl refl;
       })
       (IsWhole-map_by F (λ m. m.number ≡ j.number → m ≡ j) (λ m. cond (m.number == j.number) (over m) m) only alike_over sound.whole)
+      (IsCollecting-map F.collector (λ m. m.number ≡ j.number → m ≡ j) (λ m. cond (m.number == j.number) (over m) m) F.jobs only
+      (λ m. by_cases (λ (k : JobRow). k.group ≡ m.group) (m.number == j.number) (over m) m (λ _. refl) (λ _. refl))
+      (λ m p. by_cases (λ (k : JobRow). k.state ≡ JobState.Scheduling → m.state ≡ JobState.Scheduling) (m.number == j.number) (over m) m (λ _ e. cc) (λ _ e. e))
+      (λ m p low same waits. by_cases (λ (k : JobRow). phase k.state ≡ 0) (m.number == j.number) (over m) m
+      (λ so. let s : phase m.state ≡ 2 = ap (λ (k : JobRow). phase k.state) (p (same_number m.number j.number so)) ∙ started in absurd (omega (arith, s, waits)))
+      (λ _. waits))
+      sound.collecting)
       sound

@@ -19,7 +19,7 @@ use Rattle.farm_sound.proofs.Own.{own_board}
 use Rattle.farm_sound.proofs.Tests.{both, nobody_from}
 use Rattle.farm_sound.proofs.Where.{AllByRecursion-both}
 
-serves_kept : (types : List TypeRow) (b : BoardRow) → serves types b ≡ true → b.health ≡ Health.Retired → ⊥
+pub serves_kept : (types : List TypeRow) (b : BoardRow) → serves types b ≡ true → b.health ≡ Health.Retired → ⊥
 serves_kept types b is retired =
     false≢true (ap (λ h. same_health h Health.Good || (same_health h Health.Unknown && not (is_checked (check_of types b.kind)))) (sym retired) ∙ is)
 

@@ -5,8 +5,8 @@ use Rattle.std.specs.Option.{option_map, option_map_or}
 use Rattle.std.specs.Str.{bytes_eq}
 use Rattle.std.proofs.lemmas.Slice.Eq.{bytes_eq-Decides}
 use Rattle.farm_types.specs.Farm.{Farm, board_of, job_of, res_of}
-use Rattle.farm_types.specs.Pass.{allocated, give_member, give_res, held, scheduled}
-use Rattle.farm_types.specs.Sound.{IsBoardRow, IsHeldByKeys, IsJobRow, IsResRow, IsSound, IsSteady, hold, hold_of, job_gives, job_hold, res_gives, res_hold}
+use Rattle.farm_types.specs.Pass.{allocated, give_member, give_res, held, placed}
+use Rattle.farm_types.specs.Sound.{IsBoardRow, IsHeldByKeys, IsJobRow, IsResRow, IsSound, IsSteady, hold, hold_of, job_gives, job_hold, phase, res_gives, res_hold}
 use Rattle.farm_types.specs.Table.{change_where}
 use Rattle.farm_types.specs.declared.rows.BoardRow.{BoardRow}
 use Rattle.farm_types.specs.declared.rows.Health.{Health}
@@ -20,7 +20,7 @@ use Rattle.farm_types.proofs.Put.{found_passes}
 use Rattle.farm_sound.proofs.Given.{IsHeldByKeys-given}
 use Rattle.farm_sound.proofs.Mapped.{IsSteady-mapped, SameJob, same_job}
 use Rattle.farm_sound.proofs.Own.{itself, only_board, only_job}
-use Rattle.farm_sound.proofs.Rows.{board_row_in, hold_nothing, job_row_in, res_row_in, still_none}
+use Rattle.farm_sound.proofs.Rows.{board_row_in, hold_nothing, job_row_at, res_row_in, still_none}
 use Rattle.farm_sound.proofs.Tests.{same_number}
 use Rattle.farm_sound.proofs.Where.{all_true, by_cases, find_map, map_id}
 
@@ -122,66 +122,73 @@ module _ (F : Farm) (number : ℕ) (r : ResRow) (b : BoardRow) (bs : List BoardR
       stays (Holder.Res n) = res_stays n (n == number) refl
 
   pub IsSound-give_res : t ≤ F.clock → IsSound F → IsSound (give_res F number (b ∷ bs) t)
-  IsSound-give_res low sound = record { steady = IsSteady-give_res low sound.steady; held = IsHeldByKeys-give_res sound.held; whole = sound.whole }
+  IsSound-give_res low sound = record { steady = IsSteady-give_res low sound.steady; held = IsHeldByKeys-give_res sound.held; whole = sound.whole; collecting = sound.collecting }
 
 -- ---- to a member of a group
 
-module _ (F : Farm) (j : JobRow) (b : BoardRow) (there : job_of F j.number ≡ Some j) (waits : j.state ≡ JobState.Submitted) (free : IsFreeBoard F b) where
-  job_at : (n : ℕ) → job_of (give_member F (j, b)) n ≡ option_map (λ q. cond (q.number == j.number) (scheduled b.name q) q) (job_of F n)
-  job_at n = find_map (λ (q : JobRow). q.number == n) (λ q. cond (q.number == j.number) (scheduled b.name q) q)
-      (λ q. by_cases (λ (k : JobRow). (k.number == n) ≡ (q.number == n)) (q.number == j.number) (scheduled b.name q) q (λ _. refl) (λ _. refl)) F.jobs
+-- it becomes Scheduled or Scheduling
+pub record IsPlaced (state : JobState) : Type 0 where
+  pub gives : job_gives state ≡ Some State.Reserved
+  pub waits : state ≡ JobState.Submitted → ⊥
+  pub ends : state ≡ JobState.Finished → ⊥
 
-  pub IsSteady-give_member : IsSteady F → IsSteady (give_member F (j, b))
+module _ (state : JobState) (placing : IsPlaced state) (F : Farm) (j : JobRow) (b : BoardRow) (there : job_of F j.number ≡ Some j) (waits : j.state ≡ JobState.Submitted) (free : IsFreeBoard F b) where
+  job_at : (n : ℕ) → job_of (give_member state F (j, b)) n ≡ option_map (λ q. cond (q.number == j.number) (placed state b.name q) q) (job_of F n)
+  job_at n = find_map (λ (q : JobRow). q.number == n) (λ q. cond (q.number == j.number) (placed state b.name q) q)
+      (λ q. by_cases (λ (k : JobRow). (k.number == n) ≡ (q.number == n)) (q.number == j.number) (placed state b.name q) q (λ _. refl) (λ _. refl)) F.jobs
+
+  pub IsSteady-give_member : IsSteady F → IsSteady (give_member state F (j, b))
   IsSteady-give_member steady =
-      IsSteady-mapped F (on_board (Holder.Job j.number) b) (λ q. cond (q.number == j.number) (scheduled b.name q) q) (λ r. r)
+      IsSteady-mapped F (on_board (Holder.Job j.number) b) (λ q. cond (q.number == j.number) (placed state b.name q) q) (λ r. r)
       (λ c. c.name ≡ b.name → c ≡ b) (λ q. q.number ≡ j.number → q ≡ j) (λ q. Unit {0})
       (record {
         board_name = λ c. by_cases (λ (d : BoardRow). d.name ≡ c.name) (bytes_eq c.name b.name) (held (Holder.Job j.number) State.Reserved c) c
             (λ _. refl) (λ _. refl);
         board_kind = λ c. by_cases (λ (d : BoardRow). d.kind ≡ c.kind) (bytes_eq c.name b.name) (held (Holder.Job j.number) State.Reserved c) c
             (λ _. refl) (λ _. refl);
-        job_same = λ q. by_cases (SameJob q) (q.number == j.number) (scheduled b.name q) q
+        job_same = λ q. by_cases (SameJob q) (q.number == j.number) (placed state b.name q) q
             (λ _. record { number = refl; group = refl; owner = refl; priority = refl; checking = refl }) (λ _. same_job q);
         res_number = λ q. refl;
         boards = only_board F steady b free.there;
         jobs = only_job F steady j.number j there;
         reservations = all_true F.reservations;
         board_row = board_row_on F (Holder.Job j.number) b free;
-        job_row = λ q only is. by_cases (IsJobRow F) (q.number == j.number) (scheduled b.name q) q
+        job_row = λ q only is. by_cases (IsJobRow F) (q.number == j.number) (placed state b.name q) q
             (λ so.
             let s : q.state ≡ JobState.Submitted = ap (λ (k : JobRow). k.state) (only (same_number q.number j.number so)) ∙ waits in
-            job_row_in F q JobState.Scheduled q.outcome (Some b.name) (subst IsSome (sym free.there) refl)
-            (still_none q.outcome q.state JobState.Scheduled (λ e. let x : JobState.Submitted ≡ JobState.Finished = sym s ∙ e in cc)
-            (λ e. cc) is.outcome) (λ _. refl) (λ e. cc) is)
+            job_row_at F q state q.outcome (Some b.name) (subst IsSome (sym free.there) refl)
+            (still_none q.outcome q.state state (λ e. let x : JobState.Submitted ≡ JobState.Finished = sym s ∙ e in cc)
+            placing.ends is.outcome) (λ _. refl) (λ e. absurd (placing.waits e)) (λ yes _. (is.check yes).state (ap phase s)) is)
             (λ _. is);
         res_row = λ q _ is. is;
       })
       (change_where (λ c. bytes_eq c.name b.name) (held (Holder.Job j.number) State.Reserved) F.boards) refl
-      (change_where (λ q. q.number == j.number) (scheduled b.name) F.jobs) refl
+      (change_where (λ q. q.number == j.number) (placed state b.name) F.jobs) refl
       F.reservations (sym (map_id F.reservations)) steady
 
   job_stays : (n : ℕ) (v : Bool) → (n == j.number) ≡ v
-      → (hold_of (give_member F (j, b)) (Holder.Job n) ≡ hold_of F (Holder.Job n)) ⊎ (Holder.Job n ≡ Holder.Job j.number)
+      → (hold_of (give_member state F (j, b)) (Holder.Job n) ≡ hold_of F (Holder.Job n)) ⊎ (Holder.Job n ≡ Holder.Job j.number)
   job_stays n true same = inr (ap Holder.Job (same_number n j.number same))
   job_stays n false other = inl (ap (λ o. option_map_or job_hold o None) (job_at n) ∙ by (job_of F n) refl)
     where
       by : (o : Option JobRow) → job_of F n ≡ o
-          → option_map_or job_hold (option_map (λ q. cond (q.number == j.number) (scheduled b.name q) q) o) None ≡ option_map_or job_hold o None
+          → option_map_or job_hold (option_map (λ q. cond (q.number == j.number) (placed state b.name q) q) o) None ≡ option_map_or job_hold o None
       by None is = refl
       by (Some q) is =
           let e : q.number ≡ n = same_number q.number n (found_passes (λ (k : JobRow). k.number == n) q F.jobs is) in
-          ap (λ v. job_hold (cond v (scheduled b.name q) q)) (ap (λ k. k == j.number) e ∙ other)
+          ap (λ v. job_hold (cond v (placed state b.name q) q)) (ap (λ k. k == j.number) e ∙ other)
 
-  pub IsHeldByKeys-give_member : IsHeldByKeys F → IsHeldByKeys (give_member F (j, b))
+  pub IsHeldByKeys-give_member : IsHeldByKeys F → IsHeldByKeys (give_member state F (j, b))
   IsHeldByKeys-give_member held_in =
-      IsHeldByKeys-given F (give_member F (j, b)) (Holder.Job j.number) b
+      IsHeldByKeys-given F (give_member state F (j, b)) (Holder.Job j.number) b
       (record {
         free = free.nobody;
         there = free.there;
         nothing = ap (λ o. option_map_or job_hold o None) there ∙ nothing j.state j.board waits;
         gets = ap (λ o. option_map_or job_hold o None)
-            (job_at j.number ∙ ap (option_map (λ q. cond (q.number == j.number) (scheduled b.name q) q)) there
-            ∙ ap (λ v. Some (cond v (scheduled b.name j) j)) (itself j.number));
+            (job_at j.number ∙ ap (option_map (λ q. cond (q.number == j.number) (placed state b.name q) q)) there
+            ∙ ap (λ v. Some (cond v (placed state b.name j) j)) (itself j.number))
+            ∙ ap (hold (Holder.Job j.number) (Some b.name)) placing.gives;
         stays = stays;
         boards = boards_on F (Holder.Job j.number) b;
         rows = refl;
@@ -191,17 +198,17 @@ module _ (F : Farm) (j : JobRow) (b : BoardRow) (there : job_of F j.number ≡ S
       nothing : (s : JobState) (board : Option (List ℕ)) → s ≡ JobState.Submitted → hold (Holder.Job j.number) board (job_gives s) ≡ None
       nothing s board is = ap (λ x. hold (Holder.Job j.number) board (job_gives x)) is ∙ hold_nothing (Holder.Job j.number) board
 
-      stays : (h : Holder) → (hold_of (give_member F (j, b)) h ≡ hold_of F h) ⊎ (h ≡ Holder.Job j.number)
+      stays : (h : Holder) → (hold_of (give_member state F (j, b)) h ≡ hold_of F h) ⊎ (h ≡ Holder.Job j.number)
       stays Holder.Nobody = inl refl
       stays (Holder.Job n) = job_stays n (n == j.number) refl
       stays (Holder.Res n) = inl refl
 
   -- another job and another board are found as before
-  pub other_job : (k : JobRow) → (k.number == j.number) ≡ false → job_of F k.number ≡ Some k → job_of (give_member F (j, b)) k.number ≡ Some k
-  other_job k other is = job_at k.number ∙ ap (option_map (λ q. cond (q.number == j.number) (scheduled b.name q) q)) is
-      ∙ ap (λ v. Some (cond v (scheduled b.name k) k)) other
+  pub other_job : (k : JobRow) → (k.number == j.number) ≡ false → job_of F k.number ≡ Some k → job_of (give_member state F (j, b)) k.number ≡ Some k
+  other_job k other is = job_at k.number ∙ ap (option_map (λ q. cond (q.number == j.number) (placed state b.name q) q)) is
+      ∙ ap (λ v. Some (cond v (placed state b.name k) k)) other
 
-  pub other_board : (c : BoardRow) → bytes_eq c.name b.name ≡ false → IsFreeBoard F c → IsFreeBoard (give_member F (j, b)) c
+  pub other_board : (c : BoardRow) → bytes_eq c.name b.name ≡ false → IsFreeBoard F c → IsFreeBoard (give_member state F (j, b)) c
   other_board c other is = record {
     there = boards_on F (Holder.Job j.number) b c.name ∙ ap (option_map (on_board (Holder.Job j.number) b)) is.there
         ∙ ap (λ v. Some (cond v (held (Holder.Job j.number) State.Reserved c) c)) other;

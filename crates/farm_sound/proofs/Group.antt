@@ -1,5 +1,5 @@
 -- A group is given its boards, member by member.
-use Rattle.std.proofs.Common.{◌==◌, ◌||◌, ◌∙◌, ◌∷◌, ◌≡◌, ◌⊎◌, Bool, List, Some, ap, arith, cond, false, inl, inr, length, map, not, refl, subst, sym, true, ℕ, []}
+use Rattle.std.proofs.Common.{◌==◌, ◌||◌, ◌∙◌, ◌∷◌, ◌≡◌, ◌≤◌, ◌⊎◌, Bool, List, Some, ap, arith, cond, false, inl, inr, length, map, not, refl, subst, sym, true, ℕ, []}
 use mathlib.Core.Bool.{false≢true}
 use Rattle.std.specs.Cmp.Lexicographic.{nat_list_eq_equiv}
 use Rattle.std.specs.List.{AllByRecursion, filter, fold, list_any, zip}
@@ -9,15 +9,16 @@ use Rattle.std.specs.declared.cmp.Ordering.TheVariants.{Less}
 use Rattle.std.proofs.lemmas.Bool.Decides.{nat_tests}
 use Rattle.std.proofs.lemmas.Cmp.{ranked}
 use Rattle.farm_types.specs.Farm.{Farm, job_of, members}
-use Rattle.farm_types.specs.Pass.{give_group, give_member, held, scheduled}
+use Rattle.farm_types.specs.Pass.{give_group, give_member, held, placed}
 use Rattle.farm_types.specs.Pick.{are_apart}
-use Rattle.farm_types.specs.Sound.{IsHeldByKeys, IsSound, IsSteady, phase}
+use Rattle.farm_types.specs.Sound.{IsCollecting, IsHeldByKeys, IsSound, IsSteady, phase}
 use Rattle.farm_types.specs.Table.{job_cmp}
 use Rattle.farm_types.specs.declared.rows.BoardRow.{BoardRow}
 use Rattle.farm_types.specs.declared.rows.JobRow.{JobRow}
 use Rattle.farm_types.specs.declared.rows.JobState.{JobState}
 use Rattle.farm_types.proofs.Put.{AllByRecursion-weaker}
-use Rattle.farm_sound.proofs.Give.{IsFreeBoard, IsHeldByKeys-give_member, IsSteady-give_member, other_board, other_job}
+use Rattle.farm_sound.proofs.Collecting.{IsCollecting-map}
+use Rattle.farm_sound.proofs.Give.{IsFreeBoard, IsPlaced, IsHeldByKeys-give_member, IsSteady-give_member, other_board, other_job}
 use Rattle.farm_sound.proofs.Lists.{filter_all}
 use Rattle.farm_sound.proofs.Own.{differs_more, own_job}
 use Rattle.farm_sound.proofs.Tests.{both, same_number}
@@ -26,7 +27,13 @@ use Rattle.farm_sound.proofs.Whole.{Alike}
 
 -- ---- pairs of members and boards
 
-abbrev Ready : Farm → JobRow → Type 0
+pub as_scheduled : IsPlaced JobState.Scheduled
+as_scheduled = record { gives = refl; waits = λ e. cc; ends = λ e. cc }
+
+pub as_scheduling : IsPlaced JobState.Scheduling
+as_scheduling = record { gives = refl; waits = λ e. cc; ends = λ e. cc }
+
+abbrev pub Ready : Farm → JobRow → Type 0
 Ready F j = (job_of F j.number ≡ Some j) × (j.state ≡ JobState.Submitted)
 
 -- each pair's member and board differ from those of the later pairs
@@ -39,20 +46,20 @@ ArePairs F p = Ready F p.0 × IsFreeBoard F p.1
 
 rest_ready : (F : Farm) (p : JobRow × BoardRow) (ps : List (JobRow × BoardRow)) → ArePairs F p
     → AllByRecursion (λ q. ((q.0.number == p.0.number) ≡ false) × (bytes_eq q.1.name p.1.name ≡ false)) ps → AllByRecursion (ArePairs F) ps
-    → AllByRecursion (ArePairs (give_member F (p.0, p.1))) ps
+    → AllByRecursion (ArePairs (give_member JobState.Scheduled F (p.0, p.1))) ps
 rest_ready F p [] is apart all = tt
 rest_ready F p (q ∷ qs) is apart all = (
-  ((other_job F p.0 p.1 is.0.0 is.0.1 is.1 q.0 apart.0.0 all.0.0.0, all.0.0.1), other_board F p.0 p.1 is.0.0 is.0.1 is.1 q.1 apart.0.1 all.0.1),
+  ((other_job JobState.Scheduled as_scheduled F p.0 p.1 is.0.0 is.0.1 is.1 q.0 apart.0.0 all.0.0.0, all.0.0.1), other_board JobState.Scheduled as_scheduled F p.0 p.1 is.0.0 is.0.1 is.1 q.1 apart.0.1 all.0.1),
   rest_ready F p qs is apart.1 all.1,
 )
 
 pub give_all : (ps : List (JobRow × BoardRow)) (F : Farm) → AllByRecursion (ArePairs F) ps → AreApart ps → IsSteady F → IsHeldByKeys F
-    → IsSteady (fold give_member F ps) × IsHeldByKeys (fold give_member F ps)
+    → IsSteady (fold (give_member JobState.Scheduled) F ps) × IsHeldByKeys (fold (give_member JobState.Scheduled) F ps)
 give_all [] F all apart steady held = (steady, held)
 give_all (p ∷ ps) F all apart steady held =
-    give_all ps (give_member F (p.0, p.1)) (rest_ready F p ps all.0 apart.0 all.1) apart.1
-    (IsSteady-give_member F p.0 p.1 all.0.0.0 all.0.0.1 all.0.1 steady)
-    (IsHeldByKeys-give_member F p.0 p.1 all.0.0.0 all.0.0.1 all.0.1 held)
+    give_all ps (give_member JobState.Scheduled F (p.0, p.1)) (rest_ready F p ps all.0 apart.0 all.1) apart.1
+    (IsSteady-give_member JobState.Scheduled as_scheduled F p.0 p.1 all.0.0.0 all.0.0.1 all.0.1 steady)
+    (IsHeldByKeys-give_member JobState.Scheduled as_scheduled F p.0 p.1 all.0.0.0 all.0.0.1 all.0.1 held)
 
 zip_all : {A B : Type 0} (P : A → Type 0) (Q : B → Type 0) (xs : List A) (ys : List B) → AllByRecursion P xs → AllByRecursion Q ys
     → AllByRecursion (λ p. P p.0 × Q p.1) (zip xs ys)
@@ -60,7 +67,7 @@ zip_all P Q [] ys p q = tt
 zip_all P Q (x ∷ xs) [] p q = tt
 zip_all P Q (x ∷ xs) (y ∷ ys) p q = ((p.0, q.0), zip_all P Q xs ys p.1 q.1)
 
-filter_sorted : (test : JobRow → Bool) (xs : List JobRow) → IsStrictlySortedBy job_cmp xs → IsStrictlySortedBy job_cmp (filter test xs)
+pub filter_sorted : (test : JobRow → Bool) (xs : List JobRow) → IsStrictlySortedBy job_cmp xs → IsStrictlySortedBy job_cmp (filter test xs)
 unfolding IsStrictlySortedBy
 filter_sorted test [] sorted = tt
 filter_sorted test (x ∷ xs) sorted = by (test x) (filter_sorted test xs sorted.1)
@@ -92,9 +99,9 @@ zip_apart (m ∷ ms) (b ∷ bs) sorted apart =
 
 -- ---- the jobs afterwards
 
-abbrev pub given : List (JobRow × BoardRow) → JobRow → JobRow
-given [] m = m
-given (p ∷ ps) m = given ps (cond (m.number == p.0.number) (scheduled p.1.name m) m)
+abbrev pub given : JobState → List (JobRow × BoardRow) → JobRow → JobRow
+given state [] m = m
+given state (p ∷ ps) m = given state ps (cond (m.number == p.0.number) (placed state p.1.name m) m)
 
 map_map : {A : Type 0} (f g : A → A) (xs : List A) → map g (map f xs) ≡ map (λ x. g (f x)) xs
 map_map f g [] = refl
@@ -104,9 +111,9 @@ map_itself : {A : Type 0} (xs : List A) → xs ≡ map (λ x. x) xs
 map_itself [] = refl
 map_itself (x ∷ xs) = ap (λ rest. x ∷ rest) (map_itself xs)
 
-pub jobs_given : (ps : List (JobRow × BoardRow)) (F : Farm) → (fold give_member F ps).jobs ≡ map (given ps) F.jobs
-jobs_given [] F = map_itself F.jobs
-jobs_given (p ∷ ps) F = jobs_given ps (give_member F (p.0, p.1)) ∙ map_map (λ m. cond (m.number == p.0.number) (scheduled p.1.name m) m) (given ps) F.jobs
+pub jobs_given : (state : JobState) (ps : List (JobRow × BoardRow)) (F : Farm) → (fold (give_member state) F ps).jobs ≡ map (given state ps) F.jobs
+jobs_given state [] F = map_itself F.jobs
+jobs_given state (p ∷ ps) F = jobs_given state ps (give_member state F (p.0, p.1)) ∙ map_map (λ m. cond (m.number == p.0.number) (placed state p.1.name m) m) (given state ps) F.jobs
 
 abbrev HasNumber : ℕ → List (JobRow × BoardRow) → Type 0
 HasNumber n [] = ⊥
@@ -122,22 +129,22 @@ has_from n (m ∷ ms) [] long at = absurd (omega arith)
 has_from n (m ∷ ms) (b ∷ bs) long (inl same) = inl same
 has_from n (m ∷ ms) (b ∷ bs) long (inr at) = inr (has_from n ms bs (omega arith) at)
 
-pub given_number : (ps : List (JobRow × BoardRow)) (m : JobRow) → (given ps m).number ≡ m.number
-given_number [] m = refl
-given_number (p ∷ ps) m = given_number ps (cond (m.number == p.0.number) (scheduled p.1.name m) m)
-    ∙ by_cases (λ (k : JobRow). k.number ≡ m.number) (m.number == p.0.number) (scheduled p.1.name m) m (λ _. refl) (λ _. refl)
+pub given_number : (state : JobState) (ps : List (JobRow × BoardRow)) (m : JobRow) → (given state ps m).number ≡ m.number
+given_number state [] m = refl
+given_number state (p ∷ ps) m = given_number state ps (cond (m.number == p.0.number) (placed state p.1.name m) m)
+    ∙ by_cases (λ (k : JobRow). k.number ≡ m.number) (m.number == p.0.number) (placed state p.1.name m) m (λ _. refl) (λ _. refl)
 
-pub given_group : (ps : List (JobRow × BoardRow)) (m : JobRow) → (given ps m).group ≡ m.group
-given_group [] m = refl
-given_group (p ∷ ps) m = given_group ps (cond (m.number == p.0.number) (scheduled p.1.name m) m)
-    ∙ by_cases (λ (k : JobRow). k.group ≡ m.group) (m.number == p.0.number) (scheduled p.1.name m) m (λ _. refl) (λ _. refl)
+pub given_group : (state : JobState) (ps : List (JobRow × BoardRow)) (m : JobRow) → (given state ps m).group ≡ m.group
+given_group state [] m = refl
+given_group state (p ∷ ps) m = given_group state ps (cond (m.number == p.0.number) (placed state p.1.name m) m)
+    ∙ by_cases (λ (k : JobRow). k.group ≡ m.group) (m.number == p.0.number) (placed state p.1.name m) m (λ _. refl) (λ _. refl)
 
 given_scheduled : (ps : List (JobRow × BoardRow)) (m : JobRow) → (m.state ≡ JobState.Scheduled) ⊎ HasNumber m.number ps
-    → (given ps m).state ≡ JobState.Scheduled
+    → (given JobState.Scheduled ps m).state ≡ JobState.Scheduled
 given_scheduled [] m (inl is) = is
 given_scheduled [] m (inr at) = absurd at
-given_scheduled (p ∷ ps) m at = given_scheduled ps (cond (m.number == p.0.number) (scheduled p.1.name m) m)
-    (by_cases (λ (k : JobRow). (k.state ≡ JobState.Scheduled) ⊎ HasNumber k.number ps) (m.number == p.0.number) (scheduled p.1.name m) m
+given_scheduled (p ∷ ps) m at = given_scheduled ps (cond (m.number == p.0.number) (placed JobState.Scheduled p.1.name m) m)
+    (by_cases (λ (k : JobRow). (k.state ≡ JobState.Scheduled) ⊎ HasNumber k.number ps) (m.number == p.0.number) (placed JobState.Scheduled p.1.name m) m
     (λ _. inl refl) (λ other. left at other))
   where
     left : (m.state ≡ JobState.Scheduled) ⊎ HasNumber m.number (p ∷ ps) → (m.number == p.0.number) ≡ false
@@ -146,9 +153,30 @@ given_scheduled (p ∷ ps) m at = given_scheduled ps (cond (m.number == p.0.numb
     left (inr (inl same)) other = let h : (m.number == p.0.number) ≡ true = (grind (arith, nat_tests)) in absurd (false≢true (sym other ∙ h))
     left (inr (inr later)) other = inr later
 
-pub given_other : (ps : List (JobRow × BoardRow)) (m : JobRow) → AllByRecursion (λ p. (m.number == p.0.number) ≡ false) ps → given ps m ≡ m
-given_other [] m all = refl
-given_other (p ∷ ps) m all = ap (λ v. given ps (cond v (scheduled p.1.name m) m)) all.0 ∙ given_other ps m all.1
+-- a job is as it was, or in the state
+pub given_state : (state : JobState) (ps : List (JobRow × BoardRow)) (m : JobRow)
+    → ((given state ps m).state ≡ m.state) ⊎ ((given state ps m).state ≡ state)
+given_state state [] m = inl refl
+given_state state (p ∷ ps) m =
+    by_cases (λ (k : JobRow). ((given state ps k).state ≡ m.state) ⊎ ((given state ps k).state ≡ state)) (m.number == p.0.number)
+    (placed state p.1.name m) m (λ _. placed_one (given_state state ps (placed state p.1.name m))) (λ _. given_state state ps m)
+  where
+    placed_one : ((given state ps (placed state p.1.name m)).state ≡ state) ⊎ ((given state ps (placed state p.1.name m)).state ≡ state)
+        → ((given state ps (placed state p.1.name m)).state ≡ m.state) ⊎ ((given state ps (placed state p.1.name m)).state ≡ state)
+    placed_one (inl is) = inr is
+    placed_one (inr is) = inr is
+
+-- it keeps its owner, its priority and its want
+pub given_same : (state : JobState) (ps : List (JobRow × BoardRow)) (m : JobRow)
+    → ((given state ps m).owner ≡ m.owner) × ((given state ps m).priority ≡ m.priority) × ((given state ps m).want ≡ m.want)
+given_same state [] m = (refl, refl, refl)
+given_same state (p ∷ ps) m = by_cases
+    (λ (k : JobRow). ((given state ps k).owner ≡ m.owner) × ((given state ps k).priority ≡ m.priority) × ((given state ps k).want ≡ m.want))
+    (m.number == p.0.number) (placed state p.1.name m) m (λ _. given_same state ps (placed state p.1.name m)) (λ _. given_same state ps m)
+
+pub given_other : (state : JobState) (ps : List (JobRow × BoardRow)) (m : JobRow) → AllByRecursion (λ p. (m.number == p.0.number) ≡ false) ps → given state ps m ≡ m
+given_other state [] m all = refl
+given_other state (p ∷ ps) m all = ap (λ v. given state ps (cond v (placed state p.1.name m) m)) all.0 ∙ given_other state ps m all.1
 
 members_number : (group : ℕ) (jobs : List JobRow) → AllByRecursion (λ m. m.group ≡ group → IsNumberOf m.number (filter (λ r. r.group == group) jobs)) jobs
 members_number group [] = tt
@@ -165,11 +193,15 @@ members_number group (m ∷ jobs) =
     later true k at = inr at
     later false k at = at
 
+pub collector_kept : (state : JobState) (ps : List (JobRow × BoardRow)) (F : Farm) → (fold (give_member state) F ps).collector ≡ F.collector
+collector_kept state [] F = refl
+collector_kept state (p ∷ ps) F = collector_kept state ps (give_member state F (p.0, p.1))
+
 -- ---- the group
 
 module _ (F : Farm) (group : ℕ) (bs : List BoardRow) (sound : IsSound F)
     (waits : AllByRecursion (λ m. m.state ≡ JobState.Submitted) (members F group)) (free : AllByRecursion (IsFreeBoard F) bs)
-    (apart : are_apart bs ≡ true) (long : length bs ≡ length (members F group)) where
+    (apart : are_apart bs ≡ true) (long : length bs ≡ length (members F group)) (other : 1 ≤ F.collector → F.collector ≡ group → ⊥) where
   abbrev pairs : List (JobRow × BoardRow)
   pairs = zip (members F group) bs
 
@@ -190,12 +222,12 @@ module _ (F : Farm) (group : ℕ) (bs : List BoardRow) (sound : IsSound F)
 
   -- each job's part in it
   abbrev pub Part : JobRow → Type 0
-  Part m = (m.group ≡ group → (given pairs m).state ≡ JobState.Scheduled) × ((m.group == group) ≡ false → given pairs m ≡ m)
+  Part m = (m.group ≡ group → (given JobState.Scheduled pairs m).state ≡ JobState.Scheduled) × ((m.group == group) ≡ false → given JobState.Scheduled pairs m ≡ m)
 
   part : (m : JobRow) → job_of F m.number ≡ Some m → (m.group ≡ group → IsNumberOf m.number (members F group)) → Part m
   part m own named = (
     λ same. given_scheduled pairs m (inr (has_from m.number (members F group) bs long (named same))),
-    λ other. given_other pairs m (AllByRecursion-weaker (λ p two. elsewhere other p.0 two.0.0 two.0.1 (m.number == p.0.number) refl) pairs
+    λ other. given_other JobState.Scheduled pairs m (AllByRecursion-weaker (λ p two. elsewhere other p.0 two.0.0 two.0.1 (m.number == p.0.number) refl) pairs
         (zip_all (λ k. (job_of F k.number ≡ Some k) × ((k.group == group) ≡ true)) (λ b. IsFreeBoard F b) (members F group) bs own_members free)),
   )
     where
@@ -213,27 +245,46 @@ module _ (F : Farm) (group : ℕ) (bs : List BoardRow) (sound : IsSound F)
       (AllByRecursion-both (λ m. job_of F m.number ≡ Some m) (λ m. m.group ≡ group → IsNumberOf m.number (members F group)) F.jobs
       (own_job F sound.steady) (members_number group F.jobs))
 
-  alike_given : (j m : JobRow) → Part j → Part m → Alike j m → Alike (given pairs j) (given pairs m)
+  alike_given : (j m : JobRow) → Part j → Part m → Alike j m → Alike (given JobState.Scheduled pairs j) (given JobState.Scheduled pairs m)
   alike_given j m pj pm alike same = by (j.group == group) refl
     where
       e : m.group ≡ j.group
-      e = sym (given_group pairs m) ∙ same ∙ given_group pairs j
+      e = sym (given_group JobState.Scheduled pairs m) ∙ same ∙ given_group JobState.Scheduled pairs j
 
-      by : (v : Bool) → (j.group == group) ≡ v → phase (given pairs m).state ≡ phase (given pairs j).state
+      by : (v : Bool) → (j.group == group) ≡ v → phase (given JobState.Scheduled pairs m).state ≡ phase (given JobState.Scheduled pairs j).state
       by true is =
           let g : j.group ≡ group = same_number j.group group is in
           ap phase (pm.0 (e ∙ g) ∙ sym (pj.0 g))
       by false is = ap (λ (x : JobRow). phase x.state) (pm.1 (ap (λ g. g == group) e ∙ is)) ∙ alike e ∙ sym (ap (λ (x : JobRow). phase x.state) (pj.1 is))
 
-  whole_given : AllByRecursion (λ j. AllByRecursion (Alike j) (map (given pairs) F.jobs)) (map (given pairs) F.jobs)
-  whole_given = AllByRecursion-map (λ j. Part j × AllByRecursion (Alike j) F.jobs) (λ j. AllByRecursion (Alike j) (map (given pairs) F.jobs)) (given pairs)
-      (λ j two. AllByRecursion-map (λ m. Part m × Alike j m) (Alike (given pairs j)) (given pairs)
+  whole_given : AllByRecursion (λ j. AllByRecursion (Alike j) (map (given JobState.Scheduled pairs) F.jobs)) (map (given JobState.Scheduled pairs) F.jobs)
+  whole_given = AllByRecursion-map (λ j. Part j × AllByRecursion (Alike j) F.jobs) (λ j. AllByRecursion (Alike j) (map (given JobState.Scheduled pairs) F.jobs)) (given JobState.Scheduled pairs)
+      (λ j two. AllByRecursion-map (λ m. Part m × Alike j m) (Alike (given JobState.Scheduled pairs j)) (given JobState.Scheduled pairs)
       (λ m three. alike_given j m two.0 three.0 three.1) F.jobs (AllByRecursion-both Part (Alike j) F.jobs parts two.1))
       F.jobs (AllByRecursion-both Part (λ j. AllByRecursion (Alike j) F.jobs) F.jobs parts sound.whole)
+
+  -- no job becomes Scheduling
+  given_stays : (m : JobRow) → Part m → (given JobState.Scheduled pairs m).state ≡ JobState.Scheduling → m.state ≡ JobState.Scheduling
+  given_stays m p is = by (m.group == group) refl
+    where
+      by : (v : Bool) → (m.group == group) ≡ v → m.state ≡ JobState.Scheduling
+      by true at = let e : JobState.Scheduled ≡ JobState.Scheduling = sym (p.0 (same_number m.group group at)) ∙ is in cc
+      by false at = sym (ap (λ (k : JobRow). k.state) (p.1 at)) ∙ is
+
+  -- and the group that is served isn't the collector
+  given_waits : (m : JobRow) → Part m → 1 ≤ F.collector → m.group ≡ F.collector → phase m.state ≡ 0 → phase (given JobState.Scheduled pairs m).state ≡ 0
+  given_waits m p low same waits_m = by (m.group == group) refl
+    where
+      by : (v : Bool) → (m.group == group) ≡ v → phase (given JobState.Scheduled pairs m).state ≡ 0
+      by true at = absurd (other low (sym same ∙ same_number m.group group at))
+      by false at = ap (λ (k : JobRow). phase k.state) (p.1 at) ∙ waits_m
 
   pub IsSound-give_group : IsSound (give_group F group bs)
   IsSound-give_group = record {
     steady = steady_held.0;
     held = steady_held.1;
-    whole = subst (λ l. AllByRecursion (λ j. AllByRecursion (Alike j) l) l) (sym (jobs_given pairs F)) whole_given;
+    collecting = subst (λ c. IsCollecting c (give_group F group bs).jobs) (sym (collector_kept JobState.Scheduled pairs F))
+        (subst (IsCollecting F.collector) (sym (jobs_given JobState.Scheduled pairs F))
+        (IsCollecting-map F.collector Part (given JobState.Scheduled pairs) F.jobs parts (given_group JobState.Scheduled pairs) given_stays given_waits sound.collecting));
+    whole = subst (λ l. AllByRecursion (λ j. AllByRecursion (Alike j) l) l) (sym (jobs_given JobState.Scheduled pairs F)) whole_given;
   }

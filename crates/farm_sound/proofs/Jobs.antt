@@ -1,12 +1,12 @@
 -- Start and Cancel keep soundness.
-use Rattle.std.proofs.Common.{◌&&◌, ◌==◌, ◌||◌, ◌∙◌, ◌≡◌, IsSome, None, Some, ap, arith, cond, nat_lt, refl, subst, sym, true, ℕ}
+use Rattle.std.proofs.Common.{◌&&◌, ◌==◌, ◌||◌, ◌∙◌, ◌≡◌, ◌≤◌, Bool, IsSome, None, Some, ap, arith, cond, false, map, nat_lt, refl, subst, sym, true, ℕ}
 use mathlib.Core.Bool.{false≢true}
 use Rattle.std.specs.List.{AllByRecursion}
 use Rattle.farm_types.specs.Change.{cancel_group, in_state, is_unstarted, start_group}
 use Rattle.farm_types.specs.Codes.{same_job_state}
 use Rattle.farm_types.specs.Farm.{Farm, job_of}
-use Rattle.farm_types.specs.Pass.{change_jobs, idle}
-use Rattle.farm_types.specs.Sound.{IsSound, hold, job_gives, phase, shown}
+use Rattle.farm_types.specs.Pass.{back, change_jobs, idle, unplaced}
+use Rattle.farm_types.specs.Sound.{IsCollecting, IsSound, hold, job_gives, phase, shown}
 use Rattle.farm_types.specs.Table.{change_where}
 use Rattle.farm_types.specs.declared.rows.Holder.{Holder}
 use Rattle.farm_types.specs.declared.rows.JobRow.{JobRow}
@@ -15,20 +15,24 @@ use Rattle.farm_types.specs.declared.rows.Outcome.{Outcome}
 use Rattle.farm_types.specs.declared.rows.State.{State}
 use Rattle.farm_types.proofs.Put.{AllByRecursion-weaker, found_has}
 use Rattle.farm_sound.proofs.ChangeJobs.{IsSound-change_jobs}
-use Rattle.farm_sound.proofs.Rows.{board_row_in, hold_none, hold_nothing, job_row_in, left_off, left_on, left_same, still_none}
-use Rattle.farm_sound.proofs.Tests.{both, running_from, same_number}
-use Rattle.farm_sound.proofs.Where.{all_true}
+use Rattle.farm_sound.proofs.Collecting.{IsCollecting-map, none_collects}
+use Rattle.farm_sound.proofs.Own.{itself}
+use Rattle.farm_sound.proofs.Rows.{board_row_in, hold_none, hold_nothing, job_row_at, job_row_in, left_off, left_on, left_same, still_none}
+use Rattle.farm_sound.proofs.Tests.{both, running_from, same_number, scheduling_from}
+use Rattle.farm_sound.proofs.Where.{AllByRecursion-map, all_true, by_cases}
 use Rattle.farm_sound.proofs.Whole.{Alike, Alike-kept, Alike-where, IsWhole-map}
 
 scheduled_at : (s : JobState) → phase s ≡ 1 → s ≡ JobState.Scheduled
 scheduled_at JobState.Submitted is = absurd (omega arith)
+scheduled_at JobState.Scheduling is = absurd (omega arith)
 scheduled_at JobState.Scheduled is = refl
 scheduled_at JobState.Running is = absurd (omega arith)
 scheduled_at JobState.Canceling is = absurd (omega arith)
 scheduled_at JobState.Finished is = absurd (omega arith)
 
-unstarted_phase : (s : JobState) → (same_job_state s JobState.Submitted || same_job_state s JobState.Scheduled) ≡ nat_lt (phase s) 2
+unstarted_phase : (s : JobState) → ((same_job_state s JobState.Submitted || same_job_state s JobState.Scheduling) || same_job_state s JobState.Scheduled) ≡ nat_lt (phase s) 2
 unstarted_phase JobState.Submitted = refl
+unstarted_phase JobState.Scheduling = refl
 unstarted_phase JobState.Scheduled = refl
 unstarted_phase JobState.Running = refl
 unstarted_phase JobState.Canceling = refl
@@ -42,7 +46,7 @@ IsSound-start F n j there ready sound =
     let test = λ (m : JobRow). m.group == j.group in
     let f = λ (m : JobRow). record m { state = JobState.Running } in
     let alike = found_has (λ k. AllByRecursion (Alike k) F.jobs) (λ r. r.number == n) j F.jobs sound.whole there in
-    IsSound-change_jobs F test f (in_state State.Running) P
+    IsSound-change_jobs F test f (in_state State.Running) P F.collector
     (record {
       jobs = AllByRecursion-weaker (λ m is same. scheduled_at m.state (is same ∙ ap phase ready)) F.jobs alike;
       same = λ m. record { number = refl; group = refl; owner = refl; priority = refl; checking = refl };
@@ -64,17 +68,76 @@ IsSound-start F n j there ready sound =
     })
     (IsWhole-map F (change_where test f F.jobs) (λ m. cond (test m) (f m) m) refl
     (Alike-where test f (λ m. refl) (λ m k so same. refl) (λ m k same _. ap (λ g. g == j.group) same)) sound.whole)
+    (IsCollecting-map F.collector P (λ m. cond (test m) (f m) m) F.jobs
+    (AllByRecursion-weaker (λ m is same. scheduled_at m.state (is same ∙ ap phase ready)) F.jobs alike)
+    (λ m. by_cases (λ (k : JobRow). k.group ≡ m.group) (test m) (f m) m (λ _. refl) (λ _. refl))
+    (λ m p. by_cases (λ (k : JobRow). k.state ≡ JobState.Scheduling → m.state ≡ JobState.Scheduling) (test m) (f m) m (λ _ e. cc) (λ _ e. e))
+    (λ m p low same waits. by_cases (λ (k : JobRow). phase k.state ≡ 0) (test m) (f m) m
+    (λ so. let s : phase m.state ≡ 1 = ap phase (p (same_number m.group j.group so)) in absurd (omega (arith, s, waits))) (λ _. waits))
+    sound.collecting)
     sound
 
 -- ---- Cancel
 
-cancel_unstarted : (F : Farm) (group : ℕ) → IsSound F
-    → IsSound (change_jobs (λ j. (j.group == group) && is_unstarted j)
-    (λ j. record j { state = JobState.Finished; outcome = Some Outcome.Canceled }) idle F)
+-- the farm in which those that have not started are canceled
+abbrev unstarted_off : ℕ → Farm → Farm
+unstarted_off group F = record (change_jobs (λ j. (j.group == group) && is_unstarted j)
+    (λ j. record j { state = JobState.Finished; outcome = Some Outcome.Canceled }) idle F) {
+      collector = cond (F.collector == group) 0 F.collector;
+    }
+
+abbrev canceled : ℕ → JobRow → JobRow
+canceled group j = cond ((j.group == group) && is_unstarted j) (record j { state = JobState.Finished; outcome = Some Outcome.Canceled }) j
+
+canceled_group : (group : ℕ) (j : JobRow) → (canceled group j).group ≡ j.group
+canceled_group group j = by_cases (λ (k : JobRow). k.group ≡ j.group) ((j.group == group) && is_unstarted j)
+    (record j { state = JobState.Finished; outcome = Some Outcome.Canceled }) j (λ _. refl) (λ _. refl)
+
+-- a job that is Scheduling afterwards was so before, and in another group
+canceled_scheduling : (group : ℕ) (j : JobRow) → (canceled group j).state ≡ JobState.Scheduling
+    → (j.state ≡ JobState.Scheduling) × ((j.group == group) ≡ false)
+canceled_scheduling group j = by (j.group == group) refl
+  where
+    by : (v : Bool) → (j.group == group) ≡ v
+        → (cond (v && is_unstarted j) (record j { state = JobState.Finished; outcome = Some Outcome.Canceled }) j).state ≡ JobState.Scheduling
+        → (j.state ≡ JobState.Scheduling) × (v ≡ false)
+    by false at is = (is, refl)
+    by true at is = mine j.state refl is
+      where
+        mine : (s : JobState) → j.state ≡ s
+            → (cond (is_unstarted (record j { state = s })) (record j { state = JobState.Finished; outcome = Some Outcome.Canceled }) (record j { state = s })).state ≡ JobState.Scheduling
+            → (j.state ≡ JobState.Scheduling) × (true ≡ false)
+        mine JobState.Submitted at is = cc
+        mine JobState.Scheduling at is = cc
+        mine JobState.Scheduled at is = cc
+        mine JobState.Running at is = cc
+        mine JobState.Canceling at is = cc
+        mine JobState.Finished at is = cc
+
+collecting_canceled : (F : Farm) (group : ℕ) → IsSound F → IsCollecting (cond (F.collector == group) 0 F.collector) (map (canceled group) F.jobs)
+collecting_canceled F group sound = by (F.collector == group) refl
+  where
+    by : (v : Bool) → (F.collector == group) ≡ v → IsCollecting (cond v 0 F.collector) (map (canceled group) F.jobs)
+    by true at = none_collects (map (canceled group) F.jobs)
+        (AllByRecursion-map (λ j. j.state ≡ JobState.Scheduling → (1 ≤ F.collector) × (j.group ≡ F.collector)) (λ j. j.state ≡ JobState.Scheduling → ⊥)
+        (canceled group)
+        (λ j only e.
+        let two = canceled_scheduling group j e in
+        false≢true (sym two.1 ∙ ap (λ g. g == group) (only two.0).1 ∙ at))
+        F.jobs sound.collecting.only)
+    by false at = IsCollecting-map F.collector (λ j. Unit {0}) (canceled group) F.jobs (all_true F.jobs) (canceled_group group)
+        (λ j _ e. (canceled_scheduling group j e).0)
+        (λ j _ low same waits. by_cases (λ (k : JobRow). phase k.state ≡ 0) ((j.group == group) && is_unstarted j)
+        (record j { state = JobState.Finished; outcome = Some Outcome.Canceled }) j
+        (λ so. absurd (false≢true (sym at ∙ ap (λ g. g == group) (sym same) ∙ (both (j.group == group) (is_unstarted j) so).0)))
+        (λ _. waits))
+        sound.collecting
+
+cancel_unstarted : (F : Farm) (group : ℕ) → IsSound F → IsSound (unstarted_off group F)
 cancel_unstarted F group sound =
     let test = λ (m : JobRow). (m.group == group) && is_unstarted m in
     let f = λ (m : JobRow). record m { state = JobState.Finished; outcome = Some Outcome.Canceled } in
-    IsSound-change_jobs F test f idle (λ m. Unit {0})
+    IsSound-change_jobs F test f idle (λ m. Unit {0}) (cond (F.collector == group) 0 F.collector)
     (record {
       jobs = all_true F.jobs;
       same = λ m. record { number = refl; group = refl; owner = refl; priority = refl; checking = refl };
@@ -90,6 +153,7 @@ cancel_unstarted F group sound =
     (Alike-where test f (λ m. refl) (λ m k so same. refl)
     (λ m k same phased. (λ i. (same i == group) && is_unstarted k)
     ∙ ap (λ v. (m.group == group) && v) (unstarted_phase k.state ∙ ap (λ p. nat_lt p 2) phased ∙ sym (unstarted_phase m.state)))) sound.whole)
+    (collecting_canceled F group sound)
     sound
 
 cancel_running : (F : Farm) (group : ℕ) → IsSound F
@@ -99,7 +163,7 @@ cancel_running F group sound =
     let test = λ (m : JobRow). (m.group == group) && same_job_state m.state JobState.Running in
     let f = λ (m : JobRow). record m { state = JobState.Canceling } in
     let running = λ (m : JobRow) (so : test m ≡ true). running_from m.state (both (m.group == group) (same_job_state m.state JobState.Running) so).1 in
-    IsSound-change_jobs F test f (λ b. b) (λ m. Unit {0})
+    IsSound-change_jobs F test f (λ b. b) (λ m. Unit {0}) F.collector
     (record {
       jobs = all_true F.jobs;
       same = λ m. record { number = refl; group = refl; owner = refl; priority = refl; checking = refl };
@@ -117,9 +181,50 @@ cancel_running F group sound =
     })
     (IsWhole-map F (change_where test f F.jobs) (λ m. cond (test m) (f m) m) refl
     (Alike-kept test f (λ m. refl) (λ m so. ap phase (sym (running m so)))) sound.whole)
+    (IsCollecting-map F.collector (λ m. Unit {0}) (λ m. cond (test m) (f m) m) F.jobs (all_true F.jobs)
+    (λ m. by_cases (λ (k : JobRow). k.group ≡ m.group) (test m) (f m) m (λ _. refl) (λ _. refl))
+    (λ m p. by_cases (λ (k : JobRow). k.state ≡ JobState.Scheduling → m.state ≡ JobState.Scheduling) (test m) (f m) m (λ _ e. cc) (λ _ e. e))
+    (λ m p low same waits. by_cases (λ (k : JobRow). phase k.state ≡ 0) (test m) (f m) m
+    (λ so. let s : phase m.state ≡ 2 = ap phase (running m so) in absurd (omega (arith, s, waits))) (λ _. waits))
+    sound.collecting)
     sound
 
 pub IsSound-cancel : (F : Farm) (group : ℕ) → IsSound F → IsSound (cancel_group group F)
-IsSound-cancel F group sound =
-    cancel_running (change_jobs (λ j. (j.group == group) && is_unstarted j)
-    (λ j. record j { state = JobState.Finished; outcome = Some Outcome.Canceled }) idle F) group (cancel_unstarted F group sound)
+IsSound-cancel F group sound = cancel_running (unstarted_off group F) group (cancel_unstarted F group sound)
+
+-- ---- the collector gives its boards back
+
+-- each job in it is Scheduling
+pub IsSound-back : (F : Farm) → IsSound F → IsSound (back F)
+IsSound-back F sound =
+    let test = λ (m : JobRow). (m.group == F.collector) && same_job_state m.state JobState.Scheduling in
+    let scheduling = λ (m : JobRow) (so : test m ≡ true). scheduling_from m.state (both (m.group == F.collector) (same_job_state m.state JobState.Scheduling) so).1 in
+    IsSound-change_jobs F test unplaced idle (λ m. Unit {0}) 0
+    (record {
+      jobs = all_true F.jobs;
+      same = λ m. record { number = refl; group = refl; owner = refl; priority = refl; checking = refl };
+      row = λ m so p is.
+          let s : m.state ≡ JobState.Scheduling = scheduling m so in
+          job_row_at F m JobState.Submitted m.outcome None tt
+          (still_none m.outcome m.state JobState.Submitted (λ e. let x : JobState.Scheduling ≡ JobState.Finished = sym s ∙ e in cc) (λ e. cc) is.outcome)
+          (λ e. absurd (false≢true e)) (λ _. refl) (λ yes _. (is.check yes).state (ap phase s)) is;
+      board_name = λ b. refl;
+      board_kind = λ b. refl;
+      board_row = λ b so is. board_row_in F b Holder.Nobody State.Idle (λ _. refl) is;
+      none = λ m so p is. refl;
+      left = λ m b so p is. left_off (Holder.Job m.number) None (idle b) refl refl;
+    })
+    (IsWhole-map F (change_where test unplaced F.jobs) (λ m. cond (test m) (unplaced m) m) refl
+    (Alike-kept test unplaced (λ m. refl) (λ m so. ap phase (sym (scheduling m so)))) sound.whole)
+    (none_collects (change_where test unplaced F.jobs)
+    (AllByRecursion-map (λ j. j.state ≡ JobState.Scheduling → (1 ≤ F.collector) × (j.group ≡ F.collector)) (λ j. j.state ≡ JobState.Scheduling → ⊥)
+    (λ m. cond (test m) (unplaced m) m) (λ j only. none_left j only (test j) refl) F.jobs sound.collecting.only))
+    sound
+  where
+    none_left : (j : JobRow) → (j.state ≡ JobState.Scheduling → (1 ≤ F.collector) × (j.group ≡ F.collector)) → (v : Bool)
+        → ((j.group == F.collector) && same_job_state j.state JobState.Scheduling) ≡ v → (cond v (unplaced j) j).state ≡ JobState.Scheduling → ⊥
+    none_left j only true at e = cc
+    none_left j only false at e =
+        let both_true : ((j.group == F.collector) && same_job_state j.state JobState.Scheduling) ≡ true =
+        (λ i. ((only e).1 i == F.collector) && same_job_state (e i) JobState.Scheduling) ∙ ap (λ v. v && true) (itself F.collector) in
+        false≢true (sym at ∙ both_true)

@@ -21,9 +21,12 @@ pub mod Free
 pub mod Give
 pub mod Group
 pub mod Claims
+pub mod Collecting
+pub mod Collect
 pub mod Serve
 pub mod Queue
 pub mod Unmet
+pub mod Passed
 pub mod Served
 pub mod Numbers
 pub mod Boards

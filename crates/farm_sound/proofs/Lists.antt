@@ -1,5 +1,5 @@
 -- Lists: what holds of each element, or of each two, and which pass a test.
-use Rattle.std.proofs.Common.{◌++◌, ◌∙◌, ◌∷◌, ◌≡◌, ◌≤◌, Bool, List, None, Some, arith, cond, false, inl, inr, length, map, refl, subst, sym, true, []}
+use Rattle.std.proofs.Common.{◌++◌, ◌∙◌, ◌∷◌, ◌≡◌, ◌≤◌, ◌⊎◌, Bool, List, None, Some, arith, cond, false, inl, inr, length, map, refl, subst, sym, true, []}
 use mathlib.Core.Bool.{true≢false}
 use Rattle.std.specs.List.{AllByRecursion, filter, find, list_all, list_any}
 use Rattle.std.specs.List.Sorted.{IsStrictlySortedBy}
@@ -110,3 +110,11 @@ each_sorted cmp test (x ∷ xs) sorted = by (test x) (each_sorted cmp test xs so
 pub each_weaker : {A : Type 0} (R S : A → A → Type 0) → ((a b : A) → R a b → S a b) → (xs : List A) → EachTwo R xs → EachTwo S xs
 each_weaker R S follows [] each = tt
 each_weaker R S follows (x ∷ xs) each = (AllByRecursion-weaker (follows x) xs each.0, each_weaker R S follows xs each.1)
+
+-- of one list or the other, so of both
+pub among_append : {A : Type 0} (x : A) (xs ys : List A) → Among x xs ⊎ Among x ys → Among x (xs ++ ys)
+among_append x [] ys (inl at) = absurd at
+among_append x [] ys (inr at) = at
+among_append x (y ∷ xs) ys (inl (inl same)) = inl same
+among_append x (y ∷ xs) ys (inl (inr at)) = inr (among_append x xs ys (inl at))
+among_append x (y ∷ xs) ys (inr at) = inr (among_append x xs ys (inr at))

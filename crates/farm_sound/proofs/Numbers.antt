@@ -41,6 +41,7 @@ IsSound-empty = record {
   };
   held = record { boards = tt; rows = rows };
   whole = tt;
+  collecting = record { only = tt; several = λ low. absurd (omega arith); waits = λ low. tt };
 }
   where
     rows : (h : Holder) (x : Hold) → hold_of empty h ≡ Some x → IsSomeAnd (board_of empty x.board) (λ b. b.holder ≡ h)
@@ -86,6 +87,7 @@ IsSound-moved F t later low sound =
       };
       held = IsHeldByKeys-same F G same refl sound.held;
       whole = sound.whole;
+      collecting = sound.collecting;
     }
   where
     same : (h : Holder) → hold_of (record F { clock = t }) h ≡ hold_of F h
@@ -135,6 +137,7 @@ IsSound-noted F kept n sorted rows few low sound =
       };
       held = IsHeldByKeys-same F G same refl sound.held;
       whole = sound.whole;
+      collecting = sound.collecting;
     }
   where
     same : (h : Holder) → hold_of (record F { kept = kept; count = n }) h ≡ hold_of F h

@@ -17,7 +17,7 @@ use Rattle.farm_types.specs.declared.rows.JobRow.{JobRow}
 use Rattle.farm_types.specs.declared.rows.ResRow.{ResRow}
 use Rattle.farm_types.proofs.Put.{AllByRecursion-put, AllByRecursion-weaker}
 use Rattle.farm_sound.proofs.Claims.{IsClaim, claim_total, leads}
-use Rattle.farm_sound.proofs.Lists.{each_append, each_map, each_sorted, each_weaker, each_with, filter_all}
+use Rattle.farm_sound.proofs.Lists.{among_append, each_append, each_map, each_sorted, each_weaker, each_with, filter_all}
 use Rattle.farm_sound.proofs.Own.{own_res}
 use Rattle.farm_sound.proofs.Where.{AllByRecursion-both, AllByRecursion-map}
 
@@ -146,13 +146,6 @@ module _ (F : Farm) (steady : IsSteady F) where
   queue_permutes = put_all_permutes claim_cmp claim_total (claims F) [] claims_apart (none_before (claims F))
 
   -- ---- each claim stands in the queue
-
-  among_append : {A : Type 0} (x : A) (xs ys : List A) → Among x xs ⊎ Among x ys → Among x (xs ++ ys)
-  among_append x [] ys (inl at) = absurd at
-  among_append x [] ys (inr at) = at
-  among_append x (y ∷ xs) ys (inl (inl same)) = inl same
-  among_append x (y ∷ xs) ys (inl (inr at)) = inr (among_append x xs ys (inl at))
-  among_append x (y ∷ xs) ys (inr at) = inr (among_append x xs ys (inr at))
 
   among_filter : {A B : Type 0} (find_test test : A → Bool) (f : A → B) (x : A) (xs : List A) → find find_test xs ≡ Some x → test x ≡ true
       → Among (f x) (map f (filter test xs))

@@ -1,18 +1,21 @@
 -- How large the numbers of a pass's reply are, and that a pass leaves the kept replies.
-use Rattle.std.proofs.Common.{◌+◌, ◌∙◌, ◌∷◌, ◌≡◌, ◌≤◌, Bool, List, None, Option, Some, arith, cond, false, length, map, refl, true, ℕ, []}
+use Rattle.std.proofs.Common.{◌+◌, ◌++◌, ◌∙◌, ◌∷◌, ◌≡◌, ◌≤◌, Bool, List, None, Option, Some, ap, arith, cond, false, length, map, not, refl, sym, true, ℕ, []}
 use Rattle.std.specs.List.{filter, fold, zip}
 use Rattle.std.specs.Option.{option_map_or}
 use Rattle.std.proofs.lemmas.List.{length-append, length-map}
 use Rattle.farm_types.specs.Farm.{Farm, members}
-use Rattle.farm_types.specs.Pass.{Served, checks, give, give_group, give_member, give_res, is_due, serve, serve_all}
+use Rattle.farm_types.specs.Pass.{Served, checks, collect, give, give_group, give_member, give_res, is_due, is_group, may_collect, pass_over, serve, serve_all, taken}
 use Rattle.farm_types.specs.Pick.{Claimed, claim_cmp, claims, group_claim, is_free, is_waiting, leads_claim, least, queue, res_claim}
 use Rattle.farm_types.specs.Table.{put, put_all}
 use Rattle.farm_types.specs.declared.rows.BoardRow.{BoardRow}
 use Rattle.farm_types.specs.declared.rows.JobRow.{JobRow}
+use Rattle.farm_types.specs.declared.rows.JobState.{JobState}
 use Rattle.farm_types.proofs.Put.{length_put}
 use Rattle.farm_sound.proofs.Checks.{checks_kept}
 use Rattle.farm_sound.proofs.Claims.{claim_total}
+use Rattle.farm_sound.proofs.Collect.{collect_is, pairs_for}
 use Rattle.farm_sound.proofs.Lists.{length_filter}
+use Rattle.farm_sound.proofs.Where.{by_cases}
 
 -- ---- a served claim was a claim
 
@@ -35,19 +38,29 @@ served_few t [] s = omega arith
 served_few t (c ∷ cs) s = by (λ u. served_few t cs u) (least s.farm.boards (is_free s.farm.types) c.wants)
   where
     by : ((u : Served) → (fold (serve t) u cs).claims ≤ u.claims + length cs) → (o : Option (List BoardRow))
-        → (fold (serve t) (option_map_or (λ bs. record { farm = give s.farm c bs t; claims = s.claims + 1 }) o s) cs).claims ≤ s.claims + length
-        (c ∷ cs)
-    by rest None = omega (arith, rest s)
+        → (fold (serve t) (option_map_or (λ bs. record { farm = give s.farm c bs t; claims = s.claims + 1 }) o
+        (record { farm = pass_over s.farm c; claims = s.claims })) cs).claims ≤ s.claims + length (c ∷ cs)
+    by rest None = omega (arith, rest (record { farm = pass_over s.farm c; claims = s.claims }))
     by rest (Some bs) = omega (arith, rest (record { farm = give s.farm c bs t; claims = s.claims + 1 }))
 
-pub few_served : (F : Farm) (t : ℕ) → (serve_all F t).claims ≤ length F.reservations + length F.jobs
-few_served F t = omega (arith, served_few t (queue F) (record { farm = F; claims = 0 }), few_claims F)
+split_length : (test : Claimed → Bool) (cs : List Claimed) → length (filter test cs ++ filter (λ c. not (test c)) cs) ≤ length cs
+split_length test [] = omega arith
+split_length test (c ∷ cs) = by (test c) (split_length test cs)
+  where
+    by : (v : Bool) → length (filter test cs ++ filter (λ c. not (test c)) cs) ≤ length cs
+        → length (cond v (c ∷ filter test cs) (filter test cs) ++ cond (not v) (c ∷ filter (λ c. not (test c)) cs) (filter (λ c. not (test c)) cs)) ≤ length (c ∷ cs)
+    by true low = omega arith
+    by false low = rw length-append (let l : length (filter test cs) + length (filter (λ c. not (test c)) cs) ≤ length cs = rw (sym (length-append (filter test cs) (filter (λ c. not (test c)) cs))) low in omega arith)
+
+pub few_served : (F : Farm) (group t : ℕ) → (serve_all F group t).claims ≤ length F.reservations + length F.jobs
+few_served F group t =
+    omega (arith, served_few t (taken F group) (record { farm = F; claims = 0 }), split_length (is_group group) (queue F), few_claims F)
 
 -- ---- the kept replies stay
 
-members_kept : (ps : List (JobRow × BoardRow)) (F : Farm) → (fold give_member F ps).kept ≡ F.kept
-members_kept [] F = refl
-members_kept (p ∷ ps) F = members_kept ps (give_member F (p.0, p.1))
+members_kept : (state : JobState) (ps : List (JobRow × BoardRow)) (F : Farm) → (fold (give_member state) F ps).kept ≡ F.kept
+members_kept state [] F = refl
+members_kept state (p ∷ ps) F = members_kept state ps (give_member state F (p.0, p.1))
 
 res_kept : (F : Farm) (n : ℕ) (bs : List BoardRow) (t : ℕ) → (give_res F n bs t).kept ≡ F.kept
 res_kept F n [] t = refl
@@ -58,16 +71,21 @@ give_kept F c bs t = by c.reservation
   where
     by : (v : Bool) → (cond v (give_res F c.number bs t) (give_group F c.number bs)).kept ≡ F.kept
     by true = res_kept F c.number bs t
-    by false = members_kept (zip (members F c.number) bs) F
+    by false = members_kept JobState.Scheduled (zip (members F c.number) bs) F
+
+over_kept : (F : Farm) (c : Claimed) → (pass_over F c).kept ≡ F.kept
+over_kept F c = by_cases (λ (G : Farm). G.kept ≡ F.kept) (may_collect F c) (collect F c.number) F
+    (λ _. ap (λ (G : Farm). G.kept) (collect_is (members F c.number) F) ∙ members_kept JobState.Scheduling (pairs_for F (members F c.number)) F) (λ _. refl)
 
 served_kept : (t : ℕ) (cs : List Claimed) (s : Served) → (fold (serve t) s cs).farm.kept ≡ s.farm.kept
 served_kept t [] s = refl
 served_kept t (c ∷ cs) s = by (λ u. served_kept t cs u) (least s.farm.boards (is_free s.farm.types) c.wants)
   where
     by : ((u : Served) → (fold (serve t) u cs).farm.kept ≡ u.farm.kept) → (o : Option (List BoardRow))
-        → (fold (serve t) (option_map_or (λ bs. record { farm = give s.farm c bs t; claims = s.claims + 1 }) o s) cs).farm.kept ≡ s.farm.kept
-    by rest None = rest s
+        → (fold (serve t) (option_map_or (λ bs. record { farm = give s.farm c bs t; claims = s.claims + 1 }) o
+        (record { farm = pass_over s.farm c; claims = s.claims })) cs).farm.kept ≡ s.farm.kept
+    by rest None = rest (record { farm = pass_over s.farm c; claims = s.claims }) ∙ over_kept s.farm c
     by rest (Some bs) = rest (record { farm = give s.farm c bs t; claims = s.claims + 1 }) ∙ give_kept s.farm c bs t
 
-pub pass_kept : (F : Farm) (t : ℕ) → (serve_all (checks F t) t).farm.kept ≡ F.kept
-pass_kept F t = served_kept t (queue (checks F t)) (record { farm = checks F t; claims = 0 }) ∙ checks_kept (filter (is_due F t) F.boards) F
+pub pass_kept : (F : Farm) (group t : ℕ) → (serve_all (checks F t) group t).farm.kept ≡ F.kept
+pass_kept F group t = served_kept t (taken (checks F t) group) (record { farm = checks F t; claims = 0 }) ∙ checks_kept (filter (is_due F t) F.boards) F

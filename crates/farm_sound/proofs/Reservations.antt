@@ -39,6 +39,7 @@ IsSound-reserve F caller priority tags name prio words room numbers sound =
           }) sound.steady;
       held = IsHeldByKeys-add_res F row sound.steady refl refl sound.held;
       whole = sound.whole;
+      collecting = sound.collecting;
     }
 
 -- ---- a reservation that is there

@@ -1,8 +1,8 @@
 -- Rows of jobs, reservations and boards in another state, and what they hold then.
-use Rattle.std.proofs.Common.{◌+◌, ◌↔◌, ◌≡◌, ◌≤◌, IsSome, IsTrue, List, None, Option, Some, ap, is_some, refl, ℕ}
+use Rattle.std.proofs.Common.{◌+◌, ◌↔◌, ◌≡◌, ◌≤◌, IsSome, IsTrue, List, None, Option, Some, ap, is_some, refl, true, ℕ}
 use Rattle.farm_types.specs.Change.{in_state}
 use Rattle.farm_types.specs.Farm.{Farm}
-use Rattle.farm_types.specs.Sound.{Hold, IsBoardOf, IsBoardRow, IsJobRow, IsResRow, hold, holds, job_gives, res_gives, shown}
+use Rattle.farm_types.specs.Sound.{Hold, IsBoardOf, IsBoardRow, IsJobRow, IsResRow, hold, holds, job_gives, phase, res_gives, shown}
 use Rattle.farm_types.specs.declared.rows.BoardRow.{BoardRow}
 use Rattle.farm_types.specs.declared.rows.Health.{Health}
 use Rattle.farm_types.specs.declared.rows.Holder.{Holder}
@@ -16,10 +16,10 @@ use Rattle.farm_sound.proofs.Held.{IsLeft}
 
 -- ---- rows in another state
 
-pub job_row_in : (F : Farm) (j : JobRow) (s : JobState) (o : Option Outcome) (b : Option (List ℕ)) → IsBoardOf F b
-    → (IsTrue (is_some o) ↔ (s ≡ JobState.Finished)) → (IsSome (job_gives s) → IsSome b) → (s ≡ JobState.Submitted → ⊥) → IsJobRow F j
-    → IsJobRow F (record j { state = s; outcome = o; board = b })
-job_row_in F j s o b there ended holds started is = record {
+pub job_row_at : (F : Farm) (j : JobRow) (s : JobState) (o : Option Outcome) (b : Option (List ℕ)) → IsBoardOf F b
+    → (IsTrue (is_some o) ↔ (s ≡ JobState.Finished)) → (IsSome (job_gives s) → IsSome b) → (s ≡ JobState.Submitted → b ≡ None)
+    → (j.checking ≡ true → phase s ≡ 0 → ⊥) → IsJobRow F j → IsJobRow F (record j { state = s; outcome = o; board = b })
+job_row_at F j s o b there ended holds waits checked is = record {
   number = is.number;
   apart = is.apart;
   owner = is.owner;
@@ -31,7 +31,7 @@ job_row_in F j s o b there ended holds started is = record {
   text = is.text;
   board = there;
   outcome = ended;
-  waits = λ e. absurd (started e);
+  waits = waits;
   holds = holds;
   group = is.group;
   follows = λ later. let f = is.follows later in
@@ -45,8 +45,14 @@ job_row_in F j s o b there ended holds started is = record {
         body = f.body;
       };
   check = λ so. let c = is.check so in
-      record { alone = c.alone; owner = c.owner; priority = c.priority; state = started; tags = c.tags; role = c.role; body = c.body };
+      record { alone = c.alone; owner = c.owner; priority = c.priority; state = checked so; tags = c.tags; role = c.role; body = c.body };
 }
+
+-- a job that waits no longer
+pub job_row_in : (F : Farm) (j : JobRow) (s : JobState) (o : Option Outcome) (b : Option (List ℕ)) → IsBoardOf F b
+    → (IsTrue (is_some o) ↔ (s ≡ JobState.Finished)) → (IsSome (job_gives s) → IsSome b) → (phase s ≡ 0 → ⊥) → IsJobRow F j
+    → IsJobRow F (record j { state = s; outcome = o; board = b })
+job_row_in F j s o b there ended holds started is = job_row_at F j s o b there ended holds (λ e. absurd (started (ap phase e))) (λ _. started) is
 
 pub res_row_in : (F : Farm) (r : ResRow) (s : ResState) (d : ℕ) (b : Option (List ℕ)) → d ≤ F.clock + 60 → IsBoardOf F b
     → (s ≡ ResState.Waiting → b ≡ None) → (IsSome (res_gives s) → IsSome b) → IsResRow F r

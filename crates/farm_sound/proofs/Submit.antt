@@ -14,6 +14,7 @@ use Rattle.farm_types.specs.declared.rows.JobState.{JobState}
 use Rattle.farm_types.specs.declared.rows.Want.{Want}
 use Rattle.farm_types.proofs.Put.{AllByRecursion-put, AllByRecursion-weaker, length_put}
 use Rattle.farm_sound.proofs.Add.{IsHeldByKeys-add_job, IsSteady-add_job, add_job, job_of-add, job_total}
+use Rattle.farm_sound.proofs.Collecting.{IsCollecting-add}
 use Rattle.farm_sound.proofs.Own.{differs_more, fresh_res, itself}
 use Rattle.farm_sound.proofs.Whole.{IsWhole-add}
 
@@ -81,6 +82,7 @@ module _ (F : Farm) (group : ℕ) (owner : List ℕ) (priority : ℕ) (want : Wa
     steady = IsSteady-add_job F row refl room numbers member_row sound.steady;
     held = IsHeldByKeys-add_job F row sound.steady refl refl sound.held;
     whole = IsWhole-add F row (AllByRecursion-weaker (λ m is same. ap phase (is same)) F.jobs next.waits) sound.whole;
+    collecting = IsCollecting-add F row sound.steady refl (λ e. cc) (λ _ _. refl) sound.collecting;
   }
 
   pub member_next : Next (add_job row F) group owner priority []

@@ -3,10 +3,11 @@ use Rattle.std.proofs.Common.{◌&&◌, ◌==◌, ◌||◌, ◌≡◌, Bool, ari
 use mathlib.Core.Bool.{false≢true}
 use Rattle.std.proofs.lemmas.Bool.Decides.{nat_tests}
 use Rattle.farm_types.specs.Codes.{same_health, same_job_state, same_res_state}
-use Rattle.farm_types.specs.Pick.{is_nobody}
+use Rattle.farm_types.specs.Pick.{is_nobody, waits}
 use Rattle.farm_types.specs.Sound.{phase}
 use Rattle.farm_types.specs.declared.rows.Health.{Health}
 use Rattle.farm_types.specs.declared.rows.Holder.{Holder}
+use Rattle.farm_types.specs.declared.rows.JobRow.{JobRow}
 use Rattle.farm_types.specs.declared.rows.JobState.{JobState}
 use Rattle.farm_types.specs.declared.rows.ResState.{ResState}
 
@@ -33,6 +34,7 @@ running_from JobState.Scheduled is = absurd (false≢true is)
 running_from JobState.Running is = refl
 running_from JobState.Canceling is = absurd (false≢true is)
 running_from JobState.Finished is = absurd (false≢true is)
+running_from JobState.Scheduling is = absurd (false≢true is)
 
 pub submitted_from : (s : JobState) → same_job_state s JobState.Submitted ≡ true → s ≡ JobState.Submitted
 submitted_from JobState.Submitted is = refl
@@ -40,6 +42,7 @@ submitted_from JobState.Scheduled is = absurd (false≢true is)
 submitted_from JobState.Running is = absurd (false≢true is)
 submitted_from JobState.Canceling is = absurd (false≢true is)
 submitted_from JobState.Finished is = absurd (false≢true is)
+submitted_from JobState.Scheduling is = absurd (false≢true is)
 
 pub scheduled_from : (s : JobState) → same_job_state s JobState.Scheduled ≡ true → s ≡ JobState.Scheduled
 scheduled_from JobState.Scheduled is = refl
@@ -47,6 +50,7 @@ scheduled_from JobState.Submitted is = absurd (false≢true is)
 scheduled_from JobState.Running is = absurd (false≢true is)
 scheduled_from JobState.Canceling is = absurd (false≢true is)
 scheduled_from JobState.Finished is = absurd (false≢true is)
+scheduled_from JobState.Scheduling is = absurd (false≢true is)
 
 pub started_from : (s : JobState) → (same_job_state s JobState.Running || same_job_state s JobState.Canceling) ≡ true
     → (phase s ≡ 2) × (s ≡ JobState.Finished → ⊥)
@@ -55,6 +59,27 @@ started_from JobState.Canceling is = (refl, λ e. cc)
 started_from JobState.Submitted is = absurd (false≢true is)
 started_from JobState.Scheduled is = absurd (false≢true is)
 started_from JobState.Finished is = absurd (false≢true is)
+started_from JobState.Scheduling is = absurd (false≢true is)
+
+-- who waits for boards is in the first phase
+pub waits_from : (j : JobRow) → waits j ≡ true → phase j.state ≡ 0
+waits_from j is = by j.state is
+  where
+    by : (s : JobState) → (same_job_state s JobState.Submitted || same_job_state s JobState.Scheduling) ≡ true → phase s ≡ 0
+    by JobState.Submitted is = refl
+    by JobState.Scheduling is = refl
+    by JobState.Scheduled is = absurd (false≢true is)
+    by JobState.Running is = absurd (false≢true is)
+    by JobState.Canceling is = absurd (false≢true is)
+    by JobState.Finished is = absurd (false≢true is)
+
+pub scheduling_from : (s : JobState) → same_job_state s JobState.Scheduling ≡ true → s ≡ JobState.Scheduling
+scheduling_from JobState.Scheduling is = refl
+scheduling_from JobState.Submitted is = absurd (false≢true is)
+scheduling_from JobState.Scheduled is = absurd (false≢true is)
+scheduling_from JobState.Running is = absurd (false≢true is)
+scheduling_from JobState.Canceling is = absurd (false≢true is)
+scheduling_from JobState.Finished is = absurd (false≢true is)
 
 pub waiting_from : (s : ResState) → same_res_state s ResState.Waiting ≡ true → s ≡ ResState.Waiting
 waiting_from ResState.Waiting is = refl

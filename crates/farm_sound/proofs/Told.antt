@@ -39,6 +39,7 @@ sound_from_told F is =
       held = held_from_said F (AllByRecursion-weaker (λ b told. told.held) F.boards is.boards) (AllByRecursion-weaker (λ j told. told.said) F.jobs is.jobs)
           (AllByRecursion-weaker (λ r told. told.said) F.reservations is.reservations);
       whole = whole_from_steps F (own_job F steady) steady.jobs (AllByRecursion-weaker (λ j told. told.step) F.jobs is.jobs);
+      collecting = is.collecting;
     }
 
 pub told_from_sound : (F : Farm) → IsSound F → IsTold F
@@ -73,4 +74,5 @@ told_from_sound F is =
           (AllByRecursion-both (IsResRow F) (IsSaidOfRes F) F.reservations steady.reservations
           (reservations_from_keys F is.held (own_res F steady) steady.reservations));
       kept = steady.kept;
+      collecting = is.collecting;
     }

@@ -12,6 +12,7 @@ use Rattle.farm_types.specs.Table.{board_cmp, change_where}
 use Rattle.farm_types.specs.declared.rows.BoardRow.{BoardRow}
 use Rattle.farm_types.specs.declared.rows.Holder.{Holder}
 use Rattle.farm_types.specs.declared.rows.JobRow.{JobRow}
+use Rattle.farm_types.specs.declared.rows.JobState.{JobState}
 use Rattle.farm_types.specs.declared.rows.State.{State}
 use Rattle.farm_types.specs.declared.rows.TypeRow.{TypeRow}
 use Rattle.farm_types.specs.declared.rows.Want.{Want}
@@ -57,10 +58,11 @@ given_shrinks types h name taken (c ∷ bs) b (inl same) free = by (bytes_eq c.n
     by true is = absurd (not_free types h c taken (subst (λ x. is_free types x ≡ true) is free))
     by false is = inl is
 
-fold_shrinks : (ps : List (JobRow × BoardRow)) (F : Farm) → ((fold give_member F ps).types ≡ F.types) × Shrinks F.types F.boards (fold give_member F ps).boards
-fold_shrinks [] F = (refl, λ b at free. at)
-fold_shrinks (p ∷ ps) F =
-    let rest = fold_shrinks ps (give_member F (p.0, p.1)) in
+pub fold_shrinks : (state : JobState) (ps : List (JobRow × BoardRow)) (F : Farm)
+    → ((fold (give_member state) F ps).types ≡ F.types) × Shrinks F.types F.boards (fold (give_member state) F ps).boards
+fold_shrinks state [] F = (refl, λ b at free. at)
+fold_shrinks state (p ∷ ps) F =
+    let rest = fold_shrinks state ps (give_member state F (p.0, p.1)) in
     (rest.0, λ b at free. given_shrinks F.types (Holder.Job p.0.number) p.1.name refl F.boards b (rest.1 b at free) free)
 
 res_shrinks : (F : Farm) (n : ℕ) (bs : List BoardRow) (t : ℕ) → ((give_res F n bs t).types ≡ F.types) × Shrinks F.types F.boards (give_res F n bs t).boards
@@ -73,7 +75,7 @@ give_shrinks F c bs t = by c.reservation
     by : (v : Bool) → ((cond v (give_res F c.number bs t) (give_group F c.number bs)).types ≡ F.types) × Shrinks F.types F.boards
         (cond v (give_res F c.number bs t) (give_group F c.number bs)).boards
     by true = res_shrinks F c.number bs t
-    by false = fold_shrinks (zip (members F c.number) bs) F
+    by false = fold_shrinks JobState.Scheduled (zip (members F c.number) bs) F
 
 -- so a claim that isn't met stays so when another is served
 pub IsUnmet-give : (F : Farm) (c : Claimed) (bs : List BoardRow) (t : ℕ) (wants : List Want) → IsStrictlySortedBy board_cmp (give F c bs t).boards
@@ -82,3 +84,9 @@ IsUnmet-give F c bs t wants sorted none =
     let s = give_shrinks F c bs t in
     subst (λ types. least (give F c bs t).boards (is_free types) wants ≡ None) (sym s.0)
     (unmet_shrinks F.types F.boards (give F c bs t).boards wants sorted s.1 none)
+
+-- and when another collects
+pub IsUnmet-shrinks : (F G : Farm) (wants : List Want) → IsStrictlySortedBy board_cmp G.boards → (G.types ≡ F.types) × Shrinks F.types F.boards G.boards
+    → IsUnmet F wants → IsUnmet G wants
+IsUnmet-shrinks F G wants sorted s none = subst (λ types. least G.boards (is_free types) wants ≡ None) (sym s.0)
+    (unmet_shrinks F.types F.boards G.boards wants sorted s.1 none)

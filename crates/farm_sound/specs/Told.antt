@@ -8,7 +8,7 @@ use Rattle.farm_types.specs.Words.{IsName, IsText}
 use Rattle.farm_types.specs.Table.{type_cmp, board_cmp, job_cmp, res_cmp, kept_cmp}
 use Rattle.farm_types.specs.Proper.{is_priority, is_want}
 use Rattle.farm_types.specs.Farm.{Farm, type_of, board_of, job_of, res_of}
-use Rattle.farm_types.specs.Sound.{IsBoardOf, IsCheck, Follows, job_gives, res_gives, phase}
+use Rattle.farm_types.specs.Sound.{IsBoardOf, IsCollecting, IsCheck, Follows, job_gives, res_gives, phase}
 use Rattle.farm_types.specs.Sound.{IsTypeRow, IsBoardRow, IsJobRow, IsResRow, IsKeptRow}
 use Rattle.farm_types.specs.declared.rows.Holder.{Holder}
 use Rattle.farm_types.specs.declared.rows.State.{State}
@@ -118,3 +118,4 @@ pub record IsTold (F : Farm) : Type 0 where
   pub jobs : AllByRecursion (IsJobTold F) F.jobs
   pub reservations : AllByRecursion (IsResTold F) F.reservations
   pub kept : AllByRecursion IsKeptRow F.kept
+  pub collecting : IsCollecting F.collector F.jobs

@@ -1,9 +1,11 @@
 //! The lines on jobs and their groups.
-ghost use Rattle.std.specs.Prelude.{◌≡◌, ◌≤◌, ◌↔◌, IsTrue};
+ghost use Rattle.std.specs.Prelude.{◌≡◌, ◌≤◌, ◌==◌, ◌↔◌, ℕ, IsTrue, length};
+ghost use Rattle.std.specs.List.{filter, AllByRecursion};
 ghost use Rattle.std.specs.List.Sorted.{IsStrictlySortedBy};
 ghost use Rattle.farm_types.specs.Table.{type_cmp, board_cmp, job_cmp, res_cmp};
 ghost use Rattle.farm_types.specs.Farm.{farm_of};
-ghost use Rattle.farm_types.specs.Sound.{IsJobRow, IsCheck, Follows, job_gives, phase};
+ghost use Rattle.farm_types.specs.Sound.{IsJobRow, IsCheck, IsCollecting, Follows, job_gives};
+ghost use Rattle.farm_types.specs.Sound.{phase};
 ghost use Rattle.farm_sound.specs.Told.{IsOrdered, IsJobNumbered, IsJobWorded, IsJobPlaced};
 ghost use Rattle.farm_sound.specs.Told.{IsJobGrouped, IsInStep, IsSaidOfJob};
 
@@ -24,18 +26,18 @@ pub fn job_gives(state: JobState) -> Option<State>
     ensures { result ≡ job_gives state }
 {
     match state {
-        JobState::Scheduled => Some(State::Reserved),
+        JobState::Scheduling | JobState::Scheduled => Some(State::Reserved),
         JobState::Running | JobState::Canceling => Some(State::Running),
         _ => None,
     }
 }
 
-/// 0 while a group waits, 1 when all its members have boards, 2 from the start on.
+/// 0 while a group waits for boards, 1 when all its members have boards, 2 from the start on.
 fn phase(state: JobState) -> u8
     ensures { result ≡ phase state }
 {
     match state {
-        JobState::Submitted => 0,
+        JobState::Submitted | JobState::Scheduling => 0,
         JobState::Scheduled => 1,
         _ => 2,
     }
@@ -102,7 +104,7 @@ fn is_check(row: &JobRow) -> bool
     row.number == row.group
         && row.owner.as_str() == "admin"
         && row.priority.get() == HIGHEST_PRIORITY
-        && !matches!(row.state, JobState::Submitted)
+        && phase(row.state) != 0
         && row.want.tags.is_empty()
         && row.role.is_none()
         && row.body.is_empty()
@@ -160,4 +162,46 @@ pub fn is_said_of_job(rows: &Rows, row: &JobRow) -> bool
             Some(board) => is_job(board.holder, row.number),
         },
     }
+}
+
+/// How many jobs are of the group.
+fn size_of(jobs: &[JobRow], group: u64) -> usize
+    ensures { result ≡ length (filter (λ r. r.group == group) jobs.now) }
+{
+    jobs.iter().filter(|row| row.group == group).count()
+}
+
+/// Whether a job is of the collector's group, if it is Scheduling.
+fn may_schedule(row: &JobRow, collector: u64) -> bool
+    ensures { IsTrue result ↔ (row.now.state ≡ JobState.Scheduling
+        → (1 ≤ collector) × (row.now.group ≡ collector)) }
+{
+    row.state != JobState::Scheduling || 1 <= collector && row.group == collector
+}
+
+/// Whether each Scheduling job is of the collector's group.
+fn only_collector(jobs: &[JobRow], collector: u64) -> bool
+    ensures { IsTrue result ↔ AllByRecursion (λ j. j.state ≡ JobState.Scheduling
+        → (1 ≤ collector) × (j.group ≡ collector)) jobs.now }
+{
+    jobs.iter().all(|row| may_schedule(row, collector))
+}
+
+/// Whether each member of the group waits for boards.
+fn all_wait(jobs: &[JobRow], group: u64) -> bool
+    ensures { IsTrue result ↔ AllByRecursion (λ j. j.group ≡ group → phase j.state ≡ 0) jobs.now }
+{
+    jobs.iter()
+        .all(|row| row.group != group || phase(row.state) == 0)
+}
+
+/// Whether only the collector's members are Scheduling, and it is a group of two or more members
+/// that wait.
+pub fn is_collecting(rows: &Rows) -> bool
+    ensures { IsTrue result ↔ IsCollecting rows.now.meta.collector rows.now.jobs.items }
+{
+    let jobs = rows.jobs.as_slice();
+    let collector = rows.meta.collector;
+    only_collector(jobs, collector)
+        && (collector == 0 || size_of(jobs, collector) >= 2 && all_wait(jobs, collector))
 }

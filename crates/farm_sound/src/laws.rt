@@ -167,3 +167,9 @@ pub fn reservations_are_sound()
 pub fn pass_is_sound()
     ensures { (F : Farm) (caller : List ℕ) → IsSound F → IsSound (act F caller Cmd.Pass).farm }
 {}
+
+/// While no group collects, no job is Scheduling.
+pub fn none_is_scheduling()
+    ensures { (F : Farm) → IsSound F → F.collector ≡ 0
+        → AllByRecursion (λ j. j.state ≢ JobState.Scheduling) F.jobs }
+{}

@@ -6,7 +6,7 @@ ghost use Rattle.farm_types.specs.Sound.{IsSound, IsKeptRow};
 ghost use Rattle.farm_sound.specs.Told.{IsOrdered, IsFew, IsTold};
 
 use crate::board::{is_board_row, is_held, is_of_few, is_type_row};
-use crate::job::{is_in_step, is_job_row, is_said_of_job};
+use crate::job::{is_collecting, is_in_step, is_job_row, is_said_of_job};
 use crate::reservation::{is_res_row, is_said_of_res};
 use farm_types::calls::Rows;
 use farm_types::rows::{BoardRow, JobRow, KeptRow, ResRow, TypeRow};
@@ -166,6 +166,7 @@ fn is_farm_told(rows: &Rows) -> bool
         && are_told(rows, rows.jobs.as_slice())
         && are_told(rows, rows.reservations.as_slice())
         && are_told(rows, rows.kept.as_slice())
+        && is_collecting(rows)
 }
 
 /// Whether the rows are those of a sound farm, exactly. It takes no memory. With n rows it costs

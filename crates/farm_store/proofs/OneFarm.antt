@@ -50,6 +50,7 @@ state_back State.Running = refl
 
 job_state_back : (x : JobState) → job_state_with (job_state_code x) ≡ Some x
 job_state_back JobState.Submitted = refl
+job_state_back JobState.Scheduling = refl
 job_state_back JobState.Scheduled = refl
 job_state_back JobState.Running = refl
 job_state_back JobState.Canceling = refl
@@ -178,6 +179,7 @@ one_farm F G p q is =
     let kept = same_rows IsReadableKept kept_columns same_kept F.kept G.kept p.kept q.kept (ap (λ (T : Tables). T.kept) is) in
     let meta = ap (λ (T : Tables). T.meta) is in
     let clock : F.clock ≡ G.clock = number_in (get_or (rows_of F).meta 0 []) (get_or (rows_of G).meta 0 []) 1 F.clock G.clock refl refl (ap (λ rows. get_or rows 0 []) meta) in
-    let count : F.count ≡ G.count = number_in (get_or (rows_of F).meta 1 []) (get_or (rows_of G).meta 1 []) 1 F.count G.count refl refl (ap (λ rows. get_or rows 1 []) meta) in
-    let next : F.next ≡ G.next = number_in (get_or (rows_of F).meta 2 []) (get_or (rows_of G).meta 2 []) 1 F.next G.next refl refl (ap (λ rows. get_or rows 2 []) meta) in
-    λ i. record { types = types i; boards = boards i; jobs = jobs i; reservations = reservations i; kept = kept i; clock = clock i; count = count i; next = next i }
+    let collector : F.collector ≡ G.collector = number_in (get_or (rows_of F).meta 1 []) (get_or (rows_of G).meta 1 []) 1 F.collector G.collector refl refl (ap (λ rows. get_or rows 1 []) meta) in
+    let count : F.count ≡ G.count = number_in (get_or (rows_of F).meta 2 []) (get_or (rows_of G).meta 2 []) 1 F.count G.count refl refl (ap (λ rows. get_or rows 2 []) meta) in
+    let next : F.next ≡ G.next = number_in (get_or (rows_of F).meta 3 []) (get_or (rows_of G).meta 3 []) 1 F.next G.next refl refl (ap (λ rows. get_or rows 3 []) meta) in
+    λ i. record { types = types i; boards = boards i; jobs = jobs i; reservations = reservations i; kept = kept i; clock = clock i; collector = collector i; count = count i; next = next i }

@@ -37,6 +37,7 @@ state_is_small State.Running = omega arith
 
 pub job_state_is_small : (s : JobState) → IsSmall (job_state_code s)
 job_state_is_small JobState.Submitted = omega arith
+job_state_is_small JobState.Scheduling = omega arith
 job_state_is_small JobState.Scheduled = omega arith
 job_state_is_small JobState.Running = omega arith
 job_state_is_small JobState.Canceling = omega arith

@@ -1,7 +1,9 @@
 -- The rows of the six tables, column by column.
-use Rattle.std.specs.Prelude.{ℕ, pos, Bool, if◌then◌else◌, List, [], ◌∷◌, ◌++◌, map, unwrap_or}
-use Rattle.std.specs.Prelude.{codes}
+use Rattle.std.specs.Prelude.{ℕ, pos, Bool, false, ◌==◌, ◌&&◌, if◌then◌else◌, List, [], ◌∷◌, ◌++◌}
+use Rattle.std.specs.Prelude.{map, unwrap_or, codes, IsTrue}
+use Rattle.std.specs.List.{list_any}
 use Rattle.std.specs.Option.{option_map_or}
+use Rattle.std.specs.Str.{bytes_eq}
 use Rattle.sqlite.specs.declared.types.Value.{Value}
 use Rattle.sqlite.specs.declared.types.Value.TheVariants.{Int, Text}
 use Rattle.sqlite_schema.specs.declared.schema.Kind.{Kind}
@@ -124,15 +126,20 @@ meta_row name value = Text name ∷ Int (pos value) ∷ []
 
 -- the farm's numbers by their names, in byte order of the names
 abbrev pub number_rows : MetaRow → List Row
-number_rows m = meta_row (codes "clock") m.clock ∷ meta_row (codes "count") m.count
-    ∷ meta_row (codes "next") m.next ∷ []
+number_rows m = meta_row (codes "clock") m.clock ∷ meta_row (codes "collector") m.collector
+    ∷ meta_row (codes "count") m.count ∷ meta_row (codes "next") m.next ∷ []
 
 -- with the version of the tables, whose name comes last, all rows of their table
 abbrev pub meta_rows : MetaRow → List Row
 meta_rows m = number_rows m ++ meta_row (codes "schema") SCHEMA ∷ []
 
 abbrev pub numbers_of : Farm → MetaRow
-numbers_of F = record { clock = F.clock; count = F.count; next = F.next }
+numbers_of F = record {
+  clock = F.clock;
+  collector = F.collector;
+  count = F.count;
+  next = F.next;
+}
 
 -- the six tables as lists of rows, in order of their keys
 pub record Tables : Type 0 where
@@ -152,6 +159,23 @@ rows_of F = record {
   kept = map kept_columns F.kept;
   meta = meta_rows (numbers_of F);
 }
+
+-- the value is this text, or this number
+abbrev pub is_text : List ℕ → Value → Bool
+is_text text (Text found) = bytes_eq found text
+is_text text value = false
+
+abbrev pub is_number : ℕ → Value → Bool
+is_number number (Int (pos found)) = found == number
+is_number number value = false
+
+-- a row tells this version of the tables
+abbrev pub tells : ℕ → Row → Bool
+tells version r = is_text (codes "schema") (column r 0) && is_number version (column r 1)
+
+-- the tables say that they are of this version
+abbrev pub IsOfSchema : ℕ → Tables → Type 0
+IsOfSchema version T = IsTrue (list_any (tells version) T.meta)
 
 -- rows by their first column, and by their first two
 abbrev pub by_first : Row → Row → Ordering

@@ -90,7 +90,7 @@ HoldsAt p db T = Lists p.cmp p.show p.width (db p.tree) (p.rows T)
 abbrev pub put_at : Place → Tables → List Row → Tables
 put_at p T rows = p.replaced T (put_all p.cmp (p.rows T) rows)
 
--- the tables with all changed rows and the three numbers put
+-- the tables with all changed rows and the four numbers put
 abbrev pub put_tables : Tables → Changes → Tables
 put_tables T c =
     put_at of_meta

@@ -18,7 +18,7 @@ pub enum StoreFault {
     /// The tables hold what is no row of a farm.
     #[error("the tables are no farm's")]
     BadStore,
-    /// The tables are those of an older schema. There is none yet, so `load` does not answer it.
+    /// The tables are those of an earlier edition.
     #[error("the tables have an older schema")]
     OldSchema,
 }

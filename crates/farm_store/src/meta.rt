@@ -1,21 +1,23 @@
 //! The table of the farm's numbers: its statements, and what its rows stand for.
-ghost use Rattle.std.specs.Prelude.{◌≡◌, ◌≢◌, ◌↔◌, [], ◌∷◌, IfOk, IsTrue, OnOk, MatchResult, ⊤};
-ghost use Rattle.std.specs.List.{AllByRecursion};
+ghost use Rattle.std.specs.Prelude.{◌≡◌, ◌≢◌, ◌↔◌, ◌⊎◌, [], ◌∷◌, Err, IfOk, IsTrue, OnOk};
+ghost use Rattle.std.specs.Prelude.{MatchResult, ⊤};
+ghost use Rattle.std.specs.List.{AllByRecursion, list_any};
 ghost use Rattle.sqlite.specs.Held.{state};
 ghost use Rattle.sqlite.specs.State.{HasCleanDisk};
 ghost use Rattle.sqlite.specs.Values.{bound};
 ghost use Rattle.farm_types.specs.Small.{IsSmall};
-ghost use Rattle.farm_store.specs.Columns.{Tables, meta_row, meta_rows, number_rows};
+ghost use Rattle.farm_store.specs.Columns.{IsOfSchema, Tables, meta_row, meta_rows, number_rows};
+ghost use Rattle.farm_store.specs.Columns.{tells};
 ghost use Rattle.farm_store.specs.Edits.{ChangesTables, GoesOn, StaysOpen};
 ghost use Rattle.farm_store.specs.Holds.{IsInside};
 ghost use Rattle.farm_store.specs.Places.{of_meta, put_at};
-ghost use Rattle.farm_store.specs.Reading.{CommitShows, ReadsAs};
+ghost use Rattle.farm_store.specs.Reading.{CommitShows, LooksAtSchema, ReadsAs, ReadsNumbers};
 ghost use Rattle.farm_store.specs.Schema.{meta_table};
 ghost use Rattle.farm_store.specs.Stored.{IsWide};
 
 use crate::fault::StoreFault;
-use crate::queries::cells::{number_at, text_at};
-use crate::schema::SCHEMA;
+use crate::queries::cells::{is_number_at, is_text_at, number_at, text_at};
+use crate::schema::{FIRST_SCHEMA, SCHEMA};
 use crate::tables::{are_columns, is_keyed};
 use crate::values::{number, text};
 use farm_types::rows::MetaRow;
@@ -72,6 +74,7 @@ pub(crate) fn put_numbers<S: Alter>(
     numbers: MetaRow,
 ) -> Result<(), Error>
     requires clock { IsSmall numbers.clock }
+    requires collector { IsSmall numbers.collector }
     requires count { IsSmall numbers.count }
     requires next { IsSmall numbers.next }
     ensures goes_on { GoesOn S.Store tx.old tx.new }
@@ -82,6 +85,7 @@ pub(crate) fn put_numbers<S: Alter>(
         (state S.Store tx.new.conn.now) }
 {
     put_number(tx, "clock", numbers.clock)?;
+    put_number(tx, "collector", numbers.collector)?;
     put_number(tx, "count", numbers.count)?;
     put_number(tx, "next", numbers.next)?;
     Ok(())
@@ -99,19 +103,57 @@ fn number_of(row: &Row, name: &str) -> Result<u64, StoreFault>
     }
 }
 
-/// The farm's numbers, where their four rows are all that there is.
+/// The farm's numbers, where their five rows are all that there is.
 fn numbers_of(rows: &[Row]) -> Result<MetaRow, StoreFault>
     ensures { AllByRecursion (IsWide of_meta.width) rows.now
         → ReadsAs result (λ _. ⊤) meta_rows rows.now }
 {
-    let [clock, count, next, schema] = rows else {
+    let [clock, collector, count, next, schema] = rows else {
         return Err(StoreFault::BadStore);
     };
     let clock = number_of(clock, "clock")?;
+    let collector = number_of(collector, "collector")?;
     let count = number_of(count, "count")?;
     let next = number_of(next, "next")?;
     if number_of(schema, "schema")? == SCHEMA {
-        Ok(MetaRow { clock, count, next })
+        Ok(MetaRow {
+            clock,
+            collector,
+            count,
+            next,
+        })
+    } else {
+        Err(StoreFault::BadStore)
+    }
+}
+
+/// Whether a row tells this version of the tables.
+fn is_version(row: &Row, version: u64) -> bool
+    ensures { result ≡ tells version row.now }
+{
+    is_text_at(row, 0, "schema") && is_number_at(row, 1, version)
+}
+
+/// Whether one of the rows tells this version of the tables.
+fn have_version(rows: &[Row], version: u64) -> bool
+    ensures { result ≡ list_any (tells version) rows.now }
+{
+    rows.iter().any(|row| is_version(row, version))
+}
+
+/// Refuses rows that tell the first version, and those that don't tell this one.
+fn look_at_schema(rows: &[Row]) -> Result<(), StoreFault>
+    ensures { MatchResult result (λ _. ¬ IsTrue (list_any (tells FIRST_SCHEMA) rows.now)
+        × IsTrue (list_any (tells SCHEMA) rows.now))
+        (λ fault. ((fault ≡ StoreFault.OldSchema)
+        × IsTrue (list_any (tells FIRST_SCHEMA) rows.now))
+        ⊎ ((fault ≡ StoreFault.BadStore) × ¬ IsTrue (list_any (tells FIRST_SCHEMA) rows.now)
+        × ¬ IsTrue (list_any (tells SCHEMA) rows.now))) }
+{
+    if have_version(rows, FIRST_SCHEMA) {
+        Err(StoreFault::OldSchema)
+    } else if have_version(rows, SCHEMA) {
+        Ok(())
     } else {
         Err(StoreFault::BadStore)
     }
@@ -123,6 +165,8 @@ fn meta_rows<S: Alter>(tx: &mut Transaction<'_, S>) -> Result<Vec<Row>, Error>
         → IsInside (state S.Store tx.old.conn.now) T
         → (rows.items ≡ T.meta) × AllByRecursion (IsWide of_meta.width) rows.items
         × IsInside (state S.Store tx.new.conn.now) T) }
+    ensures opened { HasCleanDisk (state S.Store tx.new.conn.now)
+        → OnOk result (IsTrue (state S.Store tx.old.conn.now).is_open) }
     ensures kept { HasCleanDisk (state S.Store tx.new.conn.now) → (T : Tables)
         → IsInside (state S.Store tx.old.conn.now) T
         → CommitShows (state S.Store tx.old.conn.now) T
@@ -132,17 +176,25 @@ fn meta_rows<S: Alter>(tx: &mut Transaction<'_, S>) -> Result<Vec<Row>, Error>
     Ok(rows)
 }
 
-/// The farm's numbers.
+/// The farm's numbers. The version is looked at before the other rows.
 pub(crate) fn read_numbers<S: Alter>(tx: &mut Transaction<'_, S>) -> Result<MetaRow, StoreFault>
     ensures goes_on { GoesOn S.Store tx.old tx.new }
     ensures read { HasCleanDisk (state S.Store tx.new.conn.now) → (T : Tables)
         → IsInside (state S.Store tx.old.conn.now) T
-        → ReadsAs result (λ _. ⊤) meta_rows T.meta }
+        → ReadsNumbers result T }
+    ensures schema { HasCleanDisk (state S.Store tx.new.conn.now) → (T : Tables)
+        → IsInside (state S.Store tx.old.conn.now) T → LooksAtSchema result T }
+    ensures inside { HasCleanDisk (state S.Store tx.new.conn.now)
+        → OnOk result ((T : Tables) → IsInside (state S.Store tx.old.conn.now) T
+        → IsInside (state S.Store tx.new.conn.now) T) }
+    ensures opened { HasCleanDisk (state S.Store tx.new.conn.now)
+        → OnOk result (IsTrue (state S.Store tx.old.conn.now).is_open) }
     ensures kept { HasCleanDisk (state S.Store tx.new.conn.now) → (T : Tables)
         → IsInside (state S.Store tx.old.conn.now) T
         → CommitShows (state S.Store tx.old.conn.now) T
         → CommitShows (state S.Store tx.new.conn.now) T }
 {
     let rows = meta_rows(tx)?;
+    look_at_schema(&rows)?;
     numbers_of(&rows)
 }

@@ -2,33 +2,37 @@
 pub(crate) mod cells;
 pub(crate) mod rows;
 
-ghost use Rattle.std.specs.Prelude.{◌≡◌, false, Err, IfOk, IsTrue, OnOk};
+ghost use Rattle.std.specs.Prelude.{◌≡◌, ◌⊎◌, false, Err, IfOk, IsTrue, OnOk};
 ghost use Rattle.sqlite.specs.Held.{state};
 ghost use Rattle.sqlite.specs.State.{HasCleanDisk};
 ghost use Rattle.farm_types.specs.Farm.{Farm, farm_of};
-ghost use Rattle.farm_store.specs.Columns.{Tables, rows_of};
+ghost use Rattle.farm_store.specs.Columns.{IsOfSchema, Tables, meta_rows, rows_of};
 ghost use Rattle.farm_store.specs.Edits.{GoesOn};
 ghost use Rattle.farm_store.specs.Holds.{IsInside, KeepsDoubt, Stands, LeavesNoMore};
 ghost use Rattle.farm_store.specs.Readable.{IsReadable};
-ghost use Rattle.farm_store.specs.Reading.{CommitShows, ReadsFarm};
+ghost use Rattle.farm_store.specs.Reading.{CommitShows, LooksAtSchema, ReadsFarm};
 ghost use Rattle.farm_store.specs.Schema.{farm_schema};
 
 use crate::fault::StoreFault;
 use crate::meta::read_numbers;
 use crate::queries::rows::read;
+use crate::schema::{FIRST_SCHEMA, SCHEMA};
 use crate::tables::is_farm_schema;
 use farm_types::calls::Rows;
-use farm_types::rows::{BoardRow, JobRow, KeptRow, ResRow, TypeRow};
+use farm_types::rows::{BoardRow, JobRow, KeptRow, MetaRow, ResRow, TypeRow};
 use sqlite::{Alter, Connection, Transaction};
 use std::alloc::Global;
 
-/// Each table by its query.
-fn read_all<S: Alter>(alloc: Global, tx: &mut Transaction<'_, S>) -> Result<Rows, StoreFault>
+/// Each table but that of the numbers by its query.
+fn read_tables<S: Alter>(
+    alloc: Global,
+    tx: &mut Transaction<'_, S>,
+    meta: MetaRow,
+) -> Result<Rows, StoreFault>
     ensures goes_on { GoesOn S.Store tx.old tx.new }
     ensures read { HasCleanDisk (state S.Store tx.new.conn.now) → (T : Tables)
-        → IsInside (state S.Store tx.old.conn.now) T → ReadsFarm result T }
-    ensures opened { HasCleanDisk (state S.Store tx.new.conn.now)
-        → OnOk result (IsTrue (state S.Store tx.old.conn.now).is_open) }
+        → IsInside (state S.Store tx.old.conn.now) T → T.meta ≡ meta_rows meta
+        → ReadsFarm result T }
     ensures kept { HasCleanDisk (state S.Store tx.new.conn.now) → (T : Tables)
         → IsInside (state S.Store tx.old.conn.now) T
         → CommitShows (state S.Store tx.old.conn.now) T
@@ -39,7 +43,6 @@ fn read_all<S: Alter>(alloc: Global, tx: &mut Transaction<'_, S>) -> Result<Rows
     let jobs = read::<JobRow, S>(alloc, tx)?;
     let reservations = read::<ResRow, S>(alloc, tx)?;
     let kept = read::<KeptRow, S>(alloc, tx)?;
-    let meta = read_numbers(tx)?;
     Ok(Rows {
         types,
         boards,
@@ -48,6 +51,24 @@ fn read_all<S: Alter>(alloc: Global, tx: &mut Transaction<'_, S>) -> Result<Rows
         kept,
         meta,
     })
+}
+
+/// Each table by its query, that of the numbers first.
+fn read_all<S: Alter>(alloc: Global, tx: &mut Transaction<'_, S>) -> Result<Rows, StoreFault>
+    ensures goes_on { GoesOn S.Store tx.old tx.new }
+    ensures read { HasCleanDisk (state S.Store tx.new.conn.now) → (T : Tables)
+        → IsInside (state S.Store tx.old.conn.now) T → ReadsFarm result T }
+    ensures schema { HasCleanDisk (state S.Store tx.new.conn.now) → (T : Tables)
+        → IsInside (state S.Store tx.old.conn.now) T → LooksAtSchema result T }
+    ensures opened { HasCleanDisk (state S.Store tx.new.conn.now)
+        → OnOk result (IsTrue (state S.Store tx.old.conn.now).is_open) }
+    ensures kept { HasCleanDisk (state S.Store tx.new.conn.now) → (T : Tables)
+        → IsInside (state S.Store tx.old.conn.now) T
+        → CommitShows (state S.Store tx.old.conn.now) T
+        → CommitShows (state S.Store tx.new.conn.now) T }
+{
+    let meta = read_numbers(tx)?;
+    read_tables(alloc, tx, meta)
 }
 
 /// `load`, whatever other columns, tables, indexes and views the store has.
@@ -70,7 +91,14 @@ fn load_any<S: Alter>(alloc: Global, conn: &mut Connection<S>) -> Result<Rows, S
     ensures bad { HasCleanDisk (state S.Store conn.new) → result ≡ Err StoreFault.BadStore
         → (F : Farm) → IsReadable F → ¬ Stands (state S.Store conn.old) (rows_of F) }
     ensures old { HasCleanDisk (state S.Store conn.new) → result ≡ Err StoreFault.OldSchema
-        → (T : Tables) → ¬ Stands (state S.Store conn.old) T }
+        → (T : Tables) → Stands (state S.Store conn.old) T → IsOfSchema FIRST_SCHEMA T }
+    ensures known { HasCleanDisk (state S.Store conn.new) → (T : Tables)
+        → Stands (state S.Store conn.old) T → IsOfSchema FIRST_SCHEMA T
+        → (result ≡ Err StoreFault.OldSchema) ⊎ (result ≡ Err StoreFault.Store) }
+    ensures other { HasCleanDisk (state S.Store conn.new) → (T : Tables)
+        → Stands (state S.Store conn.old) T → ¬ IsOfSchema FIRST_SCHEMA T
+        → ¬ IsOfSchema SCHEMA T
+        → (result ≡ Err StoreFault.BadStore) ⊎ (result ≡ Err StoreFault.Store) }
 {
     let mut tx = conn.transaction();
     let rows = read_all(alloc, &mut tx);
@@ -79,12 +107,15 @@ fn load_any<S: Alter>(alloc: Global, conn: &mut Connection<S>) -> Result<Rows, S
 }
 
 /// Reads the rows of all tables, in order of their keys, in one transaction that is rolled back.
-/// Refused as bad where a column can't be read: where it is of another kind, a name or a key is no
-/// word, tags are in no canonical text, a code stands for nothing, a number is below 0; where the
-/// farm's numbers are not exactly its clock, count and next number, with these tables' version; and
-/// where the store has another column, table, index or view than the farm's. Where a table is not
-/// there, a call of the store was refused. Whether the rows are those of a sound farm is not looked
-/// at.
+/// The version is looked at before anything else: tables of the first edition are refused as old,
+/// whatever else stands there, and those of an unknown one, or of none, as bad.
+///
+/// Refused as bad too where a column can't be read: where it is of another kind, a name or a key is
+/// no word, tags are in no canonical text, a code stands for nothing, a number is below 0; where the
+/// farm's numbers are not exactly its clock, collector, count and next number, with these tables'
+/// version; and where the store has another column, table, index or view than the farm's. Where a
+/// table is not there, a call of the store was refused. Whether the rows are those of a sound farm
+/// is not looked at.
 ///
 /// It reads each row once, and keeps the raw rows of one table at a time.
 pub fn load<S: Alter>(alloc: Global, conn: &mut Connection<S>) -> Result<Rows, StoreFault>
@@ -105,7 +136,14 @@ pub fn load<S: Alter>(alloc: Global, conn: &mut Connection<S>) -> Result<Rows, S
     ensures bad { HasCleanDisk (state S.Store conn.new) → result ≡ Err StoreFault.BadStore
         → (F : Farm) → IsReadable F → ¬ Stands (state S.Store conn.old) (rows_of F) }
     ensures old { HasCleanDisk (state S.Store conn.new) → result ≡ Err StoreFault.OldSchema
-        → (T : Tables) → ¬ Stands (state S.Store conn.old) T }
+        → (T : Tables) → Stands (state S.Store conn.old) T → IsOfSchema FIRST_SCHEMA T }
+    ensures known { HasCleanDisk (state S.Store conn.new) → (T : Tables)
+        → Stands (state S.Store conn.old) T → IsOfSchema FIRST_SCHEMA T
+        → (result ≡ Err StoreFault.OldSchema) ⊎ (result ≡ Err StoreFault.Store) }
+    ensures other { HasCleanDisk (state S.Store conn.new) → (T : Tables)
+        → Stands (state S.Store conn.old) T → ¬ IsOfSchema FIRST_SCHEMA T
+        → ¬ IsOfSchema SCHEMA T
+        → (result ≡ Err StoreFault.BadStore) ⊎ (result ≡ Err StoreFault.Store) }
 {
     let is_ours = is_farm_schema(conn.schema());
     match load_any(alloc, conn) {

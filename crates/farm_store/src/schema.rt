@@ -18,7 +18,11 @@ use farm_types::rows::MetaRow;
 use sqlite::{Alter, Connection, Error, Transaction};
 
 /// The version of the tables, which one of their numbers tells.
-pub(crate) const SCHEMA: u64 = 1;
+pub(crate) const SCHEMA: u64 = 2;
+
+/// The version of the first edition's tables: no job in them is Scheduling, the later states have
+/// codes less by one, and no number tells which group collects.
+pub(crate) const FIRST_SCHEMA: u64 = 1;
 
 fn make<S: Alter>(tx: &mut Transaction<'_, S>, sql: &str) -> Result<(), Error>
     ensures goes_on { GoesOn S.Store tx.old tx.new }
@@ -55,7 +59,7 @@ fn make_all<S: Alter>(tx: &mut Transaction<'_, S>) -> Result<(), Error>
     Ok(())
 }
 
-/// No command was accepted at moment 0, and the first number is 1.
+/// No command was accepted at moment 0, no group collects, and the first number is 1.
 fn put_first_numbers<S: Alter>(tx: &mut Transaction<'_, S>) -> Result<(), Error>
     ensures goes_on { GoesOn S.Store tx.old tx.new }
     ensures put { HasCleanDisk (state S.Store tx.new.conn.now)
@@ -66,6 +70,7 @@ fn put_first_numbers<S: Alter>(tx: &mut Transaction<'_, S>) -> Result<(), Error>
 {
     let first = MetaRow {
         clock: 0,
+        collector: 0,
         count: 0,
         next: 1,
     };
@@ -79,7 +84,7 @@ fn put_first_numbers<S: Alter>(tx: &mut Transaction<'_, S>) -> Result<(), Error>
 /// that stands for tables stands for them as before. Where a call of the store was refused, a stop
 /// leaves what it left before, or all that it makes.
 ///
-/// It runs ten statements, whatever else the store holds.
+/// It runs eleven statements, whatever else the store holds.
 pub fn create<S: Alter>(conn: &mut Connection<S>) -> Result<(), StoreFault>
     requires autocommit { conn.old.in_transaction ≡ false }
     ensures autocommit { conn.new.in_transaction ≡ false }

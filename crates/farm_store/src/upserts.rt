@@ -45,7 +45,7 @@ fn put_lab<S: Alter>(
     Ok(())
 }
 
-/// Each changed row by its table's upsert, and the three numbers.
+/// Each changed row by its table's upsert, and the four numbers.
 fn put_all<S: Alter>(
     tx: &mut Transaction<'_, S>,
     changes: &Changes,
@@ -68,12 +68,12 @@ fn put_all<S: Alter>(
     Ok(())
 }
 
-/// Puts the changed rows, each by its key, and the farm's three numbers in one transaction, whose
+/// Puts the changed rows, each by its key, and the farm's four numbers in one transaction, whose
 /// commit is the last call of the store. The texts of tags are made before the first call of the
 /// store, so where memory is refused nothing has changed; where the store failed, a stop leaves the
 /// tables as they were or with all the changes put.
 ///
-/// It writes the rows of the changes and three more, each by its key, and reads no other row.
+/// It writes the rows of the changes and four more, each by its key, and reads no other row.
 pub fn put<S: Alter>(
     alloc: Global,
     conn: &mut Connection<S>,

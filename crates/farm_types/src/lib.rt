@@ -2,7 +2,7 @@
 //!
 //! Read `specs/` in the order Words, Table, Reads, Tags, Codes, Called, Refusals, Limits, Proper,
 //! Farm, Pick, Pass, Refuse, Change, Machine, Sound, Small; then the scripts that are computed from
-//! them: Worked, WorkedJobs, WorkedChecks, WorkedReservations, WorkedWhole.
+//! them: Worked, WorkedJobs, WorkedCollecting, WorkedChecks, WorkedReservations, WorkedWhole.
 #![tactic(auto)]
 
 pub mod asked;

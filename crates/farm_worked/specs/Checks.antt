@@ -41,6 +41,7 @@ after_check_is_made = record {
   reservations = [];
   kept = [];
   clock = 30;
+  collector = 0;
   count = 5;
   next = 3;
 }

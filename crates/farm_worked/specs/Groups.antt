@@ -43,6 +43,7 @@ after_group_asks = record {
   reservations = [];
   kept = [];
   clock = 20;
+  collector = 0;
   count = 6;
   next = 3;
 }
@@ -150,6 +151,61 @@ after_canceled_while_it_waits = record after_group_asks {
   count = 7;
 }
 
+-- with b2 in maintenance the first member takes the board with hdmi, which the second lacks then
+unfoldable pub group_collects : List Call
+unfolding is_proper_cmd is_word is_tag is_tags is_utf8 chars encode_utf8
+group_collects =
+    by_admin 22 (set (codes "b2") Health.Maintenance) refl
+    ∷ by_dispatcher 23 Cmd.Pass refl
+    ∷ []
+
+abbrev pub after_group_collects : Farm
+after_group_collects = record after_group_asks {
+  boards =
+      record { name = codes "b1"; kind = codes "bbb"; tags = codes "hdmi" ∷ []; health = Health.Good; state = State.Reserved; holder = Holder.Job 1; jobs_since = 0; last_check = 0 }
+      ∷ record { name = codes "b2"; kind = codes "bbb"; tags = []; health = Health.Maintenance; state = State.Idle; holder = Holder.Nobody; jobs_since = 0; last_check = 0 }
+      ∷ [];
+  jobs =
+      record { number = 1; group = 1; checking = false; owner = codes "ann"; priority = 70; want = a_board []; role = Some (codes "client"); state = JobState.Scheduling; outcome = None; board = Some (codes "b1"); body = codes "two boards" }
+      ∷ record { number = 2; group = 1; checking = false; owner = codes "ann"; priority = 70; want = a_board (codes "hdmi" ∷ []); role = Some (codes "server"); state = JobState.Submitted; outcome = None; board = None; body = [] }
+      ∷ [];
+  clock = 23;
+  collector = 1;
+  count = 8;
+}
+
+-- the next pass takes it back, and gives each member the board of the least list
+unfoldable pub collector_is_served : List Call
+unfolding is_proper_cmd is_word is_tag is_tags is_utf8 chars encode_utf8
+collector_is_served =
+    by_admin 29 (set (codes "b2") Health.Good) refl
+    ∷ by_dispatcher 30 Cmd.Pass refl
+    ∷ []
+
+abbrev pub after_collector_is_served : Farm
+after_collector_is_served = record after_group_is_served { count = 10 }
+
+-- canceled while it collects, the first member keeps the name of its board, and none collects
+unfoldable pub collector_is_canceled : List Call
+unfolding is_proper_cmd is_word is_tag is_tags is_utf8 chars encode_utf8
+collector_is_canceled =
+    by_ann 24 (Cmd.Cancel 2) refl
+    ∷ []
+
+abbrev pub after_collector_is_canceled : Farm
+after_collector_is_canceled = record after_group_asks {
+  boards =
+      record { name = codes "b1"; kind = codes "bbb"; tags = codes "hdmi" ∷ []; health = Health.Good; state = State.Idle; holder = Holder.Nobody; jobs_since = 0; last_check = 0 }
+      ∷ record { name = codes "b2"; kind = codes "bbb"; tags = []; health = Health.Maintenance; state = State.Idle; holder = Holder.Nobody; jobs_since = 0; last_check = 0 }
+      ∷ [];
+  jobs =
+      record { number = 1; group = 1; checking = false; owner = codes "ann"; priority = 70; want = a_board []; role = Some (codes "client"); state = JobState.Finished; outcome = Some Outcome.Canceled; board = Some (codes "b1"); body = codes "two boards" }
+      ∷ record { number = 2; group = 1; checking = false; owner = codes "ann"; priority = 70; want = a_board (codes "hdmi" ∷ []); role = Some (codes "server"); state = JobState.Finished; outcome = Some Outcome.Canceled; board = None; body = [] }
+      ∷ [];
+  clock = 24;
+  count = 9;
+}
+
 -- what each script answers and leaves
 pub record GroupsAsWorked : Type 0 where
   pub group_asks_answers : answers empty group_asks ≡ did 0 ∷ did 0 ∷ did 0 ∷ did 0 ∷ did 0 ∷ did 1 ∷ []
@@ -164,3 +220,9 @@ pub record GroupsAsWorked : Type 0 where
   pub the_other_ends_leaves : run after_one_member_ends the_other_ends ≡ after_the_other_ends
   pub canceled_while_it_waits_answers : answers after_group_asks canceled_while_it_waits ≡ did 1 ∷ []
   pub canceled_while_it_waits_leaves : run after_group_asks canceled_while_it_waits ≡ after_canceled_while_it_waits
+  pub group_collects_answers : answers after_group_asks group_collects ≡ did 0 ∷ passed 0 0 0 ∷ []
+  pub group_collects_leaves : run after_group_asks group_collects ≡ after_group_collects
+  pub collector_is_served_answers : answers after_group_collects collector_is_served ≡ did 0 ∷ passed 0 0 1 ∷ []
+  pub collector_is_served_leaves : run after_group_collects collector_is_served ≡ after_collector_is_served
+  pub collector_is_canceled_answers : answers after_group_collects collector_is_canceled ≡ did 1 ∷ []
+  pub collector_is_canceled_leaves : run after_group_collects collector_is_canceled ≡ after_collector_is_canceled

@@ -42,6 +42,7 @@ after_types_and_boards = record {
   reservations = [];
   kept = [];
   clock = 15;
+  collector = 0;
   count = 6;
   next = 1;
 }

@@ -47,11 +47,12 @@ after_one_counter = record {
       ∷ [];
   kept = [];
   clock = 23;
+  collector = 0;
   count = 7;
   next = 6;
 }
 
--- the one that goes first is given the board that it names, for 60 seconds
+-- the one that goes first is given the board that it names, for 60 seconds; bob's group collects, and finds none
 unfoldable pub lease_begins : List Call
 unfolding is_proper_cmd is_word is_tag is_tags is_utf8 chars
 lease_begins =
@@ -70,6 +71,7 @@ after_lease_begins = record after_one_counter {
       ∷ record { number = 4; owner = codes "bob"; priority = 60; want = record { kind = None; tags = codes "name=b1" ∷ [] }; state = ResState.Allocated; deadline = 100; board = Some (codes "b1") }
       ∷ [];
   clock = 40;
+  collector = 2;
   count = 9;
 }
 
@@ -92,6 +94,7 @@ after_one_is_acquired = record after_one_counter {
       ∷ record { number = 4; owner = codes "bob"; priority = 60; want = record { kind = None; tags = codes "name=b1" ∷ [] }; state = ResState.Acquired; deadline = 100; board = Some (codes "b1") }
       ∷ [];
   clock = 101;
+  collector = 2;
   count = 11;
 }
 
@@ -114,10 +117,11 @@ after_lease_goes_on = record after_one_counter {
       ∷ record { number = 4; owner = codes "bob"; priority = 60; want = record { kind = None; tags = codes "name=b1" ∷ [] }; state = ResState.Allocated; deadline = 270; board = Some (codes "b1") }
       ∷ [];
   clock = 210;
+  collector = 2;
   count = 13;
 }
 
--- at its deadline it expires and keeps its board's name, and the same pass gives the board to the job that fits
+-- at its deadline it expires and keeps its board's name, and the same pass gives the board to the group that collects
 unfoldable pub lease_is_over : List Call
 unfolding is_proper_cmd is_word is_tag is_tags is_utf8 chars
 lease_is_over =
@@ -129,13 +133,13 @@ lease_is_over =
 abbrev pub after_lease_is_over : Farm
 after_lease_is_over = record after_one_counter {
   boards =
-      record { name = codes "b1"; kind = codes "bbb"; tags = []; health = Health.Good; state = State.Reserved; holder = Holder.Job 5; jobs_since = 0; last_check = 0 }
+      record { name = codes "b1"; kind = codes "bbb"; tags = []; health = Health.Good; state = State.Reserved; holder = Holder.Job 2; jobs_since = 0; last_check = 0 }
       ∷ record { name = codes "b2"; kind = codes "bbb"; tags = []; health = Health.Maintenance; state = State.Idle; holder = Holder.Nobody; jobs_since = 0; last_check = 0 }
       ∷ [];
   jobs =
-      record { number = 2; group = 2; checking = false; owner = codes "bob"; priority = 50; want = a_board []; role = None; state = JobState.Submitted; outcome = None; board = None; body = [] }
+      record { number = 2; group = 2; checking = false; owner = codes "bob"; priority = 50; want = a_board []; role = None; state = JobState.Scheduling; outcome = None; board = Some (codes "b1"); body = [] }
       ∷ record { number = 3; group = 2; checking = false; owner = codes "bob"; priority = 50; want = a_board []; role = None; state = JobState.Submitted; outcome = None; board = None; body = [] }
-      ∷ record { number = 5; group = 5; checking = false; owner = codes "ann"; priority = 0; want = a_board []; role = None; state = JobState.Scheduled; outcome = None; board = Some (codes "b1"); body = [] }
+      ∷ record { number = 5; group = 5; checking = false; owner = codes "ann"; priority = 0; want = a_board []; role = None; state = JobState.Submitted; outcome = None; board = None; body = [] }
       ∷ [];
   reservations =
       record { number = 1; owner = codes "ann"; priority = 50; want = record { kind = None; tags = [] }; state = ResState.Expired; deadline = 80; board = None }
@@ -143,6 +147,7 @@ after_lease_is_over = record after_one_counter {
       ∷ record { number = 6; owner = codes "ann"; priority = 100; want = record { kind = None; tags = [] }; state = ResState.Canceled; deadline = 341; board = None }
       ∷ [];
   clock = 282;
+  collector = 2;
   count = 16;
   next = 7;
 }
@@ -157,5 +162,5 @@ pub record ReservationsAsWorked : Type 0 where
   pub one_is_acquired_leaves : run after_lease_begins one_is_acquired ≡ after_one_is_acquired
   pub lease_goes_on_answers : answers after_one_is_acquired lease_goes_on ≡ did 4 ∷ did 4 ∷ []
   pub lease_goes_on_leaves : run after_one_is_acquired lease_goes_on ≡ after_lease_goes_on
-  pub lease_is_over_answers : answers after_lease_goes_on lease_is_over ≡ passed 0 1 1 ∷ did 6 ∷ did 6 ∷ []
+  pub lease_is_over_answers : answers after_lease_goes_on lease_is_over ≡ passed 0 1 0 ∷ did 6 ∷ did 6 ∷ []
   pub lease_is_over_leaves : run after_lease_goes_on lease_is_over ≡ after_lease_is_over

@@ -9,7 +9,7 @@ ghost use Rattle.farm_types.specs.Limits.{is_priority};
 ghost use Rattle.farm_types.specs.Tags.{tags_text};
 ghost use Rattle.farm_types.specs.Codes.{health_code, state_code, job_state_code, outcome_code};
 ghost use Rattle.farm_types.specs.Codes.{res_state_code};
-ghost use Rattle.farm_store.specs.Columns.{checking_code};
+ghost use Rattle.farm_store.specs.Columns.{checking_code, is_number, is_text};
 ghost use Rattle.farm_store.specs.Reading.{ReadsAs};
 
 use crate::fault::StoreFault;
@@ -27,6 +27,27 @@ pub(crate) fn text_at(row: &Row, at: usize) -> Result<&[u8], StoreFault>
     match row.get_ref(at) {
         Ok(ValueRef::Text(text)) => Ok(text),
         _ => Err(StoreFault::BadStore),
+    }
+}
+
+pub(crate) fn is_text_at(row: &Row, at: usize, text: &str) -> bool
+    ensures { result ≡ is_text text.now (column row.now at) }
+{
+    match row.get_ref(at) {
+        Ok(ValueRef::Text(found)) => found == text.as_bytes(),
+        _ => false,
+    }
+}
+
+pub(crate) fn is_number_at(row: &Row, at: usize, number: u64) -> bool
+    ensures { result ≡ is_number number (column row.now at) }
+{
+    match row.get_ref(at) {
+        Ok(ValueRef::Int(found)) => match u64::try_from(found) {
+            Ok(found) => found == number,
+            Err(_) => false,
+        },
+        _ => false,
     }
 }
 

@@ -1,4 +1,5 @@
-use Rattle.farm_sound.proofs.Served.{pass_serves, IsServed-step}
+use Rattle.farm_sound.proofs.Passed.{pass_serves}
+use Rattle.farm_sound.proofs.Served.{IsServed-step}
 use Rattle.farm_sound.proofs.laws.pass_serves_all.Goals as goal
 
 pub returns-clause-pass : goal.returns-clause-pass

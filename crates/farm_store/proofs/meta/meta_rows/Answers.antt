@@ -1,7 +1,7 @@
 use Rattle.std.proofs.Common.{[]}
 use Rattle.farm_store.specs.declared.meta.TheConstants.{READ}
 use Rattle.farm_store.specs.Places.{of_meta}
-use Rattle.farm_store.proofs.Selects.{failed_shows}
+use Rattle.farm_store.proofs.Selects.{failed_shows, was_open}
 use Rattle.farm_store.proofs.RowSelects.{shows_meta, rows_shown, kept_shown}
 use Rattle.farm_store.proofs.meta.meta_rows.Goals as goal
 
@@ -13,3 +13,6 @@ returns-clause-rows g c clean T at = rows_shown of_meta READ.now shows_meta _ _ 
 
 pub returns-clause-kept : goal.returns-clause-kept
 returns-clause-kept g c clean T at = kept_shown of_meta READ.now shows_meta _ _ _ T at (c.in_ok-rows.ensures.ok clean)
+
+pub returns-clause-opened : goal.returns-clause-opened
+returns-clause-opened g c clean = was_open READ.now [] _ _ _ (c.in_ok-rows.ensures.ok clean)

@@ -7,7 +7,7 @@ use Rattle.farm_store.specs.Columns.{Tables, rows_of}
 use Rattle.farm_store.specs.Holds.{Stands}
 use Rattle.farm_store.specs.Readable.{IsReadable}
 use Rattle.farm_store.proofs.Commits.{begun, begun_commit, left_before, rolled_back}
-use Rattle.farm_store.proofs.ReadFarm.{if_read, never_bad, never_old}
+use Rattle.farm_store.proofs.ReadFarm.{if_read, never_bad, tells_old}
 use Rattle.farm_store.proofs.queries.load_any.Goals as goal
 
 pub returns-clause-stands : goal.returns-clause-stands
@@ -50,7 +50,7 @@ pub returns-clause-old : goal.returns-clause-old
 returns-clause-old g c clean old T at =
     let late : HasCleanDisk (state g.S.Store c.rollback.new.self.0) = search rules in
     let early : HasCleanDisk (state g.S.Store c.read_all-rows.new.tx.conn.now) = omega (arith, c.rollback.ensures.survives.clean) in
-    never_old c.read_all-rows.result T old (c.read_all-rows.ensures.read early T (begun g.S.Store c.args.conn.now c.transaction-tx.result.conn.now c.transaction-tx.ensures.begun T at))
+    tells_old c.read_all-rows.result T old (c.read_all-rows.ensures.read early T (begun g.S.Store c.args.conn.now c.transaction-tx.result.conn.now c.transaction-tx.ensures.begun T at))
 
 pub returns-clause-opened : goal.returns-clause-opened
 returns-clause-opened g c clean =
@@ -59,3 +59,15 @@ returns-clause-opened g c clean =
     on_ok_weaker c.read_all-rows.result
     (λ was_open. subst (λ h. IsTrue (state g.S.Store h).is_open) {y = record c.args.conn.now { in_transaction = true }} c.transaction-tx.ensures.begun was_open)
     (c.read_all-rows.ensures.opened early)
+
+pub returns-clause-known : goal.returns-clause-known
+returns-clause-known g c clean T at =
+    let late : HasCleanDisk (state g.S.Store c.rollback.new.self.0) = search rules in
+    let early : HasCleanDisk (state g.S.Store c.read_all-rows.new.tx.conn.now) = omega (arith, c.rollback.ensures.survives.clean) in
+    (c.read_all-rows.ensures.schema early T (begun g.S.Store c.args.conn.now c.transaction-tx.result.conn.now c.transaction-tx.ensures.begun T at)).known
+
+pub returns-clause-other : goal.returns-clause-other
+returns-clause-other g c clean T at =
+    let late : HasCleanDisk (state g.S.Store c.rollback.new.self.0) = search rules in
+    let early : HasCleanDisk (state g.S.Store c.read_all-rows.new.tx.conn.now) = omega (arith, c.rollback.ensures.survives.clean) in
+    (c.read_all-rows.ensures.schema early T (begun g.S.Store c.args.conn.now c.transaction-tx.result.conn.now c.transaction-tx.ensures.begun T at)).other

@@ -1,186 +1,36 @@
-use Rattle.farm_types.specs.declared.calls.Rows.{Rows}
+use Rattle.std.proofs.Common.{IsTrue}
+use Rattle.sqlite.specs.Held.{state}
 use Rattle.farm_store.specs.Columns.{numbers_of}
-use Rattle.farm_store.proofs.ReadFarm.{reads, refuses_farm, types_in, boards_in, jobs_in, reservations_in, kept_in, meta_in}
 use Rattle.farm_store.proofs.GoingOn.{was_clean}
+use Rattle.farm_store.proofs.ReadRows.{on_ok}
+use Rattle.farm_store.proofs.ReadFarm.{looks, looks_again, refuses_farm, meta_in}
 use Rattle.farm_store.proofs.queries.read_all.Goals as goal
-
-pub returns-in_err-types-clause-read : goal.returns-in_err-types-clause-read
-returns-in_err-types-clause-read g c clean T at =
-    let refused = c.in_err-types.ensures.read clean T at in
-    refuses_farm c.from_residual.result T c.in_err-types.field-0.0 c.from_residual.ensures.1 refused.0 (λ bad F good is. refused.1 bad F.types good.types (types_in F T is))
-
-pub returns-in_err-boards-clause-read : goal.returns-in_err-boards-clause-read
-returns-in_err-boards-clause-read g c clean T at =
-    let clean_types = was_clean c.read-2.ensures.goes_on clean in
-    let at_types = c.in_ok-types.ensures.inside clean_types T at in
-    let refused = c.in_err-boards.ensures.read clean T at_types in
-    refuses_farm c.from_residual-in_err-boards.result T c.in_err-boards.field-0.0 c.from_residual-in_err-boards.ensures.1 refused.0 (λ bad F good is. refused.1 bad F.boards good.boards (boards_in F T is))
-
-pub returns-in_err-boards-clause-kept : goal.returns-in_err-boards-clause-kept
-returns-in_err-boards-clause-kept g c clean T at shows =
-    let clean_types = was_clean c.read-2.ensures.goes_on clean in
-    let at_types = c.in_ok-types.ensures.inside clean_types T at in
-    let shows_types = c.in_ok-types.ensures.kept clean_types T at shows in
-    c.in_err-boards.ensures.kept clean T at_types shows_types
-
-pub returns-in_err-jobs-clause-read : goal.returns-in_err-jobs-clause-read
-returns-in_err-jobs-clause-read g c clean T at =
-    let clean_boards = was_clean c.read-3.ensures.goes_on clean in
-    let clean_types = was_clean c.read-2.ensures.goes_on clean_boards in
-    let at_types = c.in_ok-types.ensures.inside clean_types T at in
-    let at_boards = c.in_ok-boards.ensures.inside clean_boards T at_types in
-    let refused = c.in_err-jobs.ensures.read clean T at_boards in
-    refuses_farm c.from_residual-in_err-jobs.result T c.in_err-jobs.field-0.0 c.from_residual-in_err-jobs.ensures.1 refused.0 (λ bad F good is. refused.1 bad F.jobs good.jobs (jobs_in F T is))
-
-pub returns-in_err-jobs-clause-kept : goal.returns-in_err-jobs-clause-kept
-returns-in_err-jobs-clause-kept g c clean T at shows =
-    let clean_boards = was_clean c.read-3.ensures.goes_on clean in
-    let clean_types = was_clean c.read-2.ensures.goes_on clean_boards in
-    let at_types = c.in_ok-types.ensures.inside clean_types T at in
-    let at_boards = c.in_ok-boards.ensures.inside clean_boards T at_types in
-    let shows_types = c.in_ok-types.ensures.kept clean_types T at shows in
-    let shows_boards = c.in_ok-boards.ensures.kept clean_boards T at_types shows_types in
-    c.in_err-jobs.ensures.kept clean T at_boards shows_boards
-
-pub returns-in_err-reservations-clause-read : goal.returns-in_err-reservations-clause-read
-returns-in_err-reservations-clause-read g c clean T at =
-    let clean_jobs = was_clean c.read-4.ensures.goes_on clean in
-    let clean_boards = was_clean c.read-3.ensures.goes_on clean_jobs in
-    let clean_types = was_clean c.read-2.ensures.goes_on clean_boards in
-    let at_types = c.in_ok-types.ensures.inside clean_types T at in
-    let at_boards = c.in_ok-boards.ensures.inside clean_boards T at_types in
-    let at_jobs = c.in_ok-jobs.ensures.inside clean_jobs T at_boards in
-    let refused = c.in_err-reservations.ensures.read clean T at_jobs in
-    refuses_farm c.from_residual-in_err-reservations.result T c.in_err-reservations.field-0.0 c.from_residual-in_err-reservations.ensures.1 refused.0 (λ bad F good is. refused.1 bad F.reservations good.reservations (reservations_in F T is))
-
-pub returns-in_err-reservations-clause-kept : goal.returns-in_err-reservations-clause-kept
-returns-in_err-reservations-clause-kept g c clean T at shows =
-    let clean_jobs = was_clean c.read-4.ensures.goes_on clean in
-    let clean_boards = was_clean c.read-3.ensures.goes_on clean_jobs in
-    let clean_types = was_clean c.read-2.ensures.goes_on clean_boards in
-    let at_types = c.in_ok-types.ensures.inside clean_types T at in
-    let at_boards = c.in_ok-boards.ensures.inside clean_boards T at_types in
-    let at_jobs = c.in_ok-jobs.ensures.inside clean_jobs T at_boards in
-    let shows_types = c.in_ok-types.ensures.kept clean_types T at shows in
-    let shows_boards = c.in_ok-boards.ensures.kept clean_boards T at_types shows_types in
-    let shows_jobs = c.in_ok-jobs.ensures.kept clean_jobs T at_boards shows_boards in
-    c.in_err-reservations.ensures.kept clean T at_jobs shows_jobs
-
-pub returns-in_err-kept-clause-read : goal.returns-in_err-kept-clause-read
-returns-in_err-kept-clause-read g c clean T at =
-    let clean_reservations = was_clean c.read-5.ensures.goes_on clean in
-    let clean_jobs = was_clean c.read-4.ensures.goes_on clean_reservations in
-    let clean_boards = was_clean c.read-3.ensures.goes_on clean_jobs in
-    let clean_types = was_clean c.read-2.ensures.goes_on clean_boards in
-    let at_types = c.in_ok-types.ensures.inside clean_types T at in
-    let at_boards = c.in_ok-boards.ensures.inside clean_boards T at_types in
-    let at_jobs = c.in_ok-jobs.ensures.inside clean_jobs T at_boards in
-    let at_reservations = c.in_ok-reservations.ensures.inside clean_reservations T at_jobs in
-    let refused = c.in_err-kept.ensures.read clean T at_reservations in
-    refuses_farm c.from_residual-in_err-kept.result T c.in_err-kept.field-0.0 c.from_residual-in_err-kept.ensures.1 refused.0 (λ bad F good is. refused.1 bad F.kept good.kept (kept_in F T is))
-
-pub returns-in_err-kept-clause-kept : goal.returns-in_err-kept-clause-kept
-returns-in_err-kept-clause-kept g c clean T at shows =
-    let clean_reservations = was_clean c.read-5.ensures.goes_on clean in
-    let clean_jobs = was_clean c.read-4.ensures.goes_on clean_reservations in
-    let clean_boards = was_clean c.read-3.ensures.goes_on clean_jobs in
-    let clean_types = was_clean c.read-2.ensures.goes_on clean_boards in
-    let at_types = c.in_ok-types.ensures.inside clean_types T at in
-    let at_boards = c.in_ok-boards.ensures.inside clean_boards T at_types in
-    let at_jobs = c.in_ok-jobs.ensures.inside clean_jobs T at_boards in
-    let at_reservations = c.in_ok-reservations.ensures.inside clean_reservations T at_jobs in
-    let shows_types = c.in_ok-types.ensures.kept clean_types T at shows in
-    let shows_boards = c.in_ok-boards.ensures.kept clean_boards T at_types shows_types in
-    let shows_jobs = c.in_ok-jobs.ensures.kept clean_jobs T at_boards shows_boards in
-    let shows_reservations = c.in_ok-reservations.ensures.kept clean_reservations T at_jobs shows_jobs in
-    c.in_err-kept.ensures.kept clean T at_reservations shows_reservations
 
 pub returns-in_err-meta-clause-read : goal.returns-in_err-meta-clause-read
 returns-in_err-meta-clause-read g c clean T at =
-    let clean_kept = was_clean c.read_numbers.ensures.goes_on clean in
-    let clean_reservations = was_clean c.read-5.ensures.goes_on clean_kept in
-    let clean_jobs = was_clean c.read-4.ensures.goes_on clean_reservations in
-    let clean_boards = was_clean c.read-3.ensures.goes_on clean_jobs in
-    let clean_types = was_clean c.read-2.ensures.goes_on clean_boards in
-    let at_types = c.in_ok-types.ensures.inside clean_types T at in
-    let at_boards = c.in_ok-boards.ensures.inside clean_boards T at_types in
-    let at_jobs = c.in_ok-jobs.ensures.inside clean_jobs T at_boards in
-    let at_reservations = c.in_ok-reservations.ensures.inside clean_reservations T at_jobs in
-    let at_kept = c.in_ok-kept.ensures.inside clean_kept T at_reservations in
-    let refused = c.in_err-meta.ensures.read clean T at_kept in
-    refuses_farm c.from_residual-in_err-meta.result T c.in_err-meta.field-0.0 c.from_residual-in_err-meta.ensures.1 refused.0 (λ bad F good is. refused.1 bad (numbers_of F) tt (meta_in F T is))
+    let refused = c.in_err-meta.ensures.read clean T at in
+    refuses_farm c.from_residual.result T c.in_err-meta.field-0.0 c.from_residual.ensures.1 refused.0 (λ bad F good is. refused.1 bad (numbers_of F) (meta_in F T is))
 
-pub returns-in_err-meta-clause-kept : goal.returns-in_err-meta-clause-kept
-returns-in_err-meta-clause-kept g c clean T at shows =
-    let clean_kept = was_clean c.read_numbers.ensures.goes_on clean in
-    let clean_reservations = was_clean c.read-5.ensures.goes_on clean_kept in
-    let clean_jobs = was_clean c.read-4.ensures.goes_on clean_reservations in
-    let clean_boards = was_clean c.read-3.ensures.goes_on clean_jobs in
-    let clean_types = was_clean c.read-2.ensures.goes_on clean_boards in
-    let at_types = c.in_ok-types.ensures.inside clean_types T at in
-    let at_boards = c.in_ok-boards.ensures.inside clean_boards T at_types in
-    let at_jobs = c.in_ok-jobs.ensures.inside clean_jobs T at_boards in
-    let at_reservations = c.in_ok-reservations.ensures.inside clean_reservations T at_jobs in
-    let at_kept = c.in_ok-kept.ensures.inside clean_kept T at_reservations in
-    let shows_types = c.in_ok-types.ensures.kept clean_types T at shows in
-    let shows_boards = c.in_ok-boards.ensures.kept clean_boards T at_types shows_types in
-    let shows_jobs = c.in_ok-jobs.ensures.kept clean_jobs T at_boards shows_boards in
-    let shows_reservations = c.in_ok-reservations.ensures.kept clean_reservations T at_jobs shows_jobs in
-    let shows_kept = c.in_ok-kept.ensures.kept clean_kept T at_reservations shows_reservations in
-    c.in_err-meta.ensures.kept clean T at_kept shows_kept
+pub returns-in_err-meta-clause-schema : goal.returns-in_err-meta-clause-schema
+returns-in_err-meta-clause-schema g c clean T at =
+    looks_again c.read_numbers.result c.from_residual.result T c.in_err-meta.field-0.0 c.in_err-meta.was c.from_residual.ensures.1 (c.read_numbers.ensures.schema clean T at)
 
 pub returns-clause-read : goal.returns-clause-read
 returns-clause-read g c clean T at =
-    let clean_kept = was_clean c.read_numbers.ensures.goes_on clean in
-    let clean_reservations = was_clean c.read-5.ensures.goes_on clean_kept in
-    let clean_jobs = was_clean c.read-4.ensures.goes_on clean_reservations in
-    let clean_boards = was_clean c.read-3.ensures.goes_on clean_jobs in
-    let clean_types = was_clean c.read-2.ensures.goes_on clean_boards in
-    let at_types = c.in_ok-types.ensures.inside clean_types T at in
-    let at_boards = c.in_ok-boards.ensures.inside clean_boards T at_types in
-    let at_jobs = c.in_ok-jobs.ensures.inside clean_jobs T at_boards in
-    let at_reservations = c.in_ok-reservations.ensures.inside clean_reservations T at_jobs in
-    let at_kept = c.in_ok-kept.ensures.inside clean_kept T at_reservations in
-    let types = c.in_ok-types.ensures.read clean_types T at in
-    let boards = c.in_ok-boards.ensures.read clean_boards T at_types in
-    let jobs = c.in_ok-jobs.ensures.read clean_jobs T at_boards in
-    let reservations = c.in_ok-reservations.ensures.read clean_reservations T at_jobs in
-    let kept = c.in_ok-kept.ensures.read clean_kept T at_reservations in
-    let meta = c.in_ok-meta.ensures.read clean T at_kept in
-    let rows : Rows = record {
-      types = c.in_ok-types.types;
-      boards = c.in_ok-boards.boards;
-      jobs = c.in_ok-jobs.jobs;
-      reservations = c.in_ok-reservations.reservations;
-      kept = c.in_ok-kept.kept;
-      meta = c.in_ok-meta.meta;
-    } in
-    reads rows T types boards jobs reservations kept meta.1
+    let early = was_clean c.read_tables.ensures.goes_on clean in
+    c.read_tables.ensures.read clean T (c.in_ok-meta.ensures.inside early T at) (c.in_ok-meta.ensures.read early T at)
+
+pub returns-clause-schema : goal.returns-clause-schema
+returns-clause-schema g c clean T at =
+    let early = was_clean c.read_tables.ensures.goes_on clean in
+    looks c.read_tables.result T c.in_ok-meta.meta (c.in_ok-meta.ensures.read early T at)
 
 pub returns-clause-kept : goal.returns-clause-kept
 returns-clause-kept g c clean T at shows =
-    let clean_kept = was_clean c.read_numbers.ensures.goes_on clean in
-    let clean_reservations = was_clean c.read-5.ensures.goes_on clean_kept in
-    let clean_jobs = was_clean c.read-4.ensures.goes_on clean_reservations in
-    let clean_boards = was_clean c.read-3.ensures.goes_on clean_jobs in
-    let clean_types = was_clean c.read-2.ensures.goes_on clean_boards in
-    let at_types = c.in_ok-types.ensures.inside clean_types T at in
-    let at_boards = c.in_ok-boards.ensures.inside clean_boards T at_types in
-    let at_jobs = c.in_ok-jobs.ensures.inside clean_jobs T at_boards in
-    let at_reservations = c.in_ok-reservations.ensures.inside clean_reservations T at_jobs in
-    let at_kept = c.in_ok-kept.ensures.inside clean_kept T at_reservations in
-    let shows_types = c.in_ok-types.ensures.kept clean_types T at shows in
-    let shows_boards = c.in_ok-boards.ensures.kept clean_boards T at_types shows_types in
-    let shows_jobs = c.in_ok-jobs.ensures.kept clean_jobs T at_boards shows_boards in
-    let shows_reservations = c.in_ok-reservations.ensures.kept clean_reservations T at_jobs shows_jobs in
-    let shows_kept = c.in_ok-kept.ensures.kept clean_kept T at_reservations shows_reservations in
-    c.in_ok-meta.ensures.kept clean T at_kept shows_kept
+    let early = was_clean c.read_tables.ensures.goes_on clean in
+    c.read_tables.ensures.kept clean T (c.in_ok-meta.ensures.inside early T at) (c.in_ok-meta.ensures.kept early T at shows)
 
 pub returns-clause-opened : goal.returns-clause-opened
 returns-clause-opened g c clean =
-    let clean_kept = was_clean c.read_numbers.ensures.goes_on clean in
-    let clean_reservations = was_clean c.read-5.ensures.goes_on clean_kept in
-    let clean_jobs = was_clean c.read-4.ensures.goes_on clean_reservations in
-    let clean_boards = was_clean c.read-3.ensures.goes_on clean_jobs in
-    let clean_types = was_clean c.read-2.ensures.goes_on clean_boards in
-    c.in_ok-types.ensures.opened clean_types
+    let early = was_clean c.read_tables.ensures.goes_on clean in
+    on_ok c.read_tables.result (IsTrue (state g.S.Store c.args.tx.now.conn.now).is_open) (c.in_ok-meta.ensures.opened early)

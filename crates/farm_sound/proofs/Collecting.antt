@@ -1,0 +1,143 @@
+-- The group that collects boards, after jobs have changed, and farms with another collector.
+use Rattle.std.proofs.Common.{◌==◌, ◌∙◌, ◌∷◌, ◌≡◌, ◌≤◌, Bool, List, ap, arith, cond, false, length, map, refl, subst, sym, true, ℕ, []}
+use Rattle.std.specs.List.{AllByRecursion, filter}
+use Rattle.std.specs.Ordering.{match_ordering}
+use Rattle.std.specs.declared.cmp.Ordering.{Ordering}
+use Rattle.std.specs.declared.cmp.Ordering.TheVariants.{Equal, Greater, Less}
+use Rattle.std.proofs.lemmas.Bool.Decides.{nat_tests}
+use Rattle.std.proofs.lemmas.Cmp.{ranked}
+use Rattle.farm_types.specs.Farm.{Farm}
+use Rattle.farm_types.specs.Sound.{IsCollecting, IsHeldByKeys, IsJobRow, IsSteady, hold_of, phase}
+use Rattle.farm_types.specs.Table.{job_cmp, put}
+use Rattle.farm_types.specs.declared.rows.Holder.{Holder}
+use Rattle.farm_types.specs.declared.rows.JobRow.{JobRow}
+use Rattle.farm_types.specs.declared.rows.JobState.{JobState}
+use Rattle.farm_types.proofs.Put.{AllByRecursion-put, AllByRecursion-weaker}
+use Rattle.farm_sound.proofs.Add.{IsHeldByKeys-same, job_total}
+use Rattle.farm_sound.proofs.Grow.{Grows, IsBoardRow-grows, IsJobRow-grows, IsResRow-grows}
+use Rattle.farm_sound.proofs.Lists.{none_pass}
+use Rattle.farm_sound.proofs.Where.{AllByRecursion-both, AllByRecursion-map, count_map}
+
+-- ---- the same rows with another collector
+
+pub IsSteady-collector : (F : Farm) (c : ℕ) → IsSteady F → IsSteady (record F { collector = c })
+IsSteady-collector F c steady =
+    let G : Farm = record F { collector = c } in
+    let grows : Grows F G = record {
+      types = λ k h. h;
+      boards = λ k h. h;
+      jobs = λ n p is. (p, is, refl, refl, refl, refl);
+      reservations = λ n lt h. h;
+      clock = omega arith;
+      next = omega arith;
+    } in
+    record {
+      types_sorted = steady.types_sorted;
+      boards_sorted = steady.boards_sorted;
+      jobs_sorted = steady.jobs_sorted;
+      reservations_sorted = steady.reservations_sorted;
+      kept_sorted = steady.kept_sorted;
+      types = steady.types;
+      boards = AllByRecursion-weaker (IsBoardRow-grows F G grows) F.boards steady.boards;
+      jobs = AllByRecursion-weaker (IsJobRow-grows F G grows) F.jobs steady.jobs;
+      reservations = AllByRecursion-weaker (IsResRow-grows F G grows) F.reservations steady.reservations;
+      kept = steady.kept;
+      few_types = steady.few_types;
+      few_boards = steady.few_boards;
+      few_of_kind = steady.few_of_kind;
+      few_jobs = steady.few_jobs;
+      few_reservations = steady.few_reservations;
+      few_kept = steady.few_kept;
+      clock = steady.clock;
+      count = steady.count;
+      next = steady.next;
+    }
+
+pub IsHeldByKeys-collector : (F : Farm) (c : ℕ) → IsHeldByKeys F → IsHeldByKeys (record F { collector = c })
+IsHeldByKeys-collector F c held = IsHeldByKeys-same F (record F { collector = c }) same refl held
+  where
+    same : (h : Holder) → hold_of (record F { collector = c }) h ≡ hold_of F h
+    same Holder.Nobody = refl
+    same (Holder.Job n) = refl
+    same (Holder.Res n) = refl
+
+-- ---- jobs that change in their places
+
+pub IsCollecting-map : (c : ℕ) (P : JobRow → Type 0) (f : JobRow → JobRow) (jobs : List JobRow) → AllByRecursion P jobs
+    → ((j : JobRow) → (f j).group ≡ j.group)
+    → ((j : JobRow) → P j → (f j).state ≡ JobState.Scheduling → j.state ≡ JobState.Scheduling)
+    → ((j : JobRow) → P j → 1 ≤ c → j.group ≡ c → phase j.state ≡ 0 → phase (f j).state ≡ 0)
+    → IsCollecting c jobs → IsCollecting c (map f jobs)
+IsCollecting-map c P f jobs all groups states stays is = record {
+  only = AllByRecursion-map (λ j. P j × (j.state ≡ JobState.Scheduling → (1 ≤ c) × (j.group ≡ c)))
+      (λ j. j.state ≡ JobState.Scheduling → (1 ≤ c) × (j.group ≡ c)) f
+      (λ j two e. let o = two.1 (states j two.0 e) in (o.0, groups j ∙ o.1)) jobs
+      (AllByRecursion-both P (λ j. j.state ≡ JobState.Scheduling → (1 ≤ c) × (j.group ≡ c)) jobs all is.only);
+  several = λ low. subst (λ n. 2 ≤ n) (sym (count_map (λ (r : JobRow). r.group == c) f (λ r. ap (λ g. g == c) (groups r)) jobs)) (is.several low);
+  waits = λ low. AllByRecursion-map (λ j. P j × (j.group ≡ c → phase j.state ≡ 0)) (λ j. j.group ≡ c → phase j.state ≡ 0) f
+      (λ j two e. stays j two.0 low (sym (groups j) ∙ e) (two.1 (sym (groups j) ∙ e))) jobs
+      (AllByRecursion-both P (λ j. j.group ≡ c → phase j.state ≡ 0) jobs all (is.waits low));
+}
+
+-- none collects where no job is Scheduling
+pub none_collects : (jobs : List JobRow) → AllByRecursion (λ j. j.state ≡ JobState.Scheduling → ⊥) jobs → IsCollecting 0 jobs
+none_collects jobs none = record {
+  only = AllByRecursion-weaker (λ j no e. absurd (no e)) jobs none;
+  several = λ low. absurd (omega arith);
+  waits = λ low. absurd (omega arith);
+}
+
+-- and no job is Scheduling where none collects
+pub none_scheduling : (c : ℕ) (jobs : List JobRow) → c ≡ 0 → IsCollecting c jobs → AllByRecursion (λ j. j.state ≡ JobState.Scheduling → ⊥) jobs
+none_scheduling c jobs zero_is is = AllByRecursion-weaker (λ j only e. let o = (only e).0 in omega arith) jobs is.only
+
+-- ---- a new job
+
+more_put : (test : JobRow → Bool) (row : JobRow) (jobs : List JobRow) → AllByRecursion (λ r. job_cmp row r ≡ Equal → ⊥) jobs
+    → length (filter test jobs) ≤ length (filter test (put job_cmp jobs row))
+more_put test row [] fresh = omega arith
+more_put test row (r ∷ jobs) fresh = by (job_cmp row r) refl (more_put test row jobs fresh.1)
+  where
+    less : (v w : Bool) → length (cond v (r ∷ filter test jobs) (filter test jobs))
+        ≤ length (cond w (row ∷ cond v (r ∷ filter test jobs) (filter test jobs)) (cond v (r ∷ filter test jobs) (filter test jobs)))
+    less v true = omega arith
+    less v false = omega arith
+
+    more : (v : Bool) → length (filter test jobs) ≤ length (filter test (put job_cmp jobs row))
+        → length (cond v (r ∷ filter test jobs) (filter test jobs)) ≤ length (cond v (r ∷ filter test (put job_cmp jobs row)) (filter test (put job_cmp jobs row)))
+    more true rest = omega arith
+    more false rest = rest
+
+    by : (o : Ordering) → job_cmp row r ≡ o → length (filter test jobs) ≤ length (filter test (put job_cmp jobs row))
+        → length (filter test (r ∷ jobs)) ≤ length (filter test (match_ordering o (row ∷ r ∷ jobs) (row ∷ jobs) (r ∷ put job_cmp jobs row)))
+    by Less is rest = less (test r) (test row)
+    by Equal is rest = absurd (fresh.0 is)
+    by Greater is rest = more (test r) rest
+
+pub IsCollecting-add : (F : Farm) (row : JobRow) → IsSteady F → row.number ≡ F.next → (row.state ≡ JobState.Scheduling → ⊥)
+    → (1 ≤ F.collector → row.group ≡ F.collector → phase row.state ≡ 0) → IsCollecting F.collector F.jobs
+    → IsCollecting F.collector (put job_cmp F.jobs row)
+IsCollecting-add F row steady next apart waiting is = record {
+  only = AllByRecursion-put job_cmp job_total row (λ j. j.state ≡ JobState.Scheduling → (1 ≤ F.collector) × (j.group ≡ F.collector))
+      (λ e. absurd (apart e)) F.jobs is.only;
+  several = λ low.
+      let two = is.several low in
+      let more = more_put (λ r. r.group == F.collector) row F.jobs (AllByRecursion-weaker (λ r one tie. differ r one tie) F.jobs steady.jobs) in
+      omega arith;
+  waits = λ low. AllByRecursion-put job_cmp job_total row (λ j. j.group ≡ F.collector → phase j.state ≡ 0) (waiting low) F.jobs (is.waits low);
+}
+  where
+    differ : (r : JobRow) → IsJobRow F r → job_cmp row r ≡ Equal → ⊥
+    differ r one tie = let same : row.number ≡ r.number = ranked row.number r.number Equal (sym tie) in let low = one.number.1 in omega arith
+
+-- the next number is no collector's
+pub next_collects_not : (F : Farm) → IsSteady F → IsCollecting F.collector F.jobs → 1 ≤ F.collector → F.next ≡ F.collector → ⊥
+next_collects_not F steady is low same =
+    let none : filter (λ r. r.group == F.collector) F.jobs ≡ [] =
+    none_pass (λ r. r.group == F.collector) F.jobs (AllByRecursion-weaker (λ r one. other r one) F.jobs steady.jobs) in
+    let two : 2 ≤ length (filter (λ r. r.group == F.collector) F.jobs) = is.several low in
+    let zero_is : length (filter (λ r. r.group == F.collector) F.jobs) ≡ 0 = ap length none in
+    omega arith
+  where
+    other : (r : JobRow) → IsJobRow F r → (r.group == F.collector) ≡ false
+    other r one = let a = one.number.1 in let b = one.group.0 in grind (arith, nat_tests)
