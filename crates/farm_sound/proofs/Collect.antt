@@ -72,7 +72,7 @@ first_is_free F want b steady found =
       kept = serves_kept F.types b inner.0;
     }
 
-rest_ready : (F : Farm) (m : JobRow) (b : BoardRow) (ms : List JobRow) → Ready F m → IsFreeBoard F b → AllByRecursion (λ k. job_cmp m k ≡ Less) ms
+pub rest_ready : (F : Farm) (m : JobRow) (b : BoardRow) (ms : List JobRow) → Ready F m → IsFreeBoard F b → AllByRecursion (λ k. job_cmp m k ≡ Less) ms
     → AllByRecursion (Ready F) ms → AllByRecursion (Ready (give_member S F (m, b))) ms
 rest_ready F m b ms is free later all = AllByRecursion-weaker
     (λ k two. (other_job S as_scheduling F m b is.0 is.1 free k (differs_more k.number m.number (ranked m.number k.number Less (sym two.0))) two.1.0, two.1.1)) ms
@@ -110,7 +110,7 @@ filter_map_kept f group same (j ∷ jobs) =
     by true = refl
     by false = refl
 
-map_same : {A : Type 0} (f : JobRow → JobRow) (g : JobRow → A) → ((j : JobRow) → g (f j) ≡ g j) → (ms : List JobRow) → map g (map f ms) ≡ map g ms
+pub map_same : {A : Type 0} (f : JobRow → JobRow) (g : JobRow → A) → ((j : JobRow) → g (f j) ≡ g j) → (ms : List JobRow) → map g (map f ms) ≡ map g ms
 map_same f g same [] = refl
 map_same f g same (m ∷ ms) = λ i. same m i ∷ map_same f g same ms i
 
@@ -137,7 +137,7 @@ module _ (F : Farm) (j : JobRow) (sound : IsSound F) (none : F.collector ≡ 0) 
   own_members : AllByRecursion (λ m. (job_of F m.number ≡ Some m) × ((m.group == group) ≡ true)) (members F group)
   own_members = filter_all (λ m. job_of F m.number ≡ Some m) (λ r. r.group == group) F.jobs (own_job F sound.steady)
 
-  ready : AllByRecursion (Ready F) (members F group)
+  pub ready : AllByRecursion (Ready F) (members F group)
   ready = AllByRecursion-weaker (λ m two. (two.0.0, two.1)) (members F group)
       (AllByRecursion-both (λ m. (job_of F m.number ≡ Some m) × ((m.group == group) ≡ true)) (λ m. m.state ≡ JobState.Submitted) (members F group) own_members submitted)
 
@@ -236,10 +236,10 @@ module _ (F : Farm) (j : JobRow) (sound : IsSound F) (none : F.collector ≡ 0) 
 
   -- ---- the claims afterwards
 
-  members_after : (n : ℕ) → members (collect F group) n ≡ map after (members F n)
+  pub members_after : (n : ℕ) → members (collect F group) n ≡ map after (members F n)
   members_after n = ap (filter (λ (r : JobRow). r.group == n)) jobs_collected ∙ filter_map_kept after n (given_group S ps) F.jobs
 
-  job_after : (n : ℕ) → job_of (collect F group) n ≡ option_map after (job_of F n)
+  pub job_after : (n : ℕ) → job_of (collect F group) n ≡ option_map after (job_of F n)
   job_after n = ap (find (λ (r : JobRow). r.number == n)) jobs_collected
       ∙ find_map (λ (r : JobRow). r.number == n) after (λ m. ap (λ k. k == n) (given_number S ps m)) F.jobs
 

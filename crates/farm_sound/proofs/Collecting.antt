@@ -1,5 +1,5 @@
 -- The group that collects boards, after jobs have changed, and farms with another collector.
-use Rattle.std.proofs.Common.{◌==◌, ◌∙◌, ◌∷◌, ◌≡◌, ◌≤◌, Bool, List, ap, arith, cond, false, length, map, refl, subst, sym, true, ℕ, []}
+use Rattle.std.proofs.Common.{◌<◌, ◌==◌, ◌∙◌, ◌∷◌, ◌≡◌, ◌≤◌, Bool, List, ap, arith, cond, false, length, map, nat_lt, refl, subst, sym, true, ℕ, []}
 use Rattle.std.specs.List.{AllByRecursion, filter}
 use Rattle.std.specs.Ordering.{match_ordering}
 use Rattle.std.specs.declared.cmp.Ordering.{Ordering}
@@ -130,14 +130,24 @@ IsCollecting-add F row steady next apart waiting is = record {
     differ : (r : JobRow) → IsJobRow F r → job_cmp row r ≡ Equal → ⊥
     differ r one tie = let same : row.number ≡ r.number = ranked row.number r.number Equal (sym tie) in let low = one.number.1 in omega arith
 
--- the next number is no collector's
-pub next_collects_not : (F : Farm) → IsSteady F → IsCollecting F.collector F.jobs → 1 ≤ F.collector → F.next ≡ F.collector → ⊥
-next_collects_not F steady is low same =
-    let none : filter (λ r. r.group == F.collector) F.jobs ≡ [] =
-    none_pass (λ r. r.group == F.collector) F.jobs (AllByRecursion-weaker (λ r one. other r one) F.jobs steady.jobs) in
-    let two : 2 ≤ length (filter (λ r. r.group == F.collector) F.jobs) = is.several low in
-    let zero_is : length (filter (λ r. r.group == F.collector) F.jobs) ≡ 0 = ap length none in
-    omega arith
+-- the collector is a number that was given
+pub collector_low : (F : Farm) → IsSteady F → IsCollecting F.collector F.jobs → F.collector < F.next
+collector_low F steady is = by (nat_lt F.collector F.next) refl
   where
-    other : (r : JobRow) → IsJobRow F r → (r.group == F.collector) ≡ false
-    other r one = let a = one.number.1 in let b = one.group.0 in grind (arith, nat_tests)
+    other : F.next ≤ F.collector → (r : JobRow) → IsJobRow F r → (r.group == F.collector) ≡ false
+    other high r one = let a = one.number.1 in let b = one.group.0 in grind (arith, nat_tests)
+
+    none : F.next ≤ F.collector → length (filter (λ r. r.group == F.collector) F.jobs) ≡ 0
+    none high = ap length (none_pass (λ r. r.group == F.collector) F.jobs (AllByRecursion-weaker (λ r one. other high r one) F.jobs steady.jobs))
+
+    by : (v : Bool) → nat_lt F.collector F.next ≡ v → F.collector < F.next
+    by true at = grind (arith, nat_tests)
+    by false at =
+        let high : F.next ≤ F.collector = (grind (arith, nat_tests)) in
+        let low = steady.next.0 in
+        let two = is.several (omega (arith, high, low)) in
+        absurd (omega (arith, two, none high))
+
+-- so the next number is no collector's
+pub next_collects_not : (F : Farm) → IsSteady F → IsCollecting F.collector F.jobs → 1 ≤ F.collector → F.next ≡ F.collector → ⊥
+next_collects_not F steady is low same = omega (arith, collector_low F steady is)

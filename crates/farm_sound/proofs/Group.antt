@@ -41,7 +41,7 @@ abbrev pub AreApart : List (JobRow × BoardRow) → Type 0
 AreApart [] = Unit {0}
 AreApart (p ∷ ps) = AllByRecursion (λ q. ((q.0.number == p.0.number) ≡ false) × (bytes_eq q.1.name p.1.name ≡ false)) ps × AreApart ps
 
-abbrev ArePairs : Farm → JobRow × BoardRow → Type 0
+abbrev pub ArePairs : Farm → JobRow × BoardRow → Type 0
 ArePairs F p = Ready F p.0 × IsFreeBoard F p.1
 
 rest_ready : (F : Farm) (p : JobRow × BoardRow) (ps : List (JobRow × BoardRow)) → ArePairs F p
@@ -213,7 +213,7 @@ module _ (F : Farm) (group : ℕ) (bs : List BoardRow) (sound : IsSound F)
       (AllByRecursion-both (λ m. (job_of F m.number ≡ Some m) × ((m.group == group) ≡ true)) (λ m. m.state ≡ JobState.Submitted)
       (members F group) own_members waits)
 
-  pairs_ready : AllByRecursion (ArePairs F) pairs
+  pub pairs_ready : AllByRecursion (ArePairs F) pairs
   pairs_ready = zip_all (Ready F) (IsFreeBoard F) (members F group) bs ready free
 
   steady_held : IsSteady (give_group F group bs) × IsHeldByKeys (give_group F group bs)

@@ -26,6 +26,7 @@ pub mod Collect
 pub mod Serve
 pub mod Queue
 pub mod Unmet
+pub mod Short
 pub mod Passed
 pub mod Served
 pub mod Numbers

@@ -188,23 +188,31 @@ pub record IsOver (F G : Farm) (c : Claimed) : Type 0 where
 collect_clock : (F : Farm) (group : ℕ) → (collect F group).clock ≡ F.clock
 collect_clock F group = ap (λ (G : Farm). G.clock) (collect_is (members F group) F) ∙ clock_kept JobState.Scheduling (pairs_for F (members F group)) F
 
-over_collect : (F : Farm) (c : Claimed) → IsOpen F c → IsSound F → may_collect F c ≡ true → IsOver F (collect F c.number) c
-over_collect F c (inl (r, is)) sound may =
+-- no reservation collects, and a group does where none did and it has two members or more
+pub res_collects_not : (F : Farm) (c : Claimed) (r : ResRow) → IsResClaim F c r → may_collect F c ≡ true → ⊥
+res_collects_not F c r is may =
     let two = both ((F.collector == 0) && not c.reservation) (nat_le 2 (length c.wants)) may in
-    absurd (true≢false (sym (both (F.collector == 0) (not c.reservation) two.0).1 ∙ ap (λ (e : Claimed). not e.reservation) is.2))
-over_collect F c (inr (j, is)) sound may =
+    true≢false (sym (both (F.collector == 0) (not c.reservation) two.0).1 ∙ ap (λ (e : Claimed). not e.reservation) is.2)
+
+pub group_collects : (F : Farm) (c : Claimed) (j : JobRow) → IsOpenGroup F c j → may_collect F c ≡ true → (F.collector ≡ 0) × (2 ≤ length (members F j.group))
+group_collects F c j is may =
     let two = both ((F.collector == 0) && not c.reservation) (nat_le 2 (length c.wants)) may in
-    let none : F.collector ≡ 0 = same_number F.collector 0 (both (F.collector == 0) (not c.reservation) two.0).0 in
     let long : length c.wants ≡ length (members F j.group) =
     ap (λ (d : Claimed). length d.wants) is.claim.2 ∙ length-map (members F j.group) (λ m. m.want) in
     let several : 2 ≤ length (members F j.group) = (let e = two.1 in let l = long in grind (arith, nat_tests)) in
+    (same_number F.collector 0 (both (F.collector == 0) (not c.reservation) two.0).0, several)
+
+over_collect : (F : Farm) (c : Claimed) → IsOpen F c → IsSound F → may_collect F c ≡ true → IsOver F (collect F c.number) c
+over_collect F c (inl (r, is)) sound may = absurd (res_collects_not F c r is may)
+over_collect F c (inr (j, is)) sound may =
+    let two = group_collects F c j is may in
     subst (λ e. IsOver F (collect F e) c) (ap (λ (d : Claimed). d.number) (sym is.claim.2))
     (record {
-      sound = IsSound-collect F j sound none is.claim.0 is.claim.1 is.submitted several;
+      sound = IsSound-collect F j sound two.0 is.claim.0 is.claim.1 is.submitted two.1;
       clock = collect_clock F j.group;
-      was = claim_was F j sound none is.claim.0 is.claim.1 is.submitted several;
-      opens = λ d apart has. open_after F j sound none is.claim.0 is.claim.1 is.submitted several c d is.claim apart has;
-      unmet = IsUnmet-collect F j sound none is.claim.0 is.claim.1 is.submitted several;
+      was = claim_was F j sound two.0 is.claim.0 is.claim.1 is.submitted two.1;
+      opens = λ d apart has. open_after F j sound two.0 is.claim.0 is.claim.1 is.submitted two.1 c d is.claim apart has;
+      unmet = IsUnmet-collect F j sound two.0 is.claim.0 is.claim.1 is.submitted two.1;
     })
 
 pub over : (F : Farm) (c : Claimed) → IsOpen F c → IsSound F → IsOver F (pass_over F c) c

@@ -44,7 +44,7 @@ unmet_shrinks types old new wants sorted shrinks none = by (least new (is_free t
         (AllByRecursion-both (λ b. Among b new) (λ b. is_free types b ≡ true) bs best.among free)) best.meeting)
 
 -- a board in someone's hands isn't free
-not_free : (types : List TypeRow) (h : Holder) (b : BoardRow) → is_nobody h ≡ false → is_free types (held h State.Reserved b) ≡ true → ⊥
+pub not_free : (types : List TypeRow) (h : Holder) (b : BoardRow) → is_nobody h ≡ false → is_free types (held h State.Reserved b) ≡ true → ⊥
 not_free types h b taken free = false≢true (sym taken ∙ (both (serves types (held h State.Reserved b)) (is_nobody h) free).1)
 
 -- a board is given

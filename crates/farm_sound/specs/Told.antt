@@ -8,8 +8,8 @@ use Rattle.farm_types.specs.Words.{IsName, IsText}
 use Rattle.farm_types.specs.Table.{type_cmp, board_cmp, job_cmp, res_cmp, kept_cmp}
 use Rattle.farm_types.specs.Proper.{is_priority, is_want}
 use Rattle.farm_types.specs.Farm.{Farm, type_of, board_of, job_of, res_of}
-use Rattle.farm_types.specs.Sound.{IsBoardOf, IsCollecting, IsCheck, Follows, job_gives, res_gives, phase}
-use Rattle.farm_types.specs.Sound.{IsTypeRow, IsBoardRow, IsJobRow, IsResRow, IsKeptRow}
+use Rattle.farm_types.specs.Sound.{IsBoardOf, IsCollecting, IsCheck, Follows, job_gives, res_gives}
+use Rattle.farm_types.specs.Sound.{phase, IsTypeRow, IsBoardRow, IsJobRow, IsResRow, IsKeptRow}
 use Rattle.farm_types.specs.declared.rows.Holder.{Holder}
 use Rattle.farm_types.specs.declared.rows.State.{State}
 use Rattle.farm_types.specs.declared.rows.JobState.{JobState}

@@ -27,7 +27,7 @@ ghost use Rattle.farm_types.specs.declared.rows.ResRow.{ResRow};
 ghost use Rattle.farm_types.specs.declared.rows.ResState.{ResState};
 ghost use Rattle.farm_types.specs.declared.rows.TypeRow.{TypeRow};
 ghost use Rattle.farm_types.specs.declared.rows.Want.{Want};
-ghost use Rattle.farm_sound.specs.Served.{IsServed};
+ghost use Rattle.farm_sound.specs.Served.{IsServed, IsShort};
 
 /// Every call leaves a sound farm.
 pub fn step_is_sound()
@@ -49,6 +49,16 @@ pub fn pass_serves_all()
     ensures step { (F : Farm) (call : Call) (reply : Reply) → call.cmd ≡ Cmd.Pass
         → answer F call ≡ Changed reply
         → IsSound F → IsServed (step F call) }
+{}
+
+/// After a pass, and after a call that makes one, the group that collects isn't met even by the
+/// free boards and its own together.
+pub fn collector_is_short()
+    ensures pass { (F : Farm) (caller : List ℕ) → IsSound F
+        → IsShort (act F caller Cmd.Pass).farm }
+    ensures step { (F : Farm) (call : Call) (reply : Reply) → call.cmd ≡ Cmd.Pass
+        → answer F call ≡ Changed reply
+        → IsSound F → IsShort (step F call) }
 {}
 
 /// The queue is the claims, each once, in their order.

@@ -52,8 +52,8 @@ pub record LooksAtSchema {A : Type 0} (result : Result A StoreFault) (T : Tables
   pub other : ¬ IsOfSchema FIRST_SCHEMA T → ¬ IsOfSchema SCHEMA T
       → (result ≡ Err BadStore) ⊎ (result ≡ Err Store)
 
--- the numbers read are those of the tables; they are refused as old only where the tables are of the
--- first version, and as bad only where they have no such numbers
+-- the numbers read are those of the tables; they are refused as old only where the tables are of
+-- the first version, and as bad only where they have no such numbers
 abbrev pub ReadsNumbers : Result MetaRow StoreFault → Tables → Type 0
 ReadsNumbers result T =
     MatchResult result (λ numbers. T.meta ≡ meta_rows numbers)

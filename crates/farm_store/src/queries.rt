@@ -111,11 +111,11 @@ fn load_any<S: Alter>(alloc: Global, conn: &mut Connection<S>) -> Result<Rows, S
 /// whatever else stands there, and those of an unknown one, or of none, as bad.
 ///
 /// Refused as bad too where a column can't be read: where it is of another kind, a name or a key is
-/// no word, tags are in no canonical text, a code stands for nothing, a number is below 0; where the
-/// farm's numbers are not exactly its clock, collector, count and next number, with these tables'
-/// version; and where the store has another column, table, index or view than the farm's. Where a
-/// table is not there, a call of the store was refused. Whether the rows are those of a sound farm
-/// is not looked at.
+/// no word, tags are in no canonical text, a code stands for nothing, a number is below 0; where
+/// the farm's numbers are not exactly its clock, collector, count and next number, with these
+/// tables' version; and where the store has another column, table, index or view than the farm's.
+/// Where a table is not there, a call of the store was refused. Whether the rows are those of a
+/// sound farm is not looked at.
 ///
 /// It reads each row once, and keeps the raw rows of one table at a time.
 pub fn load<S: Alter>(alloc: Global, conn: &mut Connection<S>) -> Result<Rows, StoreFault>

@@ -30,9 +30,9 @@ group_collects =
     ∷ []
 
 -- it is given its boards as soon as they are there
-unfoldable pub group_is_served : List Call
+unfoldable pub collector_is_served : List Call
 unfolding is_proper_cmd is_word
-group_is_served = by_admin 35 (set (codes "b2") Health.Good) refl ∷ by_dispatcher 40 Cmd.Pass refl ∷ []
+collector_is_served = by_admin 35 (set (codes "b2") Health.Good) refl ∷ by_dispatcher 40 Cmd.Pass refl ∷ []
 
 -- it goes before a group of higher priority, which collects after it
 unfoldable pub higher_group_collects_next : List Call
@@ -97,11 +97,11 @@ pub record AllCollectingAsWorked : Type 0 where
   pub group_collects_job_3 : job_shows (run empty group_collects) 3 ≡ Some (JobState.Submitted, None, None)
   pub group_collects_board__b1 : board_shows (run empty group_collects) (codes "b1") ≡ Some (Health.Good, State.Reserved, Holder.Job 1, 0, 0)
   pub group_collects_collector : (run empty group_collects).collector ≡ 1
-  pub group_is_served_answers : answers (run empty group_collects) group_is_served ≡ did 0 ∷ passed 0 0 1 ∷ []
-  pub group_is_served_job_1 : job_shows (run empty (group_collects ++ group_is_served)) 1 ≡ Some (JobState.Scheduled, Some (codes "b1"), None)
-  pub group_is_served_job_2 : job_shows (run empty (group_collects ++ group_is_served)) 2 ≡ Some (JobState.Scheduled, Some (codes "b2"), None)
-  pub group_is_served_job_3 : job_shows (run empty (group_collects ++ group_is_served)) 3 ≡ Some (JobState.Submitted, None, None)
-  pub group_is_served_collector : (run empty (group_collects ++ group_is_served)).collector ≡ 0
+  pub collector_is_served_answers : answers (run empty group_collects) collector_is_served ≡ did 0 ∷ passed 0 0 1 ∷ []
+  pub collector_is_served_job_1 : job_shows (run empty (group_collects ++ collector_is_served)) 1 ≡ Some (JobState.Scheduled, Some (codes "b1"), None)
+  pub collector_is_served_job_2 : job_shows (run empty (group_collects ++ collector_is_served)) 2 ≡ Some (JobState.Scheduled, Some (codes "b2"), None)
+  pub collector_is_served_job_3 : job_shows (run empty (group_collects ++ collector_is_served)) 3 ≡ Some (JobState.Submitted, None, None)
+  pub collector_is_served_collector : (run empty (group_collects ++ collector_is_served)).collector ≡ 0
   pub higher_group_answers : answers (run empty group_collects) higher_group_collects_next ≡ did 4 ∷ did 0 ∷ passed 0 0 1 ∷ []
   pub higher_group_job_1 : job_shows (run empty (group_collects ++ higher_group_collects_next)) 1 ≡ Some (JobState.Scheduled, Some (codes "b1"), None)
   pub higher_group_job_2 : job_shows (run empty (group_collects ++ higher_group_collects_next)) 2 ≡ Some (JobState.Scheduled, Some (codes "b2"), None)
@@ -117,9 +117,9 @@ pub record AllCollectingAsWorked : Type 0 where
   pub not_started_answers : answers (run empty group_collects) collector_is_not_started ≡ Denied 21 ∷ Denied 21 ∷ Denied 14 ∷ []
   pub swaps_first_job_1 : job_shows (run empty collector_swaps) 1 ≡ Some (JobState.Scheduling, Some (codes "b1"), None)
   pub swaps_first_collector : (run empty collector_swaps).collector ≡ 1
-  pub swaps_answers : answers (run empty collector_swaps) group_is_served ≡ did 0 ∷ passed 0 0 1 ∷ []
-  pub swaps_job_1 : job_shows (run empty (collector_swaps ++ group_is_served)) 1 ≡ Some (JobState.Scheduled, Some (codes "b2"), None)
-  pub swaps_job_2 : job_shows (run empty (collector_swaps ++ group_is_served)) 2 ≡ Some (JobState.Scheduled, Some (codes "b1"), None)
+  pub swaps_answers : answers (run empty collector_swaps) collector_is_served ≡ did 0 ∷ passed 0 0 1 ∷ []
+  pub swaps_job_1 : job_shows (run empty (collector_swaps ++ collector_is_served)) 1 ≡ Some (JobState.Scheduled, Some (codes "b2"), None)
+  pub swaps_job_2 : job_shows (run empty (collector_swaps ++ collector_is_served)) 2 ≡ Some (JobState.Scheduled, Some (codes "b1"), None)
   pub types_answers : answers empty types_collect ≡ did 0 ∷ did 0 ∷ did 0 ∷ did 0 ∷ did 0 ∷ did 1 ∷ did 3 ∷ did 4 ∷ passed 0 0 0 ∷ []
   pub types_job_1 : job_shows (run empty types_collect) 1 ≡ Some (JobState.Submitted, None, None)
   pub types_job_2 : job_shows (run empty types_collect) 2 ≡ Some (JobState.Scheduling, Some (codes "b1"), None)

@@ -152,15 +152,15 @@ after_canceled_while_it_waits = record after_group_asks {
 }
 
 -- with b2 in maintenance the first member takes the board with hdmi, which the second lacks then
-unfoldable pub group_collects : List Call
+unfoldable pub first_member_collects : List Call
 unfolding is_proper_cmd is_word is_tag is_tags is_utf8 chars encode_utf8
-group_collects =
+first_member_collects =
     by_admin 22 (set (codes "b2") Health.Maintenance) refl
     ∷ by_dispatcher 23 Cmd.Pass refl
     ∷ []
 
-abbrev pub after_group_collects : Farm
-after_group_collects = record after_group_asks {
+abbrev pub after_first_member_collects : Farm
+after_first_member_collects = record after_group_asks {
   boards =
       record { name = codes "b1"; kind = codes "bbb"; tags = codes "hdmi" ∷ []; health = Health.Good; state = State.Reserved; holder = Holder.Job 1; jobs_since = 0; last_check = 0 }
       ∷ record { name = codes "b2"; kind = codes "bbb"; tags = []; health = Health.Maintenance; state = State.Idle; holder = Holder.Nobody; jobs_since = 0; last_check = 0 }
@@ -175,25 +175,25 @@ after_group_collects = record after_group_asks {
 }
 
 -- the next pass takes it back, and gives each member the board of the least list
-unfoldable pub collector_is_served : List Call
+unfoldable pub boards_are_taken_back : List Call
 unfolding is_proper_cmd is_word is_tag is_tags is_utf8 chars encode_utf8
-collector_is_served =
+boards_are_taken_back =
     by_admin 29 (set (codes "b2") Health.Good) refl
     ∷ by_dispatcher 30 Cmd.Pass refl
     ∷ []
 
-abbrev pub after_collector_is_served : Farm
-after_collector_is_served = record after_group_is_served { count = 10 }
+abbrev pub after_boards_are_taken_back : Farm
+after_boards_are_taken_back = record after_group_is_served { count = 10 }
 
 -- canceled while it collects, the first member keeps the name of its board, and none collects
-unfoldable pub collector_is_canceled : List Call
+unfoldable pub canceled_while_it_collects : List Call
 unfolding is_proper_cmd is_word is_tag is_tags is_utf8 chars encode_utf8
-collector_is_canceled =
+canceled_while_it_collects =
     by_ann 24 (Cmd.Cancel 2) refl
     ∷ []
 
-abbrev pub after_collector_is_canceled : Farm
-after_collector_is_canceled = record after_group_asks {
+abbrev pub after_canceled_while_it_collects : Farm
+after_canceled_while_it_collects = record after_group_asks {
   boards =
       record { name = codes "b1"; kind = codes "bbb"; tags = codes "hdmi" ∷ []; health = Health.Good; state = State.Idle; holder = Holder.Nobody; jobs_since = 0; last_check = 0 }
       ∷ record { name = codes "b2"; kind = codes "bbb"; tags = []; health = Health.Maintenance; state = State.Idle; holder = Holder.Nobody; jobs_since = 0; last_check = 0 }
@@ -220,9 +220,9 @@ pub record GroupsAsWorked : Type 0 where
   pub the_other_ends_leaves : run after_one_member_ends the_other_ends ≡ after_the_other_ends
   pub canceled_while_it_waits_answers : answers after_group_asks canceled_while_it_waits ≡ did 1 ∷ []
   pub canceled_while_it_waits_leaves : run after_group_asks canceled_while_it_waits ≡ after_canceled_while_it_waits
-  pub group_collects_answers : answers after_group_asks group_collects ≡ did 0 ∷ passed 0 0 0 ∷ []
-  pub group_collects_leaves : run after_group_asks group_collects ≡ after_group_collects
-  pub collector_is_served_answers : answers after_group_collects collector_is_served ≡ did 0 ∷ passed 0 0 1 ∷ []
-  pub collector_is_served_leaves : run after_group_collects collector_is_served ≡ after_collector_is_served
-  pub collector_is_canceled_answers : answers after_group_collects collector_is_canceled ≡ did 1 ∷ []
-  pub collector_is_canceled_leaves : run after_group_collects collector_is_canceled ≡ after_collector_is_canceled
+  pub first_member_collects_answers : answers after_group_asks first_member_collects ≡ did 0 ∷ passed 0 0 0 ∷ []
+  pub first_member_collects_leaves : run after_group_asks first_member_collects ≡ after_first_member_collects
+  pub boards_are_taken_back_answers : answers after_first_member_collects boards_are_taken_back ≡ did 0 ∷ passed 0 0 1 ∷ []
+  pub boards_are_taken_back_leaves : run after_first_member_collects boards_are_taken_back ≡ after_boards_are_taken_back
+  pub canceled_while_it_collects_answers : answers after_first_member_collects canceled_while_it_collects ≡ did 1 ∷ []
+  pub canceled_while_it_collects_leaves : run after_first_member_collects canceled_while_it_collects ≡ after_canceled_while_it_collects

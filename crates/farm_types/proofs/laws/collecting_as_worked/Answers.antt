@@ -4,11 +4,11 @@ use Rattle.farm_types.specs.Pick.{least}
 use Rattle.farm_types.specs.Refuse.{refusal, early_refusal, own_refusal}
 use Rattle.farm_types.specs.Change.{change}
 use Rattle.farm_types.specs.Machine.{answer, step}
-use Rattle.farm_types.specs.WorkedCollecting.{group_collects, group_is_served, higher_group_collects_next, collector_is_canceled, one_pass_more, collector_is_not_started, collector_swaps, types_collect, types_are_served}
+use Rattle.farm_types.specs.WorkedCollecting.{group_collects, collector_is_served, higher_group_collects_next, collector_is_canceled, one_pass_more, collector_is_not_started, collector_swaps, types_collect, types_are_served}
 use Rattle.farm_types.proofs.laws.collecting_as_worked.Goals as goal
 
 pub returns : goal.returns
-unfolding group_collects group_is_served higher_group_collects_next collector_is_canceled one_pass_more collector_is_not_started collector_swaps types_collect types_are_served is_word is_tag is_tags least refusal early_refusal own_refusal change answer step
+unfolding group_collects collector_is_served higher_group_collects_next collector_is_canceled one_pass_more collector_is_not_started collector_swaps types_collect types_are_served is_word is_tag is_tags least refusal early_refusal own_refusal change answer step
 returns c = record {
   group_collects_answers = refl;
   group_collects_job_1 = refl;
@@ -16,11 +16,11 @@ returns c = record {
   group_collects_job_3 = refl;
   group_collects_board__b1 = refl;
   group_collects_collector = refl;
-  group_is_served_answers = refl;
-  group_is_served_job_1 = refl;
-  group_is_served_job_2 = refl;
-  group_is_served_job_3 = refl;
-  group_is_served_collector = refl;
+  collector_is_served_answers = refl;
+  collector_is_served_job_1 = refl;
+  collector_is_served_job_2 = refl;
+  collector_is_served_job_3 = refl;
+  collector_is_served_collector = refl;
   higher_group_answers = refl;
   higher_group_job_1 = refl;
   higher_group_job_2 = refl;

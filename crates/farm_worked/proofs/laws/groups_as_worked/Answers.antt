@@ -4,11 +4,11 @@ use Rattle.farm_types.specs.Pick.{least}
 use Rattle.farm_types.specs.Refuse.{refusal, early_refusal, own_refusal}
 use Rattle.farm_types.specs.Change.{change}
 use Rattle.farm_types.specs.Machine.{answer, step}
-use Rattle.farm_worked.specs.Groups.{group_asks, group_is_served, group_starts, one_member_ends, the_other_ends, canceled_while_it_waits, group_collects, collector_is_served, collector_is_canceled}
+use Rattle.farm_worked.specs.Groups.{group_asks, group_is_served, group_starts, one_member_ends, the_other_ends, canceled_while_it_waits, first_member_collects, boards_are_taken_back, canceled_while_it_collects}
 use Rattle.farm_worked.proofs.laws.groups_as_worked.Goals as goal
 
 pub returns : goal.returns
-unfolding group_asks group_is_served group_starts one_member_ends the_other_ends canceled_while_it_waits group_collects collector_is_served collector_is_canceled is_word is_tag is_tags least refusal early_refusal own_refusal change answer step
+unfolding group_asks group_is_served group_starts one_member_ends the_other_ends canceled_while_it_waits first_member_collects boards_are_taken_back canceled_while_it_collects is_word is_tag is_tags least refusal early_refusal own_refusal change answer step
 returns c = record {
   group_asks_answers = refl;
   group_asks_leaves = refl;
@@ -22,10 +22,10 @@ returns c = record {
   the_other_ends_leaves = refl;
   canceled_while_it_waits_answers = refl;
   canceled_while_it_waits_leaves = refl;
-  group_collects_answers = refl;
-  group_collects_leaves = refl;
-  collector_is_served_answers = refl;
-  collector_is_served_leaves = refl;
-  collector_is_canceled_answers = refl;
-  collector_is_canceled_leaves = refl;
+  first_member_collects_answers = refl;
+  first_member_collects_leaves = refl;
+  boards_are_taken_back_answers = refl;
+  boards_are_taken_back_leaves = refl;
+  canceled_while_it_collects_answers = refl;
+  canceled_while_it_collects_leaves = refl;
 }
