@@ -3,10 +3,11 @@
 
 200 lists of 60 commands each are made over labs of two to four types and up to six boards, with
 groups, reservations with tags, checks, cancels, leases that end, and a pass now and then. What is
-to be answered, and which boards, reservations, queue and status then stand, is computed here, from
-the text of docs/MACHINE.md alone: at each pass all claims are sorted anew, and for each every list
-of free boards is tried in order of names. The transcripts are played by the player that
-`crates/farm_play` built; each list has to be as computed, byte by byte.
+to be answered, and which boards, jobs, reservations, queue and status then stand, is computed here,
+from the text of docs/MACHINE.md alone: at each pass all claims are sorted anew, the group that
+collected is taken first, and for each every list of free boards is tried in order of names. The
+transcripts are played by the player that `crates/farm_play` built; each list has to be as computed,
+byte by byte.
 """
 import itertools
 import json
@@ -18,6 +19,7 @@ import tempfile
 
 LISTS, COMMANDS = 200, 60
 GOOD, UNKNOWN, BAD, MAINTENANCE = "Good", "Unknown", "Bad", "Maintenance"
+WAITS = ("Submitted", "Scheduling")
 
 
 class Lab:
@@ -25,7 +27,7 @@ class Lab:
 
     def __init__(self):
         self.types, self.boards, self.jobs, self.leases = {}, {}, {}, {}
-        self.clock, self.count, self.next = 0, 0, 1
+        self.clock, self.collector, self.count, self.next = 0, 0, 0, 1
 
     # ---- what a claim may be given
 
@@ -61,7 +63,7 @@ class Lab:
                 found.append((-lease["priority"], number, "reservation", lease["owner"], [(None, lease["tags"])]))
         for number, job in self.jobs.items():
             group = self.members(number)
-            if job["group"] == number and all(one["state"] == "Submitted" for one in group):
+            if job["group"] == number and all(one["state"] in WAITS for one in group):
                 found.append((-job["priority"], number, "group", job["owner"], [one["want"] for one in group]))
         return sorted(found, key=lambda claim: claim[:2])
 
@@ -94,8 +96,29 @@ class Lab:
             return 3600 * every <= self.clock - board["last_check"]
         return every <= board["jobs_since"]
 
+    def give_back(self):
+        for job in self.members(self.collector):
+            if job["state"] == "Scheduling":
+                job["state"], job["board"] = "Submitted", ""
+                self.free("job %d" % job["number"])
+        self.collector = 0
+
+    def collect(self, group):
+        for job in self.members(group):
+            for name in sorted(self.boards):
+                if self.is_free(self.boards[name]) and self.fits(self.boards[name], job["want"]):
+                    job["state"], job["board"] = "Scheduling", name
+                    self.hold(name, "job %d" % job["number"], "Reserved")
+                    break
+        self.collector = group
+
+    def taken(self, first):
+        """The claims: that of a group first, if it is one, and then the others in their order."""
+        return sorted(self.claims(), key=lambda claim: claim[1] != first or claim[2] != "group")
+
     def run_pass(self):
-        ended = 0
+        first, ended = self.collector, 0
+        self.give_back()
         for number, lease in self.leases.items():
             if lease["state"] in ("waiting", "allocated") and lease["deadline"] <= self.clock:
                 lease["state"] = "expired"
@@ -108,14 +131,17 @@ class Lab:
                 self.jobs[number] = {
                     "number": number, "group": number, "checking": True, "owner": "admin", "priority": 100,
                     "want": (self.boards[name]["type"], []), "state": "Scheduled", "board": name,
+                    "role": "", "text": "",
                 }
                 self.hold(name, "job %d" % number, "Reserved")
                 self.next += 1
                 checks += 1
         served = 0
-        for _, number, kind, _, wants in self.claims():
+        for _, number, kind, _, wants in self.taken(first):
             some = self.least(wants, self.is_free)
             if some is None:
+                if self.collector == 0 and len(wants) > 1:
+                    self.collect(number)
                 continue
             served += 1
             if kind == "group":
@@ -130,12 +156,13 @@ class Lab:
 
     # ---- the other commands
 
-    def submit(self, owner, priority, wants):
+    def submit(self, owner, priority, wants, text):
         group = self.next
         for at, want in enumerate(wants):
             self.jobs[group + at] = {
                 "number": group + at, "group": group, "checking": False, "owner": owner, "priority": priority,
                 "want": want, "state": "Submitted", "board": "",
+                "role": "r%d" % at if len(wants) > 1 else "", "text": "" if at else text,
             }
         self.next += len(wants)
         return group
@@ -151,11 +178,13 @@ class Lab:
 
     def cancel(self, number):
         for job in self.members(self.jobs[number]["group"]):
-            if job["state"] in ("Submitted", "Scheduled"):
+            if job["state"] in WAITS or job["state"] == "Scheduled":
                 job["state"] = "Finished"
                 self.free("job %d" % job["number"])
             elif job["state"] == "Running":
                 job["state"] = "Canceling"
+        if self.collector == self.jobs[number]["group"]:
+            self.collector = 0
         return self.jobs[number]["group"]
 
     def start(self, number):
@@ -204,11 +233,20 @@ class Lab:
             for n in sorted(self.leases)
         ]
         status = {
-            "boards": len(self.boards), "clock": self.clock, "count": self.count, "jobs": len(self.jobs),
-            "next": self.next, "reservations": len(self.leases), "types": len(self.types),
+            "boards": len(self.boards), "clock": self.clock, "collector": self.collector, "count": self.count,
+            "jobs": len(self.jobs), "next": self.next, "reservations": len(self.leases), "types": len(self.types),
         }
+        jobs = [("/jobs/%d" % number, self.job_shown(job)) for number, job in sorted(self.jobs.items())
+                if job["state"] != "Finished"]
         return [("/boards", {"boards": boards}), ("/queue", {"queue": queue}),
-                ("/reservations", {"reservations": leases}), ("/status", status)]
+                ("/reservations", {"reservations": leases}), ("/status", status)] + jobs
+
+    @staticmethod
+    def job_shown(job):
+        kind, tags = job["want"]
+        shown = {key: job[key] for key in ("board", "group", "number", "owner", "priority", "role", "state", "text")}
+        shown.update(kind="check" if job["checking"] else "ordinary", result="", tags=tags, type=kind)
+        return shown
 
 
 class List:
@@ -282,7 +320,8 @@ class List:
                 text.append("count = 1")
             if tags:
                 text.append("tags = [%s]" % ", ".join('"%s"' % tag for tag in tags))
-        self.ask("ann", "/jobs", None, {"number": lab.submit("ann", priority, wants)}, text)
+        answer = {"number": lab.submit("ann", priority, wants, "\n".join(text) + "\n")}
+        self.ask("ann", "/jobs", None, answer, text)
         return True
 
     def reserve(self):
@@ -322,7 +361,7 @@ class List:
         return True
 
     def cancel(self):
-        numbers = self.of_jobs(["Submitted", "Scheduled", "Running"])
+        numbers = self.of_jobs([*WAITS, "Scheduled", "Running"])
         if not numbers:
             return False
         number = self.chance.choice(numbers)

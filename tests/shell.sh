@@ -31,9 +31,10 @@ bbb-03|beaglebone-black|hdmi,outlet=3,power=pdu1,rack=1,serial,switch=sw1|3|0|0|
 ann|r1|9|1|0|0
 admin|15
 clock|1700000300
+collector|0
 count|16
 next|2
-schema|1
+schema|2
 END
 sqlite3 farm.db > found << 'END'
 pragma integrity_check;

@@ -17,7 +17,7 @@ import time
 
 FIRST_TYPE = b'POST /types HTTP/1.1\r\nx-user: admin\r\ncontent-length: 14\r\n\r\n{"name":"bbb"}'
 LOOK = b"GET /status HTTP/1.1\r\n\r\n"
-STATUS = '{"boards":0,"clock":%s,"count":%d,"jobs":0,"next":1,"reservations":0,"types":%d}'
+STATUS = '{"boards":0,"clock":%s,"collector":0,"count":%d,"jobs":0,"next":1,"reservations":0,"types":%d}'
 
 
 def answer(status, body):

@@ -116,13 +116,13 @@ does 0 ready init --db lab.db
 does 0 "$done" once --db lab.db --at 0
 does 0 "$done" once --at 1700000000 --db=lab.db
 printf 'GET /status HTTP/1.1\r\n\r\n' > input
-does 0 '{"boards":0,"clock":1700000000,"count":2,"jobs":0,"next":1,"reservations":0,"types":0}' once --db lab.db --at 0
+does 0 '{"boards":0,"clock":1700000000,"collector":0,"count":2,"jobs":0,"next":1,"reservations":0,"types":0}' once --db lab.db --at 0
 printf '[types.bbb]\n' > lab.toml
 does 0 'accepted 1, kept 0' import --db lab.db --at 1700000010 lab.toml
-does 0 '{"boards":0,"clock":1700000010,"count":3,"jobs":0,"next":1,"reservations":0,"types":1}' once --db lab.db --at 0
+does 0 '{"boards":0,"clock":1700000010,"collector":0,"count":3,"jobs":0,"next":1,"reservations":0,"types":1}' once --db lab.db --at 0
 printf '[types.ccc]\n[boards.b1]\ntype = "bbb"\n' > lab.toml
 does 0 'accepted 2, kept 0' import lab.toml --at 1700000020 --db lab.db
-does 0 '{"boards":1,"clock":1700000020,"count":5,"jobs":0,"next":1,"reservations":0,"types":2}' once --db lab.db --at 0
+does 0 '{"boards":1,"clock":1700000020,"collector":0,"count":5,"jobs":0,"next":1,"reservations":0,"types":2}' once --db lab.db --at 0
 
 # ---- report: a reservation whose deadline is 1700000080, at each offset
 

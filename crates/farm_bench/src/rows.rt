@@ -138,6 +138,7 @@ fn idle(alloc: Global, types: Vec<TypeRow>, boards: Vec<BoardRow>) -> Rows {
         kept: Vec::new(alloc),
         meta: MetaRow {
             clock: NOW,
+            collector: 0,
             count: 0,
             next: 1,
         },

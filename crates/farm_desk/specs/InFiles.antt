@@ -12,8 +12,9 @@ use Rattle.sqlite_trees.specs.View.{IsClean, doubt}
 use Rattle.sqlite_trees.specs.Objects.{catalog_tree}
 use Rattle.sqlite_trees.specs.declared.store.Store as store
 use Rattle.sqlite_wal.specs.Recovery.{Image}
-use Rattle.farm_store.specs.Columns.{Tables, rows_of}
+use Rattle.farm_store.specs.Columns.{IsOfSchema, Tables, rows_of}
 use Rattle.farm_store.specs.Holds.{Holds}
+use Rattle.farm_store.specs.declared.schema.TheConstants.{FIRST_SCHEMA}
 use Rattle.farm_store.specs.Schema.{no_schema}
 use Rattle.farm_types.specs.Farm.{Farm, empty}
 use Rattle.farm_types.specs.Sound.{IsSound}
@@ -78,11 +79,12 @@ IsOpenFault (DeskFault.Keep KeepFault.BadStore) = ⊤
 IsOpenFault (DeskFault.Keep KeepFault.OldSchema) = ⊤
 IsOpenFault fault = ⊥
 
--- the files are bad only where they hold no sound farm, and their schema is old only where they
--- hold no farm's tables
+-- the files are bad only where they hold no sound farm, and their schema is old only where their
+-- tables are of the first edition
 abbrev pub DeniesFarm : Image → DeskFault → Type 0
 DeniesFarm image (DeskFault.Keep KeepFault.BadStore) = (F : Farm) → IsSound F → ¬ HoldsFarm image F
-DeniesFarm image (DeskFault.Keep KeepFault.OldSchema) = (T : Tables) → ¬ HoldsTables image T
+DeniesFarm image (DeskFault.Keep KeepFault.OldSchema) = (T : Tables) → HoldsTables image T
+    → IsOfSchema FIRST_SCHEMA T
 DeniesFarm image other = ⊤
 
 -- so it is on a disk that always returns what was written
@@ -128,7 +130,8 @@ pub record MakesTables {S : Type 0} (g : store.Ghosts S) (conn : Held S) (k : Ke
 abbrev pub DeniesTables : {S : Type 0} → store.Ghosts S → Held S → DeskFault → Type 0
 DeniesTables g conn (DeskFault.Keep KeepFault.BadStore) = (F : Farm) → IsSound F
     → ¬ OpensTables g conn (rows_of F)
-DeniesTables g conn (DeskFault.Keep KeepFault.OldSchema) = (T : Tables) → ¬ OpensTables g conn T
+DeniesTables g conn (DeskFault.Keep KeepFault.OldSchema) = (T : Tables) → OpensTables g conn T
+    → IsOfSchema FIRST_SCHEMA T
 DeniesTables g conn other = ⊤
 
 -- ---- after a stop

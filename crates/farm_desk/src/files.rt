@@ -58,7 +58,7 @@ pub fn open_farm<S: Start>(
     ensures found { IfOk result (FindsFarm (image_at S.Start)) }
 
     // On a disk that always returns what was written, the files are told bad only where they hold
-    // no sound farm, and of an old schema only where they hold no farm's tables.
+    // no sound farm, and of an old schema only where their tables are of the first edition.
     ensures denied { GivesReason (image_at S.Start) result }
     ensures fault { IfErr result IsOpenFault }
 {

@@ -13,7 +13,8 @@ use Rattle.farm_types.specs.Sound.{IsSound}
 use Rattle.farm_types.specs.declared.calls.Call.{Call}
 use Rattle.farm_sound.proofs.Step.{IsSound-run}
 use Rattle.farm_core.specs.Shown.{Shown}
-use Rattle.farm_store.specs.Columns.{Tables, rows_of}
+use Rattle.farm_store.specs.Columns.{IsOfSchema, Tables, rows_of}
+use Rattle.farm_store.specs.declared.schema.TheConstants.{FIRST_SCHEMA}
 use Rattle.farm_store.specs.Holds.{Holds, Stands}
 use Rattle.farm_keep.specs.Headline.{Denies, LeavesRun}
 use Rattle.farm_keep.specs.Kept.{Kept, Keeps}
@@ -25,22 +26,26 @@ use Rattle.farm_keep.specs.declared.fault.KeepFault.{KeepFault}
 -- why a store gave no farm
 pub denies : (s : State) (fault : KeepFault) (result : Result Shown KeepFault) → result ≡ Err fault
     → (result ≡ Err KeepFault.BadStore → (F : Farm) → IsSound F → ¬ Stands s (rows_of F))
-    → (result ≡ Err KeepFault.OldSchema → (T : Tables) → ¬ Stands s T) → Denies s fault
+    → (result ≡ Err KeepFault.OldSchema → (T : Tables) → Stands s T → IsOfSchema FIRST_SCHEMA T) → Denies s fault
 denies s KeepFault.NoMemory result is bad ours = tt
 denies s KeepFault.Store result is bad ours = tt
 denies s KeepFault.BadStore result is bad ours = bad is
 denies s KeepFault.OldSchema result is bad ours = ours is
 denies s KeepFault.Closed result is bad ours = tt
 
+-- the tables of a farm are of the second edition
+pub not_first : (F : Farm) → IsOfSchema FIRST_SCHEMA (rows_of F) → ⊥
+not_first F first = absurd first
+
 -- a store that stands for a sound farm gives it
 pub gives_farm : (result : Result Shown KeepFault) (old : State) (F : Farm) → IsSound F → Stands old (rows_of F)
     → IfOk result (λ f. (G : Farm) → IsSound G → Stands old (rows_of G) → f.farm ≡ G)
     → (result ≡ Err KeepFault.BadStore → (G : Farm) → IsSound G → ¬ Stands old (rows_of G))
-    → (result ≡ Err KeepFault.OldSchema → (T : Tables) → ¬ Stands old T) → GivesFarm result F
+    → (result ≡ Err KeepFault.OldSchema → (T : Tables) → Stands old T → IsOfSchema FIRST_SCHEMA T) → GivesFarm result F
 gives_farm result old F sound at exact bad ours = record {
   exact = by result exact;
   good = λ is. bad is F sound at;
-  ours = λ is. ours is (rows_of F) at;
+  ours = λ is. not_first F (ours is (rows_of F) at);
 }
   where
     by : (r : Result Shown KeepFault) → IfOk r (λ f. (G : Farm) → IsSound G → Stands old (rows_of G) → f.farm ≡ G) → IfOk r (λ f. f.farm ≡ F)

@@ -11,9 +11,10 @@ use Rattle.farm_types.specs.Machine.{run}
 use Rattle.farm_types.specs.Sound.{IsSound}
 use Rattle.farm_types.specs.declared.calls.Call.{Call}
 use Rattle.farm_core.specs.Answers.{shown}
-use Rattle.farm_store.specs.Columns.{Tables, rows_of}
+use Rattle.farm_store.specs.Columns.{IsOfSchema, Tables, rows_of}
 use Rattle.farm_store.specs.Holds.{Holds, Stands, LeavesNoMore}
 use Rattle.farm_store.specs.Schema.{farm_schema}
+use Rattle.farm_store.specs.declared.schema.TheConstants.{FIRST_SCHEMA}
 use Rattle.farm_keep.specs.Kept.{Kept, Keeps, KeepsFarm, KeepsEither}
 use Rattle.farm_keep.specs.Runs.{answers_of, IsNextChange}
 use Rattle.farm_keep.specs.declared.keeper.run.RunEnd.{RunEnd}
@@ -47,10 +48,10 @@ abbrev pub IsAlwaysClean : {S : Type 0} → Ghosts S → Type 0
 IsAlwaysClean {S} g = (h : Held S) → HasCleanDisk (state g h)
 
 -- why a store gives no keeper: it is bad only where no sound farm stands there, and its schema old
--- only where no tables do
+-- only where the tables are of the first edition
 abbrev pub Denies : State → KeepFault → Type 0
 Denies s KeepFault.BadStore = (F : Farm) → IsSound F → ¬ Stands s (rows_of F)
-Denies s KeepFault.OldSchema = (T : Tables) → ¬ Stands s T
+Denies s KeepFault.OldSchema = (T : Tables) → Stands s T → IsOfSchema FIRST_SCHEMA T
 Denies s other = ⊤
 
 -- what a run over calls makes of a keeper

@@ -75,7 +75,8 @@ impl<S: Alter + Drop> Keeper<S> {
 
     /// A keeper of the farm whose tables the store holds. At a fault the connection is given up.
     /// Over a store that always returns what was written, as one in memory does, bad store is the
-    /// answer only where no sound farm stands there, and old schema only where no tables do; over
+    /// answer only where no sound farm stands there, and old schema only where tables of the first
+    /// edition do; over
     /// any store `found`, which is lent the connection, says so, and what the fault leaves.
     pub fn adopt(alloc: Global, mut conn: Connection<S>) -> Result<Keeper<S>, KeepFault>
         requires { conn.in_transaction ≡ false }

@@ -1,13 +1,14 @@
 //! The farm that a store's tables hold.
-ghost use Rattle.std.specs.Prelude.{◌≡◌, ◌≢◌, ◌≤◌, false, Err, IfOk, OnOk};
+ghost use Rattle.std.specs.Prelude.{◌≡◌, ◌≢◌, ◌≤◌, ◌⊎◌, false, Err, IfOk, OnOk};
 ghost use Rattle.sqlite.specs.State.{HasCleanDisk};
 ghost use Rattle.sqlite.specs.Held.{state};
 ghost use Rattle.sqlite_trees.specs.View.{doubt};
 ghost use Rattle.farm_types.specs.Farm.{Farm as Plain};
 ghost use Rattle.farm_types.specs.Sound.{IsSound};
-ghost use Rattle.farm_store.specs.Columns.{Tables, rows_of};
+ghost use Rattle.farm_store.specs.Columns.{IsOfSchema, Tables, rows_of};
 ghost use Rattle.farm_store.specs.Holds.{Stands, LeavesNoMore};
 ghost use Rattle.farm_store.specs.Schema.{farm_schema};
+ghost use Rattle.farm_store.specs.declared.schema.TheConstants.{FIRST_SCHEMA};
 
 use crate::fault::KeepFault;
 use farm_core::farm::Farm;
@@ -47,7 +48,12 @@ pub fn found<S: Alter>(alloc: Global, conn: &mut Connection<S>) -> Result<Farm, 
     ensures bad { HasCleanDisk (state S.Store conn.new) → result ≡ Err KeepFault.BadStore
         → (F : Plain) → IsSound F → ¬ Stands (state S.Store conn.old) (rows_of F) }
     ensures old { HasCleanDisk (state S.Store conn.new) → result ≡ Err KeepFault.OldSchema
-        → (T : Tables) → ¬ Stands (state S.Store conn.old) T }
+        → (T : Tables) → Stands (state S.Store conn.old) T → IsOfSchema FIRST_SCHEMA T }
+
+    // Tables of the first edition are told as such, whatever else stands there.
+    ensures known { HasCleanDisk (state S.Store conn.new) → (T : Tables)
+        → Stands (state S.Store conn.old) T → IsOfSchema FIRST_SCHEMA T
+        → (result ≡ Err KeepFault.OldSchema) ⊎ (result ≡ Err KeepFault.Store) }
     ensures fault { result ≢ Err KeepFault.Closed }
 {
     let rows = match load(alloc, conn) {

@@ -30,6 +30,7 @@ fn numbers(alloc: Global) -> Changes
 {
     let meta = MetaRow {
         clock: 10,
+        collector: 0,
         count: 1,
         next: 2,
     };

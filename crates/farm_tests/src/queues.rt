@@ -23,11 +23,11 @@ const GROUPS: &[(u64, u64, JobState)] = &[
     (4, 4, JobState::Submitted),
 ];
 
-/// A group of which one member waits no more isn't in the queue.
+/// A group of which one member waits no more isn't in the queue; one that collects is.
 const HALVES: &[(u64, u64, JobState)] = &[
     (1, 1, JobState::Submitted),
     (2, 1, JobState::Scheduled),
-    (3, 3, JobState::Submitted),
+    (3, 3, JobState::Scheduling),
     (4, 3, JobState::Submitted),
     (5, 5, JobState::Running),
 ];

@@ -82,6 +82,7 @@ pub(crate) fn job(
 pub(crate) fn no_rows(alloc: Global, next: u64) -> Rows {
     let meta = MetaRow {
         clock: 20,
+        collector: 0,
         count: 0,
         next,
     };

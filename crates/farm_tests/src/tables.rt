@@ -114,6 +114,7 @@ fn one_of_each(alloc: Global) -> Result<Changes, Fail>
     let kept = kept(alloc)?;
     let meta = MetaRow {
         clock: 1_700_000_000,
+        collector: 0,
         count: 20,
         next: 11,
     };

@@ -75,6 +75,7 @@ status_data status =
     fields (
     (codes "boards", count status.boards)
     ∷ (codes "clock", count status.clock)
+    ∷ (codes "collector", count status.collector)
     ∷ (codes "count", count status.count)
     ∷ (codes "jobs", count status.jobs)
     ∷ (codes "next", count status.next)

@@ -62,8 +62,9 @@ fn status_value(alloc: Global, status: Status) -> Result<Value, AllocError>
     ensures { IfOk result (λ v. view v ≡ status_data status) }
 {
     json!(in alloc; {
-        "boards": status.boards, "clock": status.clock, "count": status.count, "jobs": status.jobs,
-        "next": status.next, "reservations": status.reservations, "types": status.types
+        "boards": status.boards, "clock": status.clock, "collector": status.collector,
+        "count": status.count, "jobs": status.jobs, "next": status.next,
+        "reservations": status.reservations, "types": status.types
     })
 }
 

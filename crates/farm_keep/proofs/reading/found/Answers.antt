@@ -1,4 +1,4 @@
-use Rattle.std.proofs.Common.{◌≡◌, Result, Err, refl, sym, ap, ◌∙◌, subst}
+use Rattle.std.proofs.Common.{◌≡◌, ◌⊎◌, Result, Err, inl, inr, refl, sym, ap, ◌∙◌, subst}
 use Rattle.std.proofs.lemmas.Result.{err_from_is_err_and}
 use Rattle.farm_types.specs.Sound.{IsSound}
 use Rattle.farm_store.specs.Columns.{rows_of}
@@ -71,3 +71,12 @@ returns-in_err-farm-clause-fault g c = λ is.
     let p = err_from_is_err_and c.from_residual.result c.from_residual.ensures.1 in
     let closed : p.0 ≡ KeepFault.Closed = same_fault c.from_residual.result p.0 KeepFault.Closed p.1 is in
     never_closed c.in_err-farm.field-0.0 (sym p.2 ∙ closed)
+
+same_error : {T : Type 0} (r : Result T StoreFault) (a b : StoreFault) → r ≡ Err a → r ≡ Err b → a ≡ b
+same_error r a b p q = cc
+
+-- a fault of reading, as the keeper tells it
+told : {T : Type 0} (r : Result T StoreFault) (e : StoreFault) → r ≡ Err e → (r ≡ Err StoreFault.OldSchema) ⊎ (r ≡ Err StoreFault.Store)
+    → (store_fault e ≡ KeepFault.OldSchema) ⊎ (store_fault e ≡ KeepFault.Store)
+told r e is (inl old) = inl (ap store_fault (same_error r e StoreFault.OldSchema is old))
+told r e is (inr store) = inr (ap store_fault (same_error r e StoreFault.Store is store))
