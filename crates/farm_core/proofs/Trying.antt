@@ -333,6 +333,17 @@ module _ (F : Farm) (former : ℕ) (G : Farm) (queues : Lists) (count : ℕ) (pl
 
 -- ---- a turn of the program
 
+-- the claim that comes next, in the draft
+pub next_here : (V D : Drafted) → V ≡ D → (place : Option (ℕ × ℕ)) (o : Option (Bor Claim)) (claim : Bor Claim) → o ≡ Some claim
+    → NextIs V.farm place (option_copied o) → NextIs D.farm place (Some claim.now)
+next_here V D view place o claim is next =
+    subst (λ o. NextIs D.farm place (option_copied o)) is (subst (λ (E : Drafted). NextIs E.farm place (option_copied o)) view next)
+
+pub none_here : (V D : Drafted) → V ≡ D → (place : Option (ℕ × ℕ)) (o : Option (Bor Claim)) → o ≡ None
+    → NextIs V.farm place (option_copied o) → NextIs D.farm place None
+none_here V D view place o is next =
+    subst (λ o. NextIs D.farm place (option_copied o)) is (subst (λ (E : Drafted). NextIs E.farm place (option_copied o)) view next)
+
 abbrev pub place_after : Claim → Option (ℕ × ℕ)
 place_after claim = Some (claim.priority, claim.number)
 
