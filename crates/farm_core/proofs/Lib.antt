@@ -22,5 +22,6 @@ pub mod Leasing
 pub mod Skipping
 pub mod Next
 pub mod Trying
+pub mod OneTried
 pub mod Commanded
 pub mod Filled

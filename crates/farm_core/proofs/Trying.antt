@@ -227,7 +227,7 @@ module _ (F : Farm) (former : ℕ) (G : Farm) (queues : Lists) (count : ℕ) (pl
     after = sym (later_is it next.1) ∙ ap (is_later (last_spot place)) next.2 ∙ next.3
 
     -- those between are passed over
-    test : Claimed → Bool
+    abbrev pub test : Claimed → Bool
     test e = not (comes_after trying.last e && is_lt (claim_cmp e it))
 
     skip : Skips former F.clock (come_to G count) test
@@ -271,7 +271,7 @@ module _ (F : Farm) (former : ℕ) (G : Farm) (queues : Lists) (count : ℕ) (pl
             at false none = refl
 
     -- the claim was passed over, or tried
-    pub Went : Served → Type 0
+    abbrev pub Went : Served → Type 0
     Went u = Goes former F.clock (come_to G count) u trying.last it
 
     pub went_on : is_group former it ≡ true → Went (come_to G count)

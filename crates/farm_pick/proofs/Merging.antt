@@ -363,7 +363,7 @@ lent_none former F last next = narrow (queue F) next
 -- ---- the first part of a pass
 
 -- a group has one claim at most
-one_group : (g : ℕ) (cs : List Claimed) → EachTwo (λ a b. a.number ≡ b.number → ⊥) cs
+pub one_group : (g : ℕ) (cs : List Claimed) → EachTwo (λ a b. a.number ≡ b.number → ⊥) cs
     → filter (is_group g) cs ≡ option_map_or (λ c. c ∷ []) (find (is_group g) cs) []
 one_group g [] apart = refl
 one_group g (d ∷ cs) apart = by (is_group g d) refl (one_group g cs apart.1)
