@@ -1,7 +1,7 @@
 //! The farms that take their rows, pass and list their queues.
 use crate::boards::{MOST, RARE};
 use crate::measures::{Deed, measure};
-use crate::rows::{IDLE, LEASE, NOW, Shape};
+use crate::rows::{Front, IDLE, LEASE, NOW, Shape};
 use crate::watch::Watch;
 
 const PASS: Deed = Deed::Pass(NOW);
@@ -24,6 +24,25 @@ fn run_claims(watch: &Watch<'_>, heading: &str, shape: &Shape) -> anyhow::Result
         ..*shape
     };
     measure(watch, "no board is free", &none, PASS)
+}
+
+/// Passes over single jobs behind a group of four of which one board is in maintenance, and behind
+/// four jobs in its place.
+fn run_collector(watch: &Watch<'_>, claims: u64) -> anyhow::Result<()> {
+    let heading = format!(in watch.alloc(); "{claims} jobs behind four")?;
+    watch.begin(heading.as_str())?;
+    let group = Shape {
+        away: 1,
+        groups: claims,
+        front: Front::Group,
+        ..IDLE
+    };
+    measure(watch, "a group of four collects", &group, PASS)?;
+    let jobs = Shape {
+        front: Front::Jobs,
+        ..group
+    };
+    measure(watch, "four jobs in its place", &jobs, PASS)
 }
 
 /// Passes over so many single jobs, groups of four, and reservations.
@@ -89,11 +108,13 @@ pub fn run(watch: &Watch<'_>) -> anyhow::Result<()> {
     if watch.timed {
         run_passes(watch, 1_000, 1_000)?;
         run_passes(watch, 100_000, 25_000)?;
+        run_collector(watch, 1_000)?;
         run_rows(watch, 1_000)?;
         run_rows(watch, 100_000)?;
         run_queue(watch, 97_000, 1_000)
     } else {
         run_passes(watch, 20, 20)?;
+        run_collector(watch, 20)?;
         run_rows(watch, 40)?;
         run_queue(watch, 40, 10)
     }

@@ -14,6 +14,17 @@ pub const NOW: u64 = 1_700_000_000;
 /// For how long a reservation lives without a refresh, in seconds.
 pub const LEASE: u64 = 60;
 
+/// The four jobs in front of all others, if there are any: they want the boards with the rare tag,
+/// one of each type.
+#[derive(Clone, Copy, PartialEq, Eq)]
+pub enum Front {
+    Nobody,
+    /// They are one group.
+    Group,
+    /// Each is a group of its own.
+    Jobs,
+}
+
 /// What stands in a farm beside its 256 boards.
 #[derive(Clone, Copy)]
 pub struct Shape {
@@ -31,6 +42,8 @@ pub struct Shape {
     pub waiting: u64,
     /// Whether those that wait ask for the tag that four boards have.
     pub rare: bool,
+    /// Who waits in front of them.
+    pub front: Front,
 }
 
 /// The boards alone.
@@ -42,6 +55,7 @@ pub const IDLE: Shape = Shape {
     canceled: 0,
     waiting: 0,
     rare: false,
+    front: Front::Nobody,
 };
 
 /// The next free number, which is taken.
@@ -116,6 +130,20 @@ fn add_group(alloc: Global, rows: &mut Rows, shape: &Shape) -> anyhow::Result<()
     Ok(())
 }
 
+/// Four jobs of the highest priority, for the boards with the rare tag.
+fn add_front(alloc: Global, rows: &mut Rows, together: bool) -> anyhow::Result<()> {
+    let first = rows.meta.next;
+    for _ in 0..boards::RARE {
+        let number = take_number(rows);
+        let group = if together { first } else { number };
+        let mut row = job(alloc, number, group, true)?;
+        row.priority = Priority::of(100).map_err(WordFault::Refused)?;
+        row.want.kind = Some(boards::name(alloc, boards::kind_at(number))?);
+        rows.jobs.push(row)?;
+    }
+    Ok(())
+}
+
 fn add_reservation(
     alloc: Global,
     rows: &mut Rows,
@@ -154,6 +182,9 @@ pub fn rows(alloc: Global, shape: &Shape) -> anyhow::Result<Rows> {
     }
     for _ in 0..shape.canceled {
         add_reservation(alloc, &mut rows, ResState::Canceled, false)?;
+    }
+    if shape.front != Front::Nobody {
+        add_front(alloc, &mut rows, shape.front == Front::Group)?;
     }
     for _ in 0..shape.groups {
         add_group(alloc, &mut rows, shape)?;
