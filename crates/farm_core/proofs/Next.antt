@@ -201,8 +201,12 @@ module _ (F : Farm) (sound : IsSound F) (place : Option (ℕ × ℕ)) where
       by (Some c) is =
           let it = shown_some (find test (queue F)) c is in
           record {
-            stands = (it.0, found_among test it.0 (queue F) it.1, it.2,
-                ap (is_later (last_spot place)) (sym it.2) ∙ (both (is_behind it.0) (nat_le 2 (length it.0.wants)) (found_passes test it.0 (queue F) it.1)).0);
+            stands = (
+              it.0,
+              found_among test it.0 (queue F) it.1,
+              it.2,
+              ap (is_later (last_spot place)) (sym it.2) ∙ (both (is_behind it.0) (nat_le 2 (length it.0.wants)) (found_passes test it.0 (queue F) it.1)).0,
+            );
             before = λ e at behind two less. fails e behind two
                 (found_first test it.0 (queue F) (queue_sorted F) it.1 e at (ap (λ k. is_lt (shown_cmp (shown_claim e) k)) it.2 ∙ less));
           }
@@ -272,10 +276,22 @@ module _ (F : Farm) (sound : IsSound F) (place : Option (ℕ × ℕ)) where
             compared v is = (λ i. is_lt (shown_cmp (two.2 i) (one.2 i))) ∙ is
 
             choose : (v : Bool) → is_lt (shown_cmp b a) ≡ v → NextIs F place (cond v (Some b) (Some a))
-            choose true is = (two.0, two.1, two.2, two.3, λ e at behind less.
-                idle e at behind (shown e two.0 one.0 ((before_both one.0 two.0 one.1 two.1 e).0 (compared true is)) b a two.2 one.2 less) less)
-            choose false is = (one.0, one.1, one.2, one.3, λ e at behind less.
-                idle e at behind less (shown e one.0 two.0 ((before_both one.0 two.0 one.1 two.1 e).1 (compared false is)) a b one.2 two.2 less))
+            choose true is = (
+              two.0,
+              two.1,
+              two.2,
+              two.3,
+              λ e at behind less.
+                  idle e at behind (shown e two.0 one.0 ((before_both one.0 two.0 one.1 two.1 e).0 (compared true is)) b a two.2 one.2 less) less,
+            )
+            choose false is = (
+              one.0,
+              one.1,
+              one.2,
+              one.3,
+              λ e at behind less.
+                  idle e at behind less (shown e one.0 two.0 ((before_both one.0 two.0 one.1 two.1 e).1 (compared false is)) a b one.2 two.2 less),
+            )
 
 -- ---- claims that are passed over
 

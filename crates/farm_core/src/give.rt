@@ -63,12 +63,7 @@ impl Draft {
     }
 
     /// A job is in that state and holds the board of that name.
-    pub fn give_job(
-        self,
-        state: JobState,
-        number: u64,
-        name: &Name,
-    ) -> Result<Draft, AllocError>
+    pub fn give_job(self, state: JobState, number: u64, name: &Name) -> Result<Draft, AllocError>
         requires { IsSmall number }
         ensures { IfOk result
             (λ d. d ≡ at_farm (give_named state self.farm (number, name.now)) self) }

@@ -6,8 +6,8 @@
 
 mod boards;
 mod change;
-mod collect;
 mod checks;
+mod collect;
 mod draft;
 mod edit;
 mod expire;

@@ -46,9 +46,10 @@ pub fn numbers_in(alloc: Global, rows: &[JobRow], group: u64) -> Result<Vec<u64>
 fn all_wait(rows: &[JobRow], group: u64) -> bool
     ensures { result ≡ list_all waits (filter (λ j. j.group == group) rows.now) }
 {
-    rows.iter()
-        .filter(|row| row.group == group)
-        .all(|row| matches!(row.state, JobState::Submitted | JobState::Scheduling))
+    rows.iter().filter(|row| row.group == group).all(|row| matches!(
+        row.state,
+        JobState::Submitted | JobState::Scheduling
+    ))
 }
 
 /// How many members a group has among some rows.
@@ -261,11 +262,7 @@ impl Draft {
 
     /// Tries the group that collected before, if it is still a claim: it goes first. Gives how many
     /// were served, one or none.
-    fn serve_former(
-        self,
-        unmet: &mut Unmet,
-        former: u64,
-    ) -> Result<(Draft, u64), AllocError>
+    fn serve_former(self, unmet: &mut Unmet, former: u64) -> Result<(Draft, u64), AllocError>
         requires sound { IsSound self.farm }
         requires small { IsSmall former }
         requires fits { self.queues ≡ lists_of self.farm }

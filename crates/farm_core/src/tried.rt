@@ -237,8 +237,8 @@ impl Tables {
         last: Option<(Priority, u64)>,
     ) -> Option<&'a Claim>
         ensures { option_copied result ≡ (if self.now.collector == 0
-        then earlier (option_copied claim.entry) (lent_several self.now.queues last)
-        else option_copied claim.entry) }
+            then earlier (option_copied claim.entry) (lent_several self.now.queues last)
+            else option_copied claim.entry) }
     {
         if self.collector == 0 {
             earlier(claim, self.queues.next_several(last))

@@ -35,10 +35,10 @@ loop-draft-smaller-then-served c =
 pub loop-draft-preserved-then-served : goal.loop-draft-preserved-then-served
 loop-draft-preserved-then-served c = record {
   trying = tried_on c.args.self.farm c.args.former c.loop-draft.draft c.loop-draft.count c.loop-draft.last c.loop-draft.invariant.trying c.in-Some.claim.now
-    (next_here _ c.loop-draft.draft c.draft.view_is c.loop-draft.last c.in_ok-claim.field-0 c.in-Some.claim c.in-Some.is c.in_ok-claim.ensures)
+      (next_here _ c.loop-draft.draft c.draft.view_is c.loop-draft.last c.in_ok-claim.field-0 c.in-Some.claim c.in-Some.is c.in_ok-claim.ensures)
       (λ d kind number. c.is_of_group.ensures d kind number ∙ c.if-not-is_of_group.true) c.in_ok-next.next c.in_ok-next.served c.in_ok-next.ensures.serves true c.if-served.true;
   start = tried_start c.args.self.farm c.args.former c.loop-draft.draft c.loop-draft.count c.loop-draft.last c.loop-draft.invariant.trying c.in-Some.claim.now
-    (next_here _ c.loop-draft.draft c.draft.view_is c.loop-draft.last c.in_ok-claim.field-0 c.in-Some.claim c.in-Some.is c.in_ok-claim.ensures)
+      (next_here _ c.loop-draft.draft c.draft.view_is c.loop-draft.last c.in_ok-claim.field-0 c.in-Some.claim c.in-Some.is c.in_ok-claim.ensures)
       (λ d kind number. c.is_of_group.ensures d kind number ∙ c.if-not-is_of_group.true) c.in_ok-next.next c.in_ok-next.served c.in_ok-next.ensures.serves ∙ c.loop-draft.invariant.start;
   unmet = c.in_ok-next.ensures.known;
 }
@@ -53,10 +53,10 @@ loop-draft-smaller-else-served c =
 pub loop-draft-preserved-else-served : goal.loop-draft-preserved-else-served
 loop-draft-preserved-else-served c = record {
   trying = tried_on c.args.self.farm c.args.former c.loop-draft.draft c.loop-draft.count c.loop-draft.last c.loop-draft.invariant.trying c.in-Some.claim.now
-    (next_here _ c.loop-draft.draft c.draft.view_is c.loop-draft.last c.in_ok-claim.field-0 c.in-Some.claim c.in-Some.is c.in_ok-claim.ensures)
+      (next_here _ c.loop-draft.draft c.draft.view_is c.loop-draft.last c.in_ok-claim.field-0 c.in-Some.claim c.in-Some.is c.in_ok-claim.ensures)
       (λ d kind number. c.is_of_group.ensures d kind number ∙ c.if-not-is_of_group.true) c.in_ok-next.next c.in_ok-next.served c.in_ok-next.ensures.serves false c.if-served.false;
   start = tried_start c.args.self.farm c.args.former c.loop-draft.draft c.loop-draft.count c.loop-draft.last c.loop-draft.invariant.trying c.in-Some.claim.now
-    (next_here _ c.loop-draft.draft c.draft.view_is c.loop-draft.last c.in_ok-claim.field-0 c.in-Some.claim c.in-Some.is c.in_ok-claim.ensures)
+      (next_here _ c.loop-draft.draft c.draft.view_is c.loop-draft.last c.in_ok-claim.field-0 c.in-Some.claim c.in-Some.is c.in_ok-claim.ensures)
       (λ d kind number. c.is_of_group.ensures d kind number ∙ c.if-not-is_of_group.true) c.in_ok-next.next c.in_ok-next.served c.in_ok-next.ensures.serves ∙ c.loop-draft.invariant.start;
   unmet = c.in_ok-next.ensures.known;
 }
@@ -71,7 +71,7 @@ loop-draft-smaller c =
 pub loop-draft-preserved : goal.loop-draft-preserved
 loop-draft-preserved c = record {
   trying = passed_on c.args.self.farm c.args.former c.loop-draft.draft c.loop-draft.count c.loop-draft.last c.loop-draft.invariant.trying c.in-Some.claim.now
-    (next_here _ c.loop-draft.draft c.draft.view_is c.loop-draft.last c.in_ok-claim.field-0 c.in-Some.claim c.in-Some.is c.in_ok-claim.ensures)
+      (next_here _ c.loop-draft.draft c.draft.view_is c.loop-draft.last c.in_ok-claim.field-0 c.in-Some.claim c.in-Some.is c.in_ok-claim.ensures)
       (λ d kind number. c.is_of_group.ensures d kind number ∙ c.if-not-is_of_group.false);
   start = c.loop-draft.invariant.start;
   unmet = c.loop-draft.invariant.unmet;
