@@ -21,5 +21,5 @@ mod values;
 
 pub use fault::StoreFault;
 pub use queries::load;
-pub use schema::create;
+pub use schema::{FIRST_SCHEMA, SCHEMA, create};
 pub use upserts::put;

@@ -18,11 +18,11 @@ use farm_types::rows::MetaRow;
 use sqlite::{Alter, Connection, Error, Transaction};
 
 /// The version of the tables, which one of their numbers tells.
-pub(crate) const SCHEMA: u64 = 2;
+pub const SCHEMA: u64 = 2;
 
 /// The version of the first edition's tables: no job in them is Scheduling, the later states have
 /// codes less by one, and no number tells which group collects.
-pub(crate) const FIRST_SCHEMA: u64 = 1;
+pub const FIRST_SCHEMA: u64 = 1;
 
 fn make<S: Alter>(tx: &mut Transaction<'_, S>, sql: &str) -> Result<(), Error>
     ensures goes_on { GoesOn S.Store tx.old tx.new }
