@@ -360,9 +360,6 @@ module _ (F : Farm) (former : ℕ) (D : Drafted) (count : ℕ) (place : Option (
   next_small = subst IsSmall own_number
       (small_claim D.farm next.0 trying.on.sound (among_has (IsClaim D.farm) next.0 (queue D.farm) (queue_claims D.farm trying.on.sound.steady) next.1))
 
-  pub next_waits : (c : Claimed) × Among c (queue D.farm) × ((shown_claim c).kind ≡ claim.kind) × (c.number ≡ claim.number) × (length c.wants ≡ claim.boards)
-  next_waits = (next.0, next.1, own_kind, own_number, ap (λ (k : Claim). k.boards) next.2)
-
   -- the group that went first is passed over
   module _ (own : (c : Claimed) → (shown_claim c).kind ≡ claim.kind → c.number ≡ claim.number → is_group former c ≡ true) where
     own_went : Goes former F.clock (come_to D.farm count) (come_to D.farm count) trying.last next.0
