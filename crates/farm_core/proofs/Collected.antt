@@ -1,7 +1,7 @@
 -- A group collects, member by member, and gives back what it collected.
-use Rattle.std.proofs.Common.{◌≡◌, ◌∙◌, ◌==◌, ◌&&◌, ◌+◌, ◌-◌, ◌<◌, ◌≤◌, ℕ, zero, suc, List, [], ◌∷◌, length, drop, get_or, map, filter, Bool, true, false, cond, not, Option, Some, None, IsSomeAnd, slice_get, refl, sym, ap, subst, arith, add-one}
+use Rattle.std.proofs.Common.{◌≡◌, ◌∙◌, ◌==◌, ◌&&◌, ◌+◌, ◌<◌, ◌≤◌, ℕ, zero, suc, List, [], ◌∷◌, length, drop, get_or, map, filter, Bool, true, false, cond, not, Option, Some, None, IsSomeAnd, slice_get, refl, sym, ap, subst, arith, add-one}
 use Rattle.std.proofs.lemmas.List.{length-map}
-use Rattle.std.specs.List.{AllByRecursion, find, fold}
+use Rattle.std.specs.List.{AllByRecursion, fold}
 use Rattle.std.specs.Option.{option_map, option_map_or}
 use Rattle.std.specs.Str.{bytes_eq}
 use Rattle.std.proofs.Math.Bool.{and-false}
@@ -23,7 +23,7 @@ use Rattle.farm_sound.proofs.Collecting.{none_scheduling}
 use Rattle.farm_sound.proofs.Lists.{filter_all}
 use Rattle.farm_sound.proofs.Own.{own_job}
 use Rattle.farm_sound.proofs.Where.{by_cases, find_map}
-use Rattle.farm_pick.specs.Queued.{IdleBoard, Lists, idle_board, idle_boards}
+use Rattle.farm_pick.specs.Queued.{IdleBoard, idle_board, idle_boards}
 use Rattle.farm_core.specs.Collecting.{Collects, HasWant}
 use Rattle.farm_core.specs.Drafted.{Drafted}
 use Rattle.farm_core.specs.Serving.{give_named}
@@ -115,13 +115,6 @@ picks_one F w v same names n picked at =
     by (Some b) is = let one : names ≡ b.name ∷ [] = cc in ap (λ ns. slice_get ns 0) one
 
 module _ (F : Farm) (number : ℕ) (j : JobRow) (has : HasWant F number j) where
-  pub takes_none : None ≡ option_map (λ (b : BoardRow). b.name) (first_free F j.want) → F ≡ collect_member F j
-  takes_none none = by (first_free F j.want) none
-    where
-      by : (o : Option BoardRow) → None ≡ option_map (λ (b : BoardRow). b.name) o → F ≡ option_map_or (λ b. give_member S F (j, b)) o F
-      by None is = refl
-      by (Some b) is = cc
-
   pub takes_one : (name : List ℕ) → Some name ≡ option_map (λ (b : BoardRow). b.name) (first_free F j.want) → give_named S F (number, name) ≡ collect_member F j
   takes_one name some = by (first_free F j.want) some
     where
@@ -168,9 +161,6 @@ takes_begin D group sound free = record {
 module _ (D E : Drafted) (group at : ℕ) (takes : Takes D E group at) (numbers : List ℕ) (are : numbers ≡ numbers_of (members D.farm group)) where
   long : length numbers ≡ length (members D.farm group)
   long = ap length are ∙ length-map (members D.farm group) (λ (m : JobRow). m.number)
-
-  pub takes_free : E.queues.boards ≡ idle_boards E.farm
-  takes_free = ap (λ (q : Lists). q.boards) takes.queues
 
   pub takes_on : at < length numbers → (G : Drafted) → ((j : JobRow) → HasWant E.farm (get_or numbers at 0) j → Collects E j G) → Takes D G group (at + 1)
   takes_on low G collects =

@@ -1,6 +1,6 @@
 -- The next claim that is tried: of the open queues and, while nobody collects, of those of two boards or more.
-use Rattle.std.proofs.Common.{◌≡◌, ◌∙◌, ◌==◌, ◌||◌, ◌&&◌, ◌++◌, ◌≤◌, ℕ, zero, suc, List, [], ◌∷◌, map, filter, length, nat_le, Bool, true, false, cond, Option, Some, None, inl, inr, refl, sym, ap, subst, arith}
-use mathlib.Core.Bool.{true≢false, false≢true}
+use Rattle.std.proofs.Common.{◌≡◌, ◌∙◌, ◌==◌, ◌||◌, ◌&&◌, ◌++◌, ◌≤◌, ℕ, List, [], ◌∷◌, map, filter, length, nat_le, Bool, true, false, cond, Option, Some, None, inl, inr, refl, sym, ap, subst, arith}
+use mathlib.Core.Bool.{true≢false}
 use Rattle.std.specs.Prelude.{if◌then◌else◌}
 use Rattle.std.specs.List.{AllByRecursion, find}
 use Rattle.std.specs.List.Sorted.{IsStrictlySortedBy}

@@ -1,5 +1,5 @@
 -- A claim is tried: it is served, or it isn't met and passed over.
-use Rattle.std.proofs.Common.{◌≡◌, ◌∙◌, ℕ, length, Bool, true, false, None, refl, sym, ap, subst}
+use Rattle.std.proofs.Common.{◌≡◌, ◌∙◌, ℕ, length, Bool, true, false, None, sym, ap, subst}
 use Rattle.farm_types.specs.Pick.{Among, Claimed, is_free, least, queue, shown_claim}
 use Rattle.farm_types.specs.Sound.{IsSound}
 use Rattle.farm_types.specs.declared.claims.ClaimKind.{ClaimKind}

@@ -146,11 +146,6 @@ module _ (F : Farm) (c : Claimed) (n : ℕ) (wants : List Want) (asks : c.wants 
       by None is = cc
       by (Some bs) is = let same : names ≡ names_of bs = cc in ap (λ (H : Farm). record { farm = H; claims = n + 1 }) (gives bs same)
 
--- no names, no list
-pub unnamed : (o : Option (List BoardRow)) → None ≡ option_map names_of o → o ≡ None
-unnamed None is = refl
-unnamed (Some bs) is = cc
-
 -- a group
 pub group_served : (F G : Farm) (group : ℕ) (c : Claimed) (n : ℕ) (names : List (List ℕ)) (numbers : List ℕ) → c.reservation ≡ false → c.number ≡ group → Asks false F c
     → Some names ≡ option_map names_of (least F.boards (is_free F.types) (wants_of (members F group))) → numbers ≡ numbers_of (members F group)
@@ -205,19 +200,3 @@ shown_group false is = refl
 
 pub met : {D E : Drafted} {c : Claimed} → Serves D c true E → Tries D c true E
 met serves = record { met = λ _. serves; unmet = λ is. cc }
-
-pub not_met : {D : Drafted} {c : Claimed} → least D.farm.boards (is_free D.farm.types) c.wants ≡ None → Tries D c false D
-not_met none = record { met = λ is. cc; unmet = λ _. (refl, none) }
-
--- a group and a reservation that no list meets
-pub group_not_met : (D : Drafted) (group : ℕ) (c : Claimed) → c.number ≡ group → Asks false D.farm c
-    → None ≡ option_map names_of (least D.farm.boards (is_free D.farm.types) (wants_of (members D.farm group))) → Tries D c false D
-group_not_met D group c same asks none =
-    not_met (ap (least D.farm.boards (is_free D.farm.types)) (asks ∙ ap (λ g. wants_of (members D.farm g)) same)
-    ∙ unnamed (least D.farm.boards (is_free D.farm.types) (wants_of (members D.farm group))) none)
-
-pub res_not_met : (D : Drafted) (number : ℕ) (c : Claimed) → c.number ≡ number → Asks true D.farm c → Picks D.farm number None → Tries D c false D
-res_not_met D number c same asks none =
-    let it = asked D.farm c asks in
-    not_met (ap (least D.farm.boards (is_free D.farm.types)) it.2
-    ∙ unnamed (least D.farm.boards (is_free D.farm.types) (it.0.want ∷ [])) (none it.0 (ap (res_of D.farm) (sym same) ∙ it.1)))

@@ -8,7 +8,6 @@ use Rattle.std.proofs.lemmas.Slice.Eq.{bytes_eq-Decides}
 use Rattle.farm_types.specs.Farm.{Farm, res_of}
 use Rattle.farm_types.specs.Pass.{Served, give, pass_over, serve}
 use Rattle.farm_types.specs.Pick.{Among, Claimed, is_free, least, queue, shown_claim}
-use Rattle.farm_types.specs.Small.{IsSmall}
 use Rattle.farm_types.specs.Sound.{EachTwo, IsSound}
 use Rattle.farm_types.specs.declared.claims.ClaimKind.{ClaimKind}
 use Rattle.farm_types.specs.declared.rows.BoardRow.{BoardRow}
@@ -26,7 +25,7 @@ use Rattle.farm_pick.proofs.Merging.{unmet_stays}
 use Rattle.farm_core.specs.Drafted.{Drafted}
 use Rattle.farm_core.specs.declared.unmet.Known.{Known}
 use Rattle.farm_core.specs.Serving.{AreUnmet, Asks, IfUnmet, IsLike, IsUnmet, Serves, counted, member_wants, want_at, want_in, wants_of}
-use Rattle.farm_core.proofs.Passing.{asks_claim, small_claim}
+use Rattle.farm_core.proofs.Passing.{asks_claim}
 
 -- ---- equal lists
 
@@ -104,9 +103,6 @@ module _ (F : Farm) (kind : ClaimKind) (number : ℕ) (sound : IsSound F) (u : I
   wants_unmet =
       let wants : u.claimed.wants ≡ wants_of F kind number = wants_asked F u.claimed (asks_claim F u.claimed is_claim) ∙ (λ i. wants_of F (u.of_kind i) (u.numbered i)) in
       ap (least F.boards (is_free F.types)) (sym wants) ∙ u.unmet
-
-  pub unmet_small : IsSmall number
-  unmet_small = subst IsSmall u.numbered (small_claim F u.claimed sound is_claim)
 
 -- each that is remembered
 pub unmet_at : (F : Farm) (places : List (Option Known)) (i : ℕ) (d x : Option Known) → AreUnmet F places → i < length places → get_or places i d ≡ x

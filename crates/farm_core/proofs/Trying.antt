@@ -1,5 +1,5 @@
 -- The claims that may change the farm are tried one after the other, and lead to the end of the pass.
-use Rattle.std.proofs.Common.{◌≡◌, ◌∙◌, ◌==◌, ◌||◌, ◌&&◌, ◌+◌, ◌++◌, ◌<◌, ◌≤◌, ℕ, List, [], ◌∷◌, length, map, filter, nat_le, Bool, true, false, cond, not, Option, Some, None, inl, inr, refl, sym, ap, subst, arith, Bor}
+use Rattle.std.proofs.Common.{◌≡◌, ◌∙◌, ◌==◌, ◌||◌, ◌&&◌, ◌+◌, ◌<◌, ◌≤◌, ℕ, List, [], ◌∷◌, length, map, filter, nat_le, Bool, true, false, cond, not, Option, Some, None, inl, inr, refl, sym, ap, subst, arith, Bor}
 use mathlib.Core.Bool.{true≢false}
 use Rattle.std.specs.List.{AllByRecursion, find, fold, list_all, list_any}
 use Rattle.std.specs.List.Sorted.{IsStrictlySortedBy}
@@ -39,7 +39,7 @@ use Rattle.farm_pick.proofs.Bridge.{later_same, place_of}
 use Rattle.farm_pick.proofs.Collects.{collecting_follows}
 use Rattle.farm_pick.proofs.Filling.{low_priority, numbers_differ, queued_filter}
 use Rattle.farm_pick.proofs.Giving.{giving_follows}
-use Rattle.farm_pick.proofs.Later.{after_itself, later, later_none, not_back}
+use Rattle.farm_pick.proofs.Later.{after_itself, later, later_none}
 use Rattle.farm_pick.proofs.Merging.{Begins, Goes, IsTrying, Skips, begins_with, begins_without, found_among, none_by, one_group, passed_by, serve_but, some_want, tried_by, unserved}
 use Rattle.farm_core.specs.Following.{without_board, without_boards}
 use Rattle.farm_core.specs.Drafted.{Drafted}
@@ -359,9 +359,6 @@ module _ (F : Farm) (former : ℕ) (D : Drafted) (count : ℕ) (place : Option (
   pub next_small : IsSmall claim.number
   next_small = subst IsSmall own_number
       (small_claim D.farm next.0 trying.on.sound (among_has (IsClaim D.farm) next.0 (queue D.farm) (queue_claims D.farm trying.on.sound.steady) next.1))
-
-  pub next_waits : (c : Claimed) × Among c (queue D.farm) × ((shown_claim c).kind ≡ claim.kind) × (c.number ≡ claim.number) × (length c.wants ≡ claim.boards)
-  next_waits = (next.0, next.1, own_kind, own_number, ap (λ (k : Claim). k.boards) next.2)
 
   -- the group that went first is passed over
   module _ (own : (c : Claimed) → (shown_claim c).kind ≡ claim.kind → c.number ≡ claim.number → is_group former c ≡ true) where

@@ -1,6 +1,6 @@
 use Rattle.std.proofs.Common.{◌≡◌, ap, sym, subst, ◌∙◌, arith}
 use Rattle.std.specs.List.{AllByRecursion}
-use Rattle.farm_types.specs.Farm.{Farm, members}
+use Rattle.farm_types.specs.Farm.{members}
 use Rattle.farm_types.specs.Small.{IsSmall}
 use Rattle.farm_core.specs.Drafted.{Drafted}
 use Rattle.farm_core.specs.Plain.{plain}

@@ -1,10 +1,10 @@
-use Rattle.std.proofs.Common.{◌≡◌, ◌∙◌, Some, filter, not, option_map, ap, sym, subst}
+use Rattle.std.proofs.Common.{◌≡◌, ◌∙◌, Some, filter, not, option_map, ap, subst}
 use Rattle.std.specs.Str.{bytes_eq}
 use Rattle.farm_types.specs.Farm.{Farm}
 use Rattle.farm_types.specs.Pass.{first_free}
 use Rattle.farm_types.specs.declared.rows.BoardRow.{BoardRow}
 use Rattle.farm_types.specs.declared.rows.JobRow.{JobRow}
-use Rattle.farm_pick.specs.Queued.{IdleBoard, Lists, idle_boards}
+use Rattle.farm_pick.specs.Queued.{IdleBoard, idle_boards}
 use Rattle.farm_core.specs.Collecting.{HasWant}
 use Rattle.farm_core.specs.Drafted.{Drafted}
 use Rattle.farm_core.specs.Plain.{plain}

@@ -1,4 +1,4 @@
-use Rattle.std.proofs.Common.{◌∙◌, ap, sym, subst, true, false, refl, arith}
+use Rattle.std.proofs.Common.{◌∙◌, ap, sym, subst, true, false, arith}
 use Rattle.farm_types.specs.Pass.{Served}
 use Rattle.farm_pick.specs.Queued.{lists_of}
 use Rattle.farm_core.specs.Drafted.{Drafted}
