@@ -1,7 +1,7 @@
 #!/usr/bin/env python3
 """Lets the client desk use a served farm: python3 tests/client.py bin/farm
 
-Each row prints a line and says what it saw: views, jobs, reservations, `with`, keys over lost
+Each row prints a line and says what it saw: views, groups, jobs, reservations, `with`, keys over lost
 answers, settings, passwords and exit statuses. Ends with status 1 at the first thing that isn't as
 it should be, and with 77 where the machine lacks what it wants. Takes less than a minute.
 """
@@ -111,6 +111,23 @@ NUMBER GROUP KIND     STATE     RESULT BOARD TYPE ROLE PRIORITY OWNER TAGS
         len(json.loads(desk(farm, "reservations", "--all", "--json")[1])["reservations"]),
     )
     return "boards, queue, jobs and reservations are shown as lines and as JSON"
+
+
+def collecting(farm, folder):
+    """A group that has one of its two boards waits on, and holds it."""
+    del folder
+    prints(farm, "5\n", "submit", "-", given=JOB)
+    passes(farm)
+    prints(farm, "6\n", "submit", "-", given=GROUP)
+    passes(farm)
+    prints(farm, """\
+NUMBER GROUP KIND     STATE      RESULT BOARD TYPE ROLE PRIORITY OWNER TAGS
+     6     6 ordinary Scheduling -      b2    bbb  a          50 ann
+     7     6 ordinary Submitted  -      -     bbb  a          50 ann
+""", "jobs", "6", "7")
+    for number in ("6", "5"):
+        prints(farm, "", "cancel", number)
+    return "a group that collects is shown with the board that it holds"
 
 
 def jobs(farm, folder):
@@ -473,6 +490,7 @@ def statuses(farm, folder):
 
 ROWS = [
     views,
+    collecting,
     jobs,
     reservations,
     on_a_terminal,

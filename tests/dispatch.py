@@ -367,14 +367,19 @@ def many_runners(place):
 
 
 class DeskToCome:
-    """A desk with a board that a job holds in a state of which this dispatcher knows nothing."""
+    """A desk with two boards: the group that collects holds one, and the other a job in a state of
+    which this dispatcher knows nothing."""
 
     given = []
 
     def look(self, path):
         if path == "/boards":
-            return {"boards": [{"name": "b1", "holder": "job 1"}]}
-        return {"number": 1, "group": 1, "state": "Scheduling", "board": "b1"}
+            return {"boards": [
+                {"name": "b1", "holder": "job 1"}, {"name": "b2", "holder": "job 3"}
+            ]}
+        if path == "/jobs/1":
+            return {"number": 1, "group": 1, "state": "Scheduling", "board": "b1"}
+        return {"number": 3, "group": 3, "state": "Reviewing", "board": "b2"}
 
     def tell(self, path, body=None, key=None):
         self.given.append(path)
@@ -391,10 +396,10 @@ def states_to_come(place):
         dispatcher = Dispatcher(DeskToCome(), tempfile.mkdtemp(dir=place), None)
         for _ in range(3):
             dispatcher.round(True)
-    told = "job 1 is Scheduling, which is left to the desk\n"
+    told = "job 3 is Reviewing, which is left to the desk\n"
     demand("what it tells", told, said.getvalue())
     demand("what it does", ["/pass"] * 3, DeskToCome.given)
-    return "a state that it doesn't know is told once, and the job left to the desk"
+    return "a group that collects is left alone; so is a state that isn't known, which is told once"
 
 
 def full(answer):

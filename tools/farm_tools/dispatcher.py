@@ -69,7 +69,7 @@ class Dispatcher:
             self._begin(number, members, boards)
         elif state in ("Running", "Canceling"):
             return self._go_on(number, members)
-        else:
+        elif state != "Scheduling":  # a group that collects boards doesn't run yet
             self._tell_once(f"job {number} is {state}, which is left to the desk")
         return False
 

@@ -75,7 +75,7 @@ def wait_for_end(desk, number: int, every: float) -> list:
                     return members
                 place = place_of(
                     desk, "group", waits[0]["group"]
-                ) if waits[0]["state"] == "Submitted" else None
+                ) if waits[0]["state"] in ("Submitted", "Scheduling") else None
                 progress.show(
                     f"job {number} is {waits[0]['state']}" + (f", {place}" if place else "")
                 )
