@@ -12,7 +12,7 @@ use Rattle.std.proofs.lemmas.Slice.Eq.{bytes_eq-Decides}
 use Rattle.farm_types.specs.Words.{text_cmp}
 use Rattle.farm_types.specs.Table.{kept_cmp}
 use Rattle.farm_types.specs.Farm.{Farm, board_of, job_of, kept_of, put_board, put_kept}
-use Rattle.farm_types.specs.Pass.{with_board, expire}
+use Rattle.farm_types.specs.Pass.{with_board, back, expire}
 use Rattle.farm_types.specs.Refuse.{kind_of, is_late, kept_for, keeps_kind, is_full, may_give, first_code, refusal, early_refusal, own_refusal}
 use Rattle.farm_types.specs.Change.{Done, done, act, change, moved}
 use Rattle.farm_types.specs.Machine.{Answered, Changed, Repeated, Denied, answer, answer_by, repeated, step, step_by, run}
@@ -54,7 +54,7 @@ act_kept F caller (Cmd.Acquire number) = refl
 act_kept F caller (Cmd.Release number) = refl
 act_kept F caller (Cmd.Refresh number) = refl
 act_kept F caller (Cmd.CancelRes number) = refl
-act_kept F caller Cmd.Pass = pass_kept (expire F F.clock) F.clock
+act_kept F caller Cmd.Pass = pass_kept (expire (back F) F.clock) F.collector F.clock
 
 -- ---- the table of kept replies
 

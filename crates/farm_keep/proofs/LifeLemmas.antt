@@ -1,5 +1,6 @@
 -- What a run leaves is found again, life by life.
 use Rattle.std.proofs.Common.{◌≡◌, ◌⊎◌, inl, inr, ℕ, ◌+◌, List, [], ◌∷◌, Ok, Err, Result, take, refl, sym, subst, arith}
+use mathlib.Core.Bool.{true≢false}
 use Rattle.std.specs.Prelude.{IfOk}
 use Rattle.std.specs.List.{AllZip}
 use Rattle.std.proofs.lemmas.List.Sums.{fold-append}
@@ -35,7 +36,8 @@ denies s KeepFault.Closed result is bad ours = tt
 
 -- the tables of a farm are of the second edition
 pub not_first : (F : Farm) → IsOfSchema FIRST_SCHEMA (rows_of F) → ⊥
-not_first F first = absurd first
+unfolding rows_of
+not_first F first = true≢false (sym first)
 
 -- a store that stands for a sound farm gives it
 pub gives_farm : (result : Result Shown KeepFault) (old : State) (F : Farm) → IsSound F → Stands old (rows_of F)

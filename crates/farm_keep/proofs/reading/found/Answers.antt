@@ -1,4 +1,4 @@
-use Rattle.std.proofs.Common.{◌≡◌, ◌⊎◌, Result, Err, inl, inr, refl, sym, ap, ◌∙◌, subst}
+use Rattle.std.proofs.Common.{◌≡◌, ◌⊎◌, Result, Ok, Err, inl, inr, refl, sym, ap, ◌∙◌, subst}
 use Rattle.std.proofs.lemmas.Result.{err_from_is_err_and}
 use Rattle.farm_types.specs.Sound.{IsSound}
 use Rattle.farm_store.specs.Columns.{rows_of}
@@ -64,7 +64,7 @@ pub returns-in_err-farm-clause-old : goal.returns-in_err-farm-clause-old
 returns-in_err-farm-clause-old g c = λ clean is T at.
     let p = err_from_is_err_and c.from_residual.result c.from_residual.ensures.1 in
     let old : p.0 ≡ KeepFault.OldSchema = same_fault c.from_residual.result p.0 KeepFault.OldSchema p.1 is in
-    never_old c.in_err-farm.field-0.0 (sym p.2 ∙ old)
+    absurd (never_old c.in_err-farm.field-0.0 (sym p.2 ∙ old))
 
 pub returns-in_err-farm-clause-fault : goal.returns-in_err-farm-clause-fault
 returns-in_err-farm-clause-fault g c = λ is.
@@ -80,3 +80,23 @@ told : {T : Type 0} (r : Result T StoreFault) (e : StoreFault) → r ≡ Err e �
     → (store_fault e ≡ KeepFault.OldSchema) ⊎ (store_fault e ≡ KeepFault.Store)
 told r e is (inl old) = inl (ap store_fault (same_error r e StoreFault.OldSchema is old))
 told r e is (inr store) = inr (ap store_fault (same_error r e StoreFault.Store is store))
+
+as_told : {R : Type 0} (r : Result R KeepFault) (k : KeepFault) (e : StoreFault) → r ≡ Err k → k ≡ store_fault e
+    → (store_fault e ≡ KeepFault.OldSchema) ⊎ (store_fault e ≡ KeepFault.Store) → (r ≡ Err KeepFault.OldSchema) ⊎ (r ≡ Err KeepFault.Store)
+as_told r k e is same (inl old) = inl (is ∙ ap Err (same ∙ old))
+as_told r k e is same (inr store) = inr (is ∙ ap Err (same ∙ store))
+
+-- rows that were read aren't the first edition's
+never_read : {T : Type 0} (r : Result T StoreFault) (x : T) → r ≡ Ok x → (r ≡ Err StoreFault.OldSchema) ⊎ (r ≡ Err StoreFault.Store) → ⊥
+never_read r x is (inl old) = cc
+never_read r x is (inr store) = cc
+
+pub returns-in-Err-clause-known : goal.returns-in-Err-clause-known
+returns-in-Err-clause-known g c = λ clean T at first.
+    as_told (Err c.from.result) c.from.result c.in-Err.fault refl c.from.ensures (told c.load.result c.in-Err.fault c.in-Err.is (c.load.ensures.known clean T at first))
+
+pub returns-clause-known : goal.returns-clause-known
+returns-clause-known g c = λ clean T at first. absurd (never_read c.load.result _ c.in-Ok.is (c.load.ensures.known clean T at first))
+
+pub returns-in_err-farm-clause-known : goal.returns-in_err-farm-clause-known
+returns-in_err-farm-clause-known g c = λ clean T at first. absurd (never_read c.load.result _ c.in-Ok.is (c.load.ensures.known clean T at first))
