@@ -95,7 +95,7 @@ const LOOK: &[u8] = b"GET /status HTTP/1.1\r\n\r\n";
 
 /// The farm with one type, whose command's moment was the clock's.
 const STATUS: &[u8] =
-    b"HTTP/1.1 200 OK\r\ncontent-type: application/json\r\ncontent-length: 86\r\nconnection: close\r\n\r\n{\"boards\":0,\"clock\":1700000000,\"count\":1,\"jobs\":0,\"next\":1,\"reservations\":0,\"types\":1}";
+    b"HTTP/1.1 200 OK\r\ncontent-type: application/json\r\ncontent-length: 100\r\nconnection: close\r\n\r\n{\"boards\":0,\"clock\":1700000000,\"collector\":0,\"count\":1,\"jobs\":0,\"next\":1,\"reservations\":0,\"types\":1}";
 
 /// Serves so many clients by that clock; how many commands were accepted.
 fn serve_on_new<S: Alter + Drop>(

@@ -39,7 +39,7 @@ const BAD: &[u8] =
 
 /// The farm with one type, whose command came first.
 const STATUS: &[u8] =
-    b"HTTP/1.1 200 OK\r\ncontent-type: application/json\r\ncontent-length: 86\r\nconnection: close\r\n\r\n{\"boards\":0,\"clock\":1700000000,\"count\":1,\"jobs\":0,\"next\":1,\"reservations\":0,\"types\":1}";
+    b"HTTP/1.1 200 OK\r\ncontent-type: application/json\r\ncontent-length: 100\r\nconnection: close\r\n\r\n{\"boards\":0,\"clock\":1700000000,\"collector\":0,\"count\":1,\"jobs\":0,\"next\":1,\"reservations\":0,\"types\":1}";
 
 /// The clients that went are these: what each was answered, and what stayed of what it sent.
 fn expect_gone(rt: &impl Abort, clients: &KnownClients<'_>, wanted: &[(&[u8], &[u8])]) {
