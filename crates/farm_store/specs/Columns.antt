@@ -165,8 +165,8 @@ rows_of F = record {
   meta = meta_rows (numbers_of F);
 }
 
--- ---- the first edition's tables: a job's state has codes of their own, and none is for Scheduling;
--- no row tells which group collects
+-- ---- the first edition's tables: the states of jobs have codes of their own, and Scheduling has
+-- none that is read; no row tells which group collects
 
 abbrev pub first_state_code : JobState → ℕ
 first_state_code JobState.Submitted = 0

@@ -57,7 +57,8 @@ pub record LooksAtSchema {A : Type 0} (edition : Edition) (result : Result A Sto
     (T : Tables) : Type 0 where
   pub known : IsOfSchema (schema_of (other_edition edition)) T
       → (result ≡ Err (told_as (other_edition edition))) ⊎ (result ≡ Err Store)
-  pub other : ¬ IsOfSchema (schema_of (other_edition edition)) T → ¬ IsOfSchema (schema_of edition) T
+  pub other : ¬ IsOfSchema (schema_of (other_edition edition)) T
+      → ¬ IsOfSchema (schema_of edition) T
       → (result ≡ Err BadStore) ⊎ (result ≡ Err Store)
 
 -- the numbers read are those of the tables; they are refused as the other edition's only where the
@@ -65,7 +66,8 @@ pub record LooksAtSchema {A : Type 0} (edition : Edition) (result : Result A Sto
 abbrev pub ReadsNumbers : Edition → Result MetaRow StoreFault → Tables → Type 0
 ReadsNumbers edition result T =
     MatchResult result (λ m. IsCollectorIn edition m.collector × (T.meta ≡ meta_rows_in edition m))
-    (λ fault. (fault ≡ told_as (other_edition edition) → IsOfSchema (schema_of (other_edition edition)) T)
+    (λ fault. (fault ≡ told_as (other_edition edition)
+    → IsOfSchema (schema_of (other_edition edition)) T)
     × (fault ≡ BadStore → (m : MetaRow) → IsCollectorIn edition m.collector
     → T.meta ≢ meta_rows_in edition m))
 
@@ -76,5 +78,6 @@ abbrev pub ReadsFarm : Edition → Result Rows StoreFault → Tables → Type 0
 ReadsFarm edition result T =
     MatchResult result
     (λ rows. IsReadableIn edition (farm_of rows) × (rows_in edition (farm_of rows) ≡ T))
-    (λ fault. (fault ≡ told_as (other_edition edition) → IsOfSchema (schema_of (other_edition edition)) T)
+    (λ fault. (fault ≡ told_as (other_edition edition)
+    → IsOfSchema (schema_of (other_edition edition)) T)
     × (fault ≡ BadStore → (F : Farm) → IsReadableIn edition F → rows_in edition F ≢ T))
