@@ -99,7 +99,7 @@ pub fault_is_due : {S : Type 0} (g : Ghosts S) (old new : Kept S) (call : Call) 
     × (Keeps g old → KeepsEither g new old.farm.farm (step old.farm.farm call)))
     → (acted fault ≡ Err KeepFault.Closed ↔ old.is_open ≡ false)
     → (acted fault ≡ Err KeepFault.Closed → new ≡ old)
-    → (acted fault ≢ Err KeepFault.BadStore) × (acted fault ≢ Err KeepFault.OldSchema)
+    → (acted fault ≢ Err KeepFault.BadStore) × (acted fault ≢ Err KeepFault.OldSchema) × (acted fault ≢ Err KeepFault.NewSchema)
     → bytes ≡ reply_bytes (refusal (fault_code fault)) → end ≡ Err (DeskFault.Keep fault)
     → IsDueTo g old new (Ok (Ask.Call call)) bytes end
 fault_is_due g old new call KeepFault.NoMemory bytes end memory store closed still other says ends =
@@ -129,3 +129,4 @@ fault_is_due g old new call KeepFault.Closed bytes end memory store closed still
     subst (λ e. IsDueTo g old new (Ok (Ask.Call call)) bytes e) (sym ends) closes
 fault_is_due g old new call KeepFault.BadStore bytes end memory store closed still other says ends = absurd (other.0 refl)
 fault_is_due g old new call KeepFault.OldSchema bytes end memory store closed still other says ends = absurd (other.1 refl)
+fault_is_due g old new call KeepFault.NewSchema bytes end memory store closed still other says ends = absurd (other.2 refl)

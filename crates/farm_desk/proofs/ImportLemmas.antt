@@ -171,7 +171,7 @@ pub faulted_at : {S : Type 0} (g : Ghosts S) (old mid new : Kept S) (calls : Lis
     × (Keeps g mid → KeepsEither g new mid.farm.farm (step mid.farm.farm call)))
     → (acted fault ≡ Err KeepFault.Closed ↔ mid.is_open ≡ false)
     → (acted fault ≡ Err KeepFault.Closed → new ≡ mid)
-    → (acted fault ≢ Err KeepFault.BadStore) × (acted fault ≢ Err KeepFault.OldSchema)
+    → (acted fault ≢ Err KeepFault.BadStore) × (acted fault ≢ Err KeepFault.OldSchema) × (acted fault ≢ Err KeepFault.NewSchema)
     → EndsBy g old new calls done None (Some (DeskFault.Keep fault))
 faulted_at g old mid new calls i done call KeepFault.NoMemory low here before same opened stands still memory store closed rests other =
     let lacks = memory refl in
@@ -196,3 +196,4 @@ faulted_at g old mid new calls i done call KeepFault.Closed low here before same
     record { was_closed = shut; nothing = same ∙ was.0; rests = rests refl ∙ was.1 }
 faulted_at g old mid new calls i done call KeepFault.BadStore low here before same opened stands still memory store closed rests other = absurd (other.0 refl)
 faulted_at g old mid new calls i done call KeepFault.OldSchema low here before same opened stands still memory store closed rests other = absurd (other.1 refl)
+faulted_at g old mid new calls i done call KeepFault.NewSchema low here before same opened stands still memory store closed rests other = absurd (other.2 refl)

@@ -65,6 +65,7 @@ closed : {S : Type 0} (g : Ghosts S) (old new : Kept S) (what : Ask) (fault : Ke
 closed g old new what KeepFault.Closed bytes due = due.cause
 closed g old new what KeepFault.BadStore bytes due = absurd due.cause
 closed g old new what KeepFault.OldSchema bytes due = absurd due.cause
+closed g old new what KeepFault.NewSchema bytes due = absurd due.cause
 closed g old new (Ask.Call call) KeepFault.NoMemory bytes due = record {
   was_open = due.cause.was_open;
   is_closed = due.is_closed;
@@ -99,6 +100,7 @@ retold g old new max KeepFault.Store serves told same = subst (ServesUntil g old
 retold g old new max KeepFault.Closed serves told same = subst (ServesUntil g old new max) (sym same) serves
 retold g old new max KeepFault.BadStore serves told same = absurd serves
 retold g old new max KeepFault.OldSchema serves told same = absurd serves
+retold g old new max KeepFault.NewSchema serves told same = absurd serves
 
 asked : {S A : Type 0} (g : Ghosts S) (old new : Kept S) (what : Result Ask Denial) (bytes : List ℕ) (end : Result ℕ DeskFault) (told : Result A DeskFault)
     → old.is_open ≡ true → PassesOn end told → IsDueTo g old new what bytes end → ServesUntil g old new 1 told
@@ -187,6 +189,7 @@ serves_next g old mid new n (Err (DeskFault.Keep KeepFault.Closed)) first last =
     absurd (let e = sym last.was_closed ∙ first.reaches.opened ∙ first.was_open in cc)
 serves_next g old mid new n (Err (DeskFault.Keep KeepFault.BadStore)) first last = absurd last
 serves_next g old mid new n (Err (DeskFault.Keep KeepFault.OldSchema)) first last = absurd last
+serves_next g old mid new n (Err (DeskFault.Keep KeepFault.NewSchema)) first last = absurd last
 serves_next g old mid new n (Err DeskFault.NoMemory) first last = absurd last
 serves_next g old mid new n (Err DeskFault.Read) first last = absurd last
 serves_next g old mid new n (Err DeskFault.Write) first last = absurd last
@@ -216,6 +219,7 @@ serves_within g old new n max (Err (DeskFault.Keep KeepFault.Store)) less serves
 serves_within g old new n max (Err (DeskFault.Keep KeepFault.Closed)) less serves = serves
 serves_within g old new n max (Err (DeskFault.Keep KeepFault.BadStore)) less serves = absurd serves
 serves_within g old new n max (Err (DeskFault.Keep KeepFault.OldSchema)) less serves = absurd serves
+serves_within g old new n max (Err (DeskFault.Keep KeepFault.NewSchema)) less serves = absurd serves
 serves_within g old new n max (Err DeskFault.NoMemory) less serves = absurd serves
 serves_within g old new n max (Err DeskFault.Read) less serves = absurd serves
 serves_within g old new n max (Err DeskFault.Write) less serves = absurd serves

@@ -65,7 +65,8 @@ impl Due {
 
     /// The constant answer of a keeper's fault.
     pub(crate) fn closing(fault: KeepFault) -> Due
-        requires { (fault ≢ KeepFault.BadStore) × (fault ≢ KeepFault.OldSchema) }
+        requires { (fault ≢ KeepFault.BadStore) × (fault ≢ KeepFault.OldSchema)
+            × (fault ≢ KeepFault.NewSchema) }
         ensures bytes { bytes_in result.bytes ≡ reply_bytes (refusal (fault_code fault)) }
         ensures end { result.end ≡ Err (DeskFault.Keep fault) }
     {
@@ -73,7 +74,7 @@ impl Due {
             KeepFault::NoMemory => no_memory_answer(),
             KeepFault::Store => store_answer(),
             KeepFault::Closed => closed_answer(),
-            KeepFault::BadStore | KeepFault::OldSchema => unreachable!(),
+            KeepFault::BadStore | KeepFault::OldSchema | KeepFault::NewSchema => unreachable!(),
         };
         Due {
             bytes: Bytes::Constant(bytes),

@@ -9,7 +9,7 @@ use std::alloc::{AllocError, Global};
 use std::test::Fail;
 
 /// The number, the HTTP status and the text of each; status 0 where it is never answered over HTTP.
-const TEXTS: [(u16, u16, &str); 35] = [
+const TEXTS: [(u16, u16, &str); 36] = [
     (1, 503, "no memory"),
     (2, 400, "bad moment"),
     (3, 403, "forbidden"),
@@ -41,6 +41,7 @@ const TEXTS: [(u16, u16, &str); 35] = [
     (61, 503, "closed"),
     (62, 0, "bad store"),
     (63, 0, "old schema"),
+    (64, 0, "new schema"),
     (70, 400, "bad job file"),
     (71, 0, "bad lab file"),
     (80, 0, "read fault"),
@@ -76,12 +77,13 @@ fn texts_of_all_codes(rt: HostRuntime) -> Result<(), Fail> {
 }
 
 /// The keeper's faults by number.
-const KEEP_FAULTS: [(KeepFault, u16); 5] = [
+const KEEP_FAULTS: [(KeepFault, u16); 6] = [
     (KeepFault::NoMemory, 1),
     (KeepFault::Store, 60),
     (KeepFault::Closed, 61),
     (KeepFault::BadStore, 62),
     (KeepFault::OldSchema, 63),
+    (KeepFault::NewSchema, 64),
 ];
 
 fn keep_shown(alloc: Global, fault: KeepFault) -> Result<String, AllocError> {
@@ -106,7 +108,7 @@ fn told(alloc: Global, fault: DeskFault) -> (u8, Vec<u8>) {
 }
 
 /// Each fault with its exit status and its line.
-const FAULTS: [(DeskFault, u8, &str); 12] = [
+const FAULTS: [(DeskFault, u8, &str); 13] = [
     (DeskFault::NoMemory, 5, "farm: 1 no memory\n"),
     (DeskFault::Read, 4, "farm: 80 read fault\n"),
     (DeskFault::Write, 4, "farm: 81 write fault\n"),
@@ -130,6 +132,11 @@ const FAULTS: [(DeskFault, u8, &str); 12] = [
         DeskFault::Keep(KeepFault::OldSchema),
         4,
         "farm: 63 old schema\n",
+    ),
+    (
+        DeskFault::Keep(KeepFault::NewSchema),
+        4,
+        "farm: 64 new schema\n",
     ),
     (
         DeskFault::File(FileFault::NoMemory),

@@ -2,7 +2,7 @@
 use Rattle.std.proofs.Common.{◌≡◌, ℕ, ◌==◌, ◌&&◌, Bool, true, false, cond, List, [], ◌∷◌, ◌++◌, Option, Some, None, refl, sym, ap, ◌∙◌, subst, Ordering, Less, Equal, Greater}
 use Rattle.std.specs.Prelude.{if◌then◌else◌, not, is_some}
 use Rattle.std.specs.Bool.{then_some}
-use Rattle.std.specs.List.{find, filter}
+use Rattle.std.specs.List.{find}
 use Rattle.std.specs.Option.{option_map_or, option_map, option_or}
 use Rattle.std.specs.Ordering.{ordering_then}
 use Rattle.std.specs.Str.{bytes_eq}
@@ -13,7 +13,7 @@ use Rattle.farm_types.specs.Words.{text_cmp}
 use Rattle.farm_types.specs.Table.{kept_cmp}
 use Rattle.farm_types.specs.Farm.{Farm, board_of, job_of, kept_of, put_board, put_kept}
 use Rattle.farm_types.specs.Pass.{with_board, back, expire}
-use Rattle.farm_types.specs.Refuse.{kind_of, is_late, kept_for, keeps_kind, is_full, may_give, first_code, refusal, early_refusal, own_refusal}
+use Rattle.farm_types.specs.Refuse.{kind_of, is_late, kept_for, is_full, may_give, first_code, refusal, early_refusal, own_refusal}
 use Rattle.farm_types.specs.Change.{Done, done, act, change, moved}
 use Rattle.farm_types.specs.Machine.{Answered, Changed, Repeated, Denied, answer, answer_by, repeated, step, step_by, run}
 use Rattle.farm_types.specs.declared.rows.BoardRow.{BoardRow}

@@ -1,5 +1,5 @@
 -- What a run leaves is found again, life by life.
-use Rattle.std.proofs.Common.{◌≡◌, ◌⊎◌, inl, inr, ℕ, ◌+◌, List, [], ◌∷◌, Ok, Err, Result, take, refl, sym, subst, arith}
+use Rattle.std.proofs.Common.{◌≡◌, inl, inr, ℕ, ◌+◌, List, [], ◌∷◌, Ok, Err, Result, take, refl, sym, subst, arith}
 use mathlib.Core.Bool.{true≢false}
 use Rattle.std.specs.Prelude.{IfOk}
 use Rattle.std.specs.List.{AllZip}
@@ -32,6 +32,7 @@ denies s KeepFault.NoMemory result is bad ours = tt
 denies s KeepFault.Store result is bad ours = tt
 denies s KeepFault.BadStore result is bad ours = bad is
 denies s KeepFault.OldSchema result is bad ours = ours is
+denies s KeepFault.NewSchema result is bad ours = tt
 denies s KeepFault.Closed result is bad ours = tt
 
 -- the tables of a farm are of the second edition

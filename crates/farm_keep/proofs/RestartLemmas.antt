@@ -1,8 +1,8 @@
 -- Runs and restarts one after another.
-use Rattle.std.proofs.Common.{◌≡◌, ℕ, ◌==◌, Bool, true, false, cond, List, [], ◌∷◌, ◌++◌, refl, sym, ap, ◌∙◌}
+use Rattle.std.proofs.Common.{◌≡◌, Bool, true, false, cond, List, [], ◌∷◌, ◌++◌, refl, sym, ap, ◌∙◌}
 use Rattle.std.proofs.lemmas.List.Sums.{fold-append}
 use Rattle.farm_types.specs.Farm.{Farm}
-use Rattle.farm_types.specs.Machine.{Answered, Changed, Repeated, Denied, answer, step, run}
+use Rattle.farm_types.specs.Machine.{Changed, Repeated, Denied, answer, step, run}
 use Rattle.farm_types.specs.declared.rows.Reply.{Reply}
 use Rattle.farm_types.specs.declared.calls.Call.{Call}
 use Rattle.farm_keep.specs.Runs.{answers_of}

@@ -10,12 +10,14 @@ fault_code KeepFault.Store = 60
 fault_code KeepFault.Closed = 61
 fault_code KeepFault.BadStore = 62
 fault_code KeepFault.OldSchema = 63
+fault_code KeepFault.NewSchema = 64
 
 abbrev pub store_fault : StoreFault → KeepFault
 store_fault StoreFault.NoMemory = KeepFault.NoMemory
 store_fault StoreFault.Store = KeepFault.Store
 store_fault StoreFault.BadStore = KeepFault.BadStore
 store_fault StoreFault.OldSchema = KeepFault.OldSchema
+store_fault StoreFault.NewSchema = KeepFault.NewSchema
 
 -- rows that are no sound farm's are a bad store's
 abbrev pub rows_fault : BadRows → KeepFault

@@ -81,6 +81,7 @@ pub record Runs {S : Type 0} (g : Ghosts S) (old new : Kept S) (end : RunEnd) (c
   pub before : old.is_open ≡ false → (end.done ≡ 0) × (new.conn ≡ old.conn) × (new.is_open ≡ false)
       × (end.fault ≢ Some fault.Store)
   pub others : (end.fault ≢ Some fault.BadStore) × (end.fault ≢ Some fault.OldSchema)
+      × (end.fault ≢ Some fault.NewSchema)
   -- however the run ended, a stop leaves no other tables, and each farm on the way is sound
   pub left : Keeps g old → LeavesRun g new end old.farm.farm calls
   pub sound : old.is_open ≡ true → (n : ℕ) → IsSound (run old.farm.farm (take n calls))

@@ -1,4 +1,5 @@
 pub mod Faults
+pub mod First
 pub mod Headline
 pub mod Kept
 pub mod Lives

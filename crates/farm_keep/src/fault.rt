@@ -4,7 +4,7 @@ ghost use Rattle.farm_keep.specs.Faults.{fault_code};
 
 use farm_core::farm::{BadRows, StepFault};
 use farm_store::StoreFault;
-use farm_types::refusal::{BAD_STORE, CLOSED, NO_MEMORY, OLD_SCHEMA, STORE};
+use farm_types::refusal::{BAD_STORE, CLOSED, NEW_SCHEMA, NO_MEMORY, OLD_SCHEMA, STORE};
 use thiserror::Error;
 
 /// Why a keeper gave no answer. The texts are those of the table of refusals.
@@ -25,6 +25,9 @@ pub enum KeepFault {
     /// The tables are those of an earlier edition.
     #[error("old schema")]
     OldSchema,
+    /// The tables are those of this edition, where those of the earlier one are wanted.
+    #[error("new schema")]
+    NewSchema,
 }
 
 impl KeepFault {
@@ -38,6 +41,7 @@ impl KeepFault {
             KeepFault::Closed => CLOSED,
             KeepFault::BadStore => BAD_STORE,
             KeepFault::OldSchema => OLD_SCHEMA,
+            KeepFault::NewSchema => NEW_SCHEMA,
         }
     }
 }
@@ -79,6 +83,7 @@ impl From<StoreFault> for KeepFault {
             StoreFault::Store => KeepFault::Store,
             StoreFault::BadStore => KeepFault::BadStore,
             StoreFault::OldSchema => KeepFault::OldSchema,
+            StoreFault::NewSchema => KeepFault::NewSchema,
         }
     }
 }

@@ -82,7 +82,7 @@ impl<S: Alter + Drop> Keeper<S> {
         requires { conn.in_transaction ≡ false }
         ensures adopted { IfOk result (λ k. Adopts S.Store conn k) }
         ensures refused { IsAlwaysClean S.Store → IfErr result (Denies (state S.Store conn)) }
-        ensures fault { result ≢ Err KeepFault.Closed }
+        ensures fault { (result ≢ Err KeepFault.Closed) × (result ≢ Err KeepFault.NewSchema) }
     {
         let farm = found(alloc, &mut conn)?;
         Ok(Keeper {
@@ -143,7 +143,8 @@ impl<S: Alter> Keeper<S> {
         // A closed keeper stays as it is.
         ensures closed { (result ≡ Err KeepFault.Closed) ↔ (self.old.is_open ≡ false) }
         ensures still { result ≡ Err KeepFault.Closed → self.new ≡ self.old }
-        ensures fault { (result ≢ Err KeepFault.BadStore) × (result ≢ Err KeepFault.OldSchema) }
+        ensures fault { (result ≢ Err KeepFault.BadStore) × (result ≢ Err KeepFault.OldSchema)
+            × (result ≢ Err KeepFault.NewSchema) }
         ensures clean { doubt (state S.Store self.old.conn).is_clean ≤ doubt
             (state S.Store self.new.conn).is_clean }
     {

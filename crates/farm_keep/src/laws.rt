@@ -8,9 +8,11 @@ ghost use Rattle.farm_store.specs.Columns.{rows_of};
 ghost use Rattle.farm_store.specs.Holds.{Holds};
 ghost use Rattle.farm_types.specs.Farm.{Farm as Plain};
 ghost use Rattle.farm_types.specs.Sound.{IsSound};
+ghost use Rattle.farm_keep.specs.First.{HoldsEither, IsSoundFirst};
 ghost use Rattle.farm_keep.specs.Headline.{IsAlwaysClean, Runs};
 ghost use Rattle.farm_keep.specs.Kept.{Kept, Keeps};
-ghost use Rattle.farm_keep.specs.Lives.{Life, AreLived, GivesRestarts, GivesRun, OpensOn};
+ghost use Rattle.farm_keep.specs.Lives.{Life, AreLived, GivesFarm, GivesRestarts, GivesRun};
+ghost use Rattle.farm_keep.specs.Lives.{OpensOn};
 ghost use Rattle.farm_keep.specs.declared.keeper.run.RunEnd.{RunEnd as End};
 ghost use Rattle.farm_types.specs.Machine.{run};
 ghost use Rattle.farm_types.specs.declared.calls.Call.{Call};
@@ -18,6 +20,7 @@ ghost use Rattle.farm_keep.specs.Runs.{answers_of};
 ghost use Rattle.farm_keep.specs.Restarts.{Restart, run_all, joined, AnswersAgain, ActsOnce};
 
 use crate::fault::KeepFault;
+use crate::migrating::migrate;
 use crate::reading::found;
 use farm_core::farm::Farm;
 use farm_store::laws::opened_stands;
@@ -87,4 +90,27 @@ pub fn restarts_find_a_prefix<S: Alter>(
 {
     opened_stands(conn);
     found(alloc, conn)
+}
+
+/// An upgrade that was stopped anywhere and is begun again, on a store that was opened on what the
+/// stop left: the farm's tables of the first edition, or those of this one. The very farm is found,
+/// memory and the store's own faults aside; and a stop at any moment leaves the ones or the others.
+pub fn found_after_upgrade<S: Alter>(
+    alloc: Global,
+    conn: &mut Connection<S>,
+) -> Result<Farm, KeepFault>
+    requires { conn.old.in_transaction ≡ false }
+    ensures gives { HasCleanDisk (state S.Store conn.new) → (F : Plain) (left : Trees)
+        → IsSoundFirst F → HoldsEither left F → OpensOn (state S.Store conn.old) left
+        → GivesFarm result F }
+    ensures left { HasCleanDisk (state S.Store conn.new) → (F : Plain) (left : Trees)
+        → IsSoundFirst F → HoldsEither left F → OpensOn (state S.Store conn.old) left
+        → (db : Trees) → (state S.Store conn.new).may_leave db → HoldsEither db F }
+{
+    opened_stands(conn);
+    match migrate(alloc, conn) {
+        Ok(()) => found(alloc, conn),
+        Err(KeepFault::NewSchema) => found(alloc, conn),
+        Err(fault) => Err(fault),
+    }
 }

@@ -4,15 +4,17 @@
 //! has committed what it changed, so a keeper that is made again from the store finds every command
 //! that was answered.
 //!
-//! Read `specs/` in the order Kept, Runs, Headline, Restarts, Lives; Faults has the faults'
-//! numbers.
+//! Read `specs/` in the order Kept, Runs, Headline, Restarts, Lives; First has the farms of the
+//! first edition, Faults the faults' numbers.
 #![tactic(auto)]
 
 mod fault;
 mod keeper;
 pub mod laws;
+mod migrating;
 mod reading;
 
 pub use fault::KeepFault;
 pub use keeper::{Keeper, RunEnd};
+pub use migrating::migrate;
 pub use reading::found;

@@ -54,7 +54,7 @@ pub fn found<S: Alter>(alloc: Global, conn: &mut Connection<S>) -> Result<Farm, 
     ensures known { HasCleanDisk (state S.Store conn.new) → (T : Tables)
         → Stands (state S.Store conn.old) T → IsOfSchema FIRST_SCHEMA T
         → (result ≡ Err KeepFault.OldSchema) ⊎ (result ≡ Err KeepFault.Store) }
-    ensures fault { result ≢ Err KeepFault.Closed }
+    ensures fault { (result ≢ Err KeepFault.Closed) × (result ≢ Err KeepFault.NewSchema) }
 {
     let rows = match load(alloc, conn) {
         Ok(rows) => rows,

@@ -13,6 +13,7 @@ mod stops;
 mod store;
 mod teller;
 mod text;
+mod upgrade;
 
 use player::Player;
 use script::{Deed, Reading, Step, Transcript};

@@ -4,6 +4,7 @@ use crate::script::{Deed, Step};
 use crate::store::{Disks, Failing, InFiles, no_files, with_fuse};
 use crate::teller::Teller;
 use crate::text::{first_word, shown};
+use crate::upgrade::{upgrade, upgrade_stopped};
 use farm_keep::KeepFault;
 use sqlite::{Alter, Connection};
 use std::alloc::{AllocError, Global};
@@ -127,6 +128,20 @@ where
         Some("")
     }
 
+    /// The store ends in order, and its tables of the first edition are made this one's.
+    fn migrate(&mut self) -> Option<String> {
+        let (files, text) = upgrade::<S>(self.alloc, self.take_files()?)?;
+        self.files = Some(files);
+        Some(text)
+    }
+
+    /// The same, stopped at each call at first.
+    fn migrate_stopped(&mut self) -> Option<String> {
+        let (files, text) = upgrade_stopped::<S>(self.alloc, self.take_files()?)?;
+        self.files = Some(files);
+        Some(text)
+    }
+
     /// What a step on the store gives; None where it can't be done.
     fn work(&mut self, deed: Deed, words: &str) -> Option<String> {
         let text = match deed {
@@ -138,6 +153,8 @@ where
                 self.fuse(failing, calls)?
             }
             Deed::Sql => return self.sql(words),
+            Deed::Migrate => return self.migrate(),
+            Deed::MigrateStopped => return self.migrate_stopped(),
             Deed::Open => return self.open().ok(),
             _ => return None,
         };

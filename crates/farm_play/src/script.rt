@@ -29,13 +29,16 @@ pub enum Deed {
     Open,
     /// The log, or the tables' file, stops after so many calls.
     Fuse,
+    /// Tables of the first edition are made this one's; at first it is stopped at each call.
+    Migrate,
+    MigrateStopped,
     /// The steps up to the next `End` are stopped at each call.
     Stops,
     End,
 }
 
 /// The deeds of the words with which lines begin.
-const DEEDS: [(&str, Deed); 11] = [
+const DEEDS: [(&str, Deed); 13] = [
     ("#!", Deed::Say),
     ("import", Deed::Import),
     ("report", Deed::Report),
@@ -45,6 +48,8 @@ const DEEDS: [(&str, Deed); 11] = [
     ("crash", Deed::Crash),
     ("open", Deed::Open),
     ("fuse", Deed::Fuse),
+    ("migrate", Deed::Migrate),
+    ("migrate_stopped", Deed::MigrateStopped),
     ("stops", Deed::Stops),
     ("end", Deed::End),
 ];

@@ -53,7 +53,7 @@ ranked a b true q lt eq = let h = below a b lt in omega (arith, ints)
 ranked a b false true lt eq = ap pos (even a b eq)
 ranked a b false false lt eq = let h = above a b lt eq in omega (arith, ints)
 
-by_number : (a b : ℕ) → value_cmp (Int (pos a)) (Int (pos b)) ≡ nat_cmp a b
+pub by_number : (a b : ℕ) → value_cmp (Int (pos a)) (Int (pos b)) ≡ nat_cmp a b
 by_number a b = value_cmp-Int (pos a) (pos b) ∙ sym (int_cmp_is (pos a) (pos b) (nat_cmp a b) (ranked a b (nat_lt a b) (a == b) refl refl))
 
 of_types : (a b : TypeRow) → by_first (type_columns a) (type_columns b) ≡ type_cmp a b

@@ -21,9 +21,11 @@ pub mod RowSelects
 pub mod TagsRead
 pub mod ReadRows
 pub mod NumberRows
+pub mod EditionLemmas
 pub mod OneFarm
 pub mod SoundReadable
 pub mod ReadFarm
 pub mod Listed
 pub mod Creates
 pub mod Ours
+pub mod Raised

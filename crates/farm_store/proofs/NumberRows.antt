@@ -1,16 +1,16 @@
 -- The rows of the farm's numbers.
-use Rattle.std.proofs.Common.{◌≡◌, ◌≢◌, ℕ, pos, List, [], ◌∷◌, length, get_or, Result, Ok, Err, IsErrAnd, sym, ap, ◌∙◌, arith}
+use Rattle.std.proofs.Common.{◌≡◌, ◌≢◌, ℕ, pos, List, [], ◌∷◌, length, get_or, Result, Ok, Err, IsErrAnd, sym, ap, subst, ◌∙◌, arith}
 use Rattle.std.specs.Prelude.{⊤}
 use Rattle.sqlite.specs.declared.types.Value.TheVariants.{Int, Text}
 use Rattle.sqlite.specs.Order.{Row}
 use Rattle.sqlite_value.specs.Order.{column}
 use Rattle.farm_types.specs.declared.rows.MetaRow.{MetaRow}
-use Rattle.farm_store.specs.Columns.{meta_row, meta_rows}
+use Rattle.farm_store.specs.Columns.{meta_row}
 use Rattle.farm_store.specs.Places.{of_meta}
-use Rattle.farm_store.specs.Reading.{ReadsAs}
+use Rattle.farm_store.specs.Reading.{ReadsAs, TellsNoVersion}
 use Rattle.farm_store.specs.Stored.{IsWide}
 use Rattle.farm_store.specs.declared.fault.StoreFault.{StoreFault}
-use Rattle.farm_store.specs.declared.fault.StoreFault.TheVariants.{BadStore, OldSchema}
+use Rattle.farm_store.specs.declared.fault.StoreFault.TheVariants.{BadStore}
 use Rattle.farm_store.proofs.ColumnsFrom.{whole}
 
 pub number_read : (r : Result ℕ StoreFault) (row : Row) (name : List ℕ) → IsWide of_meta.width row → column row 0 ≡ Text name → ReadsAs r (λ _. ⊤) (λ n. Int (pos n)) (column row 1) → ReadsAs r (λ _. ⊤) (λ value. meta_row name value) row
@@ -26,11 +26,20 @@ five_rows (v ∷ w ∷ x ∷ y ∷ []) a b c d e len p q r s t = absurd (omega (
 five_rows (v ∷ w ∷ x ∷ y ∷ z ∷ []) a b c d e len p q r s t = rw (p, q, r, s, t)
 five_rows (v ∷ w ∷ x ∷ y ∷ z ∷ u ∷ rest) a b c d e len p q r s t = absurd (omega (arith, len))
 
--- a row that was refused refuses them all
-pub refuses_number : (r : Result MetaRow StoreFault) (rows : List Row) (at : ℕ) (row : Row) (name : List ℕ) (f : MetaRow → ℕ) (fault : StoreFault) → IsErrAnd r (λ e. e ≡ fault) → row ≡ get_or rows at row
-    → ((m : MetaRow) → get_or (meta_rows m) at row ≡ meta_row name (f m)) → (fault ≢ OldSchema) × (fault ≡ BadStore → (value : ℕ) → ⊤ → row ≢ meta_row name value) → ReadsAs r (λ _. ⊤) meta_rows rows
-refuses_number (Ok m) rows at row name f fault is there one refused = absurd is
-refuses_number (Err e) rows at row name f fault is there one refused = (
-  λ old. refused.0 (sym is ∙ old),
-  λ bad m good same. refused.1 (sym is ∙ bad) (f m) tt (there ∙ ap (λ l. get_or l at row) same ∙ one m),
-)
+pub four_rows : (rows : List Row) (a b c d : Row) → length rows ≡ 4 → a ≡ get_or rows 0 a → b ≡ get_or rows 1 b → c ≡ get_or rows 2 c → d ≡ get_or rows 3 d → rows ≡ a ∷ b ∷ c ∷ d ∷ []
+four_rows [] a b c d len p q r s = absurd (omega (arith, len))
+four_rows (v ∷ []) a b c d len p q r s = absurd (omega (arith, len))
+four_rows (v ∷ w ∷ []) a b c d len p q r s = absurd (omega (arith, len))
+four_rows (v ∷ w ∷ x ∷ []) a b c d len p q r s = absurd (omega (arith, len))
+four_rows (v ∷ w ∷ x ∷ y ∷ []) a b c d len p q r s = rw (p, q, r, s)
+four_rows (v ∷ w ∷ x ∷ y ∷ z ∷ rest) a b c d len p q r s = absurd (omega (arith, len))
+
+module _ (IsGood : MetaRow → Type 0) (spelled : MetaRow → List Row) where
+  -- a row that was refused refuses them all
+  pub refuses_number : (r : Result MetaRow StoreFault) (rows : List Row) (at : ℕ) (row : Row) (name : List ℕ) (f : MetaRow → ℕ) (fault : StoreFault) → IsErrAnd r (λ e. e ≡ fault) → row ≡ get_or rows at row
+      → ((m : MetaRow) → get_or (spelled m) at row ≡ meta_row name (f m)) → TellsNoVersion fault × (fault ≡ BadStore → (value : ℕ) → ⊤ → row ≢ meta_row name value) → ReadsAs r IsGood spelled rows
+  refuses_number (Ok m) rows at row name f fault is there one refused = absurd is
+  refuses_number (Err e) rows at row name f fault is there one refused = (
+    subst TellsNoVersion (sym is) refused.0,
+    λ bad m good same. refused.1 (sym is ∙ bad) (f m) tt (there ∙ ap (λ l. get_or l at row) same ∙ one m),
+  )

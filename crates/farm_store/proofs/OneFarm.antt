@@ -1,7 +1,8 @@
 -- Farms whose words are words are one where their tables are.
-use Rattle.std.proofs.Common.{refl, ◌≡◌, ℕ, pos, List, [], ◌∷◌, map, Bool, true, false, Option, None, Some, unwrap_or, IfSome, get_or, sym, ap, subst, ◌∙◌, arith}
+use Rattle.std.proofs.Common.{refl, ◌≡◌, ◌≢◌, ℕ, pos, List, [], ◌∷◌, map, Bool, true, false, Option, None, Some, unwrap_or, IfSome, get_or, sym, ap, subst, ◌∙◌, arith}
 use Rattle.std.specs.Option.{option_map_or}
-use Rattle.std.specs.List.{AllByRecursion}
+use Rattle.std.specs.Prelude.{◌==◌}
+use Rattle.std.specs.List.{AllByRecursion, find}
 use Rattle.sqlite.specs.declared.types.Value.TheVariants.{Int}
 use Rattle.sqlite.specs.Order.{Row}
 use Rattle.sqlite_value.specs.Order.{column}
@@ -24,8 +25,12 @@ use Rattle.farm_types.specs.declared.rows.ResRow.{ResRow}
 use Rattle.farm_types.specs.declared.rows.KeptRow.{KeptRow}
 use Rattle.farm_types.proofs.SortedTags.{tags_read_back}
 use Rattle.farm_types.specs.Tags.{tags_read}
-use Rattle.farm_store.specs.Columns.{Tables, rows_of, unit_of, holder_of, checking_code, type_columns, board_columns, job_columns, res_columns, kept_columns}
-use Rattle.farm_store.specs.Readable.{IsReadable, IsReadableType, IsReadableBoard, IsReadableJob, IsReadableRes, IsReadableKept}
+use Rattle.farm_types.specs.declared.rows.MetaRow.{MetaRow}
+use Rattle.farm_store.specs.Columns.{rows_of, unit_of, holder_of, checking_code, first_state_code, type_columns, board_columns, res_columns, kept_columns, numbers_of}
+use Rattle.farm_store.specs.Editions.{IsCollectorIn, IsReadableIn, IsReadableJobIn, IsStateIn, job_columns_in, meta_rows_in, rows_in, state_code_in}
+use Rattle.farm_store.specs.Readable.{IsReadable, IsReadableType, IsReadableBoard, IsReadableRes, IsReadableKept}
+use Rattle.farm_store.specs.declared.edition.Edition.{Edition}
+use Rattle.farm_store.proofs.EditionLemmas.{collector_in, readable_jobs, words_in, types_in, boards_in, jobs_in, reservations_in, kept_in, meta_in}
 
 same_number : (m n : ℕ) → Int (pos m) ≡ Int (pos n) → m ≡ n
 same_number m n e = cc
@@ -55,6 +60,17 @@ job_state_back JobState.Scheduled = refl
 job_state_back JobState.Running = refl
 job_state_back JobState.Canceling = refl
 job_state_back JobState.Finished = refl
+
+abbrev first_state_with : ℕ → Option JobState
+first_state_with code = find (λ x. first_state_code x == code) (JobState.Submitted ∷ JobState.Scheduled ∷ JobState.Running ∷ JobState.Canceling ∷ JobState.Finished ∷ [])
+
+first_back : (x : JobState) → x ≢ JobState.Scheduling → first_state_with (first_state_code x) ≡ Some x
+first_back JobState.Submitted other = refl
+first_back JobState.Scheduling other = absurd (other refl)
+first_back JobState.Scheduled other = refl
+first_back JobState.Running other = refl
+first_back JobState.Canceling other = refl
+first_back JobState.Finished other = refl
 
 outcome_back : (x : Option Outcome) → outcome_with (option_map_or outcome_code x 0) ≡ x
 outcome_back None = refl
@@ -130,16 +146,20 @@ same_board x y p q is =
     let whole : record x { name = x.name } ≡ record y { name = y.name } = cc in
     whole
 
-same_job : (x y : JobRow) → IsReadableJob x → IsReadableJob y → job_columns x ≡ job_columns y → x ≡ y
-same_job x y p q is =
+same_state : (e : Edition) (a b : JobState) → IsStateIn e a → IsStateIn e b → state_code_in e a ≡ state_code_in e b → a ≡ b
+same_state Edition.First a b p q is = same_some a b (sym (first_back a p) ∙ ap first_state_with is ∙ first_back b q)
+same_state Edition.Second a b p q is = same_code job_state_code job_state_with job_state_back a b is
+
+same_job : (e : Edition) (x y : JobRow) → IsReadableJobIn e x → IsReadableJobIn e y → job_columns_in e x ≡ job_columns_in e y → x ≡ y
+same_job e x y p q is =
     let checking = same_checking x.checking y.checking (cc) in
-    let kind = same_name x.want.kind y.want.kind p.kind q.kind (cc) in
-    let tags = same_tags x.want.tags y.want.tags p.tags q.tags (cc) in
-    let role = same_name x.role y.role p.role q.role (cc) in
-    let state = same_code job_state_code job_state_with job_state_back x.state y.state (cc) in
+    let kind = same_name x.want.kind y.want.kind p.words.kind q.words.kind (cc) in
+    let tags = same_tags x.want.tags y.want.tags p.words.tags q.words.tags (cc) in
+    let role = same_name x.role y.role p.words.role q.words.role (cc) in
+    let state = same_state e x.state y.state p.state q.state (cc) in
     let code : option_map_or outcome_code x.outcome 0 ≡ option_map_or outcome_code y.outcome 0 = cc in
     let outcome = sym (outcome_back x.outcome) ∙ ap outcome_with code ∙ outcome_back y.outcome in
-    let board = same_name x.board y.board p.board q.board (cc) in
+    let board = same_name x.board y.board p.words.board q.words.board (cc) in
     let whole : record x { want = record x.want { kind = x.want.kind } } ≡ record y { want = record y.want { kind = y.want.kind } } = cc in
     whole
 
@@ -169,17 +189,39 @@ same_rows IsGood columns one (x ∷ xs) (y ∷ ys) p q is =
     let more = same_rows IsGood columns one xs ys p.1 q.1 tail in
     cc
 
+-- the number in the row of a list
+number_at : (rows others : List Row) (at : ℕ) (m n : ℕ) → column (get_or rows at []) 1 ≡ Int (pos m) → column (get_or others at []) 1 ≡ Int (pos n) → rows ≡ others → m ≡ n
+number_at rows others at m n p q is = number_in (get_or rows at []) (get_or others at []) 1 m n p q (ap (λ l. get_or l at []) is)
+
+same_numbers : (e : Edition) (a b : MetaRow) → IsCollectorIn e a.collector → IsCollectorIn e b.collector → meta_rows_in e a ≡ meta_rows_in e b → a ≡ b
+same_numbers Edition.First a b p q is =
+    let at = number_at (meta_rows_in Edition.First a) (meta_rows_in Edition.First b) in
+    let clock = at 0 a.clock b.clock refl refl is in
+    let collector = p ∙ sym q in
+    let count = at 1 a.count b.count refl refl is in
+    let next = at 2 a.next b.next refl refl is in
+    λ i. record { clock = clock i; collector = collector i; count = count i; next = next i }
+same_numbers Edition.Second a b p q is =
+    let at = number_at (meta_rows_in Edition.Second a) (meta_rows_in Edition.Second b) in
+    let clock = at 0 a.clock b.clock refl refl is in
+    let collector = at 1 a.collector b.collector refl refl is in
+    let count = at 2 a.count b.count refl refl is in
+    let next = at 3 a.next b.next refl refl is in
+    λ i. record { clock = clock i; collector = collector i; count = count i; next = next i }
+
+pub one_farm_in : (e : Edition) (F G : Farm) → IsReadableIn e F → IsReadableIn e G → rows_in e F ≡ rows_in e G → F ≡ G
+one_farm_in e F G p q is =
+    let T = rows_in e G in
+    let p_words = words_in e F p in
+    let q_words = words_in e G q in
+    let types = same_rows IsReadableType type_columns same_type F.types G.types p_words.types q_words.types (sym (types_in e F T is) ∙ types_in e G T refl) in
+    let boards = same_rows IsReadableBoard board_columns same_board F.boards G.boards p_words.boards q_words.boards (sym (boards_in e F T is) ∙ boards_in e G T refl) in
+    let jobs = same_rows (IsReadableJobIn e) (job_columns_in e) (same_job e) F.jobs G.jobs (readable_jobs e F p) (readable_jobs e G q)
+    (sym (jobs_in e F T is) ∙ jobs_in e G T refl) in
+    let reservations = same_rows IsReadableRes res_columns same_res F.reservations G.reservations p_words.reservations q_words.reservations (sym (reservations_in e F T is) ∙ reservations_in e G T refl) in
+    let kept = same_rows IsReadableKept kept_columns same_kept F.kept G.kept p_words.kept q_words.kept (sym (kept_in e F T is) ∙ kept_in e G T refl) in
+    let numbers : numbers_of F ≡ numbers_of G = same_numbers e (numbers_of F) (numbers_of G) (collector_in e F p) (collector_in e G q) (sym (meta_in e F T is) ∙ meta_in e G T refl) in
+    λ i. record { types = types i; boards = boards i; jobs = jobs i; reservations = reservations i; kept = kept i; clock = (numbers i).clock; collector = (numbers i).collector; count = (numbers i).count; next = (numbers i).next }
+
 pub one_farm : (F G : Farm) → IsReadable F → IsReadable G → rows_of F ≡ rows_of G → F ≡ G
-unfolding rows_of
-one_farm F G p q is =
-    let types = same_rows IsReadableType type_columns same_type F.types G.types p.types q.types (ap (λ (T : Tables). T.types) is) in
-    let boards = same_rows IsReadableBoard board_columns same_board F.boards G.boards p.boards q.boards (ap (λ (T : Tables). T.boards) is) in
-    let jobs = same_rows IsReadableJob job_columns same_job F.jobs G.jobs p.jobs q.jobs (ap (λ (T : Tables). T.jobs) is) in
-    let reservations = same_rows IsReadableRes res_columns same_res F.reservations G.reservations p.reservations q.reservations (ap (λ (T : Tables). T.reservations) is) in
-    let kept = same_rows IsReadableKept kept_columns same_kept F.kept G.kept p.kept q.kept (ap (λ (T : Tables). T.kept) is) in
-    let meta = ap (λ (T : Tables). T.meta) is in
-    let clock : F.clock ≡ G.clock = number_in (get_or (rows_of F).meta 0 []) (get_or (rows_of G).meta 0 []) 1 F.clock G.clock refl refl (ap (λ rows. get_or rows 0 []) meta) in
-    let collector : F.collector ≡ G.collector = number_in (get_or (rows_of F).meta 1 []) (get_or (rows_of G).meta 1 []) 1 F.collector G.collector refl refl (ap (λ rows. get_or rows 1 []) meta) in
-    let count : F.count ≡ G.count = number_in (get_or (rows_of F).meta 2 []) (get_or (rows_of G).meta 2 []) 1 F.count G.count refl refl (ap (λ rows. get_or rows 2 []) meta) in
-    let next : F.next ≡ G.next = number_in (get_or (rows_of F).meta 3 []) (get_or (rows_of G).meta 3 []) 1 F.next G.next refl refl (ap (λ rows. get_or rows 3 []) meta) in
-    λ i. record { types = types i; boards = boards i; jobs = jobs i; reservations = reservations i; kept = kept i; clock = clock i; collector = collector i; count = count i; next = next i }
+one_farm F G p q is = one_farm_in Edition.Second F G p q is

@@ -1,11 +1,11 @@
 -- Rows read one after another.
-use Rattle.std.proofs.Common.{◌≡◌, ◌≢◌, ℕ, zero, suc, ◌+◌, ◌<◌, List, [], ◌∷◌, ◌++◌, map, take, length, get_or, Result, Ok, Err, OnOk, IsErrAnd, sym, ap, ◌∙◌, arith}
+use Rattle.std.proofs.Common.{◌≡◌, ◌≢◌, ℕ, zero, suc, ◌+◌, ◌<◌, List, [], ◌∷◌, ◌++◌, map, take, length, get_or, Result, Ok, Err, OnOk, IsErrAnd, sym, ap, subst, ◌∙◌, arith}
 use Rattle.std.specs.List.{AllByRecursion}
 use Rattle.std.proofs.lemmas.List.{take_more, map-append}
 use Rattle.sqlite.specs.Order.{Row}
-use Rattle.farm_store.specs.Reading.{ReadsAll, ReadsRow, Spells}
+use Rattle.farm_store.specs.Reading.{ReadsAll, ReadsRow, Spells, TellsNoVersion}
 use Rattle.farm_store.specs.declared.fault.StoreFault.{StoreFault}
-use Rattle.farm_store.specs.declared.fault.StoreFault.TheVariants.{BadStore, OldSchema}
+use Rattle.farm_store.specs.declared.fault.StoreFault.TheVariants.{BadStore}
 
 pub all_at : {X : Type 0} (P : X → Type 0) (xs : List X) (at : ℕ) (d : X) → AllByRecursion P xs → at < length xs → P (get_or xs at d)
 all_at P [] at d all low = absurd (omega arith)
@@ -39,13 +39,13 @@ on_ok (Ok a) P p = p
 on_ok (Err e) P p = tt
 
 -- a row that was refused refuses them all
-pub refuses : {A X : Type 0} (r : Result A StoreFault) (items : A → List X) (IsGood : X → Type 0) (columns : X → Row) (rows : List Row) (fault : StoreFault) → IsErrAnd r (λ e. e ≡ fault) → fault ≢ OldSchema
+pub refuses : {A X : Type 0} (r : Result A StoreFault) (items : A → List X) (IsGood : X → Type 0) (columns : X → Row) (rows : List Row) (fault : StoreFault) → IsErrAnd r (λ e. e ≡ fault) → TellsNoVersion fault
     → (fault ≡ BadStore → (xs : List X) → AllByRecursion IsGood xs → rows ≢ map columns xs) → ReadsAll r items IsGood columns rows
 refuses (Ok a) items IsGood columns rows fault is known none = absurd is
-refuses (Err e) items IsGood columns rows fault is known none = (λ old. known (sym is ∙ old), λ bad. none (sym is ∙ bad))
+refuses (Err e) items IsGood columns rows fault is known none = (subst TellsNoVersion (sym is) known, λ bad. none (sym is ∙ bad))
 
 -- a column that was refused refuses the row
-pub refuses_row : {X : Type 0} (r : Result X StoreFault) (IsGood : X → Type 0) (columns : X → Row) (row : Row) (fault : StoreFault) → IsErrAnd r (λ e. e ≡ fault) → fault ≢ OldSchema
+pub refuses_row : {X : Type 0} (r : Result X StoreFault) (IsGood : X → Type 0) (columns : X → Row) (row : Row) (fault : StoreFault) → IsErrAnd r (λ e. e ≡ fault) → TellsNoVersion fault
     → (fault ≡ BadStore → (x : X) → IsGood x → ¬ Spells row 0 (columns x)) → ReadsRow r IsGood columns row
 refuses_row (Ok a) IsGood columns row fault is known none = absurd is
-refuses_row (Err e) IsGood columns row fault is known none = (λ old. known (sym is ∙ old), λ bad. none (sym is ∙ bad))
+refuses_row (Err e) IsGood columns row fault is known none = (subst TellsNoVersion (sym is) known, λ bad. none (sym is ∙ bad))

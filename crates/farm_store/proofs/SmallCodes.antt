@@ -1,5 +1,5 @@
 -- Codes and priorities are small numbers.
-use Rattle.std.proofs.Common.{ℕ, ◌≤◌, IsTrue, arith}
+use Rattle.std.proofs.Common.{ℕ, ◌≤◌, ◌≢◌, IsTrue, arith, refl}
 use Rattle.std.proofs.lemmas.Bool.Decides.{nat_tests}
 use Rattle.farm_types.specs.Codes.{health_code, state_code, job_state_code, outcome_code, res_state_code}
 use Rattle.farm_types.specs.Limits.{is_priority}
@@ -11,7 +11,7 @@ use Rattle.farm_types.specs.declared.rows.JobState.{JobState}
 use Rattle.farm_types.specs.declared.rows.Outcome.{Outcome}
 use Rattle.farm_types.specs.declared.rows.ResState.{ResState}
 use Rattle.farm_types.specs.declared.rows.State.{State}
-use Rattle.farm_store.specs.Columns.{unit_of, holder_of}
+use Rattle.farm_store.specs.Columns.{first_state_code, unit_of, holder_of}
 
 pub unit_is_small : (c : Check) → IsSmall (unit_of c)
 unit_is_small Check.Never = omega arith
@@ -42,6 +42,15 @@ job_state_is_small JobState.Scheduled = omega arith
 job_state_is_small JobState.Running = omega arith
 job_state_is_small JobState.Canceling = omega arith
 job_state_is_small JobState.Finished = omega arith
+
+-- the first edition's codes are 0 to 4
+pub first_code_is_low : (s : JobState) → s ≢ JobState.Scheduling → first_state_code s ≤ 4
+first_code_is_low JobState.Submitted known = omega arith
+first_code_is_low JobState.Scheduling known = absurd (known refl)
+first_code_is_low JobState.Scheduled known = omega arith
+first_code_is_low JobState.Running known = omega arith
+first_code_is_low JobState.Canceling known = omega arith
+first_code_is_low JobState.Finished known = omega arith
 
 pub outcome_is_small : (o : Outcome) → IsSmall (outcome_code o)
 outcome_is_small Outcome.Complete = omega arith

@@ -21,10 +21,11 @@ use Rattle.farm_types.specs.declared.rows.Holder.{Holder}
 use Rattle.farm_types.specs.declared.rows.TypeRow.{TypeRow}
 use Rattle.farm_types.specs.declared.rows.BoardRow.{BoardRow}
 use Rattle.farm_types.specs.declared.rows.JobRow.{JobRow}
+use Rattle.farm_types.specs.declared.rows.JobState.{JobState}
 use Rattle.farm_types.specs.declared.rows.ResRow.{ResRow}
 use Rattle.farm_types.specs.declared.rows.KeptRow.{KeptRow}
 use Rattle.farm_types.specs.declared.rows.MetaRow.{MetaRow}
-use Rattle.farm_store.specs.declared.schema.TheConstants.{SCHEMA}
+use Rattle.farm_store.specs.declared.schema.TheConstants.{FIRST_SCHEMA, SCHEMA}
 
 -- a column of a table whose rows stand for such things, and what it holds of one
 pub record Field (R : Type 0) : Type 0 where
@@ -75,8 +76,9 @@ board_fields = text (codes "name") (λ r. r.name)
     ∷ number (codes "jobs_since") (λ r. r.jobs_since)
     ∷ number (codes "last_check") (λ r. r.last_check) ∷ []
 
-abbrev pub job_fields : List (Field JobRow)
-job_fields = number (codes "number") (λ r. r.number)
+-- with a code for its state
+abbrev pub job_fields_by : (JobState → ℕ) → List (Field JobRow)
+job_fields_by code = number (codes "number") (λ r. r.number)
     ∷ number (codes "grp") (λ r. r.group)
     ∷ number (codes "checking") (λ r. checking_code r.checking)
     ∷ text (codes "owner") (λ r. r.owner)
@@ -84,10 +86,13 @@ job_fields = number (codes "number") (λ r. r.number)
     ∷ text (codes "kind") (λ r. unwrap_or r.want.kind [])
     ∷ text (codes "tags") (λ r. tags_text r.want.tags)
     ∷ text (codes "role") (λ r. unwrap_or r.role [])
-    ∷ number (codes "state") (λ r. job_state_code r.state)
+    ∷ number (codes "state") (λ r. code r.state)
     ∷ number (codes "outcome") (λ r. option_map_or outcome_code r.outcome 0)
     ∷ text (codes "board") (λ r. unwrap_or r.board [])
     ∷ text (codes "body") (λ r. r.body) ∷ []
+
+abbrev pub job_fields : List (Field JobRow)
+job_fields = job_fields_by job_state_code
 
 abbrev pub res_fields : List (Field ResRow)
 res_fields = number (codes "number") (λ r. r.number)
@@ -159,6 +164,36 @@ rows_of F = record {
   kept = map kept_columns F.kept;
   meta = meta_rows (numbers_of F);
 }
+
+-- ---- the first edition's tables: the states of jobs have codes of their own, and Scheduling has
+-- none that is read; no row tells which group collects
+
+abbrev pub first_state_code : JobState → ℕ
+first_state_code JobState.Submitted = 0
+first_state_code JobState.Scheduled = 1
+first_state_code JobState.Running = 2
+first_state_code JobState.Canceling = 3
+first_state_code JobState.Finished = 4
+first_state_code JobState.Scheduling = 5
+
+abbrev pub first_job_columns : JobRow → Row
+first_job_columns = values_of (job_fields_by first_state_code)
+
+abbrev pub first_meta_rows : MetaRow → List Row
+first_meta_rows m = meta_row (codes "clock") m.clock ∷ meta_row (codes "count") m.count
+    ∷ meta_row (codes "next") m.next ∷ meta_row (codes "schema") FIRST_SCHEMA ∷ []
+
+unfoldable pub first_rows_of : Farm → Tables
+first_rows_of F = record {
+  types = map type_columns F.types;
+  boards = map board_columns F.boards;
+  jobs = map first_job_columns F.jobs;
+  reservations = map res_columns F.reservations;
+  kept = map kept_columns F.kept;
+  meta = first_meta_rows (numbers_of F);
+}
+
+-- ----
 
 -- the value is this text, or this number
 abbrev pub is_text : List ℕ → Value → Bool

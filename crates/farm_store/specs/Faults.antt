@@ -7,3 +7,4 @@ fault_code StoreFault.NoMemory = 1
 fault_code StoreFault.Store = 60
 fault_code StoreFault.BadStore = 62
 fault_code StoreFault.OldSchema = 63
+fault_code StoreFault.NewSchema = 64

@@ -1,4 +1,5 @@
 pub mod Columns
+pub mod Editions
 pub mod Edits
 pub mod Faults
 pub mod Holds

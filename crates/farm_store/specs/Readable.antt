@@ -1,5 +1,5 @@
 -- Farms whose words are words: those that tables can spell.
-use Rattle.std.specs.Prelude.{◌≡◌, IsTrue, None, IfSome}
+use Rattle.std.specs.Prelude.{◌≡◌, ◌≢◌, IsTrue, None, IfSome}
 use Rattle.std.specs.List.{AllByRecursion}
 use Rattle.farm_types.specs.Words.{IsName, IsKey, IsTags, IsText}
 use Rattle.farm_types.specs.Limits.{is_priority}
@@ -7,6 +7,7 @@ use Rattle.farm_types.specs.Farm.{Farm}
 use Rattle.farm_types.specs.declared.rows.TypeRow.{TypeRow}
 use Rattle.farm_types.specs.declared.rows.BoardRow.{BoardRow}
 use Rattle.farm_types.specs.declared.rows.JobRow.{JobRow}
+use Rattle.farm_types.specs.declared.rows.JobState.{JobState}
 use Rattle.farm_types.specs.declared.rows.ResRow.{ResRow}
 use Rattle.farm_types.specs.declared.rows.KeptRow.{KeptRow}
 
@@ -45,3 +46,10 @@ pub record IsReadable (F : Farm) : Type 0 where
   pub jobs : AllByRecursion IsReadableJob F.jobs
   pub reservations : AllByRecursion IsReadableRes F.reservations
   pub kept : AllByRecursion IsReadableKept F.kept
+
+-- a farm that the first edition's tables can spell: besides, no job is Scheduling, and no group
+-- collects
+pub record IsReadableFirst (F : Farm) : Type 0 where
+  pub words : IsReadable F
+  pub states : AllByRecursion (λ j. j.state ≢ JobState.Scheduling) F.jobs
+  pub none : F.collector ≡ 0

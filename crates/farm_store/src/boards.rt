@@ -7,8 +7,10 @@ ghost use Rattle.farm_types.specs.Small.{IsSmallBoard, held_by};
 ghost use Rattle.farm_types.specs.Tags.{tags_text};
 ghost use Rattle.farm_types.specs.declared.rows.Holder.{Holder};
 ghost use Rattle.farm_store.specs.Columns.{board_columns, holder_of};
+ghost use Rattle.farm_store.specs.Reading.{TellsNoVersion};
 ghost use Rattle.farm_store.specs.Schema.{boards_table};
 
+use crate::edition::Edition;
 use crate::fault::StoreFault;
 use crate::queries::cells::{health_at, name_at, number_at, state_at, tags_at};
 use crate::queries::rows::Stored;
@@ -85,7 +87,7 @@ fn holder_at(row: &Row, kind: usize, number: usize) -> Result<Holder, StoreFault
     ensures { MatchResult result
         (λ holder. (column row.now kind ≡ Int (pos (holder_of holder)))
         × (column row.now number ≡ Int (pos (held_by holder))))
-        (λ fault. (fault ≢ StoreFault.OldSchema)
+        (λ fault. TellsNoVersion fault
         × (fault ≡ StoreFault.BadStore → (holder : Holder)
         → column row.now kind ≡ Int (pos (holder_of holder))
         → column row.now number ≢ Int (pos (held_by holder)))) }
@@ -148,16 +150,16 @@ impl Stored for BoardRow {
 
     ghost place = { of_boards };
 
-    ghost columns = { board_columns };
+    ghost columns = { λ _. board_columns };
 
-    ghost IsGood = { IsReadableBoard };
+    ghost IsGood = { λ _. IsReadableBoard };
 
     fn rows<S: Alter>(tx: &mut Transaction<'_, S>) -> Result<Vec<Row>, Error> {
         let rows = tx.query_all(READ, &[])?;
         Ok(rows)
     }
 
-    fn of(alloc: Global, row: &Row) -> Result<BoardRow, StoreFault> {
+    fn of(alloc: Global, row: &Row, _: Edition) -> Result<BoardRow, StoreFault> {
         Ok(BoardRow {
             name: name_at(alloc, row, 0)?,
             kind: name_at(alloc, row, 1)?,
@@ -170,5 +172,5 @@ impl Stored for BoardRow {
         })
     }
 
-    ghost wide = { λ x. refl };
+    ghost wide = { λ _ x. refl };
 }

@@ -21,6 +21,9 @@ pub enum StoreFault {
     /// The tables are those of an earlier edition.
     #[error("the tables have an older schema")]
     OldSchema,
+    /// The tables are those of this edition, where those of the earlier one are wanted.
+    #[error("the tables have this schema already")]
+    NewSchema,
 }
 
 impl StoreFault {
@@ -33,6 +36,7 @@ impl StoreFault {
             StoreFault::Store => 60,
             StoreFault::BadStore => 62,
             StoreFault::OldSchema => 63,
+            StoreFault::NewSchema => 64,
         }
     }
 }

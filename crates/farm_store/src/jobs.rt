@@ -10,6 +10,7 @@ ghost use Rattle.farm_types.specs.Tags.{tags_text};
 ghost use Rattle.farm_store.specs.Columns.{job_columns};
 ghost use Rattle.farm_store.specs.Schema.{jobs_table};
 
+use crate::edition::Edition;
 use crate::fault::StoreFault;
 use crate::queries::cells::{
     body_at, checking_at, job_state_at, name_at, name_if_any_at, number_at, outcome_at,
@@ -120,22 +121,21 @@ impl Upsert for Tagged<'_, JobRow> {
 
 impl Stored for JobRow {
     ghost use Rattle.std.specs.Prelude.{refl};
-    ghost use Rattle.farm_store.specs.Columns.{job_columns};
+    ghost use Rattle.farm_store.specs.Editions.{IsReadableJobIn, job_columns_in};
     ghost use Rattle.farm_store.specs.Places.{of_jobs};
-    ghost use Rattle.farm_store.specs.Readable.{IsReadableJob};
 
     ghost place = { of_jobs };
 
-    ghost columns = { job_columns };
+    ghost columns = { job_columns_in };
 
-    ghost IsGood = { IsReadableJob };
+    ghost IsGood = { IsReadableJobIn };
 
     fn rows<S: Alter>(tx: &mut Transaction<'_, S>) -> Result<Vec<Row>, Error> {
         let rows = tx.query_all(READ, &[])?;
         Ok(rows)
     }
 
-    fn of(alloc: Global, row: &Row) -> Result<JobRow, StoreFault> {
+    fn of(alloc: Global, row: &Row, edition: Edition) -> Result<JobRow, StoreFault> {
         Ok(JobRow {
             number: number_at(row, 0)?,
             group: number_at(row, 1)?,
@@ -147,12 +147,12 @@ impl Stored for JobRow {
                 tags: tags_at(alloc, row, 6)?,
             },
             role: name_if_any_at(alloc, row, 7)?,
-            state: job_state_at(row, 8)?,
+            state: job_state_at(row, 8, edition)?,
             outcome: outcome_at(row, 9)?,
             board: name_if_any_at(alloc, row, 10)?,
             body: body_at(alloc, row, 11)?,
         })
     }
 
-    ghost wide = { λ x. refl };
+    ghost wide = { λ _ x. refl };
 }

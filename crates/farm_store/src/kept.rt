@@ -5,6 +5,7 @@ ghost use Rattle.farm_types.specs.Small.{IsSmallKept};
 ghost use Rattle.farm_store.specs.Columns.{kept_columns};
 ghost use Rattle.farm_store.specs.Schema.{kept_table};
 
+use crate::edition::Edition;
 use crate::fault::StoreFault;
 use crate::queries::cells::{key_at, name_at, number_at};
 use crate::queries::rows::Stored;
@@ -88,16 +89,16 @@ impl Stored for KeptRow {
 
     ghost place = { of_kept };
 
-    ghost columns = { kept_columns };
+    ghost columns = { λ _. kept_columns };
 
-    ghost IsGood = { IsReadableKept };
+    ghost IsGood = { λ _. IsReadableKept };
 
     fn rows<S: Alter>(tx: &mut Transaction<'_, S>) -> Result<Vec<Row>, Error> {
         let rows = tx.query_all(READ, &[])?;
         Ok(rows)
     }
 
-    fn of(alloc: Global, row: &Row) -> Result<KeptRow, StoreFault> {
+    fn of(alloc: Global, row: &Row, _: Edition) -> Result<KeptRow, StoreFault> {
         Ok(KeptRow {
             caller: name_at(alloc, row, 0)?,
             key: key_at(alloc, row, 1)?,
@@ -106,5 +107,5 @@ impl Stored for KeptRow {
         })
     }
 
-    ghost wide = { λ x. refl };
+    ghost wide = { λ _ x. refl };
 }

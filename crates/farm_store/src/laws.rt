@@ -1,11 +1,11 @@
 //! Laws over the tables.
-ghost use Rattle.std.specs.Prelude.{◌≡◌};
+ghost use Rattle.std.specs.Prelude.{◌≡◌, ◌≢◌};
 ghost use Rattle.sqlite.specs.Held.{state};
 ghost use Rattle.sqlite.specs.State.{IsLive, Opens};
 ghost use Rattle.farm_types.specs.Farm.{Farm};
-ghost use Rattle.farm_store.specs.Columns.{Tables, rows_of};
+ghost use Rattle.farm_store.specs.Columns.{Tables, first_rows_of, rows_of};
 ghost use Rattle.farm_store.specs.Holds.{Holds, Stands};
-ghost use Rattle.farm_store.specs.Readable.{IsReadable};
+ghost use Rattle.farm_store.specs.Readable.{IsReadable, IsReadableFirst};
 ghost use Rattle.farm_types.specs.Sound.{IsSound};
 
 use sqlite::{Alter, Connection};
@@ -23,6 +23,17 @@ pub fn opened_stands<S: Alter>(conn: &Connection<S>)
 /// Farms whose words are words have the same tables only where they are the same farm.
 pub fn tables_lose_nothing()
     ensures { (F G : Farm) → IsReadable F → IsReadable G → rows_of F ≡ rows_of G → F ≡ G }
+{}
+
+/// The same of tables of the first edition, for farms that it knew.
+pub fn first_tables_lose_nothing()
+    ensures { (F G : Farm) → IsReadableFirst F → IsReadableFirst G
+        → first_rows_of F ≡ first_rows_of G → F ≡ G }
+{}
+
+/// No farm's tables of this edition are a farm's of the first one.
+pub fn editions_are_apart()
+    ensures { (F G : Farm) → rows_of F ≢ first_rows_of G }
 {}
 
 /// The words of a sound farm are words, so its tables can be read.

@@ -1,20 +1,24 @@
 //! The table of the farm's numbers: its statements, and what its rows stand for.
-ghost use Rattle.std.specs.Prelude.{◌≡◌, ◌≢◌, ◌↔◌, ◌⊎◌, [], ◌∷◌, Err, IfOk, IsTrue, OnOk};
+ghost use Rattle.std.specs.Prelude.{◌≡◌, ◌≢◌, ◌↔◌, ◌⊎◌, [], ◌∷◌, Err, IfErr, IfOk, IsTrue, OnOk};
 ghost use Rattle.std.specs.Prelude.{MatchResult, ⊤};
 ghost use Rattle.std.specs.List.{AllByRecursion, list_any};
 ghost use Rattle.sqlite.specs.Held.{state};
 ghost use Rattle.sqlite.specs.State.{HasCleanDisk};
 ghost use Rattle.sqlite.specs.Values.{bound};
 ghost use Rattle.farm_types.specs.Small.{IsSmall};
-ghost use Rattle.farm_store.specs.Columns.{IsOfSchema, Tables, meta_row, meta_rows, number_rows};
-ghost use Rattle.farm_store.specs.Columns.{tells};
+ghost use Rattle.farm_store.specs.Columns.{Tables, first_meta_rows, meta_row, meta_rows};
+ghost use Rattle.farm_store.specs.Columns.{number_rows, tells};
+ghost use Rattle.farm_store.specs.Editions.{IsCollectorIn, meta_rows_in, other_edition, schema_of};
+ghost use Rattle.farm_store.specs.Editions.{told_as};
 ghost use Rattle.farm_store.specs.Edits.{ChangesTables, GoesOn, StaysOpen};
 ghost use Rattle.farm_store.specs.Holds.{IsInside};
 ghost use Rattle.farm_store.specs.Places.{of_meta, put_at};
 ghost use Rattle.farm_store.specs.Reading.{CommitShows, LooksAtSchema, ReadsAs, ReadsNumbers};
+ghost use Rattle.farm_store.specs.Reading.{TellsNoVersion};
 ghost use Rattle.farm_store.specs.Schema.{meta_table};
 ghost use Rattle.farm_store.specs.Stored.{IsWide};
 
+use crate::edition::Edition;
 use crate::fault::StoreFault;
 use crate::queries::cells::{is_number_at, is_text_at, number_at, text_at};
 use crate::schema::{FIRST_SCHEMA, SCHEMA};
@@ -93,8 +97,9 @@ pub(crate) fn put_numbers<S: Alter>(
 
 /// The number of the row with that name.
 fn number_of(row: &Row, name: &str) -> Result<u64, StoreFault>
-    ensures { IsWide of_meta.width row.now
+    ensures read { IsWide of_meta.width row.now
         → ReadsAs result (λ _. ⊤) (λ value. meta_row name.now value) row.now }
+    ensures fault { IfErr result TellsNoVersion }
 {
     if text_at(row, 0)? == name.as_bytes() {
         number_at(row, 1)
@@ -103,10 +108,37 @@ fn number_of(row: &Row, name: &str) -> Result<u64, StoreFault>
     }
 }
 
+/// The farm's numbers in the first edition, where their four rows are all that there is: no group
+/// collects.
+fn first_numbers_of(rows: &[Row]) -> Result<MetaRow, StoreFault>
+    ensures read { AllByRecursion (IsWide of_meta.width) rows.now
+        → ReadsAs result (λ m. m.collector ≡ 0) first_meta_rows rows.now }
+    ensures none { IfOk result (λ m. m.collector ≡ 0) }
+    ensures fault { IfErr result TellsNoVersion }
+{
+    let [clock, count, next, schema] = rows else {
+        return Err(StoreFault::BadStore);
+    };
+    let clock = number_of(clock, "clock")?;
+    let count = number_of(count, "count")?;
+    let next = number_of(next, "next")?;
+    if number_of(schema, "schema")? == FIRST_SCHEMA {
+        Ok(MetaRow {
+            clock,
+            collector: 0,
+            count,
+            next,
+        })
+    } else {
+        Err(StoreFault::BadStore)
+    }
+}
+
 /// The farm's numbers, where their five rows are all that there is.
-fn numbers_of(rows: &[Row]) -> Result<MetaRow, StoreFault>
-    ensures { AllByRecursion (IsWide of_meta.width) rows.now
+fn second_numbers_of(rows: &[Row]) -> Result<MetaRow, StoreFault>
+    ensures read { AllByRecursion (IsWide of_meta.width) rows.now
         → ReadsAs result (λ _. ⊤) meta_rows rows.now }
+    ensures fault { IfErr result TellsNoVersion }
 {
     let [clock, collector, count, next, schema] = rows else {
         return Err(StoreFault::BadStore);
@@ -127,6 +159,19 @@ fn numbers_of(rows: &[Row]) -> Result<MetaRow, StoreFault>
     }
 }
 
+/// The farm's numbers in an edition.
+fn numbers_of(rows: &[Row], edition: Edition) -> Result<MetaRow, StoreFault>
+    ensures read { AllByRecursion (IsWide of_meta.width) rows.now
+        → ReadsAs result (λ m. IsCollectorIn edition m.collector) (meta_rows_in edition) rows.now }
+    ensures collector { IfOk result (λ m. IsCollectorIn edition m.collector) }
+    ensures fault { IfErr result TellsNoVersion }
+{
+    match edition {
+        Edition::First => first_numbers_of(rows),
+        Edition::Second => second_numbers_of(rows),
+    }
+}
+
 /// Whether a row tells this version of the tables.
 fn is_version(row: &Row, version: u64) -> bool
     ensures { result ≡ tells version row.now }
@@ -141,18 +186,21 @@ fn have_version(rows: &[Row], version: u64) -> bool
     rows.iter().any(|row| is_version(row, version))
 }
 
-/// Refuses rows that tell the first version, and those that don't tell this one.
-fn look_at_schema(rows: &[Row]) -> Result<(), StoreFault>
-    ensures { MatchResult result (λ _. ¬ IsTrue (list_any (tells FIRST_SCHEMA) rows.now)
-        × IsTrue (list_any (tells SCHEMA) rows.now))
-        (λ fault. ((fault ≡ StoreFault.OldSchema)
-        × IsTrue (list_any (tells FIRST_SCHEMA) rows.now))
-        ⊎ ((fault ≡ StoreFault.BadStore) × ¬ IsTrue (list_any (tells FIRST_SCHEMA) rows.now)
-        × ¬ IsTrue (list_any (tells SCHEMA) rows.now))) }
+/// Refuses rows that tell the other edition's version, and those that don't tell this one's.
+fn look_at_schema(rows: &[Row], edition: Edition) -> Result<(), StoreFault>
+    ensures { MatchResult result
+        (λ _. ¬ IsTrue (list_any (tells (schema_of (other_edition edition))) rows.now)
+        × IsTrue (list_any (tells (schema_of edition)) rows.now))
+        (λ fault. ((fault ≡ told_as (other_edition edition))
+        × IsTrue (list_any (tells (schema_of (other_edition edition))) rows.now))
+        ⊎ ((fault ≡ StoreFault.BadStore)
+        × ¬ IsTrue (list_any (tells (schema_of (other_edition edition))) rows.now)
+        × ¬ IsTrue (list_any (tells (schema_of edition)) rows.now))) }
 {
-    if have_version(rows, FIRST_SCHEMA) {
-        Err(StoreFault::OldSchema)
-    } else if have_version(rows, SCHEMA) {
+    let other = edition.other();
+    if have_version(rows, other.schema()) {
+        Err(other.refusal())
+    } else if have_version(rows, edition.schema()) {
         Ok(())
     } else {
         Err(StoreFault::BadStore)
@@ -176,14 +224,19 @@ fn meta_rows<S: Alter>(tx: &mut Transaction<'_, S>) -> Result<Vec<Row>, Error>
     Ok(rows)
 }
 
-/// The farm's numbers. The version is looked at before the other rows.
-pub(crate) fn read_numbers<S: Alter>(tx: &mut Transaction<'_, S>) -> Result<MetaRow, StoreFault>
+/// The farm's numbers in an edition. The version is looked at before the other rows.
+pub(crate) fn read_numbers<S: Alter>(
+    tx: &mut Transaction<'_, S>,
+    edition: Edition,
+) -> Result<MetaRow, StoreFault>
     ensures goes_on { GoesOn S.Store tx.old tx.new }
     ensures read { HasCleanDisk (state S.Store tx.new.conn.now) → (T : Tables)
         → IsInside (state S.Store tx.old.conn.now) T
-        → ReadsNumbers result T }
+        → ReadsNumbers edition result T }
     ensures schema { HasCleanDisk (state S.Store tx.new.conn.now) → (T : Tables)
-        → IsInside (state S.Store tx.old.conn.now) T → LooksAtSchema result T }
+        → IsInside (state S.Store tx.old.conn.now) T → LooksAtSchema edition result T }
+    ensures collector { IfOk result (λ m. IsCollectorIn edition m.collector) }
+    ensures fault { result ≢ Err (told_as edition) }
     ensures inside { HasCleanDisk (state S.Store tx.new.conn.now)
         → OnOk result ((T : Tables) → IsInside (state S.Store tx.old.conn.now) T
         → IsInside (state S.Store tx.new.conn.now) T) }
@@ -195,6 +248,6 @@ pub(crate) fn read_numbers<S: Alter>(tx: &mut Transaction<'_, S>) -> Result<Meta
         → CommitShows (state S.Store tx.new.conn.now) T }
 {
     let rows = meta_rows(tx)?;
-    look_at_schema(&rows)?;
-    numbers_of(&rows)
+    look_at_schema(&rows, edition)?;
+    numbers_of(&rows, edition)
 }

@@ -2,17 +2,20 @@
 pub(crate) mod cells;
 pub(crate) mod rows;
 
-ghost use Rattle.std.specs.Prelude.{◌≡◌, ◌⊎◌, false, Err, IfOk, IsTrue, OnOk};
+ghost use Rattle.std.specs.Prelude.{◌≡◌, ◌≢◌, ◌⊎◌, false, Err, IfErr, IfOk, IsTrue, OnOk};
 ghost use Rattle.sqlite.specs.Held.{state};
 ghost use Rattle.sqlite.specs.State.{HasCleanDisk};
 ghost use Rattle.farm_types.specs.Farm.{Farm, farm_of};
-ghost use Rattle.farm_store.specs.Columns.{IsOfSchema, Tables, meta_rows, rows_of};
+ghost use Rattle.farm_store.specs.Columns.{IsOfSchema, Tables, first_rows_of, rows_of};
+ghost use Rattle.farm_store.specs.Editions.{IsCollectorIn, meta_rows_in, told_as};
 ghost use Rattle.farm_store.specs.Edits.{GoesOn};
 ghost use Rattle.farm_store.specs.Holds.{IsInside, KeepsDoubt, Stands, LeavesNoMore};
-ghost use Rattle.farm_store.specs.Readable.{IsReadable};
+ghost use Rattle.farm_store.specs.Readable.{IsReadable, IsReadableFirst};
 ghost use Rattle.farm_store.specs.Reading.{CommitShows, LooksAtSchema, ReadsFarm};
+ghost use Rattle.farm_store.specs.Reading.{TellsNoVersion};
 ghost use Rattle.farm_store.specs.Schema.{farm_schema};
 
+use crate::edition::Edition;
 use crate::fault::StoreFault;
 use crate::meta::read_numbers;
 use crate::queries::rows::read;
@@ -28,21 +31,24 @@ fn read_tables<S: Alter>(
     alloc: Global,
     tx: &mut Transaction<'_, S>,
     meta: MetaRow,
+    edition: Edition,
 ) -> Result<Rows, StoreFault>
     ensures goes_on { GoesOn S.Store tx.old tx.new }
     ensures read { HasCleanDisk (state S.Store tx.new.conn.now) → (T : Tables)
-        → IsInside (state S.Store tx.old.conn.now) T → T.meta ≡ meta_rows meta
-        → ReadsFarm result T }
+        → IsInside (state S.Store tx.old.conn.now) T → IsCollectorIn edition meta.collector
+        → T.meta ≡ meta_rows_in edition meta → ReadsFarm edition result T }
+    ensures numbers { IfOk result (λ rows. rows.meta ≡ meta) }
+    ensures fault { IfErr result TellsNoVersion }
     ensures kept { HasCleanDisk (state S.Store tx.new.conn.now) → (T : Tables)
         → IsInside (state S.Store tx.old.conn.now) T
         → CommitShows (state S.Store tx.old.conn.now) T
         → CommitShows (state S.Store tx.new.conn.now) T }
 {
-    let types = read::<TypeRow, S>(alloc, tx)?;
-    let boards = read::<BoardRow, S>(alloc, tx)?;
-    let jobs = read::<JobRow, S>(alloc, tx)?;
-    let reservations = read::<ResRow, S>(alloc, tx)?;
-    let kept = read::<KeptRow, S>(alloc, tx)?;
+    let types = read::<TypeRow, S>(alloc, tx, edition)?;
+    let boards = read::<BoardRow, S>(alloc, tx, edition)?;
+    let jobs = read::<JobRow, S>(alloc, tx, edition)?;
+    let reservations = read::<ResRow, S>(alloc, tx, edition)?;
+    let kept = read::<KeptRow, S>(alloc, tx, edition)?;
     Ok(Rows {
         types,
         boards,
@@ -54,12 +60,18 @@ fn read_tables<S: Alter>(
 }
 
 /// Each table by its query, that of the numbers first.
-fn read_all<S: Alter>(alloc: Global, tx: &mut Transaction<'_, S>) -> Result<Rows, StoreFault>
+fn read_all<S: Alter>(
+    alloc: Global,
+    tx: &mut Transaction<'_, S>,
+    edition: Edition,
+) -> Result<Rows, StoreFault>
     ensures goes_on { GoesOn S.Store tx.old tx.new }
     ensures read { HasCleanDisk (state S.Store tx.new.conn.now) → (T : Tables)
-        → IsInside (state S.Store tx.old.conn.now) T → ReadsFarm result T }
+        → IsInside (state S.Store tx.old.conn.now) T → ReadsFarm edition result T }
     ensures schema { HasCleanDisk (state S.Store tx.new.conn.now) → (T : Tables)
-        → IsInside (state S.Store tx.old.conn.now) T → LooksAtSchema result T }
+        → IsInside (state S.Store tx.old.conn.now) T → LooksAtSchema edition result T }
+    ensures collector { IfOk result (λ rows. IsCollectorIn edition rows.meta.collector) }
+    ensures fault { result ≢ Err (told_as edition) }
     ensures opened { HasCleanDisk (state S.Store tx.new.conn.now)
         → OnOk result (IsTrue (state S.Store tx.old.conn.now).is_open) }
     ensures kept { HasCleanDisk (state S.Store tx.new.conn.now) → (T : Tables)
@@ -67,12 +79,16 @@ fn read_all<S: Alter>(alloc: Global, tx: &mut Transaction<'_, S>) -> Result<Rows
         → CommitShows (state S.Store tx.old.conn.now) T
         → CommitShows (state S.Store tx.new.conn.now) T }
 {
-    let meta = read_numbers(tx)?;
-    read_tables(alloc, tx, meta)
+    let meta = read_numbers(tx, edition)?;
+    read_tables(alloc, tx, meta, edition)
 }
 
-/// `load`, whatever other columns, tables, indexes and views the store has.
-fn load_any<S: Alter>(alloc: Global, conn: &mut Connection<S>) -> Result<Rows, StoreFault>
+/// `read_edition`, whatever other columns, tables, indexes and views the store has.
+fn read_any<S: Alter>(
+    alloc: Global,
+    conn: &mut Connection<S>,
+    edition: Edition,
+) -> Result<Rows, StoreFault>
     requires autocommit { conn.old.in_transaction ≡ false }
     ensures autocommit { conn.new.in_transaction ≡ false }
     ensures clean { KeepsDoubt (state S.Store conn.old) (state S.Store conn.new) }
@@ -80,30 +96,53 @@ fn load_any<S: Alter>(alloc: Global, conn: &mut Connection<S>) -> Result<Rows, S
         → LeavesNoMore (state S.Store conn.old) (state S.Store conn.new) }
     ensures stands { HasCleanDisk (state S.Store conn.new) → (T : Tables)
         → Stands (state S.Store conn.old) T → Stands (state S.Store conn.new) T }
-    ensures rows { HasCleanDisk (state S.Store conn.new)
-        → IfOk result (λ rows. (T : Tables) → Stands (state S.Store conn.old) T
-        → rows_of (farm_of rows) ≡ T) }
-    ensures farm { HasCleanDisk (state S.Store conn.new)
-        → IfOk result (λ rows. (F : Farm) → IsReadable F
-        → Stands (state S.Store conn.old) (rows_of F) → farm_of rows ≡ F) }
+    ensures read { HasCleanDisk (state S.Store conn.new) → (T : Tables)
+        → Stands (state S.Store conn.old) T → ReadsFarm edition result T }
+    ensures schema { HasCleanDisk (state S.Store conn.new) → (T : Tables)
+        → Stands (state S.Store conn.old) T → LooksAtSchema edition result T }
     ensures opened { HasCleanDisk (state S.Store conn.new)
         → OnOk result (IsTrue (state S.Store conn.old).is_open) }
-    ensures bad { HasCleanDisk (state S.Store conn.new) → result ≡ Err StoreFault.BadStore
-        → (F : Farm) → IsReadable F → ¬ Stands (state S.Store conn.old) (rows_of F) }
-    ensures old { HasCleanDisk (state S.Store conn.new) → result ≡ Err StoreFault.OldSchema
-        → (T : Tables) → Stands (state S.Store conn.old) T → IsOfSchema FIRST_SCHEMA T }
-    ensures known { HasCleanDisk (state S.Store conn.new) → (T : Tables)
-        → Stands (state S.Store conn.old) T → IsOfSchema FIRST_SCHEMA T
-        → (result ≡ Err StoreFault.OldSchema) ⊎ (result ≡ Err StoreFault.Store) }
-    ensures other { HasCleanDisk (state S.Store conn.new) → (T : Tables)
-        → Stands (state S.Store conn.old) T → ¬ IsOfSchema FIRST_SCHEMA T
-        → ¬ IsOfSchema SCHEMA T
-        → (result ≡ Err StoreFault.BadStore) ⊎ (result ≡ Err StoreFault.Store) }
+    ensures collector { IfOk result (λ rows. IsCollectorIn edition rows.meta.collector) }
+    ensures fault { result ≢ Err (told_as edition) }
 {
     let mut tx = conn.transaction();
-    let rows = read_all(alloc, &mut tx);
+    let rows = read_all(alloc, &mut tx, edition);
     tx.rollback();
     rows
+}
+
+/// Reads the rows of all tables of an edition, in one transaction that is rolled back.
+fn read_edition<S: Alter>(
+    alloc: Global,
+    conn: &mut Connection<S>,
+    edition: Edition,
+) -> Result<Rows, StoreFault>
+    requires autocommit { conn.old.in_transaction ≡ false }
+    ensures autocommit { conn.new.in_transaction ≡ false }
+    ensures clean { KeepsDoubt (state S.Store conn.old) (state S.Store conn.new) }
+    ensures left { HasCleanDisk (state S.Store conn.new)
+        → LeavesNoMore (state S.Store conn.old) (state S.Store conn.new) }
+    ensures stands { HasCleanDisk (state S.Store conn.new) → (T : Tables)
+        → Stands (state S.Store conn.old) T → Stands (state S.Store conn.new) T }
+    ensures ours { OnOk result ((state S.Store conn.old).now.schema ≡ farm_schema) }
+    ensures read { HasCleanDisk (state S.Store conn.new) → (T : Tables)
+        → Stands (state S.Store conn.old) T → ReadsFarm edition result T }
+    ensures schema { HasCleanDisk (state S.Store conn.new) → (T : Tables)
+        → Stands (state S.Store conn.old) T → LooksAtSchema edition result T }
+    ensures collector { IfOk result (λ rows. IsCollectorIn edition rows.meta.collector) }
+    ensures fault { result ≢ Err (told_as edition) }
+{
+    let is_ours = is_farm_schema(conn.schema());
+    match read_any(alloc, conn, edition) {
+        Ok(rows) => {
+            if is_ours {
+                Ok(rows)
+            } else {
+                Err(StoreFault::BadStore)
+            }
+        }
+        Err(fault) => Err(fault),
+    }
 }
 
 /// Reads the rows of all tables, in order of their keys, in one transaction that is rolled back.
@@ -144,16 +183,51 @@ pub fn load<S: Alter>(alloc: Global, conn: &mut Connection<S>) -> Result<Rows, S
         → Stands (state S.Store conn.old) T → ¬ IsOfSchema FIRST_SCHEMA T
         → ¬ IsOfSchema SCHEMA T
         → (result ≡ Err StoreFault.BadStore) ⊎ (result ≡ Err StoreFault.Store) }
+    ensures never { result ≢ Err StoreFault.NewSchema }
 {
-    let is_ours = is_farm_schema(conn.schema());
-    match load_any(alloc, conn) {
-        Ok(rows) => {
-            if is_ours {
-                Ok(rows)
-            } else {
-                Err(StoreFault::BadStore)
-            }
-        }
-        Err(fault) => Err(fault),
-    }
+    read_edition(alloc, conn, Edition::Second)
+}
+
+/// Reads the rows of all tables of the first edition, as `load` reads those of this one: in one
+/// transaction that is rolled back, each row once. The version is looked at before anything else:
+/// tables of this edition are refused as new, whatever else stands there, and those of an unknown
+/// one, or of none, as bad.
+///
+/// Refused as bad too where `load` would refuse a column or a table of its own, where a job's state
+/// has a number that the first edition lacked, and where the farm's numbers are not exactly its
+/// clock, count and next number, with that edition's version. No group collects in what is read.
+/// Whether the rows are those of a sound farm is not looked at.
+pub fn load_first<S: Alter>(alloc: Global, conn: &mut Connection<S>) -> Result<Rows, StoreFault>
+    requires autocommit { conn.old.in_transaction ≡ false }
+    ensures autocommit { conn.new.in_transaction ≡ false }
+    ensures clean { KeepsDoubt (state S.Store conn.old) (state S.Store conn.new) }
+    ensures left { HasCleanDisk (state S.Store conn.new)
+        → LeavesNoMore (state S.Store conn.old) (state S.Store conn.new) }
+    ensures stands { HasCleanDisk (state S.Store conn.new) → (T : Tables)
+        → Stands (state S.Store conn.old) T → Stands (state S.Store conn.new) T }
+    ensures rows { HasCleanDisk (state S.Store conn.new)
+        → IfOk result (λ rows. (T : Tables) → Stands (state S.Store conn.old) T
+        → first_rows_of (farm_of rows) ≡ T) }
+    ensures first { HasCleanDisk (state S.Store conn.new)
+        → IfOk result (λ rows. (T : Tables) → Stands (state S.Store conn.old) T
+        → IsReadableFirst (farm_of rows)) }
+    ensures farm { HasCleanDisk (state S.Store conn.new)
+        → IfOk result (λ rows. (F : Farm) → IsReadableFirst F
+        → Stands (state S.Store conn.old) (first_rows_of F) → farm_of rows ≡ F) }
+    ensures none { IfOk result (λ rows. rows.meta.collector ≡ 0) }
+    ensures ours { OnOk result ((state S.Store conn.old).now.schema ≡ farm_schema) }
+    ensures bad { HasCleanDisk (state S.Store conn.new) → result ≡ Err StoreFault.BadStore
+        → (F : Farm) → IsReadableFirst F → ¬ Stands (state S.Store conn.old) (first_rows_of F) }
+    ensures newer { HasCleanDisk (state S.Store conn.new) → result ≡ Err StoreFault.NewSchema
+        → (T : Tables) → Stands (state S.Store conn.old) T → IsOfSchema SCHEMA T }
+    ensures known { HasCleanDisk (state S.Store conn.new) → (T : Tables)
+        → Stands (state S.Store conn.old) T → IsOfSchema SCHEMA T
+        → (result ≡ Err StoreFault.NewSchema) ⊎ (result ≡ Err StoreFault.Store) }
+    ensures other { HasCleanDisk (state S.Store conn.new) → (T : Tables)
+        → Stands (state S.Store conn.old) T → ¬ IsOfSchema SCHEMA T
+        → ¬ IsOfSchema FIRST_SCHEMA T
+        → (result ≡ Err StoreFault.BadStore) ⊎ (result ≡ Err StoreFault.Store) }
+    ensures never { result ≢ Err StoreFault.OldSchema }
+{
+    read_edition(alloc, conn, Edition::First)
 }

@@ -6,6 +6,7 @@ ghost use Rattle.farm_types.specs.Tags.{tags_text};
 ghost use Rattle.farm_store.specs.Columns.{res_columns};
 ghost use Rattle.farm_store.specs.Schema.{reservations_table};
 
+use crate::edition::Edition;
 use crate::fault::StoreFault;
 use crate::queries::cells::{
     name_at, name_if_any_at, number_at, priority_at, res_state_at, tags_at,
@@ -98,16 +99,16 @@ impl Stored for ResRow {
 
     ghost place = { of_reservations };
 
-    ghost columns = { res_columns };
+    ghost columns = { λ _. res_columns };
 
-    ghost IsGood = { IsReadableRes };
+    ghost IsGood = { λ _. IsReadableRes };
 
     fn rows<S: Alter>(tx: &mut Transaction<'_, S>) -> Result<Vec<Row>, Error> {
         let rows = tx.query_all(READ, &[])?;
         Ok(rows)
     }
 
-    fn of(alloc: Global, row: &Row) -> Result<ResRow, StoreFault> {
+    fn of(alloc: Global, row: &Row, _: Edition) -> Result<ResRow, StoreFault> {
         Ok(ResRow {
             number: number_at(row, 0)?,
             owner: name_at(alloc, row, 1)?,
@@ -122,5 +123,5 @@ impl Stored for ResRow {
         })
     }
 
-    ghost wide = { λ x. refl };
+    ghost wide = { λ _ x. refl };
 }

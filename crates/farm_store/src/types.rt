@@ -6,6 +6,7 @@ ghost use Rattle.farm_types.specs.declared.rows.Check.{Check};
 ghost use Rattle.farm_store.specs.Columns.{type_columns, unit_of};
 ghost use Rattle.farm_store.specs.Schema.{types_table};
 
+use crate::edition::Edition;
 use crate::fault::StoreFault;
 use crate::queries::cells::{name_at, number_at};
 use crate::queries::rows::Stored;
@@ -105,16 +106,16 @@ impl Stored for TypeRow {
 
     ghost place = { of_types };
 
-    ghost columns = { type_columns };
+    ghost columns = { λ _. type_columns };
 
-    ghost IsGood = { IsReadableType };
+    ghost IsGood = { λ _. IsReadableType };
 
     fn rows<S: Alter>(tx: &mut Transaction<'_, S>) -> Result<Vec<Row>, Error> {
         let rows = tx.query_all(READ, &[])?;
         Ok(rows)
     }
 
-    fn of(alloc: Global, row: &Row) -> Result<TypeRow, StoreFault> {
+    fn of(alloc: Global, row: &Row, _: Edition) -> Result<TypeRow, StoreFault> {
         let name = name_at(alloc, row, 0)?;
         let unit = number_at(row, 1)?;
         let every = number_at(row, 2)?;
@@ -124,5 +125,5 @@ impl Stored for TypeRow {
         }
     }
 
-    ghost wide = { λ x. refl };
+    ghost wide = { λ _ x. refl };
 }

@@ -1,7 +1,7 @@
 //! Rows put into the tables.
 pub(crate) mod rows;
 pub(crate) mod tagged;
-mod texts;
+pub(crate) mod texts;
 
 ghost use Rattle.std.specs.Prelude.{◌≡◌, ◌⊎◌, false, map, IsTrue, Err, IfErr, OnOk};
 ghost use Rattle.sqlite.specs.Held.{state};

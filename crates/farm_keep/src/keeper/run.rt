@@ -31,7 +31,7 @@ impl<S: Alter + Drop> Keeper<S> {
         requires autocommit { conn.in_transaction ≡ false }
         ensures resumed { IfOk result (λ r. Resumes S.Store conn r.0 r.1 calls.now) }
         ensures refused { IsAlwaysClean S.Store → IfErr result (Denies (state S.Store conn)) }
-        ensures fault { result ≢ Err KeepFault.Closed }
+        ensures fault { (result ≢ Err KeepFault.Closed) × (result ≢ Err KeepFault.NewSchema) }
     {
         let mut keeper = Keeper::adopt(alloc, conn)?;
         let end = keeper.run(alloc, calls);

@@ -9,9 +9,11 @@ ghost use Rattle.farm_types.specs.Limits.{is_priority};
 ghost use Rattle.farm_types.specs.Tags.{tags_text};
 ghost use Rattle.farm_types.specs.Codes.{health_code, state_code, job_state_code, outcome_code};
 ghost use Rattle.farm_types.specs.Codes.{res_state_code};
-ghost use Rattle.farm_store.specs.Columns.{checking_code, is_number, is_text};
+ghost use Rattle.farm_store.specs.Columns.{checking_code, first_state_code, is_number, is_text};
+ghost use Rattle.farm_store.specs.Editions.{IsStateIn, state_code_in};
 ghost use Rattle.farm_store.specs.Reading.{ReadsAs};
 
+use crate::edition::Edition;
 use crate::fault::StoreFault;
 use farm_types::fault::WordFault;
 use farm_types::rows::{Health, JobState, Outcome, ResState, State};
@@ -144,11 +146,37 @@ pub(crate) fn state_at(row: &Row, at: usize) -> Result<State, StoreFault>
     State::from_code(number_at(row, at)?).ok_or(StoreFault::BadStore)
 }
 
-pub(crate) fn job_state_at(row: &Row, at: usize) -> Result<JobState, StoreFault>
+/// A state of the first edition.
+#[tactic(auto, using(crate::proofs::SmallCodes::first_code_is_low))]
+fn first_job_state_at(row: &Row, at: usize) -> Result<JobState, StoreFault>
+    ensures { ReadsAs result (λ state. state ≢ JobState.Scheduling)
+        (λ state. Int (pos (first_state_code state))) (column row.now at) }
+{
+    match number_at(row, at)? {
+        0 => Ok(JobState::Submitted),
+        1 => Ok(JobState::Scheduled),
+        2 => Ok(JobState::Running),
+        3 => Ok(JobState::Canceling),
+        4 => Ok(JobState::Finished),
+        _ => Err(StoreFault::BadStore),
+    }
+}
+
+fn second_job_state_at(row: &Row, at: usize) -> Result<JobState, StoreFault>
     ensures { ReadsAs result (λ _. ⊤) (λ state. Int (pos (job_state_code state)))
         (column row.now at) }
 {
     JobState::from_code(number_at(row, at)?).ok_or(StoreFault::BadStore)
+}
+
+pub(crate) fn job_state_at(row: &Row, at: usize, edition: Edition) -> Result<JobState, StoreFault>
+    ensures { ReadsAs result (IsStateIn edition) (λ state. Int (pos (state_code_in edition state)))
+        (column row.now at) }
+{
+    match edition {
+        Edition::First => first_job_state_at(row, at),
+        Edition::Second => second_job_state_at(row, at),
+    }
 }
 
 pub(crate) fn res_state_at(row: &Row, at: usize) -> Result<ResState, StoreFault>

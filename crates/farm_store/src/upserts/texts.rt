@@ -8,7 +8,10 @@ use farm_types::rows::{BoardRow, JobRow, ResRow};
 use std::alloc::{AllocError, Global};
 
 /// Each row beside the text of its tags.
-fn tagged_rows<R: HasTags>(alloc: Global, rows: &[R]) -> Result<Vec<Tagged<'_, R>>, AllocError>
+pub(crate) fn tagged_rows<R: HasTags>(
+    alloc: Global,
+    rows: &[R],
+) -> Result<Vec<Tagged<'_, R>>, AllocError>
     ensures { IfOk result (λ tagged. AreBeside tagged.items rows.now) }
 {
     let mut tagged = Vec::new(alloc);

@@ -20,12 +20,28 @@ from_bad StoreFault.NoMemory is = cc
 from_bad StoreFault.Store is = cc
 from_bad StoreFault.BadStore is = refl
 from_bad StoreFault.OldSchema is = cc
+from_bad StoreFault.NewSchema is = cc
 
 from_old : (e : StoreFault) → store_fault e ≡ KeepFault.OldSchema → e ≡ StoreFault.OldSchema
 from_old StoreFault.NoMemory is = cc
 from_old StoreFault.Store is = cc
 from_old StoreFault.BadStore is = cc
 from_old StoreFault.OldSchema is = refl
+from_old StoreFault.NewSchema is = cc
+
+from_new : (e : StoreFault) → store_fault e ≡ KeepFault.NewSchema → e ≡ StoreFault.NewSchema
+from_new StoreFault.NoMemory is = cc
+from_new StoreFault.Store is = cc
+from_new StoreFault.BadStore is = cc
+from_new StoreFault.OldSchema is = cc
+from_new StoreFault.NewSchema is = refl
+
+from_closed : (e : StoreFault) → store_fault e ≡ KeepFault.Closed → ⊥
+from_closed StoreFault.NoMemory is = cc
+from_closed StoreFault.Store is = cc
+from_closed StoreFault.BadStore is = cc
+from_closed StoreFault.OldSchema is = cc
+from_closed StoreFault.NewSchema is = cc
 
 pub returns-in-Err-clause-bad : goal.returns-in-Err-clause-bad
 returns-in-Err-clause-bad g c = λ clean is F sound at.
@@ -36,6 +52,12 @@ pub returns-in-Err-clause-old : goal.returns-in-Err-clause-old
 returns-in-Err-clause-old g c = λ clean is T at.
     let same : c.from.result ≡ KeepFault.OldSchema = cc in
     c.load.ensures.old clean (c.in-Err.is ∙ ap Err (from_old c.in-Err.fault (sym c.from.ensures ∙ same))) T at
+
+pub returns-in-Err-clause-fault : goal.returns-in-Err-clause-fault
+returns-in-Err-clause-fault g c = (
+  λ is. let same : c.from.result ≡ KeepFault.Closed = cc in from_closed c.in-Err.fault (sym c.from.ensures ∙ same),
+  λ is. let same : c.from.result ≡ KeepFault.NewSchema = cc in c.load.ensures.never (c.in-Err.is ∙ ap Err (from_new c.in-Err.fault (sym c.from.ensures ∙ same))),
+)
 
 same_fault : {T : Type 0} (r : Result T KeepFault) (a b : KeepFault) → r ≡ Err a → r ≡ Err b → a ≡ b
 same_fault r a b p q = cc
@@ -52,6 +74,10 @@ never_closed : (e : BadRows) → rows_fault e ≡ KeepFault.Closed → ⊥
 never_closed BadRows.Unsound is = cc
 never_closed BadRows.NoMemory is = cc
 
+never_new : (e : BadRows) → rows_fault e ≡ KeepFault.NewSchema → ⊥
+never_new BadRows.Unsound is = cc
+never_new BadRows.NoMemory is = cc
+
 pub returns-in_err-farm-clause-bad : goal.returns-in_err-farm-clause-bad
 returns-in_err-farm-clause-bad g c = λ clean is F sound at.
     let p = err_from_is_err_and c.from_residual.result c.from_residual.ensures.1 in
@@ -67,10 +93,11 @@ returns-in_err-farm-clause-old g c = λ clean is T at.
     absurd (never_old c.in_err-farm.field-0.0 (sym p.2 ∙ old))
 
 pub returns-in_err-farm-clause-fault : goal.returns-in_err-farm-clause-fault
-returns-in_err-farm-clause-fault g c = λ is.
-    let p = err_from_is_err_and c.from_residual.result c.from_residual.ensures.1 in
-    let closed : p.0 ≡ KeepFault.Closed = same_fault c.from_residual.result p.0 KeepFault.Closed p.1 is in
-    never_closed c.in_err-farm.field-0.0 (sym p.2 ∙ closed)
+returns-in_err-farm-clause-fault g c =
+    let p = err_from_is_err_and c.from_residual.result c.from_residual.ensures.1 in (
+      λ is. never_closed c.in_err-farm.field-0.0 (sym p.2 ∙ same_fault c.from_residual.result p.0 KeepFault.Closed p.1 is),
+      λ is. never_new c.in_err-farm.field-0.0 (sym p.2 ∙ same_fault c.from_residual.result p.0 KeepFault.NewSchema p.1 is),
+    )
 
 same_error : {T : Type 0} (r : Result T StoreFault) (a b : StoreFault) → r ≡ Err a → r ≡ Err b → a ≡ b
 same_error r a b p q = cc

@@ -16,7 +16,7 @@ returns-in_default g c = record {
   store = λ is. absurd (let e = is in cc);
   closed = λ is. absurd (let e = is in cc);
   before = λ shut. (refl, search rules, refl, λ is. let e = is in cc);
-  others = (λ is. let e = is in cc, λ is. let e = is in cc);
+  others = (λ is. let e = is in cc, λ is. let e = is in cc, λ is. let e = is in cc);
   left = search rules;
   sound = λ opened n. IsSound-run (take n c.args.calls.now) c.args.self.now.farm.farm
       (subst (λ (k : Kept _). k.is_open ≡ true → IsSound k.farm.farm) c.self.view_is c.self.invariant.sound opened);

@@ -1,13 +1,12 @@
-use Rattle.std.proofs.Common.{Some, Err, inr, rules, arith, ◌+◌, ◌≡◌, ◌<◌, true, ◌++◌, ◌∷◌, [], map, take, length, get_or, sym, ap, ◌∙◌, subst}
+use Rattle.std.proofs.Common.{Some, Err, inr, rules, arith, ◌+◌, ◌≡◌, ◌<◌, ◌++◌, ◌∷◌, [], map, take, length, get_or, sym, ap, ◌∙◌, subst}
 use Rattle.std.proofs.lemmas.List.{map-append, take_all}
 use Rattle.sqlite.specs.Held.{state}
 use Rattle.farm_sound.proofs.Step.{IsSound-run}
 use Rattle.farm_types.specs.Machine.{answer, step, run}
-use Rattle.farm_types.specs.Sound.{IsSound}
 use Rattle.farm_core.specs.Answers.{shown, IsChange}
 use Rattle.farm_store.specs.Holds.{StandsFor}
 use Rattle.farm_keep.specs.declared.fault.KeepFault.{KeepFault}
-use Rattle.farm_keep.specs.Kept.{Kept, Keeps, KeepsFarm, KeepsEither}
+use Rattle.farm_keep.specs.Kept.{Keeps, KeepsFarm, KeepsEither}
 use Rattle.farm_keep.specs.Runs.{IsNextChange}
 use Rattle.farm_keep.proofs.RunLemmas.{run_more, answers_more, next_change, step_more}
 use Rattle.farm_keep.proofs.keeper.Keeper.run_into.Goals as goal
@@ -100,7 +99,7 @@ returns g c =
       store = λ is. absurd (let e = is in cc);
       closed = λ is. absurd (let e = is in cc);
       before = search rules;
-      others = (λ is. let e = is in cc, λ is. let e = is in cc);
+      others = (λ is. let e = is in cc, λ is. let e = is in cc, λ is. let e = is in cc);
       left = search rules;
       sound = λ opened n. IsSound-run (take n calls) F (c.requires.sound opened);
       clean = search rules;

@@ -1,0 +1,164 @@
+-- What a sound farm of the first edition has, and how the faults of its store are told.
+use Rattle.std.proofs.Common.{◌≡◌, ◌≢◌, ◌⊎◌, inl, inr, refl, Ok, Err, IsErrAnd, Result, sym, ap, subst, ◌∙◌, arith}
+use Rattle.std.specs.Prelude.{OnErr}
+use Rattle.sqlite.specs.State.{State}
+use Rattle.sqlite.specs.Tree.{Trees}
+use Rattle.std.specs.List.{AllByRecursion}
+use Rattle.std.proofs.lemmas.Result.{err_from_is_err_and}
+use Rattle.farm_types.specs.Farm.{Farm}
+use Rattle.farm_types.specs.Small.{IsSmallJob}
+use Rattle.farm_types.specs.Sound.{IsSound}
+use Rattle.farm_types.proofs.Put.{AllByRecursion-weaker}
+use Rattle.farm_sound.proofs.Collecting.{none_scheduling}
+use Rattle.farm_store.specs.Columns.{IsOfSchema, Tables, first_rows_of, rows_of}
+use Rattle.farm_store.specs.Holds.{Holds, LeavesEither, Stands}
+use Rattle.farm_store.specs.Readable.{IsReadableFirst}
+use Rattle.farm_store.specs.declared.fault.StoreFault.{StoreFault}
+use Rattle.farm_store.specs.declared.schema.TheConstants.{SCHEMA}
+use Rattle.farm_store.proofs.EditionLemmas.{editions_apart, first_rows_are_old, rows_are_new}
+use Rattle.farm_store.proofs.SoundReadable.{sound_is_readable}
+use Rattle.farm_keep.specs.Faults.{store_fault}
+use Rattle.farm_keep.specs.First.{HoldsEither, IsSoundFirst}
+use Rattle.farm_keep.specs.declared.fault.KeepFault.{KeepFault}
+
+pub first_of_sound : (F : Farm) → IsSoundFirst F → IsReadableFirst F
+first_of_sound F is = record {
+  words = sound_is_readable F is.sound;
+  states = none_scheduling F.collector F.jobs is.none is.sound.collecting;
+  none = is.none;
+}
+
+pub small_jobs : (F : Farm) → IsSound F → AllByRecursion IsSmallJob F.jobs
+small_jobs F sound = AllByRecursion-weaker
+    (λ j is.
+    let a = is.number.1 in
+    let b = is.group.0 in
+    let n = sound.steady.next.1 in
+    record { number = omega arith; group = omega arith }) F.jobs sound.steady.jobs
+
+-- ---- faults
+
+-- a fault of the store is told as its own
+abbrev back : KeepFault → StoreFault
+back KeepFault.NoMemory = StoreFault.NoMemory
+back KeepFault.Store = StoreFault.Store
+back KeepFault.Closed = StoreFault.Store
+back KeepFault.BadStore = StoreFault.BadStore
+back KeepFault.OldSchema = StoreFault.OldSchema
+back KeepFault.NewSchema = StoreFault.NewSchema
+
+back_is : (e : StoreFault) → back (store_fault e) ≡ e
+back_is StoreFault.NoMemory = refl
+back_is StoreFault.Store = refl
+back_is StoreFault.BadStore = refl
+back_is StoreFault.OldSchema = refl
+back_is StoreFault.NewSchema = refl
+
+pub same_store_fault : (e f : StoreFault) → store_fault e ≡ store_fault f → e ≡ f
+same_store_fault e f is = sym (back_is e) ∙ ap back is ∙ back_is f
+
+pub never_closed : (e : StoreFault) → store_fault e ≢ KeepFault.Closed
+never_closed StoreFault.NoMemory is = cc
+never_closed StoreFault.Store is = cc
+never_closed StoreFault.BadStore is = cc
+never_closed StoreFault.OldSchema is = cc
+never_closed StoreFault.NewSchema is = cc
+
+same_err : {A E : Type 0} (r : Result A E) (e f : E) → r ≡ Err e → r ≡ Err f → e ≡ f
+same_err r e f p q = cc
+
+pub ok_is_no_err : {A E : Type 0} (r : Result A E) (a : A) (e f : E) → r ≡ Ok a → (r ≡ Err e) ⊎ (r ≡ Err f) → ⊥
+ok_is_no_err r a e f was (inl is) = let x = sym was ∙ is in cc
+ok_is_no_err r a e f was (inr is) = let x = sym was ∙ is in cc
+
+-- neither want of memory nor a fault of the store's own
+abbrev pub IsAnother : StoreFault → Type 0
+IsAnother f = (f ≢ StoreFault.NoMemory) × (f ≢ StoreFault.Store)
+
+pub bad_is_another : IsAnother StoreFault.BadStore
+bad_is_another = (λ is. let e = is in cc, λ is. let e = is in cc)
+
+pub old_is_another : IsAnother StoreFault.OldSchema
+old_is_another = (λ is. let e = is in cc, λ is. let e = is in cc)
+
+pub new_is_another : IsAnother StoreFault.NewSchema
+new_is_another = (λ is. let e = is in cc, λ is. let e = is in cc)
+
+module _ {A B : Type 0} (r : Result A StoreFault) (s : Result B KeepFault) (fault : StoreFault) (was : r ≡ Err fault) (told : IsErrAnd s (λ f. f ≡ store_fault fault)) where
+  is_told : s ≡ Err (store_fault fault)
+  is_told = let p = err_from_is_err_and s told in p.1 ∙ ap Err p.2
+
+  -- what is told is the store's fault
+  pub from_told : (f : StoreFault) → s ≡ Err (store_fault f) → r ≡ Err f
+  from_told f is = was ∙ ap Err (same_store_fault fault f (same_err s (store_fault fault) (store_fault f) is_told is))
+
+  -- the store's fault is told
+  pub as_told : (f : StoreFault) → r ≡ Err f → s ≡ Err (store_fault f)
+  as_told f is = is_told ∙ ap (λ e. Err (store_fault e)) (same_err r fault f was is)
+
+  pub one_told : (f g : StoreFault) → (r ≡ Err f) ⊎ (r ≡ Err g) → (s ≡ Err (store_fault f)) ⊎ (s ≡ Err (store_fault g))
+  one_told f g (inl is) = inl (as_told f is)
+  one_told f g (inr is) = inr (as_told g is)
+
+  -- where it is want of memory or the store's
+  pub only_memory : (fault ≡ StoreFault.NoMemory) ⊎ (fault ≡ StoreFault.Store) → s ≢ Err KeepFault.Store → r ≡ Err StoreFault.NoMemory
+  only_memory (inl is) other = was ∙ ap Err is
+  only_memory (inr is) other = absurd (other (as_told StoreFault.Store (was ∙ ap Err is)))
+
+  pub never_told : (f : StoreFault) → IsAnother f → (fault ≡ StoreFault.NoMemory) ⊎ (fault ≡ StoreFault.Store) → s ≢ Err (store_fault f)
+  never_told f another which is = by which (same_err r fault f was (from_told f is))
+    where
+      by : (fault ≡ StoreFault.NoMemory) ⊎ (fault ≡ StoreFault.Store) → fault ≡ f → ⊥
+      by (inl memory) same = another.0 (sym same ∙ memory)
+      by (inr store) same = another.1 (sym same ∙ store)
+
+  pub told_never_closed : s ≢ Err KeepFault.Closed
+  told_never_closed is = never_closed fault (same_err s (store_fault fault) KeepFault.Closed is_told is)
+
+pub on_err : {A E : Type 0} (r : Result A E) (P : Type 0) → P → OnErr r P
+on_err (Ok a) P p = tt
+on_err (Err e) P p = p
+
+-- ---- a store that stands for a farm's tables of the one edition or of the other
+
+abbrev pub StandsEither : State → Farm → Type 0
+StandsEither s F = Stands s (first_rows_of F) ⊎ Stands s (rows_of F)
+
+pub stands_either : (s : State) (left : Trees) (F : Farm) → ((T : Tables) → Holds s.committed.trees T → Stands s T) → s.committed.trees ≡ left → HoldsEither left F → StandsEither s F
+stands_either s left F opened on (inl first) = inl (opened (first_rows_of F) (subst (λ (t : Trees). Holds t (first_rows_of F)) (sym on) first))
+stands_either s left F opened on (inr second) = inr (opened (rows_of F) (subst (λ (t : Trees). Holds t (rows_of F)) (sym on) second))
+
+pub no_first : (F : Farm) → (G : Farm) → IsSoundFirst G → rows_of F ≢ first_rows_of G
+no_first F G is = editions_apart F G
+
+-- what a migration leaves of it
+module _ (old mid : State) (F : Farm) (sound : IsSoundFirst F)
+    (stop : (G : Farm) → IsSoundFirst G → Stands old (first_rows_of G) → LeavesEither mid (first_rows_of G) (rows_of G))
+    (others : (T : Tables) → Stands old T → ((G : Farm) → IsSoundFirst G → T ≢ first_rows_of G) → Stands mid T) where
+  pub left_either : StandsEither old F → (db : Trees) → mid.may_leave db → HoldsEither db F
+  left_either (inl first) db may = stop F sound first db may
+  left_either (inr second) db may = inr ((others (rows_of F) second (no_first F)).left db may)
+
+-- done, or refused as new, it leaves this edition's tables
+pub raised_stands : (old mid : State) (F : Farm) (r : Result (Unit {0}) KeepFault) → r ≡ Ok tt → IsSoundFirst F → (IsSoundFirst F → Stands old (first_rows_of F) → Stands mid (rows_of F))
+    → ((T : Tables) → Stands old T → IsOfSchema SCHEMA T → (r ≡ Err KeepFault.NewSchema) ⊎ (r ≡ Err KeepFault.Store)) → StandsEither old F → Stands mid (rows_of F)
+raised_stands old mid F r was sound ok known (inl first) = ok sound first
+raised_stands old mid F r was sound ok known (inr second) = absurd (ok_is_no_err r tt KeepFault.NewSchema KeepFault.Store was (known (rows_of F) second (rows_are_new F)))
+
+pub new_stands : (old mid : State) (F : Farm) → ((T : Tables) → Stands old T → IsOfSchema SCHEMA T) → ((T : Tables) → Stands old T → Stands mid T) → StandsEither old F → Stands mid (rows_of F)
+new_stands old mid F newer rests (inl first) = absurd (first_rows_are_old F (newer (first_rows_of F) first))
+new_stands old mid F newer rests (inr second) = rests (rows_of F) second
+
+pub rests_new : {A : Type 0} (r : Result A KeepFault) (P : Type 0) → r ≡ Err KeepFault.NewSchema → (r ≢ Err KeepFault.Store → OnErr r P) → P
+rests_new (Ok a) P is rests = absurd (let e = is in cc)
+rests_new (Err f) P is rests = rests (λ store. let e = sym is ∙ store in cc)
+
+-- it is never refused as bad
+pub never_bad : (old : State) (F : Farm) (r : Result (Unit {0}) KeepFault) → r ≡ Err KeepFault.BadStore → ((G : Farm) → IsSoundFirst G → ¬ Stands old (first_rows_of G))
+    → ((T : Tables) → Stands old T → IsOfSchema SCHEMA T → (r ≡ Err KeepFault.NewSchema) ⊎ (r ≡ Err KeepFault.Store)) → IsSoundFirst F → StandsEither old F → ⊥
+never_bad old F r was bad known sound (inl first) = bad F sound first
+never_bad old F r was bad known sound (inr second) = by (known (rows_of F) second (rows_are_new F))
+  where
+    by : (r ≡ Err KeepFault.NewSchema) ⊎ (r ≡ Err KeepFault.Store) → ⊥
+    by (inl is) = let e = sym was ∙ is in cc
+    by (inr is) = let e = sym was ∙ is in cc

@@ -1,0 +1,145 @@
+-- The two editions of the tables.
+use Rattle.std.proofs.Common.{refl, ◌≡◌, ◌≢◌, List, [], ◌∷◌, map, Result, Ok, Err, IfErr, IsErrAnd, IsTrue, false, sym, ap, subst, ◌∙◌}
+use Rattle.std.specs.List.{AllByRecursion, list_any}
+use Rattle.farm_types.specs.Farm.{Farm}
+use Rattle.farm_types.specs.declared.rows.JobRow.{JobRow}
+use Rattle.farm_types.specs.declared.rows.MetaRow.{MetaRow}
+use Rattle.farm_types.proofs.Put.{AllByRecursion-weaker}
+use Rattle.farm_store.specs.Columns.{IsOfSchema, Tables, tells, rows_of, first_rows_of, type_columns, board_columns, res_columns, kept_columns, numbers_of}
+use Rattle.farm_store.specs.Editions.{IsCollectorIn, IsReadableIn, IsReadableJobIn, IsStateIn, job_columns_in, meta_rows_in, other_edition, rows_in, schema_of, told_as}
+use Rattle.farm_store.specs.Readable.{IsReadable, IsReadableJob}
+use Rattle.farm_store.specs.Reading.{TellsNoVersion}
+use Rattle.farm_store.specs.declared.edition.Edition.{Edition}
+use Rattle.farm_store.specs.declared.fault.StoreFault.{StoreFault}
+use Rattle.farm_store.specs.declared.fault.StoreFault.TheVariants.{BadStore, Store}
+use Rattle.farm_store.specs.declared.schema.TheConstants.{SCHEMA}
+
+pub no_version : (e : Edition) (fault : StoreFault) → TellsNoVersion fault → fault ≢ told_as e
+no_version Edition.First fault none = none.0
+no_version Edition.Second fault none = none.1
+
+pub not_store : (e : Edition) → Store ≢ told_as e
+not_store Edition.First is = cc
+not_store Edition.Second is = cc
+
+pub not_bad : (e : Edition) → BadStore ≢ told_as e
+not_bad Edition.First is = cc
+not_bad Edition.Second is = cc
+
+pub not_own : (e : Edition) → told_as (other_edition e) ≢ told_as e
+not_own Edition.First is = cc
+not_own Edition.Second is = cc
+
+-- a fault that is handed on
+pub never_handed : {A : Type 0} (e : Edition) (r : Result A StoreFault) (fault : StoreFault) → IsErrAnd r (λ f. f ≡ fault) → fault ≢ told_as e → r ≢ Err (told_as e)
+never_handed e (Ok a) fault is never same = absurd is
+never_handed e (Err f) fault is never same = let x : f ≡ told_as e = cc in never (sym is ∙ x)
+
+pub never_told : {A : Type 0} (e : Edition) (r : Result A StoreFault) → IfErr r TellsNoVersion → r ≢ Err (told_as e)
+never_told e (Ok a) none same = let x = same in cc
+never_told e (Err f) none same = let x : f ≡ told_as e = cc in no_version e f none x
+
+-- ---- the farms that an edition spells
+
+all_states : (jobs : List JobRow) → AllByRecursion (λ j. IsStateIn Edition.Second j.state) jobs
+all_states [] = tt
+all_states (j ∷ jobs) = (tt, all_states jobs)
+
+pub words_in : (e : Edition) (F : Farm) → IsReadableIn e F → IsReadable F
+words_in Edition.First F is = is.words
+words_in Edition.Second F is = is
+
+pub states_in : (e : Edition) (F : Farm) → IsReadableIn e F → AllByRecursion (λ j. IsStateIn e j.state) F.jobs
+states_in Edition.First F is = is.states
+states_in Edition.Second F is = all_states F.jobs
+
+pub collector_in : (e : Edition) (F : Farm) → IsReadableIn e F → IsCollectorIn e F.collector
+collector_in Edition.First F is = is.none
+collector_in Edition.Second F is = tt
+
+pub is_in : (e : Edition) (F : Farm) → IsReadable F → AllByRecursion (λ j. IsStateIn e j.state) F.jobs → IsCollectorIn e F.collector → IsReadableIn e F
+is_in Edition.First F words states none = record { words = words; states = states; none = none }
+is_in Edition.Second F words states none = words
+
+jobs_in_words : (e : Edition) (jobs : List JobRow) → AllByRecursion IsReadableJob jobs → AllByRecursion (λ j. IsStateIn e j.state) jobs → AllByRecursion (IsReadableJobIn e) jobs
+jobs_in_words e [] words states = tt
+jobs_in_words e (j ∷ jobs) words states = (record { words = words.0; state = states.0 }, jobs_in_words e jobs words.1 states.1)
+
+pub readable_jobs : (e : Edition) (F : Farm) → IsReadableIn e F → AllByRecursion (IsReadableJobIn e) F.jobs
+readable_jobs e F is = jobs_in_words e F.jobs (words_in e F is).jobs (states_in e F is)
+
+pub words_of : (e : Edition) (jobs : List JobRow) → AllByRecursion (IsReadableJobIn e) jobs → AllByRecursion IsReadableJob jobs
+words_of e jobs all = AllByRecursion-weaker (λ j is. is.words) jobs all
+
+pub states_of : (e : Edition) (jobs : List JobRow) → AllByRecursion (IsReadableJobIn e) jobs → AllByRecursion (λ j. IsStateIn e j.state) jobs
+states_of e jobs all = AllByRecursion-weaker (λ j is. is.state) jobs all
+
+-- ---- the tables of a farm, one by one
+
+pub types_in : (e : Edition) (F : Farm) (T : Tables) → rows_in e F ≡ T → T.types ≡ map type_columns F.types
+unfolding rows_of first_rows_of
+types_in Edition.First F T is = ap (λ (U : Tables). U.types) (sym is)
+types_in Edition.Second F T is = ap (λ (U : Tables). U.types) (sym is)
+
+pub boards_in : (e : Edition) (F : Farm) (T : Tables) → rows_in e F ≡ T → T.boards ≡ map board_columns F.boards
+unfolding rows_of first_rows_of
+boards_in Edition.First F T is = ap (λ (U : Tables). U.boards) (sym is)
+boards_in Edition.Second F T is = ap (λ (U : Tables). U.boards) (sym is)
+
+pub jobs_in : (e : Edition) (F : Farm) (T : Tables) → rows_in e F ≡ T → T.jobs ≡ map (job_columns_in e) F.jobs
+unfolding rows_of first_rows_of
+jobs_in Edition.First F T is = ap (λ (U : Tables). U.jobs) (sym is)
+jobs_in Edition.Second F T is = ap (λ (U : Tables). U.jobs) (sym is)
+
+pub reservations_in : (e : Edition) (F : Farm) (T : Tables) → rows_in e F ≡ T → T.reservations ≡ map res_columns F.reservations
+unfolding rows_of first_rows_of
+reservations_in Edition.First F T is = ap (λ (U : Tables). U.reservations) (sym is)
+reservations_in Edition.Second F T is = ap (λ (U : Tables). U.reservations) (sym is)
+
+pub kept_in : (e : Edition) (F : Farm) (T : Tables) → rows_in e F ≡ T → T.kept ≡ map kept_columns F.kept
+unfolding rows_of first_rows_of
+kept_in Edition.First F T is = ap (λ (U : Tables). U.kept) (sym is)
+kept_in Edition.Second F T is = ap (λ (U : Tables). U.kept) (sym is)
+
+pub meta_in : (e : Edition) (F : Farm) (T : Tables) → rows_in e F ≡ T → T.meta ≡ meta_rows_in e (numbers_of F)
+unfolding rows_of first_rows_of
+meta_in Edition.First F T is = ap (λ (U : Tables). U.meta) (sym is)
+meta_in Edition.Second F T is = ap (λ (U : Tables). U.meta) (sym is)
+
+-- six tables that are those of a farm are all that it has
+pub whole_in : (e : Edition) (F : Farm) (T : Tables) → T.types ≡ map type_columns F.types → T.boards ≡ map board_columns F.boards → T.jobs ≡ map (job_columns_in e) F.jobs
+    → T.reservations ≡ map res_columns F.reservations → T.kept ≡ map kept_columns F.kept → T.meta ≡ meta_rows_in e (numbers_of F) → rows_in e F ≡ T
+unfolding rows_of first_rows_of
+whole_in Edition.First F T types boards jobs reservations kept meta = sym (λ i. record { types = types i; boards = boards i; jobs = jobs i; reservations = reservations i; kept = kept i; meta = meta i })
+whole_in Edition.Second F T types boards jobs reservations kept meta = sym (λ i. record { types = types i; boards = boards i; jobs = jobs i; reservations = reservations i; kept = kept i; meta = meta i })
+
+-- ---- the version: the rows of the numbers tell their edition's alone
+
+pub numbers_tell : (e : Edition) (m : MetaRow) → IsTrue (list_any (tells (schema_of e)) (meta_rows_in e m))
+numbers_tell Edition.First m = refl
+numbers_tell Edition.Second m = refl
+
+pub numbers_are_own : (e : Edition) (m : MetaRow) → list_any (tells (schema_of (other_edition e))) (meta_rows_in e m) ≡ false
+numbers_are_own Edition.First m = refl
+numbers_are_own Edition.Second m = refl
+
+pub tells_own : (e : Edition) (F : Farm) → IsOfSchema (schema_of e) (rows_in e F)
+unfolding rows_of first_rows_of
+tells_own Edition.First F = refl
+tells_own Edition.Second F = refl
+
+pub not_other : (e : Edition) (F : Farm) → IsOfSchema (schema_of (other_edition e)) (rows_in e F) → ⊥
+unfolding rows_of first_rows_of
+not_other Edition.First F is = let e = is in cc
+not_other Edition.Second F is = let e = is in cc
+
+-- the same of the two by name
+pub rows_are_new : (F : Farm) → IsOfSchema SCHEMA (rows_of F)
+rows_are_new F = tells_own Edition.Second F
+
+pub first_rows_are_old : (F : Farm) → IsOfSchema SCHEMA (first_rows_of F) → ⊥
+first_rows_are_old F = not_other Edition.First F
+
+-- no farm's tables of one edition are a farm's of the other
+pub editions_apart : (F G : Farm) → rows_of F ≢ first_rows_of G
+editions_apart F G same = first_rows_are_old G (subst (IsOfSchema SCHEMA) same (rows_are_new F))

@@ -1,0 +1,64 @@
+-- What each edition of the tables has of its own, and what it can spell.
+use Rattle.std.specs.Prelude.{◌≡◌, ◌≢◌, ℕ, List, ⊤}
+use Rattle.sqlite.specs.Order.{Row}
+use Rattle.farm_types.specs.Codes.{job_state_code}
+use Rattle.farm_types.specs.Farm.{Farm}
+use Rattle.farm_types.specs.declared.rows.JobRow.{JobRow}
+use Rattle.farm_types.specs.declared.rows.JobState.{JobState}
+use Rattle.farm_types.specs.declared.rows.MetaRow.{MetaRow}
+use Rattle.farm_store.specs.Columns.{Tables, first_meta_rows, first_rows_of, first_state_code}
+use Rattle.farm_store.specs.Columns.{job_fields_by, meta_rows, rows_of, values_of}
+use Rattle.farm_store.specs.Readable.{IsReadable, IsReadableFirst, IsReadableJob}
+use Rattle.farm_store.specs.declared.edition.Edition.{Edition}
+use Rattle.farm_store.specs.declared.fault.StoreFault.{StoreFault}
+use Rattle.farm_store.specs.declared.fault.StoreFault.TheVariants.{NewSchema, OldSchema}
+use Rattle.farm_store.specs.declared.schema.TheConstants.{FIRST_SCHEMA, SCHEMA}
+
+abbrev pub other_edition : Edition → Edition
+other_edition Edition.First = Edition.Second
+other_edition Edition.Second = Edition.First
+
+-- the version that its tables tell
+abbrev pub schema_of : Edition → ℕ
+schema_of Edition.First = FIRST_SCHEMA
+schema_of Edition.Second = SCHEMA
+
+-- how its tables are refused where those of the other edition are wanted
+abbrev pub told_as : Edition → StoreFault
+told_as Edition.First = OldSchema
+told_as Edition.Second = NewSchema
+
+-- ---- how it spells
+
+abbrev pub state_code_in : Edition → JobState → ℕ
+state_code_in Edition.First = first_state_code
+state_code_in Edition.Second = job_state_code
+
+abbrev pub job_columns_in : Edition → JobRow → Row
+job_columns_in edition = values_of (job_fields_by (state_code_in edition))
+
+abbrev pub meta_rows_in : Edition → MetaRow → List Row
+meta_rows_in Edition.First = first_meta_rows
+meta_rows_in Edition.Second = meta_rows
+
+abbrev pub rows_in : Edition → Farm → Tables
+rows_in Edition.First = first_rows_of
+rows_in Edition.Second = rows_of
+
+-- ---- what it can spell: in the first edition no job is Scheduling, and no group collects
+
+abbrev pub IsStateIn : Edition → JobState → Type 0
+IsStateIn Edition.First state = state ≢ JobState.Scheduling
+IsStateIn Edition.Second state = ⊤
+
+abbrev pub IsCollectorIn : Edition → ℕ → Type 0
+IsCollectorIn Edition.First collector = collector ≡ 0
+IsCollectorIn Edition.Second collector = ⊤
+
+pub record IsReadableJobIn (edition : Edition) (r : JobRow) : Type 0 where
+  pub words : IsReadableJob r
+  pub state : IsStateIn edition r.state
+
+abbrev pub IsReadableIn : Edition → Farm → Type 0
+IsReadableIn Edition.First = IsReadableFirst
+IsReadableIn Edition.Second = IsReadable

@@ -1,0 +1,45 @@
+//! The two editions of the tables.
+ghost use Rattle.std.specs.Prelude.{◌≡◌};
+ghost use Rattle.farm_store.specs.Editions.{other_edition, schema_of, told_as};
+
+use crate::fault::StoreFault;
+use crate::schema::{FIRST_SCHEMA, SCHEMA};
+
+/// An edition of the tables: which codes the states of jobs have, and whether a number tells which
+/// group collects.
+#[derive(Clone, Copy, Debug)]
+pub(crate) enum Edition {
+    First,
+    Second,
+}
+
+impl Edition {
+    pub(crate) fn other(self) -> Edition
+        ensures { result ≡ other_edition self }
+    {
+        match self {
+            Edition::First => Edition::Second,
+            Edition::Second => Edition::First,
+        }
+    }
+
+    /// The version that its tables tell.
+    pub(crate) fn schema(self) -> u64
+        ensures { result ≡ schema_of self }
+    {
+        match self {
+            Edition::First => FIRST_SCHEMA,
+            Edition::Second => SCHEMA,
+        }
+    }
+
+    /// How its tables are refused where those of the other edition are wanted.
+    pub(crate) fn refusal(self) -> StoreFault
+        ensures { result ≡ told_as self }
+    {
+        match self {
+            Edition::First => StoreFault::OldSchema,
+            Edition::Second => StoreFault::NewSchema,
+        }
+    }
+}
