@@ -140,6 +140,9 @@ once_rules = memory ∷ db false ∷ at ∷ help ∷ []
 abbrev pub init_rules : List Rule
 init_rules = db true ∷ help ∷ []
 
+abbrev pub migrate_rules : List Rule
+migrate_rules = db true ∷ help ∷ []
+
 abbrev pub import_rules : List Rule
 import_rules = db true ∷ at ∷ word (codes "lab") ∷ help ∷ []
 
@@ -165,6 +168,12 @@ pub init_keep : AllKeep init_rules init_rules
 init_keep = (
   value_keeps init_rules (codes "db") (Some (codes "db")) true None vp.String refl refl,
   (help_keeps init_rules, tt),
+)
+
+pub migrate_keep : AllKeep migrate_rules migrate_rules
+migrate_keep = (
+  value_keeps migrate_rules (codes "db") (Some (codes "db")) true None vp.String refl refl,
+  (help_keeps migrate_rules, tt),
 )
 
 pub import_keep : AllKeep import_rules import_rules
@@ -226,6 +235,11 @@ once_settles rows whole =
 pub init_settles : (rows : List Row) → AreWhole init_rules rows → Settles (codes "init") rows
 init_settles rows whole =
     let f = given_value init_rules (db true) (codes "db") rows refl whole.0 (one_given (is_given (codes "db") rows) whole.1) in
+    rw f.1 tt
+
+pub migrate_settles : (rows : List Row) → AreWhole migrate_rules rows → Settles (codes "migrate") rows
+migrate_settles rows whole =
+    let f = given_value migrate_rules (db true) (codes "db") rows refl whole.0 (one_given (is_given (codes "db") rows) whole.1) in
     rw f.1 tt
 
 pub import_settles : (rows : List Row) → AreWhole import_rules rows → Settles (codes "import") rows

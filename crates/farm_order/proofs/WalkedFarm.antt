@@ -14,7 +14,7 @@ use Rattle.clap.specs.Words.{subcommand_of}
 use Rattle.farm_order.specs.App.{farm_app}
 use Rattle.farm_order.specs.Orders.{leaves_choice, order_in}
 use Rattle.farm_order.proofs.Kept.{neither, no_fault}
-use Rattle.farm_order.proofs.Values.{IsSettled, import_keep, import_rules, import_settles, init_keep, init_rules, init_settles, once_keep, once_rules, once_settles, report_keep, report_rules, report_settles, serve_keep, serve_rules, serve_settles}
+use Rattle.farm_order.proofs.Values.{IsSettled, import_keep, import_rules, import_settles, init_keep, init_rules, init_settles, migrate_keep, migrate_rules, migrate_settles, once_keep, once_rules, once_settles, report_keep, report_rules, report_settles, serve_keep, serve_rules, serve_settles}
 use Rattle.farm_order.proofs.Walked.{leaf_taken}
 
 abbrev top : Shape
@@ -29,6 +29,7 @@ names = names_of (built farm_app)
 data Known : Type 0 where
   once : Known
   init : Known
+  migrate : Known
   import : Known
   serve : Known
   report : Known
@@ -36,6 +37,7 @@ data Known : Type 0 where
 abbrev name_of : Known → Text
 name_of once = codes "once"
 name_of init = codes "init"
+name_of migrate = codes "migrate"
 name_of import = codes "import"
 name_of serve = codes "serve"
 name_of report = codes "report"
@@ -79,27 +81,29 @@ other_step waiting position word h = go (bytes_eq word (45 ∷ 45 ∷ []))
     go false = long_step waiting word (long_of word) h
 
 -- the name that a word answers to, by which of the names it is
-abbrev name_met : Bool → Bool → Bool → Bool → Bool → Bool → Option Text
-name_met o i m s r h = option_map (λ (p : Text × List Text). p.0) (cond o (Some (codes "once", []))
-    (cond i (Some (codes "init", [])) (cond m (Some (codes "import", [])) (cond s (Some (codes "serve", []))
-    (cond r (Some (codes "report", [])) (cond h (Some (codes "help", [])) None))))))
+abbrev name_met : Bool → Bool → Bool → Bool → Bool → Bool → Bool → Option Text
+name_met o i g m s r h = option_map (λ (p : Text × List Text). p.0) (cond o (Some (codes "once", []))
+    (cond i (Some (codes "init", [])) (cond g (Some (codes "migrate", [])) (cond m (Some (codes "import", []))
+    (cond s (Some (codes "serve", [])) (cond r (Some (codes "report", [])) (cond h (Some (codes "help", [])) None)))))))
 
-named_step : (o i m s r help : Bool) (position : ℕ) (word : Text) (h : Held) → other_fault top (name_met o i m s r help) word h ≡ []
-    → IsKnownStep (subcommand_or_other top.rules (name_met o i m s r help) idle position word h).1
-named_step true i m s r help position word h p = (once, refl)
-named_step false true m s r help position word h p = (init, refl)
-named_step false false true s r help position word h p = (import, refl)
-named_step false false false true r help position word h p = (serve, refl)
-named_step false false false false true help position word h p = (report, refl)
-named_step false false false false false true position word h p = absurd (no_fault p)
-named_step false false false false false false position word h p = other_step idle position word h
+named_step : (o i g m s r help : Bool) (position : ℕ) (word : Text) (h : Held) → other_fault top (name_met o i g m s r help) word h ≡ []
+    → IsKnownStep (subcommand_or_other top.rules (name_met o i g m s r help) idle position word h).1
+named_step true i g m s r help position word h p = (once, refl)
+named_step false true g m s r help position word h p = (init, refl)
+named_step false false true m s r help position word h p = (migrate, refl)
+named_step false false false true s r help position word h p = (import, refl)
+named_step false false false false true r help position word h p = (serve, refl)
+named_step false false false false false true help position word h p = (report, refl)
+named_step false false false false false false true position word h p = absurd (no_fault p)
+named_step false false false false false false false position word h p = other_step idle position word h
 
 word_step : (is_trailing : Bool) (waiting : Waiting) (position : ℕ) (word : Text) (h : Held) → word_fault top names is_trailing waiting word h ≡ []
     → IsKnownStep (word_met top.rules names is_trailing waiting position word h).1
 word_step true waiting position word h p = tt
 word_step false idle position word h p =
-    named_step (answers_to word (codes "once", [])) (answers_to word (codes "init", [])) (answers_to word (codes "import", []))
-    (answers_to word (codes "serve", [])) (answers_to word (codes "report", [])) (answers_to word (codes "help", [])) position word h p
+    named_step (answers_to word (codes "once", [])) (answers_to word (codes "init", [])) (answers_to word (codes "migrate", []))
+    (answers_to word (codes "import", [])) (answers_to word (codes "serve", [])) (answers_to word (codes "report", []))
+    (answers_to word (codes "help", [])) position word h p
 word_step false (option id) position word h p = other_step (option id) position word h
 word_step false positional position word h p = other_step positional position word h
 
@@ -142,6 +146,7 @@ known_order : (k : Known) (words : List Text) → entered_fault (built farm_app)
     → IsSettledIn (entered (built farm_app) (Some (name_of k, words)))
 known_order once words p = once_settles (rows_after once_rules [] words) (leaf_taken (codes "once") once_rules once_keep words p)
 known_order init words p = init_settles (rows_after init_rules [] words) (leaf_taken (codes "init") init_rules init_keep words p)
+known_order migrate words p = migrate_settles (rows_after migrate_rules [] words) (leaf_taken (codes "migrate") migrate_rules migrate_keep words p)
 known_order import words p = import_settles (rows_after import_rules [] words) (leaf_taken (codes "import") import_rules import_keep words p)
 known_order serve words p = serve_settles (rows_after serve_rules [] words) (leaf_taken (codes "serve") serve_rules serve_keep words p)
 known_order report words p = report_settles (rows_after report_rules [] words) (leaf_taken (codes "report") report_rules report_keep words p)

@@ -66,6 +66,10 @@ once_app = with_rule (with_rule (with_rule (new_app (codes "once"))
 abbrev pub init_app : App
 init_app = with_rule (new_app (codes "init")) (db_rule true)
 
+-- `migrate --db FILE`
+abbrev pub migrate_app : App
+migrate_app = with_rule (new_app (codes "migrate")) (db_rule true)
+
 -- `import --db FILE --at SECONDS LAB`
 abbrev pub import_app : App
 import_app = with_rule (with_rule (with_rule (new_app (codes "import"))
@@ -83,11 +87,15 @@ report_app = with_rule (with_rule (with_rule (with_rule (new_app (codes "report"
     (positional_rule (codes "which"))
 
 -- the program: it tells its version, or one of its subcommands has to follow
+abbrev pub bare_app : App
+bare_app = on_top (λ s. record s { has_version = true; subcommand_required = true })
+    (new_app (codes "farm"))
+
+-- with these
 abbrev pub farm_app : App
 farm_app = with_subcommand (with_subcommand (with_subcommand (with_subcommand (with_subcommand
-    (on_top (λ s. record s { has_version = true; subcommand_required = true })
-    (new_app (codes "farm")))
-    once_app.top) init_app.top) import_app.top) serve_app.top) report_app.top
+    (with_subcommand bare_app
+    once_app.top) init_app.top) migrate_app.top) import_app.top) serve_app.top) report_app.top
 
 -- a command that is this subcommand of each command that it is added to
 abbrev pub AddsShape : Shape → Command → Type 0

@@ -8,7 +8,7 @@ use Rattle.std.specs.Str.Parse.{digits_value, without_leading_plus}
 use Rattle.clap.specs.ValueTests.{is_unsigned_in}
 use Rattle.clap.specs.Words.{Row, Text, first_of, one_of}
 use Rattle.farm_order.specs.declared.order.Order.{Order}
-use Rattle.farm_order.specs.declared.order.Order.TheVariants.{Once, Init, Import, Serve}
+use Rattle.farm_order.specs.declared.order.Order.TheVariants.{Once, Init, Migrate, Import, Serve}
 use Rattle.farm_order.specs.declared.order.Order.TheVariants as order
 use Rattle.farm_order.specs.declared.order.Place.{Place}
 use Rattle.farm_order.specs.declared.order.Place.TheVariants.{Memory, File}
@@ -26,6 +26,8 @@ pub data Form : Type 0 where
   once : PlaceForm → ℕ → Form
   -- the file
   init : Text → Form
+  -- the file
+  migrate : Text → Form
   -- the file, the moment and the lab file
   import : Text → ℕ → Text → Form
   -- the file, the port and the number of connections
@@ -40,6 +42,7 @@ place_form (File file) = Some (string_bytes file)
 abbrev pub form_of : Order → Form
 form_of (Once place at) = once (place_form place) at
 form_of (Init file) = init (string_bytes file)
+form_of (Migrate file) = migrate (string_bytes file)
 form_of (Import file at lab) = import (string_bytes file) at (string_bytes lab)
 form_of (Serve file port max) = serve (string_bytes file) port max
 form_of (order.Report file east west which) = report (string_bytes file) east west which
@@ -103,6 +106,9 @@ once_in rows = option_and_then (λ place. option_map (λ at. once place at)
 abbrev pub init_in : List Row → Option Form
 init_in rows = option_map (λ file. init file) (text_of (codes "db") rows)
 
+abbrev pub migrate_in : List Row → Option Form
+migrate_in rows = option_map (λ file. migrate file) (text_of (codes "db") rows)
+
 abbrev pub import_in : List Row → Option Form
 import_in rows = option_and_then (λ file. option_and_then (λ at. option_map (λ lab.
     import file at lab) (text_of (codes "lab") rows)) (number_of (codes "at") rows))
@@ -122,9 +128,10 @@ report_in rows = option_and_then (λ file. option_map (λ which.
 abbrev pub order_named : Text → List Row → Option Form
 order_named name rows = if bytes_eq name (codes "once") then once_in rows
     else (if bytes_eq name (codes "init") then init_in rows
+    else (if bytes_eq name (codes "migrate") then migrate_in rows
     else (if bytes_eq name (codes "import") then import_in rows
     else (if bytes_eq name (codes "serve") then serve_in rows
-    else (if bytes_eq name (codes "report") then report_in rows else None))))
+    else (if bytes_eq name (codes "report") then report_in rows else None)))))
 
 -- the same where there is a subcommand at all
 abbrev pub order_in : Option (Text × List Row) → Option Form

@@ -13,6 +13,10 @@ pub enum Order {
     Init {
         file: String,
     },
+    /// Bring the first edition's farm of a file to this one.
+    Migrate {
+        file: String,
+    },
     /// Bring a lab file into the farm of a file, at a moment.
     Import {
         file: String,

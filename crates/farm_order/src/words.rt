@@ -3,13 +3,14 @@ ghost use Rattle.std.specs.Prelude.{◌≡◌, ◌⊎◌, [], IfErr, IfOk, Some,
 ghost use Rattle.std.specs.Prelude.{string_bytes};
 ghost use Rattle.clap.specs.Words.{app_of, fault_of as kinds_of, found_of, rows_of};
 ghost use Rattle.clap.specs.Words.{rule_of, subcommand_of, subcommand_rows_of, takes};
-ghost use Rattle.farm_order.specs.App.{AddsShape, at_rule, db_rule, farm_app, import_app, init_app};
-ghost use Rattle.farm_order.specs.App.{max_rule, memory_rule, offset_rule, once_app, port_rule};
-ghost use Rattle.farm_order.specs.App.{positional_rule, report_app, serve_app};
+ghost use Rattle.farm_order.specs.App.{AddsShape, at_rule, bare_app, db_rule, farm_app};
+ghost use Rattle.farm_order.specs.App.{import_app, init_app, max_rule, memory_rule, migrate_app};
+ghost use Rattle.farm_order.specs.App.{offset_rule, once_app};
+ghost use Rattle.farm_order.specs.App.{port_rule, positional_rule, report_app, serve_app};
 ghost use Rattle.farm_order.specs.Faults.{IsFaultAmong};
 ghost use Rattle.farm_order.specs.Orders.{IsInBounds, form_of, has_flag, import_in, init_in};
-ghost use Rattle.farm_order.specs.Orders.{leaves_choice, number_of, once_in, order_in, place_form};
-ghost use Rattle.farm_order.specs.Orders.{place_in, port_in, report_in};
+ghost use Rattle.farm_order.specs.Orders.{leaves_choice, migrate_in, number_of, once_in, order_in};
+ghost use Rattle.farm_order.specs.Orders.{place_form, place_in, port_in, report_in};
 ghost use Rattle.farm_order.specs.Orders.{report_of, serve_in, text_of, which_in};
 ghost use Rattle.farm_order.specs.declared.fault.OrderFault.TheVariants.{NoMemory};
 
@@ -86,6 +87,8 @@ fn named(alloc: Global, matches: &ArgMatches<'_>) -> Result<Option<Order>, Alloc
         once_named(alloc, given)
     } else if name == "init" {
         init_named(alloc, given)
+    } else if name == "migrate" {
+        migrate_named(alloc, given)
     } else if name == "import" {
         import_named(alloc, given)
     } else if name == "serve" {
@@ -127,6 +130,16 @@ fn init_named(alloc: Global, given: &ArgMatches<'_>) -> Result<Option<Order>, Al
         return Ok(None);
     };
     Ok(Some(Order::Init { file }))
+}
+
+fn migrate_named(alloc: Global, given: &ArgMatches<'_>) -> Result<Option<Order>, AllocError>
+    ensures { IfOk result (λ order.
+        option_map form_of order ≡ migrate_in (rows_of (found_of given.now))) }
+{
+    let Some(file) = text(alloc, given, "db")? else {
+        return Ok(None);
+    };
+    Ok(Some(Order::Migrate { file }))
 }
 
 fn import_named(alloc: Global, given: &ArgMatches<'_>) -> Result<Option<Order>, AllocError>
@@ -232,16 +245,24 @@ fn report_called(name: &str) -> Option<Report>
     }
 }
 
-/// The program, with a subcommand for each order.
-fn farm_command<'a>(alloc: Global) -> Result<Command<'a>, AllocError>
-    ensures { IfOk result (λ command. app_of command ≡ farm_app) }
+/// The program, before it has its subcommands.
+fn bare_command<'a>(alloc: Global) -> Command<'a>
+    ensures { app_of result ≡ bare_app }
 {
     Command::new(alloc, "farm")
         .about("The desk of a board farm: people and queued test jobs share the boards of a lab")
         .version(VERSION)
         .subcommand_required(true)
+}
+
+/// The program, with a subcommand for each order.
+fn farm_command<'a>(alloc: Global) -> Result<Command<'a>, AllocError>
+    ensures { IfOk result (λ command. app_of command ≡ farm_app) }
+{
+    bare_command(alloc)
         .subcommand(once_command(alloc)?)?
         .subcommand(init_command(alloc)?)?
+        .subcommand(migrate_command(alloc)?)?
         .subcommand(import_command(alloc)?)?
         .subcommand(serve_command(alloc)?)?
         .subcommand(report_command(alloc)?)
@@ -262,6 +283,14 @@ fn init_command<'a>(alloc: Global) -> Result<Command<'a>, AllocError>
 {
     Command::new(alloc, "init")
         .about("Makes an empty farm in a file that has none")
+        .arg(file(alloc, true))
+}
+
+fn migrate_command<'a>(alloc: Global) -> Result<Command<'a>, AllocError>
+    ensures { IfOk result (AddsShape migrate_app.top) }
+{
+    Command::new(alloc, "migrate")
+        .about("Brings a farm of the first edition to this one: copy its files before")
         .arg(file(alloc, true))
 }
 
