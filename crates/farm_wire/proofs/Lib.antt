@@ -4,3 +4,4 @@ pub mod ParameterLemmas
 pub mod PathLaws
 pub mod PathLemmas
 pub mod RouteLemmas
+pub mod WrittenLemmas

@@ -1,5 +1,5 @@
 -- The members of a JSON body (RFC 8259): each has its kind, and then its word.
-use Rattle.std.specs.Prelude.{ℕ, List, [], ◌∷◌, length, nat_lt, Option, Some, None, is_some}
+use Rattle.std.specs.Prelude.{ℕ, List, [], ◌∷◌, Option, Some, None, is_some}
 use Rattle.std.specs.Prelude.{option_and_then, Result, Ok, Err, codes, if◌then◌else◌}
 use Rattle.std.specs.Str.{is_utf8}
 use Rattle.serde_json.specs.Data.{Data, Items, no_items, item}
@@ -8,7 +8,7 @@ use Rattle.serde_json.specs.Find.{get, as_str, as_array, as_object}
 use Rattle.farm_types.specs.Words.{is_word, word_or}
 use Rattle.farm_types.specs.Tags.{tags_among}
 use Rattle.farm_types.specs.Proper.{has_no_name_tag}
-use Rattle.farm_types.specs.declared.refusal.TheConstants.{BAD_REQUEST, BAD_NAME, BAD_COUNT}
+use Rattle.farm_types.specs.declared.refusal.TheConstants.{BAD_REQUEST, BAD_NAME}
 use Rattle.farm_types.specs.declared.refusal.TheConstants.{BAD_TAG}
 use Rattle.farm_types.specs.Reads.{◌>>=◌}
 

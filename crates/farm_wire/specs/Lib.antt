@@ -6,6 +6,7 @@ pub mod Parameters
 pub mod Commands
 pub mod Asked
 pub mod Shown
+pub mod Plain
+pub mod Joins
+pub mod Parts
 pub mod Replies
-pub mod Whole
-pub mod JobWords

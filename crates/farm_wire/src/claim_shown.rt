@@ -1,45 +1,44 @@
 //! Claims and reservations as JSON.
 
-use crate::shown::{Shown, name_value, tags_value, text_value};
+use crate::part::{Part, put_object};
+use crate::shown::{Shown, text_or_none};
+use crate::sink::Sink;
 use farm_types::claims::Claim;
 use farm_types::rows::ResRow;
-use serde_json::{Value, json};
-use std::alloc::{AllocError, Global};
+use std::alloc::AllocError;
 
 impl Shown for Claim {
-    ghost use Rattle.std.specs.Prelude.{refl};
     ghost use Rattle.farm_wire.specs.Shown.{claim_data};
 
     ghost json = { claim_data };
 
-    fn value(&self, alloc: Global) -> Result<Value, AllocError> {
-        let kind = text_value(alloc, self.kind.word())?;
-        let owner = text_value(alloc, self.owner.as_str())?;
-        json!(in alloc; {
-            "boards": self.boards, "kind": kind, "number": self.number, "owner": owner,
-            "priority": self.priority.get()
-        })
+    fn print<S: Sink>(&self, sink: &mut S) -> Result<(), AllocError> {
+        let members = [
+            ("boards", Part::Number(self.boards)),
+            ("kind", Part::Text(self.kind.word())),
+            ("number", Part::Number(self.number)),
+            ("owner", Part::Text(self.owner.as_str())),
+            ("priority", Part::Number(self.priority.get())),
+        ];
+        put_object(sink, &members)
     }
-
-    ghost whole = { λ x. refl };
 }
 
 impl Shown for ResRow {
     ghost use Rattle.farm_wire.specs.Shown.{res_data};
-    ghost use Rattle.farm_wire.specs.Whole.{whole_res};
 
     ghost json = { res_data };
 
-    fn value(&self, alloc: Global) -> Result<Value, AllocError> {
-        let board = name_value(alloc, &self.board)?;
-        let owner = text_value(alloc, self.owner.as_str())?;
-        let state = text_value(alloc, self.state.word())?;
-        let tags = tags_value(alloc, &self.want.tags)?;
-        json!(in alloc; {
-            "board": board, "deadline": self.deadline, "number": self.number, "owner": owner,
-            "priority": self.priority.get(), "state": state, "tags": tags
-        })
+    fn print<S: Sink>(&self, sink: &mut S) -> Result<(), AllocError> {
+        let members = [
+            ("board", Part::Text(text_or_none(&self.board))),
+            ("deadline", Part::Number(self.deadline)),
+            ("number", Part::Number(self.number)),
+            ("owner", Part::Text(self.owner.as_str())),
+            ("priority", Part::Number(self.priority.get())),
+            ("state", Part::Text(self.state.word())),
+            ("tags", Part::Tags(&self.want.tags)),
+        ];
+        put_object(sink, &members)
     }
-
-    ghost whole = { whole_res };
 }

@@ -5,7 +5,7 @@
 //! public names stand here again, so that a server needs this crate alone.
 //!
 //! Read `specs/` in the order Reading, Places, Sender, Fields, Parameters, Commands, Asked; then
-//! Shown, JobWords, Whole, Replies.
+//! Shown, Plain, Joins, Parts, Replies.
 #![tactic(auto)]
 
 pub mod allowed;
@@ -24,11 +24,15 @@ pub mod job_shown;
 pub mod laws;
 pub mod object;
 pub mod parameter;
+pub mod part;
 pub mod place;
 pub mod reserve_body;
 pub mod router;
 pub mod sender;
 pub mod shown;
+pub mod sink;
+pub mod small_shown;
+pub mod text;
 pub mod type_body;
 pub mod type_shown;
 

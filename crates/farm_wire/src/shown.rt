@@ -1,80 +1,105 @@
 //! Rows as JSON.
-ghost use Rattle.std.specs.Prelude.{◌≡◌, IfOk, map};
-ghost use Rattle.serde_json.specs.Data.{string, array};
-ghost use Rattle.serde_json.specs.View.{view, items_of};
-ghost use Rattle.farm_wire.specs.Shown.{texts, word_or_none};
+ghost use Rattle.std.specs.Prelude.{◌≡◌, ◌∷◌, OnOk, map, decimal, unwrap_or, []};
+ghost use Rattle.serde_json.specs.Data.{array};
+ghost use Rattle.serde_json.specs.View.{items_of};
+ghost use Rattle.serde_json.specs.Written.{compact_text, comma_if};
+ghost use Rattle.farm_wire.specs.Shown.{listing};
 
-use farm_types::words::{Name, Tag, Tags};
-use serde_json::Value;
-use std::alloc::{AllocError, Global};
+use crate::sink::Sink;
+use crate::text::put_text;
+use farm_types::words::{Name, Tag};
+use itoa::Buffer;
+use std::alloc::AllocError;
 
 /// What answers show as JSON.
 pub(crate) trait Shown {
-    ghost use Rattle.std.specs.Prelude.{◌≡◌, false};
+    ghost use Rattle.std.specs.Prelude.{OnOk};
     ghost use Rattle.serde_json.specs.Data.{Data};
-    ghost use Rattle.serde_json.specs.Written.{has_float};
+    ghost use Rattle.serde_json.specs.Written.{compact_text};
 
     ghost json: { Self → Data };
 
-    /// Its JSON.
-    fn value(&self, alloc: Global) -> Result<Value, AllocError>
-        ensures { IfOk result (λ v. view v ≡ json self.now) };
-
-    /// It has whole numbers alone.
-    ghost whole: { (x : Self) → has_float (json x) ≡ false };
+    /// Puts its JSON, in one pass over its bytes.
+    fn print<S: Sink>(&self, sink: &mut S) -> Result<(), AllocError>
+        ensures { OnOk result (S.Takes sink.old sink.new (compact_text (json self.now))) };
 }
 
-/// A text as JSON.
-pub(crate) fn text_value(alloc: Global, text: &str) -> Result<Value, AllocError>
-    ensures { IfOk result (λ v. view v ≡ string text.now) }
+/// Puts a number.
+pub(crate) fn put_number<S: Sink>(sink: &mut S, number: u64) -> Result<(), AllocError>
+    ensures { OnOk result (S.Takes sink.old sink.new (decimal number)) }
 {
-    Ok(Value::String(String::from_str(alloc, text)?))
+    let mut buffer = Buffer::new();
+    sink.put(buffer.format(number).as_bytes())
 }
 
-/// A name as JSON; the empty text where there is none.
-pub(crate) fn name_value(alloc: Global, name: &Option<Name>) -> Result<Value, AllocError>
-    ensures { IfOk result (λ v. view v ≡ word_or_none name.now) }
+/// Puts a comma where something stands before.
+pub(crate) fn put_comma<S: Sink>(sink: &mut S, later: bool) -> Result<(), AllocError>
+    ensures { OnOk result (S.Takes sink.old sink.new (comma_if later)) }
 {
-    match name {
-        Some(name) => text_value(alloc, name.as_str()),
-        None => text_value(alloc, ""),
-    }
+    if later { sink.put(b",") } else { Ok(()) }
 }
 
-/// The JSON of each row, in order.
-fn values_of<R: Shown>(alloc: Global, rows: &[R]) -> Result<Vec<Value>, AllocError>
-    ensures { IfOk result (λ vs. map view vs.items ≡ map R.json rows.now) }
+/// Puts the array of all rows, in order. It costs one pass over them.
+pub(crate) fn put_rows<S: Sink, R: Shown>(sink: &mut S, rows: &[R]) -> Result<(), AllocError>
+    ensures { OnOk result (S.Takes sink.old sink.new
+        (compact_text (array (items_of (map R.json rows.now))))) }
 {
-    let mut values = Vec::new(alloc);
+    sink.put(b"[")?;
+    let mut later = false;
     for row in rows {
-        values.push(row.value(alloc)?)?;
+        put_comma(sink, later)?;
+        row.print(sink)?;
+        later = true;
     }
-    Ok(values)
+    sink.put(b"]")
 }
 
-/// The array of all rows, in order. It costs one pass over them.
-pub(crate) fn array_of<R: Shown>(alloc: Global, rows: &[R]) -> Result<Value, AllocError>
-    ensures { IfOk result (λ v. view v ≡ array (items_of (map R.json rows.now))) }
+/// Puts an object whose one member is the list of all rows.
+fn put_listing<S: Sink, R: Shown>(sink: &mut S, key: &str, rows: &[R]) -> Result<(), AllocError>
+    ensures { OnOk result (S.Takes sink.old sink.new
+        (compact_text (listing key.now (map R.json rows.now)))) }
 {
-    Ok(Value::Array(values_of(alloc, rows)?))
+    sink.put(b"{")?;
+    put_text(sink, key)?;
+    sink.put(b":")?;
+    put_rows(sink, rows)?;
+    sink.put(b"}")
+}
+
+/// All rows under their key.
+#[derive(Drop)]
+pub(crate) struct Listing<'a, R> {
+    pub key: &'a str,
+    pub rows: &'a [R],
+}
+
+impl<'a, R: Shown> Shown for Listing<'a, R> {
+    ghost use Rattle.std.specs.Prelude.{map};
+    ghost use Rattle.farm_wire.specs.Shown.{listing};
+
+    ghost json = { λ shown. listing shown.key.now (map R.json shown.rows.now) };
+
+    fn print<S: Sink>(&self, sink: &mut S) -> Result<(), AllocError> {
+        put_listing(sink, self.key, self.rows)
+    }
 }
 
 impl Shown for Tag {
-    ghost use Rattle.std.specs.Prelude.{refl};
     ghost use Rattle.serde_json.specs.Data.{string};
 
     ghost json = { string };
 
-    fn value(&self, alloc: Global) -> Result<Value, AllocError> {
-        text_value(alloc, self.as_str())
+    fn print<S: Sink>(&self, sink: &mut S) -> Result<(), AllocError> {
+        put_text(sink, self.as_str())
     }
-
-    ghost whole = { λ x. refl };
 }
 
-/// The array of tags.
-pub(crate) fn tags_value(alloc: Global, tags: &Tags) -> Result<Value, AllocError>
-    ensures { IfOk result (λ v. view v ≡ texts tags.now) }
+/// A name; the empty text where there is none.
+pub(crate) fn text_or_none(name: &Option<Name>) -> &str
+    ensures { result.now ≡ unwrap_or name.now [] }
 {
-    array_of(alloc, tags.items())
+    match name {
+        Some(name) => name.as_str(),
+        None => "",
+    }
 }

@@ -2,10 +2,11 @@
 ghost use Rattle.std.specs.Prelude.{◌≡◌};
 ghost use Rattle.farm_types.specs.Small.{every_of};
 
-use crate::shown::{Shown, text_value};
+use crate::part::{Part, put_object};
+use crate::shown::Shown;
+use crate::sink::Sink;
 use farm_types::rows::{Check, TypeRow};
-use serde_json::{Value, json};
-use std::alloc::{AllocError, Global};
+use std::alloc::AllocError;
 
 /// A check's frequency, and 0 without a check.
 fn every_of(check: Check) -> u64
@@ -18,17 +19,16 @@ fn every_of(check: Check) -> u64
 }
 
 impl Shown for TypeRow {
-    ghost use Rattle.std.specs.Prelude.{refl};
     ghost use Rattle.farm_wire.specs.Shown.{type_data};
 
     ghost json = { type_data };
 
-    fn value(&self, alloc: Global) -> Result<Value, AllocError> {
-        let check = text_value(alloc, self.check.unit().word())?;
-        let every = every_of(self.check);
-        let name = text_value(alloc, self.name.as_str())?;
-        json!(in alloc; {"check": check, "every": every, "name": name})
+    fn print<S: Sink>(&self, sink: &mut S) -> Result<(), AllocError> {
+        let members = [
+            ("check", Part::Text(self.check.unit().word())),
+            ("every", Part::Number(every_of(self.check))),
+            ("name", Part::Text(self.name.as_str())),
+        ];
+        put_object(sink, &members)
     }
-
-    ghost whole = { λ x. refl };
 }

@@ -1,0 +1,86 @@
+//! Objects as JSON, by their members.
+ghost use Rattle.std.specs.Prelude.{◌≡◌, ◌∷◌, ◌++◌, OnOk, map, decimal};
+ghost use Rattle.json.specs.Print.{quoted};
+ghost use Rattle.serde_json.specs.Written.{compact_text};
+ghost use Rattle.farm_types.specs.Called.{holder_text};
+ghost use Rattle.farm_wire.specs.Parts.{member_of, part_data};
+ghost use Rattle.farm_wire.specs.Shown.{fields};
+
+use crate::shown::{put_comma, put_number, put_rows};
+use crate::sink::Sink;
+use crate::text::{put_escaped, put_text};
+use farm_types::rows::Holder;
+use farm_types::words::Tags;
+use itoa::Buffer;
+use std::alloc::AllocError;
+
+/// What stands behind a key.
+#[derive(Clone, Copy)]
+pub(crate) enum Part<'a> {
+    Number(u64),
+    Text(&'a str),
+    Holder(Holder),
+    Tags(&'a Tags),
+}
+
+/// Puts a word and a number as one text.
+fn put_numbered<S: Sink>(sink: &mut S, word: &str, number: u64) -> Result<(), AllocError>
+    ensures { OnOk result (S.Takes sink.old sink.new (quoted (word.now ++ decimal number))) }
+{
+    let mut buffer = Buffer::new();
+    sink.put(b"\"")?;
+    put_escaped(sink, word.as_bytes())?;
+    put_escaped(sink, buffer.format(number).as_bytes())?;
+    sink.put(b"\"")
+}
+
+/// Puts who holds a board.
+fn put_holder<S: Sink>(sink: &mut S, holder: Holder) -> Result<(), AllocError>
+    ensures { OnOk result (S.Takes sink.old sink.new (quoted (holder_text holder))) }
+{
+    match holder {
+        Holder::Nobody => put_text(sink, "none"),
+        Holder::Job(number) => put_numbered(sink, "job ", number),
+        Holder::Res(number) => put_numbered(sink, "reservation ", number),
+    }
+}
+
+/// Puts what stands behind a key.
+fn put_part<S: Sink>(sink: &mut S, part: Part<'_>) -> Result<(), AllocError>
+    ensures { OnOk result (S.Takes sink.old sink.new (compact_text (part_data part.entry))) }
+{
+    match part {
+        Part::Number(number) => put_number(sink, number),
+        Part::Text(text) => put_text(sink, text),
+        Part::Holder(holder) => put_holder(sink, holder),
+        Part::Tags(tags) => put_rows(sink, tags.items()),
+    }
+}
+
+/// Puts a key, a colon and what stands behind.
+fn put_member<S: Sink>(sink: &mut S, key: &str, part: Part<'_>) -> Result<(), AllocError>
+    ensures { OnOk result (S.Takes sink.old sink.new
+        (quoted key.now ++ 58 ∷ compact_text (part_data part.entry))) }
+{
+    put_text(sink, key)?;
+    sink.put(b":")?;
+    put_part(sink, part)
+}
+
+/// Puts an object with these members, whose keys stand in byte order.
+pub(crate) fn put_object<S: Sink>(
+    sink: &mut S,
+    members: &[(&str, Part<'_>)],
+) -> Result<(), AllocError>
+    ensures { OnOk result (S.Takes sink.old sink.new
+        (compact_text (fields (map member_of members.now)))) }
+{
+    sink.put(b"{")?;
+    let mut later = false;
+    for member in members {
+        put_comma(sink, later)?;
+        put_member(sink, member.0, member.1)?;
+        later = true;
+    }
+    sink.put(b"}")
+}
