@@ -336,7 +336,7 @@ def compare_migrating(farm, folder, rounds):
         table.add([("peer", time.perf_counter_ns() - start)])
         copy(full, path)
         table.add([("farm", timed(farm, "migrate", "--db", path))])
-        log = os.path.getsize(path + "-wal")
+        log = os.path.getsize(f"{path}-wal") if os.path.exists(f"{path}-wal") else 0
         table.add([("report", timed(farm, "report", "--db", path, "queue"))])
     print(f"farm migrate, 100,000 jobs: {table.text('farm')}; the file has {os.path.getsize(full):,} bytes, its log then {log:,}")
     for name, what in (("peer", "peer.c, whole"), ("raise", "peer.c, its transaction"), ("report", "farm report queue, of the new farm"),

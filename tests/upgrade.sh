@@ -172,18 +172,24 @@ shows_all 'a migrate whose output is full'
 
 # ---- where there is no room the old farm stays, or the new one is there
 
-for blocks in 0 8 1000; do
+size=$(stat -c %s ../old/lab.db-wal)
+for blocks in 0 8 $((size / 512)) $((size / 512 + 8)) $((size / 512 + 16)) $((size / 512 + 40)); do
     old_farm
     (
         trap '' XFSZ
-        ulimit -f $blocks
-        "$farm" migrate --db lab.db > /dev/null 2>&1 || :
-    )
+        ulimit -f "$blocks"
+        "$farm" migrate --db lab.db 2>&1 || :
+    ) | cat > ../said
+    case "$(cat ../said)" in
+        "$store_fault") found='old or new' ;;
+        migrated) found=new ;;
+        *) fail "where there is no room beyond $blocks blocks migrate said '$(cat ../said)'" ;;
+    esac
     status=0
     "$farm" migrate --db lab.db > ../output 2> ../errors || status=$?
-    case "$status $(cat ../output ../errors)" in
-        '0 migrated' | "4 $new_schema") shows_all "no room beyond $blocks blocks" ;;
-        *) fail "after no room beyond $blocks blocks: $status $(cat ../output ../errors)" ;;
+    case "$found: $status $(cat ../output ../errors)" in
+        'old or new: 0 migrated' | "$found: 4 $new_schema") shows_all "no room beyond $blocks blocks" ;;
+        *) fail "after no room beyond $blocks blocks, which said $(cat ../said): $status $(cat ../output ../errors)" ;;
     esac
 done
 
