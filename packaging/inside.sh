@@ -16,7 +16,7 @@ as_farm() { setpriv --reuid farm --regid farm --clear-groups "$@"; }
 lab=/usr/share/doc/fizgruk/examples/lab.toml
 [ "$(as_farm farm import --db /var/lib/farm/lab.db --at "$(date +%s)" "$lab")" = 'accepted 15, kept 0' ] ||
     fail "the first import"
-as_farm farm serve --db /var/lib/farm/lab.db --port 8080 --max 1000 > /tmp/serve &
+setpriv --reuid farm --regid farm --clear-groups farm serve --db /var/lib/farm/lab.db --port 8080 --max 1000 > /tmp/serve &
 server=$!
 until grep -q listening /tmp/serve; do sleep 0.2; done
 curl -sS -H 'x-user: admin' -d '{"health":"Good"}' http://127.0.0.1:8080/boards/qemu-01/health > /dev/null
@@ -30,6 +30,7 @@ echo "package: the first import and the first reservation are made"
 # ---- an upgrade copies the farm
 home=/var/lib/farm
 dpkg -i /tmp/fizgruk.deb > /tmp/apt.log 2>&1 || fail "the upgrade: $(tail -n 3 /tmp/apt.log)"
+! grep '^fizgruk: ' /tmp/apt.log || fail "an upgrade finds fault with the farm"
 cmp $home/lab.db $home/before-2*/lab.db || fail "the copy of an upgrade"
 echo "package: an upgrade copies the farm"
 
