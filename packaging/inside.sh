@@ -53,7 +53,7 @@ upgraded() {
     grep -q '^fizgruk: the farm is upgraded; ' /tmp/apt.log || fail "$1 said $(cat /tmp/apt.log)"
     for file in lab.db lab.db-wal; do
         cmp "/tmp/$file" $home/before-upgrade-*/"$file" || fail "$1: the copy of $file"
-        [ "$(stat -c '%U %a' $home/$file)" = 'farm 600' ] || fail "$1: $file is $(stat -c '%U %a' $home/$file)"
+        [ "$(stat -c %U $home/$file)" = farm ] || fail "$1: $file is $(stat -c %U $home/$file)'s"
     done
     as_farm farm report --db $home/lab.db queue | cmp - /tmp/queue || fail "$1: the queue"
 }
