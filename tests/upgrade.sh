@@ -252,8 +252,8 @@ if command -v sqlite3 > /dev/null; then
     damaged "$new_schema" "UPDATE meta SET value = 2 WHERE name = 'schema'"
     refuses "$bad_store" report --db lab.db boards
     damaged "$bad_store" 'CREATE TABLE more(it INTEGER)'
-    damaged "$bad_store" 'DROP TABLE kept'
-    damaged "$store_fault" 'DROP TABLE kept; DROP TABLE meta; DROP TABLE jobs; DROP TABLE types; DROP TABLE boards; DROP TABLE reservations'
+    damaged "$store_fault" 'DROP TABLE kept' # (a table that is missing is a fault of the store)
+    damaged "$store_fault" 'DROP TABLE meta'
 
     # The damage is undone: the farm is there.
     damaged "$bad_store" "UPDATE jobs SET board = 'bbb-03' WHERE number = 14"
