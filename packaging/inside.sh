@@ -53,8 +53,8 @@ upgraded() {
     grep -q '^fizgruk: the farm is upgraded; ' /tmp/apt.log || fail "$1 said $(cat /tmp/apt.log)"
     for file in lab.db lab.db-wal; do
         cmp "/tmp/$file" $home/before-upgrade-*/"$file" || fail "$1: the copy of $file"
-        [ "$(stat -c %U $home/$file)" = farm ] || fail "$1: $file is $(stat -c %U $home/$file)'s"
     done
+    [ -z "$(find $home ! -user farm)" ] || fail "$1 leaves files of others: $(find $home ! -user farm)"
     as_farm farm report --db $home/lab.db queue | cmp - /tmp/queue || fail "$1: the queue"
 }
 old_farm

@@ -94,7 +94,7 @@ new_farm() {
 
 # Demands that the farm shows what the first edition's program printed, in a copy.
 shows_all() {
-    cp lab.db lab.db-wal ../away
+    cp lab.db* ../away
     sh "$first/show.sh" "$farm" ../away/lab.db > ../found
     rm ../away/lab.db*
     diff ../shown ../found || fail "after $1 the farm shows something else"
