@@ -68,8 +68,9 @@ echo "package: a farm of the first edition is upgraded, with a copy"
 
 # ---- what is no farm is told of and left; removing and purging keep it all
 echo nothing > $home/lab.db
+echo more > $home/lab.db-wal
 dpkg -i /tmp/fizgruk.deb > /tmp/apt.log 2>&1 || fail "over what is no farm: $(tail -n 3 /tmp/apt.log)"
 grep -q "^fizgruk: the farm in $home can't be opened (farm: 60 store fault)" /tmp/apt.log || fail "it said $(cat /tmp/apt.log)"
 dpkg --purge fizgruk > /tmp/apt.log 2>&1 || fail "the removal: $(tail -n 3 /tmp/apt.log)"
-[ "$(cat $home/lab.db)" = nothing ] && [ -s $home/lab.db-wal ] && ! [ -e /usr/bin/farm ] || fail "what a removal leaves"
+[ "$(cat $home/lab.db $home/lab.db-wal | xargs)" = 'nothing more' ] && ! [ -e /usr/bin/farm ] || fail "what a removal leaves"
 echo "package: a removal keeps the farm"
