@@ -6,6 +6,7 @@ usage: compare.py commands FARM FOLDER ROUNDS   commands to `farm serve` on a fi
        compare.py views FARM FOLDER ROUNDS      views and refusals of `farm serve`; echo.c
        compare.py open FARM FOLDER ROUNDS       a farm of 99,000 jobs is opened; the sqlite3 shell reads the jobs
        compare.py waiting FARM FOLDER ROUNDS    commands to a farm in which 1,000 jobs wait, and 99,000
+       compare.py migrate FARM FOLDER ROUNDS    a first edition's farm of 100,000 jobs is migrated; the same rows by peer.c
        compare.py passes BENCH FOLDER ROUNDS    passes in memory; the plain pass of pass.c
 
 BENCH is the program of crates/farm_bench. FARM is the program (bin/farm), FOLDER a folder on the disk that is measured. Each request goes over a
@@ -22,6 +23,7 @@ import time
 HERE = os.path.dirname(os.path.abspath(__file__))
 FIRST_PORT = 18100
 FEW, MANY = 1_000, 99_000  # finished jobs in a farm; it can have 100,000 jobs
+SUBMITTED, RUNNING, FINISHED = 0, 3, 5  # a job's states
 BOARDS = 64  # boards that are added, and rows that a pass changes
 TURNS = 4
 TIMES = 200
@@ -139,7 +141,23 @@ def jobs(first, count, kind, state, outcome, board):
 
 
 def finished_jobs(first, count):
-    return jobs(first, count, "'aaa'", 4, 1, "printf('board-%04d', i % 64)")
+    return jobs(first, count, "'aaa'", FINISHED, 1, "printf('board-%04d', i % 64)")
+
+
+def running_jobs(first):
+    """A job that runs on each of 64 boards, numbered from `first` on."""
+    place = "CAST(substr(name, 7) AS INTEGER)"
+    held = f"UPDATE boards SET state = 2, holder = 1, held_by = {first} + {place} WHERE {place} < {BOARDS};"
+    return jobs(first, BOARDS, "'aaa'", RUNNING, 0, f"printf('board-%04d', i - {first})") + held
+
+
+def of_the_first_edition():
+    """A farm of the second edition in which nobody collects, as the first one's tables have it."""
+    return """
+        UPDATE jobs SET state = state - (state > 0);
+        DELETE FROM meta WHERE name = 'collector';
+        UPDATE meta SET value = 1 WHERE name = 'schema';
+    """
 
 
 def copy(filled, path):
@@ -264,7 +282,7 @@ def show_growth(table):
 def compare_views(farm, folder, rounds):
     served, table = Served(folder), Table()
     echo, path, listed = built("echo", folder), f"{folder}/bench.db", views()
-    fill(farm, path, 256, jobs(1, 1000, "substr('aaabbbcccddd', i % 4 * 3 + 1, 3)", 0, 0, "''"))
+    fill(farm, path, 256, jobs(1, 1000, "substr('aaabbbcccddd', i % 4 * 3 + 1, 3)", SUBMITTED, 0, "''"))
     for _ in range(rounds):
         table.add(served.ask(desk(farm, path), listed), "desk ")
         table.add(served.ask([echo, "{port}", "{count}"], listed, "echo"), "echo ")
@@ -291,7 +309,7 @@ def compare_waiting(farm, folder, rounds):
     served, table = Served(folder), Table()
     full, path = f"{folder}/full.db", f"{folder}/bench.db"
     for size in (FEW, MANY):
-        fill(farm, f"{full}.{size}", 128, jobs(1, size, "'aaa'", 0, 0, "''"))
+        fill(farm, f"{full}.{size}", 128, jobs(1, size, "'aaa'", SUBMITTED, 0, "''"))
     for _ in range(rounds):
         for size in (FEW, MANY):
             copy(f"{full}.{size}", path)
@@ -301,6 +319,31 @@ def compare_waiting(farm, folder, rounds):
         print(f"{name}: {table.text(f'{FEW} {name}')} with {FEW} waiting, {table.text(f'{MANY} {name}')} with {MANY}; ratio {spread(each)}")
     for size in (FEW, MANY):
         clear(f"{full}.{size}")
+    clear(path)
+
+
+def compare_migrating(farm, folder, rounds):
+    """The whole program beside the peer: reading, testing and writing are in both of its times but the last."""
+    table, peer, full, path = Table(), built("peer", folder, "-lsqlite3"), f"{folder}/full.db", f"{folder}/bench.db"
+    left = 100_000 - MANY - BOARDS
+    fill(farm, full, BOARDS, finished_jobs(1, MANY), jobs(MANY + 1, left, "'aaa'", SUBMITTED, 0, "''"),
+         running_jobs(MANY + left + 1), of_the_first_edition())
+    for _ in range(rounds):
+        copy(full, path)
+        table.add([("shell", timed("sqlite3", path, "select * from jobs"))])
+        start = time.perf_counter_ns()
+        table.add(lines(peer, path, "raise"))
+        table.add([("peer", time.perf_counter_ns() - start)])
+        copy(full, path)
+        table.add([("farm", timed(farm, "migrate", "--db", path))])
+        log = os.path.getsize(f"{path}-wal") if os.path.exists(f"{path}-wal") else 0
+        table.add([("report", timed(farm, "report", "--db", path, "queue"))])
+    print(f"farm migrate, 100,000 jobs: {table.text('farm')}; the file has {os.path.getsize(full):,} bytes, its log then {log:,}")
+    for name, what in (("peer", "peer.c, whole"), ("raise", "peer.c, its transaction"), ("report", "farm report queue, of the new farm"),
+                       ("shell", "the shell's select of the jobs")):
+        each = [a / b for a, b in zip(table.times["farm"], table.times[name])]
+        print(f"{what}: {table.text(name)}; ratio {spread(each)}")
+    clear(full)
     clear(path)
 
 
@@ -337,7 +380,7 @@ def compare_passes(bench, folder, rounds):
 def main(words):
     compare = {
         "commands": compare_commands, "views": compare_views, "open": compare_opening,
-        "waiting": compare_waiting, "passes": compare_passes,
+        "waiting": compare_waiting, "migrate": compare_migrating, "passes": compare_passes,
     }
     try:
         what, farm, folder, rounds = words

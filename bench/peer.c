@@ -7,7 +7,11 @@
    the median of all its calls, under the name that compare.py gives to the desk's requests. The
    commands come in the order of compare.py's list, since later ones write over earlier rows.
 
-   usage: peer FILE TURNS     FILE has 64 waiting reservations, numbered from 1 on */
+   With `raise` it makes the tables of the first edition those of the second instead, as `farm migrate`
+   does: all jobs are read, and written with their new codes in one transaction, which it times.
+
+   usage: peer FILE TURNS     FILE has 64 waiting reservations, numbered from 1 on
+          peer FILE raise     FILE is of the first edition */
 #define _GNU_SOURCE
 #include <sqlite3.h>
 #include <stdio.h>
@@ -16,6 +20,7 @@
 #include <time.h>
 
 enum { BOARDS = 64, BODY = 300 };
+enum { SUBMITTED = 0, SCHEDULED = 2, RUNNING = 3, FINISHED = 5 }; /* a job's states */
 
 static const char *TAGS = "k01,k02,k03,k04,k05,k06,k07,k16";
 
@@ -115,9 +120,10 @@ static void meta(const char *name, long value) {
     run(put_meta);
 }
 
-/* The three numbers, which each command writes. */
+/* The four numbers, which each command writes. */
 static void numbers(void) {
     meta("clock", 1700000000);
+    meta("collector", 0);
     meta("count", ++count);
     meta("next", next_number);
 }
@@ -125,15 +131,15 @@ static void numbers(void) {
 /* The rows of each command, by the number of the first row and the place of the board. */
 static void add_board(long first, int place) { (void)first; board(place, 3, 0, 0, 0); }
 static void make_good(long first, int place) { (void)first; board(place, 0, 0, 0, 0); }
-static void start(long first, int place) { board(place, 0, 2, first + place, 0); job(first + place, 2, 0, place); }
-static void finish(long first, int place) { board(place, 0, 0, 0, 1); job(first + place, 4, 1, place); }
+static void start(long first, int place) { board(place, 0, 2, first + place, 0); job(first + place, RUNNING, 0, place); }
+static void finish(long first, int place) { board(place, 0, 0, 0, 1); job(first + place, FINISHED, 1, place); }
 static void reserve(long first, int place) { (void)first, (void)place; reservation(next_number++, 0); }
 static void cancel(long first, int place) { reservation(first + place, 4); }
 
 static void submit(long first, int place) {
     (void)first, (void)place;
     long it = next_number++;
-    job(it, 0, 0, -1);
+    job(it, SUBMITTED, 0, -1);
     kept(it);
 }
 
@@ -147,7 +153,7 @@ static void pass_that_ends(long first, int place) {
 static void pass_that_serves(long first, int place) {
     (void)place;
     for (int i = 0; i < BOARDS; i++) board(i, 0, 1, first + i, 0);
-    for (int i = 0; i < BOARDS; i++) job(first + i, 1, 0, i);
+    for (int i = 0; i < BOARDS; i++) job(first + i, SCHEDULED, 0, i);
 }
 
 enum { MOST = 4096 };
@@ -204,6 +210,51 @@ static void open_store(const char *path) {
     count = number_of("SELECT value FROM meta WHERE name = 'count'");
 }
 
+/* A job's row as it is read: its numbers, and its texts one behind the other. */
+enum { NUMBERS = 6, TEXTS = 6 };
+static const int number_columns[NUMBERS] = {0, 1, 2, 4, 8, 9};
+static const int text_columns[TEXTS] = {3, 5, 6, 7, 10, 11};
+enum { STATE = 4 }; /* its place among the numbers */
+struct row { long numbers[NUMBERS]; int lengths[TEXTS]; char *texts; };
+
+static struct row read_row(sqlite3_stmt *it) {
+    struct row row;
+    size_t length = 0;
+    for (int i = 0; i < NUMBERS; i++) row.numbers[i] = sqlite3_column_int64(it, number_columns[i]);
+    for (int i = 0; i < TEXTS; i++) length += row.lengths[i] = sqlite3_column_bytes(it, text_columns[i]);
+    char *at = row.texts = malloc(length);
+    if (!at) die("malloc");
+    for (int i = 0; i < TEXTS; at += row.lengths[i++]) memcpy(at, sqlite3_column_text(it, text_columns[i]), row.lengths[i]);
+    return row;
+}
+
+static void write_row(const struct row *row) {
+    const char *at = row->texts;
+    for (int i = 0; i < NUMBERS; i++) number(put_job, number_columns[i] + 1, row->numbers[i]);
+    for (int i = 0; i < TEXTS; at += row->lengths[i++])
+        sqlite3_bind_text(put_job, text_columns[i] + 1, at, row->lengths[i], SQLITE_STATIC);
+    run(put_job);
+}
+
+/* All jobs with their new codes, the collector and the version, in one transaction. */
+static void raise_all(void) {
+    long many = number_of("SELECT count(*) FROM jobs"), n = 0;
+    struct row *rows = malloc((many + 1) * sizeof *rows);
+    sqlite3_stmt *all = prepare("SELECT * FROM jobs ORDER BY number");
+    while (n < many && sqlite3_step(all) == SQLITE_ROW) rows[n++] = read_row(all);
+    sqlite3_finalize(all);
+    double since = now();
+    run(begin);
+    for (long i = 0; i < n; i++) {
+        rows[i].numbers[STATE] += rows[i].numbers[STATE] > 0;
+        write_row(&rows[i]);
+    }
+    meta("collector", 0);
+    meta("schema", 2);
+    run(commit);
+    printf("raise %.0f\n", now() - since);
+}
+
 static int by_size(const void *a, const void *b) {
     double x = *(const double *)a, y = *(const double *)b;
     return (x > y) - (x < y);
@@ -211,11 +262,15 @@ static int by_size(const void *a, const void *b) {
 
 int main(int words, char **word) {
     if (words != 3) {
-        fprintf(stderr, "usage: peer FILE TURNS\n");
+        fprintf(stderr, "usage: peer FILE TURNS|raise\n");
         return 2;
     }
     memset(body, 'x', BODY);
     open_store(word[1]);
+    if (strcmp(word[2], "raise") == 0) {
+        raise_all();
+        return 0;
+    }
     take(ADD_BOARD, 0, BOARDS);
     leave(make_good, 0, BOARDS);
     take(PASS_ENDS, 1, 1);

@@ -1,7 +1,7 @@
 #!/bin/sh
 # Installs a package in a clean Debian as a new user would, makes the first import and the first
-# reservation there, upgrades, removes, and demands that the farm is kept. Wants root, debootstrap and a
-# mirror of Debian; takes minutes, and is run by hand:
+# reservation there, upgrades, also a farm of the first edition, removes, and demands that the farm is kept.
+# Wants root, debootstrap and a mirror of Debian; takes minutes, and is run by hand:
 #     sh packaging/try.sh bin/fizgruk_1.0_amd64.deb [FOLDER OF A DEBIAN THAT IS THERE]
 set -eu
 package=$(realpath "$1")
@@ -15,5 +15,6 @@ if [ -z "$root" ]; then
 fi
 cp "$package" "$root/tmp/fizgruk.deb"
 cp "$(dirname "$0")/inside.sh" "$root/tmp/inside.sh"
+cp -r "$(dirname "$0")/../tests/first_edition" "$root/tmp"
 unshare --mount --pid --fork sh -c '
     mount -t proc proc "$1/proc" && chroot "$1" /bin/sh /tmp/inside.sh' sh "$root"

@@ -1,9 +1,9 @@
 #!/bin/sh
 # What `make test` runs: every proof, every wrong body that has a name, every test and program from nothing
-# (rt ci), and then the program that it built: its words, statuses and examples, an admin's mistakes, SQLite's
-# shell, refused memory, real clients, malformed requests, kills, power cuts, and the tools of tools/, where the
-# machine has what these want. It tells what that cost by kind, and the last line counts all: 'N passed, 0
-# failed'. The further wrong bodies are only read: `make wrong` tries them.
+# (rt ci), and then the program that it built: its words, statuses and examples, an admin's mistakes, upgrades of
+# a farm of the first edition, SQLite's shell, refused memory, real clients, malformed requests, kills, power cuts,
+# and the tools of tools/, where the machine has what these want. It tells what that cost by kind, and the last
+# line counts all: 'N passed, 0 failed'. The further wrong bodies are only read: `make wrong` tries them.
 set -u
 cd "$(dirname "$0")/.."
 folder=$(mktemp -d)
@@ -43,9 +43,9 @@ limited "tests of scripts" python3 tests/waves.py --read || status=1
 if [ "$status" = 0 ]; then
     farm=crates/farm/out/farm
     player=crates/farm_play/out/farm_play
-    for script in words.sh statuses.sh mistakes.sh examples.sh using.sh api.py shell.sh refused_memory.sh \
-        real_clients.sh sockets.py malformed.py kills.py power_cuts.py dispatch.py client.py importers.py \
-        page.py proxy.py package.sh generated.py; do
+    for script in words.sh statuses.sh mistakes.sh upgrade.sh examples.sh using.sh api.py shell.sh \
+        refused_memory.sh real_clients.sh sockets.py malformed.py kills.py power_cuts.py dispatch.py client.py \
+        importers.py page.py proxy.py package.sh generated.py; do
         # (those that go by chance are run longer by hand, as each says)
         case $script in
             generated.py) set -- python3 "tests/$script" "$player" ;;

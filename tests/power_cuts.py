@@ -2,14 +2,16 @@
 """Cuts the power while the program works: python3 tests/power_cuts.py bin/farm [CUTS [SEED]]
 
 A program that is killed leaves what the system still holds; a power cut doesn't. Here each write, change
-of length, sync and removal of the program's two files is written down (tests/record.c, preloaded), in five
+of length, sync and removal of the program's two files is written down (tests/record.c, preloaded), in seven
 lives of a farm: `init`, an import, commands of a day, large jobs until the log has been carried into the
-file several times, and a start after a cut. Then the two files are made as a cut at any place of that record
+file several times, a start after a cut, and the upgrades of a small and of a large farm of the first edition
+(tests/first_edition). Then the two files are made as a cut at any place of that record
 could leave them: all that was synced, and of the sectors of 512 bytes that were written since then none,
 all, each by chance, all but one, or the last alone. Each pair is opened by the program: it holds exactly
 the farm after some number of commands, no fewer than had been answered and no more than had been begun,
 by its reports, by its status and, row by row, by SQLite; and the next command is done. After a cut within
-`init` there is no farm, or the empty one, and `init` is done again.
+`init` there is no farm, or the empty one, and `init` is done again; after one within an upgrade there is the old
+farm or the new one, and the old one is upgraded to just the new one.
 
 What isn't tried: a disk that tears a sector, or forgets what it said is synced, and a folder that forgets
 a file's name once it is synced.
@@ -21,6 +23,7 @@ chance begins. `make test` tries 200. Wants what tests/library.sh wants, and pyt
 import bisect
 import concurrent.futures
 import contextlib
+import gzip
 import hashlib
 import json
 import os
@@ -37,6 +40,7 @@ SECTOR = 512
 TABLES = ["types", "boards", "jobs", "reservations", "kept", "meta"]
 REPORTS = ["boards", "queue", "reservations"]
 NO_FARM = "farm: 60 store fault\n"
+OLD_FARM = "farm: 63 old schema\n"
 STATUS = b"GET /status HTTP/1.1\r\n\r\n"
 
 
@@ -72,7 +76,7 @@ def rows(db):
 def seen(db):
     """A digest of all that a farm shows; the fault where the program finds none."""
     shown = [ask(db, STATUS)]
-    if shown[0][0]:
+    if shown[0][0] and shown[0][1].decode() != OLD_FARM:
         return shown[0][1].decode()
     for report in REPORTS:
         done = subprocess.run([FARM, "report", "--db", db, report], capture_output=True, check=False)
@@ -365,6 +369,38 @@ def different(life, number, chance):
                 yield cut
 
 
+def life_of_upgrading(name, folder, before):
+    """A farm of the first edition that is migrated."""
+    life = Life(name, folder, before)
+    if ask(life.db, STATUS)[1].decode() != OLD_FARM:
+        fail(f"{name}: there is no farm of the first edition")
+    life.farms.append(seen_in_copy(life.db, folder))
+    life.begun.append(0)
+    if life.run(["migrate", "--db", life.db]).stdout != b"migrated\n":
+        fail(f"{name}: it isn't done")
+    life.answered.append(life.length())
+    life.farms.append(seen_in_copy(life.db, folder))
+    return life
+
+
+def first_edition(folder):
+    """The farm that the first edition's program made, and one of it with large jobs more."""
+    small = f"{tempfile.mkdtemp(dir=folder)}/farm.db"
+    for end in ("", "-wal"):
+        with gzip.open(f"{TESTS}/first_edition/lab.db{end}.gz") as packed, open(small + end, "wb") as file:
+            shutil.copyfileobj(packed, file)
+    large = copied(small, folder)
+    with contextlib.closing(sqlite3.connect(large)) as conn:
+        last = conn.execute("select value from meta where name = 'next'").fetchone()[0]
+        text = 'job_name = "large"\ndevice_type = "qemu-aarch64"\n# ' + "x" * 60000 + "\n"
+        row = "0, 'ann', 50, 'qemu-aarch64', '', '', 4, 1, 'qemu-01'"
+        for number in range(last, last + 100):
+            conn.execute(f"insert into jobs values ({number}, {number}, {row}, ?)", (text,))
+        conn.execute("update meta set value = ? where name = 'next'", (last + 100,))
+        conn.commit()
+    return small, large
+
+
 def begins_again(db):
     """Whether an `init` that was cut off is done again, at the latest once what it left is removed."""
     for _ in range(2):
@@ -387,6 +423,9 @@ def opens(life, cut, folder):
                 file.write(held)
     found = seen(db)
     wrong = None
+    if found == life.farms[0] and ask(db, STATUS)[1].decode() == OLD_FARM:
+        subprocess.run([FARM, "migrate", "--db", db], capture_output=True, check=False)
+        found = found if answered == 0 and seen(db) == life.farms[1] else "another one, once it is upgraded"
     if found not in life.farms[answered : begun + 1]:
         at = life.farms.index(found) if found in life.farms else found
         wrong = f"{where}: {answered} commands were answered and {begun} begun, and the farm is {at}"
@@ -439,13 +478,17 @@ def main(number, seed):
         full = life_of_serving("large jobs", folder, busy.db, large_jobs(24))
         if full.carried() < 2:
             fail(f"the log was carried into the file {full.carried()} times")
-        sums = [tried(life, number * part // 20, chance, folder) for life, part in ((empty, 1), (lab, 5), (busy, 8), (full, 4))]
+        sums = [tried(life, number * part // 20, chance, folder) for life, part in ((empty, 1), (lab, 4), (busy, 7), (full, 4))]
         left = next(cut for cut in cuts(full, chance, 0.05) if cut[2] > 60)[1]
         again = f"{tempfile.mkdtemp(dir=folder)}/farm.db"
         for end, held in left.items():
             with open(again + end, "wb") as file:
                 file.write(held)
         after = life_of_serving("a start after a cut", folder, again, more_jobs(4))
+        small, large = first_edition(folder)
+        small = life_of_upgrading("an upgrade", folder, small)
+        large = life_of_upgrading("an upgrade of large jobs", folder, large)
+        sums += [tried(life, number // 20, chance, folder) for life in (small, large)]
         sums.append(tried(after, max(number - sum(sums), 0), chance, folder))
         print(f"power cuts: {sum(sums)} pairs of files, each the farm after some command")
 

@@ -2,7 +2,8 @@
 # Refuses each growth of memory of the program in turn, counting upwards until a run meets no refusal:
 # a request over a farm in memory, and one over a farm in a file. Each run answers as it would with
 # ample memory, or with 503 and code 1 (60 where the store's own growth was refused), or ends with the
-# line of that fault; and whatever was answered 200 is in the file. Then the same of a program that serves
+# line of that fault; and whatever was answered 200 is in the file. Then the same of an upgrade of a farm of the
+# first edition, after which the file has the old farm or the new one; of a program that serves
 # (refused_serving.py), whose keeper is closed where the growth was refused in the middle of a change; and
 # where the player of transcripts is given too, of four rows that it plays (refused_rows.py).
 #     sh tests/refused_memory.sh bin/farm [crates/farm_play/out/farm_play]
@@ -91,6 +92,33 @@ refuse $((number / 2)) once --db farm.db --at 1700000000
 "$farm" once --db farm.db --at 1700000002 < request > again
 "$farm" once --db farm.db --at 1700000003 < request >> again
 cat done done | cmp again -
+
+# An upgrade: each run says that it is done or ends with a fault's line. It is then done again, unless it was done.
+mkdir old
+for end in '' -wal; do
+    gunzip -c "$tests/first_edition/lab.db$end.gz" > "old/farm.db$end"
+done
+sed -n '/^report boards$/,/^report queue$/p' "$tests/first_edition/shown.txt" | sed '1d; $d' > boards
+rm -f refused.*
+number=0
+while :; do
+    number=$((number + 1))
+    cp old/farm.db old/farm.db-wal .
+    refuse $number migrate --db farm.db
+    later=0
+    case "$status $(cat output) $said" in
+        '0 migrated ' | '5  farm: 1 no memory' | '4  farm: 60 store fault')
+            "$farm" migrate --db farm.db > output 2> errors || later=$? ;;
+        *) later=never ;;
+    esac
+    case "$status then $later $(cat output errors)" in
+        [45]' then 0 migrated' | [045]' then 4 farm: 64 new schema') ;;
+        *) echo "refused memory: growth $number of an upgrade ended with $status, $(cat output errors), $later"; exit 1 ;;
+    esac
+    "$farm" report --db farm.db boards | cmp - boards
+    [ -e refused.$number ] || break
+done
+echo "refused memory: each of the $((number - 1)) growths of an upgrade"
 
 python3 "$tests/refused_serving.py" "$farm" "$folder/refuse.so"
 [ -z "$player" ] || python3 "$tests/refused_rows.py" "$player" "$folder/refuse.so"

@@ -52,12 +52,15 @@ does() {
 
 refuses 'requires a subcommand'
 refuses "unrecognized subcommand 'twice'" twice
-refuses "unrecognized subcommand 'migrate'" migrate --db f
 refuses "unexpected argument '--memory'" --memory
 refuses 'required arguments were not provided' once
 refuses "exactly one of '--memory' and '--db <FILE>'" once --at 1
 refuses "exactly one of '--memory' and '--db <FILE>'" once --memory --db f --at 1
 refuses '--db <FILE>' init
+refuses '--db <FILE>' migrate
+refuses "unexpected argument '--at' found" migrate --db f --at 1
+refuses "unexpected argument 'f'" migrate --db f f
+refuses "unrecognized subcommand 'upgrade'" upgrade --db f
 refuses '<LAB>' import --db f --at 1
 refuses "invalid value '0' for '--port <PORT>'" serve --db f --port 0 --max 1
 refuses "invalid value '65536' for '--port <PORT>'" serve --db f --port 65536 --max 1
@@ -89,6 +92,7 @@ helps 'Usage: farm <COMMAND>' help
 helps 'Usage: farm once [OPTIONS] --at <SECONDS>' once --help
 helps 'Usage: farm once [OPTIONS] --at <SECONDS>' help once
 helps 'Usage: farm init --db <FILE>' init --help
+helps 'Usage: farm migrate --db <FILE>' migrate --help
 helps 'Usage: farm import --db <FILE> --at <SECONDS> <LAB>' import --help
 helps 'Usage: farm serve --db <FILE> --port <PORT> --max <CONNECTIONS>' serve --help
 helps 'Usage: farm report [OPTIONS] --db <FILE> <WHICH>' report --help
