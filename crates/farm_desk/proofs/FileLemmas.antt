@@ -40,7 +40,7 @@ lists_none schema it =
 abbrev pub IsStanding : {S : Type 0} → store.Ghosts S → Held S → Type 0
 IsStanding {S} g conn = Opens (state g conn) → IsLive (state g conn) → (T : Tables) → Holds (state g conn).committed.trees T → Stands (state g conn) T
 
-stands_on : {S : Type 0} (g : store.Ghosts S) (conn : Held S) (T : Tables) → IsStanding g conn → OpensTables g conn T → Stands (state g conn) T
+pub stands_on : {S : Type 0} (g : store.Ghosts S) (conn : Held S) (T : Tables) → IsStanding g conn → OpensTables g conn T → Stands (state g conn) T
 stands_on g conn T standing on = standing on.opens on.live T on.holds
 
 -- a keeper that was adopted has the farm that the connection was opened on
@@ -71,7 +71,7 @@ makes_free g conn standing free T on = free T (stands_on g conn T standing on)
 -- ---- over files
 
 -- a connection that was just opened on files with these tables was opened on the tables
-opens_tables : {D : Type 0} {g : Ghosts D} (image : Image) (conn : Held (FileStore D g)) (T : Tables) → ShowsFiles image conn
+pub opens_tables : {D : Type 0} {g : Ghosts D} (image : Image) (conn : Held (FileStore D g)) (T : Tables) → ShowsFiles image conn
     → HasCleanDisk (file_state conn) → HoldsTables image T → OpensTables over_files conn T
 opens_tables image conn T shows clean held =
     let open_now = shows.opened clean in

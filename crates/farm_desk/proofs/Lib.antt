@@ -3,6 +3,7 @@ mod HeardLemmas
 mod ConverseLemmas
 mod ImportLemmas
 mod FileLemmas
+mod UpgradeLemmas
 mod ConversationLemmas
 mod PrefixLemmas
 mod ServingLemmas

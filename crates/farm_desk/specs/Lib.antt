@@ -7,6 +7,7 @@ pub mod Made
 pub mod Imports
 pub mod Serving
 pub mod InFiles
+pub mod Upgrades
 pub mod Reports
 pub mod Conversations
 pub mod Lines

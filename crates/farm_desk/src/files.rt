@@ -23,7 +23,7 @@ pub type FileKeeper<S> = Keeper<FileStore<FileFrom<S>>>;
 
 /// Opens a store at a path. What is refused, memory too, is a fault of the store; then what was
 /// made is taken away, once what is left of the store is closed.
-fn open<S: Start>(
+pub(crate) fn open<S: Start>(
     rt: &HostRuntime,
     ground: &Ground<'_>,
     path: &str,

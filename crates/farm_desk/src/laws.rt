@@ -6,11 +6,12 @@ ghost use Rattle.farm_desk.specs.Conversations.{Desk, Talk, ConverseInTurn, Conv
 ghost use Rattle.farm_desk.specs.Conversations.{AnswersAll, StopsAt, AnsweredActAsRun, ToldAgain};
 ghost use Rattle.farm_desk.specs.Conversations.{OpenKeepsDone, ClosedKeepsPrefix};
 ghost use Rattle.farm_desk.specs.InFiles.{LeavesFiles};
+ghost use Rattle.farm_desk.specs.Upgrades.{LeavesEitherFile};
 
 use crate::converse::converse;
 use crate::fault::DeskFault;
 use farm_keep::Keeper;
-use sqlite::{Alter, FileStore};
+use sqlite::{Alter, Connection, FileStore};
 use sqlite_disk::Disk;
 use std::alloc::Global;
 use std::io::{Read, Write};
@@ -78,4 +79,13 @@ pub fn stopped_files_hold<D: Disk + Drop>(keeper: Keeper<FileStore<D>>) -> FileS
     ensures { LeavesFiles keeper result }
 {
     keeper.into_connection().into_store()
+}
+
+/// The same of an upgrade: where a stop leaves no more of a connection than a farm's tables of the
+/// first edition or of this one, as `farm_keep::migrate` says of its own at every exit, then
+/// whatever it leaves of the files holds that farm, in the one edition or the other.
+pub fn upgraded_files_hold<D: Disk + Drop>(conn: Connection<FileStore<D>>) -> FileStore<D>
+    ensures { LeavesEitherFile conn result }
+{
+    conn.into_store()
 }

@@ -6,7 +6,7 @@
 //!
 //! Read `specs/` in the order Heard, Answers, Made, Due, Ends, which say what a conversation is;
 //! Imports, what an import is; Conversations, Clients, Known, Visits, Serving, what serving does;
-//! InFiles, what stands in files; Faults, Lines, Reports, what the program tells.
+//! InFiles, Upgrades, what stands in files; Faults, Lines, Reports, what the program tells.
 #![tactic(auto)]
 
 mod accepted;
@@ -27,6 +27,7 @@ pub mod program;
 mod report;
 pub mod serve;
 mod server;
+pub mod upgrade;
 
 pub use farm_order::fault::OrderFault;
 pub use farm_order::order::{Order, Place, Report};

@@ -14,14 +14,19 @@ use crate::files::{make_farm, open_farm, read_lab};
 use crate::import::{ImportEnd, import};
 use crate::report::{report_text, zone_between};
 use crate::serve::serve_on;
+use crate::upgrade::migrate_farm;
 use farm_keep::{KeepFault, Keeper};
 use farm_order::order::{Order, Place, Report};
 use farm_types::refusal::Refusal;
 use farm_wire::write_whole;
 use sqlite::{Alter, Connection, MemStore, Unknown};
 use std::alloc::Global;
-use std::io::{Read, Write};
+use std::fs;
+use std::io::{IsTerminal, Read, Write};
 use std::net::{Ipv4Addr, TcpListener};
+
+/// A file of so many bytes may take longer than two seconds to migrate.
+const LARGE_FILE: u64 = 16_000_000;
 
 /// How an order ended that met no fault.
 #[derive(Clone, Copy, Debug, PartialEq, Eq)]
@@ -59,6 +64,7 @@ pub fn carry_out<R: Read, W: Write>(
             Place::File(file) => (file, Task::Answer { at }),
         },
         Order::Init { file } => return init(rt, alloc, file.as_str(), output),
+        Order::Migrate { file } => return migrate(rt, alloc, file.as_str(), output),
         Order::Import { file, at, lab } => (file, Task::Import { at, lab }),
         Order::Report {
             file,
@@ -141,6 +147,37 @@ fn init<W: Write>(
 ) -> Result<End, DeskFault> {
     make_farm(rt, alloc, file, Unknown)?;
     match write_whole(output, b"ready\n") {
+        Ok(()) => Ok(End::Done),
+        Err(_) => Err(DeskFault::Write),
+    }
+}
+
+/// Tells whoever sits at the terminal that a file is a large one, which takes a few seconds.
+fn tell_size(rt: &HostRuntime, file: &str) {
+    let Ok(found) = fs::metadata(rt, file) else {
+        return;
+    };
+    let mut errors = rt.stderr();
+    if found.len() >= LARGE_FILE && errors.is_terminal() {
+        let megabytes = found.len() / 1_000_000;
+        let _ = writeln!(
+            errors,
+            "farm: migrating {megabytes} MB, which takes a few seconds"
+        );
+    }
+}
+
+/// Brings the first edition's farm of a file to this one. The log is copied into the file then; it
+/// is as good where that fails.
+fn migrate<W: Write>(
+    rt: &HostRuntime,
+    alloc: Global,
+    file: &str,
+    output: &mut W,
+) -> Result<End, DeskFault> {
+    tell_size(rt, file);
+    let _ = migrate_farm(rt, alloc, file, Unknown)?.close();
+    match write_whole(output, b"migrated\n") {
         Ok(()) => Ok(End::Done),
         Err(_) => Err(DeskFault::Write),
     }
