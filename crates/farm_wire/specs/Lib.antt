@@ -6,6 +6,7 @@ pub mod Parameters
 pub mod Commands
 pub mod Asked
 pub mod Shown
+pub mod Keys
 pub mod Plain
 pub mod Joins
 pub mod Parts

@@ -1,8 +1,18 @@
-//! Laws of the paths.
+//! Laws of the paths, and of the keys of answers.
 ghost use Rattle.std.specs.Prelude.{◌≡◌, ℕ, ◌<◌, ◌∷◌, ◌++◌, List, codes, false, Some, None};
 ghost use Rattle.matchit.specs.Seek.{has_slash};
+ghost use Rattle.farm_types.specs.declared.claims.Claim.{Claim};
+ghost use Rattle.farm_types.specs.declared.claims.Status.{Status};
+ghost use Rattle.farm_types.specs.declared.rows.BoardRow.{BoardRow};
+ghost use Rattle.farm_types.specs.declared.rows.JobRow.{JobRow};
+ghost use Rattle.farm_types.specs.declared.rows.Reply.{Reply};
+ghost use Rattle.farm_types.specs.declared.rows.ResRow.{ResRow};
+ghost use Rattle.farm_types.specs.declared.rows.TypeRow.{TypeRow};
+ghost use Rattle.farm_wire.specs.Keys.{KeysRise};
 ghost use Rattle.farm_wire.specs.Parameters.{parameter};
 ghost use Rattle.farm_wire.specs.Places.{LeadsTo, place_at};
+ghost use Rattle.farm_wire.specs.Shown.{type_data, board_data, claim_data, res_data, job_data};
+ghost use Rattle.farm_wire.specs.Shown.{status_data, refusal_data, reply_data};
 ghost use Rattle.farm_wire.specs.declared.place.CommandKind.{CommandKind};
 ghost use Rattle.farm_wire.specs.declared.place.Place.{Place};
 ghost use Rattle.farm_wire.specs.declared.place.ViewKind.{ViewKind};
@@ -41,4 +51,16 @@ pub fn other_paths()
     ensures star { place_at (codes "*") ≡ None }
     ensures root { place_at (codes "/") ≡ None }
     ensures absolute { place_at (codes "http://farm/types") ≡ None }
+{}
+
+/// The keys of each object stand in byte order, whatever is shown.
+pub fn keys_in_order()
+    ensures reply { (kind : ℕ) (reply : Reply) → KeysRise (reply_data kind reply) }
+    ensures refusal { (code : ℕ) → KeysRise (refusal_data code) }
+    ensures types { (row : TypeRow) → KeysRise (type_data row) }
+    ensures boards { (row : BoardRow) → KeysRise (board_data row) }
+    ensures queue { (claim : Claim) → KeysRise (claim_data claim) }
+    ensures reservations { (row : ResRow) → KeysRise (res_data row) }
+    ensures job { (row : JobRow) → KeysRise (job_data row) }
+    ensures status { (status : Status) → KeysRise (status_data status) }
 {}

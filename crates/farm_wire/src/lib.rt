@@ -5,7 +5,7 @@
 //! public names stand here again, so that a server needs this crate alone.
 //!
 //! Read `specs/` in the order Reading, Places, Sender, Fields, Parameters, Commands, Asked; then
-//! Shown, Plain, Joins, Parts, Replies.
+//! Shown, Keys, Plain, Joins, Parts, Replies.
 #![tactic(auto)]
 
 pub mod allowed;
