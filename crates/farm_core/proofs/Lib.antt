@@ -1,4 +1,5 @@
 pub mod Small
+pub mod Replies
 pub mod Sound
 pub mod Upto
 pub mod Edited

@@ -1,6 +1,7 @@
 pub mod Plain
 pub mod Orderly
 pub mod Leases
+pub mod Replies
 pub mod Tracks
 pub mod Drafted
 pub mod Following

@@ -160,8 +160,8 @@ impl Draft {
         requires { IsSmallKept row }
         ensures { IfOk result (λ d. d ≡ at_farm (put_kept self.farm row) self) }
     {
-        self.changes.kept.push(row.copy()?)?;
-        self.tables.kept.put(row)?;
+        self.tables.kept.put(&row)?;
+        self.changes.kept.push(row)?;
         Ok(self)
     }
 }

@@ -34,7 +34,7 @@ pub enum BadRows {
     /// The rows are no sound farm's.
     #[error("unsound rows")]
     Unsound,
-    /// There is no memory for the queues.
+    /// There is no memory for the kept replies, the queues or the leases.
     #[error("no memory")]
     NoMemory,
 }
@@ -96,7 +96,8 @@ impl Farm {
 
     /// The farm of these rows; refused where they are no sound farm's, or for want of memory. With
     /// n rows it costs O(n log n): each looks up a few others by binary search. It takes memory for
-    /// the queues alone, of the claims that wait and of the free boards, and for the leases.
+    /// the kept replies, for the queues, of the claims that wait and of the free boards, and for the
+    /// leases.
     pub fn from_rows(rows: Rows) -> Result<Farm, BadRows>
         ensures farm { IfOk result (λ f. f.farm ≡ farm_of rows) }
         ensures working { IfOk result (λ f. f.failed ≡ false) }
@@ -106,7 +107,7 @@ impl Farm {
         if !is_sound(&rows) {
             return Err(BadRows::Unsound);
         }
-        let mut tables = Tables::of(rows);
+        let mut tables = Tables::of(rows)?;
         tables.fill_queues()?;
         tables.fill_leases()?;
         Ok(Farm {

@@ -1,35 +1,100 @@
 //! The kept replies.
-ghost use Rattle.std.specs.Prelude.{◌≡◌, ◌&&◌, [], OnOk, length};
+ghost use Rattle.std.specs.Prelude.{◌≡◌, ◌&&◌, [], IfOk, OnOk, OnErr, length, option_map};
+ghost use Rattle.std.specs.Cmp.{partial_order_from_own_ties};
+ghost use Rattle.std.specs.Cmp.Rules.{comparing};
+ghost use Rattle.std.proofs.Common.{rules};
 ghost use Rattle.std.specs.List.{find};
 ghost use Rattle.std.specs.List.Sorted.{IsStrictlySortedBy};
-ghost use Rattle.std.specs.Option.{option_copied};
+ghost use Rattle.std.specs.Ordering.{on, then_cmp, as_partial_cmp};
 ghost use Rattle.std.specs.Str.{bytes_eq};
 ghost use Rattle.farm_types.specs.Table.{put, kept_cmp};
+ghost use Rattle.farm_types.specs.Words.{text_cmp};
+ghost use Rattle.farm_core.specs.Replies.{kept_reply};
 
-use farm_sound::seek;
-use farm_types::rows::KeptRow;
-use farm_types::table::upsert;
-use farm_types::words::{Key, Name};
+use arrayvec::ArrayString;
+use farm_types::rows::{KeptRow, Reply};
+use farm_types::words::{Key, LONGEST_KEY, LONGEST_NAME, Name};
 use std::alloc::{AllocError, Global};
+use std::cmp::Ordering;
+use std::collections::BTreeMap;
 use std::marker::Model;
+
+/// Under what a reply is kept: its caller, and the caller's key. The texts lie in the value itself,
+/// so that a look-up takes no memory.
+#[derive(Clone, Copy, Debug, PartialEq, Eq)]
+pub struct KeptKey {
+    pub caller: ArrayString<LONGEST_NAME>,
+    pub key: ArrayString<LONGEST_KEY>,
+}
+
+impl KeptKey {
+    /// The key of these texts.
+    fn of(caller: &Name, key: &Key) -> KeptKey
+        ensures caller { result.caller.bytes ≡ caller.now }
+        ensures key { result.key.bytes ≡ key.now }
+    {
+        let mut texts = KeptKey {
+            caller: ArrayString::new(),
+            key: ArrayString::new(),
+        };
+        texts.caller.push_str(caller.as_str());
+        texts.key.push_str(key.as_str());
+        texts
+    }
+}
+
+impl Ord for KeptKey {
+    ghost cmp = { then_cmp (on (λ k. k.caller.bytes) text_cmp) (on (λ k. k.key.bytes) text_cmp) };
+
+    ghost total = { Prim.search (comparing, rules) depth 9 };
+
+    ghost matches_partial_cmp = { Prim.search (comparing, rules) depth 9 };
+
+    ghost matches_eq = { Prim.search (comparing, rules) depth 9 };
+
+    fn cmp(&self, other: &KeptKey) -> Ordering {
+        self.caller
+            .cmp(&other.caller)
+            .then(self.key.cmp(&other.key))
+    }
+}
+
+impl PartialOrd for KeptKey {
+    ghost partial_cmp = { as_partial_cmp (then_cmp (on (λ k. k.caller.bytes) text_cmp)
+        (on (λ k. k.key.bytes) text_cmp)) };
+
+    ghost laws = { partial_order_from_own_ties (Prim.search (comparing, rules) depth 9)
+        (Prim.search (comparing, rules) depth 9) };
+
+    fn partial_cmp(&self, other: &KeptKey) -> Option<Ordering> {
+        Some(self.cmp(other))
+    }
+}
+
+/// What is kept under a caller's key: the command's kind, and its reply.
+#[derive(Clone, Copy, Debug, PartialEq, Eq)]
+pub struct KeptReply {
+    pub kind: u64,
+    pub reply: Reply,
+}
 
 /// The kept replies in order of caller and key.
 ///
-/// A sorted vector: a look-up is a binary search, O(log K) for K replies, but a new reply moves
-/// those behind it, up to 300,000. An ordered map can take the vector's place with no change
-/// elsewhere, since this file alone sees it.
+/// They stand in an ordered map: with K replies a look-up and a new reply cost O(log K) each, and a
+/// new one moves O(log K) others. An entry takes 160 bytes, and no memory beside the map's.
 #[derive(Debug, Drop)]
 pub struct Kept {
-    rows: Vec<KeptRow>,
+    rows: BTreeMap<KeptKey, KeptReply>,
 }
 
 impl Model for Kept {
-    ghost use Rattle.std.specs.Prelude.{List};
+    ghost use Rattle.std.specs.Prelude.{List, map};
     ghost use Rattle.farm_types.specs.declared.rows.KeptRow.{KeptRow};
+    ghost use Rattle.farm_core.specs.Replies.{kept_row};
 
     ghost Value = { List KeptRow };
 
-    ghost view = { λ k. k.rows.items };
+    ghost view = { λ k. map kept_row k.rows.entries };
 }
 
 impl Kept {
@@ -38,15 +103,20 @@ impl Kept {
         ensures { result ≡ [] }
     {
         Kept {
-            rows: Vec::new(alloc),
+            rows: BTreeMap::new(alloc),
         }
     }
 
-    /// The replies of rows.
-    pub fn of(rows: Vec<KeptRow>) -> Kept
-        ensures { result ≡ rows.items }
+    /// The replies of K rows, at the cost of K puts.
+    pub fn of(alloc: Global, rows: &[KeptRow]) -> Result<Kept, AllocError>
+        requires { IsStrictlySortedBy kept_cmp rows.now }
+        ensures { IfOk result (λ kept. kept ≡ rows.now) }
     {
-        Kept { rows }
+        let mut kept = Kept::new(alloc);
+        for row in rows {
+            kept.put(row)?;
+        }
+        Ok(kept)
     }
 
     /// How many replies are kept.
@@ -56,21 +126,27 @@ impl Kept {
         self.rows.len()
     }
 
-    /// What is kept for a caller and a key.
-    pub fn find(&self, caller: &Name, key: &Key) -> Option<&KeptRow>
-        requires { IsStrictlySortedBy kept_cmp self.now }
-        ensures { option_copied result ≡ find (λ r. bytes_eq r.caller caller.now
-            && bytes_eq r.key key.now) self.now }
+    /// What is kept for a caller and a key. With K replies it costs O(log K).
+    pub fn find(&self, caller: &Name, key: &Key) -> Option<KeptReply>
+        ensures { result ≡ option_map kept_reply (find (λ r. bytes_eq r.caller caller.now
+            && bytes_eq r.key key.now) self.now) }
     {
-        seek::kept_of(&self.rows, caller, key)
+        self.rows.get(&KeptKey::of(caller, key)).copied()
     }
 
-    /// Keeps a reply.
-    pub fn put(&mut self, row: KeptRow) -> Result<(), AllocError>
+    /// Keeps a reply. With K replies it costs O(log K). A refused growth changes nothing.
+    pub fn put(&mut self, row: &KeptRow) -> Result<(), AllocError>
         requires { IsStrictlySortedBy kept_cmp self.old }
-        ensures rows { OnOk result (self.new ≡ put kept_cmp self.old row) }
+        ensures rows { OnOk result (self.new ≡ put kept_cmp self.old row.now) }
         ensures sorted { OnOk result (IsStrictlySortedBy kept_cmp self.new) }
+        ensures stays { OnErr result (self.new ≡ self.old) }
     {
-        upsert(&mut self.rows, row)
+        let key = KeptKey::of(&row.caller, &row.key);
+        let reply = KeptReply {
+            kind: row.kind,
+            reply: row.reply,
+        };
+        let _former = self.rows.insert(key, reply)?;
+        Ok(())
     }
 }

@@ -1,7 +1,8 @@
 //! The machine of the board farm: one farm, and one call after another.
 //!
-//! Read `specs/` in the order Plain, Shown, Answers, which say what callers see; then Calls,
-//! Orderly, Leases, Tracks, Drafted, Following, Edits, Serving, which say what a command keeps on its way.
+//! Read `specs/` in the order Plain, Shown, Answers, which say what callers see; then Replies, how
+//! kept replies are kept; then Calls, Orderly, Leases, Tracks, Drafted, Following, Edits, Serving,
+//! which say what a command keeps on its way.
 #![tactic(auto)]
 
 mod boards;

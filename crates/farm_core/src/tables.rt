@@ -1,5 +1,5 @@
 //! The tables of a farm, and what is looked up in them.
-ghost use Rattle.std.specs.Prelude.{◌≡◌, [], OnOk};
+ghost use Rattle.std.specs.Prelude.{◌≡◌, [], IfOk, option_map};
 ghost use Rattle.std.specs.List.Sorted.{IsStrictlySortedBy};
 ghost use Rattle.std.specs.Option.{option_copied};
 ghost use Rattle.farm_types.specs.Table.{put, job_cmp, kept_cmp};
@@ -11,14 +11,15 @@ ghost use Rattle.farm_types.specs.Refuse.{kept_for};
 ghost use Rattle.farm_pick.specs.Queued.{lists_of};
 ghost use Rattle.farm_core.specs.Plain.{plain};
 ghost use Rattle.farm_core.specs.Orderly.{IsOrderly, IsNear};
+ghost use Rattle.farm_core.specs.Replies.{kept_reply};
 ghost use Rattle.farm_core.specs.Tracks.{Tracks};
 
-use crate::kept::Kept;
+use crate::kept::{Kept, KeptReply};
 use crate::leases::Lease;
 use farm_pick::Queues;
 use farm_sound::seek;
 use farm_types::calls::{Call, Changes, Rows};
-use farm_types::rows::{BoardRow, JobRow, KeptRow, MetaRow, ResRow, TypeRow};
+use farm_types::rows::{BoardRow, JobRow, MetaRow, ResRow, TypeRow};
 use farm_types::table::upsert;
 use farm_types::words::Name;
 use std::alloc::{AllocError, Global};
@@ -106,26 +107,27 @@ impl Tables {
         }
     }
 
-    /// The tables of some rows, with empty queues and no leases.
-    pub fn of(rows: Rows) -> Tables
+    /// The tables of some rows, with empty queues and no leases. It takes memory for the kept replies.
+    pub fn of(rows: Rows) -> Result<Tables, AllocError>
         requires { IsStrictlySortedBy kept_cmp rows.kept.items }
-        ensures farm { plain result ≡ farm_of rows }
-        ensures queues { result.queues ≡ record { claims = []; boards = [] } }
+        ensures farm { IfOk result (λ t. plain t ≡ farm_of rows) }
+        ensures queues { IfOk result (λ t. t.queues ≡ record { claims = []; boards = [] }) }
     {
         let alloc = *rows.types.allocator();
-        Tables {
+        let kept = Kept::of(alloc, &rows.kept)?;
+        Ok(Tables {
             types: rows.types,
             boards: rows.boards,
             jobs: rows.jobs,
             reservations: rows.reservations,
-            kept: Kept::of(rows.kept),
+            kept,
             queues: Queues::new(alloc),
             leases: BTreeSet::new(alloc),
             clock: rows.meta.clock,
             collector: rows.meta.collector,
             count: rows.meta.count,
             next: rows.meta.next,
-        }
+        })
     }
 
     /// The type of that name, by binary search.
@@ -144,10 +146,9 @@ impl Tables {
         seek::board_of(&self.boards, name)
     }
 
-    /// What is kept for the call's caller and key, by binary search.
-    pub fn find_kept(&self, call: &Call) -> Option<&KeptRow>
-        requires { IsOrderly (plain self.now) }
-        ensures { option_copied result ≡ kept_for (plain self.now) call.entry.now }
+    /// What is kept for the call's caller and key, if the call has a key.
+    pub fn find_kept(&self, call: &Call) -> Option<KeptReply>
+        ensures { result ≡ option_map kept_reply (kept_for (plain self.now) call.entry.now) }
     {
         match &call.key {
             None => None,
