@@ -55,6 +55,14 @@ refuses() {
     cmp -s ../before ../after || fail "farm $*, which told $told, left $(diff ../before ../after)"
 }
 
+# Demands that `migrate` tells that it was done before, and leaves the file as it is; an empty log may get a new head.
+was_done() {
+    cp lab.db ../away/before
+    expect 4 '' "$new_schema" migrate --db lab.db
+    cmp lab.db ../away/before || fail "a second migrate changed the file"
+    rm ../away/before
+}
+
 # The next request: WHO PATH BODY KEY; no key where it's empty.
 request() {
     {
@@ -120,7 +128,7 @@ refuses "$old_schema" once --db lab.db --at $begun
 
 expect 0 migrated '' migrate --db lab.db
 shows_all migrate
-refuses "$new_schema" migrate --db lab.db
+was_done
 shows_all 'a second migrate'
 
 # ---- the farm goes on: kept replies
@@ -167,7 +175,7 @@ old_farm
 status=0
 "$farm" migrate --db lab.db > /dev/full 2> ../errors || status=$?
 [ "$status $(cat ../errors)" = '4 farm: 81 write fault' ] || fail "into a full file: $status, $(cat ../errors)"
-refuses "$new_schema" migrate --db lab.db
+was_done
 shows_all 'a migrate whose output is full'
 
 # ---- where there is no room the old farm stays, or the new one is there
@@ -226,7 +234,7 @@ echo 'SQLite format' > lab.db
 refuses "$store_fault" migrate --db lab.db
 rm lab.db
 expect 0 ready '' init --db lab.db
-refuses "$new_schema" migrate --db lab.db
+was_done
 
 # ---- damaged files
 
