@@ -2,7 +2,7 @@
 # Installs a package in a clean Debian as a new user would, makes the first import and the first
 # reservation there, upgrades, also a farm of the first edition, removes, and demands that the farm is kept.
 # Wants root, debootstrap and a mirror of Debian; takes minutes, and is run by hand:
-#     sh packaging/try.sh bin/fizgruk_1.0_amd64.deb [FOLDER OF A DEBIAN THAT IS THERE]
+#     sh packaging/try.sh bin/fizgruk_2.0_amd64.deb [FOLDER OF A DEBIAN THAT IS THERE]
 set -eu
 package=$(realpath "$1")
 root=${2:-}

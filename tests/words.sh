@@ -96,8 +96,8 @@ helps 'Usage: farm migrate --db <FILE>' migrate --help
 helps 'Usage: farm import --db <FILE> --at <SECONDS> <LAB>' import --help
 helps 'Usage: farm serve --db <FILE> --port <PORT> --max <CONNECTIONS>' serve --help
 helps 'Usage: farm report [OPTIONS] --db <FILE> <WHICH>' report --help
-helps 'farm 1.0' --version
-helps 'farm 1.0' -V
+helps 'farm 2.0' --version
+helps 'farm 2.0' -V
 [ "$(wc -l < output)" = 1 ] || fail "farm -V printed '$(cat output)'"
 refuses "unexpected argument '--version' found" once --version
 

@@ -58,7 +58,7 @@ fn open_choice(matches: &ArgMatches<'_>) -> &'static str {
 }
 
 /// The program's version, which `--version` prints behind its name.
-const VERSION: &str = "1.0";
+const VERSION: &str = "2.0";
 
 const NO_PLACE: &str = "\
 error: exactly one of '--memory' and '--db <FILE>' has to be provided
