@@ -23,7 +23,14 @@ pub enum Deed {
     PassAgain(u64),
     /// A farm that has them lists its queue.
     Queue,
+    /// A farm that has them makes a hundred reservations, by a command each without a key.
+    Reserve,
+    /// The same under keys that stand in front of those that are kept.
+    ReserveByKey,
 }
+
+/// How many reservations are made.
+const RESERVATIONS: u64 = 100;
 
 /// What came of a deed, and how many nanoseconds it took.
 #[derive(Drop)]
@@ -49,18 +56,18 @@ fn take(watch: &Watch<'_>, rows: Rows) -> anyhow::Result<Done> {
     Ok(Done { what, nanos })
 }
 
-/// The dispatcher's call of a command, under a key where there is one.
-fn call(alloc: Global, key: Option<Key>, now: u64, cmd: Cmd) -> anyhow::Result<Call>
+/// The call of a command, under a key where there is one.
+fn call(alloc: Global, caller: &str, key: Option<Key>, now: u64, cmd: Cmd) -> anyhow::Result<Call>
     requires { IsTrue (is_proper_cmd cmd) }
 {
-    let caller = boards::name(alloc, "dispatcher")?;
+    let caller = boards::name(alloc, caller)?;
     Ok(Call::new(caller, key, now, cmd))
 }
 
 /// A pass at a moment.
 #[tactic(auto, unfolding(farm_types::specs::Proper::is_proper_cmd))]
 fn pass_at(alloc: Global, now: u64) -> anyhow::Result<Call> {
-    call(alloc, None, now, Cmd::Pass)
+    call(alloc, "dispatcher", None, now, Cmd::Pass)
 }
 
 /// What a pass came to, in words, and how long it took.
@@ -101,6 +108,38 @@ fn queue(watch: &Watch<'_>, rows: Rows) -> anyhow::Result<Done> {
     Ok(Done { what, nanos })
 }
 
+/// Calls that reserve a board each.
+fn reserve_calls(alloc: Global, keyed: bool) -> anyhow::Result<Vec<Call>> {
+    let mut calls = Vec::new(alloc);
+    for number in 0..RESERVATIONS {
+        let priority = rows::priority_of(number)?;
+        let cmd = Cmd::reserve(priority, boards::asked_tags(alloc, false)?);
+        let key = if keyed {
+            Some(rows::key(alloc, "a", number)?)
+        } else {
+            None
+        };
+        calls.push(call(alloc, "ann", key, rows::NOW, cmd)?)?;
+    }
+    Ok(calls)
+}
+
+/// Makes reservations, and says how long all of them took.
+fn reserve(watch: &Watch<'_>, rows: Rows, keyed: bool) -> anyhow::Result<Done> {
+    let mut farm = farm_of(rows)?;
+    let calls = reserve_calls(watch.alloc(), keyed)?;
+    let start = watch.start()?;
+    for call in &calls {
+        let Ok(Answer::Did(_reply, _changes)) = farm.step(call) else {
+            bail!("refused");
+        };
+    }
+    let nanos = watch.stop(start)?;
+    let made = farm.status().reservations;
+    let what = format!(in watch.alloc(); "{made} reservations made")?;
+    Ok(Done { what, nanos })
+}
+
 fn perform(watch: &Watch<'_>, shape: &Shape, deed: Deed) -> anyhow::Result<Done> {
     let rows = rows::rows(watch.alloc(), shape)?;
     match deed {
@@ -108,6 +147,8 @@ fn perform(watch: &Watch<'_>, shape: &Shape, deed: Deed) -> anyhow::Result<Done>
         Deed::Pass(now) => pass(watch, rows, now),
         Deed::PassAgain(now) => pass_again(watch, rows, now),
         Deed::Queue => queue(watch, rows),
+        Deed::Reserve => reserve(watch, rows, false),
+        Deed::ReserveByKey => reserve(watch, rows, true),
     }
 }
 
