@@ -3,7 +3,8 @@
 # make test   every proof, named wrong body, test and program, from nothing (rt ci), then the scripts of tests/
 # make wrong  the further wrong bodies of wrong/, many to a check, over what make test or make bin proved
 # make deb    a Debian package of bin/farm and the tools, in bin/
-.PHONY: run bin test wrong deb
+# make bench  times bin/farm beside its peers, alone on the machine: half an hour
+.PHONY: run bin test wrong deb bench
 
 run:
 	@sh tests/day.sh
@@ -20,3 +21,6 @@ wrong:
 
 deb:
 	@sh packaging/build.sh bin/farm bin
+
+bench:
+	@sh bench/all.sh bin/farm

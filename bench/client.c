@@ -23,7 +23,7 @@ enum { MOST_NAMES = 32, MOST_TIMES = 1 << 14 };
 struct series { char name[32]; int n; double took[MOST_TIMES]; };
 
 static struct series all[MOST_NAMES];
-static char asked[8192], answer[1 << 20];
+static char asked[8192], answer[1 << 25];
 
 static double now(void) {
     struct timespec t;

@@ -6,12 +6,14 @@ usage: compare.py commands FARM FOLDER ROUNDS   commands to `farm serve` on a fi
        compare.py views FARM FOLDER ROUNDS      views and refusals of `farm serve`; echo.c
        compare.py open FARM FOLDER ROUNDS       a farm of 99,000 jobs is opened; the sqlite3 shell reads the jobs
        compare.py waiting FARM FOLDER ROUNDS    commands to a farm in which 1,000 jobs wait, and 99,000
+       compare.py full FARM FOLDER ROUNDS       a farm at its limits: opening, commands, passes, views; echo.c, the shell
+       compare.py growth FARM FOLDER ROUNDS     how the same grow with the rows; bench/growth.svg, drawn by gnuplot
        compare.py migrate FARM FOLDER ROUNDS    a first edition's farm of 100,000 jobs is migrated; the same rows by peer.c
        compare.py passes BENCH FOLDER ROUNDS    passes in memory; the plain pass of pass.c
 
 BENCH is the program of crates/farm_bench. FARM is the program (bin/farm), FOLDER a folder on the disk that is measured. Each request goes over a
 connection of its own (client.c). Farms are made by `farm init` and filled by the real SQLite. It needs
-cc, SQLite's header and library, and the sqlite3 shell.
+cc, SQLite's header and library, and the sqlite3 shell; `growth` wants gnuplot.
 """
 import os
 import shutil
@@ -132,6 +134,22 @@ def waiting_reservations(count):
     """
 
 
+def canceled_reservations(first, count):
+    """Reservations that were canceled, numbered from `first` on."""
+    return f"""
+        INSERT INTO reservations WITH RECURSIVE n(i) AS (SELECT {first} UNION ALL SELECT i + 1 FROM n LIMIT {count})
+            SELECT i, 'ann', 50, 'k01,k07', 4, 1700000060, '' FROM n;
+    """
+
+
+def kept_replies(count):
+    """Replies of submissions, kept for twenty callers."""
+    return f"""
+        INSERT INTO kept WITH RECURSIVE n(i) AS (SELECT 1 UNION ALL SELECT i + 1 FROM n LIMIT {count})
+            SELECT printf('user-%02d', i % 20), printf('key-%08d', i), 5, 1 + i % 1000, 0, 0 FROM n;
+    """
+
+
 def jobs(first, count, kind, state, outcome, board):
     """Single jobs of 300 bytes, numbered from `first` on; `board` is a term of SQL."""
     return f"""
@@ -234,6 +252,22 @@ def claims(first):
     return listed
 
 
+def idle_day(free):
+    """What is asked of a farm in which nobody waits: passes with nothing to do, reservations made with and without a
+    key, its views. `free` is the next number."""
+    listed = [item("first_pass", "POST /pass", "dispatcher"), *(item("pass", "POST /pass", "dispatcher") for _ in range(TIMES))]
+    for number in range(free, free + 2 * TIMES, 2):
+        listed += [
+            item("reserve", "POST /reservations", "ann", '{"tags":["k01","k07"]}'),
+            item("reserve_keyed", "POST /reservations", "ann", '{"tags":["k01","k07"]}', key=f"key-{number:08}"),
+            item("-", f"POST /reservations/{number}/cancel", "ann"),
+            item("-", f"POST /reservations/{number + 1}/cancel", "ann"),
+        ]
+    listed += [item("boards_256", "GET /boards", "ann") for _ in range(TIMES)]
+    listed += [item("reservations", "GET /reservations", "ann") for _ in range(5)]
+    return listed
+
+
 # Comparisons
 
 def compare_commands(farm, folder, rounds):
@@ -303,6 +337,97 @@ def compare_opening(farm, folder, rounds):
     print(f"a report of a farm of {MANY} finished jobs: {table.text('farm')}")
     print(f"the shell's select of the jobs: {table.text('shell')}; ratio {spread(each)}")
     clear(path)
+
+
+SHELL_READS = "; ".join(f"select * from {it}" for it in ("types", "boards", "jobs", "reservations", "kept", "meta"))
+
+
+def measured(*words):
+    """How long a program takes, in nanoseconds, and the most memory that it has, in bytes."""
+    start = time.perf_counter_ns()
+    running = subprocess.Popen(words, stdout=subprocess.DEVNULL)
+    _, status, used = os.wait4(running.pid, 0)
+    running.returncode = status
+    if status:
+        sys.exit(f"{words} ended with {status}")
+    return time.perf_counter_ns() - start, 1024 * used.ru_maxrss
+
+
+def fill_full(farm, path, jobs_there, reservations, replies):
+    fill(farm, path, 256, finished_jobs(1, jobs_there), canceled_reservations(jobs_there + 1, reservations), kept_replies(replies))
+    return jobs_there + reservations + 1
+
+
+def compare_full(farm, folder, rounds):
+    """A farm of 99,000 finished jobs, as many canceled reservations, 299,000 kept replies and 256 boards, and a small one."""
+    served, table, echo = Served(folder), Table(), built("echo", folder)
+    full, small, queued, path = (f"{folder}/{it}.db" for it in ("full", "small", "queued", "bench"))
+    free = fill_full(farm, full, MANY, MANY, 299_000)
+    few = fill_full(farm, small, FEW, FEW, FEW)
+    fill(farm, queued, 256, jobs(1, 99_999, "'aaa'", SUBMITTED, 0, "''"))
+    most = 0
+    queue = [item("queue_99999", "GET /queue", "ann") for _ in range(5)]
+    for _ in range(rounds):
+        nanos, memory = measured("sqlite3", full, SHELL_READS)
+        table.add([("shell", nanos)])
+        copy(full, path)
+        nanos, memory = measured(farm, "report", "--db", path, "queue")
+        table.add([("opening", nanos)])
+        most = max(most, memory)
+        table.add(served.ask(desk(farm, path), idle_day(free)), "full ")
+        copy(small, path)
+        table.add(served.ask(desk(farm, path), idle_day(few)), "small ")
+        table.add(served.ask(desk(farm, queued), queue), "full ")
+        table.add(served.ask([echo, "{port}", "{count}"], views(), "echo"), "echo ")
+    each = [a / b for a, b in zip(table.times["opening"], table.times["shell"])]
+    print(f"opening: {table.text('opening')}, {most / 1e6:.0f} MB; the shell {table.text('shell')}; ratio {spread(each)}")
+    for name in names_of(table, "full "):
+        beside = f"; on a small farm {table.text(f'small {name}')}" if f"small {name}" in table.times else ""
+        print(f"{name}: {table.text(f'full {name}')}{beside}")
+    for first, second in (("reserve_keyed", "reserve"), ("pass", "small pass")):
+        second = second if second.startswith("small") else f"full {second}"
+        each = [a / b for a, b in zip(table.times[f"full {first}"], table.times[second])]
+        print(f"{first} to {second}: ratio {spread(each)}")
+    print(f"echo: {table.text('echo status')}")
+    for it in (full, small, queued, path):
+        clear(it)
+
+
+GROWN = ("opening", "reserve", "reserve_keyed", "pass", "boards_256", "reservations")
+
+
+def compare_growth(farm, folder, rounds):
+    """The same measures of farms with so many finished jobs, canceled reservations and kept replies, each; the picture
+    is beside this file."""
+    served, sizes, rows = Served(folder), (100, 1_000, 10_000, 99_000), []
+    filled, path = f"{folder}/filled.db", f"{folder}/bench.db"
+    for size in sizes:
+        table, free = Table(), fill_full(farm, filled, size, size, size)
+        for _ in range(rounds):
+            copy(filled, path)
+            table.add([("opening", measured(farm, "report", "--db", path, "queue")[0])])
+            table.add(served.ask(desk(farm, path), idle_day(free)))
+        rows.append((size, [table.median(it) / 1e3 for it in GROWN]))
+        print(f"{size}: " + ", ".join(f"{it} {table.text(it)}" for it in GROWN))
+    clear(filled)
+    clear(path)
+    data = "\n".join(f"{size} " + " ".join(f"{it:.1f}" for it in times) for size, times in rows)
+    plots = ", ".join(f"$data using 1:{at + 2} with linespoints title '{it}' noenhanced" for at, it in enumerate(GROWN))
+    subprocess.run(["gnuplot"], check=True, input=f"""
+$data << END
+{data}
+END
+set terminal svg size 800,560 background 'white'
+set output '{HERE}/growth.svg'
+set title 'A farm of so many finished jobs, canceled reservations and kept replies, each'
+set logscale xy
+set xlabel 'rows of each'
+set ylabel 'microseconds, median'
+set key outside right
+set grid
+plot {plots}
+""".encode())
+    print(f"{HERE}/growth.svg is drawn")
 
 
 def compare_waiting(farm, folder, rounds):
@@ -381,6 +506,7 @@ def main(words):
     compare = {
         "commands": compare_commands, "views": compare_views, "open": compare_opening,
         "waiting": compare_waiting, "migrate": compare_migrating, "passes": compare_passes,
+        "full": compare_full, "growth": compare_growth,
     }
     try:
         what, farm, folder, rounds = words
