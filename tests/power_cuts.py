@@ -394,9 +394,9 @@ def first_edition(folder):
         last = conn.execute("select value from meta where name = 'next'").fetchone()[0]
         text = 'job_name = "large"\ndevice_type = "qemu-aarch64"\n# ' + "x" * 60000 + "\n"
         row = "0, 'ann', 50, 'qemu-aarch64', '', '', 4, 1, 'qemu-01'"
-        for number in range(last, last + 100):
+        for number in range(last, last + 8):
             conn.execute(f"insert into jobs values ({number}, {number}, {row}, ?)", (text,))
-        conn.execute("update meta set value = ? where name = 'next'", (last + 100,))
+        conn.execute("update meta set value = ? where name = 'next'", (last + 8,))
         conn.commit()
     return small, large
 
