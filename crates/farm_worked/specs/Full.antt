@@ -5,10 +5,12 @@ use Rattle.std.specs.Str.{is_utf8, chars}
 use Rattle.farm_types.specs.Words.{is_word, is_tag, is_tags}
 use Rattle.farm_types.specs.Proper.{is_proper_cmd}
 use Rattle.farm_types.specs.Farm.{Farm, empty}
+use Rattle.farm_types.specs.Pass.{checks}
 use Rattle.farm_types.specs.Machine.{Denied, Repeated, run}
 use Rattle.farm_types.specs.Change.{replied}
 use Rattle.farm_types.specs.Worked.{answers, did, by_admin, by_ann, new_type, a_board, pair, any_board}
 use Rattle.farm_types.specs.declared.rows.Check.{Check}
+use Rattle.farm_types.specs.declared.rows.Health.{Health}
 use Rattle.farm_types.specs.declared.rows.JobState.{JobState}
 use Rattle.farm_types.specs.declared.rows.ResState.{ResState}
 use Rattle.farm_types.specs.declared.rows.Outcome.{Outcome}
@@ -38,6 +40,13 @@ unfolding is_proper_cmd is_word is_tag is_tags is_utf8 chars
 one_more_group =
     by_ann 10 (pair []) refl
     ∷ []
+
+-- a board that is due, and jobs that ended
+abbrev pub with_due_board : ℕ → Farm
+with_due_board n = record (with_jobs n) {
+  types = record { name = codes "bbb"; check = Check.Hours 1 } ∷ [];
+  boards = record (board_named (codes "bbb") (codes "b1")) { health = Health.Unknown } ∷ [];
+}
 
 abbrev pub ended_reservation : ℕ → ResRow
 ended_reservation n = record { number = n; owner = codes "ann"; priority = 50; want = record { kind = None; tags = [] }; state = ResState.Canceled; deadline = 60; board = None }
@@ -88,6 +97,10 @@ pub record FullAsWorked : Type 0 where
   pub jobs_beyond : answers (with_jobs 99999) one_more_group ≡ Denied 4 ∷ []
   pub jobs_full : answers (with_jobs 99998) one_more_group ≡ did 99999 ∷ []
   pub jobs_full_length : length (run (with_jobs 99998) one_more_group).jobs ≡ 100000
+  pub no_room_for_a_check : (checks (with_due_board 100000) 10).next ≡ 100001
+  pub no_room_for_a_check_length : length (checks (with_due_board 100000) 10).jobs ≡ 100000
+  pub room_for_one_check : (checks (with_due_board 99999) 10).next ≡ 100001
+  pub room_for_one_check_length : length (checks (with_due_board 99999) 10).jobs ≡ 100000
   pub reservations_beyond : answers (with_reservations 100000) one_more_reservation ≡ Denied 4 ∷ []
   pub reservations_full : answers (with_reservations 99999) one_more_reservation ≡ did 100000 ∷ []
   pub reservations_full_length : length (run (with_reservations 99999) one_more_reservation).reservations ≡ 100000

@@ -6,3 +6,4 @@ pub mod Kept
 pub mod Limits
 pub mod Full
 pub mod Words
+pub mod Book

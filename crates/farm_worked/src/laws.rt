@@ -6,6 +6,10 @@ ghost use Rattle.farm_worked.specs.Kept.{KeptAsWorked};
 ghost use Rattle.farm_worked.specs.Limits.{LimitsAsWorked};
 ghost use Rattle.farm_worked.specs.Full.{FullAsWorked};
 ghost use Rattle.farm_worked.specs.Words.{WordsAsWorked};
+ghost use Rattle.farm_worked.specs.Book.{BookOfWords, BookOfTables, BookOfReaders, BookOfTags};
+ghost use Rattle.farm_worked.specs.Book.{BookOfCodes, BookOfCalled, BookOfRefusals, BookOfFarms};
+ghost use Rattle.farm_worked.specs.Book.{BookOfPicks, BookOfPasses, BookOfReasons, BookOfSound};
+ghost use Rattle.farm_worked.specs.Book.{BookOfSmall};
 
 /// Rows that are added out of order, and the numbers of a group of four.
 pub fn order_as_worked()
@@ -45,4 +49,21 @@ pub fn full_as_worked()
 /// The commands that are proper at a limit, and those beyond it.
 pub fn words_as_worked()
     ensures { WordsAsWorked }
+{}
+
+/// The examples of `docs/MACHINE.md` that no script of calls has, chapter by chapter.
+pub fn book_as_worked()
+    ensures words { BookOfWords }
+    ensures tables { BookOfTables }
+    ensures readers { BookOfReaders }
+    ensures tags { BookOfTags }
+    ensures codes { BookOfCodes }
+    ensures called { BookOfCalled }
+    ensures refusals { BookOfRefusals }
+    ensures farms { BookOfFarms }
+    ensures picks { BookOfPicks }
+    ensures passes { BookOfPasses }
+    ensures reasons { BookOfReasons }
+    ensures sound { BookOfSound }
+    ensures small { BookOfSmall }
 {}

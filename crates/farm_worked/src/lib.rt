@@ -3,12 +3,13 @@
 //!
 //! `specs/Order` has rows that are added out of order; `specs/Groups`, `Checks`, `Reservations` and
 //! `Kept` follow rows from their making to their end; `specs/Limits`, `Full` and `Words` have the
-//! last number, row and word that is taken, and the first that isn't.
+//! last number, row and word that is taken, and the first that isn't. `specs/Book` has the examples
+//! of `docs/MACHINE.md` that no script of calls has.
 #![tactic(auto)]
 
 mod laws;
 
 pub use laws::{
-    checks_as_worked, full_as_worked, groups_as_worked, kept_as_worked, limits_as_worked,
-    order_as_worked, reservations_as_worked, words_as_worked,
+    book_as_worked, checks_as_worked, full_as_worked, groups_as_worked, kept_as_worked,
+    limits_as_worked, order_as_worked, reservations_as_worked, words_as_worked,
 };

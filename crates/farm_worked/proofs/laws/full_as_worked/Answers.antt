@@ -1,11 +1,12 @@
 use Rattle.std.proofs.Common.{◌≡◌, ◌∷◌, [], length, refl}
 use Rattle.farm_types.specs.Words.{is_word, is_tag, is_tags}
 use Rattle.farm_types.specs.Pick.{least}
+use Rattle.farm_types.specs.Pass.{checks}
 use Rattle.farm_types.specs.Refuse.{refusal, early_refusal, own_refusal}
 use Rattle.farm_types.specs.Change.{change, replied}
 use Rattle.farm_types.specs.Machine.{Denied, Repeated, run, answer, step}
 use Rattle.farm_types.specs.Worked.{answers, did}
-use Rattle.farm_worked.specs.Full.{with_jobs, with_reservations, with_kept, one_more_group, one_more_reservation, one_more_key, first_key, without_a_key}
+use Rattle.farm_worked.specs.Full.{with_jobs, with_due_board, with_reservations, with_kept, one_more_group, one_more_reservation, one_more_key, first_key, without_a_key}
 use Rattle.farm_worked.proofs.laws.full_as_worked.Goals as goal
 
 jobs_beyond : answers (with_jobs 99999) one_more_group ≡ Denied 4 ∷ []
@@ -19,6 +20,18 @@ jobs_full = refl
 jobs_full_length : length (run (with_jobs 99998) one_more_group).jobs ≡ 100000
 unfolding one_more_group is_word is_tag is_tags least refusal early_refusal own_refusal change answer step
 jobs_full_length = refl
+
+no_room_for_a_check : (checks (with_due_board 100000) 10).next ≡ 100001
+no_room_for_a_check = refl
+
+no_room_for_a_check_length : length (checks (with_due_board 100000) 10).jobs ≡ 100000
+no_room_for_a_check_length = refl
+
+room_for_one_check : (checks (with_due_board 99999) 10).next ≡ 100001
+room_for_one_check = refl
+
+room_for_one_check_length : length (checks (with_due_board 99999) 10).jobs ≡ 100000
+room_for_one_check_length = refl
 
 reservations_beyond : answers (with_reservations 100000) one_more_reservation ≡ Denied 4 ∷ []
 unfolding one_more_reservation is_word is_tag is_tags least refusal early_refusal own_refusal change answer step
@@ -49,6 +62,10 @@ returns c = record {
   jobs_beyond = jobs_beyond;
   jobs_full = jobs_full;
   jobs_full_length = jobs_full_length;
+  no_room_for_a_check = no_room_for_a_check;
+  no_room_for_a_check_length = no_room_for_a_check_length;
+  room_for_one_check = room_for_one_check;
+  room_for_one_check_length = room_for_one_check_length;
   reservations_beyond = reservations_beyond;
   reservations_full = reservations_full;
   reservations_full_length = reservations_full_length;
