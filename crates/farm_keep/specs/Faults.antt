@@ -1,16 +1,18 @@
 -- The numbers of a keeper's faults, and its words for the store's and for those of rows.
 use Rattle.std.specs.Prelude.{ℕ}
+use Rattle.farm_types.specs.Refusals.{bad_store, closed, new_schema, no_memory, old_schema}
+use Rattle.farm_types.specs.Refusals.{store_fault as failed_store}
 use Rattle.farm_core.specs.declared.farm.BadRows.{BadRows}
 use Rattle.farm_store.specs.declared.fault.StoreFault.{StoreFault}
 use Rattle.farm_keep.specs.declared.fault.KeepFault.{KeepFault}
 
 abbrev pub fault_code : KeepFault → ℕ
-fault_code KeepFault.NoMemory = 1
-fault_code KeepFault.Store = 60
-fault_code KeepFault.Closed = 61
-fault_code KeepFault.BadStore = 62
-fault_code KeepFault.OldSchema = 63
-fault_code KeepFault.NewSchema = 64
+fault_code KeepFault.NoMemory = no_memory
+fault_code KeepFault.Store = failed_store
+fault_code KeepFault.Closed = closed
+fault_code KeepFault.BadStore = bad_store
+fault_code KeepFault.OldSchema = old_schema
+fault_code KeepFault.NewSchema = new_schema
 
 abbrev pub store_fault : StoreFault → KeepFault
 store_fault StoreFault.NoMemory = KeepFault.NoMemory

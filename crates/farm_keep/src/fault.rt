@@ -4,29 +4,29 @@ ghost use Rattle.farm_keep.specs.Faults.{fault_code};
 
 use farm_core::farm::{BadRows, StepFault};
 use farm_store::StoreFault;
-use farm_types::refusal::{BAD_STORE, CLOSED, NEW_SCHEMA, NO_MEMORY, OLD_SCHEMA, STORE};
+use farm_types::refusal::{BAD_STORE, CLOSED, NEW_SCHEMA, NO_MEMORY, OLD_SCHEMA, Refusal, STORE};
 use thiserror::Error;
 
 /// Why a keeper gave no answer. The texts are those of the table of refusals.
 #[derive(Clone, Copy, Debug, PartialEq, Eq, Error)]
 pub enum KeepFault {
     /// There was no memory, and nothing was stored.
-    #[error("no memory")]
+    #[error("{}", Refusal {code: NO_MEMORY})]
     NoMemory,
     /// A call of the store was refused: the command is stored, or it isn't.
-    #[error("store fault")]
+    #[error("{}", Refusal {code: STORE})]
     Store,
     /// An earlier fault closed the keeper.
-    #[error("closed")]
+    #[error("{}", Refusal {code: CLOSED})]
     Closed,
     /// The tables are those of no sound farm.
-    #[error("bad store")]
+    #[error("{}", Refusal {code: BAD_STORE})]
     BadStore,
     /// The tables are those of an earlier edition.
-    #[error("old schema")]
+    #[error("{}", Refusal {code: OLD_SCHEMA})]
     OldSchema,
     /// The tables are those of this edition, where those of the earlier one are wanted.
-    #[error("new schema")]
+    #[error("{}", Refusal {code: NEW_SCHEMA})]
     NewSchema,
 }
 

@@ -22,8 +22,8 @@ use std::alloc::Global;
 /// there; it then stays as it is. After a fault of the store a stop leaves the old tables or the
 /// new ones: open the store again, and call this again.
 ///
-/// Each table is read once, n rows are tested in O(n log n), and each job's row is written once;
-/// `farm_store::raise` says what that costs.
+/// Each table is read once, n rows are tested in O(n log n), and each job's row is written once, a
+/// hundred by a statement; `farm_store::raise` says what that costs.
 pub fn migrate<S: Alter>(alloc: Global, conn: &mut Connection<S>) -> Result<(), KeepFault>
     requires { conn.old.in_transaction ≡ false }
     ensures autocommit { conn.new.in_transaction ≡ false }
@@ -74,6 +74,6 @@ pub fn migrate<S: Alter>(alloc: Global, conn: &mut Connection<S>) -> Result<(), 
     if !is_sound(&rows) {
         return Err(KeepFault::BadStore);
     }
-    raise(alloc, conn, &rows)?;
+    raise(conn, &rows)?;
     Ok(())
 }

@@ -8,6 +8,7 @@ pub mod OneRow
 pub mod PutAt
 pub mod RowPuts
 pub mod PutMeta
+pub mod RaisesJobs
 pub mod Commits
 pub mod GoingOn
 pub mod EmptyRows

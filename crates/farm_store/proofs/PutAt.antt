@@ -7,9 +7,13 @@ use Rattle.sqlite.specs.Order.{Row}
 use Rattle.sqlite.specs.State.{State}
 use Rattle.sqlite.specs.Tree.{Trees}
 use Rattle.farm_types.specs.Table.{put, put_all}
+use Rattle.sqlite_catalog.specs.Listing.{AreListed}
+use Rattle.sqlite_trees.specs.Objects.{catalog_tree}
 use Rattle.farm_store.specs.Columns.{Tables}
 use Rattle.farm_store.specs.Holds.{Holds, ShowsTables, IsInside}
 use Rattle.farm_store.specs.Places.{Place, IsPlace, HoldsAt, put_at, of_types, of_boards, of_jobs, of_reservations, of_kept, of_meta}
+use Rattle.farm_store.specs.Schema.{farm_schema}
+use Rattle.farm_store.specs.Stored.{Lists}
 use Rattle.farm_store.proofs.Keys.{first_total, two_total}
 use Rattle.farm_store.proofs.OneRow.{Upserted}
 
@@ -89,20 +93,27 @@ meta_known = record {
   others = six (λ q. (q ≡ of_meta) ⊎ IsOther of_meta q) (other refl (λ T rows. refl)) (other refl (λ T rows. refl)) (other refl (λ T rows. refl)) (other refl (λ T rows. refl)) (other refl (λ T rows. refl)) (inl refl);
 }
 
-module _ (p : Place) (known : IsKnown p) (old new : State) (T : Tables) (x : Row) (did : Upserted p old new x) where
-  after : (q : Place) → (q ≡ p) ⊎ IsOther p q → (q.tree ≢ p.tree → new.now.trees q.tree ≡ old.now.trees q.tree) → HoldsAt q old.now.trees T → HoldsAt q new.now.trees (put_at p T (x ∷ []))
+-- one place has these rows now, and the other trees stay
+pub record Rewritten (p : Place) (old new : State) (rows : List Row) : Type 0 where
+  pub schema : new.now.schema ≡ farm_schema
+  pub listed : AreListed (new.now.trees catalog_tree) farm_schema
+  pub others : AllByRecursion (λ t. t.tree ≢ p.tree → new.now.trees t.tree ≡ old.now.trees t.tree) farm_schema.tables
+  pub lists : Lists p.cmp p.show p.width (new.now.trees p.tree) rows
+
+module _ (p : Place) (known : IsKnown p) (old new : State) (T : Tables) (rows : List Row) (did : Rewritten p old new rows) where
+  after : (q : Place) → (q ≡ p) ⊎ IsOther p q → (q.tree ≢ p.tree → new.now.trees q.tree ≡ old.now.trees q.tree) → HoldsAt q old.now.trees T → HoldsAt q new.now.trees (p.replaced T rows)
   after q (inl same) still here =
-      let own : HoldsAt p old.now.trees T → HoldsAt p new.now.trees (put_at p T (x ∷ [])) = λ here. rw (known.is.own T (put p.cmp (p.rows T) x)) (did.lists (p.rows T) here) in
-      subst (λ (k : Place). HoldsAt k old.now.trees T → HoldsAt k new.now.trees (put_at p T (x ∷ []))) (sym same) own here
-  after q (inr apart) still here = rw (still apart.0, apart.1 T (put p.cmp (p.rows T) x)) here
+      let own : HoldsAt p new.now.trees (p.replaced T rows) = rw (known.is.own T rows) did.lists in
+      subst (λ (k : Place). HoldsAt k new.now.trees (p.replaced T rows)) (sym same) own
+  after q (inr apart) still here = rw (still apart.0, apart.1 T rows) here
 
   all_after : (qs : List Place) → AllByRecursion (λ q. (q ≡ p) ⊎ IsOther p q) qs → AllByRecursion (λ q. q.tree ≢ p.tree → new.now.trees q.tree ≡ old.now.trees q.tree) qs
-      → AllByRecursion (λ q. HoldsAt q old.now.trees T) qs → AllByRecursion (λ q. HoldsAt q new.now.trees (put_at p T (x ∷ []))) qs
+      → AllByRecursion (λ q. HoldsAt q old.now.trees T) qs → AllByRecursion (λ q. HoldsAt q new.now.trees (p.replaced T rows)) qs
   all_after [] others still here = tt
   all_after (q ∷ qs) others still here = (after q others.0 still.0 here.0, all_after qs others.1 still.1 here.1)
 
-  pub stands_put : ShowsTables old.now T → IsTrue new.in_transaction → IsInside new (put_at p T (x ∷ []))
-  stands_put at inside =
+  pub stands_rewritten : ShowsTables old.now T → IsTrue new.in_transaction → IsInside new (p.replaced T rows)
+  stands_rewritten at inside =
       let h = at.holds in
       let now = all_after places known.others did.others (six (λ q. HoldsAt q old.now.trees T) h.types h.boards h.jobs h.reservations h.kept h.meta) in
       record {
@@ -112,6 +123,15 @@ module _ (p : Place) (known : IsKnown p) (old new : State) (T : Tables) (x : Row
           holds = record { listed = did.listed; types = now.0; boards = now.1.0; jobs = now.1.1.0; reservations = now.1.1.1.0; kept = now.1.1.1.1.0; meta = now.1.1.1.1.1.0 };
         };
       }
+
+pub stands_put : (p : Place) (known : IsKnown p) (old new : State) (T : Tables) (x : Row) → Upserted p old new x → ShowsTables old.now T → IsTrue new.in_transaction → IsInside new (put_at p T (x ∷ []))
+stands_put p known old new T x did at =
+    stands_rewritten p known old new T (put p.cmp (p.rows T) x) (record {
+      schema = did.schema;
+      listed = did.listed;
+      others = did.others;
+      lists = did.lists (p.rows T) (known.find old.now.trees T at.holds);
+    }) at
 
 -- ---- one row after another
 

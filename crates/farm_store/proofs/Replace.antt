@@ -56,12 +56,12 @@ pub cast_null : cast Integer Null ≡ Null
 unfolding unary
 cast_null = either _ Null
 
-left_lacks : (ids : List ℤ) (rows : List Row) (x : Row) → Has (without_all rows ids) x → (id : ℤ) → Has ids id → has_rowid id x ≡ false
+pub left_lacks : (ids : List ℤ) (rows : List Row) (x : Row) → Has (without_all rows ids) x → (id : ℤ) → Has ids id → has_rowid id x ≡ false
 left_lacks [] rows x h id none = absurd none
 left_lacks (i ∷ ids) rows x h id (inl same) = rw same (not-true _ (has_filtered _ rows x (without_all_has ids (without_rowid i rows) x h)).1)
 left_lacks (i ∷ ids) rows x h id (inr later) = left_lacks ids (without_rowid i rows) x h id later
 
-has_own : (row : Row) → is_int (rowid row) ≡ true → has_rowid (id_in (rowid row)) row ≡ true
+pub has_own : (row : Row) → is_int (rowid row) ≡ true → has_rowid (id_in (rowid row)) row ≡ true
 has_own row keyed = let own = int_is (rowid row) keyed in rw (sym own, tied_itself value_cmp_total (rowid row))
 
 -- a part that gave a value did not stop on the way
@@ -91,7 +91,7 @@ filter_table p (r ∷ rows) up = elim (p r) as (λ b. IsTable (cond b (r ∷ fil
   | false ↦ filter_table p rows up.1
 ]
 
-left_table : (ids : List ℤ) (rows : List Row) → IsTable rows → AllByRecursion HasInt rows → IsTable (without_all rows ids) × AllByRecursion HasInt (without_all rows ids)
+pub left_table : (ids : List ℤ) (rows : List Row) → IsTable rows → AllByRecursion HasInt rows → IsTable (without_all rows ids) × AllByRecursion HasInt (without_all rows ids)
 left_table [] rows up all = (up, all)
 left_table (id ∷ ids) rows up all = left_table ids (without_rowid id rows) (filter_table (λ r. not (has_rowid id r)) rows up) (filter_all HasInt (λ r. not (has_rowid id r)) rows all)
 

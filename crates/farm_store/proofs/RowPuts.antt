@@ -50,13 +50,13 @@ use Rattle.farm_store.proofs.OneRow.{upserted}
 use Rattle.farm_store.proofs.PutAt.{IsKnown, stands_put, types_known, boards_known, jobs_known, reservations_known, kept_known}
 
 -- a column of this kind stores the value as it is
-abbrev fits : Kind → Value → Bool
+abbrev pub fits : Kind → Value → Bool
 fits Integer (Int n) = true
 fits Integer Null = true
 fits Text (value.Text t) = true
 fits kind v = false
 
-abbrev all_fit : List Column → Row → Bool
+abbrev pub all_fit : List Column → Row → Bool
 all_fit [] vs = true
 all_fit (c ∷ cs) [] = true
 all_fit (c ∷ cs) (v ∷ vs) = fits c.kind v && all_fit cs vs
@@ -67,7 +67,7 @@ stays Integer Null fit = cast_null
 stays Text (value.Text t) fit = refl
 stays kind v fit = absurd (false≢true fit)
 
-all_stay : (cs : List Column) (vs : Row) → all_fit cs vs ≡ true → cast_all cs vs ≡ vs
+pub all_stay : (cs : List Column) (vs : Row) → all_fit cs vs ≡ true → cast_all cs vs ≡ vs
 all_stay [] vs fit = refl
 all_stay (c ∷ cs) [] fit = refl
 all_stay (c ∷ cs) (v ∷ vs) fit = let both = and_parts (fits c.kind v) (all_fit cs vs) fit in ap₂ ◌∷◌ (stays c.kind v both.0) (all_stay cs vs both.1)

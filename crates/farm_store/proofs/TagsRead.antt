@@ -6,7 +6,7 @@ use Rattle.std.proofs.lemmas.Bool.Decides.{nat_tests}
 use Rattle.sqlite.specs.declared.types.Value.TheVariants.{Text}
 use Rattle.farm_types.specs.Words.{IsTags, is_tag, is_tags, rise}
 use Rattle.farm_types.specs.Tags.{tag_parts, tags_read, tags_text}
-use Rattle.farm_types.specs.declared.refusal.TheConstants.{BAD_TAG, BAD_COUNT}
+use Rattle.farm_types.specs.Refusals.{bad_tag, bad_count}
 use Rattle.farm_types.proofs.SortedTags.{tags_read_back}
 use Rattle.farm_types.proofs.WordLemmas.{and_parts}
 
@@ -19,7 +19,7 @@ unfolding tags_read is_tags
 read_good text tags read = by (nat_lt 16 (length (tag_parts text))) (list_all is_tag (tag_parts text) && rise (tag_parts text)) refl refl read
   where
     by : (many good : Bool) → nat_lt 16 (length (tag_parts text)) ≡ many → (list_all is_tag (tag_parts text) && rise (tag_parts text)) ≡ good
-        → cond many (Err BAD_COUNT) (cond good (Ok (tag_parts text)) (Err BAD_TAG)) ≡ Ok tags → (nat_le (length tags) 16 && list_all is_tag tags && rise tags) ≡ true
+        → cond many (Err bad_count) (cond good (Ok (tag_parts text)) (Err bad_tag)) ≡ Ok tags → (nat_le (length tags) 16 && list_all is_tag tags && rise tags) ≡ true
     by true good is_many is_good read = absurd (let e = read in cc)
     by false false is_many is_good read = absurd (let e = read in cc)
     by false true is_many is_good read =

@@ -1,5 +1,5 @@
 -- What each edition of the tables has of its own, and what it can spell.
-use Rattle.std.specs.Prelude.{◌≡◌, ◌≢◌, ℕ, List, ⊤}
+use Rattle.std.specs.Prelude.{◌≡◌, ◌≢◌, ℕ, List, map, ⊤}
 use Rattle.sqlite.specs.Order.{Row}
 use Rattle.farm_types.specs.Codes.{job_state_code}
 use Rattle.farm_types.specs.Farm.{Farm}
@@ -44,6 +44,10 @@ meta_rows_in Edition.Second = meta_rows
 abbrev pub rows_in : Edition → Farm → Tables
 rows_in Edition.First = first_rows_of
 rows_in Edition.Second = rows_of
+
+-- the tables with these jobs, as it spells them
+abbrev pub with_jobs : Edition → List JobRow → Tables → Tables
+with_jobs edition jobs T = record T { jobs = map (job_columns_in edition) jobs }
 
 -- ---- what it can spell: in the first edition no job is Scheduling, and no group collects
 

@@ -1,10 +1,11 @@
 -- The numbers of the store's faults.
 use Rattle.std.specs.Prelude.{ℕ}
+use Rattle.farm_types.specs.Refusals.{bad_store, new_schema, no_memory, old_schema, store_fault}
 use Rattle.farm_store.specs.declared.fault.StoreFault.{StoreFault}
 
 abbrev pub fault_code : StoreFault → ℕ
-fault_code StoreFault.NoMemory = 1
-fault_code StoreFault.Store = 60
-fault_code StoreFault.BadStore = 62
-fault_code StoreFault.OldSchema = 63
-fault_code StoreFault.NewSchema = 64
+fault_code StoreFault.NoMemory = no_memory
+fault_code StoreFault.Store = store_fault
+fault_code StoreFault.BadStore = bad_store
+fault_code StoreFault.OldSchema = old_schema
+fault_code StoreFault.NewSchema = new_schema

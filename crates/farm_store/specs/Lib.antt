@@ -4,6 +4,7 @@ pub mod Edits
 pub mod Faults
 pub mod Holds
 pub mod Places
+pub mod Raising
 pub mod Readable
 pub mod Reading
 pub mod Replaces

@@ -2,27 +2,28 @@
 ghost use Rattle.std.specs.Prelude.{◌≡◌};
 ghost use Rattle.farm_store.specs.Faults.{fault_code};
 
+use farm_types::refusal::{BAD_STORE, NEW_SCHEMA, NO_MEMORY, OLD_SCHEMA, Refusal, STORE};
 use sqlite::Error as SqlError;
 use std::alloc::{AllocError, AllocFailed};
 use thiserror::Error;
 
-/// A call of the store was not done.
+/// A call of the store was not done. The texts are those of the table of refusals.
 #[derive(Clone, Copy, Debug, PartialEq, Eq, Error)]
 pub enum StoreFault {
     /// A growth of this crate's own was refused.
-    #[error("out of memory")]
+    #[error("{}", Refusal {code: NO_MEMORY})]
     NoMemory,
     /// The store failed, or had no memory of its own.
-    #[error("the store failed")]
+    #[error("{}", Refusal {code: STORE})]
     Store,
     /// The tables hold what is no row of a farm.
-    #[error("the tables are no farm's")]
+    #[error("{}", Refusal {code: BAD_STORE})]
     BadStore,
     /// The tables are those of an earlier edition.
-    #[error("the tables have an older schema")]
+    #[error("{}", Refusal {code: OLD_SCHEMA})]
     OldSchema,
     /// The tables are those of this edition, where those of the earlier one are wanted.
-    #[error("the tables have this schema already")]
+    #[error("{}", Refusal {code: NEW_SCHEMA})]
     NewSchema,
 }
 
@@ -32,11 +33,11 @@ impl StoreFault {
         ensures { result ≡ fault_code self }
     {
         match self {
-            StoreFault::NoMemory => 1,
-            StoreFault::Store => 60,
-            StoreFault::BadStore => 62,
-            StoreFault::OldSchema => 63,
-            StoreFault::NewSchema => 64,
+            StoreFault::NoMemory => NO_MEMORY,
+            StoreFault::Store => STORE,
+            StoreFault::BadStore => BAD_STORE,
+            StoreFault::OldSchema => OLD_SCHEMA,
+            StoreFault::NewSchema => NEW_SCHEMA,
         }
     }
 }

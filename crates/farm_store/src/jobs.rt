@@ -1,13 +1,20 @@
 //! The table of jobs: its statements, and what its rows stand for.
-ghost use Rattle.std.specs.Prelude.{◌≡◌, ◌↔◌, IsTrue, pos};
+ghost use Rattle.std.specs.Prelude.{◌≡◌, ◌↔◌, ◌≤◌, IsTrue, pos, List, [], ◌∷◌, OnOk};
+ghost use Rattle.std.specs.List.{AllByRecursion};
 ghost use Rattle.std.specs.Option.{option_map_or};
 ghost use Rattle.sqlite.specs.declared.types.Value.TheVariants.{Int};
 ghost use Rattle.sqlite_value.specs.Value.{owned};
 ghost use Rattle.farm_types.specs.Codes.{outcome_code};
+ghost use Rattle.sqlite.specs.Held.{state};
+ghost use Rattle.sqlite.specs.State.{HasCleanDisk};
 ghost use Rattle.sqlite.specs.Values.{bound};
 ghost use Rattle.farm_types.specs.Small.{IsSmallJob};
 ghost use Rattle.farm_types.specs.Tags.{tags_text};
-ghost use Rattle.farm_store.specs.Columns.{job_columns};
+ghost use Rattle.farm_store.specs.Columns.{Tables, job_columns};
+ghost use Rattle.farm_store.specs.Editions.{with_jobs};
+ghost use Rattle.farm_store.specs.Edits.{GoesOn};
+ghost use Rattle.farm_store.specs.Holds.{IsInside};
+ghost use Rattle.farm_store.specs.Raising.{raised_below};
 ghost use Rattle.farm_store.specs.Schema.{jobs_table};
 
 use crate::edition::Edition;
@@ -42,6 +49,18 @@ const READ: &str = "\
 /// Puts a row in the place of the one with its key, or adds it.
 const PUT: &str = "\
     INSERT OR REPLACE INTO jobs VALUES (?1, ?2, ?3, ?4, ?5, ?6, ?7, ?8, ?9, ?10, ?11, ?12)";
+
+/// Gives each state of the jobs from one number to another its code of the second edition, where
+/// that is another one. The codes of the first are 0 to 4, and each but 0 grows by 1; 5, which is no
+/// code there, becomes Scheduling's 1.
+const RAISE: &str = "\
+    UPDATE jobs SET state = state % 5 + 1 WHERE state > 0 AND number >= ?1 AND number < ?2";
+
+/// How many jobs one such statement takes.
+const WINDOW: usize = 100;
+
+/// The number after the largest that is stored.
+const END: u64 = 9_000_000_000_000_000_001;
 
 /// Whether a table is this one.
 pub(crate) fn is_jobs(table: &Table) -> bool
@@ -96,6 +115,55 @@ fn job_columns<'a>(row: &'a JobRow, tags: &'a str) -> [ValueRef<'a>; 12]
         name_if_any(&row.board),
         text(row.body.as_str()),
     ]
+}
+
+/// The two numbers as they are bound.
+fn bounds<'a>(from: u64, end: u64) -> [ValueRef<'a>; 2]
+    requires from { from ≤ END }
+    requires end { end ≤ END }
+    ensures { bound result ≡ Int (pos from) ∷ Int (pos end) ∷ [] }
+{
+    [ValueRef::Int(from as i64), ValueRef::Int(end as i64)]
+}
+
+/// Makes the rows of the jobs from one number to another, which is left out, those of the second
+/// edition, where those below are.
+fn raise_window<S: Alter>(tx: &mut Transaction<'_, S>, from: u64, end: u64) -> Result<(), Error>
+    requires in_order { from ≤ end }
+    requires end { end ≤ END }
+    ensures goes_on { GoesOn S.Store tx.old tx.new }
+    ensures raised { HasCleanDisk (state S.Store tx.new.conn.now)
+        → OnOk result ((T : Tables) (jobs : List JobRow)
+        → IsInside (state S.Store tx.old.conn.now) (raised_below from jobs T)
+        → IsInside (state S.Store tx.new.conn.now) (raised_below end jobs T)) }
+{
+    let bounds = bounds(from, end);
+    tx.execute(RAISE, &bounds)?;
+    Ok(())
+}
+
+/// Makes the rows of jobs of the first edition those of the second, a hundred by a statement where
+/// they come in order: it reads and writes its own rows alone, and holds no others in memory.
+pub(crate) fn raise_jobs<S: Alter>(
+    tx: &mut Transaction<'_, S>,
+    rows: &[JobRow],
+) -> Result<(), Error>
+    requires small { AllByRecursion IsSmallJob rows.now }
+    ensures goes_on { GoesOn S.Store tx.old tx.new }
+    ensures raised { HasCleanDisk (state S.Store tx.new.conn.now)
+        → OnOk result ((T : Tables)
+        → IsInside (state S.Store tx.old.conn.now) (with_jobs Edition.First rows.now T)
+        → IsInside (state S.Store tx.new.conn.now) (with_jobs Edition.Second rows.now T)) }
+{
+    let mut from = 0;
+    for (at, row) in rows.iter().enumerate() {
+        if at % WINDOW == 0 && from < row.number {
+            raise_window(tx, from, row.number)?;
+            from = row.number;
+        }
+    }
+    raise_window(tx, from, END)?;
+    Ok(())
 }
 
 impl Upsert for Tagged<'_, JobRow> {
