@@ -1,5 +1,6 @@
 pub mod Small
 pub mod Replies
+pub mod Marks
 pub mod Sound
 pub mod Upto
 pub mod Edited

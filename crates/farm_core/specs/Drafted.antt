@@ -4,6 +4,7 @@ use Rattle.std.specs.Prelude.{◌≡◌, ◌==◌, ◌+◌, ℕ, List, false, no
 use Rattle.std.specs.List.{AllByRecursion, filter}
 use Rattle.std.specs.BTreeSet.{BTreeSet}
 use Rattle.std.specs.Option.{option_map_or}
+use Rattle.farm_types.specs.Limits.{lease}
 use Rattle.farm_types.specs.Table.{put}
 use Rattle.farm_types.specs.Farm.{Farm, job_of}
 use Rattle.farm_types.specs.Pick.{Claimed, res_claim}
@@ -56,7 +57,7 @@ queues_after F caller (Cmd.Submit priority wants roles body) lists = with_claim 
   wants = wants;
 }) lists
 queues_after F caller (Cmd.Reserve priority tags) lists =
-    with_claim (res_claim (new_res F.next caller priority tags (F.clock + 60))) lists
+    with_claim (res_claim (new_res F.next caller priority tags (F.clock + lease))) lists
 queues_after F caller (Cmd.Cancel number) lists =
     option_map_or (λ j. without_claim j.group lists) (job_of F number) lists
 queues_after F caller (Cmd.CancelRes number) lists = without_claim number lists

@@ -2,6 +2,7 @@ pub mod Plain
 pub mod Orderly
 pub mod Leases
 pub mod Replies
+pub mod Marks
 pub mod Tracks
 pub mod Drafted
 pub mod Following

@@ -2,6 +2,7 @@
 use Rattle.std.specs.Prelude.{◌≡◌, ℕ, ◌≤◌, ◌<◌, ◌+◌, Bool, false, List, length, get_or}
 use Rattle.std.specs.List.{AllByRecursion}
 use Rattle.std.specs.List.Sorted.{IsStrictlySortedBy}
+use Rattle.farm_types.specs.Limits.{most_wants}
 use Rattle.farm_types.specs.Table.{type_cmp, board_cmp, job_cmp, res_cmp, kept_cmp}
 use Rattle.farm_types.specs.Farm.{Farm}
 use Rattle.farm_types.specs.Small.{IsSmallType, IsSmallBoard, IsSmallJob, IsSmallRes}
@@ -9,7 +10,7 @@ use Rattle.farm_types.specs.declared.rows.JobRow.{JobRow}
 
 -- a member's number is one of the four from its group's on
 abbrev pub IsNear : JobRow → Type 0
-IsNear j = (j.group ≤ j.number) × (j.number < j.group + 4)
+IsNear j = (j.group ≤ j.number) × (j.number < j.group + most_wants)
 
 -- each table stands in order of its keys, no number is large, and the members of a group stand side
 -- by side

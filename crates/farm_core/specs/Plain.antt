@@ -6,7 +6,7 @@ abbrev pub plain : Tables → Farm
 plain t = record {
   types = t.types.items;
   boards = t.boards.items;
-  jobs = t.jobs.items;
+  jobs = t.jobs;
   reservations = t.reservations.items;
   kept = t.kept;
   clock = t.clock;

@@ -1,17 +1,13 @@
 //! The commands on boards.
-ghost use Rattle.std.specs.Prelude.{◌≡◌, ◌&&◌, ◌∷◌, [], OnOk, IfOk, not, is_some, is_none, length};
+ghost use Rattle.std.specs.Prelude.{◌≡◌, ◌&&◌, [], IfOk, length};
 ghost use Rattle.std.specs.List.{filter};
 ghost use Rattle.std.specs.Str.{bytes_eq};
-ghost use Rattle.farm_types.specs.Codes.{same_health};
-ghost use Rattle.farm_types.specs.Farm.{Farm, type_of, board_of};
-ghost use Rattle.farm_types.specs.Pick.{is_nobody};
-ghost use Rattle.farm_types.specs.Refuse.{first_code, board_is, is_retired};
-ghost use Rattle.farm_types.specs.Change.{act, done};
+ghost use Rattle.farm_types.specs.Refuse.{first_code, is_retired, add_board_reasons};
+ghost use Rattle.farm_types.specs.Refuse.{set_tags_reasons, set_health_reasons};
 ghost use Rattle.farm_types.specs.declared.calls.Cmd.{Cmd};
 ghost use Rattle.farm_core.specs.Drafted.{Acts};
 ghost use Rattle.farm_core.specs.Plain.{plain};
 ghost use Rattle.farm_core.specs.Orderly.{IsOrderly};
-ghost use Rattle.farm_core.specs.Tracks.{Tracks};
 
 use crate::draft::Draft;
 use crate::tables::Tables;
@@ -40,8 +36,7 @@ impl Tables {
     /// Why a board of that name and type isn't added.
     pub fn refuse_add_board(&self, name: &Name, kind: &Name) -> Option<u16>
         requires { IsOrderly (plain self.now) }
-        ensures { result ≡ first_code ((is_none (type_of (plain self.now) kind.now), 10)
-            ∷ (is_some (board_of (plain self.now) name.now), 13) ∷ []) }
+        ensures { result ≡ first_code (add_board_reasons (plain self.now) name.now kind.now) }
     {
         if self.find_type(kind).is_none() {
             return Some(NO_TYPE);
@@ -55,8 +50,7 @@ impl Tables {
     /// Why a board's tags aren't set.
     pub fn refuse_set_tags(&self, name: &Name) -> Option<u16>
         requires { IsOrderly (plain self.now) }
-        ensures { result ≡ first_code ((is_none (board_of (plain self.now) name.now), 12)
-            ∷ (board_is (plain self.now) name.now is_retired, 15) ∷ []) }
+        ensures { result ≡ first_code (set_tags_reasons (plain self.now) name.now) }
     {
         match self.find_board(name) {
             None => Some(NO_BOARD),
@@ -72,13 +66,7 @@ impl Tables {
     /// Why a board's health isn't set.
     pub fn refuse_set_health(&self, name: &Name, health: Health) -> Option<u16>
         requires { IsOrderly (plain self.now) }
-        ensures { result ≡ first_code ((is_none (board_of (plain self.now) name.now), 12)
-            ∷ (board_is (plain self.now) name.now is_retired, 15)
-            ∷ (
-              same_health health Health.Retired && board_is (plain self.now) name.now
-                  (λ b. not (is_nobody b.holder)),
-              14,
-            ) ∷ []) }
+        ensures { result ≡ first_code (set_health_reasons (plain self.now) name.now health) }
     {
         match self.find_board(name) {
             None => Some(NO_BOARD),

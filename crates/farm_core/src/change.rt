@@ -1,5 +1,6 @@
 //! A whole change: the clock moves, the command acts, its reply is kept, and it is counted.
 ghost use Rattle.std.specs.Prelude.{◌≡◌, ◌≢◌, ◌≤◌, None, OnOk, IfOk};
+ghost use Rattle.farm_types.specs.Limits.{last_moment, numbers_end};
 ghost use Rattle.farm_types.specs.Farm.{Farm, put_rows};
 ghost use Rattle.farm_types.specs.Refuse.{refusal};
 ghost use Rattle.farm_types.specs.Change.{act, done, keep, change};
@@ -68,8 +69,8 @@ impl Draft {
     fn act(self, call: &Call) -> Result<(Draft, Reply), AllocError>
         requires sound { IsSound self.farm }
         requires small { IsSmallCmd call.now.cmd }
-        requires clock { self.farm.clock ≤ 250000000000 }
-        requires next { self.farm.next ≤ 1000000000 }
+        requires clock { self.farm.clock ≤ last_moment }
+        requires next { self.farm.next ≤ numbers_end }
         requires begun { self.start ≡ self.farm }
         requires fits { self.queues ≡ lists_of self.farm }
         requires follow { FollowsIn self.farm call.now.caller call.now.cmd }
@@ -93,8 +94,8 @@ impl Draft {
     fn act_numbered(self, call: &Call) -> Result<(Draft, u64), AllocError>
         requires numbered { call.now.cmd ≢ Cmd.Pass }
         requires small { IsSmallCmd call.now.cmd }
-        requires clock { self.farm.clock ≤ 250000000000 }
-        requires next { self.farm.next ≤ 1000000000 }
+        requires clock { self.farm.clock ≤ last_moment }
+        requires next { self.farm.next ≤ numbers_end }
         requires fresh { IsFresh self.farm.next self.queues.claims }
         ensures { IfOk result (λ r. Acts self call.entry.now.caller call.entry.now.cmd r.1 r.0) }
     {

@@ -1,5 +1,6 @@
 //! The checks of a pass: a job of the program's own for each due board.
 ghost use Rattle.std.specs.Prelude.{◌≡◌, ◌-◌, ◌<◌, codes, length, get_or, OnOk, IfOk};
+ghost use Rattle.farm_types.specs.Limits.{highest_priority};
 ghost use Rattle.farm_types.specs.Farm.{Farm};
 ghost use Rattle.farm_types.specs.Pass.{check_job, check_one, checks, is_due, is_due_by};
 ghost use Rattle.farm_types.specs.Pass.{is_reached};
@@ -14,7 +15,7 @@ use crate::draft::Draft;
 use crate::tables::Tables;
 use farm_types::calls::Changes;
 use farm_types::fault::WordFault;
-use farm_types::priority::HIGHEST_PRIORITY;
+use farm_types::limits::HIGHEST_PRIORITY;
 use farm_types::rows::{BoardRow, Check, Health, Holder, JobRow, JobState, Want};
 use farm_types::tags::Tags;
 use farm_types::words::{Body, Name, Priority};
@@ -67,7 +68,7 @@ fn admin_name(alloc: Global) -> Result<Name, AllocError>
 
 /// The priority of checks.
 fn highest_priority() -> Priority
-    ensures { result ≡ 100 }
+    ensures { result ≡ highest_priority }
 {
     match Priority::of(HIGHEST_PRIORITY) {
         Ok(priority) => priority,
@@ -131,7 +132,7 @@ impl Draft {
         }
         let number = self.tables.next;
         let board = &self.tables.boards[at];
-        let row = check_job(*self.tables.jobs.allocator(), number, board)?;
+        let row = check_job(*self.tables.boards.allocator(), number, board)?;
         let name = board.name.copy()?;
         let draft = self.put_job(row)?;
         let draft = draft.hold_board(&name, Holder::Job(number))?;

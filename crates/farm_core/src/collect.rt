@@ -108,7 +108,7 @@ impl Draft {
         }) }
     {
         let near = self.tables.near(group);
-        let numbers = numbers_in(*self.tables.jobs.allocator(), near, group)?;
+        let numbers = numbers_in(*self.tables.boards.allocator(), near, group)?;
         let members = numbers.as_slice();
         let mut draft = self;
         for at in 0..members.len() {

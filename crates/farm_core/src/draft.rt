@@ -13,6 +13,7 @@ ghost use Rattle.farm_core.specs.Orderly.{IsOrderly, IsNear};
 ghost use Rattle.farm_core.specs.Tracks.{Tracks};
 ghost use Rattle.farm_core.specs.Drafted.{at_farm, without_claim, IsFresh};
 
+use crate::job_table::JobTable;
 use crate::leases::note_lease;
 use crate::tables::{Tables, no_changes};
 use farm_start::Start;
@@ -23,10 +24,11 @@ use farm_types::table::upsert;
 use farm_types::words::Name;
 use std::alloc::AllocError;
 use std::marker::Model;
+use std::mem::replace;
 
-/// The tables are in order, each lease that may end is noted, and the changed rows, put into the farm
-/// at the start, give the tables. A step takes the draft and gives it back: one that fails for want
-/// of memory leaves none.
+/// The tables are in order, each lease that may end is noted, and the changed rows, put into the
+/// farm at the start, give the tables. A step takes the draft and gives it back: one that fails for
+/// want of memory leaves none.
 #[derive(Drop)]
 pub struct Draft {
     /// The farm at the start, which only proofs read.
@@ -139,7 +141,10 @@ impl Draft {
             (λ d. d ≡ at_farm (record self.farm { jobs = put job_cmp self.farm.jobs row }) self) }
     {
         self.changes.jobs.push(row.copy()?)?;
-        upsert(&mut self.tables.jobs, row)?;
+        let none = JobTable::new(*self.tables.types.allocator());
+        let former = replace(&mut self.tables.jobs, none);
+        let jobs = former.put(row)?;
+        self.tables.jobs = jobs;
         Ok(self)
     }
 

@@ -11,7 +11,7 @@ use crate::tables::Tables;
 use farm_sound::sound::is_sound;
 use farm_types::calls::{Answer, Call, Rows};
 use farm_types::claims::{Claim, Status};
-use farm_types::refusal::Refusal;
+use farm_types::refusal::{BAD_STORE, NO_MEMORY, Refusal};
 use farm_types::rows::{BoardRow, JobRow, ResRow, TypeRow};
 use std::alloc::{AllocError, Global};
 use std::marker::Model;
@@ -21,7 +21,7 @@ use thiserror::Error;
 #[derive(Clone, Copy, Debug, PartialEq, Eq, Error)]
 pub enum StepFault {
     /// There is no memory for the change: from now on the farm has failed.
-    #[error("no memory")]
+    #[error("{}", Refusal {code: NO_MEMORY})]
     NoMemory,
     /// The farm failed at an earlier step.
     #[error("failed")]
@@ -32,10 +32,10 @@ pub enum StepFault {
 #[derive(Clone, Copy, Debug, PartialEq, Eq, Error)]
 pub enum BadRows {
     /// The rows are no sound farm's.
-    #[error("unsound rows")]
+    #[error("{}", Refusal {code: BAD_STORE})]
     Unsound,
     /// There is no memory for the kept replies, the queues or the leases.
-    #[error("no memory")]
+    #[error("{}", Refusal {code: NO_MEMORY})]
     NoMemory,
 }
 
@@ -96,8 +96,8 @@ impl Farm {
 
     /// The farm of these rows; refused where they are no sound farm's, or for want of memory. With
     /// n rows it costs O(n log n): each looks up a few others by binary search. It takes memory for
-    /// the kept replies, for the queues, of the claims that wait and of the free boards, and for the
-    /// leases.
+    /// the kept replies, for the queues, of the claims that wait and of the free boards, and for
+    /// the leases.
     pub fn from_rows(rows: Rows) -> Result<Farm, BadRows>
         ensures farm { IfOk result (λ f. f.farm ≡ farm_of rows) }
         ensures working { IfOk result (λ f. f.failed ≡ false) }

@@ -38,8 +38,8 @@ fn put_waiting(queues: &mut Queues, jobs: &[JobRow], claim: Claim) -> Result<(),
 }
 
 impl Tables {
-    /// Fills the empty queues: the free boards, and the claims of the rows, the last one first. With
-    /// J jobs, R reservations and C claims it costs O(J + R + C log C).
+    /// Fills the empty queues: the free boards, and the claims of the rows, the last one first.
+    /// With J jobs, R reservations and C claims it costs O(J + R + C log C).
     pub fn fill_queues(&mut self) -> Result<(), AllocError>
         requires sound { IsSound (plain self.old) }
         requires empty { self.old.queues ≡ record { claims = []; boards = [] } }
@@ -47,15 +47,16 @@ impl Tables {
         ensures queues { OnOk result (self.new.queues ≡ lists_of (plain self.old)) }
     {
         note_boards(&mut self.queues, &self.types, &self.boards)?;
-        let alloc = *self.jobs.allocator();
-        let mut claims = farm_pick::queue_of(alloc, &self.jobs, &self.reservations)?;
+        let alloc = *self.boards.allocator();
+        let mut claims = farm_pick::queue_of(alloc, self.jobs.rows(), &self.reservations)?;
         while let Some(claim) = claims.pop() {
-            put_waiting(&mut self.queues, &self.jobs, claim)?;
+            put_waiting(&mut self.queues, self.jobs.rows(), claim)?;
         }
         Ok(())
     }
 
-    /// Notes the leases of the rows. With R reservations, of which L may end, it costs O(R + L log L).
+    /// Notes the leases of the rows. With R reservations, of which L may end, it costs O(R + L log
+    /// L).
     pub fn fill_leases(&mut self) -> Result<(), AllocError>
         ensures farm { plain self.new ≡ plain self.old }
         ensures queues { self.new.queues ≡ self.old.queues }

@@ -3,6 +3,7 @@ ghost use Rattle.std.specs.Prelude.{◌≡◌, ◌≤◌, ◌∷◌, [], OnOk, I
 ghost use Rattle.std.specs.List.{AllByRecursion, fold, zip};
 ghost use Rattle.std.specs.List.Sorted.{IsStrictlySortedBy};
 ghost use Rattle.std.specs.Str.{bytes_eq};
+ghost use Rattle.farm_types.specs.Limits.{last_moment};
 ghost use Rattle.farm_types.specs.Table.{board_cmp, change_where};
 ghost use Rattle.farm_types.specs.Farm.{Farm};
 ghost use Rattle.farm_types.specs.Pass.{held};
@@ -20,10 +21,10 @@ use crate::edit::change_rows;
 use crate::held::Hold;
 use crate::job_edit::JobEdit;
 use crate::res_edit::ResEdit;
-use crate::reservations::LEASE_SECONDS;
 use crate::tables::Tables;
 use farm_sound::seek;
 use farm_types::calls::Changes;
+use farm_types::limits::LEASE;
 use farm_types::rows::{BoardRow, Holder, JobState};
 use farm_types::words::Name;
 use std::alloc::AllocError;
@@ -91,11 +92,11 @@ impl Draft {
     /// A reservation is given the board of that name, for a lease from now on.
     fn give_reservation(self, number: u64, name: &Name) -> Result<Draft, AllocError>
         requires small { IsSmall number }
-        requires clock { self.farm.clock ≤ 250000000000 }
+        requires clock { self.farm.clock ≤ last_moment }
         ensures { IfOk result
             (λ d. d ≡ at_farm (give_first self.farm number (name.now ∷ [])) self) }
     {
-        let deadline = self.tables.clock + LEASE_SECONDS;
+        let deadline = self.tables.clock + LEASE;
         let draft = self.edit_reservation(number, ResEdit::Allocate(number, name, deadline))?;
         let draft = draft.hold_board(name, Holder::Res(number))?;
         Ok(draft)
@@ -104,7 +105,7 @@ impl Draft {
     /// A reservation is given the first board of the names, for a lease from now on.
     pub fn give_first(self, number: u64, names: &[Name]) -> Result<Draft, AllocError>
         requires small { IsSmall number }
-        requires clock { self.farm.clock ≤ 250000000000 }
+        requires clock { self.farm.clock ≤ last_moment }
         ensures { IfOk result (λ d. d ≡ at_farm (give_first self.farm number names.now) self) }
     {
         match names.first() {

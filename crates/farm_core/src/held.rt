@@ -9,12 +9,10 @@ use crate::edit::Edit;
 use crate::job_edit::JobEdit;
 use crate::res_edit::ResEdit;
 use farm_sound::seek;
+use farm_types::limits::MOST_JOBS_SINCE;
 use farm_types::rows::{BoardRow, Health, Holder, JobRow, Outcome, ResRow, State};
 use farm_types::words::Name;
 use std::alloc::AllocError;
-
-/// The most jobs since a check that a board counts.
-const MOST_JOBS_SINCE: u64 = 1_000_000;
 
 /// What becomes of a board.
 #[derive(Clone, Copy, Debug, PartialEq, Eq)]

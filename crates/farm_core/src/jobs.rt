@@ -1,12 +1,12 @@
 //! The commands on jobs that are there: Cancel, Start and Finish.
-ghost use Rattle.std.specs.Prelude.{◌≡◌, ◌≤◌, ◌==◌, ◌∷◌, ◌||◌, [], not, is_none, length};
-ghost use Rattle.std.specs.Prelude.{OnOk, IfOk, IfSome};
+ghost use Rattle.std.specs.Prelude.{◌≡◌, ◌≤◌, ◌==◌, ◌||◌, [], not, length};
+ghost use Rattle.std.specs.Prelude.{IfOk, IfSome};
 ghost use Rattle.std.specs.List.{filter, list_any};
 ghost use Rattle.std.specs.Option.{option_copied};
-ghost use Rattle.farm_types.specs.Codes.{same_job_state};
-ghost use Rattle.farm_types.specs.Farm.{Farm, job_of, members};
-ghost use Rattle.farm_types.specs.Refuse.{first_code, job_is, owned_by, can_cancel};
-ghost use Rattle.farm_types.specs.Change.{act, done};
+ghost use Rattle.farm_types.specs.Limits.{most_wants};
+ghost use Rattle.farm_types.specs.Farm.{job_of, members};
+ghost use Rattle.farm_types.specs.Refuse.{first_code, owned_by, can_cancel, cancel_reasons};
+ghost use Rattle.farm_types.specs.Refuse.{start_reasons, finish_reasons};
 ghost use Rattle.farm_types.specs.Small.{IsSmall, IsSmallJob};
 ghost use Rattle.farm_types.specs.declared.calls.Cmd.{Cmd};
 ghost use Rattle.farm_types.specs.declared.rows.JobRow.{JobRow};
@@ -15,23 +15,20 @@ ghost use Rattle.farm_core.specs.Edits.{outcome_of};
 ghost use Rattle.farm_core.specs.Drafted.{Acts};
 ghost use Rattle.farm_core.specs.Plain.{plain};
 ghost use Rattle.farm_core.specs.Orderly.{IsOrderly, IsPlaceOf};
-ghost use Rattle.farm_core.specs.Tracks.{Tracks};
 
 use crate::draft::Draft;
+use crate::edits::place_of;
 use crate::held::Becomes;
-use crate::held_edits::place_of;
 use crate::job_edit::JobEdit;
 use crate::refusal::is_admin;
 use crate::tables::Tables;
 use farm_sound::seek;
 use farm_types::calls::Changes;
+use farm_types::limits::MOST_WANTS;
 use farm_types::refusal::{FORBIDDEN, NO_JOB, WRONG_STATE};
 use farm_types::rows::{JobRow, JobState, Outcome, State};
 use farm_types::words::Name;
 use std::alloc::AllocError;
-
-/// The most members of a group.
-const MEMBERS: usize = 4;
 
 /// Whether a row's owner or the admin calls.
 pub fn owned_by(caller: &Name, owner: &Name) -> bool
@@ -76,7 +73,7 @@ impl Tables {
         ensures found { option_copied result ≡ job_of (plain self.now) number }
         ensures small { IfSome result (λ job. (job.now.number ≡ number) × IsSmallJob job.now) }
     {
-        seek::job_of(&self.jobs, number)
+        seek::job_of(self.jobs.rows(), number)
     }
 
     /// The few rows from a place on that stand where the members of a group do: no other row is a
@@ -87,10 +84,11 @@ impl Tables {
         requires place { IsPlaceOf (λ (r : JobRow). r.number) (plain self.now).jobs group start }
         ensures members { filter (λ j. j.group == group) result.now
             ≡ members (plain self.now) group }
-        ensures few { length result.now ≤ 4 }
+        ensures few { length result.now ≤ most_wants }
     {
-        let end = self.jobs.len().min(start.saturating_add(MEMBERS));
-        &self.jobs[start..end]
+        let rows = self.jobs.rows();
+        let end = rows.len().min(start.saturating_add(MOST_WANTS));
+        &rows[start..end]
     }
 
     /// The few rows that stand where the members of a group do: no other row is a member.
@@ -99,7 +97,7 @@ impl Tables {
         requires small { IsSmall group }
         ensures { filter (λ j. j.group == group) result.now ≡ members (plain self.now) group }
     {
-        let start = place_of(&self.jobs, group);
+        let start = place_of(self.jobs.rows(), group);
         self.near_from(group, start)
     }
 
@@ -115,13 +113,7 @@ impl Tables {
     /// Why a job isn't canceled.
     pub fn refuse_cancel(&self, caller: &Name, number: u64) -> Option<u16>
         requires { IsOrderly (plain self.now) }
-        ensures { result ≡ first_code ((is_none (job_of (plain self.now) number), 20)
-            ∷ (not (job_is (plain self.now) number (λ j. owned_by caller.now j.owner)), 3)
-            ∷ (
-              not (job_is (plain self.now) number
-                  (λ j. list_any can_cancel (members (plain self.now) j.group))),
-              21,
-            ) ∷ []) }
+        ensures { result ≡ first_code (cancel_reasons (plain self.now) caller.now number) }
     {
         match self.find_job(number) {
             None => Some(NO_JOB),
@@ -140,12 +132,7 @@ impl Tables {
     /// Why a job's group isn't started.
     pub fn refuse_start(&self, number: u64) -> Option<u16>
         requires { IsOrderly (plain self.now) }
-        ensures { result ≡ first_code ((is_none (job_of (plain self.now) number), 20)
-            ∷ (
-              not (job_is (plain self.now) number
-                  (λ j. same_job_state j.state JobState.Scheduled)),
-              21,
-            ) ∷ []) }
+        ensures { result ≡ first_code (start_reasons (plain self.now) number) }
     {
         match self.find_job(number) {
             None => Some(NO_JOB),
@@ -161,12 +148,7 @@ impl Tables {
     /// Why a job isn't finished.
     pub fn refuse_finish(&self, number: u64) -> Option<u16>
         requires { IsOrderly (plain self.now) }
-        ensures { result ≡ first_code ((is_none (job_of (plain self.now) number), 20)
-            ∷ (
-              not (job_is (plain self.now) number (λ j. same_job_state j.state JobState.Running
-                  || same_job_state j.state JobState.Canceling)),
-              21,
-            ) ∷ []) }
+        ensures { result ≡ first_code (finish_reasons (plain self.now) number) }
     {
         match self.find_job(number) {
             None => Some(NO_JOB),

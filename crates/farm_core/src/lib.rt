@@ -1,8 +1,8 @@
 //! The machine of the board farm: one farm, and one call after another.
 //!
 //! Read `specs/` in the order Plain, Shown, Answers, which say what callers see; then Replies, how
-//! kept replies are kept; then Calls, Orderly, Leases, Tracks, Drafted, Following, Edits, Serving,
-//! which say what a command keeps on its way.
+//! kept replies are kept, and Marks, what stands beside each job; then Calls, Orderly, Leases,
+//! Tracks, Drafted, Following, Edits, Serving, which say what a command keeps on its way.
 #![tactic(auto)]
 
 mod boards;
@@ -11,17 +11,19 @@ mod checks;
 mod collect;
 mod draft;
 mod edit;
+mod edits;
 mod expire;
 pub mod farm;
 mod filling;
 mod follow;
 mod give;
 mod held;
-mod held_edits;
 mod job_edit;
+mod job_table;
 mod jobs;
 mod kept;
 mod leases;
+mod numbered;
 mod pass;
 mod refusal;
 mod res_edit;

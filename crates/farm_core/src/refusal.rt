@@ -1,5 +1,6 @@
 //! Why a call is refused: the first reason that applies.
 ghost use Rattle.std.specs.Prelude.{◌≡◌, ◌≤◌, ◌&&◌, nat_le, length};
+ghost use Rattle.farm_types.specs.Limits.{most_wants};
 ghost use Rattle.farm_types.specs.Pass.{has_room};
 ghost use Rattle.farm_types.specs.Refuse.{is_admin, is_dispatcher, may_give, is_full, is_full_for};
 ghost use Rattle.farm_types.specs.Refuse.{is_reused, early_refusal, own_refusal, refusal};
@@ -9,28 +10,13 @@ ghost use Rattle.farm_core.specs.Orderly.{IsOrderly};
 
 use crate::tables::Tables;
 use farm_types::calls::{Call, Cmd};
+use farm_types::limits::{
+    LAST_MOMENT, MOST_BOARDS, MOST_BOARDS_OF_TYPE, MOST_COMMANDS, MOST_JOBS, MOST_REPLIES,
+    MOST_RESERVATIONS, MOST_TYPES, NUMBERS_END,
+};
 use farm_types::refusal::{BAD_MOMENT, FORBIDDEN, FULL, KEY_REUSED};
 use farm_types::rows::Reply;
 use farm_types::words::Name;
-
-/// The last moment that a call may name, in seconds since 1970.
-const LAST_MOMENT: u64 = 250_000_000_000;
-/// The most rows of each table, and of boards of one type.
-const MOST_TYPES: usize = 64;
-
-const MOST_BOARDS: usize = 256;
-
-const MOST_OF_TYPE: usize = 64;
-
-const MOST_JOBS: usize = 100_000;
-
-const MOST_RESERVATIONS: usize = 100_000;
-
-const MOST_KEPT: usize = 300_000;
-/// Numbers of jobs and reservations are below this one.
-const NUMBERS_END: u64 = 1_000_000_000;
-/// The most commands that a farm accepts in its life.
-const MOST_COMMANDS: u64 = 9_000_000_000_000_000_000;
 
 /// Whether the admin calls.
 pub fn is_admin(caller: &Name) -> bool
@@ -71,7 +57,7 @@ fn may_give(caller: &Name, cmd: &Cmd) -> bool
 impl Tables {
     /// Whether the farm has room for more jobs, and numbers for them.
     pub fn has_room(&self, jobs: usize) -> bool
-        requires { jobs ≤ 4 }
+        requires { jobs ≤ most_wants }
         ensures { result ≡ has_room (plain self.now) jobs }
     {
         self.jobs.len() <= MOST_JOBS - jobs && self.next <= NUMBERS_END - jobs as u64
@@ -84,7 +70,7 @@ impl Tables {
         match cmd {
             Cmd::AddType(_, _) => self.types.len() >= MOST_TYPES,
             Cmd::AddBoard(_, kind, _) => {
-                self.boards.len() >= MOST_BOARDS || self.count_kind(kind) >= MOST_OF_TYPE
+                self.boards.len() >= MOST_BOARDS || self.count_kind(kind) >= MOST_BOARDS_OF_TYPE
             }
             Cmd::Submit(_, wants, _, _) => !self.has_room(wants.items().len()),
             Cmd::Reserve(_, _) => {
@@ -108,7 +94,7 @@ impl Tables {
         ensures { result ≡ is_full (plain self.now) call.entry.now }
     {
         self.is_full_for(&call.cmd)
-            || call.key.is_some() && self.kept.len() >= MOST_KEPT
+            || call.key.is_some() && self.kept.len() >= MOST_REPLIES
             || self.count >= MOST_COMMANDS
     }
 

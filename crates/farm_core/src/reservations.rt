@@ -1,21 +1,21 @@
 //! The commands on reservations that are there: Acquire, Release, Refresh and CancelRes.
-ghost use Rattle.std.specs.Prelude.{◌≡◌, ◌==◌, ◌+◌, ◌≤◌, ◌||◌, ◌∷◌, [], not, is_none, OnOk, IfOk};
-ghost use Rattle.std.specs.Prelude.{IfSome, Bool, ℕ, List};
+ghost use Rattle.std.specs.Prelude.{◌≡◌, ◌+◌, ◌≤◌, ◌||◌, ◌∷◌, [], not, IfOk};
 ghost use Rattle.std.specs.Option.{option_copied};
-ghost use Rattle.std.specs.Str.{bytes_eq};
+ghost use Rattle.farm_types.specs.Limits.{last_moment};
 ghost use Rattle.farm_types.specs.Codes.{same_res_state};
-ghost use Rattle.farm_types.specs.Farm.{Farm, res_of};
+ghost use Rattle.farm_types.specs.Farm.{res_of};
 ghost use Rattle.farm_types.specs.Pass.{is_dead};
-ghost use Rattle.farm_types.specs.Refuse.{first_code, res_reasons, owned_by, is_alive};
-ghost use Rattle.farm_types.specs.Change.{act, done};
-ghost use Rattle.farm_types.specs.Small.{IsSmall, IsSmallRes};
+ghost use Rattle.farm_types.specs.Refusals.{forbidden, reservation_expired};
+ghost use Rattle.farm_types.specs.Refusals.{wrong_reservation_state};
+ghost use Rattle.farm_types.specs.Refuse.{first_code, owned_by, is_alive};
+ghost use Rattle.farm_types.specs.Refuse.{acquire_reasons, release_reasons, alive_reasons};
+ghost use Rattle.farm_types.specs.Small.{IsSmall};
 ghost use Rattle.farm_types.specs.declared.calls.Cmd.{Cmd};
 ghost use Rattle.farm_types.specs.declared.rows.ResRow.{ResRow};
 ghost use Rattle.farm_types.specs.declared.rows.ResState.{ResState};
 ghost use Rattle.farm_core.specs.Drafted.{Acts};
 ghost use Rattle.farm_core.specs.Plain.{plain};
 ghost use Rattle.farm_core.specs.Orderly.{IsOrderly};
-ghost use Rattle.farm_core.specs.Tracks.{Tracks};
 
 use crate::draft::Draft;
 use crate::held::Becomes;
@@ -24,13 +24,11 @@ use crate::res_edit::{ResEdit, is_dead};
 use crate::tables::Tables;
 use farm_sound::seek;
 use farm_types::calls::Changes;
+use farm_types::limits::LEASE;
 use farm_types::refusal::{EXPIRED, FORBIDDEN, NO_RESERVATION, WRONG_RESERVATION_STATE};
 use farm_types::rows::{ResRow, ResState, State};
 use farm_types::words::Name;
 use std::alloc::AllocError;
-
-/// For how long a reservation lives without a refresh, in seconds.
-pub const LEASE_SECONDS: u64 = 60;
 
 /// Whether a reservation waits, or has been allocated or acquired.
 fn is_alive(row: &ResRow) -> bool
@@ -45,11 +43,11 @@ fn is_alive(row: &ResRow) -> bool
 /// Why a command on a reservation is refused, where it is there: it is another's, its deadline has
 /// come, or its state is wrong.
 fn refuse_row(row: &ResRow, now: u64, mine: bool, right: bool) -> Option<u16>
-    ensures { result ≡ first_code ((not mine, 3) ∷ (
+    ensures { result ≡ first_code ((not mine, forbidden) ∷ (
       same_res_state row.now.state ResState.Expired
           || is_dead now row.now,
-      31,
-    ) ∷ (not right, 32) ∷ []) }
+      reservation_expired,
+    ) ∷ (not right, wrong_reservation_state) ∷ []) }
 {
     if !mine {
         return Some(FORBIDDEN);
@@ -75,8 +73,7 @@ impl Tables {
     /// Why a reservation isn't acquired: its owner alone may.
     pub fn refuse_acquire(&self, caller: &Name, now: u64, number: u64) -> Option<u16>
         requires { IsOrderly (plain self.now) }
-        ensures { result ≡ first_code (res_reasons (plain self.now) now number
-            (λ r. bytes_eq caller.now r.owner) (λ r. same_res_state r.state ResState.Allocated)) }
+        ensures { result ≡ first_code (acquire_reasons (plain self.now) now caller.now number) }
     {
         match self.find_reservation(number) {
             None => Some(NO_RESERVATION),
@@ -92,8 +89,7 @@ impl Tables {
     /// Why a reservation isn't released.
     pub fn refuse_release(&self, caller: &Name, now: u64, number: u64) -> Option<u16>
         requires { IsOrderly (plain self.now) }
-        ensures { result ≡ first_code (res_reasons (plain self.now) now number
-            (λ r. owned_by caller.now r.owner) (λ r. same_res_state r.state ResState.Acquired)) }
+        ensures { result ≡ first_code (release_reasons (plain self.now) now caller.now number) }
     {
         match self.find_reservation(number) {
             None => Some(NO_RESERVATION),
@@ -109,8 +105,7 @@ impl Tables {
     /// Why a reservation isn't refreshed, or canceled.
     pub fn refuse_alive(&self, caller: &Name, now: u64, number: u64) -> Option<u16>
         requires { IsOrderly (plain self.now) }
-        ensures { result ≡ first_code (res_reasons (plain self.now) now number
-            (λ r. owned_by caller.now r.owner) is_alive) }
+        ensures { result ≡ first_code (alive_reasons (plain self.now) now caller.now number) }
     {
         match self.find_reservation(number) {
             None => Some(NO_RESERVATION),
@@ -133,10 +128,10 @@ impl Draft {
     /// The reservation is allocated again for a lease from now on, and its board reserved.
     pub fn release(self, number: u64) -> Result<(Draft, u64), AllocError>
         requires small { IsSmall number }
-        requires clock { self.farm.clock ≤ 250000000000 }
+        requires clock { self.farm.clock ≤ last_moment }
         ensures { IfOk result (λ r. Acts self [] (Cmd.Release number) r.1 r.0) }
     {
-        let edit = ResEdit::Release(number, self.tables.clock + LEASE_SECONDS);
+        let edit = ResEdit::Release(number, self.tables.clock + LEASE);
         let reserved = Becomes::State(State::Reserved);
         let draft = self.edit_reservation_and_board(number, edit, reserved)?;
         Ok((draft, number))
@@ -145,10 +140,10 @@ impl Draft {
     /// The reservation lives for a lease from now on.
     pub fn refresh(self, number: u64) -> Result<(Draft, u64), AllocError>
         requires small { IsSmall number }
-        requires clock { self.farm.clock ≤ 250000000000 }
+        requires clock { self.farm.clock ≤ last_moment }
         ensures { IfOk result (λ r. Acts self [] (Cmd.Refresh number) r.1 r.0) }
     {
-        let edit = ResEdit::Refresh(number, self.tables.clock + LEASE_SECONDS);
+        let edit = ResEdit::Refresh(number, self.tables.clock + LEASE);
         let draft = self.edit_reservation(number, edit)?;
         Ok((draft, number))
     }

@@ -1,21 +1,18 @@
 //! Reserve: a new reservation of one board.
-ghost use Rattle.std.specs.Prelude.{◌≡◌, ◌≤◌, ◌&&◌, ◌∷◌, [], None, is_none, not, OnOk, IfOk};
+ghost use Rattle.std.specs.Prelude.{◌≡◌, ◌≤◌, ◌&&◌, None, IfOk};
 ghost use Rattle.std.specs.List.{list_any};
-ghost use Rattle.farm_types.specs.Farm.{Farm};
-ghost use Rattle.farm_types.specs.Pick.{least, not_retired, fits};
-ghost use Rattle.farm_types.specs.Refuse.{first_code};
-ghost use Rattle.farm_types.specs.Change.{act, done};
+ghost use Rattle.farm_types.specs.Limits.{last_moment, numbers_end};
+ghost use Rattle.farm_types.specs.Pick.{not_retired, fits};
+ghost use Rattle.farm_types.specs.Refuse.{first_code, reserve_reasons};
 ghost use Rattle.farm_types.specs.declared.calls.Cmd.{Cmd};
 ghost use Rattle.farm_core.specs.Drafted.{Acts, IsFresh};
 ghost use Rattle.farm_core.specs.Plain.{plain};
-ghost use Rattle.farm_core.specs.Orderly.{IsOrderly};
-ghost use Rattle.farm_core.specs.Tracks.{Tracks};
 
 use crate::draft::Draft;
-use crate::reservations::LEASE_SECONDS;
 use crate::tables::Tables;
 use farm_types::calls::Changes;
 use farm_types::claims::{Claim, ClaimKind};
+use farm_types::limits::LEASE;
 use farm_types::refusal::NO_SUCH_BOARDS;
 use farm_types::rows::{BoardRow, Health, ResRow, ResState, Want};
 use farm_types::words::{Name, Priority, Tags};
@@ -41,12 +38,7 @@ impl Tables {
     /// Why a reservation isn't made. With B boards it costs O(B), and no memory.
     #[tactic(auto, using(crate::proofs::OneWant::least_one))]
     pub fn refuse_reserve(&self, tags: &Tags) -> Option<u16>
-        ensures { result ≡ first_code
-            ((
-              is_none (least (plain self.now).boards not_retired
-                  (record { kind = None; tags = tags.now } ∷ [])),
-              22,
-            ) ∷ []) }
+        ensures { result ≡ first_code (reserve_reasons (plain self.now) tags.now) }
     {
         if !self.can_serve(tags) {
             return Some(NO_SUCH_BOARDS);
@@ -63,8 +55,8 @@ impl Draft {
         priority: Priority,
         tags: &Tags,
     ) -> Result<(Draft, u64), AllocError>
-        requires next { self.farm.next ≤ 1000000000 }
-        requires clock { self.farm.clock ≤ 250000000000 }
+        requires next { self.farm.next ≤ numbers_end }
+        requires clock { self.farm.clock ≤ last_moment }
         requires fresh { IsFresh self.farm.next self.queues.claims }
         ensures { IfOk result (λ r. Acts self owner.now (Cmd.Reserve priority tags.now) r.1 r.0) }
     {
@@ -78,7 +70,7 @@ impl Draft {
                 tags: tags.copy()?,
             },
             state: ResState::Waiting,
-            deadline: self.tables.clock + LEASE_SECONDS,
+            deadline: self.tables.clock + LEASE,
             board: None,
         };
         let claim = Claim {

@@ -2,6 +2,7 @@
 //! yes means.
 ghost use Rattle.std.specs.Prelude.{◌≡◌, ◌≤◌, true, length};
 ghost use Rattle.std.specs.Option.{option_copied};
+ghost use Rattle.farm_types.specs.Limits.{most_wants};
 ghost use Rattle.farm_core.specs.Serving.{member_wants, want_at};
 
 use farm_types::rows::{JobRow, Want};
@@ -70,8 +71,8 @@ fn same_option(first: Option<&Want>, second: Option<&Want>) -> bool
 /// Whether the members of two groups want the same, member for member, where the rows are at most
 /// four and the members stand at the same places.
 pub fn same_members(first: &[JobRow], group: u64, second: &[JobRow], other: u64) -> bool
-    requires few { length first.now ≤ 4 }
-    requires few_others { length second.now ≤ 4 }
+    requires few { length first.now ≤ most_wants }
+    requires few_others { length second.now ≤ most_wants }
     ensures { result ≡ true → member_wants first.now group ≡ member_wants second.now other }
 {
     for place in 0..4 {

@@ -4,6 +4,7 @@ ghost use Rattle.std.specs.Prelude.{◌&&◌, ◌||◌, length, nat_le};
 ghost use Rattle.std.specs.Prelude.{OnOk, IfOk, option_map};
 ghost use Rattle.std.specs.List.{filter, find, list_all};
 ghost use Rattle.std.specs.Option.{option_copied};
+ghost use Rattle.farm_types.specs.Limits.{last_moment, most_wants};
 ghost use Rattle.farm_types.specs.Farm.{Farm, members, res_of};
 ghost use Rattle.farm_types.specs.Pass.{is_group, serve, serve_all};
 ghost use Rattle.farm_types.specs.Pick.{Among, Claimed, least, is_free, queue, shown_claim};
@@ -101,7 +102,7 @@ impl Tables {
     pub fn pick(&self, wants: &[&Want]) -> Result<Option<Vec<Name>>, AllocError>
         requires orderly { IsOrderly (plain self.now) }
         requires free { self.now.queues.boards ≡ idle_boards (plain self.now) }
-        requires few { length wants.now ≤ 4 }
+        requires few { length wants.now ≤ most_wants }
         ensures { IfOk result (λ picked. option_map (λ names. names.items) picked
             ≡ option_map (map (λ (b : BoardRow). b.name))
             (least (plain self.now).boards (is_free (plain self.now).types)
@@ -123,7 +124,7 @@ impl Tables {
             (least (plain self.now).boards (is_free (plain self.now).types)
             (map (λ m. m.want) (members (plain self.now) group)))) }
     {
-        let wants = wants_in(*self.jobs.allocator(), self.near(group), group)?;
+        let wants = wants_in(*self.boards.allocator(), self.near(group), group)?;
         self.pick(&wants)
     }
 
@@ -170,7 +171,7 @@ impl Draft {
             None => Ok((self, false)),
             Some(names) => {
                 let near = self.tables.near(group);
-                let numbers = numbers_in(*self.tables.jobs.allocator(), near, group)?;
+                let numbers = numbers_in(*self.tables.boards.allocator(), near, group)?;
                 let draft = self.give_jobs(&numbers, &names)?;
                 Ok((draft.take_given(group, &names), true))
             }
@@ -180,7 +181,7 @@ impl Draft {
     /// Gives a reservation its board, where a free one meets it.
     fn serve_reservation(self, number: u64) -> Result<(Draft, bool), AllocError>
         requires small { IsSmall number }
-        requires clock { self.farm.clock ≤ 250000000000 }
+        requires clock { self.farm.clock ≤ last_moment }
         requires free { self.queues.boards ≡ idle_boards self.farm }
         ensures { IfOk result (λ r. (c : Claimed) → c.reservation ≡ true → c.number ≡ number
             → Asks true self.farm c → Tries self c r.1 r.0) }
@@ -197,7 +198,7 @@ impl Draft {
     /// Serves a claim, told by its kind and its number, where free boards meet it.
     fn serve_claim(self, kind: ClaimKind, number: u64) -> Result<(Draft, bool), AllocError>
         requires small { IsSmall number }
-        requires clock { self.farm.clock ≤ 250000000000 }
+        requires clock { self.farm.clock ≤ last_moment }
         requires free { self.queues.boards ≡ idle_boards self.farm }
         ensures { IfOk result (λ r. (c : Claimed) → (shown_claim c).kind ≡ kind
             → c.number ≡ number → Asks c.reservation self.farm c → Tries self c r.1 r.0) }
@@ -226,8 +227,8 @@ impl Draft {
         }
     }
 
-    /// Tries a claim. One that isn't met is remembered, since where boards are only taken away, what
-    /// was unmet stays so; and it may collect.
+    /// Tries a claim. One that isn't met is remembered, since where boards are only taken away,
+    /// what was unmet stays so; and it may collect.
     fn try_claim(
         self,
         unmet: &mut Unmet,
@@ -239,7 +240,7 @@ impl Draft {
         requires waits { (c : Claimed) × Among c (queue self.farm) × ((shown_claim c).kind ≡ kind)
             × (c.number ≡ number) × (length c.wants ≡ boards) }
         requires small { IsSmall number }
-        requires clock { self.farm.clock ≤ 250000000000 }
+        requires clock { self.farm.clock ≤ last_moment }
         requires free { self.queues.boards ≡ idle_boards self.farm }
         requires known { AreUnmet self.farm unmet.old }
         ensures serves { IfOk result (λ r. (c : Claimed) → (shown_claim c).kind ≡ kind

@@ -1,12 +1,13 @@
 //! Submit: a new group of jobs.
-ghost use Rattle.std.specs.Prelude.{◌≡◌, ◌≤◌, ◌+◌, ◌∷◌, [], None, false, is_none, length, OnOk};
+ghost use Rattle.std.specs.Prelude.{◌≡◌, ◌≤◌, ◌+◌, None, false, is_none, length};
 ghost use Rattle.std.specs.Prelude.{IfOk};
 ghost use Rattle.std.specs.List.{list_any};
 ghost use Rattle.std.specs.Option.{option_map_or};
-ghost use Rattle.farm_types.specs.Farm.{Farm, type_of, put_jobs};
-ghost use Rattle.farm_types.specs.Pick.{least, not_retired};
-ghost use Rattle.farm_types.specs.Refuse.{first_code};
-ghost use Rattle.farm_types.specs.Change.{act, done, new_members};
+ghost use Rattle.farm_types.specs.Limits.{most_wants, numbers_end};
+ghost use Rattle.farm_types.specs.Farm.{type_of, put_jobs};
+ghost use Rattle.farm_types.specs.Pick.{least};
+ghost use Rattle.farm_types.specs.Refuse.{first_code, submit_reasons};
+ghost use Rattle.farm_types.specs.Change.{new_members};
 ghost use Rattle.farm_types.specs.declared.calls.Cmd.{Cmd};
 ghost use Rattle.farm_types.specs.declared.rows.JobState.{JobState};
 ghost use Rattle.farm_pick.specs.Queued.{first_kind};
@@ -14,7 +15,6 @@ ghost use Rattle.farm_core.specs.Edits.{text_at};
 ghost use Rattle.farm_core.specs.Drafted.{at_farm, Acts, IsFresh};
 ghost use Rattle.farm_core.specs.Plain.{plain};
 ghost use Rattle.farm_core.specs.Orderly.{IsOrderly};
-ghost use Rattle.farm_core.specs.Tracks.{Tracks};
 
 use crate::draft::Draft;
 use crate::tables::Tables;
@@ -117,13 +117,7 @@ impl Tables {
     /// Why a group isn't submitted. With B boards and at most four wants it costs O(B).
     pub fn refuse_submit(&self, wants: &Wants) -> Option<u16>
         requires { IsOrderly (plain self.now) }
-        ensures { result ≡ first_code
-            ((
-              list_any (λ w. option_map_or (λ kind. is_none (type_of (plain self.now) kind)) w.kind
-                  false) wants.now,
-              10,
-            )
-            ∷ (is_none (least (plain self.now).boards not_retired wants.now), 22) ∷ []) }
+        ensures { result ≡ first_code (submit_reasons (plain self.now) wants.now) }
     {
         if self.lacks_types(wants.items()) {
             return Some(NO_TYPE);
@@ -147,15 +141,15 @@ impl Draft {
         roles: &[Option<Name>],
         body: &Body,
     ) -> Result<Draft, AllocError>
-        requires few { length wants.now ≤ 4 }
+        requires few { length wants.now ≤ most_wants }
         requires roles { length roles.now ≡ length wants.now }
-        requires group { group ≤ 1000000000 }
+        requires group { group ≤ numbers_end }
         ensures { IfOk result
             (λ d. d ≡ at_farm
             (put_jobs self.farm
             (new_members group group owner.now priority wants.now roles.now body.now)) self) }
     {
-        let alloc = *self.tables.jobs.allocator();
+        let alloc = *self.tables.boards.allocator();
         let mut draft = self;
         for at in 0..wants.len() {
             let text = member_text(alloc, at, body)?;
@@ -176,7 +170,7 @@ impl Draft {
         body: &Body,
     ) -> Result<(Draft, u64), AllocError>
         requires roles { length roles.now ≡ length wants.now }
-        requires next { self.farm.next ≤ 1000000000 }
+        requires next { self.farm.next ≤ numbers_end }
         requires fresh { IsFresh self.farm.next self.queues.claims }
         ensures { IfOk result
             (λ r. Acts self owner.now (Cmd.Submit priority wants.now roles.now body.now) r.1 r.0) }

@@ -2,24 +2,22 @@
 ghost use Rattle.std.specs.Prelude.{◌≡◌, [], IfOk, option_map};
 ghost use Rattle.std.specs.List.Sorted.{IsStrictlySortedBy};
 ghost use Rattle.std.specs.Option.{option_copied};
-ghost use Rattle.farm_types.specs.Table.{put, job_cmp, kept_cmp};
-ghost use Rattle.farm_types.specs.Farm.{Farm, empty, farm_of, type_of, board_of, put_type, put_board};
-ghost use Rattle.farm_types.specs.Farm.{put_res, put_kept};
-ghost use Rattle.farm_types.specs.Small.{IsSmallType, IsSmallBoard, IsSmallJob, IsSmallRes};
-ghost use Rattle.farm_types.specs.Small.{IsSmallKept};
+ghost use Rattle.farm_types.specs.Table.{kept_cmp};
+ghost use Rattle.farm_types.specs.Farm.{Farm, empty, farm_of, type_of, board_of};
 ghost use Rattle.farm_types.specs.Refuse.{kept_for};
 ghost use Rattle.farm_pick.specs.Queued.{lists_of};
 ghost use Rattle.farm_core.specs.Plain.{plain};
-ghost use Rattle.farm_core.specs.Orderly.{IsOrderly, IsNear};
+ghost use Rattle.farm_core.specs.Orderly.{IsOrderly};
 ghost use Rattle.farm_core.specs.Replies.{kept_reply};
 ghost use Rattle.farm_core.specs.Tracks.{Tracks};
 
+use crate::job_table::JobTable;
 use crate::kept::{Kept, KeptReply};
 use crate::leases::Lease;
 use farm_pick::Queues;
 use farm_sound::seek;
 use farm_types::calls::{Call, Changes, Rows};
-use farm_types::rows::{BoardRow, JobRow, MetaRow, ResRow, TypeRow};
+use farm_types::rows::{BoardRow, MetaRow, ResRow, TypeRow};
 use farm_types::table::upsert;
 use farm_types::words::Name;
 use std::alloc::{AllocError, Global};
@@ -32,7 +30,7 @@ use std::fmt;
 pub struct Tables {
     pub types: Vec<TypeRow>,
     pub boards: Vec<BoardRow>,
-    pub jobs: Vec<JobRow>,
+    pub jobs: JobTable,
     pub reservations: Vec<ResRow>,
     pub kept: Kept,
     /// Who waits, and which boards are free.
@@ -56,7 +54,7 @@ impl fmt::Debug for Tables {
         f.debug_struct("Tables")
             .field("types", &self.types)
             .field("boards", &self.boards)
-            .field("jobs", &self.jobs)
+            .field("jobs", &self.jobs.rows())
             .field("reservations", &self.reservations)
             .field("kept", &self.kept)
             .field("clock", &self.clock)
@@ -95,7 +93,7 @@ impl Tables {
         Tables {
             types: Vec::new(alloc),
             boards: Vec::new(alloc),
-            jobs: Vec::new(alloc),
+            jobs: JobTable::new(alloc),
             reservations: Vec::new(alloc),
             kept: Kept::new(alloc),
             queues: Queues::new(alloc),
@@ -107,7 +105,8 @@ impl Tables {
         }
     }
 
-    /// The tables of some rows, with empty queues and no leases. It takes memory for the kept replies.
+    /// The tables of some rows, with empty queues and no leases. It takes memory for the kept
+    /// replies and for the marks of the jobs.
     pub fn of(rows: Rows) -> Result<Tables, AllocError>
         requires { IsStrictlySortedBy kept_cmp rows.kept.items }
         ensures farm { IfOk result (λ t. plain t ≡ farm_of rows) }
@@ -115,10 +114,11 @@ impl Tables {
     {
         let alloc = *rows.types.allocator();
         let kept = Kept::of(alloc, &rows.kept)?;
+        let jobs = JobTable::of(alloc, rows.jobs)?;
         Ok(Tables {
             types: rows.types,
             boards: rows.boards,
-            jobs: rows.jobs,
+            jobs,
             reservations: rows.reservations,
             kept,
             queues: Queues::new(alloc),

@@ -3,6 +3,7 @@
 ghost use Rattle.std.specs.Prelude.{◌≡◌, ◌≤◌, ◌==◌, ◌||◌, ◌∷◌, [], true, false, length, IfOk};
 ghost use Rattle.std.specs.Prelude.{if◌then◌else◌, option_map};
 ghost use Rattle.std.specs.Option.{option_copied};
+ghost use Rattle.farm_types.specs.Limits.{most_wants};
 ghost use Rattle.farm_types.specs.Farm.{Farm, members, res_of};
 ghost use Rattle.farm_types.specs.Sound.{IsSound};
 ghost use Rattle.farm_types.specs.declared.claims.ClaimKind.{ClaimKind};
@@ -14,9 +15,9 @@ ghost use Rattle.farm_pick.specs.Walked.{walked};
 ghost use Rattle.farm_core.specs.Plain.{plain};
 ghost use Rattle.farm_core.specs.Orderly.{IsOrderly, IsPlaceOf};
 ghost use Rattle.farm_core.specs.Serving.{AreUnmet, IsLike, IsMissed, IsSkipped};
-ghost use Rattle.farm_core.specs.Serving.{NextIs, Reaches, member_wants};
+ghost use Rattle.farm_core.specs.Serving.{NextIs, Reaches, member_wants, wants_of};
 
-use crate::held_edits::{GUESS_REACH, place_near, place_of, res_place_of};
+use crate::edits::{GUESS_REACH, place_of, res_place_of};
 use crate::same::{same_members, same_want};
 use crate::tables::Tables;
 use crate::unmet::{Known, Unmet};
@@ -68,7 +69,7 @@ impl Tables {
         requires { IsOrderly (plain self.now) }
     {
         match kind {
-            ClaimKind::Group => place_of(&self.jobs, number),
+            ClaimKind::Group => place_of(self.jobs.rows(), number),
             ClaimKind::Reservation => res_place_of(&self.reservations, number),
         }
     }
@@ -96,7 +97,7 @@ impl Tables {
     /// remembered.
     fn is_like_group(&self, rows: &[JobRow], group: u64, known: &Option<Known>) -> bool
         requires orderly { IsOrderly (plain self.now) }
-        requires few { length rows.now ≤ 4 }
+        requires few { length rows.now ≤ most_wants }
         ensures { result ≡ true → IsLike (plain self.now) (member_wants rows.now group) known.now }
     {
         match known {
@@ -104,7 +105,7 @@ impl Tables {
             Some(known) => match known.kind {
                 ClaimKind::Reservation => false,
                 ClaimKind::Group => {
-                    let start = place_near(&self.jobs, known.place, known.number);
+                    let start = self.jobs.place_near(known.place, known.number);
                     let others = self.near_from(known.number, start);
                     same_members(rows, group, others, known.number)
                 }
@@ -132,7 +133,8 @@ impl Tables {
     }
 
     /// Whether a group, whose first row stands at a place, wants the same as one that was found
-    /// unmet.
+    /// unmet. Its rows are looked at only where the numbers of the wants don't tell: equal wants
+    /// have two numbers where more wants than are remembered came between them.
     fn is_group_unmet(&self, unmet: &Unmet, group: u64, start: usize) -> bool
         requires sound { IsSound (plain self.now) }
         requires within { start ≤ length (plain self.now).jobs }
@@ -140,6 +142,9 @@ impl Tables {
         requires known { AreUnmet (plain self.now) unmet.now }
         ensures { result ≡ true → IsMissed (plain self.now) ClaimKind.Group group }
     {
+        if self.is_unmet_by_numbers(unmet, group, start) {
+            return true;
+        }
         let rows = self.near_from(group, start);
         for known in unmet.claims() {
             if self.is_like_group(rows, group, known) {
@@ -167,7 +172,8 @@ impl Tables {
     /// Whether a claim wants the same as one that was found unmet, so that no free boards meet it
     /// either. Its rows are looked for at a guess first, which comes to where they stand: where
     /// they are near it costs a comparison for each of the eight that is looked at, else with J
-    /// jobs and R reservations O(log (J + R)) besides.
+    /// jobs and R reservations O(log (J + R)) besides. Of jobs the marks are compared first, so
+    /// where they tell no row and no text of them is read.
     fn is_unmet(&self, unmet: &Unmet, claim: &Claim, guess: &mut Guess) -> bool
         requires sound { IsSound (plain self.now) }
         requires known { AreUnmet (plain self.now) unmet.now }
@@ -175,7 +181,7 @@ impl Tables {
     {
         match claim.kind {
             ClaimKind::Group => {
-                guess.job = place_near(&self.jobs, guess.job, claim.number);
+                guess.job = self.jobs.place_near(guess.job, claim.number);
                 self.is_group_unmet(unmet, claim.number, guess.job)
             }
             ClaimKind::Reservation => {

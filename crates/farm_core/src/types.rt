@@ -1,14 +1,11 @@
 //! The command on types.
-ghost use Rattle.std.specs.Prelude.{◌≡◌, ◌∷◌, [], OnOk, IfOk, IsTrue, is_some};
-ghost use Rattle.farm_types.specs.Farm.{Farm, type_of};
+ghost use Rattle.std.specs.Prelude.{◌≡◌, [], IfOk, IsTrue};
 ghost use Rattle.farm_types.specs.Proper.{is_frequency};
-ghost use Rattle.farm_types.specs.Refuse.{first_code};
-ghost use Rattle.farm_types.specs.Change.{act, done};
+ghost use Rattle.farm_types.specs.Refuse.{first_code, add_type_reasons};
 ghost use Rattle.farm_types.specs.declared.calls.Cmd.{Cmd};
 ghost use Rattle.farm_core.specs.Drafted.{Acts};
 ghost use Rattle.farm_core.specs.Plain.{plain};
 ghost use Rattle.farm_core.specs.Orderly.{IsOrderly};
-ghost use Rattle.farm_core.specs.Tracks.{Tracks};
 
 use crate::draft::Draft;
 use crate::tables::Tables;
@@ -22,7 +19,7 @@ impl Tables {
     /// Why a type of that name isn't added.
     pub fn refuse_add_type(&self, name: &Name) -> Option<u16>
         requires { IsOrderly (plain self.now) }
-        ensures { result ≡ first_code ((is_some (type_of (plain self.now) name.now), 11) ∷ []) }
+        ensures { result ≡ first_code (add_type_reasons (plain self.now) name.now) }
     {
         if self.find_type(name).is_some() {
             return Some(TYPE_EXISTS);

@@ -20,7 +20,7 @@ pub struct Known {
 /// eight places.
 #[derive(Drop)]
 pub struct Unmet {
-    claims: [Option<Known>; 8],
+    claims: [Option<Known>; MOST],
     /// The place for the next one.
     next: usize,
 }
@@ -42,7 +42,7 @@ impl Unmet {
         ensures { AllByRecursion (λ o. o ≡ None) result }
     {
         Unmet {
-            claims: [None; 8],
+            claims: [None; MOST],
             next: 0,
         }
     }

@@ -19,7 +19,7 @@ loop-claim-init c =
           (c.in_ok-note_boards.ensures
           ∙ (λ i. record (c.requires.empty i) { boards = fold (noted (c.deref.ensures.value i)) (c.requires.empty i).boards (c.deref-2.ensures.value i) })
           ∙ ap (λ bs. record { claims = []; boards = bs }) (noted_whole F.types F.boards c.requires.sound.steady.boards_sorted))
-          (c.in_ok-claims.ensures F c.requires.sound.steady (sym c.deref-3.ensures.value) (sym c.deref-4.ensures.value));
+          (c.in_ok-claims.ensures F c.requires.sound.steady (sym c.rows.ensures) (sym c.deref-3.ensures.value));
     }
 
 pub put_waiting-requires-clause-fresh : goal.put_waiting-requires-clause-fresh
@@ -28,7 +28,7 @@ put_waiting-requires-clause-fresh c =
 
 pub put_waiting-requires-clause-ordered : goal.put_waiting-requires-clause-ordered
 put_waiting-requires-clause-ordered c =
-    subst (IsStrictlySortedBy job_cmp) (sym (c.deref-in-Some.ensures.value ∙ ap (λ (F : Farm). F.jobs) c.loop-claim.invariant.farm)) c.requires.sound.steady.jobs_sorted
+    subst (IsStrictlySortedBy job_cmp) (sym (c.rows-in-Some.ensures ∙ ap (λ (F : Farm). F.jobs) c.loop-claim.invariant.farm)) c.requires.sound.steady.jobs_sorted
 
 pub loop-claim-preserved : goal.loop-claim-preserved
 loop-claim-preserved c = record {
@@ -37,7 +37,7 @@ loop-claim-preserved c = record {
       c.put_waiting.new.queues
       (c.in_ok-put_waiting.ensures
       ∙ (λ i. record c.loop-claim.self.queues {
-        claims = put queued_cmp c.loop-claim.self.queues.claims (record { claim = c.in-Some.claim; kind = kind_in ((c.deref-in-Some.ensures.value ∙ ap (λ (F : Farm). F.jobs) c.loop-claim.invariant.farm) i) c.in-Some.claim });
+        claims = put queued_cmp c.loop-claim.self.queues.claims (record { claim = c.in-Some.claim; kind = kind_in ((c.rows-in-Some.ensures ∙ ap (λ (F : Farm). F.jobs) c.loop-claim.invariant.farm) i) c.in-Some.claim });
       }));
 }
 

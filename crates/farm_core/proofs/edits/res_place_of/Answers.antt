@@ -3,7 +3,7 @@ use Rattle.std.specs.Ordering.{nat_cmp}
 use Rattle.std.proofs.lemmas.Fn.{always_returns_same}
 use Rattle.farm_types.specs.declared.rows.ResRow.{ResRow}
 use Rattle.farm_core.proofs.Windows.{searched}
-use Rattle.farm_core.proofs.held_edits.res_place_of.Goals as goal
+use Rattle.farm_core.proofs.edits.res_place_of.Goals as goal
 
 pub returns-in-Ok-clause-place : goal.returns-in-Ok-clause-place
 returns-in-Ok-clause-place c = searched (λ (r : ResRow). r.number) c.args.reservations.now c.args.number c.requires (Ok c.in-Ok.at) c.in-Ok.ensures.bound

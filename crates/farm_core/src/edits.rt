@@ -20,12 +20,14 @@ use crate::draft::Draft;
 use crate::edit::change_rows;
 use crate::held::{Becomes, OfJobs, OfReservations};
 use crate::job_edit::JobEdit;
+use crate::job_table::JobTable;
 use crate::leases::note_leases;
 use crate::res_edit::ResEdit;
 use crate::tables::Tables;
 use farm_types::calls::Changes;
 use farm_types::rows::{JobRow, ResRow};
 use std::alloc::AllocError;
+use std::mem::replace;
 
 /// How far the numbers of a group's members reach.
 pub const GROUP_REACH: u64 = 4;
@@ -43,23 +45,6 @@ pub fn place_of(jobs: &[JobRow], number: u64) -> usize
         Ok(at) => at,
         Err(at) => at,
     }
-}
-
-/// How many jobs have a smaller number: where the job of that number is one of the few from a guess
-/// on without a search, else by binary search.
-pub fn place_near(jobs: &[JobRow], guess: usize, number: u64) -> usize
-    requires { IsStrictlySortedBy job_cmp jobs.now }
-    ensures within { result ≤ length jobs.now }
-    ensures place { IsPlaceOf (λ (r : JobRow). r.number) jobs.now number result }
-{
-    for place in guess..guess.saturating_add(GUESS_REACH) {
-        if let Some(row) = jobs.get(place) {
-            if row.number == number {
-                return place;
-            }
-        }
-    }
-    place_of(jobs, number)
 }
 
 /// How many reservations have a smaller number, by binary search.
@@ -85,15 +70,13 @@ impl Draft {
                   (job_changed edit.entry) self.farm.jobs;
             }) self) }
     {
-        let start = place_of(&self.tables.jobs, edit.first());
-        let end = place_of(&self.tables.jobs, edit.first() + GROUP_REACH);
-        change_rows(
-            &mut self.tables.jobs,
-            &mut self.changes.jobs,
-            start,
-            end,
-            &edit,
-        )?;
+        let rows = self.tables.jobs.rows();
+        let start = place_of(rows, edit.first());
+        let end = place_of(rows, edit.first() + GROUP_REACH);
+        let none = JobTable::new(*self.tables.types.allocator());
+        let former = replace(&mut self.tables.jobs, none);
+        let jobs = former.change(&mut self.changes.jobs, start, end, edit)?;
+        self.tables.jobs = jobs;
         Ok(self)
     }
 
@@ -114,7 +97,7 @@ impl Draft {
     {
         let end = self.tables.boards.len();
         let held = OfJobs {
-            jobs: &self.tables.jobs,
+            jobs: self.tables.jobs.rows(),
             edit,
             becomes,
         };
@@ -176,8 +159,8 @@ impl Draft {
         Ok(self)
     }
 
-    /// Changes one reservation, told by its number, with no change of its board. If its lease may end
-    /// it is noted.
+    /// Changes one reservation, told by its number, with no change of its board. If its lease may
+    /// end it is noted.
     pub fn edit_reservation(mut self, number: u64, edit: ResEdit<'_>) -> Result<Draft, AllocError>
         requires number { IsSmall number }
         requires one { (r : ResRow) → res_passes edit r ≡ (r.number == number) }

@@ -1,0 +1,24 @@
+use Rattle.std.proofs.Common.{◌≡◌, ◌∙◌, ◌+◌, drop, IfSome, ap, sym, subst}
+use Rattle.farm_core.specs.Marks.{number_at}
+use Rattle.farm_core.proofs.Marks.{want_dropped, wants_alike}
+use Rattle.farm_core.proofs.Skipping.{same_members_more}
+use Rattle.farm_core.proofs.job_table.JobTable.are_alike.Goals as goal
+
+pub loop-step-preserved : goal.loop-step-preserved
+loop-step-preserved c =
+    let rows = c.self.inside.rows.items in
+    let marks = c.self.inside.marks.items in
+    let inv = c.self.invariant in
+    let step = c.loop-step.step in
+    let start = c.args.start in
+    let other_start = c.args.other_start in
+    let one : c.number_at-first.result ≡ number_at marks c.args.group (start + step) =
+    c.number_at-first.ensures ∙ ap (λ ms. number_at ms c.args.group (start + step)) c.deref.ensures.value in
+    let two : c.number_at-second.result ≡ number_at marks c.args.other (other_start + step) =
+    c.number_at-second.ensures ∙ ap (λ ms. number_at ms c.args.other (other_start + step)) c.deref-in-loop-step.ensures.value in
+    let same = c.same_number.ensures.same c.if-not-same_number.false in
+    let given = subst (λ o. IfSome o (λ k. k ≡ 0 → ⊥)) one (c.same_number.ensures.given c.if-not-same_number.false) in
+    same_members_more (drop start rows) (drop other_start rows) c.args.group c.args.other step c.loop-step.invariant
+    (want_dropped rows start c.args.group step
+    ∙ wants_alike inv.want_of c.self.inside.numbers.last rows marks c.args.group (start + step) c.args.other (other_start + step) inv.are inv.all given (sym one ∙ same ∙ two)
+    ∙ sym (want_dropped rows other_start c.args.other step))
