@@ -2,10 +2,10 @@
 use crate::boards;
 use crate::watch::Watch;
 use farm_pick::{Free, Picked, least};
-use farm_types::asked::Wants;
 use farm_types::fault::WordFault;
 use farm_types::rows::{BoardRow, Want};
 use farm_types::table::is_sorted;
+use farm_types::wants::Wants;
 use std::alloc::Global;
 
 /// Boards that fit: none, too few for four wants, just enough and behind all others, all.

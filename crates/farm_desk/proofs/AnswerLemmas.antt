@@ -6,7 +6,7 @@ use Rattle.farm_types.specs.Machine.{Answered, answer, step}
 use Rattle.farm_types.specs.Refuse.{kind_of}
 use Rattle.farm_types.specs.declared.calls.Answer.{Answer}
 use Rattle.farm_types.specs.declared.calls.Call.{Call}
-use Rattle.farm_types.specs.declared.refusal.TheConstants.{NO_MEMORY}
+use Rattle.farm_types.specs.Refusals.{no_memory}
 use Rattle.farm_core.specs.Answers.{IsChange}
 use Rattle.farm_keep.specs.Faults.{fault_code}
 use Rattle.farm_keep.specs.Kept.{Kept, Keeps, KeepsEither}
@@ -18,18 +18,18 @@ use Rattle.farm_wire.specs.declared.ask.View.{View}
 use Rattle.farm_wire.specs.declared.answers.Out.{Out}
 use Rattle.farm_wire.specs.declared.fault.AskFault.{AskFault}
 use Rattle.farm_desk.specs.Answers.{IsView, Says, denied, refusal, replied}
-use Rattle.farm_desk.specs.Due.{Closes, IsDue, IsDueTo, RunsOut}
+use Rattle.farm_desk.specs.Response.{Closes, IsResponse, IsResponseTo, RunsOut}
 use Rattle.farm_desk.specs.Heard.{HearsNothing}
 use Rattle.farm_desk.specs.Made.{IsMadeOf, IsMadeOfNothing, IsMadeOfOne}
 use Rattle.farm_desk.specs.declared.fault.DeskFault.{DeskFault}
 
-due_when_short : {S : Type 0} (g : Ghosts S) (old new : Kept S) (what : Result Ask Denial) (bytes : List ℕ) (end : DeskFault)
-    → end ≡ DeskFault.NoMemory → RunsOut g old new what bytes → IsDueTo g old new what bytes (Err end)
-due_when_short g old new what bytes DeskFault.NoMemory e out = out
-due_when_short g old new what bytes DeskFault.Read e out = absurd (cc)
-due_when_short g old new what bytes DeskFault.Write e out = absurd (cc)
-due_when_short g old new what bytes (DeskFault.Keep fault) e out = absurd (cc)
-due_when_short g old new what bytes (DeskFault.File fault) e out = absurd (cc)
+response_when_short : {S : Type 0} (g : Ghosts S) (old new : Kept S) (what : Result Ask Denial) (bytes : List ℕ) (end : DeskFault)
+    → end ≡ DeskFault.NoMemory → RunsOut g old new what bytes → IsResponseTo g old new what bytes (Err end)
+response_when_short g old new what bytes DeskFault.NoMemory e out = out
+response_when_short g old new what bytes DeskFault.Read e out = absurd (cc)
+response_when_short g old new what bytes DeskFault.Write e out = absurd (cc)
+response_when_short g old new what bytes (DeskFault.Keep fault) e out = absurd (cc)
+response_when_short g old new what bytes (DeskFault.File fault) e out = absurd (cc)
 
 -- an answer that is one of some
 pub made_of_one : (P : Out → Type 0) (out : Out) (bytes : List ℕ) (end : Result ℕ DeskFault) → P out → IsMadeOf out bytes end → IsMadeOfOne P bytes end
@@ -37,42 +37,42 @@ made_of_one P out bytes (Ok status) is made = (out, is, made)
 made_of_one P out bytes (Err fault) is made = made
 
 -- there was no memory for any of them
-pub short_of_all : (P : Out → Type 0) (bytes : List ℕ) (end : Result ℕ DeskFault) → bytes ≡ reply_bytes (refusal NO_MEMORY) → end ≡ Err DeskFault.NoMemory → IsMadeOfOne P bytes end
+pub short_of_all : (P : Out → Type 0) (bytes : List ℕ) (end : Result ℕ DeskFault) → bytes ≡ reply_bytes (refusal no_memory) → end ≡ Err DeskFault.NoMemory → IsMadeOfOne P bytes end
 short_of_all P bytes end says ends = subst (IsMadeOfOne P bytes) (sym ends) (record { fault_is = refl; bytes_are = says })
 
 -- a view that was shown, or for which there was no memory
-pub view_is_due : {S : Type 0} (g : Ghosts S) (k : Kept S) (view : View) (bytes : List ℕ) (end : Result ℕ DeskFault)
-    → k.is_open ≡ true → IsMadeOfOne (IsView view k.farm.farm) bytes end → IsDueTo g k k (Ok (Ask.View view)) bytes end
-view_is_due g k view bytes (Ok status) opened made = record { was_open = opened; out = made.0; shows = made.1; says = made.2; rests = refl }
-view_is_due g k view bytes (Err fault) opened made =
-    due_when_short g k k (Ok (Ask.View view)) bytes fault made.fault_is (record { says = made.bytes_are; was_open = opened; stays_open = refl; farm = refl })
+pub view_is_response : {S : Type 0} (g : Ghosts S) (k : Kept S) (view : View) (bytes : List ℕ) (end : Result ℕ DeskFault)
+    → k.is_open ≡ true → IsMadeOfOne (IsView view k.farm.farm) bytes end → IsResponseTo g k k (Ok (Ask.View view)) bytes end
+view_is_response g k view bytes (Ok status) opened made = record { was_open = opened; out = made.0; shows = made.1; says = made.2; rests = refl }
+view_is_response g k view bytes (Err fault) opened made =
+    response_when_short g k k (Ok (Ask.View view)) bytes fault made.fault_is (record { says = made.bytes_are; was_open = opened; stays_open = refl; farm = refl })
 
 -- a denial that was made, or for which there was no memory
-pub denial_is_due : {S : Type 0} (g : Ghosts S) (k : Kept S) (why : Denial) (bytes : List ℕ) (end : Result ℕ DeskFault)
-    → IsMadeOf (denied why) bytes end → IsDueTo g k k (Err why) bytes end
-denial_is_due g k why bytes (Ok status) made = record { says = made; rests = refl }
-denial_is_due g k why bytes (Err fault) made =
-    due_when_short g k k (Err why) bytes fault made.fault_is (record { says = made.bytes_are; was_open = tt; stays_open = refl; farm = refl })
+pub denial_is_response : {S : Type 0} (g : Ghosts S) (k : Kept S) (why : Denial) (bytes : List ℕ) (end : Result ℕ DeskFault)
+    → IsMadeOf (denied why) bytes end → IsResponseTo g k k (Err why) bytes end
+denial_is_response g k why bytes (Ok status) made = record { says = made; rests = refl }
+denial_is_response g k why bytes (Err fault) made =
+    response_when_short g k k (Err why) bytes fault made.fault_is (record { says = made.bytes_are; was_open = tt; stays_open = refl; farm = refl })
 
 -- nothing was asked, and the answer says why
-pub nothing_is_due : {S : Type 0} (g : Ghosts S) (k : Kept S) (input rest : Option (List ℕ)) (now : ℕ) (fault : AskFault) (bytes : List ℕ) (end : Result ℕ DeskFault)
-    → HearsNothing input rest now fault → IsMadeOfNothing fault bytes end → IsDue g k k input rest now bytes end
-nothing_is_due g k input rest now AskFault.NoMemory bytes end hears made =
+pub nothing_is_response : {S : Type 0} (g : Ghosts S) (k : Kept S) (input rest : Option (List ℕ)) (now : ℕ) (fault : AskFault) (bytes : List ℕ) (end : Result ℕ DeskFault)
+    → HearsNothing input rest now fault → IsMadeOfNothing fault bytes end → IsResponse g k k input rest now bytes end
+nothing_is_response g k input rest now AskFault.NoMemory bytes end hears made =
     inr (record { fault = made.0; hears = hears; says = made.1; rests = refl })
-nothing_is_due g k input rest now (AskFault.Refused refusal) bytes end hears made =
-    inl (record { what = Err (refused refusal.code); hears = hears; due = denial_is_due g k (refused refusal.code) bytes end made })
-nothing_is_due g k input rest now (AskFault.Method allowed) bytes end hears made =
-    inl (record { what = Err (other_methods allowed); hears = hears; due = denial_is_due g k (other_methods allowed) bytes end made })
+nothing_is_response g k input rest now (AskFault.Refused refusal) bytes end hears made =
+    inl (record { what = Err (refused refusal.code); hears = hears; response = denial_is_response g k (refused refusal.code) bytes end made })
+nothing_is_response g k input rest now (AskFault.Method allowed) bytes end hears made =
+    inl (record { what = Err (other_methods allowed); hears = hears; response = denial_is_response g k (other_methods allowed) bytes end made })
 
 -- ---- calls
 
 -- a call that the machine answered, or for whose answer there was no memory
-pub call_is_due : {S : Type 0} (g : Ghosts S) (old new : Kept S) (call : Call) (told : Answered) (bytes : List ℕ) (end : Result ℕ DeskFault)
+pub call_is_response : {S : Type 0} (g : Ghosts S) (old new : Kept S) (call : Call) (told : Answered) (bytes : List ℕ) (end : Result ℕ DeskFault)
     → told ≡ answer old.farm.farm call → new.farm.farm ≡ step old.farm.farm call
     → (old.is_open ≡ true) × (new.is_open ≡ true) → (Keeps g old → Keeps g new)
     → IsMadeOf (replied (kind_of call.cmd) told) bytes end
-    → IsDueTo g old new (Ok (Ask.Call call)) bytes end
-call_is_due g old new call told bytes (Ok status) same farm opened stands made =
+    → IsResponseTo g old new (Ok (Ask.Call call)) bytes end
+call_is_response g old new call told bytes (Ok status) same farm opened stands made =
     record {
       was_open = opened.0;
       stays_open = opened.1;
@@ -80,8 +80,8 @@ call_is_due g old new call told bytes (Ok status) same farm opened stands made =
       farm = farm;
       stands = stands;
     }
-call_is_due g old new call told bytes (Err fault) same farm opened stands made =
-    due_when_short g old new (Ok (Ask.Call call)) bytes fault made.fault_is
+call_is_response g old new call told bytes (Err fault) same farm opened stands made =
+    response_when_short g old new (Ok (Ask.Call call)) bytes fault made.fault_is
     (record { says = made.bytes_are; was_open = opened.0; stays_open = opened.1 ∙ sym opened.0; farm = inr (record { was_open = opened.0; farm = farm; stands = stands }) })
 
 open_unless : (b : Bool) → (b ≡ false → ⊥) → b ≡ true
@@ -93,7 +93,7 @@ abbrev acted : KeepFault → Result Answer KeepFault
 acted fault = Err fault
 
 -- a call at which the keeper gave a fault
-pub fault_is_due : {S : Type 0} (g : Ghosts S) (old new : Kept S) (call : Call) (fault : KeepFault) (bytes : List ℕ) (end : Result ℕ DeskFault)
+pub fault_is_response : {S : Type 0} (g : Ghosts S) (old new : Kept S) (call : Call) (fault : KeepFault) (bytes : List ℕ) (end : Result ℕ DeskFault)
     → (acted fault ≡ Err KeepFault.NoMemory → (new.is_open ≡ false) × (new.conn ≡ old.conn) × IsChange (answer old.farm.farm call))
     → (acted fault ≡ Err KeepFault.Store → (new.is_open ≡ false) × IsChange (answer old.farm.farm call)
     × (Keeps g old → KeepsEither g new old.farm.farm (step old.farm.farm call)))
@@ -101,24 +101,24 @@ pub fault_is_due : {S : Type 0} (g : Ghosts S) (old new : Kept S) (call : Call) 
     → (acted fault ≡ Err KeepFault.Closed → new ≡ old)
     → (acted fault ≢ Err KeepFault.BadStore) × (acted fault ≢ Err KeepFault.OldSchema) × (acted fault ≢ Err KeepFault.NewSchema)
     → bytes ≡ reply_bytes (refusal (fault_code fault)) → end ≡ Err (DeskFault.Keep fault)
-    → IsDueTo g old new (Ok (Ask.Call call)) bytes end
-fault_is_due g old new call KeepFault.NoMemory bytes end memory store closed still other says ends =
+    → IsResponseTo g old new (Ok (Ask.Call call)) bytes end
+fault_is_response g old new call KeepFault.NoMemory bytes end memory store closed still other says ends =
     let lacks = memory refl in
     let closes : Closes g old new (Ask.Call call) KeepFault.NoMemory bytes = record {
       says = says;
       is_closed = lacks.0;
       cause = record { was_open = open_unless old.is_open (λ shut. let e = closed.1 shut in absurd (cc)); change = lacks.2; store = lacks.1 };
     } in
-    subst (λ e. IsDueTo g old new (Ok (Ask.Call call)) bytes e) (sym ends) closes
-fault_is_due g old new call KeepFault.Store bytes end memory store closed still other says ends =
+    subst (λ e. IsResponseTo g old new (Ok (Ask.Call call)) bytes e) (sym ends) closes
+fault_is_response g old new call KeepFault.Store bytes end memory store closed still other says ends =
     let loses = store refl in
     let closes : Closes g old new (Ask.Call call) KeepFault.Store bytes = record {
       says = says;
       is_closed = loses.0;
       cause = record { was_open = open_unless old.is_open (λ shut. let e = closed.1 shut in absurd (cc)); change = loses.1; leaves = loses.2 };
     } in
-    subst (λ e. IsDueTo g old new (Ok (Ask.Call call)) bytes e) (sym ends) closes
-fault_is_due g old new call KeepFault.Closed bytes end memory store closed still other says ends =
+    subst (λ e. IsResponseTo g old new (Ok (Ask.Call call)) bytes e) (sym ends) closes
+fault_is_response g old new call KeepFault.Closed bytes end memory store closed still other says ends =
     let same = still refl in
     let shut = closed.0 refl in
     let closes : Closes g old new (Ask.Call call) KeepFault.Closed bytes = record {
@@ -126,7 +126,7 @@ fault_is_due g old new call KeepFault.Closed bytes end memory store closed still
       is_closed = ap (λ (k : Kept _). k.is_open) same ∙ shut;
       cause = record { was_closed = shut; rests = same };
     } in
-    subst (λ e. IsDueTo g old new (Ok (Ask.Call call)) bytes e) (sym ends) closes
-fault_is_due g old new call KeepFault.BadStore bytes end memory store closed still other says ends = absurd (other.0 refl)
-fault_is_due g old new call KeepFault.OldSchema bytes end memory store closed still other says ends = absurd (other.1 refl)
-fault_is_due g old new call KeepFault.NewSchema bytes end memory store closed still other says ends = absurd (other.2 refl)
+    subst (λ e. IsResponseTo g old new (Ok (Ask.Call call)) bytes e) (sym ends) closes
+fault_is_response g old new call KeepFault.BadStore bytes end memory store closed still other says ends = absurd (other.0 refl)
+fault_is_response g old new call KeepFault.OldSchema bytes end memory store closed still other says ends = absurd (other.1 refl)
+fault_is_response g old new call KeepFault.NewSchema bytes end memory store closed still other says ends = absurd (other.2 refl)

@@ -22,7 +22,7 @@ use Rattle.farm_wire.specs.declared.ask.View.{View}
 use Rattle.farm_wire.specs.declared.answers.Out.{Out}
 use Rattle.farm_desk.specs.Heard.{Asks, Hears}
 use Rattle.farm_desk.specs.Answers.{Answers, Says, Shows, IsView, denied, replied}
-use Rattle.farm_desk.specs.Due.{IsDue}
+use Rattle.farm_desk.specs.Response.{IsResponse}
 use Rattle.farm_desk.specs.Ends.{IsAnswered}
 use Rattle.farm_desk.specs.Imports.{Reaches}
 use Rattle.farm_desk.specs.Conversations.{Desk, Converses, Talk, ConverseInTurn, ConverseApart, AnswersAll, StopsAt, Exchange, talk_of, calls_in, calls_of, MachineSays, AreTold, ActAsRun, AnsweredActAsRun, IsSentAgain}
@@ -82,13 +82,13 @@ stops_at g old between new moments i now fault low here all h =
 -- what the conversation came to before its answer was written: nothing was read, or an answer was due, which ends it unless the writer failed
 pub record IsLed {S : Type 0} (g : Ghosts S) (old new : Desk S) (now : ℕ) (end : Result ℕ DeskFault) : Type 0 where
   pub bytes : List ℕ
-  pub due_end : Result ℕ DeskFault
-  pub due : IsDue g old.keeper new.keeper old.input new.input now bytes due_end
-  pub same : (end ≡ due_end) ⊎ (end ≡ Err DeskFault.Write)
+  pub response_end : Result ℕ DeskFault
+  pub response : IsResponse g old.keeper new.keeper old.input new.input now bytes response_end
+  pub same : (end ≡ response_end) ⊎ (end ≡ Err DeskFault.Write)
 
 led_told : {S : Type 0} (g : Ghosts S) (old new : Desk S) (now : ℕ) (end : Result ℕ DeskFault)
-    → IsAnswered (IsDue g old.keeper new.keeper old.input new.input now) old.output new.output end → IsLed g old new now end
-led_told g old new now end a = record { bytes = a.bytes; due_end = end; due = a.due; same = inl refl }
+    → IsAnswered (IsResponse g old.keeper new.keeper old.input new.input now) old.output new.output end → IsLed g old new now end
+led_told g old new now end a = record { bytes = a.bytes; response_end = end; response = a.response; same = inl refl }
 
 pub led : {S : Type 0} (g : Ghosts S) (old new : Desk S) (now : ℕ) (end : Result ℕ DeskFault)
     → Converses g old new now end → (new.keeper ≡ old.keeper) ⊎ IsLed g old new now end
@@ -97,7 +97,7 @@ led g old new now (Err DeskFault.NoMemory) h = inr (led_told g old new now (Err 
 led g old new now (Err DeskFault.Read) h = inl (h.unread refl).rests
 led g old new now (Err DeskFault.Write) h =
     let u = h.unwritten refl in
-    inr (record { bytes = u.bytes; due_end = u.end; due = u.due; same = inr refl })
+    inr (record { bytes = u.bytes; response_end = u.end; response = u.response; same = inr refl })
 led g old new now (Err (DeskFault.Keep fault)) h = inr (led_told g old new now (Err (DeskFault.Keep fault)) (h.answered tt))
 led g old new now (Err (DeskFault.File fault)) h = inr (led_told g old new now (Err (DeskFault.File fault)) (h.answered tt))
 
@@ -167,13 +167,13 @@ not_memory : (status : ℕ) → Ok status ≡ Err DeskFault.NoMemory → ⊥
 not_memory status e = cc
 
 one_of : {S : Type 0} (g : Ghosts S) (old new : Desk S) (input held bytes : List ℕ) (now status : ℕ) → old.input ≡ Some input → old.output ≡ Some held
-    → IsDue g old.keeper new.keeper old.input new.input now bytes (Ok status) → Appends old.output new.output bytes → IsOne g old new input held now (Ok status)
-one_of g old new input held bytes now status i o (inl due) w =
-    let hears : Hears (Some input) new.input now due.what = subst (λ x. Hears x new.input now due.what) i due.hears in
+    → IsResponse g old.keeper new.keeper old.input new.input now bytes (Ok status) → Appends old.output new.output bytes → IsOne g old new input held now (Ok status)
+one_of g old new input held bytes now status i o (inl response) w =
+    let hears : Hears (Some input) new.input now response.what = subst (λ x. Hears x new.input now response.what) i response.hears in
     let known = known_rest input new.input hears.used hears.taken in
-    let all = reached g old.keeper new.keeper due.what bytes status due.due in
+    let all = reached g old.keeper new.keeper response.what bytes status response.response in
     record {
-      exchange = record { now = now; request = hears.used; asked = due.what; told = all.out; answer = bytes; status = status };
+      exchange = record { now = now; request = hears.used; asked = response.what; told = all.out; answer = bytes; status = status };
       rest = known.0;
       when = refl;
       status = refl;
@@ -191,7 +191,7 @@ one : {S : Type 0} (g : Ghosts S) (old new : Desk S) (input held : List ℕ) (no
     → IsOk end → Converses g old new now end → IsOne g old new input held now end
 one g old new input held now (Ok status) i o ok h =
     let a = h.answered tt in
-    one_of g old new input held a.bytes now status i o a.due a.written
+    one_of g old new input held a.bytes now status i o a.response a.written
 one g old new input held now (Err fault) i o ok h = absurd (let no : false ≡ true = ok in cc)
 
 -- one call list after another

@@ -14,7 +14,7 @@ use Rattle.farm_keep.specs.declared.fault.KeepFault.{KeepFault}
 use Rattle.farm_wire.specs.Reading.{Denial}
 use Rattle.farm_wire.specs.declared.ask.Ask.{Ask}
 use Rattle.farm_desk.specs.Heard.{Hears}
-use Rattle.farm_desk.specs.Due.{IsDue, IsDueTo, RestsOrIsDone, Cause}
+use Rattle.farm_desk.specs.Response.{IsResponse, IsResponseTo, RestsOrIsDone, Cause}
 use Rattle.farm_desk.specs.Imports.{Reaches}
 use Rattle.farm_desk.specs.Conversations.{Desk, Converses, Talk, ConverseInTurn, calls_in, AsksCalls, IsDoneOf, LeavesOpen, LeavesBy, IsClosing, OpenKeepsDone, ClosedKeepsPrefix}
 use Rattle.farm_desk.specs.declared.fault.DeskFault.{DeskFault}
@@ -27,19 +27,19 @@ both_ways b opened closed = absurd (let same : true ≡ false = sym opened ∙ c
 
 -- the keeper stays as open as it was, or is closed
 asked_closes : {S : Type 0} (g : Ghosts S) (old new : Kept S) (asked : Result Ask Denial) (bytes : List ℕ) (end : Result ℕ DeskFault)
-    → IsDueTo g old new asked bytes end → (new.is_open ≡ old.is_open) ⊎ (new.is_open ≡ false)
-asked_closes g old new asked bytes (Ok status) due = inl (reached g old new asked bytes status due).reaches.opened
-asked_closes g old new asked bytes (Err DeskFault.NoMemory) due = inl due.stays_open
-asked_closes g old new (Ok what) bytes (Err (DeskFault.Keep fault)) due = inr due.is_closed
-asked_closes g old new (Err why) bytes (Err (DeskFault.Keep fault)) due = absurd due
-asked_closes g old new asked bytes (Err DeskFault.Read) due = absurd due
-asked_closes g old new asked bytes (Err DeskFault.Write) due = absurd due
-asked_closes g old new asked bytes (Err (DeskFault.File fault)) due = absurd due
+    → IsResponseTo g old new asked bytes end → (new.is_open ≡ old.is_open) ⊎ (new.is_open ≡ false)
+asked_closes g old new asked bytes (Ok status) response = inl (reached g old new asked bytes status response).reaches.opened
+asked_closes g old new asked bytes (Err DeskFault.NoMemory) response = inl response.stays_open
+asked_closes g old new (Ok what) bytes (Err (DeskFault.Keep fault)) response = inr response.is_closed
+asked_closes g old new (Err why) bytes (Err (DeskFault.Keep fault)) response = absurd response
+asked_closes g old new asked bytes (Err DeskFault.Read) response = absurd response
+asked_closes g old new asked bytes (Err DeskFault.Write) response = absurd response
+asked_closes g old new asked bytes (Err (DeskFault.File fault)) response = absurd response
 
-due_closes : {S : Type 0} (g : Ghosts S) (old new : Desk S) (now : ℕ) (bytes : List ℕ) (end : Result ℕ DeskFault)
-    → IsDue g old.keeper new.keeper old.input new.input now bytes end → (new.keeper.is_open ≡ old.keeper.is_open) ⊎ (new.keeper.is_open ≡ false)
-due_closes g old new now bytes end (inl due) = asked_closes g old.keeper new.keeper due.what bytes end due.due
-due_closes g old new now bytes end (inr short) = inl (ap (λ k. k.is_open) short.rests)
+response_closes : {S : Type 0} (g : Ghosts S) (old new : Desk S) (now : ℕ) (bytes : List ℕ) (end : Result ℕ DeskFault)
+    → IsResponse g old.keeper new.keeper old.input new.input now bytes end → (new.keeper.is_open ≡ old.keeper.is_open) ⊎ (new.keeper.is_open ≡ false)
+response_closes g old new now bytes end (inl response) = asked_closes g old.keeper new.keeper response.what bytes end response.response
+response_closes g old new now bytes end (inr short) = inl (ap (λ k. k.is_open) short.rests)
 
 still_closed : {S : Type 0} (g : Ghosts S) (old new : Desk S) (now : ℕ) (end : Result ℕ DeskFault)
     → Converses g old new now end → old.keeper.is_open ≡ false → new.keeper.is_open ≡ false
@@ -51,7 +51,7 @@ still_closed g old new now end h closed = by (led g old new now end h)
 
     by : (new.keeper ≡ old.keeper) ⊎ IsLed g old new now end → new.keeper.is_open ≡ false
     by (inl rests) = ap (λ k. k.is_open) rests ∙ closed
-    by (inr l) = from (due_closes g old new now l.bytes l.due_end l.due)
+    by (inr l) = from (response_closes g old new now l.bytes l.response_end l.response)
 
 -- a closed keeper stays closed over all of them
 all_closed : {S : Type 0} (g : Ghosts S) (talks : List Talk) (old new : Desk S) → ConverseInTurn g talks old new → old.keeper.is_open ≡ false → new.keeper.is_open ≡ false
@@ -109,36 +109,36 @@ out_of_memory g old new now end (Ok (Ask.Call call)) lost hears same (inr d) =
 out_of_memory g old new now end (Ok view) lost hears same rests = nothing_done g old new now end rests
 out_of_memory g old new now end (Err why) lost hears same rests = nothing_done g old new now end rests
 
-asked_part : {S : Type 0} (g : Ghosts S) (old new : Desk S) (now : ℕ) (end due_end : Result ℕ DeskFault) (asked : Result Ask Denial) (bytes : List ℕ)
-    → (end ≡ due_end) ⊎ (end ≡ Err DeskFault.Write) → new.keeper.is_open ≡ true → Hears old.input new.input now asked
-    → IsDueTo g old.keeper new.keeper asked bytes due_end → IsPart g old new now end
-asked_part g old new now end (Ok status) asked bytes same opened hears due =
+asked_part : {S : Type 0} (g : Ghosts S) (old new : Desk S) (now : ℕ) (end response_end : Result ℕ DeskFault) (asked : Result Ask Denial) (bytes : List ℕ)
+    → (end ≡ response_end) ⊎ (end ≡ Err DeskFault.Write) → new.keeper.is_open ≡ true → Hears old.input new.input now asked
+    → IsResponseTo g old.keeper new.keeper asked bytes response_end → IsPart g old new now end
+asked_part g old new now end (Ok status) asked bytes same opened hears response =
     record {
       done = calls_in asked;
       asked = calls_in asked;
       asks = inl (asked, hears, refl);
       done_of = all_of end (calls_in asked);
-      reaches = (reached g old.keeper new.keeper asked bytes status due).reaches;
+      reaches = (reached g old.keeper new.keeper asked bytes status response).reaches;
     }
-asked_part g old new now end (Err DeskFault.NoMemory) asked bytes same opened hears due =
-    out_of_memory g old new now end asked same hears due.stays_open due.farm
-asked_part g old new now end (Err (DeskFault.Keep fault)) (Ok what) bytes same opened hears due = both_ways new.keeper.is_open opened due.is_closed
-asked_part g old new now end (Err (DeskFault.Keep fault)) (Err why) bytes same opened hears due = absurd due
-asked_part g old new now end (Err DeskFault.Read) asked bytes same opened hears due = absurd due
-asked_part g old new now end (Err DeskFault.Write) asked bytes same opened hears due = absurd due
-asked_part g old new now end (Err (DeskFault.File fault)) asked bytes same opened hears due = absurd due
+asked_part g old new now end (Err DeskFault.NoMemory) asked bytes same opened hears response =
+    out_of_memory g old new now end asked same hears response.stays_open response.farm
+asked_part g old new now end (Err (DeskFault.Keep fault)) (Ok what) bytes same opened hears response = both_ways new.keeper.is_open opened response.is_closed
+asked_part g old new now end (Err (DeskFault.Keep fault)) (Err why) bytes same opened hears response = absurd response
+asked_part g old new now end (Err DeskFault.Read) asked bytes same opened hears response = absurd response
+asked_part g old new now end (Err DeskFault.Write) asked bytes same opened hears response = absurd response
+asked_part g old new now end (Err (DeskFault.File fault)) asked bytes same opened hears response = absurd response
 
 part : {S : Type 0} (g : Ghosts S) (old new : Desk S) (now : ℕ) (end : Result ℕ DeskFault) → new.keeper.is_open ≡ true → Converses g old new now end → IsPart g old new now end
 part g old new now end opened h = by (led g old new now end h)
   where
-    due_part : (bytes : List ℕ) (due_end : Result ℕ DeskFault) → (end ≡ due_end) ⊎ (end ≡ Err DeskFault.Write)
-        → IsDue g old.keeper new.keeper old.input new.input now bytes due_end → IsPart g old new now end
-    due_part bytes due_end same (inl due) = asked_part g old new now end due_end due.what bytes same opened due.hears due.due
-    due_part bytes due_end same (inr short) = nothing_done g old new now end short.rests
+    response_part : (bytes : List ℕ) (response_end : Result ℕ DeskFault) → (end ≡ response_end) ⊎ (end ≡ Err DeskFault.Write)
+        → IsResponse g old.keeper new.keeper old.input new.input now bytes response_end → IsPart g old new now end
+    response_part bytes response_end same (inl response) = asked_part g old new now end response_end response.what bytes same opened response.hears response.response
+    response_part bytes response_end same (inr short) = nothing_done g old new now end short.rests
 
     by : (new.keeper ≡ old.keeper) ⊎ IsLed g old new now end → IsPart g old new now end
     by (inl rests) = nothing_done g old new now end rests
-    by (inr l) = due_part l.bytes l.due_end l.same l.due
+    by (inr l) = response_part l.bytes l.response_end l.same l.response
 
 leaves_open : {S : Type 0} (g : Ghosts S) (old new : Desk S) (talk : Talk) → new.keeper.is_open ≡ true → (p : IsPart g old new talk.now talk.end) → LeavesOpen g old new talk p.done
 leaves_open g old new talk opened p =
@@ -208,18 +208,18 @@ cut_by g old new now end (Ask.Call call) KeepFault.Store opened same hears cause
     }
 cut_by g old new now end what fault opened same hears cause = absurd cause
 
-asked_cut : {S : Type 0} (g : Ghosts S) (old new : Desk S) (now : ℕ) (end due_end : Result ℕ DeskFault) (asked : Result Ask Denial) (bytes : List ℕ)
-    → old.keeper.is_open ≡ true → new.keeper.is_open ≡ false → (end ≡ due_end) ⊎ (end ≡ Err DeskFault.Write) → Hears old.input new.input now asked
-    → IsDueTo g old.keeper new.keeper asked bytes due_end → IsCut g old new now end
-asked_cut g old new now end (Ok status) asked bytes opened closed same hears due =
-    both_ways new.keeper.is_open ((reached g old.keeper new.keeper asked bytes status due).reaches.opened ∙ opened) closed
-asked_cut g old new now end (Err DeskFault.NoMemory) asked bytes opened closed same hears due =
-    both_ways new.keeper.is_open (due.stays_open ∙ opened) closed
-asked_cut g old new now end (Err (DeskFault.Keep fault)) (Ok what) bytes opened closed same hears due = cut_by g old new now end what fault opened same hears due.cause
-asked_cut g old new now end (Err (DeskFault.Keep fault)) (Err why) bytes opened closed same hears due = absurd due
-asked_cut g old new now end (Err DeskFault.Read) asked bytes opened closed same hears due = absurd due
-asked_cut g old new now end (Err DeskFault.Write) asked bytes opened closed same hears due = absurd due
-asked_cut g old new now end (Err (DeskFault.File fault)) asked bytes opened closed same hears due = absurd due
+asked_cut : {S : Type 0} (g : Ghosts S) (old new : Desk S) (now : ℕ) (end response_end : Result ℕ DeskFault) (asked : Result Ask Denial) (bytes : List ℕ)
+    → old.keeper.is_open ≡ true → new.keeper.is_open ≡ false → (end ≡ response_end) ⊎ (end ≡ Err DeskFault.Write) → Hears old.input new.input now asked
+    → IsResponseTo g old.keeper new.keeper asked bytes response_end → IsCut g old new now end
+asked_cut g old new now end (Ok status) asked bytes opened closed same hears response =
+    both_ways new.keeper.is_open ((reached g old.keeper new.keeper asked bytes status response).reaches.opened ∙ opened) closed
+asked_cut g old new now end (Err DeskFault.NoMemory) asked bytes opened closed same hears response =
+    both_ways new.keeper.is_open (response.stays_open ∙ opened) closed
+asked_cut g old new now end (Err (DeskFault.Keep fault)) (Ok what) bytes opened closed same hears response = cut_by g old new now end what fault opened same hears response.cause
+asked_cut g old new now end (Err (DeskFault.Keep fault)) (Err why) bytes opened closed same hears response = absurd response
+asked_cut g old new now end (Err DeskFault.Read) asked bytes opened closed same hears response = absurd response
+asked_cut g old new now end (Err DeskFault.Write) asked bytes opened closed same hears response = absurd response
+asked_cut g old new now end (Err (DeskFault.File fault)) asked bytes opened closed same hears response = absurd response
 
 cut : {S : Type 0} (g : Ghosts S) (old new : Desk S) (now : ℕ) (end : Result ℕ DeskFault) → old.keeper.is_open ≡ true → new.keeper.is_open ≡ false → Converses g old new now end → IsCut g old new now end
 cut g old new now end opened closed h = by (led g old new now end h)
@@ -227,14 +227,14 @@ cut g old new now end opened closed h = by (led g old new now end h)
     shut : {A : Type 0} → new.keeper ≡ old.keeper → A
     shut rests = both_ways new.keeper.is_open (ap (λ k. k.is_open) rests ∙ opened) closed
 
-    due_cut : (bytes : List ℕ) (due_end : Result ℕ DeskFault) → (end ≡ due_end) ⊎ (end ≡ Err DeskFault.Write)
-        → IsDue g old.keeper new.keeper old.input new.input now bytes due_end → IsCut g old new now end
-    due_cut bytes due_end same (inl due) = asked_cut g old new now end due_end due.what bytes opened closed same due.hears due.due
-    due_cut bytes due_end same (inr short) = shut short.rests
+    response_cut : (bytes : List ℕ) (response_end : Result ℕ DeskFault) → (end ≡ response_end) ⊎ (end ≡ Err DeskFault.Write)
+        → IsResponse g old.keeper new.keeper old.input new.input now bytes response_end → IsCut g old new now end
+    response_cut bytes response_end same (inl response) = asked_cut g old new now end response_end response.what bytes opened closed same response.hears response.response
+    response_cut bytes response_end same (inr short) = shut short.rests
 
     by : (new.keeper ≡ old.keeper) ⊎ IsLed g old new now end → IsCut g old new now end
     by (inl rests) = shut rests
-    by (inr l) = due_cut l.bytes l.due_end l.same l.due
+    by (inr l) = response_cut l.bytes l.response_end l.same l.response
 
 pub closed_keeps_prefix : {S : Type 0} (g : Ghosts S) → ClosedKeepsPrefix g
 closed_keeps_prefix g talks last old between new opened still closed h ends =

@@ -13,7 +13,7 @@ use Rattle.farm_keep.specs.declared.fault.KeepFault.{KeepFault}
 use Rattle.farm_wire.specs.Reading.{Denial}
 use Rattle.farm_wire.specs.declared.ask.Ask.{Ask}
 use Rattle.farm_desk.specs.Answers.{Answers}
-use Rattle.farm_desk.specs.Due.{Closes, ClosesIfAsked, IsDue, IsDueTo, RestsOrIsDone}
+use Rattle.farm_desk.specs.Response.{Closes, ClosesIfAsked, IsResponse, IsResponseTo, RestsOrIsDone}
 use Rattle.farm_desk.specs.Ends.{IsTold}
 use Rattle.farm_desk.specs.Serving.{ClosesAfter, PassesOn, Serves, ServesUntil}
 use Rattle.farm_desk.specs.declared.fault.DeskFault.{DeskFault}
@@ -44,10 +44,10 @@ serves_call g old new call opened stays farm stands = record {
 
 answered : {S : Type 0} (g : Ghosts S) (old new : Kept S) (what : Result Ask Denial) (bytes : List ℕ) (status : ℕ)
     → old.is_open ≡ true → Answers g old new what bytes status → Serves g old new 1
-answered g old new (Err why) bytes status opened due = rests g old new 1 opened due.rests
-answered g old new (Ok (Ask.Call call)) bytes status opened due =
-    serves_call g old new call opened (due.stays_open ∙ sym due.was_open) due.farm due.stands
-answered g old new (Ok (Ask.View view)) bytes status opened due = rests g old new 1 opened due.rests
+answered g old new (Err why) bytes status opened response = rests g old new 1 opened response.rests
+answered g old new (Ok (Ask.Call call)) bytes status opened response =
+    serves_call g old new call opened (response.stays_open ∙ sym response.was_open) response.farm response.stands
+answered g old new (Ok (Ask.View view)) bytes status opened response = rests g old new 1 opened response.rests
 
 ran_out : {S : Type 0} (g : Ghosts S) (old new : Kept S) (what : Result Ask Denial)
     → old.is_open ≡ true → new.is_open ≡ old.is_open → RestsOrIsDone g old new what → Serves g old new 1
@@ -62,35 +62,35 @@ given fault = Err (DeskFault.Keep fault)
 
 closed : {S : Type 0} (g : Ghosts S) (old new : Kept S) (what : Ask) (fault : KeepFault) (bytes : List ℕ)
     → Closes g old new what fault bytes → ServesUntil g old new 1 (given fault)
-closed g old new what KeepFault.Closed bytes due = due.cause
-closed g old new what KeepFault.BadStore bytes due = absurd due.cause
-closed g old new what KeepFault.OldSchema bytes due = absurd due.cause
-closed g old new what KeepFault.NewSchema bytes due = absurd due.cause
-closed g old new (Ask.Call call) KeepFault.NoMemory bytes due = record {
-  was_open = due.cause.was_open;
-  is_closed = due.is_closed;
+closed g old new what KeepFault.Closed bytes response = response.cause
+closed g old new what KeepFault.BadStore bytes response = absurd response.cause
+closed g old new what KeepFault.OldSchema bytes response = absurd response.cause
+closed g old new what KeepFault.NewSchema bytes response = absurd response.cause
+closed g old new (Ask.Call call) KeepFault.NoMemory bytes response = record {
+  was_open = response.cause.was_open;
+  is_closed = response.is_closed;
   calls = [];
   call = call;
   few = omega arith;
-  change = due.cause.change;
-  leaves = λ keeps. subst (λ c. KeepsFarm g (record { conn = c; farm = old.farm; is_open = old.is_open }) old.farm.farm) (sym due.cause.store) keeps;
+  change = response.cause.change;
+  leaves = λ keeps. subst (λ c. KeepsFarm g (record { conn = c; farm = old.farm; is_open = old.is_open }) old.farm.farm) (sym response.cause.store) keeps;
 }
-closed g old new (Ask.Call call) KeepFault.Store bytes due = record {
-  was_open = due.cause.was_open;
-  is_closed = due.is_closed;
+closed g old new (Ask.Call call) KeepFault.Store bytes response = record {
+  was_open = response.cause.was_open;
+  is_closed = response.is_closed;
   calls = [];
   call = call;
   few = omega arith;
-  change = due.cause.change;
-  leaves = due.cause.leaves;
+  change = response.cause.change;
+  leaves = response.cause.leaves;
 }
-closed g old new (Ask.View view) KeepFault.NoMemory bytes due = absurd due.cause
-closed g old new (Ask.View view) KeepFault.Store bytes due = absurd due.cause
+closed g old new (Ask.View view) KeepFault.NoMemory bytes response = absurd response.cause
+closed g old new (Ask.View view) KeepFault.Store bytes response = absurd response.cause
 
 closed_if_asked : {S : Type 0} (g : Ghosts S) (old new : Kept S) (what : Result Ask Denial) (fault : KeepFault) (bytes : List ℕ)
     → ClosesIfAsked g old new what fault bytes → ServesUntil g old new 1 (given fault)
-closed_if_asked g old new (Ok what) fault bytes due = closed g old new what fault bytes due
-closed_if_asked g old new (Err why) fault bytes due = absurd due
+closed_if_asked g old new (Ok what) fault bytes response = closed g old new what fault bytes response
+closed_if_asked g old new (Err why) fault bytes response = absurd response
 
 -- the same fault, of whatever there is besides
 retold : {S A : Type 0} (g : Ghosts S) (old new : Kept S) (max : ℕ) (fault : KeepFault) → ServesUntil g old new max (given fault)
@@ -103,16 +103,16 @@ retold g old new max KeepFault.OldSchema serves told same = absurd serves
 retold g old new max KeepFault.NewSchema serves told same = absurd serves
 
 asked : {S A : Type 0} (g : Ghosts S) (old new : Kept S) (what : Result Ask Denial) (bytes : List ℕ) (end : Result ℕ DeskFault) (told : Result A DeskFault)
-    → old.is_open ≡ true → PassesOn end told → IsDueTo g old new what bytes end → ServesUntil g old new 1 told
-asked g old new what bytes (Ok status) (Ok done) opened passes due = answered g old new what bytes status opened due
-asked g old new what bytes (Ok status) (Err fault) opened passes due = absurd passes
-asked g old new what bytes (Err DeskFault.NoMemory) (Ok done) opened passes due = ran_out g old new what opened due.stays_open due.farm
-asked g old new what bytes (Err DeskFault.NoMemory) (Err fault) opened passes due = absurd passes
-asked g old new what bytes (Err DeskFault.Read) told opened passes due = absurd due
-asked g old new what bytes (Err DeskFault.Write) told opened passes due = absurd due
-asked g old new what bytes (Err (DeskFault.File fault)) told opened passes due = absurd due
-asked g old new what bytes (Err (DeskFault.Keep fault)) told opened passes due =
-    retold g old new 1 fault (closed_if_asked g old new what fault bytes due) told passes
+    → old.is_open ≡ true → PassesOn end told → IsResponseTo g old new what bytes end → ServesUntil g old new 1 told
+asked g old new what bytes (Ok status) (Ok done) opened passes response = answered g old new what bytes status opened response
+asked g old new what bytes (Ok status) (Err fault) opened passes response = absurd passes
+asked g old new what bytes (Err DeskFault.NoMemory) (Ok done) opened passes response = ran_out g old new what opened response.stays_open response.farm
+asked g old new what bytes (Err DeskFault.NoMemory) (Err fault) opened passes response = absurd passes
+asked g old new what bytes (Err DeskFault.Read) told opened passes response = absurd response
+asked g old new what bytes (Err DeskFault.Write) told opened passes response = absurd response
+asked g old new what bytes (Err (DeskFault.File fault)) told opened passes response = absurd response
+asked g old new what bytes (Err (DeskFault.Keep fault)) told opened passes response =
+    retold g old new 1 fault (closed_if_asked g old new what fault bytes response) told passes
 
 not_understood : {S A : Type 0} (g : Ghosts S) (old new : Kept S) (end : Result ℕ DeskFault) (told : Result A DeskFault)
     → old.is_open ≡ true → PassesOn end told → end ≡ Err DeskFault.NoMemory → new ≡ old → ServesUntil g old new 1 told
@@ -120,31 +120,31 @@ not_understood g old new end (Ok done) opened passes short same = rests g old ne
 not_understood {A = A} g old new end (Err fault) opened passes short same =
     absurd (subst (λ e. PassesOn {A = A} e (Err fault)) short passes)
 
-due_serves : {S A : Type 0} (g : Ghosts S) (old new : Kept S) (input rest : Option (List ℕ)) (now : ℕ) (bytes : List ℕ) (end : Result ℕ DeskFault) (told : Result A DeskFault)
-    → old.is_open ≡ true → PassesOn end told → IsDue g old new input rest now bytes end → ServesUntil g old new 1 told
-due_serves g old new input rest now bytes end told opened passes (inl due) = asked g old new due.what bytes end told opened passes due.due
-due_serves g old new input rest now bytes end told opened passes (inr short) = not_understood g old new end told opened passes short.fault short.rests
+response_serves : {S A : Type 0} (g : Ghosts S) (old new : Kept S) (input rest : Option (List ℕ)) (now : ℕ) (bytes : List ℕ) (end : Result ℕ DeskFault) (told : Result A DeskFault)
+    → old.is_open ≡ true → PassesOn end told → IsResponse g old new input rest now bytes end → ServesUntil g old new 1 told
+response_serves g old new input rest now bytes end told opened passes (inl response) = asked g old new response.what bytes end told opened passes response.response
+response_serves g old new input rest now bytes end told opened passes (inr short) = not_understood g old new end told opened passes short.fault short.rests
 
 -- a conversation, by its end
 pub conversation_serves : {S A : Type 0} (g : Ghosts S) (old new : Kept S) (input rest : Option (List ℕ)) (now : ℕ) (failed : _) (held holds : Option (List ℕ))
     (end : Result ℕ DeskFault) (told : Result A DeskFault)
     → old.is_open ≡ true → PassesOn end told
-    → (end ≢ Err DeskFault.Read → IsTold (IsDue g old new input rest now) failed held holds end)
+    → (end ≢ Err DeskFault.Read → IsTold (IsResponse g old new input rest now) failed held holds end)
     → (end ≡ Err DeskFault.Read → new ≡ old)
     → ServesUntil g old new 1 told
 conversation_serves g old new input rest now failed held holds (Err DeskFault.Read) (Ok done) opened passes tells unread =
     rests g old new 1 opened (unread refl)
 conversation_serves g old new input rest now failed held holds (Err DeskFault.Read) (Err fault) opened passes tells unread = absurd passes
 conversation_serves g old new input rest now failed held holds (Ok status) told opened passes tells unread =
-    let t = tells (λ e. cc) in due_serves g old new input rest now t.bytes (Ok status) told opened passes t.due
+    let t = tells (λ e. cc) in response_serves g old new input rest now t.bytes (Ok status) told opened passes t.response
 conversation_serves g old new input rest now failed held holds (Err DeskFault.NoMemory) told opened passes tells unread =
-    let t = tells (λ e. cc) in due_serves g old new input rest now t.bytes (Err DeskFault.NoMemory) told opened passes t.due
+    let t = tells (λ e. cc) in response_serves g old new input rest now t.bytes (Err DeskFault.NoMemory) told opened passes t.response
 conversation_serves g old new input rest now failed held holds (Err DeskFault.Write) told opened passes tells unread =
-    let t = tells (λ e. cc) in due_serves g old new input rest now t.bytes (Err DeskFault.Write) told opened passes t.due
+    let t = tells (λ e. cc) in response_serves g old new input rest now t.bytes (Err DeskFault.Write) told opened passes t.response
 conversation_serves g old new input rest now failed held holds (Err (DeskFault.Keep fault)) told opened passes tells unread =
-    let t = tells (λ e. cc) in due_serves g old new input rest now t.bytes (Err (DeskFault.Keep fault)) told opened passes t.due
+    let t = tells (λ e. cc) in response_serves g old new input rest now t.bytes (Err (DeskFault.Keep fault)) told opened passes t.response
 conversation_serves g old new input rest now failed held holds (Err (DeskFault.File fault)) told opened passes tells unread =
-    let t = tells (λ e. cc) in due_serves g old new input rest now t.bytes (Err (DeskFault.File fault)) told opened passes t.due
+    let t = tells (λ e. cc) in response_serves g old new input rest now t.bytes (Err (DeskFault.File fault)) told opened passes t.response
 
 -- ---- one connection after others
 

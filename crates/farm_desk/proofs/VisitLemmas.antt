@@ -6,7 +6,7 @@ use Rattle.sqlite_trees.specs.declared.store.Store.{Ghosts}
 use Rattle.farm_keep.specs.Kept.{Kept}
 use Rattle.farm_desk.specs.Clients.{Came, Clientele, Comes, Goes, IsOver, Went}
 use Rattle.farm_desk.specs.Conversations.{ConversesOnce, Desk, desk}
-use Rattle.farm_desk.specs.Due.{IsDue}
+use Rattle.farm_desk.specs.Response.{IsResponse}
 use Rattle.farm_desk.specs.Ends.{IsTold, IsUnread}
 use Rattle.farm_desk.specs.Visits.{AreOf, ServesInTurn, Visit, VisitInTurn}
 use Rattle.farm_desk.specs.declared.fault.DeskFault.{DeskFault}
@@ -15,32 +15,32 @@ use Rattle.farm_desk.proofs.ConverseLemmas.{told_in_part, told_whole}
 -- ---- one conversation
 
 -- no answer that is due ends it as unwritten
-never_due : {S : Type 0} (g : Ghosts S) (old new : Kept S) (input rest : Option (List ℕ)) (now : ℕ) (bytes : List ℕ)
-    → ¬ IsDue g old new input rest now bytes (Err DeskFault.Write)
-never_due g old new input rest now bytes (inl due) = due.due
-never_due g old new input rest now bytes (inr short) = let e = short.fault in cc
+never_response : {S : Type 0} (g : Ghosts S) (old new : Kept S) (input rest : Option (List ℕ)) (now : ℕ) (bytes : List ℕ)
+    → ¬ IsResponse g old new input rest now bytes (Err DeskFault.Write)
+never_response g old new input rest now bytes (inl response) = response.response
+never_response g old new input rest now bytes (inr short) = let e = short.fault in cc
 
 -- a conversation ends as it was told, and where the writer failed as unwritten
 pub conversation : {S : Type 0} (g : Ghosts S) (old new : Desk S) (now : ℕ) (failed : Bool) (end : Result ℕ DeskFault)
-    → (end ≢ Err DeskFault.Read → IsTold (IsDue g old.keeper new.keeper old.input new.input now) failed old.output new.output end)
+    → (end ≢ Err DeskFault.Read → IsTold (IsResponse g old.keeper new.keeper old.input new.input now) failed old.output new.output end)
     → (end ≡ Err DeskFault.Read → IsUnread old.keeper new.keeper old.output new.output) → (end ≡ Err DeskFault.Read → failed ≡ false)
     → ConversesOnce g old new now
 conversation g old new now true end told unread alive = record {
   end = Err DeskFault.Write;
   converses = record {
     answered = λ t. absurd t;
-    unwritten = λ _. told_in_part (IsDue g old.keeper new.keeper old.input new.input now) true old.output new.output end told alive refl;
+    unwritten = λ _. told_in_part (IsResponse g old.keeper new.keeper old.input new.input now) true old.output new.output end told alive refl;
     unread = λ e. absurd (cc);
   };
 }
 conversation g old new now false end told unread alive = record {
   end = end;
   converses = record {
-    answered = told_whole (IsDue g old.keeper new.keeper old.input new.input now) false old.output new.output end told refl;
+    answered = told_whole (IsResponse g old.keeper new.keeper old.input new.input now) false old.output new.output end told refl;
     unwritten = λ e.
         let t = told (λ r. cc) in
-        absurd (never_due g old.keeper new.keeper old.input new.input now t.bytes
-        (subst (λ x. IsDue g old.keeper new.keeper old.input new.input now t.bytes x) e t.due));
+        absurd (never_response g old.keeper new.keeper old.input new.input now t.bytes
+        (subst (λ x. IsResponse g old.keeper new.keeper old.input new.input now t.bytes x) e t.response));
     unread = unread;
   };
 }

@@ -11,7 +11,7 @@ use Rattle.farm_types.specs.declared.rows.TypeRow.{TypeRow}
 use Rattle.farm_types.specs.declared.rows.BoardRow.{BoardRow}
 use Rattle.farm_types.specs.declared.rows.ResRow.{ResRow}
 use Rattle.farm_types.specs.declared.rows.JobRow.{JobRow}
-use Rattle.farm_types.specs.declared.refusal.TheConstants.{NO_JOB}
+use Rattle.farm_types.specs.Refusals.{no_job}
 use Rattle.farm_keep.specs.Kept.{Kept, Keeps}
 use Rattle.farm_wire.specs.Reading.{Denial, refused, other_methods}
 use Rattle.farm_wire.specs.Replies.{reply_bytes, status_or}
@@ -56,7 +56,7 @@ ListsClaims claims out = ⊥
 abbrev pub ShowsJob : Option JobRow → Out → Type 0
 ShowsJob (Some job) (Out.Job lent) = lent.now ≡ job
 ShowsJob (Some job) out = ⊥
-ShowsJob None out = out ≡ refusal NO_JOB
+ShowsJob None out = out ≡ refusal no_job
 
 -- the answer shows what the view asks for, of that farm
 abbrev pub IsView : View → Farm → Out → Type 0

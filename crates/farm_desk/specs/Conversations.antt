@@ -17,7 +17,7 @@ use Rattle.farm_wire.specs.declared.ask.Ask.{Ask}
 use Rattle.farm_wire.specs.declared.answers.Out.{Out}
 use Rattle.farm_desk.specs.Heard.{Asks, Hears}
 use Rattle.farm_desk.specs.Answers.{Says, IsView, denied, replied}
-use Rattle.farm_desk.specs.Due.{IsDue}
+use Rattle.farm_desk.specs.Response.{IsResponse}
 use Rattle.farm_desk.specs.Ends.{IsAnswered, IsUnwritten, IsUnread, IsToldBy}
 use Rattle.farm_desk.specs.Faults.{ended_order}
 use Rattle.farm_desk.specs.Imports.{Reaches}
@@ -36,9 +36,9 @@ pub record Desk (S : Type 0) : Type 0 where
 pub record Converses {S : Type 0} (g : Ghosts S) (old new : Desk S) (now : ℕ)
     (end : Result ℕ DeskFault) : Type 0 where
   pub answered : IsToldBy end
-      → IsAnswered (IsDue g old.keeper new.keeper old.input new.input now) old.output new.output end
+      → IsAnswered (IsResponse g old.keeper new.keeper old.input new.input now) old.output new.output end
   pub unwritten : end ≡ Err DeskFault.Write
-      → IsUnwritten (IsDue g old.keeper new.keeper old.input new.input now) old.output new.output
+      → IsUnwritten (IsResponse g old.keeper new.keeper old.input new.input now) old.output new.output
   pub unread : end ≡ Err DeskFault.Read → IsUnread old.keeper new.keeper old.output new.output
 
 -- one conversation at this moment, however it ends

@@ -6,18 +6,18 @@ use Rattle.farm_keep.specs.Kept.{Kept}
 use Rattle.farm_desk.specs.declared.fault.DeskFault.{DeskFault}
 
 -- the writer gained the whole answer that was due
-pub record IsAnswered (Due : List ℕ → Result ℕ DeskFault → Type 0) (held holds : Option (List ℕ))
+pub record IsAnswered (Response : List ℕ → Result ℕ DeskFault → Type 0) (held holds : Option (List ℕ))
     (end : Result ℕ DeskFault) : Type 0 where
   pub bytes : List ℕ
-  pub due : Due bytes end
+  pub response : Response bytes end
   pub written : Appends held holds bytes
 
 -- the writer gained a part of the answer that was due; all else is as if it had gained all
-pub record IsUnwritten (Due : List ℕ → Result ℕ DeskFault → Type 0) (held holds : Option (List ℕ))
+pub record IsUnwritten (Response : List ℕ → Result ℕ DeskFault → Type 0) (held holds : Option (List ℕ))
     : Type 0 where
   pub bytes : List ℕ
   pub end : Result ℕ DeskFault
-  pub due : Due bytes end
+  pub response : Response bytes end
   pub part : WritesPrefix held holds bytes
 
 -- a writer gained all of the bytes, or where it failed a part of them
@@ -26,10 +26,10 @@ Gains false held holds bytes = Appends held holds bytes
 Gains true held holds bytes = WritesPrefix held holds bytes
 
 -- the writer gained the answer that was due, or where it failed a part of it
-pub record IsTold (Due : List ℕ → Result ℕ DeskFault → Type 0) (failed : Bool)
+pub record IsTold (Response : List ℕ → Result ℕ DeskFault → Type 0) (failed : Bool)
     (held holds : Option (List ℕ)) (end : Result ℕ DeskFault) : Type 0 where
   pub bytes : List ℕ
-  pub due : Due bytes end
+  pub response : Response bytes end
   pub written : Gains failed held holds bytes
 
 -- the reader gave no request: nothing is written, and the keeper stays as it was

@@ -1,6 +1,6 @@
 -- The numbers of the desk's faults, and the program's exit statuses after them.
 use Rattle.std.specs.Prelude.{◌==◌, ℕ, Result, Ok, Err, if◌then◌else◌}
-use Rattle.farm_types.specs.declared.refusal.TheConstants.{NO_MEMORY, READ, WRITE}
+use Rattle.farm_types.specs.Refusals.{no_memory, read_fault, write_fault}
 use Rattle.farm_jobfile.specs.Reading.{code_of}
 use Rattle.farm_jobfile.specs.declared.fault.FileFault.{FileFault}
 use Rattle.farm_keep.specs.Faults.{fault_code}
@@ -10,9 +10,9 @@ use Rattle.farm_desk.specs.declared.orders.End.{End}
 use Rattle.farm_desk.specs.declared.program.TheConstants.{DONE, FAILED, NO_ROOM, REFUSED}
 
 abbrev pub fault_number : DeskFault → ℕ
-fault_number DeskFault.NoMemory = NO_MEMORY
-fault_number DeskFault.Read = READ
-fault_number DeskFault.Write = WRITE
+fault_number DeskFault.NoMemory = no_memory
+fault_number DeskFault.Read = read_fault
+fault_number DeskFault.Write = write_fault
 fault_number (DeskFault.Keep fault) = fault_code fault
 fault_number (DeskFault.File fault) = code_of fault
 

@@ -1,7 +1,7 @@
 pub mod Faults
 pub mod Heard
 pub mod Answers
-pub mod Due
+pub mod Response
 pub mod Ends
 pub mod Made
 pub mod Imports

@@ -8,7 +8,7 @@ use Rattle.farm_core.specs.Answers.{IsChange}
 use Rattle.farm_keep.specs.Kept.{Kept, Keeps, KeepsFarm, KeepsEither}
 use Rattle.farm_keep.specs.declared.fault.KeepFault.{KeepFault}
 use Rattle.farm_desk.specs.declared.fault.DeskFault.{DeskFault}
-use Rattle.farm_desk.specs.Due.{WasClosed}
+use Rattle.farm_desk.specs.Response.{WasClosed}
 use Rattle.farm_desk.specs.Imports.{Reaches}
 
 -- an open keeper stays open: it has the farm after some calls, at most one a connection, and its

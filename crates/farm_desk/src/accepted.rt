@@ -2,7 +2,7 @@
 ghost use Rattle.std.specs.Prelude.{None, ⊤};
 
 use crate::clients::{Client, Clients};
-use crate::patient::{Patient, drop_rest, limit_waits};
+use crate::deadline_stream::{DeadlineStream, drop_rest, limit_waits};
 use farm_wire::constant::no_memory_answer;
 use farm_wire::write_whole;
 use std::alloc::Global;
@@ -19,9 +19,9 @@ pub(crate) struct Accepted<'a, C: Clock> {
 }
 
 impl<'a, C: Clock> Clients for Accepted<'a, C> {
-    type Reader = BufReader<Patient<'a, C>>;
+    type Reader = BufReader<DeadlineStream<'a, C>>;
 
-    type Writer = Patient<'a, C>;
+    type Writer = DeadlineStream<'a, C>;
 
     ghost clientele = { λ _. None };
 
@@ -29,11 +29,11 @@ impl<'a, C: Clock> Clients for Accepted<'a, C> {
 
     /// The next connection. A buffer stands before its stream, so that a head that came whole costs
     /// one read; without memory for the buffer the client is told so.
-    fn next(&mut self) -> Option<Client<BufReader<Patient<'a, C>>, Patient<'a, C>>> {
+    fn next(&mut self) -> Option<Client<BufReader<DeadlineStream<'a, C>>, DeadlineStream<'a, C>>> {
         let (stream, second) = next_stream(self.listener)?;
         let now = moment(self.clock)?;
-        let mut writer = Patient::new(second, self.clock);
-        match BufReader::new(self.alloc, Patient::new(stream, self.clock)) {
+        let mut writer = DeadlineStream::new(second, self.clock);
+        match BufReader::new(self.alloc, DeadlineStream::new(stream, self.clock)) {
             Ok(reader) => Some(Client {
                 now,
                 reader,
@@ -47,7 +47,7 @@ impl<'a, C: Clock> Clients for Accepted<'a, C> {
         }
     }
 
-    fn part(&mut self, _reader: BufReader<Patient<'a, C>>, writer: Patient<'a, C>) {
+    fn part(&mut self, _reader: BufReader<DeadlineStream<'a, C>>, writer: DeadlineStream<'a, C>) {
         drop_rest(&writer.stream);
     }
 }

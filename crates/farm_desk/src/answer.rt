@@ -7,11 +7,11 @@ ghost use Rattle.farm_types.specs.Farm.{job_of};
 ghost use Rattle.farm_types.specs.Pick.{queue, shown_claim};
 ghost use Rattle.farm_types.specs.Refuse.{kind_of};
 ghost use Rattle.farm_desk.specs.Answers.{replied, IsView, ListsClaims, ShowsJob};
-ghost use Rattle.farm_desk.specs.Due.{IsDueTo};
+ghost use Rattle.farm_desk.specs.Response.{IsResponseTo};
 ghost use Rattle.farm_desk.specs.Made.{IsMadeOfOne, bytes_in};
 ghost use Rattle.farm_wire.specs.declared.ask.Ask.{Ask as Asking};
 
-use crate::due::Due;
+use crate::response::Response;
 use farm_core::farm::Farm;
 use farm_keep::{KeepFault, Keeper};
 use farm_types::calls::{Answer, Call};
@@ -22,28 +22,28 @@ use sqlite::Alter;
 use std::alloc::Global;
 
 /// The answer due to what was asked: a call is done, a view is shown.
-pub(crate) fn due_to<S: Alter>(alloc: Global, keeper: &mut Keeper<S>, ask: &Ask) -> Due
-    ensures due { IsDueTo S.Store keeper.old keeper.new (Ok ask.now)
+pub(crate) fn response_to<S: Alter>(alloc: Global, keeper: &mut Keeper<S>, ask: &Ask) -> Response
+    ensures response { IsResponseTo S.Store keeper.old keeper.new (Ok ask.now)
         (bytes_in result.bytes) result.end }
     ensures clean { doubt (state S.Store keeper.old.conn).is_clean ≤ doubt
         (state S.Store keeper.new.conn).is_clean }
 {
     match ask {
-        Ask::Call(call) => due_to_call(alloc, keeper, call),
-        Ask::View(view) => due_to_view(alloc, keeper, *view),
+        Ask::Call(call) => response_to_call(alloc, keeper, call),
+        Ask::View(view) => response_to_view(alloc, keeper, *view),
     }
 }
 
 /// The answer due to a call.
-fn due_to_call<S: Alter>(alloc: Global, keeper: &mut Keeper<S>, call: &Call) -> Due
-    ensures due { IsDueTo S.Store keeper.old keeper.new (Ok (Asking.Call call.entry.now))
+fn response_to_call<S: Alter>(alloc: Global, keeper: &mut Keeper<S>, call: &Call) -> Response
+    ensures response { IsResponseTo S.Store keeper.old keeper.new (Ok (Asking.Call call.entry.now))
         (bytes_in result.bytes) result.end }
     ensures clean { doubt (state S.Store keeper.old.conn).is_clean ≤ doubt
         (state S.Store keeper.new.conn).is_clean }
 {
     match keeper.act(call) {
-        Ok(answer) => Due::of(alloc, &reply_of(call, &answer)),
-        Err(fault) => Due::closing(fault),
+        Ok(answer) => Response::of(alloc, &reply_of(call, &answer)),
+        Err(fault) => Response::closing(fault),
     }
 }
 
@@ -58,51 +58,51 @@ fn reply_of(call: &Call, answer: &Answer) -> Out<'static>
 }
 
 /// The answer due to a view of an open keeper's farm.
-fn due_to_view<S: Alter>(alloc: Global, keeper: &Keeper<S>, view: View) -> Due
-    ensures { IsDueTo S.Store keeper.now keeper.now (Ok (Asking.View view))
+fn response_to_view<S: Alter>(alloc: Global, keeper: &Keeper<S>, view: View) -> Response
+    ensures { IsResponseTo S.Store keeper.now keeper.now (Ok (Asking.View view))
         (bytes_in result.bytes) result.end }
 {
     match keeper.farm() {
         Some(farm) => show(alloc, farm, view),
-        None => Due::closing(KeepFault::Closed),
+        None => Response::closing(KeepFault::Closed),
     }
 }
 
 /// What a view shows of a farm.
-fn show(alloc: Global, farm: &Farm, view: View) -> Due
+fn show(alloc: Global, farm: &Farm, view: View) -> Response
     requires { farm.now.failed ≡ false }
     ensures { IsMadeOfOne (IsView view farm.now.farm) (bytes_in result.bytes) result.end }
 {
     match view {
-        View::Types => Due::of(alloc, &Out::Types(farm.types())),
-        View::Boards => Due::of(alloc, &Out::Boards(farm.boards())),
-        View::Status => Due::of(alloc, &Out::Status(farm.status())),
-        View::Reservations => Due::of(alloc, &Out::Reservations(farm.reservations())),
+        View::Types => Response::of(alloc, &Out::Types(farm.types())),
+        View::Boards => Response::of(alloc, &Out::Boards(farm.boards())),
+        View::Status => Response::of(alloc, &Out::Status(farm.status())),
+        View::Reservations => Response::of(alloc, &Out::Reservations(farm.reservations())),
         View::Job(number) => show_job(alloc, farm, number),
         View::Queue => show_queue(alloc, farm),
     }
 }
 
 /// What the view of the queue shows.
-fn show_queue(alloc: Global, farm: &Farm) -> Due
+fn show_queue(alloc: Global, farm: &Farm) -> Response
     requires { farm.now.failed ≡ false }
     ensures { IsMadeOfOne (ListsClaims (map shown_claim (queue farm.now.farm)))
         (bytes_in result.bytes) result.end }
 {
     match farm.queue() {
-        Ok(claims) => Due::of(alloc, &Out::Queue(claims.as_slice())),
-        Err(_) => Due::no_memory(),
+        Ok(claims) => Response::of(alloc, &Out::Queue(claims.as_slice())),
+        Err(_) => Response::no_memory(),
     }
 }
 
 /// What the view of one job shows.
-fn show_job(alloc: Global, farm: &Farm, number: u64) -> Due
+fn show_job(alloc: Global, farm: &Farm, number: u64) -> Response
     requires { farm.now.failed ≡ false }
     ensures { IsMadeOfOne (ShowsJob (job_of farm.now.farm number))
         (bytes_in result.bytes) result.end }
 {
     match farm.job(number) {
-        Some(row) => Due::of(alloc, &Out::Job(row)),
-        None => Due::of(alloc, &Out::Refused(Refusal { code: NO_JOB })),
+        Some(row) => Response::of(alloc, &Out::Job(row)),
+        None => Response::of(alloc, &Out::Refused(Refusal { code: NO_JOB })),
     }
 }

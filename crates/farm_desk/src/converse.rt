@@ -4,14 +4,14 @@ ghost use Rattle.sqlite.specs.Held.{state};
 ghost use Rattle.sqlite_trees.specs.View.{doubt};
 ghost use Rattle.farm_http.specs.Counts.{unread, unwritten, reader_of, reading_of, writer_of};
 ghost use Rattle.farm_http.specs.Counts.{writing_of, IsSameReader, IsSameWriter, IsSpent};
-ghost use Rattle.farm_desk.specs.Due.{IsDue};
+ghost use Rattle.farm_desk.specs.Response.{IsResponse};
 ghost use Rattle.farm_desk.specs.Ends.{IsAnswered, IsUnwritten, IsUnread, IsTold, IsToldBy};
 ghost use Rattle.farm_desk.specs.Made.{bytes_in};
 
-use crate::answer::due_to;
-use crate::due::Due;
+use crate::answer::response_to;
 use crate::fault::DeskFault;
 use crate::hear::Unheard;
+use crate::response::Response;
 use crate::server::Server;
 use farm_keep::Keeper;
 use farm_wire::{CountedReader, CountedWriter, write_whole_counted};
@@ -38,12 +38,14 @@ pub fn converse<R: Read, W: Write, S: Alter>(
 ) -> Result<u16, DeskFault>
     // The answer that is due was written whole.
     ensures answered { IsToldBy result → IsAnswered
-        (IsDue S.Store keeper.old keeper.new (R.remaining reader.old) (R.remaining reader.new) now)
+        (IsResponse S.Store keeper.old keeper.new (R.remaining reader.old)
+        (R.remaining reader.new) now)
         (W.contents writer.old) (W.contents writer.new) result }
 
     // The writer failed in the middle of it.
     ensures unwritten { result ≡ Err DeskFault.Write → IsUnwritten
-        (IsDue S.Store keeper.old keeper.new (R.remaining reader.old) (R.remaining reader.new) now)
+        (IsResponse S.Store keeper.old keeper.new (R.remaining reader.old)
+        (R.remaining reader.new) now)
         (W.contents writer.old) (W.contents writer.new) }
 
     // The reader gave no request.
@@ -73,13 +75,13 @@ pub fn converse_counted<R: Read, W: Write, S: Alter>(
 
     // The answer that is due was written whole.
     ensures answered { IsToldBy result → IsAnswered
-        (IsDue S.Store keeper.old keeper.new (R.remaining (reader_of reader.old))
+        (IsResponse S.Store keeper.old keeper.new (R.remaining (reader_of reader.old))
         (R.remaining (reader_of reader.new)) now)
         (W.contents (writer_of writer.old)) (W.contents (writer_of writer.new)) result }
 
     // The writer failed in the middle of it.
     ensures unwritten { result ≡ Err DeskFault.Write → IsUnwritten
-        (IsDue S.Store keeper.old keeper.new (R.remaining (reader_of reader.old))
+        (IsResponse S.Store keeper.old keeper.new (R.remaining (reader_of reader.old))
         (R.remaining (reader_of reader.new)) now)
         (W.contents (writer_of writer.old)) (W.contents (writer_of writer.new)) }
 
@@ -118,7 +120,7 @@ impl Server {
 
         // The answer that is due was written, or where the writer failed a part of it.
         ensures told { result ≢ Err DeskFault.Read → IsTold
-            (IsDue S.Store keeper.old keeper.new (R.remaining (reader_of reader.old))
+            (IsResponse S.Store keeper.old keeper.new (R.remaining (reader_of reader.old))
             (R.remaining (reader_of reader.new)) now)
             (writing_of writer.new).failed (W.contents (writer_of writer.old))
             (W.contents (writer_of writer.new)) result }
@@ -131,32 +133,32 @@ impl Server {
         ensures clean { doubt (state S.Store keeper.old.conn).is_clean ≤ doubt
             (state S.Store keeper.new.conn).is_clean }
     {
-        let due = self.due(keeper, reader, now)?;
+        let response = self.response(keeper, reader, now)?;
         // Whether the writer failed, its count says.
-        let _ = write_whole_counted(writer, due.bytes());
-        due.end
+        let _ = write_whole_counted(writer, response.bytes());
+        response.end
     }
 
     /// The answer that is due, unless the reader gave no request.
-    fn due<R: Read, S: Alter>(
+    fn response<R: Read, S: Alter>(
         &self,
         keeper: &mut Keeper<S>,
         reader: &mut CountedReader<'_, R>,
         now: u64,
-    ) -> Result<Due, DeskFault>
+    ) -> Result<Response, DeskFault>
         requires { reading_of reader.old ≡ unread }
         ensures same { IsSameReader reader.old reader.new }
-        ensures due { IfOk result (λ due. IsDue S.Store keeper.old keeper.new
+        ensures response { IfOk result (λ response. IsResponse S.Store keeper.old keeper.new
             (R.remaining (reader_of reader.old)) (R.remaining (reader_of reader.new)) now
-            (bytes_in due.bytes) due.end) }
+            (bytes_in response.bytes) response.end) }
         ensures unread { IfErr result (λ fault. (fault ≡ DeskFault.Read)
             × IsSpent (reading_of reader.new) × (keeper.new ≡ keeper.old)) }
         ensures clean { doubt (state S.Store keeper.old.conn).is_clean ≤ doubt
             (state S.Store keeper.new.conn).is_clean }
     {
         match self.hear(reader, now) {
-            Ok(ask) => Ok(due_to(self.alloc, keeper, &ask)),
-            Err(Unheard::Unasked(fault)) => Ok(Due::to_nothing(self.alloc, fault)),
+            Ok(ask) => Ok(response_to(self.alloc, keeper, &ask)),
+            Err(Unheard::Unasked(fault)) => Ok(Response::to_nothing(self.alloc, fault)),
             Err(Unheard::Read) => Err(DeskFault::Read),
         }
     }

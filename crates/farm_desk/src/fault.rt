@@ -4,7 +4,7 @@ ghost use Rattle.farm_desk.specs.Faults.{fault_number};
 
 use farm_jobfile::FileFault;
 use farm_keep::KeepFault;
-use farm_types::refusal::{NO_MEMORY, READ, WRITE};
+use farm_types::refusal::{NO_MEMORY, READ, Refusal, WRITE};
 use thiserror::Error;
 
 /// Why a conversation or an import ended without an answer of the farm. The texts are those of the
@@ -12,13 +12,13 @@ use thiserror::Error;
 #[derive(Clone, Copy, Debug, PartialEq, Eq, Error)]
 pub enum DeskFault {
     /// There was no memory to read the request, to understand it or to answer it.
-    #[error("no memory")]
+    #[error("{}", Refusal {code: NO_MEMORY})]
     NoMemory,
     /// The reader failed, or gave no request in 80,000 calls.
-    #[error("read fault")]
+    #[error("{}", Refusal {code: READ})]
     Read,
     /// The writer failed, took no byte or was interrupted.
-    #[error("write fault")]
+    #[error("{}", Refusal {code: WRITE})]
     Write,
     /// The keeper answered a fault, and is closed.
     #[error("{0}")]

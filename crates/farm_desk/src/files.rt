@@ -8,9 +8,9 @@ ghost use Rattle.farm_desk.specs.InFiles.{MakesFarm, DeniesTables, GivesReason, 
 
 use crate::fault::DeskFault;
 use crate::ground::Ground;
-use farm_jobfile::lab::LONGEST_LAB_FILE;
 use farm_keep::{KeepFault, Keeper};
 use farm_store::laws::opened_stands;
+use farm_types::limits::LONGEST_LAB_FILE;
 use sqlite::{Alter, Connection, FileFrom, FileStore, Start};
 use sqlite_disk::Disk;
 use std::alloc::Global;

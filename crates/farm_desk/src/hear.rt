@@ -69,8 +69,8 @@ impl Server {
         ensures { (request : Request) → Spells taken.now.bytes.items taken.now.head request
             → Meets asked result (ask request now) }
     {
-        match &self.asks {
-            Some(asks) => asks.ask(self.alloc, taken, now),
+        match &self.routes {
+            Some(routes) => routes.ask(self.alloc, taken, now),
             None => Ask::of(self.alloc, taken, now),
         }
     }

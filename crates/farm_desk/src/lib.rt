@@ -4,16 +4,16 @@
 //! adds what a lab file lists; `serve` converses with one client after another, and `serve_on` with
 //! those of a listener; `program` is the program `farm`.
 //!
-//! Read `specs/` in the order Heard, Answers, Made, Due, Ends, which say what a conversation is;
-//! Imports, what an import is; Conversations, Clients, Known, Visits, Serving, what serving does;
-//! InFiles, Upgrades, what stands in files; Faults, Lines, Reports, what the program tells.
+//! Read `specs/` in the order Heard, Answers, Made, Response, Ends, which say what a conversation
+//! is; Imports, what an import is; Conversations, Clients, Known, Visits, Serving, what serving
+//! does; InFiles, Upgrades, what stands in files; Faults, Lines, Reports, what the program tells.
 #![tactic(auto)]
 
 mod accepted;
 mod answer;
 pub mod clients;
 pub mod converse;
-mod due;
+mod deadline_stream;
 pub mod fault;
 pub mod files;
 mod ground;
@@ -22,13 +22,13 @@ pub mod import;
 pub mod known;
 pub mod laws;
 pub mod orders;
-mod patient;
 pub mod program;
 mod report;
+mod response;
 pub mod serve;
 mod server;
 pub mod upgrade;
 
 pub use farm_order::fault::OrderFault;
-pub use farm_order::order::{Order, Place, Report};
+pub use farm_order::order::{Database, Order, Report};
 pub use farm_order::words::order_of;

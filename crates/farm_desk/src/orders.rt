@@ -8,15 +8,15 @@ ghost use Rattle.farm_desk.specs.Lines.{counts_line, port_line, TellsImport};
 ghost use Rattle.farm_desk.specs.Reports.{Reports, seconds_ahead};
 
 use crate::converse::converse;
-use crate::due::OK;
 use crate::fault::DeskFault;
 use crate::files::{make_farm, open_farm, read_lab};
 use crate::import::{ImportEnd, import};
 use crate::report::{report_text, zone_between};
+use crate::response::OK;
 use crate::serve::serve_on;
 use crate::upgrade::migrate_farm;
 use farm_keep::{KeepFault, Keeper};
-use farm_order::order::{Order, Place, Report};
+use farm_order::order::{Database, Order, Report};
 use farm_types::refusal::Refusal;
 use farm_wire::write_whole;
 use sqlite::{Alter, Connection, MemStore, Unknown};
@@ -50,8 +50,8 @@ pub fn carry_out<R: Read, W: Write>(
     output: &mut W,
 ) -> Result<End, DeskFault> {
     let (file, task) = match order {
-        Order::Once { place, at } => match place {
-            Place::Memory => {
+        Order::Once { database, at } => match database {
+            Database::Memory => {
                 return on_farm(
                     rt,
                     alloc,
@@ -61,7 +61,7 @@ pub fn carry_out<R: Read, W: Write>(
                     output,
                 );
             }
-            Place::File(file) => (file, Task::Answer { at }),
+            Database::File(file) => (file, Task::Answer { at }),
         },
         Order::Init { file } => return init(rt, alloc, file.as_str(), output),
         Order::Migrate { file } => return migrate(rt, alloc, file.as_str(), output),

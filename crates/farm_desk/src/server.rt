@@ -1,5 +1,5 @@
 //! What all connections share.
-use farm_wire::asks::Asks;
+use farm_wire::routes::Routes;
 use std::alloc::Global;
 
 /// What all connections share: where their memory comes from, and the router of what they ask.
@@ -7,20 +7,23 @@ use std::alloc::Global;
 #[derive(Drop)]
 pub(crate) struct Server {
     pub(crate) alloc: Global,
-    pub(crate) asks: Option<Asks>,
+    pub(crate) routes: Option<Routes>,
 }
 
 impl Server {
     /// A server of one connection.
     pub(crate) fn of_one(alloc: Global) -> Server {
-        Server { alloc, asks: None }
+        Server {
+            alloc,
+            routes: None,
+        }
     }
 
     /// A server of many connections: it builds the router now, where there is memory for it.
     pub(crate) fn of_many(alloc: Global) -> Server {
         Server {
             alloc,
-            asks: Asks::new(alloc).ok(),
+            routes: Routes::new(alloc).ok(),
         }
     }
 }

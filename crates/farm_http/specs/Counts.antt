@@ -3,7 +3,7 @@ use Rattle.std.specs.Prelude.{◌≡◌, ◌≢◌, ◌↔◌, ℕ, ◌⊎◌, B
 use Rattle.std.specs.IoError.{error_kind}
 use Rattle.std.specs.declared.io.Error.{Error}
 use Rattle.std.specs.declared.io.ErrorKind.TheVariants.{Interrupted}
-use Rattle.farm_http.specs.declared.limits.TheConstants.{MAX_TURNS}
+use Rattle.farm_types.specs.Limits.{most_reads}
 use Rattle.farm_http.specs.declared.counted_reader.CountedReader.{CountedReader}
 use Rattle.farm_http.specs.declared.counted_writer.CountedWriter.{CountedWriter}
 
@@ -18,7 +18,7 @@ unread = record { calls = 0; failed = false }
 
 -- the reader failed, or all turns were taken
 abbrev pub IsSpent : Reading → Type 0
-IsSpent count = (count.failed ≡ true) ⊎ (count.calls ≡ MAX_TURNS)
+IsSpent count = (count.failed ≡ true) ⊎ (count.calls ≡ most_reads)
 
 -- how often a writer was called, and whether it failed
 pub record Writing : Type 0 where

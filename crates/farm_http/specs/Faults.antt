@@ -1,7 +1,7 @@
 -- What a fault says of the bytes that were taken and of the reader.
 use Rattle.std.specs.Prelude.{◌≡◌, ℕ, ◌<◌, Option, Some, List, [], length, take, Result, Ok, Err, ⊤}
 use Rattle.std.specs.Io.KnownBytes.{Appends, Consumes, IsAtEnd}
-use Rattle.farm_types.specs.declared.refusal.TheConstants.{BAD_REQUEST}
+use Rattle.farm_types.specs.Refusals.{bad_request}
 use Rattle.farm_http.specs.declared.fault.WireFault.{WireFault}
 use Rattle.farm_http.specs.declared.fault.WireFault.TheVariants.{NoMemory, Read, Write, Refused}
 use Rattle.farm_http.specs.declared.taken.Taken.{Taken}
@@ -17,7 +17,7 @@ HeadFails used AtEnd Spent (Refused refusal) = HasNoHead used AtEnd refusal.code
 
 -- the input ends before n bytes
 pub record IsCut (n : ℕ) (used : List ℕ) (AtEnd : Type 0) (code : ℕ) : Type 0 where
-  pub refused : code ≡ BAD_REQUEST
+  pub refused : code ≡ bad_request
   pub end : AtEnd
   pub short : length used < n
 

@@ -8,9 +8,9 @@ use Rattle.std.specs.Str.{str_eq_ignore_ascii_case}
 use Rattle.std.specs.Str.Parse.{digits_value}
 use Rattle.httparse.specs.Grammar.{RequestHead}
 use Rattle.httparse.specs.Spans.{name_and_value}
+use Rattle.farm_types.specs.Limits.{longest_body}
 use Rattle.farm_types.specs.declared.refusal.Refusal.{Refusal}
-use Rattle.farm_types.specs.declared.refusal.TheConstants.{BAD_REQUEST, TOO_LARGE, BAD_CODING}
-use Rattle.farm_http.specs.declared.limits.TheConstants.{MAX_BODY}
+use Rattle.farm_types.specs.Refusals.{bad_request, too_large, bad_coding}
 use Rattle.farm_http.specs.declared.fields.Repeated.{Repeated}
 
 -- each field's name, and its value without the spaces and tabs at both ends
@@ -46,21 +46,21 @@ answered (Err e) = several
 abbrev pub declared_length : List ℕ → Result ℕ ℕ
 declared_length value =
     if nat_lt 0 (length value) && list_all is_ascii_digit value
-    then (if nat_le (digits_value 10 value) MAX_BODY then Ok (digits_value 10 value)
-    else Err TOO_LARGE)
-    else Err BAD_REQUEST
+    then (if nat_le (digits_value 10 value) longest_body then Ok (digits_value 10 value)
+    else Err too_large)
+    else Err bad_request
 
 -- the length that `content-length` declares: none declares 0, and two are too many
 abbrev pub content_length : Lookup → Result ℕ ℕ
 content_length absent = Ok 0
 content_length (one value) = declared_length value
-content_length several = Err BAD_REQUEST
+content_length several = Err bad_request
 
 -- a request with `transfer-encoding` is refused, whatever its value
 abbrev pub unless_coded : Lookup → Result ℕ ℕ → Result ℕ ℕ
 unless_coded absent found = found
-unless_coded (one value) found = Err BAD_CODING
-unless_coded several found = Err BAD_CODING
+unless_coded (one value) found = Err bad_coding
+unless_coded several found = Err bad_coding
 
 -- how long the body is by these fields, or the number of the refusal
 abbrev pub length_among : List (List ℕ × List ℕ) → Result ℕ ℕ

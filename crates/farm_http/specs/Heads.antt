@@ -6,14 +6,14 @@ use Rattle.httparse.specs.Grammar.{RequestHead, ReadsRequest, HasNoRequest, MayB
 use Rattle.httparse.specs.Spans.{IsRequestAt, IsRequestWithin, RequestOverflows}
 use Rattle.httparse.specs.declared.spans.HeaderSpan.{HeaderSpan}
 use Rattle.httparse.specs.declared.spans.RequestSpans.{RequestSpans}
-use Rattle.farm_types.specs.declared.refusal.TheConstants.{BAD_REQUEST, TOO_LARGE}
-use Rattle.farm_http.specs.declared.limits.TheConstants.{MAX_HEAD, MAX_FIELDS}
+use Rattle.farm_types.specs.Limits.{longest_head, most_fields}
+use Rattle.farm_types.specs.Refusals.{bad_request, too_large}
 
 -- the bytes are a head with no more fields and bytes than a head may have
 pub record IsHead (bytes : List ℕ) (h : RequestHead) : Type 0 where
   pub reads : ReadsRequest bytes h []
-  pub few : length h.fields ≤ MAX_FIELDS
-  pub short : length bytes ≤ MAX_HEAD
+  pub few : length h.fields ≤ most_fields
+  pub short : length bytes ≤ longest_head
 
 -- the prefix is no head, and more bytes can make it one
 pub record IsOpen (front : List ℕ) : Type 0 where
@@ -38,24 +38,24 @@ TellsHead bytes false = OpenBelow (length bytes) bytes
 
 -- the input ends before a head
 pub record EndsEarly (used : List ℕ) (AtEnd : Type 0) (code : ℕ) : Type 0 where
-  pub refused : code ≡ BAD_REQUEST
+  pub refused : code ≡ bad_request
   pub end : AtEnd
-  pub short : length used < MAX_HEAD
+  pub short : length used < longest_head
   pub open_lines : OpenBelow (length used) used
 
 -- the last line, and no line before it, makes a head impossible that has no more fields than it may
 pub record IsHopeless (used : List ℕ) (code : ℕ) : Type 0 where
-  pub refused : code ≡ BAD_REQUEST
-  pub short : length used ≤ MAX_HEAD
+  pub refused : code ≡ bad_request
+  pub short : length used ≤ longest_head
   pub line : (front : List ℕ) × (used ≡ front ++ line_feed ∷ [])
-  pub overflows : RequestOverflows MAX_FIELDS used
+  pub overflows : RequestOverflows most_fields used
   pub open_lines : OpenBelow (length used - 1) used
 
 -- as many bytes as a head may have are none yet
 pub record IsTooLong (used : List ℕ) (code : ℕ) : Type 0 where
-  pub refused : code ≡ TOO_LARGE
-  pub long : length used ≡ MAX_HEAD
-  pub open_lines : OpenBelow MAX_HEAD used
+  pub refused : code ≡ too_large
+  pub long : length used ≡ longest_head
+  pub open_lines : OpenBelow longest_head used
 
 -- these bytes are taken, and there is no head
 abbrev pub HasNoHead : List ℕ → Type 0 → ℕ → Type 0

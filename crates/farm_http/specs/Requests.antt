@@ -1,7 +1,7 @@
 -- What is taken of an input: a request, or bytes with the first refusal.
 use Rattle.std.specs.Prelude.{◌≡◌, ℕ, ◌<◌, ◌⊎◌, List, ◌++◌, length, drop, Ok, Err}
 use Rattle.httparse.specs.Grammar.{RequestHead, print_request}
-use Rattle.farm_types.specs.declared.refusal.TheConstants.{BAD_REQUEST}
+use Rattle.farm_types.specs.Refusals.{bad_request}
 use Rattle.farm_http.specs.Fields.{body_length}
 use Rattle.farm_http.specs.Heads.{IsHead, HasNoHead}
 use Rattle.farm_http.specs.Request.{Request, request_of}
@@ -38,7 +38,7 @@ pub record IsCutBody (used : List ℕ) (AtEnd : Type 0) (code : ℕ) : Type 0 wh
   pub declared : body_length head ≡ Ok len
   pub short : length body < len
   pub end : AtEnd
-  pub refused : code ≡ BAD_REQUEST
+  pub refused : code ≡ bad_request
 
 -- after these bytes there is no request, and the first refusal has this number
 abbrev pub IsRefused : List ℕ → Type 0 → ℕ → Type 0

@@ -6,10 +6,11 @@ ghost use Rattle.std.specs.List.{list_all};
 ghost use Rattle.std.specs.Str.{str_eq_ignore_ascii_case};
 ghost use Rattle.std.specs.Str.Parse.{digits_value};
 ghost use Rattle.httparse.specs.Spans.{IsHeaderWithin, header_bytes};
+ghost use Rattle.farm_types.specs.Limits.{longest_body};
 ghost use Rattle.farm_http.specs.Fields.{answered, field_of, declared_length, length_among};
 ghost use Rattle.farm_http.specs.Fields.{numbered};
 
-use crate::limits::MAX_BODY;
+use farm_types::limits::LONGEST_BODY;
 use farm_types::refusal::{BAD_CODING, BAD_REQUEST, Refusal, TOO_LARGE};
 use httparse::spans::HeaderSpan;
 
@@ -52,7 +53,7 @@ fn is_named(buf: &[u8], header: &HeaderSpan, name: &[u8]) -> bool
 pub(crate) fn declared_among(head: &[u8], headers: &[HeaderSpan]) -> Result<usize, Refusal>
     requires { All (IsHeaderWithin (length head.now)) headers.now }
     ensures length { numbered result ≡ length_among (map (header_bytes head.now) headers.now) }
-    ensures small { IfOk result (λ n. n ≤ MAX_BODY) }
+    ensures small { IfOk result (λ n. n ≤ longest_body) }
 {
     let Ok(None) = find(head, headers, b"transfer-encoding") else {
         return Err(Refusal { code: BAD_CODING });
@@ -67,7 +68,7 @@ pub(crate) fn declared_among(head: &[u8], headers: &[HeaderSpan]) -> Result<usiz
 /// The number that a `content-length` declares: decimal digits alone, leading zeros too.
 fn declared(value: &[u8]) -> Result<usize, Refusal>
     ensures number { numbered result ≡ declared_length value.now }
-    ensures small { IfOk result (λ n. n ≤ MAX_BODY) }
+    ensures small { IfOk result (λ n. n ≤ longest_body) }
 {
     if !is_number(value) {
         return Err(Refusal { code: BAD_REQUEST });
@@ -94,13 +95,13 @@ fn is_digits(value: &[u8]) -> bool
 
 /// The number that digits write, if a body may be so long.
 fn small_number(value: &[u8]) -> Option<usize>
-    ensures { MatchOption result (MAX_BODY < digits_value 10 value.now)
-        (λ n. (n ≤ MAX_BODY) × (n ≡ digits_value 10 value.now)) }
+    ensures { MatchOption result (longest_body < digits_value 10 value.now)
+        (λ n. (n ≤ longest_body) × (n ≡ digits_value 10 value.now)) }
 {
     let mut number = 0usize;
     for digit in value {
         number = number * 10 + value_of(*digit);
-        if number > MAX_BODY {
+        if number > LONGEST_BODY {
             return None;
         }
     }

@@ -1,6 +1,7 @@
 //! Laws over what is taken of an input.
 ghost use Rattle.std.specs.Prelude.{◌≡◌, ℕ, ◌≤◌, ◌++◌, List, Result, length};
 ghost use Rattle.httparse.specs.Grammar.{RequestHead, ReadsRequest, print_request};
+ghost use Rattle.farm_types.specs.Limits.{longest_head, most_fields};
 ghost use Rattle.farm_http.specs.declared.fault.WireFault.{WireFault};
 ghost use Rattle.farm_http.specs.declared.taken.Taken.{Taken};
 ghost use Rattle.farm_http.specs.Heads.{HasNoHead};
@@ -8,13 +9,11 @@ ghost use Rattle.farm_http.specs.Counts.{Reading, IsSpent};
 ghost use Rattle.farm_http.specs.Requests.{IsRequest};
 ghost use Rattle.farm_http.specs.Faults.{Gives, IsTaken};
 
-use crate::limits::{MAX_FIELDS, MAX_HEAD};
-
 /// Where a head stands at the front of the input, nothing is refused for want of a head.
 pub fn head_is_found()
     ensures { (used more rest : List ℕ) (h : RequestHead) (code : ℕ)
         → ReadsRequest (used ++ more) h rest
-        → length h.fields ≤ MAX_FIELDS → length (print_request h) ≤ MAX_HEAD
+        → length h.fields ≤ most_fields → length (print_request h) ≤ longest_head
         → HasNoHead used (used ≡ used ++ more) code → ⊥ }
 {}
 

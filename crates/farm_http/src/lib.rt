@@ -15,7 +15,6 @@ pub mod counted_writer;
 pub mod fault;
 pub mod fields;
 pub mod laws;
-pub mod limits;
 pub mod parts;
 pub mod read_some;
 pub mod request;

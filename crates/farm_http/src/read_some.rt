@@ -2,10 +2,11 @@
 ghost use Rattle.std.specs.Prelude.{◌≡◌, ◌+◌, ◌<◌, ◌≤◌, ◌⊎◌, true, false, length, take, IfOk, OnOk};
 ghost use Rattle.std.specs.Prelude.{OnErr};
 ghost use Rattle.std.specs.Io.KnownBytes.{Consumes, IsAtEnd, Keeps};
+ghost use Rattle.farm_types.specs.Limits.{most_reads};
 ghost use Rattle.farm_http.specs.Counts.{reader_of, reading_of, IsSameReader, IsSpent};
 
 use crate::counted_reader::CountedReader;
-use crate::limits::MAX_TURNS;
+use farm_types::limits::MOST_READS;
 use std::io::{ErrorKind, Read};
 
 /// No byte came: the reader failed, or the calls ran out.
@@ -18,7 +19,7 @@ pub(crate) fn read_some<R: Read>(
     buf: &mut [u8],
 ) -> Result<usize, NoBytes>
     requires room { 0 < length buf.old }
-    requires turns { (reading_of reader.old).calls ≤ MAX_TURNS }
+    requires turns { (reading_of reader.old).calls ≤ most_reads }
     requires alive { (reading_of reader.old).failed ≡ false }
     ensures same { IsSameReader reader.old reader.new }
     ensures within { IfOk result (λ n. n ≤ length buf.new) }
@@ -30,9 +31,9 @@ pub(crate) fn read_some<R: Read>(
     ensures kept { OnErr result (Keeps (R.remaining (reader_of reader.old))
         (R.remaining (reader_of reader.new))) }
     ensures spent { OnErr result (IsSpent (reading_of reader.new)) }
-    ensures turns { (reading_of reader.new).calls ≤ MAX_TURNS }
+    ensures turns { (reading_of reader.new).calls ≤ most_reads }
 {
-    while reader.calls() < MAX_TURNS {
+    while reader.calls() < MOST_READS {
         match reader.read(buf) {
             Ok(count) => return Ok(count),
             Err(error) if error.kind() == ErrorKind::Interrupted => {}

@@ -4,6 +4,7 @@ ghost use Rattle.std.specs.Prelude.{vec_capacity, false, ⊤, List, IsTrue, IfOk
 ghost use Rattle.std.specs.Prelude.{OnOk, OnErr, IsErrOf};
 ghost use Rattle.std.specs.Io.KnownBytes.{Consumes, IsAtEnd, Keeps};
 ghost use Rattle.httparse.specs.Grammar.{RequestHead};
+ghost use Rattle.farm_types.specs.Limits.{longest_body, longest_head, most_fields, most_reads};
 ghost use Rattle.farm_http.specs.Fields.{body_length, numbered};
 ghost use Rattle.farm_http.specs.Faults.{HeadFails, BodyFails, FailsAfter, TakesFrom};
 ghost use Rattle.farm_http.specs.Heads.{IsHead, IsHopeless, OpenBelow, TellsHead, AreSpansOf};
@@ -13,9 +14,9 @@ ghost use Rattle.farm_http.specs.Requests.{IsRequest};
 use crate::counted_reader::CountedReader;
 use crate::fault::WireFault;
 use crate::fields::declared_among;
-use crate::limits::{MAX_BODY, MAX_FIELDS, MAX_HEAD, MAX_TURNS};
 use crate::read_some::read_some;
 use crate::taken::Taken;
+use farm_types::limits::{LONGEST_BODY, LONGEST_HEAD, MOST_FIELDS, MOST_READS};
 use farm_types::refusal::{BAD_REQUEST, Refusal, TOO_LARGE};
 use httparse::Status;
 use httparse::spans::{EMPTY_HEADER_SPAN, HeaderSpan, RequestSpans, parse_request};
@@ -64,7 +65,7 @@ pub fn read_request_counted<R: Read>(
         (FailsAfter (R.remaining (reader_of reader.old)) (R.remaining (reader_of reader.new))
         (IsSpent (reading_of reader.new))) }
     ensures failed { IsTrue (reading_of reader.new).failed → IsErrOf result WireFault.Read }
-    ensures turns { (reading_of reader.new).calls ≤ MAX_TURNS }
+    ensures turns { (reading_of reader.new).calls ≤ most_reads }
     ensures known { IfSome (R.remaining (reader_of reader.old))
         (λ input. TakesFrom input (R.remaining (reader_of reader.new))
         (IsSpent (reading_of reader.new)) result) }
@@ -87,12 +88,12 @@ fn take_request<R: Read>(
         (FailsAfter (R.remaining (reader_of reader.old)) (R.remaining (reader_of reader.new))
         (IsSpent (reading_of reader.new))) }
     ensures failed { IsTrue (reading_of reader.new).failed → IsErrOf result WireFault.Read }
-    ensures turns { (reading_of reader.new).calls ≤ MAX_TURNS }
+    ensures turns { (reading_of reader.new).calls ≤ most_reads }
 {
-    let Ok(mut bytes) = Vec::with_capacity(alloc, MAX_HEAD + MAX_BODY) else {
+    let Ok(mut bytes) = Vec::with_capacity(alloc, LONGEST_HEAD + LONGEST_BODY) else {
         return Err(WireFault::NoMemory);
     };
-    let mut headers = [EMPTY_HEADER_SPAN; MAX_FIELDS];
+    let mut headers = [EMPTY_HEADER_SPAN; MOST_FIELDS];
     let (head, spans) = fill(reader, &mut bytes, &mut headers)?;
     Ok(Taken {
         bytes,
@@ -110,8 +111,8 @@ fn fill<R: Read>(
     headers: &mut [HeaderSpan],
 ) -> Result<(usize, RequestSpans), WireFault>
     requires empty { bytes.old.items ≡ [] }
-    requires fields { length headers.old ≡ MAX_FIELDS }
-    requires room { MAX_HEAD + MAX_BODY ≤ vec_capacity bytes.old }
+    requires fields { length headers.old ≡ most_fields }
+    requires room { longest_head + longest_body ≤ vec_capacity bytes.old }
     requires fresh { reading_of reader.old ≡ unread }
     ensures same { IsSameReader reader.old reader.new }
     ensures request { IfOk result (λ found. IsRequest bytes.new.items found.0) }
@@ -124,7 +125,7 @@ fn fill<R: Read>(
         (FailsAfter (R.remaining (reader_of reader.old)) (R.remaining (reader_of reader.new))
         (IsSpent (reading_of reader.new))) }
     ensures failed { IsTrue (reading_of reader.new).failed → IsErrOf result WireFault.Read }
-    ensures turns { (reading_of reader.new).calls ≤ MAX_TURNS }
+    ensures turns { (reading_of reader.new).calls ≤ most_reads }
 {
     let spans = read_head(reader, bytes, headers)?;
     let head = bytes.len();
@@ -143,12 +144,12 @@ fn read_head<R: Read>(
     headers: &mut [HeaderSpan],
 ) -> Result<RequestSpans, WireFault>
     requires empty { bytes.old.items ≡ [] }
-    requires room { MAX_HEAD ≤ vec_capacity bytes.old }
-    requires fields { length headers.old ≡ MAX_FIELDS }
+    requires room { longest_head ≤ vec_capacity bytes.old }
+    requires fields { length headers.old ≡ most_fields }
     requires fresh { reading_of reader.old ≡ unread }
     ensures same { IsSameReader reader.old reader.new }
     ensures capacity { vec_capacity bytes.old ≤ vec_capacity bytes.new }
-    ensures within { OnOk result (length bytes.new.items ≤ MAX_HEAD) }
+    ensures within { OnOk result (length bytes.new.items ≤ longest_head) }
     ensures head { OnOk result ((h : RequestHead) × IsHead bytes.new.items h) }
     ensures spans { IfOk result (AreSpansOf bytes.new.items headers.new) }
     ensures bytes { OnOk result
@@ -159,9 +160,9 @@ fn read_head<R: Read>(
         × HeadFails used (IsAtEnd (R.remaining (reader_of reader.new)))
         (IsSpent (reading_of reader.new)) e) }
     ensures failed { IsTrue (reading_of reader.new).failed → IsErrOf result WireFault.Read }
-    ensures turns { (reading_of reader.new).calls ≤ MAX_TURNS }
+    ensures turns { (reading_of reader.new).calls ≤ most_reads }
 {
-    while bytes.len() < MAX_HEAD {
+    while bytes.len() < LONGEST_HEAD {
         let byte = read_byte(reader)?;
         bytes.push_reserved(byte);
         if let Some(spans) = spans_of(bytes.as_slice(), headers)? {
@@ -173,7 +174,7 @@ fn read_head<R: Read>(
 
 /// Reads one byte.
 fn read_byte<R: Read>(reader: &mut CountedReader<'_, R>) -> Result<u8, WireFault>
-    requires turns { (reading_of reader.old).calls ≤ MAX_TURNS }
+    requires turns { (reading_of reader.old).calls ≤ most_reads }
     requires alive { (reading_of reader.old).failed ≡ false }
     ensures same { IsSameReader reader.old reader.new }
     ensures byte { IfOk result
@@ -186,7 +187,7 @@ fn read_byte<R: Read>(reader: &mut CountedReader<'_, R>) -> Result<u8, WireFault
         (BodyFails 1 [] (IsAtEnd (R.remaining (reader_of reader.new)))
         (IsSpent (reading_of reader.new))) }
     ensures failed { IsTrue (reading_of reader.new).failed → IsErrOf result WireFault.Read }
-    ensures turns { (reading_of reader.new).calls ≤ MAX_TURNS }
+    ensures turns { (reading_of reader.new).calls ≤ most_reads }
 {
     let mut byte = [0u8; 1];
     if read_some(reader, &mut byte)? == 0 {
@@ -198,9 +199,9 @@ fn read_byte<R: Read>(reader: &mut CountedReader<'_, R>) -> Result<u8, WireFault
 /// Where the parts of a head are, if the bytes are one, where no line before their last ends one.
 /// Refused are bytes that no head begins with.
 fn spans_of(bytes: &[u8], headers: &mut [HeaderSpan]) -> Result<Option<RequestSpans>, Refusal>
-    requires fields { length headers.old ≡ MAX_FIELDS }
+    requires fields { length headers.old ≡ most_fields }
     requires some { 0 < length bytes.now }
-    requires short { length bytes.now ≤ MAX_HEAD }
+    requires short { length bytes.now ≤ longest_head }
     requires open_lines { OpenBelow (length bytes.now - 1) bytes.now }
     ensures told { IfOk result (λ found. TellsHead bytes.now (is_some found)) }
     ensures spans { IfOk result (λ found. IfSome found (AreSpansOf bytes.now headers.new)) }
@@ -221,14 +222,14 @@ fn spans_of(bytes: &[u8], headers: &mut [HeaderSpan]) -> Result<Option<RequestSp
 fn length_after(head: &[u8], headers: &[HeaderSpan], spans: RequestSpans) -> Result<usize, Refusal>
     requires { AreSpansOf head.now headers.now spans }
     ensures length { (h : RequestHead) → IsHead head.now h → numbered result ≡ body_length h }
-    ensures small { IfOk result (λ n. n ≤ MAX_BODY) }
+    ensures small { IfOk result (λ n. n ≤ longest_body) }
 {
     declared_among(head, &headers[..spans.headers])
 }
 
 /// Reads a body of a known length.
 fn read_body<R: Read>(reader: &mut CountedReader<'_, R>, body: &mut [u8]) -> Result<(), WireFault>
-    requires turns { (reading_of reader.old).calls ≤ MAX_TURNS }
+    requires turns { (reading_of reader.old).calls ≤ most_reads }
     requires alive { (reading_of reader.old).failed ≡ false }
     ensures same { IsSameReader reader.old reader.new }
     ensures ok { OnOk result (Consumes (R.remaining (reader_of reader.old))
@@ -238,7 +239,7 @@ fn read_body<R: Read>(reader: &mut CountedReader<'_, R>, body: &mut [u8]) -> Res
         × BodyFails (length body.old) used (IsAtEnd (R.remaining (reader_of reader.new)))
         (IsSpent (reading_of reader.new)) e) }
     ensures failed { IsTrue (reading_of reader.new).failed → IsErrOf result WireFault.Read }
-    ensures turns { (reading_of reader.new).calls ≤ MAX_TURNS }
+    ensures turns { (reading_of reader.new).calls ≤ most_reads }
 {
     let mut at = 0usize;
     while at < body.len() {

@@ -3,7 +3,7 @@ ghost use Rattle.std.specs.Prelude.{take};
 ghost use Rattle.farm_http.specs.Heads.{AreSpansOf};
 ghost use Rattle.farm_http.specs.Requests.{IsRequest};
 
-use crate::limits::MAX_FIELDS;
+use farm_types::limits::MOST_FIELDS;
 use httparse::spans::{HeaderSpan, RequestSpans};
 
 /// One request as it came: a head, and the body that its fields declare. `parts_of` lends its
@@ -17,7 +17,7 @@ pub struct Taken {
     /// Where the parts of the head are.
     pub(crate) spans: RequestSpans,
     /// Where its fields are; `spans` tells how many there are.
-    pub(crate) headers: [HeaderSpan; MAX_FIELDS],
+    pub(crate) headers: [HeaderSpan; MOST_FIELDS],
     pub ghost whole: { ∥ IsRequest bytes.items head ∥₁ },
     pub ghost placed: { ∥ AreSpansOf (take head bytes.items) headers spans ∥₁ },
 }

@@ -2,9 +2,10 @@
 use Rattle.std.specs.Prelude.{ℕ, ℤ, pos, negsuc, List, [], ◌∷◌, Option, Some, None, Result, Ok}
 use Rattle.std.specs.Prelude.{codes}
 use Rattle.toml.specs.Data.{Data, Items, no_items, item, get, as_str, as_array}
+use Rattle.farm_types.specs.Limits.{longest_name}
 use Rattle.farm_types.specs.Words.{is_word, word_or}
 use Rattle.farm_types.specs.Tags.{tags_among}
-use Rattle.farm_types.specs.declared.refusal.TheConstants.{BAD_NAME}
+use Rattle.farm_types.specs.Refusals.{bad_name}
 use Rattle.farm_types.specs.Reads.{◌>>=◌}
 use Rattle.farm_jobfile.specs.Reading.{Fault, or_word, there_or, kind_or}
 use Rattle.farm_jobfile.specs.declared.fault.FileKind.{FileKind}
@@ -16,7 +17,7 @@ natural (negsuc n) = None
 
 -- a name, or a bad one
 abbrev pub name_or : List ℕ → Result (List ℕ) Fault
-name_or text = or_word (word_or (is_word 48 text) text BAD_NAME)
+name_or text = or_word (word_or (is_word longest_name text) text bad_name)
 
 -- the name that a value spells, a text
 unfoldable pub name_from : FileKind → Data → Result (List ℕ) Fault

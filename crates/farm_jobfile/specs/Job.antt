@@ -5,12 +5,12 @@ use Rattle.toml.specs.Data.{Data, Members, no_members, member, get, as_str, as_i
 use Rattle.toml.specs.Data.{as_table}
 use Rattle.std.specs.Option.{option_map_or}
 use Rattle.farm_types.specs.Words.{is_word}
-use Rattle.farm_types.specs.Limits.{is_priority, are_few_wants}
+use Rattle.farm_types.specs.Limits.{are_few_wants, is_priority, longest_job_file, longest_name, most_wants}
 use Rattle.farm_types.specs.Called.{medium, priority_called}
 use Rattle.farm_types.specs.Proper.{is_want}
 use Rattle.farm_types.specs.declared.rows.Want.{Want}
 use Rattle.farm_types.specs.declared.calls.Cmd.{Cmd}
-use Rattle.farm_types.specs.declared.refusal.TheConstants.{BAD_COUNT, BAD_PRIORITY}
+use Rattle.farm_types.specs.Refusals.{bad_count, bad_priority}
 use Rattle.farm_types.specs.Reads.{◌>>=◌}
 use Rattle.farm_jobfile.specs.Reading.{Fault, bad, word, there_or, kind_or}
 use Rattle.farm_jobfile.specs.Document.{text_in, tree_in}
@@ -35,21 +35,21 @@ title_in d = do
 
 -- ---- the priority
 
--- a whole number from 0 to 100
+-- a whole number that is a priority
 abbrev pub priority_or : Option ℕ → Result ℕ Fault
-priority_or None = Err (word BAD_PRIORITY)
-priority_or (Some n) = if is_priority n then Ok n else Err (word BAD_PRIORITY)
+priority_or None = Err (word bad_priority)
+priority_or (Some n) = if is_priority n then Ok n else Err (word bad_priority)
 
 -- what a word names
 abbrev pub named_or : Option ℕ → Result ℕ Fault
-named_or None = Err (word BAD_PRIORITY)
+named_or None = Err (word bad_priority)
 named_or (Some n) = Ok n
 
 -- a text, a whole number, another number, or another kind
 abbrev pub priority_by : Option (List ℕ) → Option ℤ → Bool → Result ℕ Fault
 priority_by (Some text) number is_float = named_or (priority_called text)
 priority_by None (Some number) is_float = priority_or (natural number)
-priority_by None None is_float = if is_float then Err (word BAD_PRIORITY)
+priority_by None None is_float = if is_float then Err (word bad_priority)
     else Err (bad JobFile Reason.WrongKind)
 
 unfoldable pub priority_from : Data → Result ℕ Fault
@@ -75,10 +75,10 @@ single_in kind d = do
 
 -- ---- roles
 
--- 1 to 4
+-- as many as a submission may have
 abbrev pub count_or : Option ℕ → Result ℕ Fault
-count_or None = Err (word BAD_COUNT)
-count_or (Some n) = if nat_le 1 n && nat_le n 4 then Ok n else Err (word BAD_COUNT)
+count_or None = Err (word bad_count)
+count_or (Some n) = if nat_le 1 n && nat_le n most_wants then Ok n else Err (word bad_count)
 
 -- the whole number under the key `count`
 unfoldable pub count_in : Data → Result ℕ Fault
@@ -134,19 +134,19 @@ abbrev pub is_full_want : Want → Bool
 is_full_want w = is_some w.kind && is_want w
 
 abbrev pub is_role : Option (List ℕ) → Bool
-is_role r = option_map_or (is_word 48) r true
+is_role r = option_map_or (is_word longest_name) r true
 
 -- one up to four members are a group
 abbrev pub group_of : ℕ → List Member → List ℕ → Result Cmd Fault
 group_of priority members text =
     if are_few_wants (map want_of members)
     then Ok (Cmd.Submit priority (map want_of members) (map role_of members) text)
-    else Err (word BAD_COUNT)
+    else Err (word bad_count)
 
 -- the command that a job file spells; it carries the text as it came
 unfoldable pub job : List ℕ → Result Cmd Fault
 job bytes = do
-  text ← text_in JobFile 65536 bytes
+  text ← text_in JobFile longest_job_file bytes
   d ← tree_in JobFile text
   title ← title_in d
   priority ← priority_in d

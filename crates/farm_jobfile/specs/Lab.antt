@@ -3,13 +3,13 @@ use Rattle.std.specs.Prelude.{ℕ, List, [], ◌∷◌, ◌++◌, Option, Some, 
 use Rattle.std.specs.Prelude.{Ok, Err, codes, if◌then◌else◌}
 use Rattle.toml.specs.Data.{Data, Members, no_members, member, get, as_str, as_integer, as_table}
 use Rattle.farm_types.specs.Proper.{has_no_name_tag}
-use Rattle.farm_types.specs.Limits.{is_every}
+use Rattle.farm_types.specs.Limits.{is_every, longest_lab_file}
 use Rattle.farm_types.specs.Called.{unit_called, check_by}
 use Rattle.farm_types.specs.declared.called.CheckUnit.{CheckUnit}
 use Rattle.farm_types.specs.declared.rows.Check.{Check}
 use Rattle.farm_types.specs.declared.calls.Cmd.{Cmd}
 use Rattle.farm_types.specs.declared.calls.Call.{Call}
-use Rattle.farm_types.specs.declared.refusal.TheConstants.{BAD_TAG}
+use Rattle.farm_types.specs.Refusals.{bad_tag}
 use Rattle.farm_types.specs.Reads.{◌>>=◌}
 use Rattle.farm_jobfile.specs.Reading.{Fault, bad, word, there_or, kind_or}
 use Rattle.farm_jobfile.specs.Document.{text_in, tree_in}
@@ -76,7 +76,7 @@ type_in now name d = do
 
 -- tags for a board: none has the key `name`
 abbrev pub own_tags : List (List ℕ) → Result (List (List ℕ)) Fault
-own_tags tags = if has_no_name_tag tags then Ok tags else Err (word BAD_TAG)
+own_tags tags = if has_no_name_tag tags then Ok tags else Err (word bad_tag)
 
 -- the board of a name
 unfoldable pub board_in : ℕ → List ℕ → Data → Result Entry Fault
@@ -112,7 +112,7 @@ calls_in now d = do
 -- the calls that a lab file spells at a moment
 unfoldable pub lab : List ℕ → ℕ → Result (List Entry) Fault
 lab bytes now = do
-  text ← text_in LabFile 1048576 bytes
+  text ← text_in LabFile longest_lab_file bytes
   d ← tree_in LabFile text
   calls_in now d
 

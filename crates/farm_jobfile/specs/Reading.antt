@@ -1,20 +1,20 @@
 -- What reading a file gives: a value, or the first fault.
 use Rattle.std.specs.Prelude.{◌≡◌, ℕ, Option, Some, None, Result, Ok, Err}
 use Rattle.farm_types.specs.declared.fault.WordFault.{WordFault}
-use Rattle.farm_types.specs.declared.refusal.TheConstants.{BAD_JOB_FILE, BAD_LAB_FILE, NO_MEMORY}
+use Rattle.farm_types.specs.Refusals.{bad_job_file, bad_lab_file, no_memory}
 use Rattle.farm_jobfile.specs.declared.fault.FileKind.{FileKind}
 use Rattle.farm_jobfile.specs.declared.fault.Reason.{Reason}
 use Rattle.farm_jobfile.specs.declared.fault.FileFault.{FileFault}
 
 -- the number of a fault in the table of refusals
 abbrev pub code_of_kind : FileKind → ℕ
-code_of_kind FileKind.JobFile = BAD_JOB_FILE
-code_of_kind FileKind.LabFile = BAD_LAB_FILE
+code_of_kind FileKind.JobFile = bad_job_file
+code_of_kind FileKind.LabFile = bad_lab_file
 
 abbrev pub code_of : FileFault → ℕ
 code_of (FileFault.Bad kind reason) = code_of_kind kind
 code_of (FileFault.Word refusal) = refusal.code
-code_of FileFault.NoMemory = NO_MEMORY
+code_of FileFault.NoMemory = no_memory
 
 -- a fault of a word as a fault of the file that has it
 abbrev pub of_word : WordFault → FileFault

@@ -1,6 +1,7 @@
 //! The calls of a lab file's commands.
 ghost use Rattle.std.specs.Prelude.{◌≡◌, ◌≤◌, ◌++◌, codes, length, true, IsTrue, IfOk, MatchResult};
 ghost use Rattle.std.specs.List.{list_all};
+ghost use Rattle.farm_types.specs.Limits.{longest_name};
 ghost use Rattle.farm_types.specs.Words.{is_word, is_name_byte};
 ghost use Rattle.farm_types.specs.Proper.{is_proper_cmd};
 ghost use Rattle.farm_jobfile.specs.declared.fault.FileFault.{FileFault};
@@ -29,7 +30,7 @@ fn admin(alloc: Global) -> Result<Name, FileFault>
 
 /// The key of a short prefix and a name.
 fn key_of(alloc: Global, prefix: &str, name: &str) -> Result<Key, FileFault>
-    requires word { is_word 48 name.now ≡ true }
+    requires word { is_word longest_name name.now ≡ true }
     requires short { length prefix.now ≤ 16 }
     requires bytes { list_all is_name_byte prefix.now ≡ true }
     ensures { MatchResult result (λ key. key ≡ prefix.now ++ name.now)
@@ -51,7 +52,7 @@ pub(crate) fn call_of(
     now: u64,
     cmd: Cmd,
 ) -> Result<Call, FileFault>
-    requires word { is_word 48 name.now ≡ true }
+    requires word { is_word longest_name name.now ≡ true }
     requires short { length prefix.now ≤ 16 }
     requires bytes { list_all is_name_byte prefix.now ≡ true }
     requires proper { IsTrue (is_proper_cmd cmd) }

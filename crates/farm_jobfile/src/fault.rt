@@ -38,7 +38,7 @@ pub enum FileFault {
     #[error("{0}")]
     Word(Refusal),
     /// Memory ran out, and nothing is known of the file.
-    #[error("no memory")]
+    #[error("{}", Refusal {code: NO_MEMORY})]
     NoMemory,
 }
 

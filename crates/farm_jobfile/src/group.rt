@@ -1,6 +1,7 @@
 //! The command that submits a group.
 ghost use Rattle.std.specs.Prelude.{◌≡◌, ◌≤◌, IsTrue, IfOk, Some, map, length, true};
 ghost use Rattle.std.specs.List.{list_all};
+ghost use Rattle.farm_types.specs.Limits.{longest_text};
 ghost use Rattle.farm_types.specs.Proper.{is_proper_cmd};
 ghost use Rattle.farm_types.specs.declared.calls.Cmd.{Cmd};
 ghost use Rattle.farm_jobfile.specs.Reading.{Spells};
@@ -62,7 +63,7 @@ fn submit(priority: Priority, wants: Wants, roles: Roles, body: Body) -> Cmd
     requires full { list_all is_full_want wants ≡ true }
     requires named { list_all is_role roles ≡ true }
     requires even { length roles ≡ length wants }
-    requires short { length body ≤ 65536 }
+    requires short { length body ≤ longest_text }
     ensures cmd { result ≡ Cmd.Submit priority wants roles body }
     ensures proper { IsTrue (is_proper_cmd result) }
 {
@@ -78,7 +79,7 @@ pub(crate) fn group_of(
     members: Vec<Member>,
     text: &str,
 ) -> Result<Cmd, FileFault>
-    requires { length text.now ≤ 65536 }
+    requires { length text.now ≤ longest_text }
     ensures meaning { Spells (λ cmd. cmd) result (group_of priority members.items text.now) }
     ensures proper { IfOk result (λ cmd. IsTrue (is_proper_cmd cmd)) }
 {

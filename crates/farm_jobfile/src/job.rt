@@ -13,11 +13,9 @@ use crate::member::Member;
 use crate::priority::priority_at;
 use crate::roles::roles_from;
 use farm_types::calls::Cmd;
+use farm_types::limits::LONGEST_JOB_FILE;
 use std::alloc::Global;
 use toml::Value;
-
-/// The most bytes of a job file.
-pub const LONGEST_JOB_FILE: usize = 65_536;
 
 /// Whether the text under the key `job_name` is there and not empty.
 #[tactic(auto, unfolding(crate::specs::Job::title_in))]

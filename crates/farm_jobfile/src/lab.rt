@@ -12,11 +12,9 @@ use crate::fault::{FileFault, FileKind};
 use crate::fields::table_of;
 use crate::types::types_of;
 use farm_types::calls::Call;
+use farm_types::limits::LONGEST_LAB_FILE;
 use std::alloc::Global;
 use toml::Value;
-
-/// The most bytes of a lab file.
-pub const LONGEST_LAB_FILE: usize = 1_048_576;
 
 /// The calls that add the types; there are none where the table is absent.
 fn types_at(alloc: Global, tree: &Value, now: u64) -> Result<Vec<Call>, FileFault>

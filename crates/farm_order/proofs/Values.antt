@@ -14,7 +14,7 @@ use Rattle.clap.specs.declared.builder.value_parser.Reading.{Reading}
 use Rattle.clap.specs.declared.builder.value_parser.Reading.TheVariants.{AsWritten}
 use Rattle.clap.specs.declared.builder.value_parser.ValueParser.TheVariants as vp
 use Rattle.clap.proofs.ValueTestLemmas.{accepts-Accepts, Accepts-accepts}
-use Rattle.farm_order.specs.Orders.{Form, IsInBounds, PlaceForm, leaves_choice, minutes_of, number_of, once, order_named, place_in, port_in, report, serve, text_of, u16_of, u64_in, which_in}
+use Rattle.farm_order.specs.Orders.{Form, IsInBounds, DatabaseForm, leaves_choice, minutes_of, number_of, once, order_named, database_in, port_in, report, serve, text_of, u16_of, u64_in, which_in}
 use Rattle.farm_order.specs.declared.order.Report.{Report}
 use Rattle.farm_order.proofs.Kept.{AllKeep, AreGood, HasPassing, IsGood, help, help_keeps, memory, memory_keeps, value_keeps, value_rule}
 use Rattle.farm_order.proofs.Walked.{is_missing}
@@ -225,9 +225,9 @@ Settles name rows = IsSettled (order_named name rows) (leaves_choice (Some (name
 pub once_settles : (rows : List Row) → AreWhole once_rules rows → Settles (codes "once") rows
 once_settles rows whole =
     let n = given_number once_rules (codes "at") true 0 18446744073709551615 rows refl whole.0 (one_given (is_given (codes "at") rows) whole.1) in
-    go (place_in rows) (number_of (codes "at") rows) n.0 n.1
+    go (database_in rows) (number_of (codes "at") rows) n.0 n.1
   where
-    go : (place : Option PlaceForm) (at : Option ℕ) (n : ℕ) → at ≡ Some n
+    go : (place : Option DatabaseForm) (at : Option ℕ) (n : ℕ) → at ≡ Some n
         → IsSettled (option_and_then (λ p. option_map (λ t. once p t) at) place) ((true && not (is_some place)) || (false && not (is_some (which_in rows))))
     go None at n e = refl
     go (Some p) at n e = rw e tt
@@ -278,6 +278,6 @@ report_settles rows whole =
     go : (file : Option Text) (which : Option Report) (f : Text) → file ≡ Some f
         → minutes_of (codes "east") rows ≤ 840 → minutes_of (codes "west") rows ≤ 840
         → IsSettled (option_and_then (λ x. option_map (λ w. report x (minutes_of (codes "east") rows) (minutes_of (codes "west") rows) w) which) file)
-        ((false && not (is_some (place_in rows))) || (true && not (is_some which)))
+        ((false && not (is_some (database_in rows))) || (true && not (is_some which)))
     go file None f is_file east west = rw is_file refl
     go file (Some w) f is_file east west = rw is_file (east, west)

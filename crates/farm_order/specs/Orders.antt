@@ -10,20 +10,20 @@ use Rattle.clap.specs.Words.{Row, Text, first_of, one_of}
 use Rattle.farm_order.specs.declared.order.Order.{Order}
 use Rattle.farm_order.specs.declared.order.Order.TheVariants.{Once, Init, Migrate, Import, Serve}
 use Rattle.farm_order.specs.declared.order.Order.TheVariants as order
-use Rattle.farm_order.specs.declared.order.Place.{Place}
-use Rattle.farm_order.specs.declared.order.Place.TheVariants.{Memory, File}
+use Rattle.farm_order.specs.declared.order.Database.{Database}
+use Rattle.farm_order.specs.declared.order.Database.TheVariants.{Memory, File}
 use Rattle.farm_order.specs.declared.order.Report.{Report}
 use Rattle.farm_order.specs.declared.order.Report.TheVariants.{Queue, Boards, Reservations}
 
 -- ---- an order, with its texts as bytes
 
 -- a file, or none: memory
-abbrev pub PlaceForm : Type 0
-PlaceForm = Option Text
+abbrev pub DatabaseForm : Type 0
+DatabaseForm = Option Text
 
 pub data Form : Type 0 where
-  -- the place and the moment
-  once : PlaceForm → ℕ → Form
+  -- the database and the moment
+  once : DatabaseForm → ℕ → Form
   -- the file
   init : Text → Form
   -- the file
@@ -35,12 +35,12 @@ pub data Form : Type 0 where
   -- the file, the minutes east and west, and the report
   report : Text → ℕ → ℕ → Report → Form
 
-abbrev pub place_form : Place → PlaceForm
-place_form Memory = None
-place_form (File file) = Some (string_bytes file)
+abbrev pub database_form : Database → DatabaseForm
+database_form Memory = None
+database_form (File file) = Some (string_bytes file)
 
 abbrev pub form_of : Order → Form
-form_of (Once place at) = once (place_form place) at
+form_of (Once database at) = once (database_form database) at
 form_of (Init file) = init (string_bytes file)
 form_of (Migrate file) = migrate (string_bytes file)
 form_of (Import file at lab) = import (string_bytes file) at (string_bytes lab)
@@ -73,8 +73,8 @@ abbrev pub number_of : Text → List Row → Option ℕ
 number_of id rows = option_and_then u64_in (one_of id rows)
 
 -- just one of `--memory` and `--db FILE`
-abbrev pub place_in : List Row → Option PlaceForm
-place_in rows = if has_flag (codes "memory") rows
+abbrev pub database_in : List Row → Option DatabaseForm
+database_in rows = if has_flag (codes "memory") rows
     then (if is_some (text_of (codes "db") rows) then None else Some None)
     else option_map (λ file. Some file) (text_of (codes "db") rows)
 
@@ -100,8 +100,8 @@ minutes_of id rows = unwrap_or (number_of id rows) 0
 -- ---- the order of each subcommand
 
 abbrev pub once_in : List Row → Option Form
-once_in rows = option_and_then (λ place. option_map (λ at. once place at)
-    (number_of (codes "at") rows)) (place_in rows)
+once_in rows = option_and_then (λ database. option_map (λ at. once database at)
+    (number_of (codes "at") rows)) (database_in rows)
 
 abbrev pub init_in : List Row → Option Form
 init_in rows = option_map (λ file. init file) (text_of (codes "db") rows)
@@ -142,5 +142,5 @@ order_in = option_and_then (λ p. order_named p.0 p.1)
 -- `once` with neither or both of `--memory` and `--db`, or `report` of something that is no report
 abbrev pub leaves_choice : Option (Text × List Row) → Bool
 leaves_choice named = option_map_or (λ p.
-    (bytes_eq p.0 (codes "once") && not (is_some (place_in p.1)))
+    (bytes_eq p.0 (codes "once") && not (is_some (database_in p.1)))
     || (bytes_eq p.0 (codes "report") && not (is_some (which_in p.1)))) named false

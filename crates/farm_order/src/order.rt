@@ -6,7 +6,7 @@
 pub enum Order {
     /// Answer one request from the input, at a moment.
     Once {
-        place: Place,
+        database: Database,
         at: u64,
     },
     /// Make an empty farm in a file that has none.
@@ -41,7 +41,7 @@ pub enum Order {
 
 /// Where the farm stands.
 #[derive(Debug, Drop, PartialEq, Eq)]
-pub enum Place {
+pub enum Database {
     /// In memory: it is empty at first, and gone when the program ends.
     Memory,
     /// In a file.

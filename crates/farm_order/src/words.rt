@@ -10,12 +10,12 @@ ghost use Rattle.farm_order.specs.App.{port_rule, positional_rule, report_app, s
 ghost use Rattle.farm_order.specs.Faults.{IsFaultAmong};
 ghost use Rattle.farm_order.specs.Orders.{IsInBounds, form_of, has_flag, import_in, init_in};
 ghost use Rattle.farm_order.specs.Orders.{leaves_choice, migrate_in, number_of, once_in, order_in};
-ghost use Rattle.farm_order.specs.Orders.{place_form, place_in, port_in, report_in};
+ghost use Rattle.farm_order.specs.Orders.{database_form, database_in, port_in, report_in};
 ghost use Rattle.farm_order.specs.Orders.{report_of, serve_in, text_of, which_in};
 ghost use Rattle.farm_order.specs.declared.fault.OrderFault.TheVariants.{NoMemory};
 
 use crate::fault::{OrderFault, fault_of};
-use crate::order::{Order, Place, Report};
+use crate::order::{Database, Order, Report};
 use clap::{Arg, ArgAction, ArgMatches, Command};
 use std::alloc::{AllocError, Global};
 
@@ -104,20 +104,20 @@ fn once_named(alloc: Global, given: &ArgMatches<'_>) -> Result<Option<Order>, Al
     ensures { IfOk result (λ order.
         option_map form_of order ≡ once_in (rows_of (found_of given.now))) }
 {
-    let (Some(place), Some(at)) = (place(alloc, given)?, number(given, "at")) else {
+    let (Some(database), Some(at)) = (database(alloc, given)?, number(given, "at")) else {
         return Ok(None);
     };
-    Ok(Some(Order::Once { place, at }))
+    Ok(Some(Order::Once { database, at }))
 }
 
 /// Memory or a file, where just one of them was given.
-fn place(alloc: Global, given: &ArgMatches<'_>) -> Result<Option<Place>, AllocError>
-    ensures { IfOk result (λ place.
-        option_map place_form place ≡ place_in (rows_of (found_of given.now))) }
+fn database(alloc: Global, given: &ArgMatches<'_>) -> Result<Option<Database>, AllocError>
+    ensures { IfOk result (λ database.
+        option_map database_form database ≡ database_in (rows_of (found_of given.now))) }
 {
     Ok(match (flag(given, "memory"), text(alloc, given, "db")?) {
-        (true, None) => Some(Place::Memory),
-        (false, Some(file)) => Some(Place::File(file)),
+        (true, None) => Some(Database::Memory),
+        (false, Some(file)) => Some(Database::File(file)),
         (true, Some(_)) | (false, None) => None,
     })
 }

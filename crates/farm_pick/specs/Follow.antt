@@ -3,6 +3,7 @@ use Rattle.std.specs.Prelude.{◌≡◌, ◌≢◌, ◌≤◌, ◌+◌, ◌==◌
 use Rattle.std.specs.List.{filter, list_any}
 use Rattle.std.specs.Option.{option_map_or}
 use Rattle.std.specs.Str.{bytes_eq}
+use Rattle.farm_types.specs.Limits.{lease}
 use Rattle.farm_types.specs.Change.{act, moved, new_res}
 use Rattle.farm_types.specs.Farm.{Farm, job_of}
 use Rattle.farm_types.specs.Pass.{back, checks, expire, give, is_dead, pass_over}
@@ -31,7 +32,7 @@ queue_after F caller (Cmd.Submit priority wants roles body) =
       wants = wants;
     })
 queue_after F caller (Cmd.Reserve priority tags) =
-    put claim_cmp (queue F) (res_claim (new_res F.next caller priority tags (F.clock + 60)))
+    put claim_cmp (queue F) (res_claim (new_res F.next caller priority tags (F.clock + lease)))
 queue_after F caller (Cmd.Cancel number) =
     option_map_or (λ j. without j.group (queue F)) (job_of F number) (queue F)
 queue_after F caller (Cmd.CancelRes number) = without number (queue F)

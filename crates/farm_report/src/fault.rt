@@ -1,14 +1,15 @@
 //! Why there is no report.
+use farm_types::refusal::{BAD_MOMENT, NO_MEMORY, Refusal};
 use std::alloc::AllocError;
 use thiserror::Error;
 
 /// Why there is no report.
 #[derive(Clone, Copy, Debug, PartialEq, Eq, Error)]
 pub enum ReportFault {
-    #[error("no memory")]
+    #[error("{}", Refusal {code: NO_MEMORY})]
     NoMemory,
     /// A moment lies behind the year 9999, where the calendar ends. No sound farm has one.
-    #[error("bad moment")]
+    #[error("{}", Refusal {code: BAD_MOMENT})]
     BadMoment,
 }
 

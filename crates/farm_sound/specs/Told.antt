@@ -4,6 +4,7 @@ use Rattle.std.specs.Prelude.{is_some, length, IsTrue, IsSome, IsNone, IfSome, I
 use Rattle.std.specs.List.{filter, AllByRecursion}
 use Rattle.std.specs.List.Sorted.{IsStrictlySortedBy}
 use Rattle.std.specs.Str.{bytes_eq}
+use Rattle.farm_types.specs.Limits.{last_moment, longest_text, most_boards, most_boards_of_type, most_commands, most_jobs, most_replies, most_reservations, most_types, most_wants, numbers_end}
 use Rattle.farm_types.specs.Words.{IsName, IsText}
 use Rattle.farm_types.specs.Table.{type_cmp, board_cmp, job_cmp, res_cmp, kept_cmp}
 use Rattle.farm_types.specs.Proper.{is_priority, is_want}
@@ -22,7 +23,7 @@ use Rattle.farm_types.specs.declared.rows.ResRow.{ResRow}
 pub record IsJobNumbered (F : Farm) (r : JobRow) : Type 0 where
   pub number : (1 ≤ r.number) × (r.number < F.next)
   pub apart : IsNone (res_of F r.number)
-  pub group : (r.group ≤ r.number) × (r.number < r.group + 4)
+  pub group : (r.group ≤ r.number) × (r.number < r.group + most_wants)
 
 pub record IsJobWorded (F : Farm) (r : JobRow) : Type 0 where
   pub owner : IsName r.owner
@@ -30,7 +31,7 @@ pub record IsJobWorded (F : Farm) (r : JobRow) : Type 0 where
   pub want : IsTrue (is_want r.want)
   pub kind : IsSomeAnd r.want.kind (λ kind. IsSome (type_of F kind))
   pub role : IfSome r.role IsName
-  pub body : length r.body ≤ 65536
+  pub body : length r.body ≤ longest_text
   pub text : IsText r.body
 
 pub record IsJobPlaced (F : Farm) (r : JobRow) : Type 0 where
@@ -72,7 +73,7 @@ IsInStep F r = r.number ≢ r.group
 
 -- the boards of a board's type are few
 abbrev pub IsOfFew : Farm → BoardRow → Type 0
-IsOfFew F b = length (filter (λ c. bytes_eq c.kind b.kind) F.boards) ≤ 64
+IsOfFew F b = length (filter (λ c. bytes_eq c.kind b.kind) F.boards) ≤ most_boards_of_type
 
 -- ---- a farm, row by row
 
@@ -86,14 +87,14 @@ pub record IsOrdered (F : Farm) : Type 0 where
 
 -- and their limits
 pub record IsFew (F : Farm) : Type 0 where
-  pub types : length F.types ≤ 64
-  pub boards : length F.boards ≤ 256
-  pub jobs : length F.jobs ≤ 100000
-  pub reservations : length F.reservations ≤ 100000
-  pub kept : length F.kept ≤ 300000
-  pub clock : F.clock ≤ 250000000000
-  pub count : F.count ≤ 9000000000000000000
-  pub next : (1 ≤ F.next) × (F.next ≤ 1000000000)
+  pub types : length F.types ≤ most_types
+  pub boards : length F.boards ≤ most_boards
+  pub jobs : length F.jobs ≤ most_jobs
+  pub reservations : length F.reservations ≤ most_reservations
+  pub kept : length F.kept ≤ most_replies
+  pub clock : F.clock ≤ last_moment
+  pub count : F.count ≤ most_commands
+  pub next : (1 ≤ F.next) × (F.next ≤ numbers_end)
 
 -- what a row says, and what the others say of it
 pub record IsBoardTold (F : Farm) (b : BoardRow) : Type 0 where

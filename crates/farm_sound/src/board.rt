@@ -13,14 +13,9 @@ use crate::reservation::res_gives;
 use crate::seek::{job_of, res_of, type_of};
 use crate::want::is_named;
 use farm_types::calls::Rows;
+use farm_types::limits::{MOST_BOARDS_OF_TYPE, MOST_JOBS_SINCE};
 use farm_types::rows::{BoardRow, Health, Holder, State, TypeRow};
 use farm_types::words::Name;
-
-/// The most uses of a board that are counted.
-const MOST_USES: u64 = 1_000_000;
-
-/// The most boards of a type.
-const MOST_OF_KIND: usize = 64;
 
 /// The lines on a type.
 pub fn is_type_row(row: &TypeRow) -> bool
@@ -38,7 +33,7 @@ pub fn is_board_row(rows: &Rows, row: &BoardRow) -> bool
     let (_name, _tags) = (row.name.as_str(), row.tags.items());
     type_of(rows.types.as_slice(), &row.kind).is_some()
         && row.tags.has_no_name_tag()
-        && row.jobs_since <= MOST_USES
+        && row.jobs_since <= MOST_JOBS_SINCE
         && row.last_check <= rows.meta.clock
         && (!matches!(row.health, Health::Retired) || matches!(row.holder, Holder::Nobody))
 }
@@ -54,7 +49,7 @@ fn count_kind(rows: &Rows, kind: &Name) -> usize
 pub fn is_of_few(rows: &Rows, row: &BoardRow) -> bool
     ensures { IsTrue result ↔ IsOfFew (farm_of rows.now) row.now }
 {
-    count_kind(rows, &row.kind) <= MOST_OF_KIND
+    count_kind(rows, &row.kind) <= MOST_BOARDS_OF_TYPE
 }
 
 /// Whether a row gives a board this state.

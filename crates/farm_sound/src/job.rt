@@ -12,14 +12,8 @@ ghost use Rattle.farm_sound.specs.Told.{IsJobGrouped, IsInStep, IsSaidOfJob};
 use crate::seek::{board_of, job_of, res_of};
 use crate::want::{names_board, names_type, tell_role, tell_want};
 use farm_types::calls::Rows;
-use farm_types::priority::HIGHEST_PRIORITY;
+use farm_types::limits::{HIGHEST_PRIORITY, LONGEST_TEXT, MOST_WANTS};
 use farm_types::rows::{Holder, JobRow, JobState, State};
-
-/// The most members of a group.
-const MOST_MEMBERS: u64 = 4;
-
-/// The most bytes of a job's text.
-const LONGEST_BODY: usize = 65_536;
 
 /// The state that a job gives the board that it holds, if it holds one.
 pub fn job_gives(state: JobState) -> Option<State>
@@ -52,7 +46,7 @@ fn is_numbered(rows: &Rows, row: &JobRow) -> bool
         && row.number < rows.meta.next
         && res_of(rows.reservations.as_slice(), row.number).is_none()
         && row.group <= row.number
-        && row.number - row.group < MOST_MEMBERS
+        && row.number - row.group < MOST_WANTS as u64
 }
 
 /// The lines on a job's words.
@@ -63,7 +57,7 @@ fn is_worded(rows: &Rows, row: &JobRow) -> bool
     let (_owner, _priority, _body) = (row.owner.as_str(), row.priority.get(), row.body.as_str());
     tell_want(&row.want);
     tell_role(&row.role);
-    names_type(rows, &row.want.kind) && row.body.len() <= LONGEST_BODY
+    names_type(rows, &row.want.kind) && row.body.len() <= LONGEST_TEXT
 }
 
 /// The lines on a job's state, outcome and board.

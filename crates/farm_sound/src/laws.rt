@@ -5,6 +5,8 @@ ghost use Rattle.std.specs.List.{filter, AllByRecursion};
 ghost use Rattle.std.specs.List.Sorted.{IsStrictlySortedBy, IsPermutation};
 ghost use Rattle.std.specs.Str.{bytes_eq};
 ghost use Rattle.std.specs.declared.cmp.Ordering.{Ordering};
+ghost use Rattle.farm_types.specs.Limits.{longest_text, most_jobs, most_reservations, most_wants};
+ghost use Rattle.farm_types.specs.Limits.{numbers_end};
 ghost use Rattle.farm_types.specs.Words.{IsName, IsTags, IsText};
 ghost use Rattle.farm_types.specs.Proper.{is_priority, is_want};
 ghost use Rattle.farm_types.specs.Table.{put, put_all, change_where, type_cmp, board_cmp, job_cmp};
@@ -132,13 +134,13 @@ pub fn unmet_stays()
 pub fn submit_is_sound()
     ensures { (F : Farm) (caller : List ℕ) (priority : ℕ) (wants : List Want)
         (roles : List (Option (List ℕ))) (body : List ℕ)
-        → IsSound F → IsName caller → IsTrue (is_priority priority) → length body ≤ 65536
+        → IsSound F → IsName caller → IsTrue (is_priority priority) → length body ≤ longest_text
         → IsText body
         → AllByRecursion (λ w. IsSomeAnd w.kind (λ kind. IsSome (type_of F kind))
         × IsTrue (is_want w)) wants
         → AllByRecursion (λ r. IfSome r IsName) roles → length roles ≡ length wants
-        → length wants ≤ 4
-        → length F.jobs + length wants ≤ 100000 → F.next + length wants ≤ 1000000000
+        → length wants ≤ most_wants
+        → length F.jobs + length wants ≤ most_jobs → F.next + length wants ≤ numbers_end
         → IsSound (act F caller (Cmd.Submit priority wants roles body)).farm }
 {}
 
@@ -159,7 +161,7 @@ pub fn jobs_are_sound()
 pub fn reservations_are_sound()
     ensures reserve { (F : Farm) (caller : List ℕ) (priority : ℕ) (tags : List (List ℕ))
         → IsName caller → IsTrue (is_priority priority)
-        → IsTags tags → length F.reservations < 100000 → F.next < 1000000000
+        → IsTags tags → length F.reservations < most_reservations → F.next < numbers_end
         → IsSound F → IsSound (act F caller (Cmd.Reserve priority tags)).farm }
     ensures acquire { (F : Farm) (caller : List ℕ) (n : ℕ) (r : ResRow) → res_of F n ≡ Some r
         → r.state ≡ ResState.Allocated

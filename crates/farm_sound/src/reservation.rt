@@ -1,6 +1,7 @@
 //! The lines on reservations.
 ghost use Rattle.std.specs.Prelude.{◌≡◌, ◌≤◌, ◌↔◌, IsTrue};
 ghost use Rattle.std.specs.List.Sorted.{IsStrictlySortedBy};
+ghost use Rattle.farm_types.specs.Limits.{last_moment};
 ghost use Rattle.farm_types.specs.Table.{board_cmp};
 ghost use Rattle.farm_types.specs.Farm.{farm_of};
 ghost use Rattle.farm_types.specs.Sound.{IsResRow, res_gives};
@@ -9,10 +10,8 @@ ghost use Rattle.farm_sound.specs.Told.{IsSaidOfRes};
 use crate::seek::board_of;
 use crate::want::{names_board, tell_want};
 use farm_types::calls::Rows;
+use farm_types::limits::LEASE;
 use farm_types::rows::{Holder, ResRow, ResState, State};
-
-/// How long a reservation lives without a refresh, in seconds.
-const LEASE_SECONDS: u64 = 60;
 
 /// The state that a reservation gives the board that it holds, if it holds one.
 pub fn res_gives(state: ResState) -> Option<State>
@@ -28,7 +27,7 @@ pub fn res_gives(state: ResState) -> Option<State>
 /// The lines on a reservation.
 pub fn is_res_row(rows: &Rows, row: &ResRow) -> bool
     requires sorted { IsStrictlySortedBy board_cmp rows.now.boards.items }
-    requires clock { rows.now.meta.clock ≤ 250000000000 }
+    requires clock { rows.now.meta.clock ≤ last_moment }
     ensures { IsTrue result ↔ IsResRow (farm_of rows.now) row.now }
 {
     let (_owner, _priority) = (row.owner.as_str(), row.priority.get());
@@ -36,7 +35,7 @@ pub fn is_res_row(rows: &Rows, row: &ResRow) -> bool
     1 <= row.number
         && row.number < rows.meta.next
         && row.want.kind.is_none()
-        && row.deadline <= rows.meta.clock + LEASE_SECONDS
+        && row.deadline <= rows.meta.clock + LEASE
         && names_board(rows, &row.board)
         && match row.state {
             ResState::Waiting => row.board.is_none(),

@@ -9,35 +9,12 @@ use crate::board::{is_board_row, is_held, is_of_few, is_type_row};
 use crate::job::{is_collecting, is_in_step, is_job_row, is_said_of_job};
 use crate::reservation::{is_res_row, is_said_of_res};
 use farm_types::calls::Rows;
+use farm_types::limits::{
+    LAST_KIND, LAST_MOMENT, MOST_BOARDS, MOST_COMMANDS, MOST_JOBS, MOST_REPLIES, MOST_RESERVATIONS,
+    MOST_TYPES, NUMBERS_END,
+};
 use farm_types::rows::{BoardRow, JobRow, KeptRow, ResRow, TypeRow};
 use farm_types::table::is_sorted;
-
-/// The most types of a farm.
-pub const MOST_TYPES: usize = 64;
-
-/// The most boards of a farm.
-pub const MOST_BOARDS: usize = 256;
-
-/// The most job rows of a farm.
-pub const MOST_JOBS: usize = 100_000;
-
-/// The most reservation rows of a farm.
-pub const MOST_RESERVATIONS: usize = 100_000;
-
-/// The most kept replies of a farm.
-pub const MOST_KEPT: usize = 300_000;
-
-/// The last moment that the desk knows, in seconds since 1970.
-pub const LAST_MOMENT: u64 = 250_000_000_000;
-
-/// The most accepted commands of a farm.
-pub const MOST_COMMANDS: u64 = 9_000_000_000_000_000_000;
-
-/// The highest number that a farm can give next, and the highest in a reply.
-pub const HIGHEST_NUMBER: u64 = 1_000_000_000;
-
-/// How many kinds of commands there are.
-const COMMAND_KINDS: u64 = 14;
 
 fn is_ordered(rows: &Rows) -> bool
     ensures { IsTrue result ↔ IsOrdered (farm_of rows.now) }
@@ -56,11 +33,11 @@ fn is_few(rows: &Rows) -> bool
         && rows.boards.len() <= MOST_BOARDS
         && rows.jobs.len() <= MOST_JOBS
         && rows.reservations.len() <= MOST_RESERVATIONS
-        && rows.kept.len() <= MOST_KEPT
+        && rows.kept.len() <= MOST_REPLIES
         && rows.meta.clock <= LAST_MOMENT
         && rows.meta.count <= MOST_COMMANDS
         && 1 <= rows.meta.next
-        && rows.meta.next <= HIGHEST_NUMBER
+        && rows.meta.next <= NUMBERS_END
 }
 
 /// The lines on a kept reply.
@@ -69,10 +46,10 @@ fn is_kept_row(row: &KeptRow) -> bool
 {
     let (_caller, _key) = (row.caller.as_str(), row.key.as_str());
     1 <= row.kind
-        && row.kind <= COMMAND_KINDS
-        && row.reply.0 <= HIGHEST_NUMBER
-        && row.reply.1 <= HIGHEST_NUMBER
-        && row.reply.2 <= HIGHEST_NUMBER
+        && row.kind <= LAST_KIND
+        && row.reply.0 <= NUMBERS_END
+        && row.reply.1 <= NUMBERS_END
+        && row.reply.2 <= NUMBERS_END
 }
 
 /// A row of a table.

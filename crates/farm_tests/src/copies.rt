@@ -1,8 +1,8 @@
 //! Copies that no command makes.
 use crate::rows::want;
-use farm_types::asked::Wants;
 use farm_types::fault::WordFault;
 use farm_types::rows::Want;
+use farm_types::wants::Wants;
 use std::alloc::Global;
 use std::test::Fail;
 

@@ -3,9 +3,9 @@ use crate::fakes::{Interrupted, Slow, Tally};
 use crate::sent::FIRST_TYPE;
 use farm_http::counted_reader::CountedReader;
 use farm_http::fault::WireFault;
-use farm_http::limits::{MAX_BODY, MAX_HEAD};
 use farm_http::request::{read_request, read_request_counted};
 use farm_http::taken::Taken;
+use farm_types::limits::{LONGEST_BODY, LONGEST_HEAD};
 use farm_types::refusal::{BAD_REQUEST, Refusal};
 use std::alloc::{AllocError, Global};
 use std::io::Read;
@@ -98,9 +98,9 @@ fn interrupted_for_ever(rt: HostRuntime) {
 /// A request whose head and body are as long as they may be.
 fn longest(alloc: Global) -> Result<Vec<u8>, AllocError> {
     let mut bytes = b"POST /jobs HTTP/1.1\r\ncontent-length: 65536\r\nx: ".to_vec(alloc)?;
-    bytes.resize(MAX_HEAD - 4, b'a')?;
+    bytes.resize(LONGEST_HEAD - 4, b'a')?;
     bytes.extend_from_slice(b"\r\n\r\n")?;
-    bytes.resize(MAX_HEAD + MAX_BODY, b'b')?;
+    bytes.resize(LONGEST_HEAD + LONGEST_BODY, b'b')?;
     Ok(bytes)
 }
 

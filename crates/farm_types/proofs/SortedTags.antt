@@ -16,7 +16,7 @@ use Rattle.farm_types.specs.Table.{put, put_all}
 use Rattle.farm_types.proofs.Put.{AllByRecursion-weaker, AllByRecursion-put, length_put}
 use Rattle.farm_types.specs.declared.fault.WordFault.{WordFault}
 use Rattle.farm_types.specs.declared.fault.WordFault.TheVariants.{Refused, NoMemory}
-use Rattle.farm_types.specs.declared.refusal.TheConstants.{BAD_TAG, BAD_COUNT}
+use Rattle.farm_types.specs.Refusals.{bad_tag, bad_count}
 use Rattle.farm_types.specs.Reads.{Refuses}
 use Rattle.farm_types.proofs.Searched.{is_lt-Less}
 use Rattle.farm_types.proofs.WordLemmas.{and_parts}
@@ -77,13 +77,13 @@ parts_of_some [] some = absurd (grind (arith, nat_tests))
 parts_of_some (c ∷ text) some = refl
 
 -- a part that is refused refuses the list
-pub refused_part : (fault : WordFault) (part : List ℕ) (parts : List (List ℕ)) → Refuses {Y = List ℕ} fault (word_or (is_tag part) part BAD_TAG) → (is_tag part ≡ false → list_all is_tag parts ≡ false) → Refuses {Y = List (List ℕ)} fault (list_of_tags parts)
+pub refused_part : (fault : WordFault) (part : List ℕ) (parts : List (List ℕ)) → Refuses {Y = List ℕ} fault (word_or (is_tag part) part bad_tag) → (is_tag part ≡ false → list_all is_tag parts ≡ false) → Refuses {Y = List (List ℕ)} fault (list_of_tags parts)
 refused_part NoMemory part parts bad all = tt
 refused_part (Refused refusal) part parts bad all = by (is_tag part) refl bad
   where
-    by : (b : Bool) → is_tag part ≡ b → word_or b part BAD_TAG ≡ Err refusal.code → list_of_tags parts ≡ Err refusal.code
+    by : (b : Bool) → is_tag part ≡ b → word_or b part bad_tag ≡ Err refusal.code → list_of_tags parts ≡ Err refusal.code
     by true is bad = cc
-    by false is bad = let code : BAD_TAG ≡ refusal.code = cc in rw (all is, code)
+    by false is bad = let code : bad_tag ≡ refusal.code = cc in rw (all is, code)
 
 pub none_put : (items : List (List ℕ)) → items ≡ [] → (items ≡ put_all text_cmp [] []) × IsStrictlySortedBy text_cmp items × AllByRecursion IsTag items × (length items ≤ 0)
 unfolding IsStrictlySortedBy
@@ -106,7 +106,7 @@ pub tags_checked : (parts items : List (List ℕ)) → list_of_tags parts ≡ Ok
 unfolding is_tags
 tags_checked parts items read small up = by (list_all is_tag parts) refl read
   where
-    by : (b : Bool) → list_all is_tag parts ≡ b → cond b (Ok parts) (Err BAD_TAG) ≡ Ok items → nat_le (length items) 16 && list_all is_tag items && rise items ≡ true
+    by : (b : Bool) → list_all is_tag parts ≡ b → cond b (Ok parts) (Err bad_tag) ≡ Ok items → nat_le (length items) 16 && list_all is_tag items && rise items ≡ true
     by true all read = let same : parts ≡ items = cc in rw (few (length items) (rw same at small), rw same at all, up)
     by false all read = cc
 
@@ -130,7 +130,7 @@ tags_read_only tags text read = by (nat_lt 16 (length (tag_parts text))) (list_a
     joined [] = refl
     joined (c ∷ text) = join_with_byte-slice_split 44 (c ∷ text)
 
-    by : (many good : Bool) → cond many (Err BAD_COUNT) (cond good (Ok (tag_parts text)) (Err BAD_TAG)) ≡ Ok tags → tags_text tags ≡ text
+    by : (many good : Bool) → cond many (Err bad_count) (cond good (Ok (tag_parts text)) (Err bad_tag)) ≡ Ok tags → tags_text tags ≡ text
     by true good read = cc
     by false true read = let same : tag_parts text ≡ tags = cc in ap tags_text (sym same) ∙ joined text
     by false false read = cc

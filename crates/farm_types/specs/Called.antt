@@ -2,6 +2,7 @@
 use Rattle.std.specs.Prelude.{ℕ, List, [], ◌∷◌, ◌++◌, Option, Some, None, Result, Ok, codes, decimal, if◌then◌else◌}
 use Rattle.std.specs.List.{find}
 use Rattle.std.specs.Str.{bytes_eq}
+use Rattle.farm_types.specs.Limits.{highest_priority}
 use Rattle.farm_types.specs.Codes.{health_word, outcome_word}
 use Rattle.farm_types.specs.Reads.{◌>>=◌}
 use Rattle.farm_types.specs.declared.rows.Check.{Check}
@@ -34,7 +35,7 @@ abbrev pub priority_called : List ℕ → Option ℕ
 priority_called text =
     if bytes_eq text (codes "low") then Some 0
     else if bytes_eq text (codes "medium") then Some medium
-    else if bytes_eq text (codes "high") then Some 100
+    else if bytes_eq text (codes "high") then Some highest_priority
     else None
 
 -- ---- checks

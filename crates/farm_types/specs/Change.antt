@@ -2,6 +2,7 @@
 use Rattle.std.specs.Prelude.{ℕ, ◌==◌, ◌&&◌, ◌||◌, ◌+◌, ◌-◌, Bool, false, min, List, [], ◌∷◌, length, Option, Some, None, if◌then◌else◌}
 use Rattle.std.specs.List.{filter}
 use Rattle.std.specs.Option.{option_map_or}
+use Rattle.farm_types.specs.Limits.{lease, most_jobs_since}
 use Rattle.farm_types.specs.Codes.{same_health, same_job_state, same_outcome}
 use Rattle.farm_types.specs.Farm.{Farm, job_of, put_type, put_board, put_jobs, put_res, put_kept}
 use Rattle.farm_types.specs.Pass.{idle, with_board, change_jobs, change_res, is_dead, back, expire, checks, serve_all}
@@ -100,7 +101,7 @@ graded health b =
 -- a board after a job, and after a check
 abbrev pub after_job : Outcome → BoardRow → BoardRow
 after_job outcome b =
-    let used = record b { jobs_since = min (b.jobs_since + 1) 1000000 } in
+    let used = record b { jobs_since = min (b.jobs_since + 1) most_jobs_since } in
     if same_outcome outcome Outcome.Infra then graded Health.Unknown used else used
 
 abbrev pub after_check : Outcome → ℕ → BoardRow → BoardRow
@@ -129,13 +130,13 @@ act F caller (Cmd.Start number) =
     option_map_or (λ j. done j.group (start_group j.group F)) (job_of F number) (done 0 F)
 act F caller (Cmd.Finish number outcome) = option_map_or (λ j. done number (finish_one F.clock outcome F j)) (job_of F number) (done 0 F)
 act F caller (Cmd.Reserve priority tags) =
-    done F.next (record (put_res F (new_res F.next caller priority tags (F.clock + 60))) { next = F.next + 1 })
+    done F.next (record (put_res F (new_res F.next caller priority tags (F.clock + lease))) { next = F.next + 1 })
 act F caller (Cmd.Acquire number) =
     done number (change_res (λ r. r.number == number) (λ r. record r { state = ResState.Acquired }) (in_state State.Running) F)
 act F caller (Cmd.Release number) =
-    done number (change_res (λ r. r.number == number) (λ r. record r { state = ResState.Allocated; deadline = F.clock + 60 }) (in_state State.Reserved) F)
+    done number (change_res (λ r. r.number == number) (λ r. record r { state = ResState.Allocated; deadline = F.clock + lease }) (in_state State.Reserved) F)
 act F caller (Cmd.Refresh number) =
-    done number (change_res (λ r. r.number == number) (λ r. record r { deadline = F.clock + 60 }) (λ b. b) F)
+    done number (change_res (λ r. r.number == number) (λ r. record r { deadline = F.clock + lease }) (λ b. b) F)
 act F caller (Cmd.CancelRes number) =
     done number (change_res (λ r. r.number == number) (λ r. record r { state = ResState.Canceled }) idle F)
 act F caller Cmd.Pass =

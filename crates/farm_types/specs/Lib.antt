@@ -1,8 +1,8 @@
+pub mod Limits
 pub mod Words
 pub mod Codes
 pub mod Refusals
 pub mod Reads
-pub mod Limits
 pub mod Called
 pub mod Proper
 pub mod Table
@@ -15,6 +15,7 @@ pub mod Refuse
 pub mod Change
 pub mod Machine
 pub mod Sound
+pub mod Agreed
 pub mod Worked
 pub mod WorkedJobs
 pub mod WorkedCollecting

@@ -3,6 +3,7 @@ use Rattle.std.specs.Prelude.{ℕ, ◌==◌, ◌&&◌, ◌||◌, ◌+◌, ◌-�
 use Rattle.std.specs.List.{filter, find, fold, zip}
 use Rattle.std.specs.Option.{option_map_or}
 use Rattle.std.specs.Str.{bytes_eq}
+use Rattle.farm_types.specs.Limits.{highest_priority, lease, most_jobs, numbers_end}
 use Rattle.farm_types.specs.Codes.{same_health, same_job_state, same_res_state}
 use Rattle.farm_types.specs.Table.{put, job_cmp, change_where}
 use Rattle.farm_types.specs.Farm.{job_of, Farm, board_of, res_of, members, put_board}
@@ -77,7 +78,7 @@ abbrev pub is_due : Farm → ℕ → BoardRow → Bool
 is_due F t b = is_nobody b.holder && is_due_by (check_of F.types b.kind) t b
 
 abbrev pub has_room : Farm → ℕ → Bool
-has_room F n = nat_le (length F.jobs + n) 100000 && nat_le (F.next + n) 1000000000
+has_room F n = nat_le (length F.jobs + n) most_jobs && nat_le (F.next + n) numbers_end
 
 -- the job that checks a board
 abbrev pub check_job : ℕ → BoardRow → JobRow
@@ -86,7 +87,7 @@ check_job number b = record {
   group = number;
   checking = true;
   owner = codes "admin";
-  priority = 100;
+  priority = highest_priority;
   want = record { kind = Some b.kind; tags = [] };
   role = None;
   state = JobState.Scheduled;
@@ -113,7 +114,7 @@ abbrev pub placed : JobState → List ℕ → JobRow → JobRow
 placed state name j = record j { state = state; board = Some name }
 
 abbrev pub allocated : List ℕ → ℕ → ResRow → ResRow
-allocated name t r = record r { state = ResState.Allocated; board = Some name; deadline = t + 60 }
+allocated name t r = record r { state = ResState.Allocated; board = Some name; deadline = t + lease }
 
 -- a member is in the state and holds the board
 abbrev pub give_member : JobState → Farm → JobRow × BoardRow → Farm

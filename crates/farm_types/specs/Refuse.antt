@@ -4,6 +4,8 @@ use Rattle.std.specs.List.{filter, list_any}
 use Rattle.std.specs.Option.{option_map_or, option_or}
 use Rattle.std.specs.Bool.{then_some}
 use Rattle.std.specs.Str.{bytes_eq}
+use Rattle.farm_types.specs.Limits.{last_moment, most_boards, most_boards_of_type, most_commands, most_replies, most_reservations, most_types, numbers_end}
+use Rattle.farm_types.specs.Refusals.{bad_moment, board_exists, board_is_held, board_is_retired, forbidden, full, key_reused, no_board, no_job, no_reservation, no_such_boards, no_type, reservation_expired, type_exists, wrong_job_state, wrong_reservation_state}
 use Rattle.farm_types.specs.Codes.{same_health, same_job_state, same_res_state}
 use Rattle.farm_types.specs.Farm.{Farm, type_of, board_of, job_of, res_of, kept_of, members}
 use Rattle.farm_types.specs.Pick.{is_nobody, least, not_retired, waits}
@@ -11,6 +13,7 @@ use Rattle.farm_types.specs.Pass.{is_dead, has_room}
 use Rattle.farm_types.specs.declared.rows.Health.{Health}
 use Rattle.farm_types.specs.declared.rows.JobState.{JobState}
 use Rattle.farm_types.specs.declared.rows.ResState.{ResState}
+use Rattle.farm_types.specs.declared.rows.Want.{Want}
 use Rattle.farm_types.specs.declared.rows.BoardRow.{BoardRow}
 use Rattle.farm_types.specs.declared.rows.JobRow.{JobRow}
 use Rattle.farm_types.specs.declared.rows.ResRow.{ResRow}
@@ -90,68 +93,104 @@ is_alive r = same_res_state r.state ResState.Waiting || same_res_state r.state R
 -- the four commands on a reservation are refused alike: it isn't there, another's, past its deadline, or in the wrong state
 abbrev pub res_reasons : Farm → ℕ → ℕ → (ResRow → Bool) → (ResRow → Bool) → List Reason
 res_reasons F t number mine right =
-    (is_none (res_of F number), 30)
-    ∷ (not (res_is F number mine), 3)
-    ∷ (res_is F number (λ r. same_res_state r.state ResState.Expired || is_dead t r), 31)
-    ∷ (not (res_is F number right), 32)
+    (is_none (res_of F number), no_reservation)
+    ∷ (not (res_is F number mine), forbidden)
+    ∷ (res_is F number (λ r. same_res_state r.state ResState.Expired || is_dead t r), reservation_expired)
+    ∷ (not (res_is F number right), wrong_reservation_state)
     ∷ []
 
 abbrev pub owned_by : List ℕ → List ℕ → Bool
 owned_by caller owner = bytes_eq caller owner || is_admin caller
 
--- a command's own reasons, in their order
+-- ---- each command's own reasons, in their order
+
+abbrev pub add_type_reasons : Farm → List ℕ → List Reason
+add_type_reasons F name = (is_some (type_of F name), type_exists) ∷ []
+
+abbrev pub add_board_reasons : Farm → List ℕ → List ℕ → List Reason
+add_board_reasons F name kind = (is_none (type_of F kind), no_type) ∷ (is_some (board_of F name), board_exists) ∷ []
+
+abbrev pub set_tags_reasons : Farm → List ℕ → List Reason
+set_tags_reasons F name = (is_none (board_of F name), no_board) ∷ (board_is F name is_retired, board_is_retired) ∷ []
+
+abbrev pub set_health_reasons : Farm → List ℕ → Health → List Reason
+set_health_reasons F name health =
+    (is_none (board_of F name), no_board)
+    ∷ (board_is F name is_retired, board_is_retired)
+    ∷ (same_health health Health.Retired && board_is F name (λ b. not (is_nobody b.holder)), board_is_held)
+    ∷ []
+
+abbrev pub submit_reasons : Farm → List Want → List Reason
+submit_reasons F wants =
+    (list_any (λ w. option_map_or (λ kind. is_none (type_of F kind)) w.kind false) wants, no_type)
+    ∷ (is_none (least F.boards not_retired wants), no_such_boards)
+    ∷ []
+
+abbrev pub cancel_reasons : Farm → List ℕ → ℕ → List Reason
+cancel_reasons F caller number =
+    (is_none (job_of F number), no_job)
+    ∷ (not (job_is F number (λ j. owned_by caller j.owner)), forbidden)
+    ∷ (not (job_is F number (λ j. list_any can_cancel (members F j.group))), wrong_job_state)
+    ∷ []
+
+abbrev pub start_reasons : Farm → ℕ → List Reason
+start_reasons F number =
+    (is_none (job_of F number), no_job) ∷ (not (job_is F number (λ j. same_job_state j.state JobState.Scheduled)), wrong_job_state) ∷ []
+
+abbrev pub finish_reasons : Farm → ℕ → List Reason
+finish_reasons F number =
+    (is_none (job_of F number), no_job)
+    ∷ (not (job_is F number (λ j. same_job_state j.state JobState.Running || same_job_state j.state JobState.Canceling)), wrong_job_state)
+    ∷ []
+
+abbrev pub reserve_reasons : Farm → List (List ℕ) → List Reason
+reserve_reasons F tags = (is_none (least F.boards not_retired (record { kind = None; tags = tags } ∷ [])), no_such_boards) ∷ []
+
+abbrev pub acquire_reasons : Farm → ℕ → List ℕ → ℕ → List Reason
+acquire_reasons F t caller number = res_reasons F t number (λ r. bytes_eq caller r.owner) (λ r. same_res_state r.state ResState.Allocated)
+
+abbrev pub release_reasons : Farm → ℕ → List ℕ → ℕ → List Reason
+release_reasons F t caller number = res_reasons F t number (λ r. owned_by caller r.owner) (λ r. same_res_state r.state ResState.Acquired)
+
+-- of Refresh and CancelRes
+abbrev pub alive_reasons : Farm → ℕ → List ℕ → ℕ → List Reason
+alive_reasons F t caller number = res_reasons F t number (λ r. owned_by caller r.owner) is_alive
+
 abbrev pub reasons : Farm → ℕ → List ℕ → Cmd → List Reason
-reasons F t caller (Cmd.AddType name check) = (is_some (type_of F name), 11) ∷ []
-reasons F t caller (Cmd.AddBoard name kind tags) = (is_none (type_of F kind), 10) ∷ (is_some (board_of F name), 13) ∷ []
-reasons F t caller (Cmd.SetTags name tags) = (is_none (board_of F name), 12) ∷ (board_is F name is_retired, 15) ∷ []
-reasons F t caller (Cmd.SetHealth name health) =
-    (is_none (board_of F name), 12)
-    ∷ (board_is F name is_retired, 15)
-    ∷ (same_health health Health.Retired && board_is F name (λ b. not (is_nobody b.holder)), 14)
-    ∷ []
-reasons F t caller (Cmd.Submit priority wants roles body) =
-    (list_any (λ w. option_map_or (λ kind. is_none (type_of F kind)) w.kind false) wants, 10)
-    ∷ (is_none (least F.boards not_retired wants), 22)
-    ∷ []
-reasons F t caller (Cmd.Cancel number) =
-    (is_none (job_of F number), 20)
-    ∷ (not (job_is F number (λ j. owned_by caller j.owner)), 3)
-    ∷ (not (job_is F number (λ j. list_any can_cancel (members F j.group))), 21)
-    ∷ []
-reasons F t caller (Cmd.Start number) =
-    (is_none (job_of F number), 20) ∷ (not (job_is F number (λ j. same_job_state j.state JobState.Scheduled)), 21) ∷ []
-reasons F t caller (Cmd.Finish number outcome) =
-    (is_none (job_of F number), 20)
-    ∷ (not (job_is F number (λ j. same_job_state j.state JobState.Running || same_job_state j.state JobState.Canceling)), 21)
-    ∷ []
-reasons F t caller (Cmd.Reserve priority tags) = (is_none (least F.boards not_retired (record { kind = None; tags = tags } ∷ [])), 22) ∷ []
-reasons F t caller (Cmd.Acquire number) =
-    res_reasons F t number (λ r. bytes_eq caller r.owner) (λ r. same_res_state r.state ResState.Allocated)
-reasons F t caller (Cmd.Release number) =
-    res_reasons F t number (λ r. owned_by caller r.owner) (λ r. same_res_state r.state ResState.Acquired)
-reasons F t caller (Cmd.Refresh number) = res_reasons F t number (λ r. owned_by caller r.owner) is_alive
-reasons F t caller (Cmd.CancelRes number) = res_reasons F t number (λ r. owned_by caller r.owner) is_alive
+reasons F t caller (Cmd.AddType name check) = add_type_reasons F name
+reasons F t caller (Cmd.AddBoard name kind tags) = add_board_reasons F name kind
+reasons F t caller (Cmd.SetTags name tags) = set_tags_reasons F name
+reasons F t caller (Cmd.SetHealth name health) = set_health_reasons F name health
+reasons F t caller (Cmd.Submit priority wants roles body) = submit_reasons F wants
+reasons F t caller (Cmd.Cancel number) = cancel_reasons F caller number
+reasons F t caller (Cmd.Start number) = start_reasons F number
+reasons F t caller (Cmd.Finish number outcome) = finish_reasons F number
+reasons F t caller (Cmd.Reserve priority tags) = reserve_reasons F tags
+reasons F t caller (Cmd.Acquire number) = acquire_reasons F t caller number
+reasons F t caller (Cmd.Release number) = release_reasons F t caller number
+reasons F t caller (Cmd.Refresh number) = alive_reasons F t caller number
+reasons F t caller (Cmd.CancelRes number) = alive_reasons F t caller number
 reasons F t caller Cmd.Pass = []
 
 -- whether the command would go beyond a limit of its own
 abbrev pub is_full_for : Farm → Cmd → Bool
-is_full_for F (Cmd.AddType name check) = nat_le 64 (length F.types)
+is_full_for F (Cmd.AddType name check) = nat_le most_types (length F.types)
 is_full_for F (Cmd.AddBoard name kind tags) =
-    nat_le 256 (length F.boards) || nat_le 64 (length (filter (λ b. bytes_eq b.kind kind) F.boards))
+    nat_le most_boards (length F.boards) || nat_le most_boards_of_type (length (filter (λ b. bytes_eq b.kind kind) F.boards))
 is_full_for F (Cmd.Submit priority wants roles body) = not (has_room F (length wants))
-is_full_for F (Cmd.Reserve priority tags) = nat_le 100000 (length F.reservations) || nat_le 1000000000 F.next
+is_full_for F (Cmd.Reserve priority tags) = nat_le most_reservations (length F.reservations) || nat_le numbers_end F.next
 is_full_for F cmd = false
 
 abbrev pub is_full : Farm → Call → Bool
 is_full F call =
-    is_full_for F call.cmd || (is_some call.key && nat_le 300000 (length F.kept)) || nat_le 9000000000000000000 F.count
+    is_full_for F call.cmd || (is_some call.key && nat_le most_replies (length F.kept)) || nat_le most_commands F.count
 
 -- what is kept for the call's caller and key
 abbrev pub kept_for : Farm → Call → Option KeptRow
 kept_for F call = option_map_or (λ key. kept_of F call.caller key) call.key None
 
 abbrev pub is_late : Call → Bool
-is_late call = nat_lt 250000000000 call.now
+is_late call = nat_lt last_moment call.now
 
 abbrev pub keeps_kind : Farm → Call → Bool
 keeps_kind F call = option_map_or (λ r. r.kind == kind_of call.cmd) (kept_for F call) false
@@ -160,16 +199,16 @@ keeps_kind F call = option_map_or (λ r. r.kind == kind_of call.cmd) (kept_for F
 abbrev pub is_reused : Farm → Call → Bool
 is_reused F call = is_some (kept_for F call) && not (keeps_kind F call)
 
--- 2, 40 and 3 by role come first
+-- a bad moment, a reused key and a caller by role come first
 unfoldable pub early_refusal : Farm → Call → Option ℕ
 early_refusal F call =
-    first_code ((is_late call, 2) ∷ (is_reused F call, 40) ∷ (not (may_give call.caller call.cmd), 3) ∷ [])
+    first_code ((is_late call, bad_moment) ∷ (is_reused F call, key_reused) ∷ (not (may_give call.caller call.cmd), forbidden) ∷ [])
 
 -- then the command's own reasons
 unfoldable pub own_refusal : Farm → Call → Option ℕ
 own_refusal F call = first_code (reasons F (moment F call) call.caller call.cmd)
 
--- and 4 comes last
+-- and a full farm comes last
 unfoldable pub refusal : Farm → Call → Option ℕ
 refusal F call =
-    option_or (early_refusal F call) (option_or (own_refusal F call) (then_some (is_full F call) 4))
+    option_or (early_refusal F call) (option_or (own_refusal F call) (then_some (is_full F call) full))

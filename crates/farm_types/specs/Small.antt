@@ -1,6 +1,7 @@
 -- The numbers that a store can keep.
 use Rattle.std.specs.Prelude.{◌≤◌, ℕ}
 use Rattle.std.specs.List.{AllByRecursion}
+use Rattle.farm_types.specs.Limits.{largest_stored}
 use Rattle.farm_types.specs.declared.calls.Changes.{Changes}
 use Rattle.farm_types.specs.declared.rows.Check.{Check}
 use Rattle.farm_types.specs.declared.rows.Holder.{Holder}
@@ -10,9 +11,8 @@ use Rattle.farm_types.specs.declared.rows.JobRow.{JobRow}
 use Rattle.farm_types.specs.declared.rows.ResRow.{ResRow}
 use Rattle.farm_types.specs.declared.rows.KeptRow.{KeptRow}
 
--- below 2^63, and a round number
 abbrev pub IsSmall : ℕ → Type 0
-IsSmall n = n ≤ 9000000000000000000
+IsSmall n = n ≤ largest_stored
 
 -- a check's frequency, and 0 without a check
 abbrev pub every_of : Check → ℕ

@@ -4,6 +4,7 @@ use Rattle.std.specs.List.{find, filter, AllByRecursion, filter_map}
 use Rattle.std.specs.List.Sorted.{IsStrictlySortedBy}
 use Rattle.std.specs.Option.{option_map_or}
 use Rattle.std.specs.Str.{bytes_eq}
+use Rattle.farm_types.specs.Limits.{highest_priority, last_kind, last_moment, lease, longest_text, most_boards, most_boards_of_type, most_commands, most_jobs, most_jobs_since, most_replies, most_reservations, most_types, most_wants, numbers_end}
 use Rattle.farm_types.specs.Words.{IsName, IsKey, IsTags, IsText}
 use Rattle.farm_types.specs.Proper.{is_frequency, has_no_name_tag, is_priority, is_want}
 use Rattle.farm_types.specs.Table.{type_cmp, board_cmp, job_cmp, res_cmp, kept_cmp}
@@ -118,15 +119,15 @@ pub record IsBoardRow (F : Farm) (r : BoardRow) : Type 0 where
   pub kind : IsSome (type_of F r.kind)
   pub tags : IsTags r.tags
   pub no_name_tag : IsTrue (has_no_name_tag r.tags)
-  pub since : r.jobs_since ≤ 1000000
+  pub since : r.jobs_since ≤ most_jobs_since
   pub checked : r.last_check ≤ F.clock
   pub retired : r.health ≡ Health.Retired → r.holder ≡ Holder.Nobody
 
--- a check is a group of one, of the admin, with priority 100, that never waits for boards, without tags, role and text
+-- a check is a group of one, of the admin, with the highest priority, that never waits for boards, without tags, role and text
 pub record IsCheck (r : JobRow) : Type 0 where
   pub alone : r.number ≡ r.group
   pub owner : r.owner ≡ codes "admin"
-  pub priority : r.priority ≡ 100
+  pub priority : r.priority ≡ highest_priority
   pub state : phase r.state ≢ 0
   pub tags : r.want.tags ≡ []
   pub role : r.role ≡ None
@@ -150,13 +151,13 @@ pub record IsJobRow (F : Farm) (r : JobRow) : Type 0 where
   pub want : IsTrue (is_want r.want)
   pub kind : IsSomeAnd r.want.kind (λ kind. IsSome (type_of F kind))
   pub role : IfSome r.role IsName
-  pub body : length r.body ≤ 65536
+  pub body : length r.body ≤ longest_text
   pub text : IsText r.body
   pub board : IsBoardOf F r.board
   pub outcome : IsTrue (is_some r.outcome) ↔ (r.state ≡ JobState.Finished)
   pub waits : r.state ≡ JobState.Submitted → r.board ≡ None
   pub holds : IsSome (job_gives r.state) → IsSome r.board
-  pub group : (r.group ≤ r.number) × (r.number < r.group + 4)
+  pub group : (r.group ≤ r.number) × (r.number < r.group + most_wants)
   pub follows : r.number ≢ r.group → Follows F r
   pub check : r.checking ≡ true → IsCheck r
 
@@ -166,7 +167,7 @@ pub record IsResRow (F : Farm) (r : ResRow) : Type 0 where
   pub priority : IsTrue (is_priority r.priority)
   pub want : IsTrue (is_want r.want)
   pub kind : r.want.kind ≡ None
-  pub deadline : r.deadline ≤ F.clock + 60
+  pub deadline : r.deadline ≤ F.clock + lease
   pub board : IsBoardOf F r.board
   pub waits : r.state ≡ ResState.Waiting → r.board ≡ None
   pub holds : IsSome (res_gives r.state) → IsSome r.board
@@ -174,8 +175,8 @@ pub record IsResRow (F : Farm) (r : ResRow) : Type 0 where
 pub record IsKeptRow (r : KeptRow) : Type 0 where
   pub caller : IsName r.caller
   pub key : IsKey r.key
-  pub kind : (1 ≤ r.kind) × (r.kind ≤ 14)
-  pub reply : (r.reply.0 ≤ 1000000000) × (r.reply.1 ≤ 1000000000) × (r.reply.2 ≤ 1000000000)
+  pub kind : (1 ≤ r.kind) × (r.kind ≤ last_kind)
+  pub reply : (r.reply.0 ≤ numbers_end) × (r.reply.1 ≤ numbers_end) × (r.reply.2 ≤ numbers_end)
 
 -- words, limits and what each row says of the others: all lines but those of holders and groups
 pub record IsSteady (F : Farm) : Type 0 where
@@ -189,15 +190,15 @@ pub record IsSteady (F : Farm) : Type 0 where
   pub jobs : AllByRecursion (IsJobRow F) F.jobs
   pub reservations : AllByRecursion (IsResRow F) F.reservations
   pub kept : AllByRecursion IsKeptRow F.kept
-  pub few_types : length F.types ≤ 64
-  pub few_boards : length F.boards ≤ 256
-  pub few_of_kind : (kind : List ℕ) → length (filter (λ b. bytes_eq b.kind kind) F.boards) ≤ 64
-  pub few_jobs : length F.jobs ≤ 100000
-  pub few_reservations : length F.reservations ≤ 100000
-  pub few_kept : length F.kept ≤ 300000
-  pub clock : F.clock ≤ 250000000000
-  pub count : F.count ≤ 9000000000000000000
-  pub next : (1 ≤ F.next) × (F.next ≤ 1000000000)
+  pub few_types : length F.types ≤ most_types
+  pub few_boards : length F.boards ≤ most_boards
+  pub few_of_kind : (kind : List ℕ) → length (filter (λ b. bytes_eq b.kind kind) F.boards) ≤ most_boards_of_type
+  pub few_jobs : length F.jobs ≤ most_jobs
+  pub few_reservations : length F.reservations ≤ most_reservations
+  pub few_kept : length F.kept ≤ most_replies
+  pub clock : F.clock ≤ last_moment
+  pub count : F.count ≤ most_commands
+  pub next : (1 ≤ F.next) × (F.next ≤ numbers_end)
 
 pub record IsSound (F : Farm) : Type 0 where
   pub steady : IsSteady F

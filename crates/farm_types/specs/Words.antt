@@ -5,6 +5,7 @@ use Rattle.std.specs.Str.{bytes_eq, is_utf8}
 use Rattle.std.specs.Cmp.Lexicographic.{slice_cmp}
 use Rattle.std.specs.Ordering.{nat_cmp, is_lt}
 use Rattle.std.specs.declared.cmp.Ordering.{Ordering}
+use Rattle.farm_types.specs.Limits.{longest_key, longest_name, longest_tag_key, longest_tag_value, most_tags}
 
 -- texts stand in byte order: the first difference decides
 abbrev pub text_cmp : List ℕ → List ℕ → Ordering
@@ -19,12 +20,12 @@ is_name_byte c =
 unfoldable pub is_word : ℕ → List ℕ → Bool
 is_word most text = nat_le 1 (length text) && nat_le (length text) most && list_all is_name_byte text
 
--- a name has at most 48 bytes, a key at most 64
+-- a name and a key are words, each up to its limit
 abbrev pub IsName : List ℕ → Type 0
-IsName text = IsTrue (is_word 48 text)
+IsName text = IsTrue (is_word longest_name text)
 
 abbrev pub IsKey : List ℕ → Type 0
-IsKey text = IsTrue (is_word 64 text)
+IsKey text = IsTrue (is_word longest_key text)
 
 -- a text that is carried is UTF-8
 abbrev pub IsText : List ℕ → Type 0
@@ -34,9 +35,9 @@ IsText text = IsTrue (is_utf8 text)
 abbrev pub tag_key : List ℕ → List ℕ
 tag_key = take_while (λ c. not (c == 61))
 
--- a tag is a key of at most 32 bytes, or one, '=' and a value of at most 64
+-- a tag is a key, or one, '=' and a value
 unfoldable pub is_tag : List ℕ → Bool
-is_tag text = is_word 32 (tag_key text) && (bytes_eq (tag_key text) text || is_word 64 (drop (length (tag_key text) + 1) text))
+is_tag text = is_word longest_tag_key (tag_key text) && (bytes_eq (tag_key text) text || is_word longest_tag_value (drop (length (tag_key text) + 1) text))
 
 abbrev pub IsTag : List ℕ → Type 0
 IsTag text = IsTrue (is_tag text)
@@ -47,9 +48,9 @@ rise [] = true
 rise (x ∷ []) = true
 rise (x ∷ y ∷ rest) = is_lt (text_cmp x y) && rise (y ∷ rest)
 
--- at most sixteen tags in byte order without doubles
+-- a few tags in byte order without doubles
 unfoldable pub is_tags : List (List ℕ) → Bool
-is_tags tags = nat_le (length tags) 16 && list_all is_tag tags && rise tags
+is_tags tags = nat_le (length tags) most_tags && list_all is_tag tags && rise tags
 
 abbrev pub IsTags : List (List ℕ) → Type 0
 IsTags tags = IsTrue (is_tags tags)

@@ -7,11 +7,9 @@ ghost use Rattle.farm_types.specs.Called.{unit_called, holder_text, claim_word};
 ghost use Rattle.farm_types.specs.declared.rows.Outcome.{Outcome};
 
 use crate::claims::ClaimKind;
+use crate::limits::LONGEST_EVERY;
 use crate::rows::{Check, Health, Holder, Outcome};
 use std::alloc::{AllocError, Global};
-
-/// The most hours or jobs between two checks.
-pub const LONGEST_EVERY: u64 = 10_000;
 
 /// Whether a check's frequency may be that number, 1 to 10,000.
 pub fn is_every(number: u64) -> bool

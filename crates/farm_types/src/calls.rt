@@ -2,11 +2,11 @@
 ghost use Rattle.std.specs.Prelude.{◌≡◌, IsTrue, ⊤};
 ghost use Rattle.farm_types.specs.Proper.{is_proper};
 
-pub use crate::asked::{Roles, Wants};
 use crate::refusal::Refusal;
 use crate::rows::{
     BoardRow, Check, Health, JobRow, KeptRow, MetaRow, Outcome, Reply, ResRow, TypeRow,
 };
+pub use crate::wants::{Roles, Wants};
 use crate::words::{Body, Key, Name, Priority, Tags};
 
 /// One of the fourteen commands.

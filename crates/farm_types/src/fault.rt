@@ -1,5 +1,5 @@
 //! Why a word is not read.
-use crate::refusal::Refusal;
+use crate::refusal::{NO_MEMORY, Refusal};
 use std::alloc::{AllocError, AllocFailed};
 use thiserror::Error;
 
@@ -8,7 +8,7 @@ use thiserror::Error;
 pub enum WordFault {
     #[error("{0}")]
     Refused(Refusal),
-    #[error("no memory")]
+    #[error("{}", Refusal {code: NO_MEMORY})]
     NoMemory,
 }
 

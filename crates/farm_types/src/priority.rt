@@ -1,13 +1,11 @@
 //! Priorities.
 ghost use Rattle.std.specs.Prelude.{◌≡◌, ◌≤◌, ◌<◌, MatchResult, IsTrue};
-ghost use Rattle.farm_types.specs.Limits.{is_priority};
+ghost use Rattle.farm_types.specs.Limits.{highest_priority, is_priority};
 ghost use Rattle.farm_types.specs.Called.{medium, priority_called};
 
+use crate::limits::HIGHEST_PRIORITY;
 use crate::refusal::{BAD_PRIORITY, Refusal};
 use std::marker::Model;
-
-/// The highest priority.
-pub const HIGHEST_PRIORITY: u64 = 100;
 
 /// The priorities that LAVA calls low, medium and high. Medium is also what an absent one means.
 const LOW: u64 = 0;
@@ -38,8 +36,8 @@ impl Model for Priority {
 impl Priority {
     /// The priority of that number; refused above 100.
     pub fn of(number: u64) -> Result<Priority, Refusal>
-        ensures { MatchResult result (λ p. (p ≡ number) × (number ≤ 100))
-            (λ r. (r.code ≡ BAD_PRIORITY) × (100 < number)) }
+        ensures { MatchResult result (λ p. (p ≡ number) × (number ≤ highest_priority))
+            (λ r. (r.code ≡ BAD_PRIORITY) × (highest_priority < number)) }
     {
         if number > HIGHEST_PRIORITY {
             return Err(Refusal { code: BAD_PRIORITY });

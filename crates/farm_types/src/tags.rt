@@ -4,6 +4,7 @@ ghost use Rattle.std.specs.Prelude.{IsTrue, IfOk, IfErr, OnOk, Ok, Err, codes, n
 ghost use Rattle.std.specs.Prelude.{MatchResult, ◌<◌, ◌≤◌, if◌then◌else◌, nat_lt, string_bytes};
 ghost use Rattle.std.specs.List.{list_any, list_all, position, slice_split};
 ghost use Rattle.std.specs.Str.{bytes_eq};
+ghost use Rattle.farm_types.specs.Limits.{longest_tag_key, longest_tag_value, most_tags};
 ghost use Rattle.farm_types.specs.Words.{IsTag, IsTags, is_word, is_tag, is_tags, tag_key, rise};
 ghost use Rattle.farm_types.specs.Words.{text_cmp, word_or};
 ghost use Rattle.farm_types.specs.Tags.{tags_text, tags_read, tags_of, tags_among, tag_parts};
@@ -12,21 +13,13 @@ ghost use Rattle.farm_types.specs.Proper.{has_no_name_tag};
 ghost use Rattle.farm_types.specs.Reads.{Reads};
 
 use crate::fault::WordFault;
+use crate::limits::{LONGEST_TAG_KEY, LONGEST_TAG_VALUE, MOST_TAGS};
 use crate::refusal::{BAD_COUNT, BAD_TAG, Refusal};
 use crate::table::{Keyed, is_sorted, upsert};
-use crate::words::{LONGEST_KEY, is_word, owned_text};
+use crate::words::{is_word, owned_text};
 use std::alloc::{AllocError, Global};
 use std::cmp::Ordering;
 use std::marker::Model;
-
-/// The most bytes of a tag's key.
-pub const LONGEST_TAG_KEY: usize = 32;
-
-/// The most bytes of a tag's value.
-pub const LONGEST_TAG_VALUE: usize = 64;
-
-/// The most tags of a board or a want.
-pub const MOST_TAGS: usize = 16;
 
 /// The place of the first '=', if there is one.
 fn key_end(text: &[u8]) -> Option<usize>
@@ -49,7 +42,8 @@ fn key_of(text: &[u8]) -> &[u8]
 /// Whether what stands before and behind a place is a key and a value.
 fn is_keyed(text: &[u8], end: usize) -> bool
     requires { end < length text.now }
-    ensures { result ≡ (is_word 32 (take end text.now) && is_word 64 (drop (end + 1) text.now)) }
+    ensures { result ≡ (is_word longest_tag_key (take end text.now)
+        && is_word longest_tag_value (drop (end + 1) text.now)) }
 {
     is_word(LONGEST_TAG_KEY, &text[..end]) && is_word(LONGEST_TAG_VALUE, &text[end + 1..])
 }

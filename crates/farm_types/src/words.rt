@@ -5,21 +5,17 @@ ghost use Rattle.std.specs.Str.{IsUtf8, bytes_eq, is_utf8};
 ghost use Rattle.std.specs.String.{string_bytes};
 ghost use Rattle.farm_types.specs.Words.{IsName, IsKey, IsText, is_word, is_name_byte, text_cmp};
 ghost use Rattle.farm_types.specs.Words.{word_or};
+ghost use Rattle.farm_types.specs.Limits.{longest_key, longest_name};
 ghost use Rattle.farm_types.specs.Reads.{Reads};
 
 use crate::fault::WordFault;
+use crate::limits::{LONGEST_KEY, LONGEST_NAME};
 pub use crate::priority::Priority;
 use crate::refusal::{BAD_KEY, BAD_NAME, Refusal};
 pub use crate::tags::{Tag, Tags};
 use std::alloc::{AllocError, Global};
 use std::cmp::Ordering;
 use std::marker::Model;
-
-/// The most bytes of a name.
-pub const LONGEST_NAME: usize = 48;
-
-/// The most bytes of a key.
-pub const LONGEST_KEY: usize = 64;
 
 /// Whether a byte may stand in a word: a letter, a digit, `-`, `_` or `.`.
 pub fn is_name_byte(byte: u8) -> bool
@@ -81,8 +77,8 @@ impl Name {
     #[tactic(auto, using(crate::proofs::WordLemmas::IsUtf8_of_word))]
     pub fn parse(alloc: Global, text: &[u8]) -> Result<Name, WordFault>
         ensures reads { Reads (λ name. name) result
-            (word_or (is_word 48 text.now) text.now BAD_NAME) }
-        ensures memory { result ≡ Err WordFault.NoMemory → IsTrue (is_word 48 text.now) }
+            (word_or (is_word longest_name text.now) text.now BAD_NAME) }
+        ensures memory { result ≡ Err WordFault.NoMemory → IsTrue (is_word longest_name text.now) }
     {
         if !is_word(LONGEST_NAME, text) {
             return Err(WordFault::Refused(Refusal { code: BAD_NAME }));
@@ -146,8 +142,9 @@ impl Key {
     /// The key that a text spells; refused as a bad key, or for memory where it spells one.
     #[tactic(auto, using(crate::proofs::WordLemmas::IsUtf8_of_word))]
     pub fn parse(alloc: Global, text: &[u8]) -> Result<Key, WordFault>
-        ensures reads { Reads (λ key. key) result (word_or (is_word 64 text.now) text.now BAD_KEY) }
-        ensures memory { result ≡ Err WordFault.NoMemory → IsTrue (is_word 64 text.now) }
+        ensures reads { Reads (λ key. key) result
+            (word_or (is_word longest_key text.now) text.now BAD_KEY) }
+        ensures memory { result ≡ Err WordFault.NoMemory → IsTrue (is_word longest_key text.now) }
     {
         if !is_word(LONGEST_KEY, text) {
             return Err(WordFault::Refused(Refusal { code: BAD_KEY }));

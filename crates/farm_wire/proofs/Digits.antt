@@ -7,7 +7,7 @@ pub digits_grow : (digits : List ℕ) (n : ℕ) → n ≤ digits_value_after 10 
 digits_grow [] n = le_refl n
 digits_grow (c ∷ cs) n = let more : n ≤ n * 10 + digit_value c = omega arith in le_trans more (digits_grow cs (n * 10 + digit_value c))
 
-pub digits_exceed : (digits : List ℕ) (n i : ℕ) → i < length digits → 999999999 < n * 10 + digit_value (get_or digits i 0) → 999999999 < digits_value_after 10 n (drop i digits)
+pub digits_exceed : (digits : List ℕ) (n i : ℕ) → i < length digits → 1000000000 ≤ n * 10 + digit_value (get_or digits i 0) → 1000000000 ≤ digits_value_after 10 n (drop i digits)
 digits_exceed digits n i within large =
     let e = ap (digits_value_after 10 n) (drop-cons digits i 0 within) in
     omega (arith, e, large, digits_grow (drop (suc i) digits) (n * 10 + digit_value (get_or digits i 0)))

@@ -6,7 +6,7 @@ use Rattle.std.proofs.lemmas.Str.{IsUtf8-from_is_utf8, is_utf8-from_IsUtf8}
 use Rattle.serde_json.specs.Data.{Data}
 use Rattle.serde_json.specs.Read.{read}
 use Rattle.serde_json.specs.Find.{as_object}
-use Rattle.farm_types.specs.declared.refusal.TheConstants.{BAD_REQUEST}
+use Rattle.farm_types.specs.Refusals.{bad_request}
 use Rattle.farm_wire.specs.Fields.{object_in, object_or}
 
 pub some_object : {X Y : Type 0} (f : X → Y) (r : Option X) (o : Option Y) → option_map f r ≡ o → is_some r ≡ true → is_some o ≡ true
@@ -16,12 +16,12 @@ some_object f (Some x) o e n = ap is_some (sym e)
 pub body_ok : (body : List ℕ) (d : Data) → IsUtf8 body → read body ≡ Some d → is_some (as_object d) ≡ true → object_in body ≡ Ok d
 unfolding object_in
 body_ok body d u r o =
-    ap (λ b. object_or (if b then read body else None)) (is_utf8-from_IsUtf8 body u) ∙ ap object_or r ∙ ap (λ b. if b then Ok d else Err BAD_REQUEST) o
+    ap (λ b. object_or (if b then read body else None)) (is_utf8-from_IsUtf8 body u) ∙ ap object_or r ∙ ap (λ b. if b then Ok d else Err bad_request) o
 
-refused : (body : List ℕ) (b : Bool) → is_utf8 body ≡ b → (IsUtf8 body → read body ≡ None) → object_or (if b then read body else None) ≡ Err BAD_REQUEST
+refused : (body : List ℕ) (b : Bool) → is_utf8 body ≡ b → (IsUtf8 body → read body ≡ None) → object_or (if b then read body else None) ≡ Err bad_request
 refused body true e n = ap object_or (n (IsUtf8-from_is_utf8 body e))
 refused body false e n = refl
 
-pub body_err : (body : List ℕ) → (IsUtf8 body → read body ≡ None) → object_in body ≡ Err BAD_REQUEST
+pub body_err : (body : List ℕ) → (IsUtf8 body → read body ≡ None) → object_in body ≡ Err bad_request
 unfolding object_in
 body_err body n = refused body (is_utf8 body) refl n

@@ -4,17 +4,17 @@ use Rattle.farm_types.specs.declared.calls.Cmd.{Cmd}
 use Rattle.farm_http.specs.Request.{Request}
 use Rattle.farm_types.specs.Reads.{◌>>=◌}
 use Rattle.farm_wire.specs.Reading.{Denial, other_methods, or_refused}
-use Rattle.farm_wire.specs.Places.{path_in, place_in, allowed_at, endpoint_at}
+use Rattle.farm_wire.specs.Routes.{path_in, route_in, allowed_at, endpoint_at}
 use Rattle.farm_wire.specs.Sender.{caller_in, key_in}
 use Rattle.farm_wire.specs.Parameters.{job_in}
 use Rattle.farm_wire.specs.Commands.{command_in}
 use Rattle.farm_wire.specs.declared.allowed.Allowed.{Allowed}
 use Rattle.farm_wire.specs.declared.ask.Ask.{Ask}
 use Rattle.farm_wire.specs.declared.ask.View.{View}
-use Rattle.farm_wire.specs.declared.place.CommandKind.{CommandKind}
-use Rattle.farm_wire.specs.declared.place.Endpoint.{Endpoint}
-use Rattle.farm_wire.specs.declared.place.Place.{Place}
-use Rattle.farm_wire.specs.declared.place.ViewKind.{ViewKind}
+use Rattle.farm_wire.specs.declared.route.CommandKind.{CommandKind}
+use Rattle.farm_wire.specs.declared.route.Endpoint.{Endpoint}
+use Rattle.farm_wire.specs.declared.route.Route.{Route}
+use Rattle.farm_wire.specs.declared.route.ViewKind.{ViewKind}
 
 -- a command with its caller, its key and its moment, or one of the views
 pub data Asked : Type 0 where
@@ -53,13 +53,13 @@ endpoint_or allowed None = Err (other_methods allowed)
 endpoint_or allowed (Some endpoint) = Ok endpoint
 
 -- what the method leads to, where the path has it
-unfoldable pub endpoint_in : Place → List ℕ → Result Endpoint Denial
-endpoint_in place method = endpoint_or (allowed_at place) (endpoint_at place method)
+unfoldable pub endpoint_in : Route → List ℕ → Result Endpoint Denial
+endpoint_in route method = endpoint_or (allowed_at route) (endpoint_at route method)
 
 -- what a request asks at a moment: its path is looked at first, then its method, then the rest
 unfoldable pub ask : Request → ℕ → Result Asked Denial
 ask request now = do
   path ← or_refused (path_in request.target)
-  place ← or_refused (place_in path)
-  endpoint ← endpoint_in place request.method
+  route ← or_refused (route_in path)
+  endpoint ← endpoint_in route request.method
   or_refused (asked_at endpoint path request now)

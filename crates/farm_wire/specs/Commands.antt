@@ -9,14 +9,14 @@ use Rattle.farm_types.specs.Called.{unit_called, check_by}
 use Rattle.farm_types.specs.declared.called.CheckUnit.{CheckUnit}
 use Rattle.farm_types.specs.declared.rows.Check.{Check}
 use Rattle.farm_types.specs.declared.calls.Cmd.{Cmd}
-use Rattle.farm_types.specs.declared.refusal.TheConstants.{BAD_REQUEST, BAD_PRIORITY}
+use Rattle.farm_types.specs.Refusals.{bad_request, bad_priority}
 use Rattle.farm_jobfile.specs.Job.{job}
 use Rattle.farm_types.specs.Reads.{◌>>=◌}
 use Rattle.farm_wire.specs.Reading.{by_number}
 use Rattle.farm_wire.specs.Fields.{there_or, object_in, text_in, name_in, tags_from, tags_in}
 use Rattle.farm_wire.specs.Fields.{board_tags}
 use Rattle.farm_wire.specs.Parameters.{board_in, job_in, reservation_in}
-use Rattle.farm_wire.specs.declared.place.CommandKind.{CommandKind}
+use Rattle.farm_wire.specs.declared.route.CommandKind.{CommandKind}
 
 -- ---- types
 
@@ -31,8 +31,8 @@ unit_in d = unit_at (get (codes "check") d)
 
 -- 1 to 10,000
 abbrev pub every_or : Option ℕ → Result ℕ ℕ
-every_or None = Err BAD_REQUEST
-every_or (Some n) = if is_every n then Ok n else Err BAD_REQUEST
+every_or None = Err bad_request
+every_or (Some n) = if is_every n then Ok n else Err bad_request
 
 -- the frequency under the key `every`
 unfoldable pub every_in : Data → Result ℕ ℕ
@@ -105,21 +105,21 @@ finish path body = do
 
 -- ---- reservations
 
--- a whole number from 0 to 100; a number that is no whole one is another
+-- a whole number that is a priority; a number that is no whole one is another
 abbrev pub priority_number : Option ℕ → Result ℕ ℕ
-priority_number None = Err BAD_PRIORITY
-priority_number (Some n) = if is_priority n then Ok n else Err BAD_PRIORITY
+priority_number None = Err bad_priority
+priority_number (Some n) = if is_priority n then Ok n else Err bad_priority
 
 -- what a word names
 abbrev pub named_or : Option ℕ → Result ℕ ℕ
-named_or None = Err BAD_PRIORITY
+named_or None = Err bad_priority
 named_or (Some n) = Ok n
 
 -- a text, a number, or another kind
 abbrev pub priority_by : Option (List ℕ) → Option Num → Result ℕ ℕ
 priority_by (Some text) n = named_or (priority_called text)
 priority_by None (Some n) = priority_number (as_u64 n)
-priority_by None None = Err BAD_REQUEST
+priority_by None None = Err bad_request
 
 unfoldable pub priority_from : Data → Result ℕ ℕ
 priority_from d = priority_by (as_str d) (as_number d)

@@ -5,17 +5,18 @@ use Rattle.std.specs.Str.{is_utf8}
 use Rattle.serde_json.specs.Data.{Data, Items, no_items, item}
 use Rattle.serde_json.specs.Read.{read}
 use Rattle.serde_json.specs.Find.{get, as_str, as_array, as_object}
+use Rattle.farm_types.specs.Limits.{longest_name}
 use Rattle.farm_types.specs.Words.{is_word, word_or}
 use Rattle.farm_types.specs.Tags.{tags_among}
 use Rattle.farm_types.specs.Proper.{has_no_name_tag}
-use Rattle.farm_types.specs.declared.refusal.TheConstants.{BAD_REQUEST, BAD_NAME}
-use Rattle.farm_types.specs.declared.refusal.TheConstants.{BAD_TAG}
+use Rattle.farm_types.specs.Refusals.{bad_request, bad_name}
+use Rattle.farm_types.specs.Refusals.{bad_tag}
 use Rattle.farm_types.specs.Reads.{◌>>=◌}
 
 -- an object, or nothing that can be read
 abbrev pub object_or : Option Data → Result Data ℕ
-object_or None = Err BAD_REQUEST
-object_or (Some d) = if is_some (as_object d) then Ok d else Err BAD_REQUEST
+object_or None = Err bad_request
+object_or (Some d) = if is_some (as_object d) then Ok d else Err bad_request
 
 -- the object that a body spells
 unfoldable pub object_in : List ℕ → Result Data ℕ
@@ -23,7 +24,7 @@ object_in body = object_or (if is_utf8 body then read body else None)
 
 -- what must be there and of its kind
 abbrev pub there_or : {A : Type 0} → Option A → Result A ℕ
-there_or None = Err BAD_REQUEST
+there_or None = Err bad_request
 there_or (Some x) = Ok x
 
 -- the text under a key
@@ -32,7 +33,7 @@ text_in key d = there_or (option_and_then as_str (get key d))
 
 -- a name, or a bad one
 abbrev pub name_or : List ℕ → Result (List ℕ) ℕ
-name_or text = word_or (is_word 48 text) text BAD_NAME
+name_or text = word_or (is_word longest_name text) text bad_name
 
 -- the name under a key
 unfoldable pub name_in : List ℕ → Data → Result (List ℕ) ℕ
@@ -60,4 +61,4 @@ tags_in d = do
 
 -- tags for a board: none has the key `name`
 abbrev pub board_tags : List (List ℕ) → Result (List (List ℕ)) ℕ
-board_tags tags = if has_no_name_tag tags then Ok tags else Err BAD_TAG
+board_tags tags = if has_no_name_tag tags then Ok tags else Err bad_tag

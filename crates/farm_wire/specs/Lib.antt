@@ -1,5 +1,5 @@
 pub mod Reading
-pub mod Places
+pub mod Routes
 pub mod Sender
 pub mod Fields
 pub mod Parameters

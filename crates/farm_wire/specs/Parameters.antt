@@ -4,9 +4,9 @@ use Rattle.std.specs.Prelude.{length, drop, Result, Ok, Err, codes, if◌then◌
 use Rattle.std.specs.Char.{is_ascii_digit}
 use Rattle.std.specs.List.{before_first, list_all}
 use Rattle.std.specs.Str.Parse.{digits_value}
-use Rattle.farm_types.specs.declared.refusal.TheConstants.{BAD_REQUEST}
+use Rattle.farm_types.specs.Limits.{numbers_end}
+use Rattle.farm_types.specs.Refusals.{bad_request}
 use Rattle.farm_wire.specs.Fields.{name_or}
-use Rattle.farm_wire.specs.declared.parameter.TheConstants.{LARGEST_NUMBER}
 
 -- the first segment behind the front of a path
 abbrev pub parameter : List ℕ → List ℕ → List ℕ
@@ -24,8 +24,8 @@ is_number text =
 -- one to nine digits that begin with 1 to 9
 unfoldable pub number_in : List ℕ → Result ℕ ℕ
 number_in text =
-    if is_number text && nat_le (digits_value 10 text) LARGEST_NUMBER then Ok (digits_value 10 text)
-    else Err BAD_REQUEST
+    if is_number text && nat_lt (digits_value 10 text) numbers_end then Ok (digits_value 10 text)
+    else Err bad_request
 
 -- the board that a path names, and the job, and the reservation
 unfoldable pub board_in : List ℕ → Result (List ℕ) ℕ

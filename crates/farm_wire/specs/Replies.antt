@@ -3,8 +3,8 @@ use Rattle.std.specs.Prelude.{ℕ, List, [], ◌++◌, length, map, codes, decim
 use Rattle.serde_json.specs.Data.{Data}
 use Rattle.serde_json.specs.Written.{compact_text}
 use Rattle.farm_types.specs.Refusals.{status_of, reason_of}
-use Rattle.farm_types.specs.declared.refusal.TheConstants.{WRONG_METHOD}
-use Rattle.farm_wire.specs.Places.{allow_text}
+use Rattle.farm_types.specs.Refusals.{wrong_method}
+use Rattle.farm_wire.specs.Routes.{allow_text}
 use Rattle.farm_wire.specs.Shown.{listing, reply_data, refusal_data, type_data, board_data}
 use Rattle.farm_wire.specs.Shown.{claim_data, res_data, job_data, status_data}
 use Rattle.farm_wire.specs.declared.allowed.Allowed.{Allowed}
@@ -33,7 +33,7 @@ status_or code = unwrap_or (status_of code) 503
 abbrev pub method_text : Allowed → List ℕ
 method_text allowed =
     answer_text 405 (codes "allow: " ++ (allow_text allowed ++ codes "\r\n"))
-    (compact_text (refusal_data WRONG_METHOD))
+    (compact_text (refusal_data wrong_method))
 
 -- the bytes of an answer
 unfoldable pub reply_bytes : Out → List ℕ

@@ -1,6 +1,6 @@
 //! The methods of a path (RFC 9110, section 9.1).
 ghost use Rattle.std.specs.Prelude.{◌≡◌};
-ghost use Rattle.farm_wire.specs.Places.{allow_text};
+ghost use Rattle.farm_wire.specs.Routes.{allow_text};
 
 /// The methods that a path has.
 #[derive(Clone, Copy, Debug, PartialEq, Eq)]

@@ -3,7 +3,7 @@ ghost use Rattle.std.specs.Prelude.{◌≡◌};
 
 use crate::allowed::Allowed;
 use farm_types::fault::WordFault;
-use farm_types::refusal::Refusal;
+use farm_types::refusal::{NO_MEMORY, Refusal, WRONG_METHOD};
 use std::alloc::AllocError;
 use thiserror::Error;
 
@@ -14,10 +14,10 @@ pub enum AskFault {
     #[error("{0}")]
     Refused(Refusal),
     /// The path has other methods, these.
-    #[error("wrong method")]
+    #[error("{}", Refusal {code: WRONG_METHOD})]
     Method(Allowed),
     /// Memory ran out, and nothing is known of the request.
-    #[error("no memory")]
+    #[error("{}", Refusal {code: NO_MEMORY})]
     NoMemory,
 }
 

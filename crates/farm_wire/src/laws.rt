@@ -10,31 +10,31 @@ ghost use Rattle.farm_types.specs.declared.rows.ResRow.{ResRow};
 ghost use Rattle.farm_types.specs.declared.rows.TypeRow.{TypeRow};
 ghost use Rattle.farm_wire.specs.Keys.{KeysRise};
 ghost use Rattle.farm_wire.specs.Parameters.{parameter};
-ghost use Rattle.farm_wire.specs.Places.{LeadsTo, place_at};
+ghost use Rattle.farm_wire.specs.Routes.{LeadsTo, route_at};
 ghost use Rattle.farm_wire.specs.Shown.{type_data, board_data, claim_data, res_data, job_data};
 ghost use Rattle.farm_wire.specs.Shown.{status_data, refusal_data, reply_data};
-ghost use Rattle.farm_wire.specs.declared.place.CommandKind.{CommandKind};
-ghost use Rattle.farm_wire.specs.declared.place.Place.{Place};
-ghost use Rattle.farm_wire.specs.declared.place.ViewKind.{ViewKind};
+ghost use Rattle.farm_wire.specs.declared.route.CommandKind.{CommandKind};
+ghost use Rattle.farm_wire.specs.declared.route.Route.{Route};
+ghost use Rattle.farm_wire.specs.declared.route.ViewKind.{ViewKind};
 
 /// Where each path with a parameter leads, whatever the parameter.
 pub fn paths_with_a_parameter()
-    ensures tags { LeadsTo (codes "/boards/") (codes "/tags") (Place.Post CommandKind.SetTags) }
+    ensures tags { LeadsTo (codes "/boards/") (codes "/tags") (Route.Post CommandKind.SetTags) }
     ensures health { LeadsTo (codes "/boards/") (codes "/health")
-        (Place.Post CommandKind.SetHealth) }
+        (Route.Post CommandKind.SetHealth) }
     ensures job { (b : ℕ) (s : List ℕ) → b < 256 → has_slash (b ∷ s) ≡ false
-        → place_at (codes "/jobs/" ++ (b ∷ s)) ≡ Some (Place.Get ViewKind.Job) }
-    ensures cancel { LeadsTo (codes "/jobs/") (codes "/cancel") (Place.Post CommandKind.Cancel) }
-    ensures start { LeadsTo (codes "/jobs/") (codes "/start") (Place.Post CommandKind.Start) }
-    ensures finish { LeadsTo (codes "/jobs/") (codes "/finish") (Place.Post CommandKind.Finish) }
+        → route_at (codes "/jobs/" ++ (b ∷ s)) ≡ Some (Route.Get ViewKind.Job) }
+    ensures cancel { LeadsTo (codes "/jobs/") (codes "/cancel") (Route.Post CommandKind.Cancel) }
+    ensures start { LeadsTo (codes "/jobs/") (codes "/start") (Route.Post CommandKind.Start) }
+    ensures finish { LeadsTo (codes "/jobs/") (codes "/finish") (Route.Post CommandKind.Finish) }
     ensures acquire { LeadsTo (codes "/reservations/") (codes "/acquire")
-        (Place.Post CommandKind.Acquire) }
+        (Route.Post CommandKind.Acquire) }
     ensures release { LeadsTo (codes "/reservations/") (codes "/release")
-        (Place.Post CommandKind.Release) }
+        (Route.Post CommandKind.Release) }
     ensures refresh { LeadsTo (codes "/reservations/") (codes "/refresh")
-        (Place.Post CommandKind.Refresh) }
+        (Route.Post CommandKind.Refresh) }
     ensures cancel_reservation { LeadsTo (codes "/reservations/") (codes "/cancel")
-        (Place.Post CommandKind.CancelReservation) }
+        (Route.Post CommandKind.CancelReservation) }
 {}
 
 /// The parameter of such a path is what stands between front and back.
@@ -46,11 +46,11 @@ pub fn parameters()
 
 /// Where paths lead that are nearly those of the table.
 pub fn other_paths()
-    ensures empty { place_at (codes "/boards//tags") ≡ None }
-    ensures slash { place_at (codes "/types/") ≡ None }
-    ensures star { place_at (codes "*") ≡ None }
-    ensures root { place_at (codes "/") ≡ None }
-    ensures absolute { place_at (codes "http://farm/types") ≡ None }
+    ensures empty { route_at (codes "/boards//tags") ≡ None }
+    ensures slash { route_at (codes "/types/") ≡ None }
+    ensures star { route_at (codes "*") ≡ None }
+    ensures root { route_at (codes "/") ≡ None }
+    ensures absolute { route_at (codes "http://farm/types") ≡ None }
 {}
 
 /// The keys of each object stand in byte order, whatever is shown.

@@ -4,14 +4,13 @@
 //! and JSON text (`answers`). Reading requests and writing answers whole is `farm_http`'s; its
 //! public names stand here again, so that a server needs this crate alone.
 //!
-//! Read `specs/` in the order Reading, Places, Sender, Fields, Parameters, Commands, Asked; then
+//! Read `specs/` in the order Reading, Routes, Sender, Fields, Parameters, Commands, Asked; then
 //! Shown, Keys, Plain, Joins, Parts, Replies.
 #![tactic(auto)]
 
 pub mod allowed;
 pub mod answers;
 pub mod ask;
-pub mod asks;
 pub mod board_body;
 pub mod board_shown;
 pub mod claim_shown;
@@ -25,9 +24,10 @@ pub mod laws;
 pub mod object;
 pub mod parameter;
 pub mod part;
-pub mod place;
 pub mod reserve_body;
+pub mod route;
 pub mod router;
+pub mod routes;
 pub mod sender;
 pub mod shown;
 pub mod sink;
@@ -39,7 +39,6 @@ pub mod type_shown;
 pub use farm_http::counted_reader::CountedReader;
 pub use farm_http::counted_writer::CountedWriter;
 pub use farm_http::fault::WireFault;
-pub use farm_http::limits::{MAX_BODY, MAX_FIELDS, MAX_HEAD, MAX_TURNS};
 pub use farm_http::request::{read_request, read_request_counted};
 pub use farm_http::taken::Taken;
 pub use farm_http::write::{write_whole, write_whole_counted};

@@ -4,17 +4,16 @@ ghost use Rattle.std.specs.Prelude.{MatchOption, not, nat_lt, position};
 ghost use Rattle.std.specs.Char.{is_ascii_digit, digit_value};
 ghost use Rattle.std.specs.List.{before_first, list_all};
 ghost use Rattle.std.specs.Str.Parse.{digits_value};
+ghost use Rattle.farm_types.specs.Limits.{numbers_end};
 ghost use Rattle.farm_types.specs.Reads.{Reads};
 ghost use Rattle.farm_wire.specs.Parameters.{parameter, begins_with_zero, is_number, number_in};
 ghost use Rattle.farm_wire.specs.Parameters.{board_in, job_in, reservation_in};
 
 use farm_types::fault::WordFault;
+use farm_types::limits::NUMBERS_END;
 use farm_types::refusal::{BAD_REQUEST, Refusal};
 use farm_types::words::Name;
 use std::alloc::Global;
-
-/// The largest number of a job or a reservation.
-pub const LARGEST_NUMBER: u64 = 999_999_999;
 
 /// What stands behind the first bytes.
 fn behind(path: &[u8], count: usize) -> &[u8]
@@ -87,13 +86,13 @@ fn value_of(digit: u8) -> u64
 
 /// The number that digits write, if it is none too large.
 fn small_number(text: &[u8]) -> Option<u64>
-    ensures { MatchOption result (LARGEST_NUMBER < digits_value 10 text.now)
-        (λ n. (n ≤ LARGEST_NUMBER) × (n ≡ digits_value 10 text.now)) }
+    ensures { MatchOption result (numbers_end ≤ digits_value 10 text.now)
+        (λ n. (n < numbers_end) × (n ≡ digits_value 10 text.now)) }
 {
     let mut number = 0u64;
     for digit in text {
         number = number * 10 + value_of(*digit);
-        if number > LARGEST_NUMBER {
+        if number >= NUMBERS_END {
             return None;
         }
     }

@@ -1,6 +1,6 @@
 -- One job, or that there is none.
 use Rattle.std.proofs.Common.{refl, subst}
-use Rattle.farm_types.specs.declared.refusal.TheConstants.{NO_JOB}
+use Rattle.farm_types.specs.Refusals.{no_job}
 use Rattle.farm_wire.specs.declared.answers.Out.{Out}
 use Rattle.farm_desk.specs.Answers.{ShowsJob, refusal}
 use Rattle.farm_desk.proofs.AnswerLemmas.{made_of_one}
@@ -12,4 +12,4 @@ returns-in-Some c =
 
 pub returns-in-None : goal.returns-in-None
 returns-in-None c =
-    made_of_one _ (refusal NO_JOB) _ _ (subst (λ job. ShowsJob job (refusal NO_JOB)) (c.in-None.ensures c.requires) refl) c.of-in-None.ensures
+    made_of_one _ (refusal no_job) _ _ (subst (λ job. ShowsJob job (refusal no_job)) (c.in-None.ensures c.requires) refl) c.of-in-None.ensures

@@ -2,22 +2,22 @@
 use Rattle.std.proofs.Common.{◌-◌, ◌≤◌, ◌≡◌, false, length}
 use Rattle.std.specs.Prelude.{vec_capacity}
 use Rattle.std.specs.Io.KnownBytes.{Consumes}
-use Rattle.farm_http.specs.declared.limits.TheConstants.{MAX_HEAD, MAX_FIELDS, MAX_TURNS}
+use Rattle.farm_types.specs.Limits.{longest_head, most_fields, most_reads}
 use Rattle.farm_http.specs.Heads.{OpenBelow}
 use Rattle.farm_http.specs.Counts.{reader_of, reading_of, IsSameReader}
 use Rattle.farm_http.proofs.request.read_head.Given as goal
 
 abbrev pub invariant-loop-reader : goal.invariant-loop-reader
 invariant-loop-reader g l = record {
-  short : length l.bytes.items ≤ MAX_HEAD;
+  short : length l.bytes.items ≤ longest_head;
   capacity : vec_capacity l.bytes ≡ vec_capacity l.fn.bytes;
   same : IsSameReader l.fn.reader l.reader;
-  turns : (reading_of l.reader).calls ≤ MAX_TURNS;
+  turns : (reading_of l.reader).calls ≤ most_reads;
   alive : (reading_of l.reader).failed ≡ false;
-  room : length l.headers ≡ MAX_FIELDS;
+  room : length l.headers ≡ most_fields;
   taken : Consumes (g.R.Read.remaining (reader_of l.fn.reader)) (g.R.Read.remaining (reader_of l.reader)) l.bytes.items;
   open_lines : OpenBelow (length l.bytes.items) l.bytes.items;
 }
 
 abbrev pub decreases-loop-reader : goal.decreases-loop-reader
-decreases-loop-reader g l = MAX_HEAD - length l.bytes.items
+decreases-loop-reader g l = longest_head - length l.bytes.items

@@ -1,7 +1,7 @@
 -- Computed.
 use Rattle.std.proofs.Common.{refl}
 use Rattle.matchit.proofs.OnLiterals.{matchit_on_literals}
-use Rattle.farm_wire.specs.Places.{rows}
+use Rattle.farm_wire.specs.Routes.{rows}
 use Rattle.farm_wire.proofs.laws.other_paths.Goals as goal
 
 pub returns : goal.returns

@@ -1,5 +1,5 @@
 -- The constant has the paths of the table.
-use Rattle.farm_wire.specs.Places.{rows}
+use Rattle.farm_wire.specs.Routes.{rows}
 use Rattle.farm_wire.proofs.router.all_paths.Goals as goal
 
 pub returns : goal.returns

@@ -1,6 +1,6 @@
 -- The routes that are in and those that are left give all the rows.
 use Rattle.std.proofs.Common.{◌≡◌, map, drop, []}
-use Rattle.farm_wire.specs.Places.{with_routes}
+use Rattle.farm_wire.specs.Routes.{with_routes}
 use Rattle.farm_wire.proofs.router.router_of.Given as goal
 
 abbrev pub invariant-loop-path : goal.invariant-loop-path

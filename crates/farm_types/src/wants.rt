@@ -1,16 +1,14 @@
 //! What a claim asks for: wants, and the roles that they play.
 ghost use Rattle.std.specs.Prelude.{◌≡◌, ◌≤◌, ◌<◌, ◌⊎◌, ◌==◌, ◌&&◌, length, map, IsTrue, IfOk};
 ghost use Rattle.std.specs.Prelude.{MatchResult, nat_le, false};
-ghost use Rattle.farm_types.specs.Limits.{are_few_wants};
+ghost use Rattle.farm_types.specs.Limits.{are_few_wants, most_wants};
 
+use crate::limits::MOST_WANTS;
 use crate::refusal::{BAD_COUNT, Refusal};
 use crate::rows::Want;
 use crate::words::Name;
 use std::alloc::AllocError;
 use std::marker::Model;
-
-/// The most members of a group.
-pub const MOST_WANTS: usize = 4;
 
 /// One up to four wants.
 #[derive(Debug, Drop)]
@@ -48,7 +46,7 @@ impl Wants {
     pub fn items(&self) -> &[Want]
         ensures items { result.now ≡ self.now }
         ensures some { 1 ≤ length self.now }
-        ensures few { length self.now ≤ 4 }
+        ensures few { length self.now ≤ most_wants }
     {
         self.items.as_slice()
     }

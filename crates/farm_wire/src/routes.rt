@@ -7,7 +7,7 @@ ghost use Rattle.farm_http.specs.Request.{Request};
 ghost use Rattle.farm_http.specs.Requests.{Spells};
 ghost use Rattle.farm_wire.specs.Asked.{ask, asked, asked_at, call_in, view_in, endpoint_in};
 ghost use Rattle.farm_wire.specs.Commands.{command_in};
-ghost use Rattle.farm_wire.specs.Places.{rows, path_in, place_in};
+ghost use Rattle.farm_wire.specs.Routes.{rows, path_in, route_in};
 ghost use Rattle.farm_wire.specs.Reading.{Meets, or_refused};
 
 use crate::ask::{Ask, View};
@@ -15,8 +15,8 @@ use crate::board_body::{add_board_of, set_health_of, set_tags_of};
 use crate::fault::AskFault;
 use crate::job_body::{finish_of, submit_of};
 use crate::parameter::{job_of, reservation_of};
-use crate::place::{CommandKind, Endpoint, Place, ViewKind};
 use crate::reserve_body::reserve_of;
+use crate::route::{CommandKind, Endpoint, Route, ViewKind};
 use crate::router::all_paths;
 use crate::sender::{caller_of, key_of};
 use crate::type_body::add_type_of;
@@ -30,16 +30,16 @@ use std::alloc::{AllocError, Global};
 
 /// The router of the paths, built once and lent to each request.
 #[derive(Drop)]
-pub struct Asks {
-    router: Router<Place>,
+pub struct Routes {
+    router: Router<Route>,
     ghost table: { ∥ router ≡ rows ∥₁ },
 }
 
-impl Asks {
+impl Routes {
     /// Builds the router of the paths: seventeen routes, each compared with those before it.
-    pub fn new(alloc: Global) -> Result<Asks, AllocError> {
+    pub fn new(alloc: Global) -> Result<Routes, AllocError> {
         let router = all_paths(alloc)?;
-        Ok(Asks { router })
+        Ok(Routes { router })
     }
 
     /// What a request asks at a moment, or the first refusal. A POST costs what its body is long, a
@@ -57,15 +57,15 @@ impl Asks {
         ensures { Meets asked result (ask parts.now now) }
     {
         let path = path_of(parts.target())?;
-        let place = self.place(path)?;
-        let endpoint = endpoint_of(place, parts.method())?;
+        let route = self.route(path)?;
+        let endpoint = endpoint_of(route, parts.method())?;
         Ok(asked_at(alloc, endpoint, path, parts, now)?)
     }
 
     /// Where a path leads.
-    #[tactic(auto, unfolding(crate::specs::Places::place_in))]
-    fn place(&self, path: &str) -> Result<Place, AskFault>
-        ensures { Meets (λ place. place) result (or_refused (place_in path.now)) }
+    #[tactic(auto, unfolding(crate::specs::Routes::route_in))]
+    fn route(&self, path: &str) -> Result<Route, AskFault>
+        ensures { Meets (λ route. route) result (or_refused (route_in path.now)) }
     {
         match self.router.at(path) {
             Ok(found) => Ok(*found.value),
@@ -76,13 +76,13 @@ impl Asks {
 
 impl Ask {
     /// What one request asks, by a router of its own, which takes 15 to 20 us to build (an
-    /// optimized build on a Xeon). By a lent one, `Asks::ask`, a request without a body takes 0.2
+    /// optimized build on a Xeon). By a lent one, `Routes::ask`, a request without a body takes 0.2
     /// to 0.4 us.
     pub fn of(alloc: Global, taken: &Taken, now: u64) -> Result<Ask, AskFault>
         ensures { (request : Request) → Spells taken.now.bytes.items taken.now.head request
             → Meets asked result (ask request now) }
     {
-        Asks::new(alloc)?.ask(alloc, taken, now)
+        Routes::new(alloc)?.ask(alloc, taken, now)
     }
 }
 
@@ -108,12 +108,12 @@ fn before_query(target: &str) -> &str
 
 /// What the method leads to, where the path has it.
 #[tactic(auto, unfolding(crate::specs::Asked::endpoint_in))]
-fn endpoint_of(place: Place, method: &[u8]) -> Result<Endpoint, AskFault>
-    ensures { Meets (λ endpoint. endpoint) result (endpoint_in place method.now) }
+fn endpoint_of(route: Route, method: &[u8]) -> Result<Endpoint, AskFault>
+    ensures { Meets (λ endpoint. endpoint) result (endpoint_in route method.now) }
 {
-    match place.endpoint(method) {
+    match route.endpoint(method) {
         Some(endpoint) => Ok(endpoint),
-        None => Err(AskFault::Method(place.allowed())),
+        None => Err(AskFault::Method(route.allowed())),
     }
 }
 

@@ -3,7 +3,7 @@ use Rattle.std.specs.Prelude.{◌≡◌, ℕ, ◌⊎◌, true, false, List, Opti
 use Rattle.sqlite_trees.specs.declared.store.Store.{Ghosts}
 use Rattle.farm_types.specs.Machine.{answer, step}
 use Rattle.farm_types.specs.declared.calls.Call.{Call}
-use Rattle.farm_types.specs.declared.refusal.TheConstants.{NO_MEMORY}
+use Rattle.farm_types.specs.Refusals.{no_memory}
 use Rattle.farm_core.specs.Answers.{IsChange}
 use Rattle.farm_keep.specs.Faults.{fault_code}
 use Rattle.farm_keep.specs.Kept.{Kept, Keeps, KeepsEither}
@@ -37,7 +37,7 @@ WasOpenFor old (Err why) = Unit {0}
 -- closed one has its own answer to whatever is asked
 pub record RunsOut {S : Type 0} (g : Ghosts S) (old new : Kept S) (what : Result Ask Denial)
     (bytes : List ℕ) : Type 0 where
-  pub says : bytes ≡ reply_bytes (refusal NO_MEMORY)
+  pub says : bytes ≡ reply_bytes (refusal no_memory)
   pub was_open : WasOpenFor old what
   pub stays_open : new.is_open ≡ old.is_open
   pub farm : RestsOrIsDone g old new what
@@ -84,14 +84,14 @@ ClosesIfAsked g old new (Err why) fault bytes = ⊥
 -- ---- all
 
 -- these bytes are due to what was asked, and the conversation then ends so
-abbrev pub IsDueTo : {S : Type 0} → Ghosts S → Kept S → Kept S → Result Ask Denial → List ℕ
+abbrev pub IsResponseTo : {S : Type 0} → Ghosts S → Kept S → Kept S → Result Ask Denial → List ℕ
     → Result ℕ DeskFault → Type 0
-IsDueTo g old new what bytes (Ok status) = Answers g old new what bytes status
-IsDueTo g old new what bytes (Err DeskFault.NoMemory) = RunsOut g old new what bytes
-IsDueTo g old new what bytes (Err (DeskFault.Keep fault)) = ClosesIfAsked g old new what fault bytes
-IsDueTo g old new what bytes (Err DeskFault.Read) = ⊥
-IsDueTo g old new what bytes (Err DeskFault.Write) = ⊥
-IsDueTo g old new what bytes (Err (DeskFault.File fault)) = ⊥
+IsResponseTo g old new what bytes (Ok status) = Answers g old new what bytes status
+IsResponseTo g old new what bytes (Err DeskFault.NoMemory) = RunsOut g old new what bytes
+IsResponseTo g old new what bytes (Err (DeskFault.Keep fault)) = ClosesIfAsked g old new what fault bytes
+IsResponseTo g old new what bytes (Err DeskFault.Read) = ⊥
+IsResponseTo g old new what bytes (Err DeskFault.Write) = ⊥
+IsResponseTo g old new what bytes (Err (DeskFault.File fault)) = ⊥
 
 -- what was asked was understood, and the answer is due to it
 pub record IsDueToAsked {S : Type 0} (g : Ghosts S) (old new : Kept S)
@@ -99,18 +99,18 @@ pub record IsDueToAsked {S : Type 0} (g : Ghosts S) (old new : Kept S)
     : Type 0 where
   pub what : Result Ask Denial
   pub hears : Hears input rest now what
-  pub due : IsDueTo g old new what bytes end
+  pub response : IsResponseTo g old new what bytes end
 
 -- there was no memory to read the request or to understand it
 pub record IsNotUnderstood {S : Type 0} (old new : Kept S) (input rest : Option (List ℕ))
     (bytes : List ℕ) (end : Result ℕ DeskFault) : Type 0 where
   pub fault : end ≡ Err DeskFault.NoMemory
   pub hears : HearsWhole input rest
-  pub says : bytes ≡ reply_bytes (refusal NO_MEMORY)
+  pub says : bytes ≡ reply_bytes (refusal no_memory)
   pub rests : new ≡ old
 
 -- these bytes are the answer that is due, and the conversation ends so once they are written
-abbrev pub IsDue : {S : Type 0} → Ghosts S → Kept S → Kept S → Option (List ℕ) → Option (List ℕ) → ℕ
+abbrev pub IsResponse : {S : Type 0} → Ghosts S → Kept S → Kept S → Option (List ℕ) → Option (List ℕ) → ℕ
     → List ℕ → Result ℕ DeskFault → Type 0
-IsDue g old new input rest now bytes end =
+IsResponse g old new input rest now bytes end =
     IsDueToAsked g old new input rest now bytes end ⊎ IsNotUnderstood old new input rest bytes end

@@ -1,6 +1,6 @@
 //! Where the paths lead.
 ghost use Rattle.std.specs.Prelude.{◌≡◌};
-ghost use Rattle.farm_wire.specs.Places.{allowed_at, endpoint_at, is_get, is_post};
+ghost use Rattle.farm_wire.specs.Routes.{allowed_at, endpoint_at, is_get, is_post};
 
 use crate::allowed::Allowed;
 
@@ -36,7 +36,7 @@ pub enum CommandKind {
 
 /// Where a path leads: a view for GET, a command for POST, or both.
 #[derive(Clone, Copy, Debug, PartialEq, Eq)]
-pub enum Place {
+pub enum Route {
     Get(ViewKind),
     Post(CommandKind),
     GetPost(ViewKind, CommandKind),
@@ -49,15 +49,15 @@ pub enum Endpoint {
     Command(CommandKind),
 }
 
-impl Place {
+impl Route {
     /// The methods of its path.
     pub fn allowed(self) -> Allowed
         ensures { result ≡ allowed_at self }
     {
         match self {
-            Place::Get(_) => Allowed::Get,
-            Place::Post(_) => Allowed::Post,
-            Place::GetPost(_, _) => Allowed::GetPost,
+            Route::Get(_) => Allowed::Get,
+            Route::Post(_) => Allowed::Post,
+            Route::GetPost(_, _) => Allowed::GetPost,
         }
     }
 
@@ -67,10 +67,10 @@ impl Place {
         ensures { result ≡ endpoint_at self method.now }
     {
         match self {
-            Place::Get(view) if is_get(method) => Some(Endpoint::View(view)),
-            Place::Post(command) if is_post(method) => Some(Endpoint::Command(command)),
-            Place::GetPost(view, _) if is_get(method) => Some(Endpoint::View(view)),
-            Place::GetPost(_, command) if is_post(method) => Some(Endpoint::Command(command)),
+            Route::Get(view) if is_get(method) => Some(Endpoint::View(view)),
+            Route::Post(command) if is_post(method) => Some(Endpoint::Command(command)),
+            Route::GetPost(view, _) if is_get(method) => Some(Endpoint::View(view)),
+            Route::GetPost(_, command) if is_post(method) => Some(Endpoint::Command(command)),
             _ => None,
         }
     }

@@ -17,16 +17,16 @@ const ROOM: usize = 4096;
 /// and then keeps the others waiting for no longer than twice that at the request, and as long at
 /// the answer.
 #[derive(Drop)]
-pub(crate) struct Patient<'a, C: Clock> {
+pub(crate) struct DeadlineStream<'a, C: Clock> {
     pub(crate) stream: TcpStream,
     clock: &'a C,
     since: Option<Duration>,
 }
 
-impl<'a, C: Clock> Patient<'a, C> {
+impl<'a, C: Clock> DeadlineStream<'a, C> {
     /// A direction whose time begins with its first read or write.
-    pub(crate) fn new(stream: TcpStream, clock: &'a C) -> Patient<'a, C> {
-        Patient {
+    pub(crate) fn new(stream: TcpStream, clock: &'a C) -> DeadlineStream<'a, C> {
+        DeadlineStream {
             stream,
             clock,
             since: None,
@@ -49,14 +49,14 @@ impl<'a, C: Clock> Patient<'a, C> {
     }
 }
 
-impl<C: Clock> Read for Patient<'_, C> {
+impl<C: Clock> Read for DeadlineStream<'_, C> {
     fn read(&mut self, buf: &mut [u8]) -> io::Result<usize> {
         self.begin()?;
         self.stream.read(buf)
     }
 }
 
-impl<C: Clock> Write for Patient<'_, C> {
+impl<C: Clock> Write for DeadlineStream<'_, C> {
     fn write(&mut self, buf: &[u8]) -> io::Result<usize> {
         self.begin()?;
         self.stream.write(buf)

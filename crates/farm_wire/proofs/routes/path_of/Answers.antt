@@ -1,7 +1,7 @@
 use Rattle.std.proofs.Common.{ap, ◌∙◌}
 use Rattle.farm_wire.specs.Reading.{or_refused}
 use Rattle.farm_wire.proofs.PathLemmas.{path_of_text, path_of_bytes}
-use Rattle.farm_wire.proofs.asks.path_of.Goals as goal
+use Rattle.farm_wire.proofs.routes.path_of.Goals as goal
 
 pub returns-in-Ok : goal.returns-in-Ok
 returns-in-Ok c =

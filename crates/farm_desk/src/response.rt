@@ -22,49 +22,49 @@ pub(crate) enum Bytes {
 
 /// The answer that is due, and how the conversation ends once it is written.
 #[derive(Debug, Drop)]
-pub(crate) struct Due {
+pub(crate) struct Response {
     pub(crate) bytes: Bytes,
     pub(crate) end: Result<u16, DeskFault>,
 }
 
-impl Due {
+impl Response {
     /// An answer, or the constant one where there is no memory for it.
-    pub(crate) fn of(alloc: Global, out: &Out<'_>) -> Due
+    pub(crate) fn of(alloc: Global, out: &Out<'_>) -> Response
         ensures { IsMadeOf out.now (bytes_in result.bytes) result.end }
     {
         match answer_bytes(alloc, out) {
-            Ok(bytes) => Due {
+            Ok(bytes) => Response {
                 bytes: Bytes::Made(bytes),
                 end: Ok(http_status(out)),
             },
-            Err(_) => Due::no_memory(),
+            Err(_) => Response::no_memory(),
         }
     }
 
     /// The answer where nothing was asked: the refusal, or the methods that the path has.
-    pub(crate) fn to_nothing(alloc: Global, fault: AskFault) -> Due
+    pub(crate) fn to_nothing(alloc: Global, fault: AskFault) -> Response
         ensures { IsMadeOfNothing fault (bytes_in result.bytes) result.end }
     {
         match fault {
-            AskFault::Refused(refusal) => Due::of(alloc, &Out::Refused(refusal)),
-            AskFault::Method(allowed) => Due::of(alloc, &Out::Method(allowed)),
-            AskFault::NoMemory => Due::no_memory(),
+            AskFault::Refused(refusal) => Response::of(alloc, &Out::Refused(refusal)),
+            AskFault::Method(allowed) => Response::of(alloc, &Out::Method(allowed)),
+            AskFault::NoMemory => Response::no_memory(),
         }
     }
 
     /// The constant answer where there is no memory for another.
-    pub(crate) fn no_memory() -> Due
+    pub(crate) fn no_memory() -> Response
         ensures bytes { bytes_in result.bytes ≡ reply_bytes (refusal no_memory) }
         ensures end { result.end ≡ Err DeskFault.NoMemory }
     {
-        Due {
+        Response {
             bytes: Bytes::Constant(no_memory_answer()),
             end: Err(DeskFault::NoMemory),
         }
     }
 
     /// The constant answer of a keeper's fault.
-    pub(crate) fn closing(fault: KeepFault) -> Due
+    pub(crate) fn closing(fault: KeepFault) -> Response
         requires { (fault ≢ KeepFault.BadStore) × (fault ≢ KeepFault.OldSchema)
             × (fault ≢ KeepFault.NewSchema) }
         ensures bytes { bytes_in result.bytes ≡ reply_bytes (refusal (fault_code fault)) }
@@ -76,7 +76,7 @@ impl Due {
             KeepFault::Closed => closed_answer(),
             KeepFault::BadStore | KeepFault::OldSchema | KeepFault::NewSchema => unreachable!(),
         };
-        Due {
+        Response {
             bytes: Bytes::Constant(bytes),
             end: Err(DeskFault::Keep(fault)),
         }

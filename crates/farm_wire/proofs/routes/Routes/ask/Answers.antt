@@ -2,7 +2,7 @@
 use Rattle.std.proofs.Common.{subst}
 use Rattle.farm_wire.specs.Asked.{ask, asked}
 use Rattle.farm_wire.specs.Reading.{Meets}
-use Rattle.farm_wire.proofs.asks.Asks.ask.Goals as goal
+use Rattle.farm_wire.proofs.routes.Routes.ask.Goals as goal
 
 pub returns : goal.returns
 returns c request spells =
