@@ -34,7 +34,7 @@ for page in docs/*.[18]; do
     mkdir -p "$tree/usr/share/man/man${page##*.}"
     gzip -9n < "$page" > "$tree/usr/share/man/man${page##*.}/$(basename "$page").gz"
 done
-cp packaging/copyright docs/USING.md docs/TOOLS.md docs/API.md docs/MACHINE.md "$doc"
+cp packaging/copyright docs/USING.md docs/TOOLS.md docs/API.md docs/MACHINE.md docs/PROOFS.md "$doc"
 gzip -9n < packaging/changelog > "$doc/changelog.gz"
 cp examples/boot.toml examples/multinode.toml examples/lab.toml "$doc/examples"
 
