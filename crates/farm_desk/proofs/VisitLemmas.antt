@@ -51,6 +51,16 @@ of_none : (known : Option Clientele) → AreOf known known []
 of_none None = refl
 of_none (Some clients) = (refl, sym (append-nil clients.gone))
 
+-- before anybody comes
+pub visits_begin : {S : Type 0} (g : Ghosts S) (known : Option Clientele) (k : Kept S) (Whole : Type 0) → ServesInTurn g known known k k 0 Whole
+visits_begin g known k Whole = record {
+  visits = [];
+  few = omega arith;
+  in_turn = refl;
+  clients = of_none known;
+  all = λ _. inl refl;
+}
+
 -- nobody comes
 pub visits_none : {S : Type 0} (g : Ghosts S) (before after : Option Clientele) (k : Kept S) (Whole : Type 0)
     → after ≡ before → IsOver before → ServesInTurn g before after k k 1 Whole

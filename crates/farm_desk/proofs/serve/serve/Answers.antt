@@ -1,8 +1,8 @@
 -- One client more, and the fault that ends the serving.
-use Rattle.std.proofs.Common.{◌≤◌, ◌+◌, refl, subst, arith, Ok, Err, IsOk}
+use Rattle.std.proofs.Common.{◌≤◌, ◌+◌, refl, le_refl, subst, arith, rules, Ok, Err, IsOk}
 use Rattle.std.proofs.lemmas.Result.{err_from_is_err_and}
-use Rattle.farm_desk.proofs.ServingLemmas.{serves_next, serves_within}
-use Rattle.farm_desk.proofs.VisitLemmas.{visits_next, visits_within}
+use Rattle.farm_desk.proofs.ServingLemmas.{serves_next, serves_none, serves_within}
+use Rattle.farm_desk.proofs.VisitLemmas.{visits_begin, visits_next, visits_within}
 use Rattle.farm_desk.proofs.serve.serve.Goals as goal
 
 pub returns-in_err-serve_next-clause-serves : goal.returns-in_err-serve_next-clause-serves
@@ -22,6 +22,13 @@ returns-in_err-serve_next-clause-visits g c =
     (visits_next g.S.Store (g.K.Clients.clientele c.args.clients.now) (g.K.Clients.clientele c.loop.clients)
     (g.K.Clients.clientele c.serve_next.new.clients) c.args.keeper.now c.loop.keeper c.serve_next.new.keeper c.loop.counter
     _ ⊥ (λ never. absurd never) c.loop.invariant.visits c.in_err-serve_next.ensures.visits)
+
+pub loop-init : goal.loop-init
+loop-init g c = record {
+  clean = le_refl _;
+  serves = serves_none g.S.Store c.args.keeper.now 0 (search rules);
+  visits = visits_begin g.S.Store (g.K.Clients.clientele c.args.clients.now) c.args.keeper.now (Unit {0});
+}
 
 pub loop-preserved : goal.loop-preserved
 loop-preserved g c =
