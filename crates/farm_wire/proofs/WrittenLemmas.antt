@@ -1,15 +1,18 @@
 -- Texts between quotes, and members behind one another.
-use Rattle.std.proofs.Common.{◌≡◌, ℕ, ◌+◌, ◌<◌, Bool, true, List, [], ◌∷◌, ◌++◌, length, get_or, take, refl, sym, ap, drop, map, append_assoc, ◌∙◌, ◌&&◌, ◌==◌, nat_le, not}
+use Rattle.std.proofs.Common.{◌≡◌, ℕ, ◌+◌, ◌<◌, Bool, true, false, List, [], ◌∷◌, ◌++◌, length, get_or, take, refl, sym, ap, drop, map, append_assoc, ◌∙◌, ◌&&◌, ◌==◌, nat_le, not}
 use Rattle.std.proofs.lemmas.List.{flat_map_more, take_more, drop_more}
 use Rattle.std.proofs.lemmas.Bool.{and_parts, eqb-false, not-true, leb-true}
 use Rattle.std.specs.List.{list_all}
+use Rattle.std.specs.Prelude.{IsTrue}
+use Rattle.std.proofs.lemmas.List.Folds.{list_all_at}
+use mathlib.Core.Bool.{true≢false}
 use Rattle.json.specs.Print.{escape_byte, escape, quoted}
 use Rattle.json.proofs.Printed.Strings.{escape_byte_plain}
 use Rattle.farm_wire.specs.Plain.{is_plain}
 use Rattle.std.specs.Borrow.{Bor}
 use Rattle.std.proofs.lemmas.Grind.{flat_map-append}
 use Rattle.serde_json.specs.Written.{compact_text, comma_if, members_text}
-use Rattle.farm_wire.specs.Parts.{part_data, member_of}
+use Rattle.farm_wire.specs.Parts.{part_data, member_of, has_plain_key}
 use Rattle.farm_wire.specs.Shown.{members}
 use Rattle.farm_wire.specs.declared.part.Part.{Part}
 
@@ -41,3 +44,12 @@ members_next later ms i m within is =
     let next : drop i ms ≡ m ∷ rest = drop_more ms i m within ∙ ap (λ x. x ∷ rest) (sym is) in
     ap (λ l. comma_if later ++ l) (append_assoc (quoted m.0.now) (58 ∷ compact_text (part_data m.1)) (members_text true (members (map member_of rest))))
     ∙ ap (λ xs. members_text later (members (map member_of xs))) (sym next)
+
+-- where all keys show as they are, each does
+pub plain_at : (ms : List (Bor (List ℕ) × Part)) (i : ℕ) (m : Bor (List ℕ) × Part) → i < length ms → m ≡ get_or ms i m → IsTrue (list_all has_plain_key ms)
+    → IsTrue (has_plain_key m)
+plain_at ms i m within is all = by (has_plain_key m) refl
+  where
+    by : (b : Bool) → has_plain_key m ≡ b → has_plain_key m ≡ true
+    by true plain = plain
+    by false other = absurd (true≢false (sym all ∙ list_all_at has_plain_key ms i m within (ap has_plain_key (sym is) ∙ other)))

@@ -17,10 +17,10 @@ impl Shown for BoardRow {
             ("holder", Part::Holder(self.holder)),
             ("jobs_since", Part::Number(self.jobs_since)),
             ("last_check", Part::Number(self.last_check)),
-            ("name", Part::Text(self.name.as_str())),
+            ("name", Part::Name(&self.name)),
             ("state", Part::Text(self.state.word())),
             ("tags", Part::Tags(&self.tags)),
-            ("type", Part::Text(self.kind.as_str())),
+            ("type", Part::Name(&self.kind)),
         ];
         put_object(sink, &members)
     }

@@ -1,7 +1,7 @@
 //! Claims and reservations as JSON.
 
 use crate::part::{Part, put_object};
-use crate::shown::{Shown, text_or_none};
+use crate::shown::Shown;
 use crate::sink::Sink;
 use farm_types::claims::Claim;
 use farm_types::rows::ResRow;
@@ -17,7 +17,7 @@ impl Shown for Claim {
             ("boards", Part::Number(self.boards)),
             ("kind", Part::Text(self.kind.word())),
             ("number", Part::Number(self.number)),
-            ("owner", Part::Text(self.owner.as_str())),
+            ("owner", Part::Name(&self.owner)),
             ("priority", Part::Number(self.priority.get())),
         ];
         put_object(sink, &members)
@@ -31,10 +31,10 @@ impl Shown for ResRow {
 
     fn print<S: Sink>(&self, sink: &mut S) -> Result<(), AllocError> {
         let members = [
-            ("board", Part::Text(text_or_none(&self.board))),
+            ("board", Part::NameOrNone(&self.board)),
             ("deadline", Part::Number(self.deadline)),
             ("number", Part::Number(self.number)),
-            ("owner", Part::Text(self.owner.as_str())),
+            ("owner", Part::Name(&self.owner)),
             ("priority", Part::Number(self.priority.get())),
             ("state", Part::Text(self.state.word())),
             ("tags", Part::Tags(&self.want.tags)),

@@ -4,7 +4,7 @@ ghost use Rattle.farm_types.specs.Codes.{outcome_word};
 ghost use Rattle.farm_wire.specs.Shown.{job_kind};
 
 use crate::part::{Part, put_object};
-use crate::shown::{Shown, text_or_none};
+use crate::shown::Shown;
 use crate::sink::Sink;
 use farm_types::rows::{JobRow, Outcome};
 use std::alloc::AllocError;
@@ -33,18 +33,18 @@ impl Shown for JobRow {
 
     fn print<S: Sink>(&self, sink: &mut S) -> Result<(), AllocError> {
         let members = [
-            ("board", Part::Text(text_or_none(&self.board))),
+            ("board", Part::NameOrNone(&self.board)),
             ("group", Part::Number(self.group)),
             ("kind", Part::Text(job_kind(self.checking))),
             ("number", Part::Number(self.number)),
-            ("owner", Part::Text(self.owner.as_str())),
+            ("owner", Part::Name(&self.owner)),
             ("priority", Part::Number(self.priority.get())),
             ("result", Part::Text(result_text(self.outcome))),
-            ("role", Part::Text(text_or_none(&self.role))),
+            ("role", Part::NameOrNone(&self.role)),
             ("state", Part::Text(self.state.word())),
             ("tags", Part::Tags(&self.want.tags)),
             ("text", Part::Text(self.body.as_str())),
-            ("type", Part::Text(text_or_none(&self.want.kind))),
+            ("type", Part::NameOrNone(&self.want.kind)),
         ];
         put_object(sink, &members)
     }

@@ -1,16 +1,18 @@
 //! Objects as JSON, by their members.
-ghost use Rattle.std.specs.Prelude.{◌≡◌, ◌∷◌, ◌++◌, OnOk, map, decimal};
+ghost use Rattle.std.specs.Prelude.{◌∷◌, ◌++◌, [], OnOk, IsTrue, map, decimal, unwrap_or};
+ghost use Rattle.std.specs.List.{list_all};
 ghost use Rattle.json.specs.Print.{quoted};
 ghost use Rattle.serde_json.specs.Written.{compact_text};
 ghost use Rattle.farm_types.specs.Called.{holder_text};
-ghost use Rattle.farm_wire.specs.Parts.{member_of, part_data};
+ghost use Rattle.farm_wire.specs.Parts.{member_of, part_data, has_plain_key};
+ghost use Rattle.farm_wire.specs.Plain.{is_plain};
 ghost use Rattle.farm_wire.specs.Shown.{fields};
 
 use crate::shown::{put_comma, put_number, put_rows};
 use crate::sink::Sink;
-use crate::text::{put_escaped, put_text};
+use crate::text::{put_escaped, put_text, put_word};
 use farm_types::rows::Holder;
-use farm_types::words::Tags;
+use farm_types::words::{Name, Tags};
 use itoa::Buffer;
 use std::alloc::AllocError;
 
@@ -19,6 +21,9 @@ use std::alloc::AllocError;
 pub(crate) enum Part<'a> {
     Number(u64),
     Text(&'a str),
+    Name(&'a Name),
+    /// A name; the empty text where there is none.
+    NameOrNone(&'a Option<Name>),
     Holder(Holder),
     Tags(&'a Tags),
 }
@@ -45,6 +50,23 @@ fn put_holder<S: Sink>(sink: &mut S, holder: Holder) -> Result<(), AllocError>
     }
 }
 
+/// Puts a name, whose bytes all show as they are.
+fn put_name<S: Sink>(sink: &mut S, name: &Name) -> Result<(), AllocError>
+    ensures { OnOk result (S.Takes sink.old sink.new (quoted name.now)) }
+{
+    put_word(sink, name.as_str())
+}
+
+/// Puts a name; the empty text where there is none.
+fn put_name_or_none<S: Sink>(sink: &mut S, name: &Option<Name>) -> Result<(), AllocError>
+    ensures { OnOk result (S.Takes sink.old sink.new (quoted (unwrap_or name.now []))) }
+{
+    match name {
+        Some(name) => put_name(sink, name),
+        None => put_word(sink, ""),
+    }
+}
+
 /// Puts what stands behind a key.
 fn put_part<S: Sink>(sink: &mut S, part: Part<'_>) -> Result<(), AllocError>
     ensures { OnOk result (S.Takes sink.old sink.new (compact_text (part_data part.entry))) }
@@ -52,6 +74,8 @@ fn put_part<S: Sink>(sink: &mut S, part: Part<'_>) -> Result<(), AllocError>
     match part {
         Part::Number(number) => put_number(sink, number),
         Part::Text(text) => put_text(sink, text),
+        Part::Name(name) => put_name(sink, name),
+        Part::NameOrNone(name) => put_name_or_none(sink, name),
         Part::Holder(holder) => put_holder(sink, holder),
         Part::Tags(tags) => put_rows(sink, tags.items()),
     }
@@ -59,19 +83,21 @@ fn put_part<S: Sink>(sink: &mut S, part: Part<'_>) -> Result<(), AllocError>
 
 /// Puts a key, a colon and what stands behind.
 fn put_member<S: Sink>(sink: &mut S, key: &str, part: Part<'_>) -> Result<(), AllocError>
+    requires { IsTrue (list_all is_plain key.now) }
     ensures { OnOk result (S.Takes sink.old sink.new
         (quoted key.now ++ 58 ∷ compact_text (part_data part.entry))) }
 {
-    put_text(sink, key)?;
+    put_word(sink, key)?;
     sink.put(b":")?;
     put_part(sink, part)
 }
 
-/// Puts an object with these members, whose keys stand in byte order.
+/// Puts an object with these members, whose keys stand in byte order and show as they are.
 pub(crate) fn put_object<S: Sink>(
     sink: &mut S,
     members: &[(&str, Part<'_>)],
 ) -> Result<(), AllocError>
+    requires { IsTrue (list_all has_plain_key members.now) }
     ensures { OnOk result (S.Takes sink.old sink.new
         (compact_text (fields (map member_of members.now)))) }
 {

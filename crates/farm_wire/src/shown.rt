@@ -1,13 +1,14 @@
 //! Rows as JSON.
-ghost use Rattle.std.specs.Prelude.{◌≡◌, ◌∷◌, OnOk, map, decimal, unwrap_or, []};
+ghost use Rattle.std.specs.Prelude.{◌∷◌, OnOk, map, decimal};
+ghost use Rattle.json.specs.Print.{quoted};
 ghost use Rattle.serde_json.specs.Data.{array};
 ghost use Rattle.serde_json.specs.View.{items_of};
 ghost use Rattle.serde_json.specs.Written.{compact_text, comma_if};
 ghost use Rattle.farm_wire.specs.Shown.{listing};
 
 use crate::sink::Sink;
-use crate::text::put_text;
-use farm_types::words::{Name, Tag};
+use crate::text::{put_text, put_word};
+use farm_types::words::Tag;
 use itoa::Buffer;
 use std::alloc::AllocError;
 
@@ -84,22 +85,19 @@ impl<'a, R: Shown> Shown for Listing<'a, R> {
     }
 }
 
+/// Puts a tag, whose bytes all show as they are.
+fn put_tag<S: Sink>(sink: &mut S, tag: &Tag) -> Result<(), AllocError>
+    ensures { OnOk result (S.Takes sink.old sink.new (quoted tag.now)) }
+{
+    put_word(sink, tag.as_str())
+}
+
 impl Shown for Tag {
     ghost use Rattle.serde_json.specs.Data.{string};
 
     ghost json = { string };
 
     fn print<S: Sink>(&self, sink: &mut S) -> Result<(), AllocError> {
-        put_text(sink, self.as_str())
-    }
-}
-
-/// A name; the empty text where there is none.
-pub(crate) fn text_or_none(name: &Option<Name>) -> &str
-    ensures { result.now ≡ unwrap_or name.now [] }
-{
-    match name {
-        Some(name) => name.as_str(),
-        None => "",
+        put_tag(sink, self)
     }
 }

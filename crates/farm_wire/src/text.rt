@@ -1,5 +1,5 @@
 //! Texts as JSON (RFC 8259).
-ghost use Rattle.std.specs.Prelude.{◌≡◌, ◌<◌, OnOk, true};
+ghost use Rattle.std.specs.Prelude.{◌≡◌, ◌<◌, OnOk, IsTrue};
 ghost use Rattle.std.specs.Char.{digit_char};
 ghost use Rattle.std.specs.List.{list_all};
 ghost use Rattle.json.specs.Print.{escape_byte, escape, quoted};
@@ -78,6 +78,16 @@ pub(crate) fn put_escaped<S: Sink>(sink: &mut S, text: &[u8]) -> Result<(), Allo
     } else {
         put_bytes(sink, text)
     }
+}
+
+/// Puts a word between quotes, whose bytes all show as they are: none is looked at.
+pub(crate) fn put_word<S: Sink>(sink: &mut S, word: &str) -> Result<(), AllocError>
+    requires { IsTrue (list_all is_plain word.now) }
+    ensures { OnOk result (S.Takes sink.old sink.new (quoted word.now)) }
+{
+    sink.put(b"\"")?;
+    sink.put(word.as_bytes())?;
+    sink.put(b"\"")
 }
 
 /// Puts a text between quotes.

@@ -27,7 +27,7 @@ impl Shown for TypeRow {
         let members = [
             ("check", Part::Text(self.check.unit().word())),
             ("every", Part::Number(every_of(self.check))),
-            ("name", Part::Text(self.name.as_str())),
+            ("name", Part::Name(&self.name)),
         ];
         put_object(sink, &members)
     }

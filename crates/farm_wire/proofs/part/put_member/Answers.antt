@@ -5,4 +5,4 @@ use Rattle.farm_wire.proofs.part.put_member.Goals as goal
 pub returns : goal.returns
 returns g c =
     let joins = g.met.S.Sink.joins in
-    on_ok_weaker _ (λ last. joins _ _ _ _ _ c.in_ok-put_text.ensures (joins _ _ _ _ _ c.in_ok-put.ensures last)) c.put_part.ensures
+    on_ok_weaker _ (λ last. joins _ _ _ _ _ c.in_ok-put_word.ensures (joins _ _ _ _ _ c.in_ok-put.ensures last)) c.put_part.ensures

@@ -6,11 +6,16 @@ use Rattle.std.proofs.lemmas.Result.{on_ok_weaker}
 use Rattle.serde_json.specs.Written.{members_text}
 use Rattle.farm_wire.specs.Parts.{member_of}
 use Rattle.farm_wire.specs.Shown.{members}
-use Rattle.farm_wire.proofs.WrittenLemmas.{members_next}
+use Rattle.farm_wire.proofs.WrittenLemmas.{members_next, plain_at}
 use Rattle.farm_wire.proofs.part.put_object.Goals as goal
 
 pub loop-member-init : goal.loop-member-init
 loop-member-init g c = λ end taken. taken
+
+pub put_member-requires : goal.put_member-requires
+put_member-requires g c =
+    let within : c.loop-member.member-index < length c.args.members.now = omega arith in
+    plain_at c.args.members.now c.loop-member.member-index c.member-item.result within c.member-item.is c.requires
 
 pub loop-member-preserved : goal.loop-member-preserved
 loop-member-preserved g c =
