@@ -37,16 +37,10 @@ counting() {
     return "$(cat "$folder/status")"
 }
 
-status=0
-counting proofs rt ci || status=1
-limited "tests of scripts" python3 tests/waves.py --read || status=1
-if [ "$status" = 0 ]; then
-    farm=crates/farm/out/farm
-    player=crates/farm_play/out/farm_play
-    for script in words.sh statuses.sh mistakes.sh upgrade.sh examples.sh using.sh api.py shell.sh \
-        refused_memory.sh real_clients.sh sockets.py malformed.py kills.py power_cuts.py dispatch.py client.py \
-        importers.py page.py proxy.py package.sh generated.py; do
-        # (those that go by chance are run longer by hand, as each says)
+# Runs scripts over the built program, one after another; what each says and how it ends stands in the folder.
+# (those that go by chance are run longer by hand, as each says)
+trying() {
+    for script in "$@"; do
         case $script in
             generated.py) set -- python3 "tests/$script" "$player" ;;
             refused_memory.sh) set -- sh "tests/$script" "$farm" "$player" ;;
@@ -56,8 +50,27 @@ if [ "$status" = 0 ]; then
             *.py) set -- python3 "tests/$script" "$farm" ;;
             *) set -- sh "tests/$script" "$farm" ;;
         esac
-        limited "scripts over the program" "$@"
-        case $? in
+        limited "scripts over the program" "$@" > "$folder/$script.said" 2>&1
+        echo $? > "$folder/$script.status"
+    done
+}
+
+status=0
+counting proofs rt ci || status=1
+limited "tests of scripts" python3 tests/waves.py --read || status=1
+if [ "$status" = 0 ]; then
+    farm=crates/farm/out/farm
+    player=crates/farm_play/out/farm_play
+    # two lanes: those that run the program most, and all others
+    long="refused_memory.sh power_cuts.py generated.py"
+    short="words.sh statuses.sh mistakes.sh upgrade.sh examples.sh using.sh api.py shell.sh real_clients.sh sockets.py
+        malformed.py kills.py dispatch.py client.py importers.py page.py proxy.py package.sh"
+    trying $long &
+    trying $short
+    wait
+    for script in $short $long; do
+        cat "$folder/$script.said"
+        case $(cat "$folder/$script.status") in
             0) passed=$((passed + 1)) ;;
             77) ;; # it wasn't tried, as it said
             *) failed=$((failed + 1)) status=1 ;;

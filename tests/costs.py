@@ -123,17 +123,20 @@ def run(file, kind, command):
     with open(file, "a", encoding="utf-8") as out:
         for name, seconds in sums.items():
             out.write(f"{seconds:.1f}\t{name}\n")
-        out.write(f"{time.time() - begun:.1f}\ton the clock\n")
+        out.write(f"{begun:.1f}\tbegun\n{time.time():.1f}\tended\n")
     return status if status >= 0 else 128 - status
 
 
 def tell(file):
-    sums = {}
+    sums, moments = {}, []
     with open(file, encoding="utf-8") as lines:
         for line in lines:
             seconds, name = line.rstrip("\n").split("\t")
-            sums[name] = sums.get(name, 0.0) + float(seconds)
-    clock = sums.pop("on the clock", 0.0)
+            if name in ("begun", "ended"):
+                moments.append(float(seconds))
+            else:
+                sums[name] = sums.get(name, 0.0) + float(seconds)
+    clock = max(moments) - min(moments)  # (some commands run side by side)
     for name, seconds in sorted(sums.items(), key=lambda it: -it[1]):
         print(f"{seconds / 60:7.1f} processor minutes: {name}")
     print(f"{sum(sums.values()) / 60:7.1f} processor minutes in all, {clock / 60:.1f} minutes on the clock")

@@ -1,6 +1,6 @@
 //! The boards that are measured: 256 of four types, as those of the plain pass in bench/pass.c.
 use farm_types::fault::WordFault;
-use farm_types::rows::{BoardRow, Check, Health, Holder, State, TypeRow};
+use farm_types::rows::{BoardRow, Check, Health, TypeRow};
 use farm_types::tags::{Tag, Tags};
 use farm_types::words::Name;
 use std::alloc::Global;
@@ -66,16 +66,9 @@ fn board(alloc: Global, place: u64, rare: bool) -> anyhow::Result<BoardRow> {
     let name = board_name(alloc, place)?;
     let kind = self::name(alloc, kind_at(place))?;
     let tags = tags_at(alloc, place, rare)?;
-    Ok(BoardRow {
-        name,
-        kind,
-        tags,
-        health: Health::Good,
-        state: State::Idle,
-        holder: Holder::Nobody,
-        jobs_since: 0,
-        last_check: 0,
-    })
+    let mut row = BoardRow::new(name, kind, tags);
+    row.health = Health::Good;
+    Ok(row)
 }
 
 /// 256 boards in name order, of four types in turn, with two tags each. The last `rare` have the

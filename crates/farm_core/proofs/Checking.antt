@@ -9,7 +9,7 @@ use Rattle.std.specs.declared.cmp.Ordering.TheVariants.{Less}
 use Rattle.std.proofs.lemmas.Map.Text.{is_eq-slice_cmp}
 use Rattle.farm_types.specs.Farm.{Farm}
 use Rattle.farm_types.specs.Table.{board_cmp, change_where, job_cmp, put}
-use Rattle.farm_types.specs.Pass.{check_job, check_one, has_room, held, is_due}
+use Rattle.farm_types.specs.Pass.{check_job, check_one, has_room, held_board, is_due}
 use Rattle.farm_types.specs.declared.rows.BoardRow.{BoardRow}
 use Rattle.farm_types.specs.declared.rows.Holder.{Holder}
 use Rattle.farm_types.specs.declared.rows.State.{State}
@@ -47,7 +47,7 @@ module _ (t : ℕ) (F : Farm) (at : ℕ) (b : BoardRow) (sorted : IsStrictlySort
   abbrev checked : Farm
   checked = record F {
     jobs = put job_cmp F.jobs (check_job F.next b);
-    boards = change_where (λ c. bytes_eq c.name b.name) (held (Holder.Job F.next) State.Reserved) F.boards;
+    boards = change_where (λ c. bytes_eq c.name b.name) (held_board (Holder.Job F.next) State.Reserved) F.boards;
     next = F.next + 1;
   }
 
@@ -60,7 +60,7 @@ module _ (t : ℕ) (F : Farm) (at : ℕ) (b : BoardRow) (sorted : IsStrictlySort
   -- one that is due is checked
   behind : (v : Bool) → fold check_one (cond v checked F) (filter (is_due F t) (drop (suc at) F.boards))
       ≡ fold check_one (cond v checked F) (filter (is_due (cond v checked F) t) (drop (suc at) (cond v checked F).boards))
-  behind true = ap (λ rows. fold check_one checked (filter (is_due F t) rows)) (sym (behind_same F.boards at b (held (Holder.Job F.next) State.Reserved) sorted low is))
+  behind true = ap (λ rows. fold check_one checked (filter (is_due F t) rows)) (sym (behind_same F.boards at b (held_board (Holder.Job F.next) State.Reserved) sorted low is))
   behind false = refl
 
   pub is_checked : is_due F t b ≡ true → checks_from t (at + 1) (check_one F b) ≡ checks_from t at F
@@ -75,10 +75,10 @@ checked_long F b = by (has_room F 1)
   where
     by : (v : Bool) → length (cond v (record F {
       jobs = put job_cmp F.jobs (check_job F.next b);
-      boards = change_where (λ c. bytes_eq c.name b.name) (held (Holder.Job F.next) State.Reserved) F.boards;
+      boards = change_where (λ c. bytes_eq c.name b.name) (held_board (Holder.Job F.next) State.Reserved) F.boards;
       next = F.next + 1;
     }) F).boards ≡ length F.boards
-    by true = change_long (λ c. bytes_eq c.name b.name) (held (Holder.Job F.next) State.Reserved) F.boards
+    by true = change_long (λ c. bytes_eq c.name b.name) (held_board (Holder.Job F.next) State.Reserved) F.boards
     by false = refl
 
 pub checked_next : (F : Farm) (b : BoardRow) → F.next ≤ (check_one F b).next
@@ -86,7 +86,7 @@ checked_next F b = by (has_room F 1)
   where
     by : (v : Bool) → F.next ≤ (cond v (record F {
       jobs = put job_cmp F.jobs (check_job F.next b);
-      boards = change_where (λ c. bytes_eq c.name b.name) (held (Holder.Job F.next) State.Reserved) F.boards;
+      boards = change_where (λ c. bytes_eq c.name b.name) (held_board (Holder.Job F.next) State.Reserved) F.boards;
       next = F.next + 1;
     }) F).next
     by true = omega arith
@@ -97,7 +97,7 @@ checked_clock F b = by (has_room F 1)
   where
     by : (v : Bool) → (cond v (record F {
       jobs = put job_cmp F.jobs (check_job F.next b);
-      boards = change_where (λ c. bytes_eq c.name b.name) (held (Holder.Job F.next) State.Reserved) F.boards;
+      boards = change_where (λ c. bytes_eq c.name b.name) (held_board (Holder.Job F.next) State.Reserved) F.boards;
       next = F.next + 1;
     }) F).clock ≡ F.clock
     by true = refl

@@ -7,7 +7,7 @@ use Rattle.std.specs.Str.{bytes_eq}
 use Rattle.std.proofs.Math.Bool.{and-false}
 use Rattle.farm_types.specs.Codes.{same_job_state}
 use Rattle.farm_types.specs.Farm.{Farm, job_of, members}
-use Rattle.farm_types.specs.Pass.{back, collect_member, first_free, give_member, held, idle, is_job_so, placed, unplaced}
+use Rattle.farm_types.specs.Pass.{giving_back, collect_member, first_free, give_member, held_board, freed_board, is_job_so, placed_job, unplaced_job}
 use Rattle.farm_types.specs.Pick.{is_free, least, serves}
 use Rattle.farm_types.specs.Sound.{IsSound}
 use Rattle.farm_types.specs.Table.{change_where}
@@ -34,7 +34,7 @@ use Rattle.farm_core.proofs.Serving.{names_of, numbers_of}
 
 module _ (types : List TypeRow) (name : List ℕ) (n : ℕ) where
   abbrev take : BoardRow → BoardRow
-  take = held (Holder.Job n) State.Reserved
+  take = held_board (Holder.Job n) State.Reserved
 
   abbrev other : IdleBoard → Bool
   other x = not (bytes_eq x.name name)
@@ -74,10 +74,10 @@ S = JobState.Scheduling
 
 -- what a job wants stays when another, or itself, takes a board
 abbrev changed : ℕ → List ℕ → JobRow → JobRow
-changed number name r = cond (r.number == number) (placed S name r) r
+changed number name r = cond (r.number == number) (placed_job S name r) r
 
 keeps_number : (number n : ℕ) (name : List ℕ) (r : JobRow) → ((changed number name r).number == n) ≡ (r.number == n)
-keeps_number number n name r = by_cases (λ (k : JobRow). (k.number == n) ≡ (r.number == n)) (r.number == number) (placed S name r) r (λ _. refl) (λ _. refl)
+keeps_number number n name r = by_cases (λ (k : JobRow). (k.number == n) ≡ (r.number == n)) (r.number == number) (placed_job S name r) r (λ _. refl) (λ _. refl)
 
 module _ (F : Farm) (m j : JobRow) (n : ℕ) (has : HasWant F n j) where
   want_given : (b : BoardRow) → HasWant (give_member S F (m, b)) n j
@@ -85,7 +85,7 @@ module _ (F : Farm) (m j : JobRow) (n : ℕ) (has : HasWant F n j) where
     where
       by : (o : Option JobRow) → IsSomeAnd o (λ (r : JobRow). r.want ≡ j.want) → IsSomeAnd (option_map (changed m.number b.name) o) (λ (r : JobRow). r.want ≡ j.want)
       by None is = absurd is
-      by (Some r) is = by_cases (λ (k : JobRow). k.want ≡ j.want) (r.number == m.number) (placed S b.name r) r (λ _. is) (λ _. is)
+      by (Some r) is = by_cases (λ (k : JobRow). k.want ≡ j.want) (r.number == m.number) (placed_job S b.name r) r (λ _. is) (λ _. is)
 
   pub want_stays : HasWant (collect_member F m) n j
   want_stays = by (first_free F m.want)
@@ -210,9 +210,9 @@ module _ (F : Farm) (sound : IsSound F) (zero_is : F.collector ≡ 0) where
       by (Some j) is = found_has (λ k. gives_back F.collector k ≡ false) (λ k. k.number == n) j F.jobs none_gives is
   held_by (Holder.Res n) = refl
 
-  boards_same : (rows : List BoardRow) → change_where (λ b. is_job_so F (gives_back F.collector) b.holder) idle rows ≡ rows
+  boards_same : (rows : List BoardRow) → change_where (λ b. is_job_so F (gives_back F.collector) b.holder) freed_board rows ≡ rows
   boards_same [] = refl
-  boards_same (b ∷ rows) = λ i. ap (λ v. cond v (idle b) b) (held_by b.holder) i ∷ boards_same rows i
+  boards_same (b ∷ rows) = λ i. ap (λ v. cond v (freed_board b) b) (held_by b.holder) i ∷ boards_same rows i
 
-  pub back_of_none : back F ≡ F
-  back_of_none = λ i. record F { jobs = all_same (gives_back F.collector) unplaced F.jobs none_gives i; boards = boards_same F.boards i; collector = sym zero_is i }
+  pub back_of_none : giving_back F ≡ F
+  back_of_none = λ i. record F { jobs = all_same (gives_back F.collector) unplaced_job F.jobs none_gives i; boards = boards_same F.boards i; collector = sym zero_is i }

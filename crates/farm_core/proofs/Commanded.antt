@@ -1,7 +1,7 @@
 -- The queues of a draft follow a command as the machine says.
 use Rattle.std.proofs.Common.{◌≡◌, ◌∙◌, ◌==◌, ◌+◌, ℕ, List, false, map, not, Option, Some, None, refl, sym, ap}
 use Rattle.std.specs.Option.{option_map_or}
-use Rattle.farm_types.specs.Change.{keep, moved, new_res}
+use Rattle.farm_types.specs.Change.{keep, farm_at_call, new_res}
 use Rattle.farm_types.specs.Farm.{Farm, job_of, put_kept}
 use Rattle.farm_types.specs.Pick.{queue, res_claim}
 use Rattle.farm_types.specs.Refuse.{kind_of, moment, refusal}
@@ -11,8 +11,8 @@ use Rattle.farm_types.specs.declared.calls.Cmd.{Cmd}
 use Rattle.farm_types.specs.declared.rows.JobRow.{JobRow}
 use Rattle.farm_types.specs.declared.rows.Reply.{Reply}
 use Rattle.farm_sound.proofs.Step.{IsAccepted-moved, IsSound-moved_to, accepted}
-use Rattle.farm_pick.specs.Follow.{queue_after, without}
-use Rattle.farm_pick.specs.Queued.{Lists, lists_of, queued}
+use Rattle.farm_pick.specs.Follow.{queue_after, queue_without}
+use Rattle.farm_pick.specs.Queued.{Lists, lists_of, queued_of}
 use Rattle.farm_pick.proofs.Commands.{commands_follow}
 use Rattle.farm_pick.proofs.Filling.{queued_filter, queued_put}
 use Rattle.farm_core.specs.Drafted.{queues_after, without_claim}
@@ -41,12 +41,12 @@ boards_stay F caller (Cmd.Refresh number) lists = refl
 boards_stay F caller Cmd.Pass lists = refl
 
 -- the claims are put and taken as in the queue
-claims_follow : (F : Farm) (caller : List ℕ) (cmd : Cmd) → (queues_after F caller cmd (lists_of F)).claims ≡ map queued (queue_after F caller cmd)
+claims_follow : (F : Farm) (caller : List ℕ) (cmd : Cmd) → (queues_after F caller cmd (lists_of F)).claims ≡ map queued_of (queue_after F caller cmd)
 claims_follow F caller (Cmd.Submit priority wants roles body) = sym (queued_put (queue F) (record { reservation = false; number = F.next; owner = caller; priority = priority; wants = wants }))
 claims_follow F caller (Cmd.Reserve priority tags) = sym (queued_put (queue F) (res_claim (new_res F.next caller priority tags (F.clock + 60))))
 claims_follow F caller (Cmd.Cancel number) = by (job_of F number)
   where
-    by : (o : Option JobRow) → (option_map_or {U = Lists} (λ j. without_claim j.group (lists_of F)) o (lists_of F)).claims ≡ map queued (option_map_or (λ j. without j.group (queue F)) o (queue F))
+    by : (o : Option JobRow) → (option_map_or {U = Lists} (λ j. without_claim j.group (lists_of F)) o (lists_of F)).claims ≡ map queued_of (option_map_or (λ j. queue_without j.group (queue F)) o (queue F))
     by None = refl
     by (Some j) = sym (queued_filter (λ n. not (n == j.group)) (queue F))
 claims_follow F caller (Cmd.CancelRes number) = sym (queued_filter (λ n. not (n == number)) (queue F))
@@ -61,10 +61,10 @@ claims_follow F caller (Cmd.Release number) = refl
 claims_follow F caller (Cmd.Refresh number) = refl
 claims_follow F caller Cmd.Pass = refl
 
-pub follows_in : (F : Farm) (call : Call) → IsSound F → None ≡ refusal F call → FollowsIn (moved F call) call.caller call.cmd
+pub follows_in : (F : Farm) (call : Call) → IsSound F → None ≡ refusal F call → FollowsIn (farm_at_call F call) call.caller call.cmd
 follows_in F call sound clear = record {
-  claims = λ other. claims_follow (moved F call) call.caller call.cmd ∙ ap (map queued) (sym (commands_follow F call sound clear other));
-  free = λ other. free_after (moved F call) (moment F call) call.caller call.cmd (IsSound-moved_to F call clear sound)
+  claims = λ other. claims_follow (farm_at_call F call) call.caller call.cmd ∙ ap (map queued_of) (sym (commands_follow F call sound clear other));
+  free = λ other. free_after (farm_at_call F call) (moment F call) call.caller call.cmd (IsSound-moved_to F call clear sound)
       (IsAccepted-moved F (moment F call) (moment F call) call.caller call.cmd (accepted F call clear)) other;
 }
 

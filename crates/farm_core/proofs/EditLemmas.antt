@@ -1,9 +1,10 @@
 -- What the edits of jobs, reservations and boards keep.
 use Rattle.std.proofs.Common.{◌≡◌, ℕ, ◌+◌, List, [], ◌∷◌, min, Bool, true, false, cond, refl, ap, ◌∙◌, arith}
+use Rattle.farm_types.specs.Limits.{most_jobs_since}
 use Rattle.farm_types.specs.Table.{change_where}
 use Rattle.farm_types.specs.Farm.{Farm}
-use Rattle.farm_types.specs.Pass.{idle, is_job_so, is_res_so, change_jobs, change_res}
-use Rattle.farm_types.specs.Change.{graded, after_job, after_check}
+use Rattle.farm_types.specs.Pass.{freed_board, is_job_so, is_res_so, change_jobs, change_res}
+use Rattle.farm_types.specs.Change.{graded_board, after_job, after_check}
 use Rattle.farm_types.specs.Small.{IsSmallBoard}
 use Rattle.farm_types.specs.declared.rows.Health.{Health}
 use Rattle.farm_types.specs.declared.rows.Holder.{Holder}
@@ -45,20 +46,20 @@ keeps_res (ResEdit.End number) r = refl
 keeps_res (ResEdit.Expire now) r = refl
 keeps_res (ResEdit.Allocate number board deadline) r = refl
 
-graded_by : (P : BoardRow → Type 0) (h : Health) (b : BoardRow) → P b → P (record b { health = h }) → P (graded h b)
+graded_by : (P : BoardRow → Type 0) (h : Health) (b : BoardRow) → P b → P (record b { health = h }) → P (graded_board h b)
 graded_by P h b same other = by _
   where
     by : (v : Bool) → P (cond v (record b { health = h }) b)
     by true = other
     by false = same
 
-job_by : (P : BoardRow → Type 0) (outcome : Outcome) (b : BoardRow) → ((h : Health) → P (record b { jobs_since = min (b.jobs_since + 1) 1000000; health = h })) → P (after_job outcome b)
+job_by : (P : BoardRow → Type 0) (outcome : Outcome) (b : BoardRow) → ((h : Health) → P (record b { jobs_since = min (b.jobs_since + 1) most_jobs_since; health = h })) → P (after_job outcome b)
 job_by P outcome b each = by _
   where
     used : BoardRow
-    used = record b { jobs_since = min (b.jobs_since + 1) 1000000 }
+    used = record b { jobs_since = min (b.jobs_since + 1) most_jobs_since }
 
-    by : (v : Bool) → P (cond v (graded Health.Unknown used) used)
+    by : (v : Bool) → P (cond v (graded_board Health.Unknown used) used)
     by true = graded_by P Health.Unknown used (each b.health) (each Health.Unknown)
     by false = each b.health
 
@@ -113,8 +114,8 @@ jobs_alone F G test f is = is ∙ (λ i. record F { jobs = change_where test f F
 pub small_board : (e : Becomes) → IfAfterCheck e → (b : BoardRow) → IsSmallBoard b → IsSmallBoard (board_after e b)
 small_board Becomes.Idle now b s = record { held_by = omega arith; jobs_since = s.jobs_since; last_check = s.last_check }
 small_board (Becomes.State state) now b s = record { held_by = s.held_by; jobs_since = s.jobs_since; last_check = s.last_check }
-small_board (Becomes.AfterJob outcome) now b s = job_by (λ x. IsSmallBoard (idle x)) outcome b (λ h. record { held_by = omega arith; jobs_since = omega arith; last_check = s.last_check })
-small_board (Becomes.AfterCheck outcome t) now b s = check_by (λ x. IsSmallBoard (idle x)) outcome t b (λ h. record { held_by = omega arith; jobs_since = s.jobs_since; last_check = s.last_check }) (λ h. record { held_by = omega arith; jobs_since = omega arith; last_check = now })
+small_board (Becomes.AfterJob outcome) now b s = job_by (λ x. IsSmallBoard (freed_board x)) outcome b (λ h. record { held_by = omega arith; jobs_since = omega arith; last_check = s.last_check })
+small_board (Becomes.AfterCheck outcome t) now b s = check_by (λ x. IsSmallBoard (freed_board x)) outcome t b (λ h. record { held_by = omega arith; jobs_since = s.jobs_since; last_check = s.last_check }) (λ h. record { held_by = omega arith; jobs_since = omega arith; last_check = now })
 
 pub reservations_alone : (F G : Farm) (test : ResRow → Bool) (f : ResRow → ResRow) → G ≡ record F { reservations = change_where test f F.reservations } → G ≡ change_res test f (λ b. b) F
 reservations_alone F G test f is = is ∙ (λ i. record F { reservations = change_where test f F.reservations; boards = same_rows (λ (b : BoardRow). is_res_so F test b.holder) F.boards i })

@@ -11,7 +11,7 @@ use Rattle.farm_types.specs.declared.claims.Claim.{Claim}
 use Rattle.farm_types.specs.declared.claims.ClaimKind.{ClaimKind}
 use Rattle.farm_types.specs.declared.rows.JobRow.{JobRow}
 use Rattle.farm_pick.specs.Kept.{queued_cmp}
-use Rattle.farm_pick.specs.Queued.{Lists, idle_boards, lists_of, queue_kind, queued}
+use Rattle.farm_pick.specs.Queued.{Lists, idle_boards, lists_of, queue_kind, queued_of}
 use Rattle.farm_pick.proofs.Filling.{fresh_before, last_put}
 use Rattle.farm_pick.proofs.Leading.{lead_of, of_reservation}
 use Rattle.farm_sound.proofs.Claims.{IsClaim, queue_claims}
@@ -41,7 +41,7 @@ at_seam (x ∷ xs) ys y d = at_seam xs ys y d
 -- these claims are still to be put, and those behind them stand in the queues
 pub record Fills (F : Farm) (queues : Lists) (shown : List Claim) : Type 0 where
   pub left : shown ++ map shown_claim (drop (length shown) (queue F)) ≡ map shown_claim (queue F)
-  pub put : queues.claims ≡ map queued (drop (length shown) (queue F))
+  pub put : queues.claims ≡ map queued_of (drop (length shown) (queue F))
   pub boards : queues.boards ≡ idle_boards F
 
 module _ (F : Farm) (sound : IsSound F) where
@@ -65,7 +65,7 @@ module _ (F : Farm) (sound : IsSound F) where
       let none : drop (length shown) (queue F) ≡ [] = drop_all (length shown) (queue F) (omega (arith, long)) in
       record {
         left = ap (λ cs. shown ++ map shown_claim cs) none ∙ append-nil shown ∙ all;
-        put = ap (λ (q : Lists). q.claims) begin ∙ sym (ap (map queued) none);
+        put = ap (λ (q : Lists). q.claims) begin ∙ sym (ap (map queued_of) none);
         boards = ap (λ (q : Lists). q.boards) begin;
       }
 
@@ -93,13 +93,13 @@ module _ (F : Farm) (sound : IsSound F) where
     same : shown_claim here.claimed ≡ claim
     same = sym (here.shown claim) ∙ ap (λ cs. get_or cs (length rest) claim) (sym whole) ∙ at_seam rest (map shown_claim (drop (suc (length rest)) (queue F))) claim claim
 
-    behind : queues.claims ≡ map queued (drop (length rest + 1) (queue F))
-    behind = fills.put ∙ ap (λ n. map queued (drop n (queue F))) (long ∙ sym (add-one (length rest)))
+    behind : queues.claims ≡ map queued_of (drop (length rest + 1) (queue F))
+    behind = fills.put ∙ ap (λ n. map queued_of (drop n (queue F))) (long ∙ sym (add-one (length rest)))
 
     pub fills_fresh : IsFresh claim.number queues.claims
     fills_fresh =
         subst (λ cs. IsFresh claim.number cs) (sym behind)
-        (subst (λ (k : Claim). IsFresh k.number (map queued (drop (length rest + 1) (queue F)))) same (fresh_before F (length rest) here.claimed sound low here.at))
+        (subst (λ (k : Claim). IsFresh k.number (map queued_of (drop (length rest + 1) (queue F)))) same (fresh_before F (length rest) here.claimed sound low here.at))
 
     pub fills_on : (news : Lists) → news ≡ record queues { claims = put queued_cmp queues.claims (record { claim = claim; kind = kind_in F.jobs claim }) } → Fills F news rest
     fills_on news made = record {
@@ -112,7 +112,7 @@ module _ (F : Farm) (sound : IsSound F) where
 
   pub fills_end : (queues : Lists) (shown : List Claim) → shown ≡ [] → Fills F queues shown → queues ≡ lists_of F
   fills_end queues shown none fills =
-      let claims = fills.put ∙ ap (λ cs. map queued (drop (length cs) (queue F))) none in
+      let claims = fills.put ∙ ap (λ cs. map queued_of (drop (length cs) (queue F))) none in
       λ i. record { claims = claims i; boards = fills.boards i }
 
 pub no_claims : (shown : List Claim) → length shown ≡ 0 → shown ≡ []

@@ -12,10 +12,11 @@ use Rattle.std.specs.declared.cmp.Ordering.TheVariants.{Less, Equal, Greater}
 use Rattle.std.proofs.lemmas.List.{append_assoc}
 use Rattle.std.proofs.lemmas.Slice.Eq.{bytes_eq-Decides}
 use Rattle.std.proofs.lemmas.Cmp.{tied_itself}
+use Rattle.farm_types.specs.Refusals.{type_exists}
 use Rattle.farm_types.specs.Codes.{same_health}
-use Rattle.farm_types.specs.Change.{act, cancel_group, done, finish_one, start_group}
+use Rattle.farm_types.specs.Change.{act, cancel_group, done_with, finish_one, start_group}
 use Rattle.farm_types.specs.Farm.{Farm, board_of, job_of, put_board, put_type, type_of}
-use Rattle.farm_types.specs.Pass.{back, check_job, check_one, checks, expire, has_room, held, is_due}
+use Rattle.farm_types.specs.Pass.{giving_back, check_job, check_one, checks, expire, has_room, held_board, is_due}
 use Rattle.farm_types.specs.Pick.{is_checked, is_free, is_nobody}
 use Rattle.farm_types.specs.Sound.{IsBoardRow, IsSound, IsSteady}
 use Rattle.farm_types.specs.Table.{board_cmp, change_where, job_cmp, put, put_all, type_cmp}
@@ -40,7 +41,7 @@ use Rattle.farm_sound.proofs.Puts.{names_apart}
 use Rattle.farm_sound.proofs.Where.{AllByRecursion-map}
 use Rattle.farm_pick.specs.Kept.{named_cmp}
 use Rattle.farm_pick.specs.Queued.{IdleBoard, idle_board, idle_boards}
-use Rattle.farm_core.specs.Following.{free_of, noted, without_board}
+use Rattle.farm_core.specs.Following.{free_of, free_boards_with, without_board}
 
 -- ---- one row
 
@@ -64,7 +65,7 @@ module _ (types : List TypeRow) (row : BoardRow) where
       AllByRecursion-map (λ z. Above z × (is_free types z ≡ true)) (λ (x : IdleBoard). text_cmp row.name x.name ≡ Less) idle_board (λ z two. two.0) (filter (is_free types) bs)
       (filter_all Above (is_free types) bs above)
 
-  below : (bs : List BoardRow) → AllByRecursion Above bs → noted types (free_of types bs) row ≡ free_of types (row ∷ bs)
+  below : (bs : List BoardRow) → AllByRecursion Above bs → free_boards_with types (free_of types bs) row ≡ free_of types (row ∷ bs)
   below bs above = by (is_free types row)
     where
       by : (v : Bool) → cond v (put named_cmp (free_of types bs) (idle_board row)) (without_board (free_of types bs) row.name)
@@ -72,7 +73,7 @@ module _ (types : List TypeRow) (row : BoardRow) where
       by true = put_front (idle_board row) (free_of types bs) (free_above bs above)
       by false = none_without row.name (free_of types bs) (free_above bs above)
 
-  instead : (b : BoardRow) (bs : List BoardRow) → board_cmp row b ≡ Equal → AllByRecursion Above bs → noted types (free_of types (b ∷ bs)) row ≡ free_of types (row ∷ bs)
+  instead : (b : BoardRow) (bs : List BoardRow) → board_cmp row b ≡ Equal → AllByRecursion Above bs → free_boards_with types (free_of types (b ∷ bs)) row ≡ free_of types (row ∷ bs)
   instead b bs is above = by (is_free types row) (is_free types b)
     where
       same : bytes_eq b.name row.name ≡ true
@@ -87,8 +88,8 @@ module _ (types : List TypeRow) (row : BoardRow) where
           ∙ none_without row.name (free_of types bs) (free_above bs above)
       by false false = none_without row.name (free_of types bs) (free_above bs above)
 
-  behind : (b : BoardRow) (bs : List BoardRow) → board_cmp row b ≡ Greater → noted types (free_of types bs) row ≡ free_of types (put board_cmp bs row)
-      → noted types (free_of types (b ∷ bs)) row ≡ free_of types (b ∷ put board_cmp bs row)
+  behind : (b : BoardRow) (bs : List BoardRow) → board_cmp row b ≡ Greater → free_boards_with types (free_of types bs) row ≡ free_of types (put board_cmp bs row)
+      → free_boards_with types (free_of types (b ∷ bs)) row ≡ free_of types (b ∷ put board_cmp bs row)
   behind b bs is rest = by (is_free types row) (is_free types b) rest
     where
       other : bytes_eq b.name row.name ≡ false
@@ -105,13 +106,13 @@ module _ (types : List TypeRow) (row : BoardRow) where
       by true false rest = rest
       by false false rest = rest
 
-  noted_put : (bs : List BoardRow) → IsStrictlySortedBy board_cmp bs → noted types (free_of types bs) row ≡ free_of types (put board_cmp bs row)
+  noted_put : (bs : List BoardRow) → IsStrictlySortedBy board_cmp bs → free_boards_with types (free_of types bs) row ≡ free_of types (put board_cmp bs row)
   unfolding IsStrictlySortedBy
   noted_put [] sorted = below [] tt
   noted_put (b ∷ bs) sorted = by (board_cmp row b) refl (noted_put bs sorted.1)
     where
-      by : (o : Ordering) → board_cmp row b ≡ o → noted types (free_of types bs) row ≡ free_of types (put board_cmp bs row)
-          → noted types (free_of types (b ∷ bs)) row ≡ free_of types (match_ordering o (row ∷ b ∷ bs) (row ∷ bs) (b ∷ put board_cmp bs row))
+      by : (o : Ordering) → board_cmp row b ≡ o → free_boards_with types (free_of types bs) row ≡ free_of types (put board_cmp bs row)
+          → free_boards_with types (free_of types (b ∷ bs)) row ≡ free_of types (match_ordering o (row ∷ b ∷ bs) (row ∷ bs) (b ∷ put board_cmp bs row))
       by Less is rest = below (b ∷ bs) (is, AllByRecursion-weaker (λ z less. board_total.trans row b z is less) bs sorted.0)
       by Equal is rest = instead b bs is (AllByRecursion-weaker (λ z less. board_total.congr row b z is ∙ less) bs sorted.0)
       by Greater is rest = behind b bs is rest
@@ -119,10 +120,10 @@ module _ (types : List TypeRow) (row : BoardRow) where
 -- ---- all changed rows
 
 pub noted_all : (types : List TypeRow) (rows bs : List BoardRow) → IsStrictlySortedBy board_cmp bs
-    → fold (noted types) (free_of types bs) rows ≡ free_of types (put_all board_cmp bs rows)
+    → fold (free_boards_with types) (free_of types bs) rows ≡ free_of types (put_all board_cmp bs rows)
 noted_all types [] bs sorted = refl
 noted_all types (row ∷ rows) bs sorted =
-    ap (λ xs. fold (noted types) xs rows) (noted_put types row bs sorted)
+    ap (λ xs. fold (free_boards_with types) xs rows) (noted_put types row bs sorted)
     ∙ noted_all types rows (put board_cmp bs row) (put_sorted board_cmp board_total row bs sorted)
 
 -- ---- what the commands do with types
@@ -163,7 +164,7 @@ module _ (F : Farm) (row : TypeRow) (new : type_of F row.name ≡ None) where
 
 -- no other command but a pass changes the types
 pub free_after : (F : Farm) (t : ℕ) (caller : List ℕ) (cmd : Cmd) → IsSound F → IsAccepted F t caller cmd → cmd ≢ Cmd.Pass → free_of (act F caller cmd).farm.types F.boards ≡ idle_boards F
-free_after F t caller (Cmd.AddType name check) sound is other = free_added F (record { name = name; check = check }) (none_of (type_of F name) (first_clear (is_some (type_of F name)) 11 [] is.clear).0) sound.steady
+free_after F t caller (Cmd.AddType name check) sound is other = free_added F (record { name = name; check = check }) (none_of (type_of F name) (first_clear (is_some (type_of F name)) type_exists [] is.clear).0) sound.steady
 free_after F t caller (Cmd.AddBoard name kind tags) sound is other = refl
 free_after F t caller (Cmd.SetTags name tags) sound is other = ap (λ types. free_of types F.boards) (by (board_of F name))
   where
@@ -178,17 +179,17 @@ free_after F t caller (Cmd.SetHealth name health) sound is other = ap (λ types.
 free_after F t caller (Cmd.Submit priority wants roles body) sound is other = refl
 free_after F t caller (Cmd.Cancel number) sound is other = ap (λ types. free_of types F.boards) (by (job_of F number))
   where
-    by : (o : Option JobRow) → (option_map_or (λ j. done j.group (cancel_group j.group F)) o (done 0 F)).farm.types ≡ F.types
+    by : (o : Option JobRow) → (option_map_or (λ j. done_with j.group (cancel_group j.group F)) o (done_with 0 F)).farm.types ≡ F.types
     by None = refl
     by (Some j) = refl
 free_after F t caller (Cmd.Start number) sound is other = ap (λ types. free_of types F.boards) (by (job_of F number))
   where
-    by : (o : Option JobRow) → (option_map_or (λ j. done j.group (start_group j.group F)) o (done 0 F)).farm.types ≡ F.types
+    by : (o : Option JobRow) → (option_map_or (λ j. done_with j.group (start_group j.group F)) o (done_with 0 F)).farm.types ≡ F.types
     by None = refl
     by (Some j) = refl
 free_after F t caller (Cmd.Finish number outcome) sound is other = ap (λ types. free_of types F.boards) (by (job_of F number))
   where
-    by : (o : Option JobRow) → (option_map_or (λ j. done number (finish_one F.clock outcome F j)) o (done 0 F)).farm.types ≡ F.types
+    by : (o : Option JobRow) → (option_map_or (λ j. done_with number (finish_one F.clock outcome F j)) o (done_with 0 F)).farm.types ≡ F.types
     by None = refl
     by (Some j) = refl
 free_after F t caller (Cmd.Reserve priority tags) sound is other = refl
@@ -206,14 +207,14 @@ checked_types (b ∷ bs) F = checked_types bs (check_one F b) ∙ by (has_room F
   where
     by : (v : Bool) → (cond v (record F {
       jobs = put job_cmp F.jobs (check_job F.next b);
-      boards = change_where (λ c. bytes_eq c.name b.name) (held (Holder.Job F.next) State.Reserved) F.boards;
+      boards = change_where (λ c. bytes_eq c.name b.name) (held_board (Holder.Job F.next) State.Reserved) F.boards;
       next = F.next + 1;
     }) F).types ≡ F.types
     by true = refl
     by false = refl
 
-pub prepared_types : (F : Farm) → (checks (expire (back F) F.clock) F.clock).types ≡ F.types
-prepared_types F = checked_types (filter (is_due (expire (back F) F.clock) F.clock) (expire (back F) F.clock).boards) (expire (back F) F.clock)
+pub prepared_types : (F : Farm) → (checks (expire (giving_back F) F.clock) F.clock).types ≡ F.types
+prepared_types F = checked_types (filter (is_due (expire (giving_back F) F.clock) F.clock) (expire (giving_back F) F.clock).boards) (expire (giving_back F) F.clock)
 
 -- ---- from no boards at all
 
@@ -241,6 +242,6 @@ put_behind xs (y ∷ ys) sorted =
     ∙ put_behind (xs ++ (y ∷ [])) ys (subst (IsStrictlySortedBy board_cmp) (sym (append_assoc xs (y ∷ []) ys)) sorted)
     ∙ append_assoc xs (y ∷ []) ys
 
-pub noted_whole : (types : List TypeRow) (bs : List BoardRow) → IsStrictlySortedBy board_cmp bs → fold (noted types) [] bs ≡ free_of types bs
+pub noted_whole : (types : List TypeRow) (bs : List BoardRow) → IsStrictlySortedBy board_cmp bs → fold (free_boards_with types) [] bs ≡ free_of types bs
 unfolding IsStrictlySortedBy
 noted_whole types bs sorted = noted_all types bs [] tt ∙ ap (free_of types) (put_behind [] bs sorted)

@@ -4,13 +4,14 @@ use Rattle.std.specs.Prelude.{option_map}
 use Rattle.std.specs.List.{insert}
 use Rattle.std.proofs.lemmas.Bool.Decides.{nat_tests}
 use Rattle.std.proofs.lemmas.List.{length-map, length-set}
+use Rattle.farm_types.specs.Limits.{most_wants}
 use Rattle.farm_types.specs.Farm.{Farm}
 use Rattle.farm_types.specs.Table.{change_where}
 use Rattle.farm_types.specs.declared.claims.ClaimKind.{ClaimKind}
 use Rattle.farm_types.specs.declared.rows.JobRow.{JobRow}
 use Rattle.farm_types.specs.declared.rows.Want.{Want}
 use Rattle.farm_core.specs.Edits.{job_changed}
-use Rattle.farm_core.specs.Marks.{AreMarks, IsMark, IsMarked, IsMarkedUpTo, IsNumber, Numbered, number_at}
+use Rattle.farm_core.specs.Marks.{AreMarks, IsMark, IsMarked, IsMarkedUpTo, IsNumber, IsNumbered, number_at}
 use Rattle.farm_core.specs.Orderly.{IsOrderly, IsPlaceOf}
 use Rattle.farm_core.specs.Serving.{member_wants, want_at, want_in, wants_of}
 use Rattle.farm_core.proofs.EditLemmas.{keeps_job}
@@ -24,7 +25,7 @@ use Rattle.farm_core.specs.declared.job_table.Mark.{Mark}
 pub no_number : (f : ℕ → Want) (last : ℕ) (w : Want) → IsNumber f last w 0
 no_number f last w = (omega arith, λ some. absurd (some refl))
 
-pub unnumbered : (rows : List JobRow) (marks : List Mark) (last : ℕ) (w : Want) → Numbered rows marks last last w 0
+pub unnumbered : (rows : List JobRow) (marks : List Mark) (last : ℕ) (w : Want) → IsNumbered rows marks last last w 0
 unnumbered rows marks last w f are = (f, are, no_number f last w)
 
 -- a number that was given stays
@@ -60,7 +61,7 @@ marks_stay f last w (r ∷ rows) (m ∷ marks) are = (
   marks_stay f last w rows marks are.1,
 )
 
-pub numbered_anew : (rows : List JobRow) (marks : List Mark) (last : ℕ) (w : Want) → Numbered rows marks last (last + 1) w (last + 1)
+pub numbered_anew : (rows : List JobRow) (marks : List Mark) (last : ℕ) (w : Want) → IsNumbered rows marks last (last + 1) w (last + 1)
 numbered_anew rows marks last w f are =
     (with_one f (last + 1) w, marks_stay f last w rows marks are, (omega arith, λ some. ap (λ v. cond v w (f (last + 1))) (same_number (last + 1))))
 
@@ -158,7 +159,7 @@ want_dropped rows start group i = ap (want_in group) (got_dropped start rows i)
 
 -- the members of a group are among the four rows from its place on
 pub members_near : (F : Farm) (group start : ℕ) → IsOrderly F → start ≤ length F.jobs → IsPlaceOf (λ (r : JobRow). r.number) F.jobs group start
-    → member_wants (take 4 (drop start F.jobs)) group ≡ wants_of F ClaimKind.Group group
+    → member_wants (take most_wants (drop start F.jobs)) group ≡ wants_of F ClaimKind.Group group
 members_near F group start orderly low place =
     ap (map (λ (m : JobRow). m.want))
     (filter_near (λ (j : JobRow). j.group == group) 4 start F.jobs low (none_before F.jobs (JobEdit.Start group) orderly.near start low place)
@@ -173,7 +174,7 @@ marked_change last edit test rows marks is = record {
   are = marks_change is.want_of last edit test rows marks is.are;
 }
 
-pub marked_set : (last next : ℕ) (rows : List JobRow) (marks : List Mark) (i : ℕ) (r : JobRow) (m : Mark) → IsMarked last rows marks → Numbered rows marks last next r.want m.want → m.number ≡ r.number → m.group ≡ r.group
+pub marked_set : (last next : ℕ) (rows : List JobRow) (marks : List Mark) (i : ℕ) (r : JobRow) (m : Mark) → IsMarked last rows marks → IsNumbered rows marks last next r.want m.want → m.number ≡ r.number → m.group ≡ r.group
     → IsMarked next (set rows i r) (set marks i m)
 marked_set last next rows marks i r m is given number group =
     let more = given is.want_of is.are in
@@ -183,7 +184,7 @@ marked_set last next rows marks i r m is given number group =
       are = marks_set more.0 next rows marks i r m more.1 (record { number = number; group = group; want = more.2 });
     }
 
-pub marked_insert : (last next : ℕ) (rows : List JobRow) (marks : List Mark) (i : ℕ) (r : JobRow) (m : Mark) → IsMarked last rows marks → i ≤ length rows → Numbered rows marks last next r.want m.want → m.number ≡ r.number → m.group ≡ r.group
+pub marked_insert : (last next : ℕ) (rows : List JobRow) (marks : List Mark) (i : ℕ) (r : JobRow) (m : Mark) → IsMarked last rows marks → i ≤ length rows → IsNumbered rows marks last next r.want m.want → m.number ≡ r.number → m.group ≡ r.group
     → IsMarked next (insert rows i r) (insert marks i m)
 marked_insert last next rows marks i r m is low given number group =
     let more = given is.want_of is.are in
@@ -198,7 +199,7 @@ marked_insert last next rows marks i r m is low given number group =
     longer [] (suc i) x low = absurd (omega arith)
     longer (y ∷ xs) (suc i) x low = let rest = longer xs i x (omega arith) in omega (arith, rest)
 
-pub marked_push : (at last next : ℕ) (rows : List JobRow) (marks : List Mark) (r : JobRow) (m : Mark) → IsMarkedUpTo at last rows marks → at < length rows → r ≡ get_or rows at r → Numbered rows marks last next r.want m.want → m.number ≡ r.number → m.group ≡ r.group
+pub marked_push : (at last next : ℕ) (rows : List JobRow) (marks : List Mark) (r : JobRow) (m : Mark) → IsMarkedUpTo at last rows marks → at < length rows → r ≡ get_or rows at r → IsNumbered rows marks last next r.want m.want → m.number ≡ r.number → m.group ≡ r.group
     → IsMarkedUpTo (at + 1) next rows (marks ++ m ∷ [])
 marked_push at last next rows marks r m is low row given number group =
     let more = given is.want_of is.are in
@@ -219,8 +220,8 @@ marked_first last rows marks none = subst (IsMarkedUpTo 0 last rows) (sym none) 
     nothing = record { kind = None; tags = [] }
 
 -- the same rows and marks
-pub numbered_same : (rows rows' : List JobRow) (marks marks' : List Mark) (last next : ℕ) (w : Want) (k : ℕ) → rows ≡ rows' → marks ≡ marks' → Numbered rows marks last next w k → Numbered rows' marks' last next w k
-numbered_same rows rows' marks marks' last next w k one two given = subst (λ ms. Numbered rows' ms last next w k) two (subst (λ rs. Numbered rs marks last next w k) one given)
+pub numbered_same : (rows rows' : List JobRow) (marks marks' : List Mark) (last next : ℕ) (w : Want) (k : ℕ) → rows ≡ rows' → marks ≡ marks' → IsNumbered rows marks last next w k → IsNumbered rows' marks' last next w k
+numbered_same rows rows' marks marks' last next w k one two given = subst (λ ms. IsNumbered rows' ms last next w k) two (subst (λ rs. IsNumbered rs marks last next w k) one given)
 
 pub marked_same : (last : ℕ) (rows rows' : List JobRow) (marks marks' : List Mark) → rows' ≡ rows → marks' ≡ marks → IsMarked last rows marks → IsMarked last rows' marks'
 marked_same last rows rows' marks marks' one two is = subst (λ ms. IsMarked last rows' ms) (sym two) (subst (λ rs. IsMarked last rs marks) (sym one) is)

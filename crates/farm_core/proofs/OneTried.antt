@@ -1,6 +1,6 @@
 -- A claim is tried: it is served, or it isn't met and passed over.
 use Rattle.std.proofs.Common.{◌≡◌, ◌∙◌, ℕ, length, Bool, true, false, None, sym, ap, subst}
-use Rattle.farm_types.specs.Pick.{Among, Claimed, is_free, least, queue, shown_claim}
+use Rattle.farm_types.specs.Pick.{IsAmong, Claimed, is_free, least, queue, shown_claim}
 use Rattle.farm_types.specs.Sound.{IsSound}
 use Rattle.farm_types.specs.declared.claims.ClaimKind.{ClaimKind}
 use Rattle.farm_sound.proofs.Claims.{IsClaim, queue_claims}
@@ -12,13 +12,13 @@ use Rattle.farm_core.proofs.Passing.{asks_claim}
 use Rattle.farm_core.proofs.Skipping.{one_of}
 
 module _ (D : Drafted) (kind : ClaimKind) (number boards : ℕ) (sound : IsSound D.farm)
-    (waits : (c : Claimed) × Among c (queue D.farm) × ((shown_claim c).kind ≡ kind) × (c.number ≡ number) × (length c.wants ≡ boards))
+    (waits : (c : Claimed) × IsAmong c (queue D.farm) × ((shown_claim c).kind ≡ kind) × (c.number ≡ number) × (length c.wants ≡ boards))
     (E : Drafted) (served : Bool) (tries : (c : Claimed) → (shown_claim c).kind ≡ kind → c.number ≡ number → Asks c.reservation D.farm c → Tries D c served E) where
-  asked : (c : Claimed) → (shown_claim c).kind ≡ kind → c.number ≡ number → Among c (queue D.farm) → Tries D c served E
+  asked : (c : Claimed) → (shown_claim c).kind ≡ kind → c.number ≡ number → IsAmong c (queue D.farm) → Tries D c served E
   asked c is same at = tries c is same (asks_claim D.farm c (among_has (IsClaim D.farm) c (queue D.farm) (queue_claims D.farm sound.steady) at))
 
   -- one that is met is served
-  pub met_serves : served ≡ true → (c : Claimed) → (shown_claim c).kind ≡ kind → c.number ≡ number → Among c (queue D.farm) → Serves D c true E
+  pub met_serves : served ≡ true → (c : Claimed) → (shown_claim c).kind ≡ kind → c.number ≡ number → IsAmong c (queue D.farm) → Serves D c true E
   met_serves met c is same at = (asked c is same at).met met
 
   -- where it isn't, nothing has changed yet
@@ -29,7 +29,7 @@ module _ (D : Drafted) (kind : ClaimKind) (number boards : ℕ) (sound : IsSound
   pub passed_serves : served ≡ false → (G : Drafted)
       → ((c : Claimed) → (shown_claim c).kind ≡ kind → c.number ≡ number → length c.wants ≡ boards
       → least E.farm.boards (is_free E.farm.types) c.wants ≡ None → Serves E c false G)
-      → (c : Claimed) → (shown_claim c).kind ≡ kind → c.number ≡ number → Among c (queue D.farm) → Serves D c false G
+      → (c : Claimed) → (shown_claim c).kind ≡ kind → c.number ≡ number → IsAmong c (queue D.farm) → Serves D c false G
   passed_serves out G over c is same at =
       let two = (asked c is same at).unmet out in
       let one : c ≡ waits.0 = one_of c waits.0 (queue D.farm) (numbers_differ D.farm sound) at waits.1 (same ∙ sym waits.3) in

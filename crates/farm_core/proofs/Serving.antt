@@ -8,6 +8,7 @@ use Rattle.std.specs.declared.cmp.Ordering.TheVariants.{Less}
 use Rattle.std.proofs.lemmas.Cmp.{ranked}
 use Rattle.std.proofs.lemmas.List.{take_more, map-append, length-map}
 use Rattle.std.proofs.lemmas.List.Elements.{filter_map-append}
+use Rattle.farm_types.specs.Limits.{most_wants}
 use Rattle.farm_types.specs.Farm.{Farm, members, res_of}
 use Rattle.farm_types.specs.Table.{job_cmp}
 use Rattle.farm_types.specs.Pass.{Served, give, give_res, give_group, give_member, pass_over, serve}
@@ -111,14 +112,14 @@ filter_sorted test (x ∷ xs) sorted = by (test x) (filter_sorted test xs sorted
     by true rest = (AllByRecursion-weaker (λ y two. two.0) (filter test xs) (filter_all (λ y. job_cmp x y ≡ Less) test xs sorted.0), rest)
     by false rest = rest
 
-pub members_few : (F : Farm) (group : ℕ) → IsOrderly F → length (members F group) ≤ 4
+pub members_few : (F : Farm) (group : ℕ) → IsOrderly F → length (members F group) ≤ most_wants
 members_few F group orderly =
     let near = filter_all IsNear (λ (j : JobRow). j.group == group) F.jobs orderly.near in
     let long = rising (members F group) group (group + 4) (omega arith) (filter_sorted (λ (j : JobRow). j.group == group) F.jobs orderly.jobs)
     (AllByRecursion-weaker (λ m two. let is = same_number m.group group two.1 in (omega (arith, two.0.0), omega (arith, two.0.1))) (members F group) near) in
     omega (arith, long)
 
-pub wants_few : (F : Farm) (group : ℕ) (wants : List Want) → wants ≡ wants_of (members F group) → IsOrderly F → length wants ≤ 4
+pub wants_few : (F : Farm) (group : ℕ) (wants : List Want) → wants ≡ wants_of (members F group) → IsOrderly F → length wants ≤ most_wants
 wants_few F group wants is orderly = let few = members_few F group orderly in rw is (rw length-map few)
 
 pub numbers_small : (F : Farm) (group : ℕ) (numbers : List ℕ) → numbers ≡ numbers_of (members F group) → IsOrderly F → AllByRecursion IsSmall numbers

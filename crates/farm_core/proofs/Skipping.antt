@@ -7,7 +7,7 @@ use Rattle.std.proofs.lemmas.List.{take_more}
 use Rattle.std.proofs.lemmas.Slice.Eq.{bytes_eq-Decides}
 use Rattle.farm_types.specs.Farm.{Farm, res_of}
 use Rattle.farm_types.specs.Pass.{Served, give, pass_over, serve}
-use Rattle.farm_types.specs.Pick.{Among, Claimed, is_free, least, queue, shown_claim}
+use Rattle.farm_types.specs.Pick.{IsAmong, Claimed, is_free, least, queue, shown_claim}
 use Rattle.farm_types.specs.Sound.{EachTwo, IsSound}
 use Rattle.farm_types.specs.declared.claims.ClaimKind.{ClaimKind}
 use Rattle.farm_types.specs.declared.rows.BoardRow.{BoardRow}
@@ -24,7 +24,7 @@ use Rattle.farm_pick.proofs.Later.{among_later}
 use Rattle.farm_pick.proofs.Merging.{unmet_stays}
 use Rattle.farm_core.specs.Drafted.{Drafted}
 use Rattle.farm_core.specs.declared.unmet.Known.{Known}
-use Rattle.farm_core.specs.Serving.{AreUnmet, Asks, IfUnmet, IsLike, IsUnmet, Serves, counted, member_wants, want_at, want_in, wants_of}
+use Rattle.farm_core.specs.Serving.{AreUnmet, Asks, IfUnmet, IsLike, IsUnmet, Serves, count_after, member_wants, want_at, want_in, wants_of}
 use Rattle.farm_core.proofs.Passing.{asks_claim}
 
 -- ---- equal lists
@@ -120,7 +120,7 @@ like_unmet F places wants i d sound all low like =
 
 -- ---- what is unmet stays so
 
-pub one_of : (a b : Claimed) (xs : List Claimed) → EachTwo (λ (c d : Claimed). c.number ≡ d.number → ⊥) xs → Among a xs → Among b xs → a.number ≡ b.number → a ≡ b
+pub one_of : (a b : Claimed) (xs : List Claimed) → EachTwo (λ (c d : Claimed). c.number ≡ d.number → ⊥) xs → IsAmong a xs → IsAmong b xs → a.number ≡ b.number → a ≡ b
 one_of a b [] each here there same = absurd here
 one_of a b (x ∷ xs) each (inl here) (inl there) same = here ∙ sym there
 one_of a b (x ∷ xs) each (inl here) (inr there) same =
@@ -129,14 +129,14 @@ one_of a b (x ∷ xs) each (inr here) (inl there) same =
     absurd (among_has (λ (d : Claimed). x.number ≡ d.number → ⊥) a xs each.0 here (sym (ap (λ (c : Claimed). c.number) there) ∙ sym same))
 one_of a b (x ∷ xs) each (inr here) (inr there) same = one_of a b xs each.1 here there same
 
-module _ (F G : Farm) (c : Claimed) (served : Bool) (sound : IsSound F) (at : Among c (queue F))
-    (serves : (n : ℕ) → serve F.clock (record { farm = F; claims = n }) c ≡ record { farm = G; claims = counted n served }) where
+module _ (F G : Farm) (c : Claimed) (served : Bool) (sound : IsSound F) (at : IsAmong c (queue F))
+    (serves : (n : ℕ) → serve F.clock (record { farm = F; claims = n }) c ≡ record { farm = G; claims = count_after n served }) where
   abbrev come : Option (List BoardRow) → Farm
   come o = (option_map_or {U = Served} (λ bs. record { farm = give F c bs F.clock; claims = 0 + 1 }) o (record { farm = pass_over F c; claims = 0 })).farm
 
-  still_among : (d : Claimed) → Among d (queue F) → least F.boards (is_free F.types) d.wants ≡ None → Among d (queue G)
+  still_among : (d : Claimed) → IsAmong d (queue F) → least F.boards (is_free F.types) d.wants ≡ None → IsAmong d (queue G)
   still_among d here unmet =
-      subst (λ (H : Farm). Among d (queue H)) (ap (λ (s : Served). s.farm) (serves 0)) (by (least F.boards (is_free F.types) c.wants) refl)
+      subst (λ (H : Farm). IsAmong d (queue H)) (ap (λ (s : Served). s.farm) (serves 0)) (by (least F.boards (is_free F.types) c.wants) refl)
     where
       other : (bs : List BoardRow) → least F.boards (is_free F.types) c.wants ≡ Some bs → (v : Bool) → (d.number == c.number) ≡ v → not (d.number == c.number) ≡ true
       other bs met true same =
@@ -145,11 +145,11 @@ module _ (F G : Farm) (c : Claimed) (served : Bool) (sound : IsSound F) (at : Am
           cc
       other bs met false differs = ap not differs
 
-      by : (o : Option (List BoardRow)) → least F.boards (is_free F.types) c.wants ≡ o → Among d (queue (come o))
-      by None is = subst (Among d) (sym (collecting_follows F sound c at)) here
+      by : (o : Option (List BoardRow)) → least F.boards (is_free F.types) c.wants ≡ o → IsAmong d (queue (come o))
+      by None is = subst (IsAmong d) (sym (collecting_follows F sound c at)) here
       by (Some bs) is =
           let two = giving_follows F c bs F.clock sound (omega arith) at is in
-          subst (Among d) (sym two.0) (among_later (λ (e : Claimed). not (e.number == c.number)) d (queue F) here (other bs is (d.number == c.number) refl))
+          subst (IsAmong d) (sym two.0) (among_later (λ (e : Claimed). not (e.number == c.number)) d (queue F) here (other bs is (d.number == c.number) refl))
 
   unmet_on : (kind : ClaimKind) (number : ℕ) → IsUnmet F kind number → IsUnmet G kind number
   unmet_on kind number u = record {
@@ -175,7 +175,7 @@ module _ (F G : Farm) (c : Claimed) (served : Bool) (sound : IsSound F) (at : Am
       by (Some bs) same =
           let counts : ◌≡◌ {A = ℕ} 1 0 =
           sym (ap (λ o. (option_map_or {U = Served} (λ bs. record { farm = give F c bs F.clock; claims = 0 + 1 }) o (record { farm = pass_over F c; claims = 0 })).claims) same)
-          ∙ ap (λ (s : Served). s.claims) (serves 0) ∙ ap (counted 0) is in
+          ∙ ap (λ (s : Served). s.claims) (serves 0) ∙ ap (count_after 0) is in
           absurd (omega (arith, counts))
 
 -- ---- the places
@@ -191,7 +191,7 @@ all_none F (p ∷ places) all = (subst (IfUnmet F) (sym all.0) tt, all_none F pl
 
 -- ---- a claim that is tried
 
-module _ (D E : Drafted) (c : Claimed) (served : Bool) (sound : IsSound D.farm) (at : Among c (queue D.farm)) (serves : Serves D c served E)
+module _ (D E : Drafted) (c : Claimed) (served : Bool) (sound : IsSound D.farm) (at : IsAmong c (queue D.farm)) (serves : Serves D c served E)
     (places : List (Option Known)) (all : AreUnmet D.farm places) where
   pub known_on : AreUnmet E.farm places
   known_on = all_on D.farm E.farm c served sound at serves.0 places all

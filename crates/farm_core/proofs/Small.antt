@@ -6,6 +6,7 @@ use Rattle.std.specs.Str.{bytes_eq}
 use Rattle.std.specs.List.{AllByRecursion, find}
 use Rattle.std.specs.Ordering.{match_ordering}
 use Rattle.std.specs.declared.cmp.Ordering.TheVariants.{Less, Equal, Greater}
+use Rattle.farm_types.specs.Limits.{longest_name}
 use Rattle.farm_types.specs.Words.{is_word}
 use Rattle.farm_types.specs.Proper.{is_frequency, is_proper_cmd}
 use Rattle.farm_types.specs.declared.calls.Cmd.{Cmd}
@@ -60,7 +61,7 @@ unfolding is_proper_cmd
 is_frequency_of call name check is =
     let proper = (both_true _ _ call.proper).1 in
     let P : Cmd → Type 0 = λ cmd. is_proper_cmd cmd ≡ true in
-    (both_true (is_word 48 name) (is_frequency check) (subst P is proper)).1
+    (both_true (is_word longest_name name) (is_frequency check) (subst P is proper)).1
 
 -- a frequency is small
 pub small_frequency : (check : Check) → IsTrue (is_frequency check) → IsSmall (every_of check)

@@ -4,7 +4,7 @@ use Rattle.std.specs.List.{AllByRecursion, filter}
 use Rattle.std.specs.Option.{option_map_or}
 use Rattle.farm_types.specs.Farm.{Farm, job_of, res_of}
 use Rattle.farm_types.specs.Small.{IsSmall, held_by, IsSmallBoard, IsSmallJob, AreSmall}
-use Rattle.farm_types.specs.Sound.{IsSound, IsBoardRow, IsHeldBy, job_hold, res_hold, shown}
+use Rattle.farm_types.specs.Sound.{IsSound, IsBoardRow, IsHeldBy, job_hold, res_hold, shown_hold}
 use Rattle.farm_types.specs.declared.rows.Holder.{Holder}
 use Rattle.farm_types.specs.declared.rows.BoardRow.{BoardRow}
 use Rattle.farm_types.specs.declared.rows.JobRow.{JobRow}
@@ -25,12 +25,12 @@ module _ (F : Farm) (sound : IsSound F) where
   small_holder b Holder.Nobody held = omega arith
   small_holder b (Holder.Job n) held = by (job_of F n) refl held
     where
-      by : (o : Option JobRow) → job_of F n ≡ o → option_map_or job_hold o None ≡ Some (shown b) → IsSmall n
+      by : (o : Option JobRow) → job_of F n ≡ o → option_map_or job_hold o None ≡ Some (shown_hold b) → IsSmall n
       by None is held = cc
       by (Some j) is held = omega (arith, (low_job F n j is sound).0)
   small_holder b (Holder.Res n) held = by (res_of F n) refl held
     where
-      by : (o : Option ResRow) → res_of F n ≡ o → option_map_or res_hold o None ≡ Some (shown b) → IsSmall n
+      by : (o : Option ResRow) → res_of F n ≡ o → option_map_or res_hold o None ≡ Some (shown_hold b) → IsSmall n
       by None is held = cc
       by (Some r) is held = omega (arith, low_res F n r is sound)
 

@@ -11,9 +11,10 @@ use Rattle.std.specs.declared.cmp.Ordering.TheVariants.{Less, Equal, Greater}
 use Rattle.std.proofs.Math.Bool.{and-false}
 use Rattle.std.proofs.lemmas.Bool.Decides.{nat_tests}
 use Rattle.std.proofs.lemmas.List.{length-append, length-map}
+use Rattle.farm_types.specs.Limits.{highest_priority}
 use Rattle.farm_types.specs.Farm.{Farm, job_of, members}
 use Rattle.farm_types.specs.Pass.{Served, collect, give, is_group, may_collect, pass_over, serve, serve_all}
-use Rattle.farm_types.specs.Pick.{Among, Claimed, claim_cmp, claims, group_claim, is_free, is_waiting, leads_claim, least, queue, res_claim, shown_claim, shown_cmp, waits}
+use Rattle.farm_types.specs.Pick.{IsAmong, Claimed, claim_cmp, claims, group_claim, is_free, is_waiting, leads_claim, least, queue, res_claim, shown_claim, shown_cmp, waits}
 use Rattle.farm_types.specs.Small.{IsSmall}
 use Rattle.farm_types.specs.Sound.{IsSound}
 use Rattle.farm_types.specs.Table.{put, put_all}
@@ -33,7 +34,7 @@ use Rattle.farm_sound.proofs.Tests.{both, same_number}
 use Rattle.farm_sound.proofs.Where.{by_cases}
 use Rattle.farm_pick.specs.Heads.{is_later, last_spot}
 use Rattle.farm_pick.specs.Merged.{comes_after, rest}
-use Rattle.farm_pick.specs.Queued.{IdleBoard, Lists, Queued, idle_boards, lists_of, queued}
+use Rattle.farm_pick.specs.Queued.{IdleBoard, Lists, Queued, idle_boards, lists_of, queued_of}
 use Rattle.farm_pick.proofs.Apart.{same_bytes_back}
 use Rattle.farm_pick.proofs.Bridge.{later_same, place_of}
 use Rattle.farm_pick.proofs.Collects.{collecting_follows}
@@ -43,7 +44,7 @@ use Rattle.farm_pick.proofs.Later.{after_itself, later, later_none}
 use Rattle.farm_pick.proofs.Merging.{Begins, Goes, IsTrying, Skips, begins_with, begins_without, found_among, none_by, one_group, passed_by, serve_but, some_want, tried_by, unserved}
 use Rattle.farm_core.specs.Following.{without_board, without_boards}
 use Rattle.farm_core.specs.Drafted.{Drafted}
-use Rattle.farm_core.specs.Serving.{Begins as FirstServed, IsSkipped, NextIs, Serves, boards_for, counted, queues_given}
+use Rattle.farm_core.specs.Serving.{Begins as FirstServed, IsSkipped, IsNext, Serves, boards_for, count_after, queues_given}
 use Rattle.farm_core.proofs.Given.{all_pass, taken_more}
 use Rattle.farm_core.proofs.Passing.{asks_claim, small_claim}
 use Rattle.farm_core.proofs.Next.{found_nowhere}
@@ -68,7 +69,7 @@ without_named (b ∷ bs) xs =
     ∙ taken_more (λ (x : IdleBoard). bytes_eq x.name b.name) (λ (x : IdleBoard). list_any (λ (d : BoardRow). bytes_eq d.name x.name) bs) (λ (x : IdleBoard). list_any (λ (d : BoardRow). bytes_eq d.name x.name) (b ∷ bs))
     (λ x. ap (λ v. v || list_any (λ (d : BoardRow). bytes_eq d.name x.name) bs) (same_names_back b.name x.name)) xs
 
-pub given_fits : (F : Farm) (c : Claimed) (n : ℕ) → IsSound F → Among c (queue F) → queues_given F c (lists_of F) ≡ lists_of (serve F.clock (record { farm = F; claims = n }) c).farm
+pub given_fits : (F : Farm) (c : Claimed) (n : ℕ) → IsSound F → IsAmong c (queue F) → queues_given F c (lists_of F) ≡ lists_of (serve F.clock (record { farm = F; claims = n }) c).farm
 given_fits F c n sound among = by (least F.boards (is_free F.types) c.wants) refl
   where
     by : (o : Option (List BoardRow)) → least F.boards (is_free F.types) c.wants ≡ o
@@ -77,10 +78,10 @@ given_fits F c n sound among = by (least F.boards (is_free F.types) c.wants) ref
           boards = without_boards (names_of bs) (lists_of F).boards;
         }) o (record (lists_of F) { boards = idle_boards (pass_over F c) })
         ≡ lists_of (option_map_or {U = Served} (λ bs. record { farm = give F c bs F.clock; claims = n + 1 }) o (record { farm = pass_over F c; claims = n })).farm
-    by None is = λ i. record { claims = map queued (sym (collecting_follows F sound c among) i); boards = idle_boards (pass_over F c) }
+    by None is = λ i. record { claims = map queued_of (sym (collecting_follows F sound c among) i); boards = idle_boards (pass_over F c) }
     by (Some bs) is =
         let two = giving_follows F c bs F.clock sound (omega arith) among is in
-        let claims = sym (queued_filter (λ m. not (m == c.number)) (queue F)) ∙ ap (map queued) (sym two.0) in
+        let claims = sym (queued_filter (λ m. not (m == c.number)) (queue F)) ∙ ap (map queued_of) (sym two.0) in
         let boards = without_named bs (idle_boards F) ∙ sym two.1 in
         λ i. record { claims = claims i; boards = boards i }
 
@@ -150,13 +151,13 @@ pub record Trying (F : Farm) (former : ℕ) (G : Farm) (queues : Lists) (count :
 abbrev pub left : Lists → Option (ℕ × ℕ) → ℕ
 left queues place = length (filter (λ (x : Queued). is_later (last_spot place) x.claim) queues.claims)
 
-length_mapped : (p : Queued → Bool) (q : Claimed → Bool) (P : Claimed → Type 0) → ((c : Claimed) → P c → p (queued c) ≡ q c) → (cs : List Claimed) → AllByRecursion P cs
-    → length (filter p (map queued cs)) ≡ length (filter q cs)
+length_mapped : (p : Queued → Bool) (q : Claimed → Bool) (P : Claimed → Type 0) → ((c : Claimed) → P c → p (queued_of c) ≡ q c) → (cs : List Claimed) → AllByRecursion P cs
+    → length (filter p (map queued_of cs)) ≡ length (filter q cs)
 length_mapped p q P same [] all = refl
 length_mapped p q P same (c ∷ cs) all =
-    ap (λ v. length (cond v (queued c ∷ filter p (map queued cs)) (filter p (map queued cs)))) (same c all.0) ∙ by (q c) (length_mapped p q P same cs all.1)
+    ap (λ v. length (cond v (queued_of c ∷ filter p (map queued_of cs)) (filter p (map queued_of cs)))) (same c all.0) ∙ by (q c) (length_mapped p q P same cs all.1)
   where
-    by : (v : Bool) → length (filter p (map queued cs)) ≡ length (filter q cs) → length (cond v (queued c ∷ filter p (map queued cs)) (filter p (map queued cs))) ≡ length (cond v (c ∷ filter q cs) (filter q cs))
+    by : (v : Bool) → length (filter p (map queued_of cs)) ≡ length (filter q cs) → length (cond v (queued_of c ∷ filter p (map queued_of cs)) (filter p (map queued_of cs))) ≡ length (cond v (c ∷ filter q cs) (filter q cs))
     by true rest = omega (arith, rest)
     by false rest = omega (arith, rest)
 
@@ -164,12 +165,12 @@ pub left_is : (F : Farm) (former : ℕ) (G : Farm) (queues : Lists) (count : ℕ
     → left queues place ≡ length (later trying.last (queue G))
 left_is F former G queues count place trying =
     (λ i. left (trying.fits i) (trying.tried i))
-    ∙ length_mapped (λ x. is_later (last_spot (place_of trying.last)) x.claim) (comes_after trying.last) (λ c. c.priority ≤ 100) (λ c low. later_same trying.last c low) (queue G)
+    ∙ length_mapped (λ x. is_later (last_spot (place_of trying.last)) x.claim) (comes_after trying.last) (λ c. c.priority ≤ highest_priority) (λ c low. later_same trying.last c low) (queue G)
     (low_priority G trying.on.sound)
 
 -- ---- a claim that is passed over
 
-all_from : (P : Claimed → Type 0) (xs : List Claimed) → ((x : Claimed) → Among x xs → P x) → AllByRecursion P xs
+all_from : (P : Claimed → Type 0) (xs : List Claimed) → ((x : Claimed) → IsAmong x xs → P x) → AllByRecursion P xs
 all_from P [] each = tt
 all_from P (x ∷ xs) each = (each x (inl refl), all_from P xs (λ y at. each y (inr at)))
 
@@ -186,7 +187,7 @@ skipped_stays t n G e claim idle =
     by false nobody = refl
 
 -- in a list in order the first that passes a test that those before it fail
-first_found : (test : Claimed → Bool) (d : Claimed) (xs : List Claimed) → IsStrictlySortedBy claim_cmp xs → Among d xs → test d ≡ true
+first_found : (test : Claimed → Bool) (d : Claimed) (xs : List Claimed) → IsStrictlySortedBy claim_cmp xs → IsAmong d xs → test d ≡ true
     → ((e : Claimed) → is_lt (claim_cmp e d) ≡ true → test e ≡ false) → find test xs ≡ Some d
 unfolding IsStrictlySortedBy
 first_found test d [] sorted at is before = absurd at
@@ -209,17 +210,17 @@ module _ (F : Farm) (former : ℕ) (G : Farm) (queues : Lists) (count : ℕ) (pl
   sound : IsSound G
   sound = trying.on.sound
 
-  low_at : (e : Claimed) → Among e (queue G) → e.priority ≤ 100
-  low_at e at = among_has (λ c. c.priority ≤ 100) e (queue G) (low_priority G sound) at
+  low_at : (e : Claimed) → IsAmong e (queue G) → e.priority ≤ highest_priority
+  low_at e at = among_has (λ c. c.priority ≤ highest_priority) e (queue G) (low_priority G sound) at
 
-  claim_at : (e : Claimed) → Among e (queue G) → IsClaim G e
+  claim_at : (e : Claimed) → IsAmong e (queue G) → IsClaim G e
   claim_at e at = among_has (IsClaim G) e (queue G) (queue_claims G sound.steady) at
 
   -- behind the place is behind the claim tried last
-  later_is : (e : Claimed) → Among e (queue G) → is_later (last_spot place) (shown_claim e) ≡ comes_after trying.last e
+  later_is : (e : Claimed) → IsAmong e (queue G) → is_later (last_spot place) (shown_claim e) ≡ comes_after trying.last e
   later_is e at = ap (λ p. is_later (last_spot p) (shown_claim e)) trying.tried ∙ later_same trying.last e (low_at e at)
 
-  module _ (claim : Claim) (next : NextIs G place (Some claim)) where
+  module _ (claim : Claim) (next : IsNext G place (Some claim)) where
     abbrev it : Claimed
     it = next.0
 
@@ -234,13 +235,13 @@ module _ (F : Farm) (former : ℕ) (G : Farm) (queues : Lists) (count : ℕ) (pl
     skip = all_from (λ e. (not (is_group former e) && test e) ≡ false → serve_but former F.clock (come_to G count) e ≡ come_to G count) (queue G)
         (λ e at. by e at (is_group former e))
       where
-        stays : (e : Claimed) → Among e (queue G) → test e ≡ false → serve F.clock (come_to G count) e ≡ come_to G count
+        stays : (e : Claimed) → IsAmong e (queue G) → test e ≡ false → serve F.clock (come_to G count) e ≡ come_to G count
         stays e at out =
             let two = both (comes_after trying.last e) (is_lt (claim_cmp e it)) (is_true (comes_after trying.last e && is_lt (claim_cmp e it)) out) in
             skipped_stays F.clock count G e (claim_at e at)
             (next.4 e at (later_is e at ∙ two.0) (ap (λ k. is_lt (shown_cmp (shown_claim e) k)) (sym next.2) ∙ two.1))
 
-        by : (e : Claimed) → Among e (queue G) → (v : Bool) → (not v && test e) ≡ false
+        by : (e : Claimed) → IsAmong e (queue G) → (v : Bool) → (not v && test e) ≡ false
             → cond v (come_to G count) (serve F.clock (come_to G count) e) ≡ come_to G count
         by e at true out = refl
         by e at false out = stays e at out
@@ -307,7 +308,7 @@ module _ (F : Farm) (former : ℕ) (G : Farm) (queues : Lists) (count : ℕ) (pl
           omega (arith, now, then, went.fewer)
 
   -- none is left: the pass is at its end
-  pub goes_end : NextIs G place None → come_to G count ≡ serve_all F former F.clock
+  pub goes_end : IsNext G place None → come_to G count ≡ serve_all F former F.clock
   goes_end next =
       sym (none_by former F.clock (come_to G count) trying.last front skip
       (found_none (λ e. comes_after trying.last e && (not (is_group former e) && front e)) (queue G)
@@ -325,7 +326,7 @@ module _ (F : Farm) (former : ℕ) (G : Farm) (queues : Lists) (count : ℕ) (pl
       skip = all_from (λ e. (not (is_group former e) && front e) ≡ false → serve_but former F.clock (come_to G count) e ≡ come_to G count) (queue G)
           (λ e at. by e at (is_group former e))
         where
-          by : (e : Claimed) → Among e (queue G) → (v : Bool) → (not v && front e) ≡ false
+          by : (e : Claimed) → IsAmong e (queue G) → (v : Bool) → (not v && front e) ≡ false
               → cond v (come_to G count) (serve F.clock (come_to G count) e) ≡ come_to G count
           by e at true out = refl
           by e at false out =
@@ -335,20 +336,20 @@ module _ (F : Farm) (former : ℕ) (G : Farm) (queues : Lists) (count : ℕ) (pl
 
 -- the claim that comes next, in the draft
 pub next_here : (V D : Drafted) → V ≡ D → (place : Option (ℕ × ℕ)) (o : Option (Bor Claim)) (claim : Bor Claim) → o ≡ Some claim
-    → NextIs V.farm place (option_copied o) → NextIs D.farm place (Some claim.now)
+    → IsNext V.farm place (option_copied o) → IsNext D.farm place (Some claim.now)
 next_here V D view place o claim is next =
-    subst (λ o. NextIs D.farm place (option_copied o)) is (subst (λ (E : Drafted). NextIs E.farm place (option_copied o)) view next)
+    subst (λ o. IsNext D.farm place (option_copied o)) is (subst (λ (E : Drafted). IsNext E.farm place (option_copied o)) view next)
 
 pub none_here : (V D : Drafted) → V ≡ D → (place : Option (ℕ × ℕ)) (o : Option (Bor Claim)) → o ≡ None
-    → NextIs V.farm place (option_copied o) → NextIs D.farm place None
+    → IsNext V.farm place (option_copied o) → IsNext D.farm place None
 none_here V D view place o is next =
-    subst (λ o. NextIs D.farm place (option_copied o)) is (subst (λ (E : Drafted). NextIs E.farm place (option_copied o)) view next)
+    subst (λ o. IsNext D.farm place (option_copied o)) is (subst (λ (E : Drafted). IsNext E.farm place (option_copied o)) view next)
 
 abbrev pub place_after : Claim → Option (ℕ × ℕ)
 place_after claim = Some (claim.priority, claim.number)
 
 module _ (F : Farm) (former : ℕ) (D : Drafted) (count : ℕ) (place : Option (ℕ × ℕ)) (trying : Trying F former D.farm D.queues count place) (claim : Claim)
-    (next : NextIs D.farm place (Some claim)) where
+    (next : IsNext D.farm place (Some claim)) where
   own_kind : (shown_claim next.0).kind ≡ claim.kind
   own_kind = ap (λ (k : Claim). k.kind) next.2
 
@@ -373,16 +374,16 @@ module _ (F : Farm) (former : ℕ) (D : Drafted) (count : ℕ) (place : Option (
 
   -- another is tried
   module _ (other : (c : Claimed) → (shown_claim c).kind ≡ claim.kind → c.number ≡ claim.number → is_group former c ≡ false)
-      (E : Drafted) (served : Bool) (serving : (c : Claimed) → (shown_claim c).kind ≡ claim.kind → c.number ≡ claim.number → Among c (queue D.farm) → Serves D c served E) where
+      (E : Drafted) (served : Bool) (serving : (c : Claimed) → (shown_claim c).kind ≡ claim.kind → c.number ≡ claim.number → IsAmong c (queue D.farm) → Serves D c served E) where
     serves : Serves D next.0 served E
     serves = serving next.0 own_kind own_number next.1
 
-    went : Goes former F.clock (come_to D.farm count) (come_to E.farm (counted count served)) trying.last next.0
+    went : Goes former F.clock (come_to D.farm count) (come_to E.farm (count_after count served)) trying.last next.0
     went = subst (λ u. Goes former F.clock (come_to D.farm count) u trying.last next.0)
         (ap (λ t. serve t (come_to D.farm count) next.0) (sym trying.clock) ∙ serves.0 count)
         (went_by F former D.farm D.queues count place trying claim next (other next.0 own_kind own_number))
 
-    high : (v : Bool) → counted count v ≤ count + 1
+    high : (v : Bool) → count_after count v ≤ count + 1
     high true = omega arith
     high false = omega arith
 
@@ -393,15 +394,15 @@ module _ (F : Farm) (former : ℕ) (D : Drafted) (count : ℕ) (place : Option (
     fits = serves.2 ∙ ap (queues_given D.farm next.0) trying.fits ∙ given_fits D.farm next.0 count trying.on.sound next.1
         ∙ ap (λ (u : Served). lists_of u.farm) (serves.0 count)
 
-    pub tried_on : (v : Bool) → served ≡ v → Trying F former E.farm E.queues (counted count v) (place_after claim)
-    tried_on v so = subst (λ v. Trying F former E.farm E.queues (counted count v) (place_after claim)) so
-        (goes_on F former D.farm D.queues count place trying claim next E.farm E.queues (counted count served) went (high served) clock fits)
+    pub tried_on : (v : Bool) → served ≡ v → Trying F former E.farm E.queues (count_after count v) (place_after claim)
+    tried_on v so = subst (λ v. Trying F former E.farm E.queues (count_after count v) (place_after claim)) so
+        (goes_on F former D.farm D.queues count place trying claim next E.farm E.queues (count_after count served) went (high served) clock fits)
 
     pub tried_start : E.start ≡ D.start
     tried_start = serves.1
 
     pub tried_less : left E.queues (place_after claim) < left D.queues place
-    tried_less = goes_less F former D.farm D.queues count place trying claim next E.farm E.queues (counted count served) went (high served) clock fits
+    tried_less = goes_less F former D.farm D.queues count place trying claim next E.farm E.queues (count_after count served) went (high served) clock fits
 
 -- ---- where the pass begins
 
@@ -465,18 +466,18 @@ none_first D former sound fits none = record {
         let some = some_want F d (inr (j, is)) in
         omega (arith, none, there, wants, same, some)
 
-    by : (d : Claimed) → Among d (queue F) → (v : Bool) → is_group former d ≡ v → v ≡ false
+    by : (d : Claimed) → IsAmong d (queue F) → (v : Bool) → is_group former d ≡ v → v ≡ false
     by d at true own = absurd (leads_none d (among_has (IsClaim F) d (queue F) (queue_claims F sound.steady) at) own)
     by d at false own = refl
 
 -- and where it is one
 pub former_waits : (F : Farm) (former boards : ℕ) → IsSound F → boards ≡ boards_for F former → (boards ≡ 0 → ⊥)
-    → (c : Claimed) × Among c (queue F) × ((shown_claim c).kind ≡ ClaimKind.Group) × (c.number ≡ former) × (length c.wants ≡ boards)
+    → (c : Claimed) × IsAmong c (queue F) × ((shown_claim c).kind ≡ ClaimKind.Group) × (c.number ≡ former) × (length c.wants ≡ boards)
 former_waits F former boards sound are some = by (job_of F former) refl (are, some)
   where
     by : (o : Option JobRow) → job_of F former ≡ o
         → (boards ≡ option_map_or (λ j. cond (leads_claim F j) (length (members F former)) 0) o 0) × (boards ≡ 0 → ⊥)
-        → (c : Claimed) × Among c (queue F) × ((shown_claim c).kind ≡ ClaimKind.Group) × (c.number ≡ former) × (length c.wants ≡ boards)
+        → (c : Claimed) × IsAmong c (queue F) × ((shown_claim c).kind ≡ ClaimKind.Group) × (c.number ≡ former) × (length c.wants ≡ boards)
     by None is two = absurd (two.1 two.0)
     by (Some j) is two = led (leads_claim F j) refl two.0
       where
@@ -484,7 +485,7 @@ former_waits F former boards sound are some = by (job_of F former) refl (are, so
         number = same_number j.number former (found_passes (λ (k : JobRow). k.number == former) j F.jobs is)
 
         led : (v : Bool) → leads_claim F j ≡ v → boards ≡ cond v (length (members F former)) 0
-            → (c : Claimed) × Among c (queue F) × ((shown_claim c).kind ≡ ClaimKind.Group) × (c.number ≡ former) × (length c.wants ≡ boards)
+            → (c : Claimed) × IsAmong c (queue F) × ((shown_claim c).kind ≡ ClaimKind.Group) × (c.number ≡ former) × (length c.wants ≡ boards)
         led false leads none = absurd (two.1 none)
         led true leads all =
             let group : j.group ≡ former = sym (same_number j.number j.group (both (j.number == j.group) (list_all waits (members F j.group)) leads).0) ∙ number in (
@@ -496,8 +497,8 @@ former_waits F former boards sound are some = by (job_of F former) refl (are, so
             )
 
 -- it was tried
-pub one_first : (D E : Drafted) (former : ℕ) (served : Bool) (c : Claimed) → IsSound D.farm → D.queues ≡ lists_of D.farm → Among c (queue D.farm)
-    → (shown_claim c).kind ≡ ClaimKind.Group → c.number ≡ former → Serves D c served E → FirstServed D former (counted 0 served) E
+pub one_first : (D E : Drafted) (former : ℕ) (served : Bool) (c : Claimed) → IsSound D.farm → D.queues ≡ lists_of D.farm → IsAmong c (queue D.farm)
+    → (shown_claim c).kind ≡ ClaimKind.Group → c.number ≡ former → Serves D c served E → FirstServed D former (count_after 0 served) E
 one_first D E former served c sound fits at kind number serves = record {
   serves = ap (fold (serve D.farm.clock) (come_to D.farm 0))
       (one_group former (queue D.farm) (numbers_differ D.farm sound) ∙ by (find (is_group former) (queue D.farm)) refl) ∙ serves.0 0;

@@ -4,14 +4,14 @@ use Rattle.std.specs.List.{filter, fold, list_any}
 use Rattle.std.specs.Str.{bytes_eq}
 use Rattle.farm_types.specs.Table.{change_where, job_cmp, put}
 use Rattle.farm_types.specs.Farm.{Farm}
-use Rattle.farm_types.specs.Pass.{back, check_job, check_one, checks, expire, has_room, held, is_dead, is_due, serve_all}
+use Rattle.farm_types.specs.Pass.{giving_back, check_job, check_one, checks, expire, has_room, held_board, is_dead, is_due, serve_all}
 use Rattle.farm_types.specs.Pick.{Claimed, queue}
 use Rattle.farm_types.specs.declared.rows.BoardRow.{BoardRow}
 use Rattle.farm_types.specs.declared.rows.Holder.{Holder}
 use Rattle.farm_types.specs.declared.rows.ResRow.{ResRow}
 use Rattle.farm_types.specs.declared.rows.State.{State}
 use Rattle.farm_types.specs.Sound.{IsSound}
-use Rattle.farm_pick.specs.Queued.{queued}
+use Rattle.farm_pick.specs.Queued.{queued_of}
 use Rattle.farm_pick.proofs.Commands.{backs_follow}
 use Rattle.farm_pick.proofs.Checking.{checks_follow}
 use Rattle.farm_pick.proofs.Ending.{ends_follow}
@@ -24,16 +24,16 @@ use Rattle.farm_sound.proofs.Reservations.{IsSound-expire}
 
 -- the farm before the claims are served
 abbrev pub prepared : Farm → Farm
-prepared F = checks (expire (back F) F.clock) F.clock
+prepared F = checks (expire (giving_back F) F.clock) F.clock
 
 pub prepared_clock : (F : Farm) → (prepared F).clock ≡ F.clock
-prepared_clock F = check_clock (filter (is_due (expire (back F) F.clock) F.clock) (expire (back F) F.clock).boards) (expire (back F) F.clock)
+prepared_clock F = check_clock (filter (is_due (expire (giving_back F) F.clock) F.clock) (expire (giving_back F) F.clock).boards) (expire (giving_back F) F.clock)
 
-expired_sound : (F : Farm) → IsSound F → IsSound (expire (back F) F.clock)
-expired_sound F sound = IsSound-expire (back F) F.clock (IsSound-back F sound)
+expired_sound : (F : Farm) → IsSound F → IsSound (expire (giving_back F) F.clock)
+expired_sound F sound = IsSound-expire (giving_back F) F.clock (IsSound-back F sound)
 
 pub prepared_sound : (F : Farm) → IsSound F → IsSound (prepared F)
-prepared_sound F sound = IsSound-checks (expire (back F) F.clock) F.clock (expired_sound F sound)
+prepared_sound F sound = IsSound-checks (expire (giving_back F) F.clock) F.clock (expired_sound F sound)
 
 check_collector : (bs : List BoardRow) (F : Farm) → (fold check_one F bs).collector ≡ F.collector
 check_collector [] F = refl
@@ -41,7 +41,7 @@ check_collector (b ∷ bs) F = check_collector bs (check_one F b) ∙ by (has_ro
   where
     by : (v : Bool) → (cond v (record F {
       jobs = put job_cmp F.jobs (check_job F.next b);
-      boards = change_where (λ c. bytes_eq c.name b.name) (held (Holder.Job F.next) State.Reserved) F.boards;
+      boards = change_where (λ c. bytes_eq c.name b.name) (held_board (Holder.Job F.next) State.Reserved) F.boards;
       next = F.next + 1;
     }) F).collector ≡ F.collector
     by true = refl
@@ -49,10 +49,10 @@ check_collector (b ∷ bs) F = check_collector bs (check_one F b) ∙ by (has_ro
 
 -- nobody collects then
 pub prepared_nobody : (F : Farm) → (prepared F).collector ≡ 0
-prepared_nobody F = check_collector (filter (is_due (expire (back F) F.clock) F.clock) (expire (back F) F.clock).boards) (expire (back F) F.clock)
+prepared_nobody F = check_collector (filter (is_due (expire (giving_back F) F.clock) F.clock) (expire (giving_back F) F.clock).boards) (expire (giving_back F) F.clock)
 
-module _ (F B G H : Farm) (given : B ≡ back F) (ended : G ≡ expire B B.clock) (checked : H ≡ checks G G.clock) where
-  pub is_expired : G ≡ expire (back F) F.clock
+module _ (F B G H : Farm) (given : B ≡ giving_back F) (ended : G ≡ expire B B.clock) (checked : H ≡ checks G G.clock) where
+  pub is_expired : G ≡ expire (giving_back F) F.clock
   is_expired = ended ∙ (λ i. expire (given i) (given i).clock)
 
   pub is_prepared : H ≡ prepared F
@@ -63,10 +63,10 @@ module _ (F B G H : Farm) (given : B ≡ back F) (ended : G ≡ expire B B.clock
 
 -- ---- who waits before the claims are served
 
-pub prepared_queue : (F : Farm) → IsSound F → without_all (filter (is_dead F.clock) F.reservations) (map queued (queue F)) ≡ map queued (queue (prepared F))
+pub prepared_queue : (F : Farm) → IsSound F → without_all (filter (is_dead F.clock) F.reservations) (map queued_of (queue F)) ≡ map queued_of (queue (prepared F))
 prepared_queue F sound =
     let over = λ (n : ℕ). not (list_any (λ (r : ResRow). r.number == n) (filter (is_dead F.clock) F.reservations)) in
-    without_each (filter (is_dead F.clock) F.reservations) (map queued (queue F))
+    without_each (filter (is_dead F.clock) F.reservations) (map queued_of (queue F))
     ∙ sym (queued_filter over (queue F))
-    ∙ ap (λ cs. map queued (filter (λ (c : Claimed). over c.number) cs)) (sym (backs_follow F))
-    ∙ ap (map queued) (sym (ends_follow (back F) F.clock (IsSound-back F sound)) ∙ sym (checks_follow (expire (back F) F.clock) (expired_sound F sound)))
+    ∙ ap (λ cs. map queued_of (filter (λ (c : Claimed). over c.number) cs)) (sym (backs_follow F))
+    ∙ ap (map queued_of) (sym (ends_follow (giving_back F) F.clock (IsSound-back F sound)) ∙ sym (checks_follow (expire (giving_back F) F.clock) (expired_sound F sound)))

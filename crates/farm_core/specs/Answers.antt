@@ -7,10 +7,10 @@ use Rattle.farm_types.specs.declared.calls.Answer.{Answer}
 use Rattle.farm_core.specs.Shown.{Shown}
 
 -- the answer without the changed rows
-abbrev pub shown : Answer → Answered
-shown (Answer.Did reply changes) = Changed reply
-shown (Answer.Kept reply) = Repeated reply
-shown (Answer.Refused refusal) = Denied refusal.code
+abbrev pub answer_of : Answer → Answered
+answer_of (Answer.Did reply changes) = Changed reply
+answer_of (Answer.Kept reply) = Repeated reply
+answer_of (Answer.Refused refusal) = Denied refusal.code
 
 -- the changed rows lead from one farm to the other
 abbrev pub Leads : Answer → Farm → Farm → Type 0

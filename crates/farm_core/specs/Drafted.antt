@@ -8,8 +8,8 @@ use Rattle.farm_types.specs.Limits.{lease}
 use Rattle.farm_types.specs.Table.{put}
 use Rattle.farm_types.specs.Farm.{Farm, job_of}
 use Rattle.farm_types.specs.Pick.{Claimed, res_claim}
-use Rattle.farm_types.specs.Change.{act, done, new_res}
-use Rattle.farm_pick.specs.Queued.{Lists, Queued, queued}
+use Rattle.farm_types.specs.Change.{act, done_with, new_res}
+use Rattle.farm_pick.specs.Queued.{Lists, Queued, queued_of}
 use Rattle.farm_pick.specs.Kept.{queued_cmp}
 use Rattle.farm_types.specs.declared.calls.Cmd.{Cmd}
 use Rattle.farm_types.specs.declared.calls.Changes.{Changes}
@@ -35,7 +35,7 @@ at_farm F D = record D { farm = F }
 
 -- the queues with a claim more, and without the claim of a number
 abbrev pub with_claim : Claimed → Lists → Lists
-with_claim c lists = record lists { claims = put queued_cmp lists.claims (queued c) }
+with_claim c lists = record lists { claims = put queued_cmp lists.claims (queued_of c) }
 
 abbrev pub without_claim : ℕ → Lists → Lists
 without_claim number lists = record lists {
@@ -66,5 +66,5 @@ queues_after F caller cmd lists = lists
 -- the machine's act gives the number and the farm that the draft comes to, and the queues follow
 abbrev pub Acts : Drafted → List ℕ → Cmd → ℕ → Drafted → Type 0
 Acts D caller cmd number E =
-    (act D.farm caller cmd ≡ done number E.farm) × (E.start ≡ D.start)
+    (act D.farm caller cmd ≡ done_with number E.farm) × (E.start ≡ D.start)
     × (E.queues ≡ queues_after D.farm caller cmd D.queues)

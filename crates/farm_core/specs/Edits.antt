@@ -2,7 +2,7 @@
 use Rattle.std.specs.Prelude.{ℕ, ◌==◌, ◌&&◌, Bool, true, false, List, [], Some, if◌then◌else◌}
 use Rattle.std.specs.Option.{option_map_or}
 use Rattle.farm_types.specs.Codes.{same_job_state}
-use Rattle.farm_types.specs.Pass.{idle, is_dead, placed, unplaced}
+use Rattle.farm_types.specs.Pass.{freed_board, is_dead, placed_job, unplaced_job}
 use Rattle.farm_types.specs.Change.{in_state, is_unstarted, after_check, after_job}
 use Rattle.farm_types.specs.Small.{IsSmall}
 use Rattle.farm_sound.specs.Place.{job_in, res_in}
@@ -38,8 +38,8 @@ job_changed (JobEdit.Finish number outcome) j = record j {
   state = JobState.Finished;
   outcome = Some outcome;
 }
-job_changed (JobEdit.Place state number board) j = placed state board.now j
-job_changed (JobEdit.Back group) j = unplaced j
+job_changed (JobEdit.Place state number board) j = placed_job state board.now j
+job_changed (JobEdit.Back group) j = unplaced_job j
 
 -- the least number of a job that passes; the others are among the next three
 abbrev pub first_of : JobEdit → ℕ
@@ -78,10 +78,10 @@ res_changed (ResEdit.Allocate number board deadline) r = record r {
 
 -- what becomes of a board
 abbrev pub board_after : Becomes → BoardRow → BoardRow
-board_after Becomes.Idle b = idle b
+board_after Becomes.Idle b = freed_board b
 board_after (Becomes.State state) b = in_state state b
-board_after (Becomes.AfterJob outcome) b = idle (after_job outcome b)
-board_after (Becomes.AfterCheck outcome now) b = idle (after_check outcome now b)
+board_after (Becomes.AfterJob outcome) b = freed_board (after_job outcome b)
+board_after (Becomes.AfterCheck outcome now) b = freed_board (after_check outcome now b)
 
 -- the text of the member at a place: the first carries it
 abbrev pub text_at : ℕ → List ℕ → List ℕ
@@ -92,9 +92,9 @@ abbrev pub outcome_of : JobRow → Outcome → Outcome
 outcome_of j named = if same_job_state j.state JobState.Canceling then Outcome.Canceled else named
 
 -- what becomes of a board after a job or a check
-abbrev pub after : Bool → Outcome → ℕ → Becomes
-after true outcome now = Becomes.AfterCheck outcome now
-after false outcome now = Becomes.AfterJob outcome
+abbrev pub fate_of_board : Bool → Outcome → ℕ → Becomes
+fate_of_board true outcome now = Becomes.AfterCheck outcome now
+fate_of_board false outcome now = Becomes.AfterJob outcome
 
 -- the moment at which a check ended is small
 abbrev pub IfAfterCheck : Becomes → Type 0

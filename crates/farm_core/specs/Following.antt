@@ -32,8 +32,8 @@ abbrev pub without_boards : List (List ℕ) → List IdleBoard → List IdleBoar
 without_boards names boards = fold without_board boards names
 
 -- a board's row puts it among the free ones, or takes it from them
-abbrev pub noted : List TypeRow → List IdleBoard → BoardRow → List IdleBoard
-noted types boards b =
+abbrev pub free_boards_with : List TypeRow → List IdleBoard → BoardRow → List IdleBoard
+free_boards_with types boards b =
     if is_free types b then put named_cmp boards (idle_board b) else without_board boards b.name
 
 -- the claims without those of some reservations

@@ -33,8 +33,8 @@ abbrev pub IsMarked : ℕ → List JobRow → List Mark → Type 0
 IsMarked last rows marks = IsMarkedUpTo (length rows) last rows marks
 
 -- once a want has been given a number, numbers stand for wants as before, or for one more
-abbrev pub Numbered : List JobRow → List Mark → ℕ → ℕ → Want → ℕ → Type 0
-Numbered rows marks last next want k = (f : ℕ → Want) → AreMarks f last rows marks
+abbrev pub IsNumbered : List JobRow → List Mark → ℕ → ℕ → Want → ℕ → Type 0
+IsNumbered rows marks last next want k = (f : ℕ → Want) → AreMarks f last rows marks
     → (g : ℕ → Want) × AreMarks g next rows marks × IsNumber g next want k
 
 -- the number of the want at a place, if it is a member's

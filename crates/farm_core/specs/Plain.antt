@@ -2,8 +2,8 @@
 use Rattle.farm_types.specs.Farm.{Farm}
 use Rattle.farm_core.specs.declared.tables.Tables.{Tables}
 
-abbrev pub plain : Tables → Farm
-plain t = record {
+abbrev pub plain_farm : Tables → Farm
+plain_farm t = record {
   types = t.types.items;
   boards = t.boards.items;
   jobs = t.jobs;

@@ -9,8 +9,8 @@ use Rattle.std.specs.Ordering.{is_lt}
 use Rattle.std.specs.Str.{bytes_eq}
 use Rattle.farm_types.specs.Table.{change_where}
 use Rattle.farm_types.specs.Farm.{Farm, job_of, members, res_of}
-use Rattle.farm_types.specs.Pass.{allocated, held, is_group, pass_over, placed, serve}
-use Rattle.farm_types.specs.Pick.{Among, Claimed, is_free, leads_claim, least, queue}
+use Rattle.farm_types.specs.Pass.{allocated_reservation, held_board, is_group, pass_over, placed_job, serve}
+use Rattle.farm_types.specs.Pick.{IsAmong, Claimed, is_free, leads_claim, least, queue}
 use Rattle.farm_types.specs.Pick.{shown_claim, shown_cmp}
 use Rattle.farm_pick.specs.Heads.{is_later, last_spot}
 use Rattle.farm_pick.specs.Queued.{Lists, idle_boards, lists_of}
@@ -29,8 +29,8 @@ use Rattle.farm_core.specs.declared.unmet.Known.{Known}
 -- a job, told by its number, is in a state and holds the board of a name
 abbrev pub give_named : JobState → Farm → ℕ × List ℕ → Farm
 give_named state F (number, name) = record F {
-  jobs = change_where (λ m. m.number == number) (placed state name) F.jobs;
-  boards = change_where (λ c. bytes_eq c.name name) (held (Holder.Job number) State.Reserved)
+  jobs = change_where (λ m. m.number == number) (placed_job state name) F.jobs;
+  boards = change_where (λ c. bytes_eq c.name name) (held_board (Holder.Job number) State.Reserved)
       F.boards;
 }
 
@@ -38,8 +38,8 @@ give_named state F (number, name) = record F {
 abbrev pub give_first : Farm → ℕ → List (List ℕ) → Farm
 give_first F number [] = F
 give_first F number (name ∷ names) = record F {
-  reservations = change_where (λ r. r.number == number) (allocated name F.clock) F.reservations;
-  boards = change_where (λ c. bytes_eq c.name name) (held (Holder.Res number) State.Reserved)
+  reservations = change_where (λ r. r.number == number) (allocated_reservation name F.clock) F.reservations;
+  boards = change_where (λ c. bytes_eq c.name name) (held_board (Holder.Res number) State.Reserved)
       F.boards;
 }
 
@@ -72,7 +72,7 @@ IsMissed F kind number = least F.boards (is_free F.types) (wants_of F kind numbe
 -- a claim that waits and that no free boards meet
 pub record IsUnmet (F : Farm) (kind : ClaimKind) (number : ℕ) : Type 0 where
   pub claimed : Claimed
-  pub among : Among claimed (queue F)
+  pub among : IsAmong claimed (queue F)
   pub of_kind : (shown_claim claimed).kind ≡ kind
   pub numbered : claimed.number ≡ number
   pub unmet : least F.boards (is_free F.types) claimed.wants ≡ None
@@ -102,17 +102,17 @@ Reaches F claims (Some c) =
     × AllByRecursion (IsSkipped F) passed
 
 -- the claim is the next of the queue after a place, but for such ones; or all after it are such
-abbrev pub NextIs : Farm → Option (ℕ × ℕ) → Option Claim → Type 0
-NextIs F last None = (d : Claimed) → Among d (queue F)
+abbrev pub IsNext : Farm → Option (ℕ × ℕ) → Option Claim → Type 0
+IsNext F last None = (d : Claimed) → IsAmong d (queue F)
     → is_later (last_spot last) (shown_claim d) ≡ true → IsSkipped F (shown_claim d)
-NextIs F last (Some c) =
-    (d : Claimed) × Among d (queue F) × (shown_claim d ≡ c) × (is_later (last_spot last) c ≡ true)
-    × ((e : Claimed) → Among e (queue F) → is_later (last_spot last) (shown_claim e) ≡ true
+IsNext F last (Some c) =
+    (d : Claimed) × IsAmong d (queue F) × (shown_claim d ≡ c) × (is_later (last_spot last) c ≡ true)
+    × ((e : Claimed) → IsAmong e (queue F) → is_later (last_spot last) (shown_claim e) ≡ true
     → is_lt (shown_cmp (shown_claim e) c) ≡ true → IsSkipped F (shown_claim e))
 
 -- one more, if a claim was served
-abbrev pub counted : ℕ → Bool → ℕ
-counted n served = if served then n + 1 else n
+abbrev pub count_after : ℕ → Bool → ℕ
+count_after n served = if served then n + 1 else n
 
 -- the queues once a claim was given the boards that meet it, if some do, and else perhaps collects
 abbrev pub queues_given : Farm → Claimed → Lists → Lists
@@ -127,7 +127,7 @@ abbrev pub Serves : Drafted → Claimed → Bool → Drafted → Type 0
 Serves D c served E =
     ((n : ℕ) → serve D.farm.clock (record { farm = D.farm; claims = n }) c ≡ record {
       farm = E.farm;
-      claims = counted n served;
+      claims = count_after n served;
     }) × (E.start ≡ D.start) × (E.queues ≡ queues_given D.farm c D.queues)
 
 -- a claim that is met is served, and one that isn't leaves all as it is

@@ -6,14 +6,14 @@ ghost use Rattle.farm_types.specs.Refuse.{first_code, is_retired, add_board_reas
 ghost use Rattle.farm_types.specs.Refuse.{set_tags_reasons, set_health_reasons};
 ghost use Rattle.farm_types.specs.declared.calls.Cmd.{Cmd};
 ghost use Rattle.farm_core.specs.Drafted.{Acts};
-ghost use Rattle.farm_core.specs.Plain.{plain};
+ghost use Rattle.farm_core.specs.Plain.{plain_farm};
 ghost use Rattle.farm_core.specs.Orderly.{IsOrderly};
 
 use crate::draft::Draft;
 use crate::tables::Tables;
 use farm_types::calls::Changes;
 use farm_types::refusal::{BOARD_EXISTS, HELD, NO_BOARD, NO_TYPE, RETIRED};
-use farm_types::rows::{BoardRow, Health, Holder, State};
+use farm_types::rows::{BoardRow, Health, Holder};
 use farm_types::tags::Tags;
 use farm_types::words::Name;
 use std::alloc::AllocError;
@@ -28,15 +28,15 @@ fn is_retired(row: &BoardRow) -> bool
 impl Tables {
     /// How many boards are of a type.
     pub fn count_kind(&self, kind: &Name) -> usize
-        ensures { result ≡ length (filter (λ b. bytes_eq b.kind kind.now) (plain self.now).boards) }
+        ensures { result ≡ length (filter (λ b. bytes_eq b.kind kind.now) (plain_farm self.now).boards) }
     {
         self.boards.iter().filter(|row| row.kind.is(kind)).count()
     }
 
     /// Why a board of that name and type isn't added.
     pub fn refuse_add_board(&self, name: &Name, kind: &Name) -> Option<u16>
-        requires { IsOrderly (plain self.now) }
-        ensures { result ≡ first_code (add_board_reasons (plain self.now) name.now kind.now) }
+        requires { IsOrderly (plain_farm self.now) }
+        ensures { result ≡ first_code (add_board_reasons (plain_farm self.now) name.now kind.now) }
     {
         if self.find_type(kind).is_none() {
             return Some(NO_TYPE);
@@ -49,8 +49,8 @@ impl Tables {
 
     /// Why a board's tags aren't set.
     pub fn refuse_set_tags(&self, name: &Name) -> Option<u16>
-        requires { IsOrderly (plain self.now) }
-        ensures { result ≡ first_code (set_tags_reasons (plain self.now) name.now) }
+        requires { IsOrderly (plain_farm self.now) }
+        ensures { result ≡ first_code (set_tags_reasons (plain_farm self.now) name.now) }
     {
         match self.find_board(name) {
             None => Some(NO_BOARD),
@@ -65,8 +65,8 @@ impl Tables {
 
     /// Why a board's health isn't set.
     pub fn refuse_set_health(&self, name: &Name, health: Health) -> Option<u16>
-        requires { IsOrderly (plain self.now) }
-        ensures { result ≡ first_code (set_health_reasons (plain self.now) name.now health) }
+        requires { IsOrderly (plain_farm self.now) }
+        ensures { result ≡ first_code (set_health_reasons (plain_farm self.now) name.now health) }
     {
         match self.find_board(name) {
             None => Some(NO_BOARD),
@@ -94,16 +94,7 @@ impl Draft {
         ensures { IfOk result
             (λ r. Acts self [] (Cmd.AddBoard name.now kind.now tags.now) r.1 r.0) }
     {
-        let row = BoardRow {
-            name: name.copy()?,
-            kind: kind.copy()?,
-            tags: tags.copy()?,
-            health: Health::Maintenance,
-            state: State::Idle,
-            holder: Holder::Nobody,
-            jobs_since: 0,
-            last_check: 0,
-        };
+        let row = BoardRow::new(name.copy()?, kind.copy()?, tags.copy()?);
         Ok((self.put_board(row)?, 0))
     }
 

@@ -3,13 +3,13 @@ ghost use Rattle.std.specs.Prelude.{◌≡◌, ◌≢◌, ◌≤◌, None, OnOk,
 ghost use Rattle.farm_types.specs.Limits.{last_moment, numbers_end};
 ghost use Rattle.farm_types.specs.Farm.{Farm, put_rows};
 ghost use Rattle.farm_types.specs.Refuse.{refusal};
-ghost use Rattle.farm_types.specs.Change.{act, done, keep, change};
+ghost use Rattle.farm_types.specs.Change.{act, done_with, keep, change};
 ghost use Rattle.farm_types.specs.Sound.{IsSound};
 ghost use Rattle.farm_types.specs.declared.calls.Cmd.{Cmd};
 ghost use Rattle.farm_pick.specs.Queued.{lists_of};
 ghost use Rattle.farm_core.specs.Following.{FollowsIn};
 ghost use Rattle.farm_core.specs.Drafted.{at_farm, Acts, IsFresh};
-ghost use Rattle.farm_core.specs.Plain.{plain};
+ghost use Rattle.farm_core.specs.Plain.{plain_farm};
 ghost use Rattle.farm_core.specs.Orderly.{IsOrderly};
 ghost use Rattle.farm_core.specs.Calls.{IsSmallCmd};
 ghost use Rattle.farm_core.specs.Leases.{AreNoted};
@@ -26,16 +26,16 @@ impl Tables {
     /// The command is done, its reply kept, the clock moved and the command counted.
     #[tactic(auto, unfolding(farm_types::specs::Change::change))]
     pub fn change(&mut self, call: &Call) -> Result<(Reply, Changes), AllocError>
-        requires sound { IsSound (plain self.old) }
-        requires accepted { None ≡ refusal (plain self.old) call.now }
-        requires fits { self.old.queues ≡ lists_of (plain self.old) }
-        requires noted { AreNoted self.old.leases (plain self.old).reservations }
+        requires sound { IsSound (plain_farm self.old) }
+        requires accepted { None ≡ refusal (plain_farm self.old) call.now }
+        requires fits { self.old.queues ≡ lists_of (plain_farm self.old) }
+        requires noted { AreNoted self.old.leases (plain_farm self.old).reservations }
         ensures farm { OnOk result
-            (plain self.new ≡ (change (plain self.old) call.entry.now).farm) }
-        ensures reply { IfOk result (λ r. r.0 ≡ (change (plain self.old) call.entry.now).reply) }
-        ensures queues { OnOk result (self.new.queues ≡ lists_of (plain self.new)) }
-        ensures noted { OnOk result (AreNoted self.new.leases (plain self.new).reservations) }
-        ensures rows { IfOk result (λ r. put_rows (plain self.old) r.1 ≡ plain self.new) }
+            (plain_farm self.new ≡ (change (plain_farm self.old) call.entry.now).farm) }
+        ensures reply { IfOk result (λ r. r.0 ≡ (change (plain_farm self.old) call.entry.now).reply) }
+        ensures queues { OnOk result (self.new.queues ≡ lists_of (plain_farm self.new)) }
+        ensures noted { OnOk result (AreNoted self.new.leases (plain_farm self.new).reservations) }
+        ensures rows { IfOk result (λ r. put_rows (plain_farm self.old) r.1 ≡ plain_farm self.new) }
         ensures small { IfOk result (λ r. AreSmallRows r.1) }
         ensures meta { IfOk result (λ r. r.1.meta ≡ record {
           clock = self.new.clock;

@@ -7,7 +7,7 @@ ghost use Rattle.farm_types.specs.Pass.{is_reached};
 ghost use Rattle.farm_types.specs.Pick.{check_of, is_nobody};
 ghost use Rattle.farm_types.specs.declared.rows.BoardRow.{BoardRow};
 ghost use Rattle.farm_core.specs.Drafted.{at_farm};
-ghost use Rattle.farm_core.specs.Plain.{plain};
+ghost use Rattle.farm_core.specs.Plain.{plain_farm};
 ghost use Rattle.farm_core.specs.Orderly.{IsOrderly};
 ghost use Rattle.farm_core.specs.Tracks.{Tracks};
 
@@ -101,8 +101,8 @@ fn check_job(alloc: Global, number: u64, board: &BoardRow) -> Result<JobRow, All
 impl Tables {
     /// How often boards of a type are checked.
     fn check_of(&self, kind: &Name) -> Check
-        requires { IsOrderly (plain self.now) }
-        ensures { result ≡ check_of (plain self.now).types kind.now }
+        requires { IsOrderly (plain_farm self.now) }
+        ensures { result ≡ check_of (plain_farm self.now).types kind.now }
     {
         match self.find_type(kind) {
             None => Check::Never,
@@ -112,8 +112,8 @@ impl Tables {
 
     /// Whether a board is to be checked now.
     fn is_due(&self, board: &BoardRow) -> bool
-        requires { IsOrderly (plain self.now) }
-        ensures { result ≡ is_due (plain self.now) (plain self.now).clock board.now }
+        requires { IsOrderly (plain_farm self.now) }
+        ensures { result ≡ is_due (plain_farm self.now) (plain_farm self.now).clock board.now }
     {
         matches!(board.holder, Holder::Nobody)
             && is_due_by(self.check_of(&board.kind), self.clock, board)

@@ -1,7 +1,7 @@
 //! A group that can't begin collects boards, and gives them back when the next pass begins.
 ghost use Rattle.std.specs.Prelude.{◌≡◌, ◌==◌, IfOk, option_map};
 ghost use Rattle.std.specs.Prelude.{if◌then◌else◌};
-ghost use Rattle.farm_types.specs.Pass.{back, collect, first_free};
+ghost use Rattle.farm_types.specs.Pass.{giving_back, collect, first_free};
 ghost use Rattle.farm_types.specs.Small.{IsSmall};
 ghost use Rattle.farm_types.specs.Sound.{IsSound};
 ghost use Rattle.farm_types.specs.declared.rows.BoardRow.{BoardRow};
@@ -10,7 +10,7 @@ ghost use Rattle.farm_pick.specs.Queued.{idle_boards};
 ghost use Rattle.farm_core.specs.Collecting.{Collects, HasWant};
 ghost use Rattle.farm_core.specs.Drafted.{at_farm};
 ghost use Rattle.farm_core.specs.Orderly.{IsOrderly};
-ghost use Rattle.farm_core.specs.Plain.{plain};
+ghost use Rattle.farm_core.specs.Plain.{plain_farm};
 
 use crate::draft::Draft;
 use crate::held::Becomes;
@@ -25,10 +25,10 @@ impl Tables {
     /// The name of the first free board, in name order, that fits what a job wants. At most one
     /// test a free board.
     fn pick_for_job(&self, number: u64) -> Result<Option<Name>, AllocError>
-        requires orderly { IsOrderly (plain self.now) }
-        requires free { self.now.queues.boards ≡ idle_boards (plain self.now) }
-        ensures { IfOk result (λ name. (j : JobRow) → HasWant (plain self.now) number j
-            → name ≡ option_map (λ (b : BoardRow). b.name) (first_free (plain self.now) j.want)) }
+        requires orderly { IsOrderly (plain_farm self.now) }
+        requires free { self.now.queues.boards ≡ idle_boards (plain_farm self.now) }
+        ensures { IfOk result (λ name. (j : JobRow) → HasWant (plain_farm self.now) number j
+            → name ≡ option_map (λ (b : BoardRow). b.name) (first_free (plain_farm self.now) j.want)) }
     {
         match self.find_job(number) {
             None => Ok(None),
@@ -69,7 +69,7 @@ impl Draft {
     /// free, and none collects. Where none did it costs nothing; else one look at each board.
     pub fn give_back(self) -> Result<Draft, AllocError>
         requires { IsSound self.farm }
-        ensures { IfOk result (λ d. d ≡ at_farm (back self.farm) self) }
+        ensures { IfOk result (λ d. d ≡ at_farm (giving_back self.farm) self) }
     {
         let group = self.tables.collector;
         if group == 0 {

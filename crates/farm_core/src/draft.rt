@@ -7,7 +7,7 @@ ghost use Rattle.farm_types.specs.Farm.{Farm, put_type, put_board, put_res, put_
 ghost use Rattle.farm_types.specs.Small.{IsSmallType, IsSmallBoard, IsSmallJob, IsSmallRes};
 ghost use Rattle.farm_types.specs.Small.{IsSmallKept};
 ghost use Rattle.farm_pick.specs.Kept.{queued_cmp};
-ghost use Rattle.farm_core.specs.Plain.{plain};
+ghost use Rattle.farm_core.specs.Plain.{plain_farm};
 ghost use Rattle.farm_core.specs.Leases.{AreNoted};
 ghost use Rattle.farm_core.specs.Orderly.{IsOrderly, IsNear};
 ghost use Rattle.farm_core.specs.Tracks.{Tracks};
@@ -38,29 +38,29 @@ pub struct Draft {
 }
 
 impl Model for Draft {
-    ghost use Rattle.farm_core.specs.Plain.{plain};
+    ghost use Rattle.farm_core.specs.Plain.{plain_farm};
     ghost use Rattle.farm_core.specs.Drafted.{Drafted, IsWhole};
 
     ghost Value = { Drafted };
 
     ghost view = { λ d. record {
-      start = plain d.start.value;
-      farm = plain d.tables;
+      start = plain_farm d.start.value;
+      farm = plain_farm d.tables;
       queues = d.tables.queues;
     } };
 
-    ghost invariant = { λ d. IsWhole (plain d.start.value) d.changes (plain d.tables)
+    ghost invariant = { λ d. IsWhole (plain_farm d.start.value) d.changes (plain_farm d.tables)
         d.tables.leases };
 }
 
 impl Draft {
     /// A draft in which nothing has changed.
     pub fn of(tables: Tables) -> Draft
-        requires orderly { IsOrderly (plain tables) }
-        requires noted { AreNoted tables.leases (plain tables).reservations }
+        requires orderly { IsOrderly (plain_farm tables) }
+        requires noted { AreNoted tables.leases (plain_farm tables).reservations }
         ensures { result ≡ record {
-          start = plain tables;
-          farm = plain tables;
+          start = plain_farm tables;
+          farm = plain_farm tables;
           queues = tables.queues;
         } }
     {
@@ -75,7 +75,7 @@ impl Draft {
 
     /// The tables, and the rows that have changed.
     pub fn into_parts(self) -> (Tables, Changes)
-        ensures farm { plain result.0 ≡ self.farm }
+        ensures farm { plain_farm result.0 ≡ self.farm }
         ensures tracked { Tracks self.start result.1 self.farm }
         ensures queues { result.0.queues ≡ self.queues }
         ensures noted { AreNoted result.0.leases self.farm.reservations }

@@ -10,7 +10,7 @@ ghost use Rattle.farm_types.specs.Small.{IsSmall, IsSmallRes};
 ghost use Rattle.farm_types.specs.declared.rows.JobRow.{JobRow};
 ghost use Rattle.farm_types.specs.declared.rows.ResRow.{ResRow};
 ghost use Rattle.farm_core.specs.Drafted.{at_farm};
-ghost use Rattle.farm_core.specs.Plain.{plain};
+ghost use Rattle.farm_core.specs.Plain.{plain_farm};
 ghost use Rattle.farm_core.specs.Edits.{IfAfterCheck, job_passes, job_changed, first_of};
 ghost use Rattle.farm_core.specs.Edits.{res_passes, res_changed, board_after, is_job_in, is_res_in};
 ghost use Rattle.farm_core.specs.Orderly.{IsOrderly, IsPlaceOf};
@@ -25,12 +25,13 @@ use crate::leases::note_leases;
 use crate::res_edit::ResEdit;
 use crate::tables::Tables;
 use farm_types::calls::Changes;
+use farm_types::limits::MOST_WANTS;
 use farm_types::rows::{JobRow, ResRow};
 use std::alloc::AllocError;
 use std::mem::replace;
 
 /// How far the numbers of a group's members reach.
-pub const GROUP_REACH: u64 = 4;
+pub const GROUP_REACH: u64 = MOST_WANTS as u64;
 
 /// How many places from a guess on are looked at before a search.
 pub const GUESS_REACH: usize = 5;
@@ -60,7 +61,7 @@ pub fn res_place_of(reservations: &[ResRow], number: u64) -> usize
 }
 
 impl Draft {
-    /// Changes the jobs that pass. Only the rows of the edit's four numbers are looked at.
+    /// Changes the jobs that pass. Only the rows of the group of the edit are looked at.
     pub fn edit_jobs(mut self, edit: JobEdit<'_>) -> Result<Draft, AllocError>
         requires { IsSmall (first_of edit) }
         ensures { IfOk result

@@ -1,11 +1,11 @@
 //! The farm.
 ghost use Rattle.std.specs.Prelude.{◌≡◌, ◌≤◌, ◌↔◌, true, false, map, Err, IsOk, IfOk, OnOk};
 ghost use Rattle.std.specs.Option.{option_copied};
-ghost use Rattle.farm_types.specs.Farm.{empty, farm_of, job_of, status_of};
+ghost use Rattle.farm_types.specs.Farm.{empty_farm, farm_of, job_of, status_of};
 ghost use Rattle.farm_types.specs.Machine.{answer, step};
 ghost use Rattle.farm_types.specs.Pick.{queue, shown_claim};
 ghost use Rattle.farm_types.specs.Sound.{IsSound};
-ghost use Rattle.farm_core.specs.Answers.{shown, Leads, Rests, AreSmallChanges, IsChange};
+ghost use Rattle.farm_core.specs.Answers.{answer_of, Leads, Rests, AreSmallChanges, IsChange};
 
 use crate::tables::Tables;
 use farm_sound::sound::is_sound;
@@ -72,20 +72,20 @@ pub struct Farm {
 
 impl Model for Farm {
     ghost use Rattle.farm_core.specs.Shown.{Shown, IsKeptUnlessFailed};
-    ghost use Rattle.farm_core.specs.Plain.{plain};
+    ghost use Rattle.farm_core.specs.Plain.{plain_farm};
 
     ghost Value = { Shown };
 
-    ghost view = { λ f. record { failed = f.failed; farm = plain f.tables } };
+    ghost view = { λ f. record { failed = f.failed; farm = plain_farm f.tables } };
 
-    ghost invariant = { λ f. IsKeptUnlessFailed f.failed (plain f.tables) f.tables.queues
+    ghost invariant = { λ f. IsKeptUnlessFailed f.failed (plain_farm f.tables) f.tables.queues
         f.tables.leases };
 }
 
 impl Farm {
     /// The farm that nothing was asked of.
     pub fn empty(alloc: Global) -> Farm
-        ensures farm { result.farm ≡ empty }
+        ensures farm { result.farm ≡ empty_farm }
         ensures working { result.failed ≡ false }
     {
         Farm {
@@ -185,7 +185,7 @@ impl Farm {
     /// One step of the machine: the answer, and where the command is accepted the changed rows.
     pub fn step(&mut self, call: &Call) -> Result<Answer, StepFault>
         // The answer is the machine's, and so is the farm.
-        ensures answer { IfOk result (λ a. shown a ≡ answer self.old.farm call.entry.now) }
+        ensures answer { IfOk result (λ a. answer_of a ≡ answer self.old.farm call.entry.now) }
         ensures farm { OnOk result (self.new.farm ≡ step self.old.farm call.entry.now) }
 
         // The changed rows, put by their keys, lead from the old farm to the new one, and a store

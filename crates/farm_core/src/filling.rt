@@ -8,7 +8,7 @@ ghost use Rattle.farm_pick.specs.Queued.{lists_of};
 ghost use Rattle.farm_core.specs.Drafted.{IsFresh};
 ghost use Rattle.farm_core.specs.Following.{kind_in};
 ghost use Rattle.farm_core.specs.Leases.{AreNoted};
-ghost use Rattle.farm_core.specs.Plain.{plain};
+ghost use Rattle.farm_core.specs.Plain.{plain_farm};
 
 use crate::follow::note_boards;
 use crate::leases::note_leases;
@@ -41,10 +41,10 @@ impl Tables {
     /// Fills the empty queues: the free boards, and the claims of the rows, the last one first.
     /// With J jobs, R reservations and C claims it costs O(J + R + C log C).
     pub fn fill_queues(&mut self) -> Result<(), AllocError>
-        requires sound { IsSound (plain self.old) }
+        requires sound { IsSound (plain_farm self.old) }
         requires empty { self.old.queues ≡ record { claims = []; boards = [] } }
-        ensures farm { plain self.new ≡ plain self.old }
-        ensures queues { OnOk result (self.new.queues ≡ lists_of (plain self.old)) }
+        ensures farm { plain_farm self.new ≡ plain_farm self.old }
+        ensures queues { OnOk result (self.new.queues ≡ lists_of (plain_farm self.old)) }
     {
         note_boards(&mut self.queues, &self.types, &self.boards)?;
         let alloc = *self.boards.allocator();
@@ -58,9 +58,9 @@ impl Tables {
     /// Notes the leases of the rows. With R reservations, of which L may end, it costs O(R + L log
     /// L).
     pub fn fill_leases(&mut self) -> Result<(), AllocError>
-        ensures farm { plain self.new ≡ plain self.old }
+        ensures farm { plain_farm self.new ≡ plain_farm self.old }
         ensures queues { self.new.queues ≡ self.old.queues }
-        ensures leases { OnOk result (AreNoted self.new.leases (plain self.new).reservations) }
+        ensures leases { OnOk result (AreNoted self.new.leases (plain_farm self.new).reservations) }
     {
         note_leases(&mut self.leases, &self.reservations)
     }

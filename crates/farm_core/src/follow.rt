@@ -4,7 +4,7 @@ ghost use Rattle.std.specs.List.{filter, fold, list_any};
 ghost use Rattle.std.specs.List.Sorted.{IsStrictlySortedBy};
 ghost use Rattle.farm_types.specs.Table.{board_cmp};
 ghost use Rattle.farm_pick.specs.Queued.{idle_boards};
-ghost use Rattle.farm_core.specs.Following.{free_of, noted, without_boards};
+ghost use Rattle.farm_core.specs.Following.{free_of, free_boards_with, without_boards};
 
 use crate::draft::Draft;
 use farm_pick::Queues;
@@ -15,7 +15,7 @@ use std::alloc::AllocError;
 /// A board stands among the free ones exactly where its row says that it is free.
 fn note_board(queues: &mut Queues, types: &[TypeRow], row: &BoardRow) -> Result<(), AllocError>
     ensures { OnOk result (queues.new ≡ record queues.old {
-      boards = noted types.now queues.old.boards row.now;
+      boards = free_boards_with types.now queues.old.boards row.now;
     }) }
 {
     if farm_pick::is_free(types, row) {
@@ -34,7 +34,7 @@ pub fn note_boards(
     rows: &[BoardRow],
 ) -> Result<(), AllocError>
     ensures { OnOk result (queues.new ≡ record queues.old {
-      boards = fold (noted types.now) queues.old.boards rows.now;
+      boards = fold (free_boards_with types.now) queues.old.boards rows.now;
     }) }
 {
     for row in rows {

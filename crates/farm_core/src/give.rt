@@ -6,12 +6,12 @@ ghost use Rattle.std.specs.Str.{bytes_eq};
 ghost use Rattle.farm_types.specs.Limits.{last_moment};
 ghost use Rattle.farm_types.specs.Table.{board_cmp, change_where};
 ghost use Rattle.farm_types.specs.Farm.{Farm};
-ghost use Rattle.farm_types.specs.Pass.{held};
+ghost use Rattle.farm_types.specs.Pass.{held_board};
 ghost use Rattle.farm_types.specs.Small.{IsSmall, held_by};
 ghost use Rattle.farm_types.specs.declared.rows.JobState.{JobState};
 ghost use Rattle.farm_types.specs.declared.rows.State.{State};
 ghost use Rattle.farm_core.specs.Drafted.{at_farm};
-ghost use Rattle.farm_core.specs.Plain.{plain};
+ghost use Rattle.farm_core.specs.Plain.{plain_farm};
 ghost use Rattle.farm_core.specs.Orderly.{IsOrderly, IsWindow};
 ghost use Rattle.farm_core.specs.Serving.{give_named, give_first};
 ghost use Rattle.farm_core.specs.Tracks.{Tracks};
@@ -48,7 +48,7 @@ impl Draft {
             (λ d. d ≡ at_farm
             (record self.farm {
               boards = change_where (λ c. bytes_eq c.name name.now)
-                  (held holder State.Reserved) self.farm.boards;
+                  (held_board holder State.Reserved) self.farm.boards;
             }) self) }
     {
         let (start, end) = window_of(&self.tables.boards, name);

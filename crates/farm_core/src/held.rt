@@ -3,7 +3,7 @@ ghost use Rattle.std.specs.Prelude.{◌≡◌, ◌≤◌, min};
 ghost use Rattle.std.specs.List.Sorted.{IsStrictlySortedBy};
 ghost use Rattle.std.proofs.Props.{props};
 ghost use Rattle.farm_types.specs.Table.{job_cmp, res_cmp};
-ghost use Rattle.farm_types.specs.Change.{graded, after_job, after_check};
+ghost use Rattle.farm_types.specs.Change.{graded_board, after_job, after_check};
 
 use crate::edit::Edit;
 use crate::job_edit::JobEdit;
@@ -29,7 +29,7 @@ pub enum Becomes {
 
 /// A Good or Unknown board has the health; others keep theirs.
 fn grade(row: &mut BoardRow, health: Health)
-    ensures { row.new ≡ graded health row.old }
+    ensures { row.new ≡ graded_board health row.old }
 {
     if matches!(row.health, Health::Good | Health::Unknown) {
         row.health = health;
@@ -64,11 +64,11 @@ fn finish_check(row: &mut BoardRow, outcome: Outcome, now: u64)
 
 impl Becomes {
     ghost use Rattle.std.specs.Prelude.{◌≡◌};
-    ghost use Rattle.farm_core.specs.Edits.{board_after, after};
+    ghost use Rattle.farm_core.specs.Edits.{board_after, fate_of_board};
 
     /// What becomes of a board when its job, or its check, ends at a moment.
     pub fn after(checking: bool, outcome: Outcome, now: u64) -> Becomes
-        ensures { result ≡ after checking outcome now }
+        ensures { result ≡ fate_of_board checking outcome now }
     {
         if checking {
             Becomes::AfterCheck(outcome, now)
@@ -168,12 +168,12 @@ pub struct Hold<'a> {
 
 impl Edit<BoardRow> for Hold<'_> {
     ghost use Rattle.std.specs.Str.{bytes_eq};
-    ghost use Rattle.farm_types.specs.Pass.{held};
+    ghost use Rattle.farm_types.specs.Pass.{held_board};
     ghost use Rattle.farm_types.specs.declared.rows.State.{State};
 
     ghost passes = { λ e b. bytes_eq b.name e.name.now };
 
-    ghost changed = { λ e. held e.holder State.Reserved };
+    ghost changed = { λ e. held_board e.holder State.Reserved };
 
     fn passes(&self, row: &BoardRow) -> bool {
         row.name.is(self.name)

@@ -3,11 +3,12 @@ ghost use Rattle.std.specs.Prelude.{◌≡◌, ◌≤◌, ◌<◌, ◌++◌, ℕ
 ghost use Rattle.std.specs.Prelude.{take, drop, IfOk, IfSome, OnOk};
 ghost use Rattle.std.specs.List.{filter};
 ghost use Rattle.std.specs.List.Sorted.{IsStrictlySortedBy};
+ghost use Rattle.farm_types.specs.Limits.{most_wants};
 ghost use Rattle.farm_types.specs.Table.{put, change_where, job_cmp};
 ghost use Rattle.farm_types.specs.declared.rows.JobRow.{JobRow};
 ghost use Rattle.farm_types.specs.declared.rows.Want.{Want};
 ghost use Rattle.farm_core.specs.Edits.{job_passes, job_changed};
-ghost use Rattle.farm_core.specs.Marks.{AreMarks, IsNumber, Numbered, number_at};
+ghost use Rattle.farm_core.specs.Marks.{AreMarks, IsNumber, IsNumbered, number_at};
 ghost use Rattle.farm_core.specs.Orderly.{IsPlaceOf};
 ghost use Rattle.farm_core.specs.Serving.{member_wants};
 
@@ -16,6 +17,7 @@ use crate::edits::{GUESS_REACH, place_of};
 use crate::job_edit::JobEdit;
 use crate::same::same_want;
 use farm_sound::seek;
+use farm_types::limits::MOST_WANTS;
 use farm_types::rows::{JobRow, JobState, Want};
 use std::alloc::{AllocError, Global};
 use std::marker::Model;
@@ -86,7 +88,7 @@ impl Numbers {
     /// A number for the want of the job that stands, or will stand, at a place: that of an equal
     /// want at one of the eight places, or else a new one.
     fn give(&mut self, rows: &[JobRow], marks: &[Mark], place: usize, want: &Want) -> u64
-        ensures { Numbered rows.now marks.now self.old.last self.new.last want.now result }
+        ensures { IsNumbered rows.now marks.now self.old.last self.new.last want.now result }
     {
         if let Some(number) = self.known(rows, marks, want) {
             return number;
@@ -102,7 +104,7 @@ impl Numbers {
 
     /// A number for the want of the job at a place, if it waits; of others none is compared.
     fn give_waiting(&mut self, rows: &[JobRow], marks: &[Mark], place: usize, row: &JobRow) -> u64
-        ensures { Numbered rows.now marks.now self.old.last self.new.last row.now.want result }
+        ensures { IsNumbered rows.now marks.now self.old.last self.new.last row.now.want result }
     {
         if matches!(row.state, JobState::Submitted | JobState::Scheduling) {
             self.give(rows, marks, place, &row.want)
@@ -282,17 +284,17 @@ impl JobTable {
     }
 
     /// Whether the members of two groups want the same, member for member, where they stand at the
-    /// same of the four places from one place on each. No row is looked at. A no costs a search and
+    /// same of the places from one place on each. No row is looked at. A no costs a search and
     /// nothing else, so contracts say what a yes means.
     pub fn are_alike(&self, start: usize, group: u64, other_start: usize, other: u64) -> bool
         requires start { start ≤ length self.now }
         requires other_start { other_start ≤ length self.now }
-        ensures { result ≡ true → member_wants (take 4 (drop start self.now)) group
-            ≡ member_wants (take 4 (drop other_start self.now)) other }
+        ensures { result ≡ true → member_wants (take most_wants (drop start self.now)) group
+            ≡ member_wants (take most_wants (drop other_start self.now)) other }
     {
         // as many as have a place, so that the sums of places don't wrap
         let _jobs = self.rows.len();
-        for step in 0..4 {
+        for step in 0..MOST_WANTS {
             let first = number_at(&self.marks, start + step, group);
             let second = number_at(&self.marks, other_start + step, other);
             if !same_number(first, second) {

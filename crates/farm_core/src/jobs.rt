@@ -13,7 +13,7 @@ ghost use Rattle.farm_types.specs.declared.rows.JobRow.{JobRow};
 ghost use Rattle.farm_types.specs.declared.rows.JobState.{JobState};
 ghost use Rattle.farm_core.specs.Edits.{outcome_of};
 ghost use Rattle.farm_core.specs.Drafted.{Acts};
-ghost use Rattle.farm_core.specs.Plain.{plain};
+ghost use Rattle.farm_core.specs.Plain.{plain_farm};
 ghost use Rattle.farm_core.specs.Orderly.{IsOrderly, IsPlaceOf};
 
 use crate::draft::Draft;
@@ -69,8 +69,8 @@ fn outcome_of(row: &JobRow, named: Outcome) -> Outcome
 impl Tables {
     /// The job of that number, by binary search.
     pub fn find_job(&self, number: u64) -> Option<&JobRow>
-        requires { IsOrderly (plain self.now) }
-        ensures found { option_copied result ≡ job_of (plain self.now) number }
+        requires { IsOrderly (plain_farm self.now) }
+        ensures found { option_copied result ≡ job_of (plain_farm self.now) number }
         ensures small { IfSome result (λ job. (job.now.number ≡ number) × IsSmallJob job.now) }
     {
         seek::job_of(self.jobs.rows(), number)
@@ -79,11 +79,11 @@ impl Tables {
     /// The few rows from a place on that stand where the members of a group do: no other row is a
     /// member.
     pub fn near_from(&self, group: u64, start: usize) -> &[JobRow]
-        requires orderly { IsOrderly (plain self.now) }
-        requires within { start ≤ length (plain self.now).jobs }
-        requires place { IsPlaceOf (λ (r : JobRow). r.number) (plain self.now).jobs group start }
+        requires orderly { IsOrderly (plain_farm self.now) }
+        requires within { start ≤ length (plain_farm self.now).jobs }
+        requires place { IsPlaceOf (λ (r : JobRow). r.number) (plain_farm self.now).jobs group start }
         ensures members { filter (λ j. j.group == group) result.now
-            ≡ members (plain self.now) group }
+            ≡ members (plain_farm self.now) group }
         ensures few { length result.now ≤ most_wants }
     {
         let rows = self.jobs.rows();
@@ -93,9 +93,9 @@ impl Tables {
 
     /// The few rows that stand where the members of a group do: no other row is a member.
     pub fn near(&self, group: u64) -> &[JobRow]
-        requires orderly { IsOrderly (plain self.now) }
+        requires orderly { IsOrderly (plain_farm self.now) }
         requires small { IsSmall group }
-        ensures { filter (λ j. j.group == group) result.now ≡ members (plain self.now) group }
+        ensures { filter (λ j. j.group == group) result.now ≡ members (plain_farm self.now) group }
     {
         let start = place_of(self.jobs.rows(), group);
         self.near_from(group, start)
@@ -103,17 +103,17 @@ impl Tables {
 
     /// Whether some member of a group can be canceled.
     fn can_cancel_some(&self, group: u64) -> bool
-        requires orderly { IsOrderly (plain self.now) }
+        requires orderly { IsOrderly (plain_farm self.now) }
         requires small { IsSmall group }
-        ensures { result ≡ list_any can_cancel (members (plain self.now) group) }
+        ensures { result ≡ list_any can_cancel (members (plain_farm self.now) group) }
     {
         some_can_cancel(self.near(group), group)
     }
 
     /// Why a job isn't canceled.
     pub fn refuse_cancel(&self, caller: &Name, number: u64) -> Option<u16>
-        requires { IsOrderly (plain self.now) }
-        ensures { result ≡ first_code (cancel_reasons (plain self.now) caller.now number) }
+        requires { IsOrderly (plain_farm self.now) }
+        ensures { result ≡ first_code (cancel_reasons (plain_farm self.now) caller.now number) }
     {
         match self.find_job(number) {
             None => Some(NO_JOB),
@@ -131,8 +131,8 @@ impl Tables {
 
     /// Why a job's group isn't started.
     pub fn refuse_start(&self, number: u64) -> Option<u16>
-        requires { IsOrderly (plain self.now) }
-        ensures { result ≡ first_code (start_reasons (plain self.now) number) }
+        requires { IsOrderly (plain_farm self.now) }
+        ensures { result ≡ first_code (start_reasons (plain_farm self.now) number) }
     {
         match self.find_job(number) {
             None => Some(NO_JOB),
@@ -147,8 +147,8 @@ impl Tables {
 
     /// Why a job isn't finished.
     pub fn refuse_finish(&self, number: u64) -> Option<u16>
-        requires { IsOrderly (plain self.now) }
-        ensures { result ≡ first_code (finish_reasons (plain self.now) number) }
+        requires { IsOrderly (plain_farm self.now) }
+        ensures { result ≡ first_code (finish_reasons (plain_farm self.now) number) }
     {
         match self.find_job(number) {
             None => Some(NO_JOB),

@@ -6,7 +6,7 @@ ghost use Rattle.farm_types.specs.Change.{act};
 ghost use Rattle.farm_types.specs.Sound.{IsSound};
 ghost use Rattle.farm_types.specs.declared.calls.Cmd.{Cmd};
 ghost use Rattle.farm_pick.specs.Queued.{lists_of};
-ghost use Rattle.farm_core.specs.Plain.{plain};
+ghost use Rattle.farm_core.specs.Plain.{plain_farm};
 ghost use Rattle.farm_core.specs.Orderly.{IsOrderly};
 ghost use Rattle.farm_core.specs.Tracks.{Tracks};
 
@@ -20,8 +20,8 @@ use std::alloc::AllocError;
 impl Tables {
     /// The claims that wait, in the order in which they are served.
     pub fn queue(&self) -> Result<Vec<Claim>, AllocError>
-        ensures { IfOk result (λ claims. self.now.queues ≡ lists_of (plain self.now)
-            → claims.items ≡ map shown_claim (queue (plain self.now))) }
+        ensures { IfOk result (λ claims. self.now.queues ≡ lists_of (plain_farm self.now)
+            → claims.items ≡ map shown_claim (queue (plain_farm self.now))) }
     {
         let claims = self.queues.claims()?;
         Ok(claims)

@@ -4,8 +4,8 @@ ghost use Rattle.farm_types.specs.Limits.{most_wants};
 ghost use Rattle.farm_types.specs.Pass.{has_room};
 ghost use Rattle.farm_types.specs.Refuse.{is_admin, is_dispatcher, may_give, is_full, is_full_for};
 ghost use Rattle.farm_types.specs.Refuse.{is_reused, early_refusal, own_refusal, refusal};
-ghost use Rattle.farm_types.specs.Machine.{repeated};
-ghost use Rattle.farm_core.specs.Plain.{plain};
+ghost use Rattle.farm_types.specs.Machine.{repeated_reply};
+ghost use Rattle.farm_core.specs.Plain.{plain_farm};
 ghost use Rattle.farm_core.specs.Orderly.{IsOrderly};
 
 use crate::tables::Tables;
@@ -58,14 +58,14 @@ impl Tables {
     /// Whether the farm has room for more jobs, and numbers for them.
     pub fn has_room(&self, jobs: usize) -> bool
         requires { jobs ≤ most_wants }
-        ensures { result ≡ has_room (plain self.now) jobs }
+        ensures { result ≡ has_room (plain_farm self.now) jobs }
     {
         self.jobs.len() <= MOST_JOBS - jobs && self.next <= NUMBERS_END - jobs as u64
     }
 
     /// Whether the command would go beyond a limit of its own.
     fn is_full_for(&self, cmd: &Cmd) -> bool
-        ensures { result ≡ is_full_for (plain self.now) cmd.now }
+        ensures { result ≡ is_full_for (plain_farm self.now) cmd.now }
     {
         match cmd {
             Cmd::AddType(_, _) => self.types.len() >= MOST_TYPES,
@@ -91,7 +91,7 @@ impl Tables {
 
     /// Whether the call would go beyond a limit.
     fn is_full(&self, call: &Call) -> bool
-        ensures { result ≡ is_full (plain self.now) call.entry.now }
+        ensures { result ≡ is_full (plain_farm self.now) call.entry.now }
     {
         self.is_full_for(&call.cmd)
             || call.key.is_some() && self.kept.len() >= MOST_REPLIES
@@ -100,8 +100,8 @@ impl Tables {
 
     /// Whether the reply of the call's key is kept for another command.
     fn is_reused(&self, call: &Call) -> bool
-        requires { IsOrderly (plain self.now) }
-        ensures { result ≡ is_reused (plain self.now) call.entry.now }
+        requires { IsOrderly (plain_farm self.now) }
+        ensures { result ≡ is_reused (plain_farm self.now) call.entry.now }
     {
         match self.find_kept(call) {
             None => false,
@@ -111,8 +111,8 @@ impl Tables {
 
     /// The reply that is kept for the call's key and the same command, where the moment is good.
     pub fn kept_reply(&self, call: &Call) -> Option<Reply>
-        requires { IsOrderly (plain self.now) }
-        ensures { result ≡ repeated (plain self.now) call.entry.now }
+        requires { IsOrderly (plain_farm self.now) }
+        ensures { result ≡ repeated_reply (plain_farm self.now) call.entry.now }
     {
         if call.now > LAST_MOMENT {
             return None;
@@ -127,8 +127,8 @@ impl Tables {
     /// The reasons that come first.
     #[tactic(auto, unfolding(farm_types::specs::Refuse::early_refusal))]
     fn early_refusal(&self, call: &Call) -> Option<u16>
-        requires { IsOrderly (plain self.now) }
-        ensures { result ≡ early_refusal (plain self.now) call.entry.now }
+        requires { IsOrderly (plain_farm self.now) }
+        ensures { result ≡ early_refusal (plain_farm self.now) call.entry.now }
     {
         if call.now > LAST_MOMENT {
             return Some(BAD_MOMENT);
@@ -145,8 +145,8 @@ impl Tables {
     /// The command's own reasons.
     #[tactic(auto, unfolding(farm_types::specs::Refuse::own_refusal))]
     fn own_refusal(&self, call: &Call) -> Option<u16>
-        requires { IsOrderly (plain self.now) }
-        ensures { result ≡ own_refusal (plain self.now) call.entry.now }
+        requires { IsOrderly (plain_farm self.now) }
+        ensures { result ≡ own_refusal (plain_farm self.now) call.entry.now }
     {
         let now = self.clock.max(call.now);
         match &call.cmd {
@@ -170,8 +170,8 @@ impl Tables {
     /// The first code that applies.
     #[tactic(auto, unfolding(farm_types::specs::Refuse::refusal))]
     pub fn refusal(&self, call: &Call) -> Option<u16>
-        requires { IsOrderly (plain self.now) }
-        ensures { result ≡ refusal (plain self.now) call.entry.now }
+        requires { IsOrderly (plain_farm self.now) }
+        ensures { result ≡ refusal (plain_farm self.now) call.entry.now }
     {
         if let Some(code) = self.early_refusal(call) {
             return Some(code);

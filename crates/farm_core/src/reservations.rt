@@ -14,7 +14,7 @@ ghost use Rattle.farm_types.specs.declared.calls.Cmd.{Cmd};
 ghost use Rattle.farm_types.specs.declared.rows.ResRow.{ResRow};
 ghost use Rattle.farm_types.specs.declared.rows.ResState.{ResState};
 ghost use Rattle.farm_core.specs.Drafted.{Acts};
-ghost use Rattle.farm_core.specs.Plain.{plain};
+ghost use Rattle.farm_core.specs.Plain.{plain_farm};
 ghost use Rattle.farm_core.specs.Orderly.{IsOrderly};
 
 use crate::draft::Draft;
@@ -64,16 +64,16 @@ fn refuse_row(row: &ResRow, now: u64, mine: bool, right: bool) -> Option<u16>
 impl Tables {
     /// The reservation of that number, by binary search.
     pub fn find_reservation(&self, number: u64) -> Option<&ResRow>
-        requires { IsOrderly (plain self.now) }
-        ensures { option_copied result ≡ res_of (plain self.now) number }
+        requires { IsOrderly (plain_farm self.now) }
+        ensures { option_copied result ≡ res_of (plain_farm self.now) number }
     {
         seek::res_of(&self.reservations, number)
     }
 
     /// Why a reservation isn't acquired: its owner alone may.
     pub fn refuse_acquire(&self, caller: &Name, now: u64, number: u64) -> Option<u16>
-        requires { IsOrderly (plain self.now) }
-        ensures { result ≡ first_code (acquire_reasons (plain self.now) now caller.now number) }
+        requires { IsOrderly (plain_farm self.now) }
+        ensures { result ≡ first_code (acquire_reasons (plain_farm self.now) now caller.now number) }
     {
         match self.find_reservation(number) {
             None => Some(NO_RESERVATION),
@@ -88,8 +88,8 @@ impl Tables {
 
     /// Why a reservation isn't released.
     pub fn refuse_release(&self, caller: &Name, now: u64, number: u64) -> Option<u16>
-        requires { IsOrderly (plain self.now) }
-        ensures { result ≡ first_code (release_reasons (plain self.now) now caller.now number) }
+        requires { IsOrderly (plain_farm self.now) }
+        ensures { result ≡ first_code (release_reasons (plain_farm self.now) now caller.now number) }
     {
         match self.find_reservation(number) {
             None => Some(NO_RESERVATION),
@@ -104,8 +104,8 @@ impl Tables {
 
     /// Why a reservation isn't refreshed, or canceled.
     pub fn refuse_alive(&self, caller: &Name, now: u64, number: u64) -> Option<u16>
-        requires { IsOrderly (plain self.now) }
-        ensures { result ≡ first_code (alive_reasons (plain self.now) now caller.now number) }
+        requires { IsOrderly (plain_farm self.now) }
+        ensures { result ≡ first_code (alive_reasons (plain_farm self.now) now caller.now number) }
     {
         match self.find_reservation(number) {
             None => Some(NO_RESERVATION),

@@ -6,7 +6,7 @@ ghost use Rattle.farm_types.specs.Pick.{not_retired, fits};
 ghost use Rattle.farm_types.specs.Refuse.{first_code, reserve_reasons};
 ghost use Rattle.farm_types.specs.declared.calls.Cmd.{Cmd};
 ghost use Rattle.farm_core.specs.Drafted.{Acts, IsFresh};
-ghost use Rattle.farm_core.specs.Plain.{plain};
+ghost use Rattle.farm_core.specs.Plain.{plain_farm};
 
 use crate::draft::Draft;
 use crate::tables::Tables;
@@ -30,7 +30,7 @@ impl Tables {
     /// Whether some board may ever serve a reservation with these tags.
     fn can_serve(&self, tags: &Tags) -> bool
         ensures { result ≡ list_any (λ b. fits b (record { kind = None; tags = tags.now })
-            && not_retired b) (plain self.now).boards }
+            && not_retired b) (plain_farm self.now).boards }
     {
         self.boards.iter().any(|board| may_serve(board, tags))
     }
@@ -38,7 +38,7 @@ impl Tables {
     /// Why a reservation isn't made. With B boards it costs O(B), and no memory.
     #[tactic(auto, using(crate::proofs::OneWant::least_one))]
     pub fn refuse_reserve(&self, tags: &Tags) -> Option<u16>
-        ensures { result ≡ first_code (reserve_reasons (plain self.now) tags.now) }
+        ensures { result ≡ first_code (reserve_reasons (plain_farm self.now) tags.now) }
     {
         if !self.can_serve(tags) {
             return Some(NO_SUCH_BOARDS);

@@ -5,6 +5,7 @@ ghost use Rattle.std.specs.Option.{option_copied};
 ghost use Rattle.farm_types.specs.Limits.{most_wants};
 ghost use Rattle.farm_core.specs.Serving.{member_wants, want_at};
 
+use farm_types::limits::MOST_WANTS;
 use farm_types::rows::{JobRow, Want};
 use farm_types::words::{Name, Tag};
 
@@ -75,7 +76,7 @@ pub fn same_members(first: &[JobRow], group: u64, second: &[JobRow], other: u64)
     requires few_others { length second.now ≤ most_wants }
     ensures { result ≡ true → member_wants first.now group ≡ member_wants second.now other }
 {
-    for place in 0..4 {
+    for place in 0..MOST_WANTS {
         if !same_option(want_at(first, place, group), want_at(second, place, other)) {
             return false;
         }

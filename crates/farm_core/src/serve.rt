@@ -7,7 +7,7 @@ ghost use Rattle.std.specs.Option.{option_copied};
 ghost use Rattle.farm_types.specs.Limits.{last_moment, most_wants};
 ghost use Rattle.farm_types.specs.Farm.{Farm, members, res_of};
 ghost use Rattle.farm_types.specs.Pass.{is_group, serve, serve_all};
-ghost use Rattle.farm_types.specs.Pick.{Among, Claimed, least, is_free, queue, shown_claim};
+ghost use Rattle.farm_types.specs.Pick.{IsAmong, Claimed, least, is_free, queue, shown_claim};
 ghost use Rattle.farm_types.specs.Pick.{waits};
 ghost use Rattle.farm_types.specs.Small.{IsSmall};
 ghost use Rattle.farm_types.specs.Sound.{IsSound};
@@ -17,10 +17,10 @@ ghost use Rattle.farm_pick.specs.Least.{boards_at};
 ghost use Rattle.farm_pick.specs.Heads.{is_later, last_spot};
 ghost use Rattle.farm_pick.specs.Queued.{Queued, idle_boards, is_open, lists_of};
 ghost use Rattle.farm_core.specs.Drafted.{at_farm};
-ghost use Rattle.farm_core.specs.Plain.{plain};
+ghost use Rattle.farm_core.specs.Plain.{plain_farm};
 ghost use Rattle.farm_core.specs.Orderly.{IsOrderly};
 ghost use Rattle.farm_core.specs.Serving.{AreUnmet, Asks, Begins, Serves, Tries, boards_for};
-ghost use Rattle.farm_core.specs.Serving.{counted, wants_of};
+ghost use Rattle.farm_core.specs.Serving.{count_after, wants_of};
 ghost use Rattle.farm_core.specs.Tracks.{Tracks};
 
 use crate::draft::Draft;
@@ -86,7 +86,7 @@ impl Tables {
     /// The names of the boards at some places.
     fn names_at(&self, places: &[usize]) -> Result<Vec<Name>, AllocError>
         ensures { IfOk result (λ names. names.items ≡ map (λ b. b.name)
-            (boards_at (plain self.now).boards places.now)) }
+            (boards_at (plain_farm self.now).boards places.now)) }
     {
         let mut names = Vec::new(*self.boards.allocator());
         for place in places {
@@ -100,12 +100,12 @@ impl Tables {
     /// The names of the least list of free boards that meets some wants. At most 4 tests a free
     /// board.
     pub fn pick(&self, wants: &[&Want]) -> Result<Option<Vec<Name>>, AllocError>
-        requires orderly { IsOrderly (plain self.now) }
-        requires free { self.now.queues.boards ≡ idle_boards (plain self.now) }
+        requires orderly { IsOrderly (plain_farm self.now) }
+        requires free { self.now.queues.boards ≡ idle_boards (plain_farm self.now) }
         requires few { length wants.now ≤ most_wants }
         ensures { IfOk result (λ picked. option_map (λ names. names.items) picked
             ≡ option_map (map (λ (b : BoardRow). b.name))
-            (least (plain self.now).boards (is_free (plain self.now).types)
+            (least (plain_farm self.now).boards (is_free (plain_farm self.now).types)
             (map (λ w. w.now) wants.now))) }
     {
         match self.queues.least_of(&self.boards, &self.types, wants) {
@@ -116,13 +116,13 @@ impl Tables {
 
     /// The names of the boards for a group.
     fn pick_for_group(&self, group: u64) -> Result<Option<Vec<Name>>, AllocError>
-        requires orderly { IsOrderly (plain self.now) }
+        requires orderly { IsOrderly (plain_farm self.now) }
         requires small { IsSmall group }
-        requires free { self.now.queues.boards ≡ idle_boards (plain self.now) }
+        requires free { self.now.queues.boards ≡ idle_boards (plain_farm self.now) }
         ensures { IfOk result (λ picked. option_map (λ names. names.items) picked
             ≡ option_map (map (λ (b : BoardRow). b.name))
-            (least (plain self.now).boards (is_free (plain self.now).types)
-            (map (λ m. m.want) (members (plain self.now) group)))) }
+            (least (plain_farm self.now).boards (is_free (plain_farm self.now).types)
+            (map (λ m. m.want) (members (plain_farm self.now) group)))) }
     {
         let wants = wants_in(*self.boards.allocator(), self.near(group), group)?;
         self.pick(&wants)
@@ -130,12 +130,12 @@ impl Tables {
 
     /// The names of the boards for a reservation: one, or none where there is no such reservation.
     fn pick_for_reservation(&self, number: u64) -> Result<Option<Vec<Name>>, AllocError>
-        requires orderly { IsOrderly (plain self.now) }
-        requires free { self.now.queues.boards ≡ idle_boards (plain self.now) }
-        ensures { IfOk result (λ picked. (r : ResRow) → res_of (plain self.now) number ≡ Some r
+        requires orderly { IsOrderly (plain_farm self.now) }
+        requires free { self.now.queues.boards ≡ idle_boards (plain_farm self.now) }
+        ensures { IfOk result (λ picked. (r : ResRow) → res_of (plain_farm self.now) number ≡ Some r
             → option_map (λ names. names.items) picked
             ≡ option_map (map (λ (b : BoardRow). b.name))
-            (least (plain self.now).boards (is_free (plain self.now).types) (r.want ∷ []))) }
+            (least (plain_farm self.now).boards (is_free (plain_farm self.now).types) (r.want ∷ []))) }
     {
         match self.find_reservation(number) {
             None => Ok(None),
@@ -147,9 +147,9 @@ impl Tables {
 impl Tables {
     /// How many boards a group waits for, if it is a claim, and else none.
     fn waits_for(&self, group: u64) -> u64
-        requires orderly { IsOrderly (plain self.now) }
+        requires orderly { IsOrderly (plain_farm self.now) }
         requires small { IsSmall group }
-        ensures { result ≡ boards_for (plain self.now) group }
+        ensures { result ≡ boards_for (plain_farm self.now) group }
     {
         let near = self.near(group);
         match self.find_job(group) {
@@ -237,14 +237,14 @@ impl Draft {
         boards: u64,
     ) -> Result<(Draft, bool), AllocError>
         requires sound { IsSound self.farm }
-        requires waits { (c : Claimed) × Among c (queue self.farm) × ((shown_claim c).kind ≡ kind)
+        requires waits { (c : Claimed) × IsAmong c (queue self.farm) × ((shown_claim c).kind ≡ kind)
             × (c.number ≡ number) × (length c.wants ≡ boards) }
         requires small { IsSmall number }
         requires clock { self.farm.clock ≤ last_moment }
         requires free { self.queues.boards ≡ idle_boards self.farm }
         requires known { AreUnmet self.farm unmet.old }
         ensures serves { IfOk result (λ r. (c : Claimed) → (shown_claim c).kind ≡ kind
-            → c.number ≡ number → Among c (queue self.farm) → Serves self c r.1 r.0) }
+            → c.number ≡ number → IsAmong c (queue self.farm) → Serves self c r.1 r.0) }
         ensures known { IfOk result (λ r. AreUnmet r.0.farm unmet.new) }
     {
         let (mut draft, served) = self.serve_claim(kind, number)?;

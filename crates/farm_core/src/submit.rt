@@ -13,7 +13,7 @@ ghost use Rattle.farm_types.specs.declared.rows.JobState.{JobState};
 ghost use Rattle.farm_pick.specs.Queued.{first_kind};
 ghost use Rattle.farm_core.specs.Edits.{text_at};
 ghost use Rattle.farm_core.specs.Drafted.{at_farm, Acts, IsFresh};
-ghost use Rattle.farm_core.specs.Plain.{plain};
+ghost use Rattle.farm_core.specs.Plain.{plain_farm};
 ghost use Rattle.farm_core.specs.Orderly.{IsOrderly};
 
 use crate::draft::Draft;
@@ -88,8 +88,8 @@ fn member_text(alloc: Global, place: usize, body: &Body) -> Result<Body, AllocEr
 impl Tables {
     /// Whether a type is named that isn't there.
     fn lacks_type(&self, kind: &Option<Name>) -> bool
-        requires { IsOrderly (plain self.now) }
-        ensures { result ≡ option_map_or (λ kind. is_none (type_of (plain self.now) kind)) kind.now
+        requires { IsOrderly (plain_farm self.now) }
+        ensures { result ≡ option_map_or (λ kind. is_none (type_of (plain_farm self.now) kind)) kind.now
             false }
     {
         match kind {
@@ -100,24 +100,24 @@ impl Tables {
 
     /// Whether some want names a type that isn't there.
     fn lacks_types(&self, wants: &[Want]) -> bool
-        requires { IsOrderly (plain self.now) }
+        requires { IsOrderly (plain_farm self.now) }
         ensures { result
-            ≡ list_any (λ w. option_map_or (λ kind. is_none (type_of (plain self.now) kind)) w.kind
+            ≡ list_any (λ w. option_map_or (λ kind. is_none (type_of (plain_farm self.now) kind)) w.kind
             false) wants.now }
     {
         wants.iter().any(
             |want: &Want| -> bool
-                requires { IsOrderly (plain self.now) }
+                requires { IsOrderly (plain_farm self.now) }
                 ensures { result ≡ option_map_or
-                    (λ kind. is_none (type_of (plain self.entry.now) kind)) want.now.kind false }
+                    (λ kind. is_none (type_of (plain_farm self.entry.now) kind)) want.now.kind false }
             { self.lacks_type(&want.kind) },
         )
     }
 
     /// Why a group isn't submitted. With B boards and at most four wants it costs O(B).
     pub fn refuse_submit(&self, wants: &Wants) -> Option<u16>
-        requires { IsOrderly (plain self.now) }
-        ensures { result ≡ first_code (submit_reasons (plain self.now) wants.now) }
+        requires { IsOrderly (plain_farm self.now) }
+        ensures { result ≡ first_code (submit_reasons (plain_farm self.now) wants.now) }
     {
         if self.lacks_types(wants.items()) {
             return Some(NO_TYPE);

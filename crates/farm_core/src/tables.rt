@@ -3,10 +3,10 @@ ghost use Rattle.std.specs.Prelude.{◌≡◌, [], IfOk, option_map};
 ghost use Rattle.std.specs.List.Sorted.{IsStrictlySortedBy};
 ghost use Rattle.std.specs.Option.{option_copied};
 ghost use Rattle.farm_types.specs.Table.{kept_cmp};
-ghost use Rattle.farm_types.specs.Farm.{Farm, empty, farm_of, type_of, board_of};
+ghost use Rattle.farm_types.specs.Farm.{Farm, empty_farm, farm_of, type_of, board_of};
 ghost use Rattle.farm_types.specs.Refuse.{kept_for};
 ghost use Rattle.farm_pick.specs.Queued.{lists_of};
-ghost use Rattle.farm_core.specs.Plain.{plain};
+ghost use Rattle.farm_core.specs.Plain.{plain_farm};
 ghost use Rattle.farm_core.specs.Orderly.{IsOrderly};
 ghost use Rattle.farm_core.specs.Replies.{kept_reply};
 ghost use Rattle.farm_core.specs.Tracks.{Tracks};
@@ -87,8 +87,8 @@ pub fn no_changes(alloc: Global) -> Changes
 impl Tables {
     /// No rows.
     pub fn new(alloc: Global) -> Tables
-        ensures farm { plain result ≡ empty }
-        ensures queues { result.queues ≡ lists_of empty }
+        ensures farm { plain_farm result ≡ empty_farm }
+        ensures queues { result.queues ≡ lists_of empty_farm }
     {
         Tables {
             types: Vec::new(alloc),
@@ -109,7 +109,7 @@ impl Tables {
     /// replies and for the marks of the jobs.
     pub fn of(rows: Rows) -> Result<Tables, AllocError>
         requires { IsStrictlySortedBy kept_cmp rows.kept.items }
-        ensures farm { IfOk result (λ t. plain t ≡ farm_of rows) }
+        ensures farm { IfOk result (λ t. plain_farm t ≡ farm_of rows) }
         ensures queues { IfOk result (λ t. t.queues ≡ record { claims = []; boards = [] }) }
     {
         let alloc = *rows.types.allocator();
@@ -132,23 +132,23 @@ impl Tables {
 
     /// The type of that name, by binary search.
     pub fn find_type(&self, name: &Name) -> Option<&TypeRow>
-        requires { IsOrderly (plain self.now) }
-        ensures { option_copied result ≡ type_of (plain self.now) name.now }
+        requires { IsOrderly (plain_farm self.now) }
+        ensures { option_copied result ≡ type_of (plain_farm self.now) name.now }
     {
         seek::type_of(&self.types, name)
     }
 
     /// The board of that name, by binary search.
     pub fn find_board(&self, name: &Name) -> Option<&BoardRow>
-        requires { IsOrderly (plain self.now) }
-        ensures { option_copied result ≡ board_of (plain self.now) name.now }
+        requires { IsOrderly (plain_farm self.now) }
+        ensures { option_copied result ≡ board_of (plain_farm self.now) name.now }
     {
         seek::board_of(&self.boards, name)
     }
 
     /// What is kept for the call's caller and key, if the call has a key.
     pub fn find_kept(&self, call: &Call) -> Option<KeptReply>
-        ensures { result ≡ option_map kept_reply (kept_for (plain self.now) call.entry.now) }
+        ensures { result ≡ option_map kept_reply (kept_for (plain_farm self.now) call.entry.now) }
     {
         match &call.key {
             None => None,

@@ -8,14 +8,14 @@ ghost use Rattle.farm_types.specs.Farm.{Farm, members, res_of};
 ghost use Rattle.farm_types.specs.Sound.{IsSound};
 ghost use Rattle.farm_types.specs.declared.claims.ClaimKind.{ClaimKind};
 ghost use Rattle.farm_types.specs.declared.rows.JobRow.{JobRow};
-ghost use Rattle.farm_pick.specs.Heads.{earlier, last_spot};
+ghost use Rattle.farm_pick.specs.Heads.{earlier_of, last_spot};
 ghost use Rattle.farm_pick.specs.Merged.{lent_several};
 ghost use Rattle.farm_pick.specs.Queued.{is_open, lists_of};
-ghost use Rattle.farm_pick.specs.Walked.{walked};
-ghost use Rattle.farm_core.specs.Plain.{plain};
+ghost use Rattle.farm_pick.specs.Walked.{claims_after};
+ghost use Rattle.farm_core.specs.Plain.{plain_farm};
 ghost use Rattle.farm_core.specs.Orderly.{IsOrderly, IsPlaceOf};
 ghost use Rattle.farm_core.specs.Serving.{AreUnmet, IsLike, IsMissed, IsSkipped};
-ghost use Rattle.farm_core.specs.Serving.{NextIs, Reaches, member_wants, wants_of};
+ghost use Rattle.farm_core.specs.Serving.{IsNext, Reaches, member_wants, wants_of};
 
 use crate::edits::{GUESS_REACH, place_of, res_place_of};
 use crate::same::{same_members, same_want};
@@ -30,7 +30,7 @@ use std::alloc::AllocError;
 
 /// Of two claims the one that goes first.
 fn earlier<'a>(first: Option<&'a Claim>, second: Option<&'a Claim>) -> Option<&'a Claim>
-    ensures { option_copied result ≡ earlier (option_copied first.entry)
+    ensures { option_copied result ≡ earlier_of (option_copied first.entry)
         (option_copied second.entry) }
 {
     match (first, second) {
@@ -66,7 +66,7 @@ pub struct Guess {
 impl Tables {
     /// Where the first row of a claim stands in its table, by binary search.
     pub fn place_of_claim(&self, kind: ClaimKind, number: u64) -> usize
-        requires { IsOrderly (plain self.now) }
+        requires { IsOrderly (plain_farm self.now) }
     {
         match kind {
             ClaimKind::Group => place_of(self.jobs.rows(), number),
@@ -77,8 +77,8 @@ impl Tables {
     /// The reservation of a number, and its place: one of the few from a guess on, else by binary
     /// search.
     fn reservation_near(&self, guess: usize, number: u64) -> Option<(usize, &ResRow)>
-        requires { IsOrderly (plain self.now) }
-        ensures { option_map (λ p. p.1.now) result ≡ res_of (plain self.now) number }
+        requires { IsOrderly (plain_farm self.now) }
+        ensures { option_map (λ p. p.1.now) result ≡ res_of (plain_farm self.now) number }
     {
         for place in guess..guess.saturating_add(GUESS_REACH) {
             if let Some(row) = self.reservations.get(place) {
@@ -96,9 +96,9 @@ impl Tables {
     /// Whether a group, whose members are among some rows, wants the same as one that is
     /// remembered.
     fn is_like_group(&self, rows: &[JobRow], group: u64, known: &Option<Known>) -> bool
-        requires orderly { IsOrderly (plain self.now) }
+        requires orderly { IsOrderly (plain_farm self.now) }
         requires few { length rows.now ≤ most_wants }
-        ensures { result ≡ true → IsLike (plain self.now) (member_wants rows.now group) known.now }
+        ensures { result ≡ true → IsLike (plain_farm self.now) (member_wants rows.now group) known.now }
     {
         match known {
             None => false,
@@ -115,8 +115,8 @@ impl Tables {
 
     /// Whether a reservation's want is that of one that is remembered.
     fn is_like_reservation(&self, want: &Want, known: &Option<Known>) -> bool
-        requires { IsOrderly (plain self.now) }
-        ensures { result ≡ true → IsLike (plain self.now) (want.now ∷ []) known.now }
+        requires { IsOrderly (plain_farm self.now) }
+        ensures { result ≡ true → IsLike (plain_farm self.now) (want.now ∷ []) known.now }
     {
         match known {
             None => false,
@@ -136,11 +136,11 @@ impl Tables {
     /// unmet. Its rows are looked at only where the numbers of the wants don't tell: equal wants
     /// have two numbers where more wants than are remembered came between them.
     fn is_group_unmet(&self, unmet: &Unmet, group: u64, start: usize) -> bool
-        requires sound { IsSound (plain self.now) }
-        requires within { start ≤ length (plain self.now).jobs }
-        requires place { IsPlaceOf (λ (r : JobRow). r.number) (plain self.now).jobs group start }
-        requires known { AreUnmet (plain self.now) unmet.now }
-        ensures { result ≡ true → IsMissed (plain self.now) ClaimKind.Group group }
+        requires sound { IsSound (plain_farm self.now) }
+        requires within { start ≤ length (plain_farm self.now).jobs }
+        requires place { IsPlaceOf (λ (r : JobRow). r.number) (plain_farm self.now).jobs group start }
+        requires known { AreUnmet (plain_farm self.now) unmet.now }
+        ensures { result ≡ true → IsMissed (plain_farm self.now) ClaimKind.Group group }
     {
         if self.is_unmet_by_numbers(unmet, group, start) {
             return true;
@@ -156,10 +156,10 @@ impl Tables {
 
     /// Whether a reservation wants the same as one that was found unmet.
     fn is_reservation_unmet(&self, unmet: &Unmet, row: &ResRow, number: u64) -> bool
-        requires sound { IsSound (plain self.now) }
-        requires row { res_of (plain self.now) number ≡ Some row.now }
-        requires known { AreUnmet (plain self.now) unmet.now }
-        ensures { result ≡ true → IsMissed (plain self.now) ClaimKind.Reservation number }
+        requires sound { IsSound (plain_farm self.now) }
+        requires row { res_of (plain_farm self.now) number ≡ Some row.now }
+        requires known { AreUnmet (plain_farm self.now) unmet.now }
+        ensures { result ≡ true → IsMissed (plain_farm self.now) ClaimKind.Reservation number }
     {
         for known in unmet.claims() {
             if self.is_like_reservation(&row.want, known) {
@@ -175,9 +175,9 @@ impl Tables {
     /// jobs and R reservations O(log (J + R)) besides. Of jobs the marks are compared first, so
     /// where they tell no row and no text of them is read.
     fn is_unmet(&self, unmet: &Unmet, claim: &Claim, guess: &mut Guess) -> bool
-        requires sound { IsSound (plain self.now) }
-        requires known { AreUnmet (plain self.now) unmet.now }
-        ensures { result ≡ true → IsMissed (plain self.now) claim.now.kind claim.now.number }
+        requires sound { IsSound (plain_farm self.now) }
+        requires known { AreUnmet (plain_farm self.now) unmet.now }
+        ensures { result ≡ true → IsMissed (plain_farm self.now) claim.now.kind claim.now.number }
     {
         match claim.kind {
             ClaimKind::Group => {
@@ -199,9 +199,9 @@ impl Tables {
     /// Whether a claim is passed over, since to serve it would change nothing: it wants the same as
     /// one that was found unmet, and it waits for one board or a group collects already.
     fn is_skipped(&self, unmet: &Unmet, claim: &Claim, guess: &mut Guess) -> bool
-        requires sound { IsSound (plain self.now) }
-        requires known { AreUnmet (plain self.now) unmet.now }
-        ensures { result ≡ true → IsSkipped (plain self.now) claim.now }
+        requires sound { IsSound (plain_farm self.now) }
+        requires known { AreUnmet (plain_farm self.now) unmet.now }
+        ensures { result ≡ true → IsSkipped (plain_farm self.now) claim.now }
     {
         (self.collector != 0 || claim.boards < 2) && self.is_unmet(unmet, claim, guess)
     }
@@ -217,10 +217,10 @@ impl Tables {
         unmet: &Unmet,
         last: Option<(Priority, u64)>,
     ) -> Result<Option<&Claim>, AllocError>
-        requires sound { IsSound (plain self.now) }
-        requires known { AreUnmet (plain self.now) unmet.now }
-        ensures { IfOk result (λ claim. Reaches (plain self.now)
-            (walked (λ k. false || is_open self.now.queues.boards k) (last_spot last)
+        requires sound { IsSound (plain_farm self.now) }
+        requires known { AreUnmet (plain_farm self.now) unmet.now }
+        ensures { IfOk result (λ claim. Reaches (plain_farm self.now)
+            (claims_after (λ k. false || is_open self.now.queues.boards k) (last_spot last)
             self.now.queues.claims) (option_copied claim)) }
     {
         let mut guess = Guess {
@@ -243,7 +243,7 @@ impl Tables {
         last: Option<(Priority, u64)>,
     ) -> Option<&'a Claim>
         ensures { option_copied result ≡ (if self.now.collector == 0
-            then earlier (option_copied claim.entry) (lent_several self.now.queues last)
+            then earlier_of (option_copied claim.entry) (lent_several self.now.queues last)
             else option_copied claim.entry) }
     {
         if self.collector == 0 {
@@ -265,10 +265,10 @@ impl Tables {
         unmet: &Unmet,
         last: Option<(Priority, u64)>,
     ) -> Result<Option<&Claim>, AllocError>
-        requires sound { IsSound (plain self.now) }
-        requires fits { self.now.queues ≡ lists_of (plain self.now) }
-        requires known { AreUnmet (plain self.now) unmet.now }
-        ensures { IfOk result (λ claim. NextIs (plain self.now) last (option_copied claim)) }
+        requires sound { IsSound (plain_farm self.now) }
+        requires fits { self.now.queues ≡ lists_of (plain_farm self.now) }
+        requires known { AreUnmet (plain_farm self.now) unmet.now }
+        ensures { IfOk result (λ claim. IsNext (plain_farm self.now) last (option_copied claim)) }
     {
         let open = self.next_open(unmet, copied(&last))?;
         Ok(self.or_several(open, copied(&last)))

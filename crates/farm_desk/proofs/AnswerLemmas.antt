@@ -17,7 +17,7 @@ use Rattle.farm_wire.specs.declared.ask.Ask.{Ask}
 use Rattle.farm_wire.specs.declared.ask.View.{View}
 use Rattle.farm_wire.specs.declared.answers.Out.{Out}
 use Rattle.farm_wire.specs.declared.fault.AskFault.{AskFault}
-use Rattle.farm_desk.specs.Answers.{IsView, Says, denied, refusal, replied}
+use Rattle.farm_desk.specs.Answers.{IsView, Says, out_of_denial, refusal, out_of_answer}
 use Rattle.farm_desk.specs.Response.{Closes, IsResponse, IsResponseTo, RunsOut}
 use Rattle.farm_desk.specs.Heard.{HearsNothing}
 use Rattle.farm_desk.specs.Made.{IsMadeOf, IsMadeOfNothing, IsMadeOfOne}
@@ -49,7 +49,7 @@ view_is_response g k view bytes (Err fault) opened made =
 
 -- a denial that was made, or for which there was no memory
 pub denial_is_response : {S : Type 0} (g : Ghosts S) (k : Kept S) (why : Denial) (bytes : List ℕ) (end : Result ℕ DeskFault)
-    → IsMadeOf (denied why) bytes end → IsResponseTo g k k (Err why) bytes end
+    → IsMadeOf (out_of_denial why) bytes end → IsResponseTo g k k (Err why) bytes end
 denial_is_response g k why bytes (Ok status) made = record { says = made; rests = refl }
 denial_is_response g k why bytes (Err fault) made =
     response_when_short g k k (Err why) bytes fault made.fault_is (record { says = made.bytes_are; was_open = tt; stays_open = refl; farm = refl })
@@ -70,13 +70,13 @@ nothing_is_response g k input rest now (AskFault.Method allowed) bytes end hears
 pub call_is_response : {S : Type 0} (g : Ghosts S) (old new : Kept S) (call : Call) (told : Answered) (bytes : List ℕ) (end : Result ℕ DeskFault)
     → told ≡ answer old.farm.farm call → new.farm.farm ≡ step old.farm.farm call
     → (old.is_open ≡ true) × (new.is_open ≡ true) → (Keeps g old → Keeps g new)
-    → IsMadeOf (replied (kind_of call.cmd) told) bytes end
+    → IsMadeOf (out_of_answer (kind_of call.cmd) told) bytes end
     → IsResponseTo g old new (Ok (Ask.Call call)) bytes end
 call_is_response g old new call told bytes (Ok status) same farm opened stands made =
     record {
       was_open = opened.0;
       stays_open = opened.1;
-      says = subst (λ a. Says (replied (kind_of call.cmd) a) bytes status) same made;
+      says = subst (λ a. Says (out_of_answer (kind_of call.cmd) a) bytes status) same made;
       farm = farm;
       stands = stands;
     }

@@ -14,14 +14,14 @@ use Rattle.farm_types.specs.Refuse.{kind_of}
 use Rattle.farm_types.specs.declared.calls.Call.{Call}
 use Rattle.farm_types.specs.declared.rows.Reply.{Reply}
 use Rattle.farm_keep.specs.Kept.{Kept, Keeps}
-use Rattle.farm_keep.specs.Restarts.{again}
+use Rattle.farm_keep.specs.Restarts.{answer_again}
 use Rattle.farm_keep.proofs.KeptLemmas.{again_kept}
 use Rattle.farm_wire.specs.Reading.{Denial}
 use Rattle.farm_wire.specs.declared.ask.Ask.{Ask}
 use Rattle.farm_wire.specs.declared.ask.View.{View}
 use Rattle.farm_wire.specs.declared.answers.Out.{Out}
 use Rattle.farm_desk.specs.Heard.{Asks, Hears}
-use Rattle.farm_desk.specs.Answers.{Answers, Says, Shows, IsView, denied, replied}
+use Rattle.farm_desk.specs.Answers.{Answers, Says, Shows, IsView, out_of_denial, out_of_answer}
 use Rattle.farm_desk.specs.Response.{IsResponse}
 use Rattle.farm_desk.specs.Ends.{IsAnswered}
 use Rattle.farm_desk.specs.Imports.{Reaches}
@@ -126,10 +126,10 @@ shown g old new view bytes status a = (a.out, a.shows, a.says, resting g old new
 pub reached : {S : Type 0} (g : Ghosts S) (old new : Kept S) (asked : Result Ask Denial) (bytes : List ℕ) (status : ℕ)
     → Answers g old new asked bytes status → IsReached g old new asked bytes status
 reached g old new (Err why) bytes status a =
-    record { out = denied why; machine = refl; says = a.says; reaches = resting g old new a.rests }
+    record { out = out_of_denial why; machine = refl; says = a.says; reaches = resting g old new a.rests }
 reached g old new (Ok (Ask.Call call)) bytes status a =
     record {
-      out = replied (kind_of call.cmd) (answer old.farm.farm call);
+      out = out_of_answer (kind_of call.cmd) (answer old.farm.farm call);
       machine = refl;
       says = a.says;
       reaches = record { opened = a.stays_open ∙ sym a.was_open; farm = a.farm; stands = a.stands };
@@ -255,14 +255,14 @@ calls_through before between first call asks =
 
 pub told_again : (F : Farm) (before between after : List Exchange) (first second : Exchange) (call repeated : Call) (key : List ℕ) (reply : Reply)
     → IsSentAgain F before between after first second call repeated key reply
-    → second.told ≡ replied (kind_of repeated.cmd) (again call reply repeated)
+    → second.told ≡ out_of_answer (kind_of repeated.cmd) (answer_again call reply repeated)
 told_again F before between after first second call repeated key reply is =
     let placed : AreTold F ((before ++ first ∷ between) ++ second ∷ after) =
     subst (λ l. AreTold F l) (sym (append_assoc before (first ∷ between) (second ∷ after))) is.told in
     let says = told_at F (before ++ first ∷ between) after second placed in
-    let machine : second.told ≡ replied (kind_of repeated.cmd) (answer (run F (calls_of (before ++ first ∷ between))) repeated) =
+    let machine : second.told ≡ out_of_answer (kind_of repeated.cmd) (answer (run F (calls_of (before ++ first ∷ between))) repeated) =
     subst (λ asked. MachineSays (run F (calls_of (before ++ first ∷ between))) asked second.told) is.asks_again says in
     machine
-    ∙ ap (λ calls. replied (kind_of repeated.cmd) (answer (run F calls) repeated)) (calls_through before between first call is.asks)
-    ∙ ap (λ told. replied (kind_of repeated.cmd) told)
+    ∙ ap (λ calls. out_of_answer (kind_of repeated.cmd) (answer (run F calls) repeated)) (calls_through before between first call is.asks)
+    ∙ ap (λ told. out_of_answer (kind_of repeated.cmd) told)
     (again_kept F (calls_of before) (calls_of between) call repeated key reply is.keyed is.same_key is.same_caller is.accepted)

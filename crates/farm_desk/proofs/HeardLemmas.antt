@@ -12,7 +12,7 @@ use Rattle.farm_wire.specs.Asked.{ask}
 use Rattle.farm_wire.specs.Reading.{Denial, Denies, refused, other_methods}
 use Rattle.farm_wire.specs.declared.ask.Ask.{Ask}
 use Rattle.farm_wire.specs.declared.fault.AskFault.{AskFault}
-use Rattle.farm_desk.specs.Heard.{told, unheard, IsMeant, Asks, Hears, HearsWhole, Gives}
+use Rattle.farm_desk.specs.Heard.{plain_ask, reason_unheard, IsMeant, Asks, Hears, HearsWhole, Gives}
 use Rattle.farm_desk.specs.declared.hear.Unheard.{Unheard}
 
 -- what the reader says of an input that it tells
@@ -28,7 +28,7 @@ asks_meant used AtEnd now (Err (other_methods allowed)) meant = meant
 -- the bytes of a request mean what it means
 pub meant_of : (used : List ℕ) (taken : Taken) (now : ℕ) (what : Result Ask Denial)
     → used ≡ taken.bytes.items → IsRequest used taken.head
-    → ((request : Request) → Spells taken.bytes.items taken.head request → ask request now ≡ told what)
+    → ((request : Request) → Spells taken.bytes.items taken.head request → ask request now ≡ plain_ask what)
     → IsMeant used now what
 meant_of used taken now what same whole means =
     let request : Request = request_of whole.0 (drop taken.head used) in
@@ -42,7 +42,7 @@ meant_of used taken now what same whole means =
 
 pub hears_meant : (input rest : Option (List ℕ)) (now : ℕ) (Spent : Type 0) (taken : Taken) (what : Result Ask Denial)
     → Known input rest Spent (Ok taken)
-    → ((request : Request) → Spells taken.bytes.items taken.head request → ask request now ≡ told what)
+    → ((request : Request) → Spells taken.bytes.items taken.head request → ask request now ≡ plain_ask what)
     → Hears input rest now what
 hears_meant None rest now Spent taken what known means = tt
 hears_meant (Some bytes) rest now Spent taken what known means =
@@ -70,7 +70,7 @@ hears_nothing (Some bytes) rest Spent known = record { used = known.0; taken = k
 
 -- no request was read
 pub gives_unread : (input rest : Option (List ℕ)) (now : ℕ) (Spent : Type 0) (fault : WireFault)
-    → Known input rest Spent (Err fault) → FailsAfter input rest Spent fault → Gives input rest now Spent (Err (unheard fault))
+    → Known input rest Spent (Err fault) → FailsAfter input rest Spent fault → Gives input rest now Spent (Err (reason_unheard fault))
 gives_unread input rest now Spent NoMemory known fails = hears_nothing input rest Spent known
 gives_unread input rest now Spent Read known fails = fails.2
 gives_unread input rest now Spent Write known fails = absurd fails.2

@@ -10,8 +10,8 @@ use Rattle.farm_types.specs.Machine.{Answered, Changed, Repeated, Denied, answer
 use Rattle.farm_types.specs.declared.calls.Answer.{Answer}
 use Rattle.farm_types.specs.declared.calls.Call.{Call}
 use Rattle.farm_types.specs.declared.refusal.Refusal.{Refusal}
-use Rattle.farm_core.specs.Answers.{IsChange, shown}
-use Rattle.farm_keep.specs.Kept.{Kept, Keeps, KeepsFarm, KeepsEither, OnNoChange}
+use Rattle.farm_core.specs.Answers.{IsChange, answer_of}
+use Rattle.farm_keep.specs.Kept.{Kept, Keeps, KeepsFarm, KeepsEither, IfNoChange}
 use Rattle.farm_keep.specs.Runs.{answers_of}
 use Rattle.farm_keep.specs.declared.fault.KeepFault.{KeepFault}
 use Rattle.farm_keep.proofs.RunLemmas.{answers_more, next_change, run_more}
@@ -153,7 +153,7 @@ whole_at g old new calls i done far same within opened farm stands = record {
 }
 
 -- a refusal leaves the keeper
-pub rests_when_denied : (a : Answer) (code : ℕ) (P : Type 0) → shown a ≡ Denied code → OnNoChange a P → P
+pub rests_when_denied : (a : Answer) (code : ℕ) (P : Type 0) → answer_of a ≡ Denied code → IfNoChange a P → P
 rests_when_denied (Answer.Did reply changes) code P denied rests = absurd (cc)
 rests_when_denied (Answer.Kept reply) code P denied rests = rests
 rests_when_denied (Answer.Refused refusal) code P denied rests = rests

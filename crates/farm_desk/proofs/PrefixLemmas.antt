@@ -14,7 +14,7 @@ use Rattle.farm_keep.specs.declared.fault.KeepFault.{KeepFault}
 use Rattle.farm_wire.specs.Reading.{Denial}
 use Rattle.farm_wire.specs.declared.ask.Ask.{Ask}
 use Rattle.farm_desk.specs.Heard.{Hears}
-use Rattle.farm_desk.specs.Response.{IsResponse, IsResponseTo, RestsOrIsDone, Cause}
+use Rattle.farm_desk.specs.Response.{IsResponse, IsResponseTo, RestsOrIsDone, IsCause}
 use Rattle.farm_desk.specs.Imports.{Reaches}
 use Rattle.farm_desk.specs.Conversations.{Desk, Converses, Talk, ConverseInTurn, calls_in, AsksCalls, IsDoneOf, LeavesOpen, LeavesBy, IsClosing, OpenKeepsDone, ClosedKeepsPrefix}
 use Rattle.farm_desk.specs.declared.fault.DeskFault.{DeskFault}
@@ -177,7 +177,7 @@ keeps_either g k F G keeps clean db may = inl ((keeps clean).left db may)
 
 cut_by : {S : Type 0} (g : Ghosts S) (old new : Desk S) (now : ℕ) (end : Result ℕ DeskFault) (what : Ask) (fault : KeepFault)
     → old.keeper.is_open ≡ true → (end ≡ Err (DeskFault.Keep fault)) ⊎ (end ≡ Err DeskFault.Write) → Hears old.input new.input now (Ok what)
-    → Cause g old.keeper new.keeper what fault → IsCut g old new now end
+    → IsCause g old.keeper new.keeper what fault → IsCut g old new now end
 cut_by g old new now end what KeepFault.Closed opened same hears cause = both_ways old.keeper.is_open opened cause.was_closed
 cut_by g old new now end (Ask.Call call) KeepFault.NoMemory opened same hears cause =
     let kept : Keeps g old.keeper → KeepsFarm g new.keeper old.keeper.farm.farm =

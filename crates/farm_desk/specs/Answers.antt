@@ -25,15 +25,15 @@ abbrev pub refusal : ℕ → Out
 refusal code = Out.Refused (record { code = code })
 
 -- what a denied request is told
-abbrev pub denied : Denial → Out
-denied (refused code) = refusal code
-denied (other_methods allowed) = Out.Method allowed
+abbrev pub out_of_denial : Denial → Out
+out_of_denial (refused code) = refusal code
+out_of_denial (other_methods allowed) = Out.Method allowed
 
 -- what a caller is told of the machine's answer to a command of that kind
-abbrev pub replied : ℕ → Answered → Out
-replied kind (Changed reply) = Out.Reply kind reply
-replied kind (Repeated reply) = Out.Reply kind reply
-replied kind (Denied code) = refusal code
+abbrev pub out_of_answer : ℕ → Answered → Out
+out_of_answer kind (Changed reply) = Out.Reply kind reply
+out_of_answer kind (Repeated reply) = Out.Reply kind reply
+out_of_answer kind (Denied code) = refusal code
 
 -- the answer lists these rows
 abbrev pub ListsTypes : List TypeRow → Out → Type 0
@@ -83,7 +83,7 @@ pub record Says (out : Out) (bytes : List ℕ) (status : ℕ) : Type 0 where
 -- the request is denied, and the keeper stays as it was
 pub record Refuses {S : Type 0} (old new : Kept S) (why : Denial) (bytes : List ℕ) (status : ℕ)
     : Type 0 where
-  pub says : Says (denied why) bytes status
+  pub says : Says (out_of_denial why) bytes status
   pub rests : new ≡ old
 
 -- the call is done: the answer is the machine's, the farm is the machine's, and the store stands
@@ -92,7 +92,7 @@ pub record Does {S : Type 0} (g : Ghosts S) (old new : Kept S) (call : Call) (by
     (status : ℕ) : Type 0 where
   pub was_open : old.is_open ≡ true
   pub stays_open : new.is_open ≡ true
-  pub says : Says (replied (kind_of call.cmd) (answer old.farm.farm call)) bytes status
+  pub says : Says (out_of_answer (kind_of call.cmd) (answer old.farm.farm call)) bytes status
   pub farm : new.farm.farm ≡ step old.farm.farm call
   pub stands : Keeps g old → Keeps g new
 

@@ -10,13 +10,13 @@ use Rattle.farm_types.specs.declared.calls.Call.{Call}
 use Rattle.farm_types.specs.declared.rows.Reply.{Reply}
 use Rattle.farm_core.specs.Answers.{IsChange}
 use Rattle.farm_keep.specs.Kept.{Kept, Keeps, KeepsFarm, KeepsEither}
-use Rattle.farm_keep.specs.Restarts.{again}
+use Rattle.farm_keep.specs.Restarts.{answer_again}
 use Rattle.farm_keep.specs.declared.fault.KeepFault.{KeepFault}
 use Rattle.farm_wire.specs.Reading.{Denial}
 use Rattle.farm_wire.specs.declared.ask.Ask.{Ask}
 use Rattle.farm_wire.specs.declared.answers.Out.{Out}
 use Rattle.farm_desk.specs.Heard.{Asks, Hears}
-use Rattle.farm_desk.specs.Answers.{Says, IsView, denied, replied}
+use Rattle.farm_desk.specs.Answers.{Says, IsView, out_of_denial, out_of_answer}
 use Rattle.farm_desk.specs.Response.{IsResponse}
 use Rattle.farm_desk.specs.Ends.{IsAnswered, IsUnwritten, IsUnread, IsToldBy}
 use Rattle.farm_desk.specs.Faults.{ended_order}
@@ -119,8 +119,8 @@ calls_of exchanges = flat_map (λ x. calls_in x.asked) exchanges
 
 -- what the machine says of that farm to what is asked
 abbrev pub MachineSays : Farm → Result Ask Denial → Out → Type 0
-MachineSays F (Err why) out = out ≡ denied why
-MachineSays F (Ok (Ask.Call call)) out = out ≡ replied (kind_of call.cmd) (answer F call)
+MachineSays F (Err why) out = out ≡ out_of_denial why
+MachineSays F (Ok (Ask.Call call)) out = out ≡ out_of_answer (kind_of call.cmd) (answer F call)
 MachineSays F (Ok (Ask.View view)) out = IsView view F out
 
 -- each is told what the machine says of the farm after the calls before it
@@ -174,11 +174,11 @@ pub record IsSentAgain (F : Farm) (before between after : List Exchange) (first 
   pub accepted : answer (run F (calls_of before)) call ≡ Changed reply
 
 -- the second is told the kept reply, or is refused for its key or its moment
-abbrev pub ToldAgain : Type 0
-ToldAgain = (F : Farm) (before between after : List Exchange) (first second : Exchange)
+abbrev pub IsToldAgain : Type 0
+IsToldAgain = (F : Farm) (before between after : List Exchange) (first second : Exchange)
     (call repeated : Call) (key : List ℕ) (reply : Reply)
     → IsSentAgain F before between after first second call repeated key reply
-    → second.told ≡ replied (kind_of repeated.cmd) (again call reply repeated)
+    → second.told ≡ out_of_answer (kind_of repeated.cmd) (answer_again call reply repeated)
 
 -- ---- however they end
 

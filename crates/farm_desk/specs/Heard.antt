@@ -4,23 +4,23 @@ use Rattle.std.specs.Io.KnownBytes.{Consumes}
 use Rattle.farm_http.specs.Request.{Request}
 use Rattle.farm_http.specs.Requests.{IsRefused, IsRequest, Spells}
 use Rattle.farm_http.specs.declared.fault.WireFault.{WireFault}
-use Rattle.farm_wire.specs.Asked.{Asked, ask, asked}
+use Rattle.farm_wire.specs.Asked.{Asked, ask, shown_ask}
 use Rattle.farm_wire.specs.Reading.{Denial, refused, other_methods}
 use Rattle.farm_wire.specs.declared.ask.Ask.{Ask}
 use Rattle.farm_wire.specs.declared.fault.AskFault.{AskFault}
 use Rattle.farm_desk.specs.declared.hear.Unheard.{Unheard}
 
 -- what is asked, or why nothing is, in the words of the definitions
-abbrev pub told : Result Ask Denial → Result Asked Denial
-told (Ok what) = Ok (asked what)
-told (Err denial) = Err denial
+abbrev pub plain_ask : Result Ask Denial → Result Asked Denial
+plain_ask (Ok what) = Ok (shown_ask what)
+plain_ask (Err denial) = Err denial
 
 -- the bytes are a request, and this is its meaning at that moment
 pub record IsMeant (used : List ℕ) (now : ℕ) (what : Result Ask Denial) : Type 0 where
   pub head : ℕ
   pub request : Request
   pub spells : Spells used head request
-  pub means : ask request now ≡ told what
+  pub means : ask request now ≡ plain_ask what
 
 -- the bytes ask this at that moment: they are refused as no request, or they are a request that
 -- means it
@@ -62,11 +62,11 @@ HearsNothing input rest now (AskFault.Method allowed) =
     Hears input rest now (Err (other_methods allowed))
 
 -- why nothing is heard where no request was read
-abbrev pub unheard : WireFault → Unheard
-unheard WireFault.NoMemory = Unheard.Unasked AskFault.NoMemory
-unheard (WireFault.Refused refusal) = Unheard.Unasked (AskFault.Refused refusal)
-unheard WireFault.Read = Unheard.Read
-unheard WireFault.Write = Unheard.Read
+abbrev pub reason_unheard : WireFault → Unheard
+reason_unheard WireFault.NoMemory = Unheard.Unasked AskFault.NoMemory
+reason_unheard (WireFault.Refused refusal) = Unheard.Unasked (AskFault.Refused refusal)
+reason_unheard WireFault.Read = Unheard.Read
+reason_unheard WireFault.Write = Unheard.Read
 
 -- what hearing a request gives
 abbrev pub Gives : Option (List ℕ) → Option (List ℕ) → ℕ → Type 0 → Result Ask Unheard → Type 0

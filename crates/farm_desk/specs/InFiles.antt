@@ -16,7 +16,7 @@ use Rattle.farm_store.specs.Columns.{IsOfSchema, Tables, rows_of}
 use Rattle.farm_store.specs.Holds.{Holds}
 use Rattle.farm_store.specs.declared.schema.TheConstants.{FIRST_SCHEMA}
 use Rattle.farm_store.specs.Schema.{no_schema}
-use Rattle.farm_types.specs.Farm.{Farm, empty}
+use Rattle.farm_types.specs.Farm.{Farm, empty_farm}
 use Rattle.farm_types.specs.Sound.{IsSound}
 use Rattle.farm_types.specs.Machine.{run}
 use Rattle.farm_types.specs.declared.calls.Call.{Call}
@@ -65,9 +65,9 @@ pub record FindsFarm {D : Type 0} {g : Ghosts D} (image : Image) (k : Kept (File
 pub record MakesFarm {D : Type 0} {g : Ghosts D} (image : Image) (k : Kept (FileStore D g))
     : Type 0 where
   pub opened : k.is_open ≡ true
-  pub farm : k.farm.farm ≡ empty
+  pub farm : k.farm.farm ≡ empty_farm
   pub free : HasCleanDisk (file_state k.conn) → (T : Tables) → ¬ HoldsTables image T
-  pub stands : HoldsNoTable image → KeepsFarm over_files k empty
+  pub stands : HoldsNoTable image → KeepsFarm over_files k empty_farm
 
 -- ---- why there is none
 
@@ -121,7 +121,7 @@ pub record FindsTables {S : Type 0} (g : store.Ghosts S) (conn : Held S) (k : Ke
 -- showed no table at all, its store keeps the empty farm
 pub record MakesTables {S : Type 0} (g : store.Ghosts S) (conn : Held S) (k : Kept S) : Type 0 where
   pub opened : k.is_open ≡ true
-  pub farm : k.farm.farm ≡ empty
+  pub farm : k.farm.farm ≡ empty_farm
   pub clean : doubt (state g conn).is_clean ≤ doubt (state g k.conn).is_clean
   pub free : HasCleanDisk (state g k.conn) → (T : Tables) → ¬ OpensTables g conn T
   pub keeps : (state g conn).now.schema ≡ no_schema → Keeps g k

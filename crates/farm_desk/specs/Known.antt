@@ -6,15 +6,15 @@ use Rattle.farm_desk.specs.declared.known.list.KnownClients.{KnownClients}
 use Rattle.farm_desk.specs.declared.known.Sent.{Sent}
 
 -- its request is all that it sends, and nothing was written to it yet
-abbrev pub came : Sent → Came
-came sent = record { now = sent.now; input = Some sent.bytes.now; output = Some [] }
+abbrev pub came_of : Sent → Came
+came_of sent = record { now = sent.now; input = Some sent.bytes.now; output = Some [] }
 
 -- what it sent beyond its request, and what it was answered
-abbrev pub went : Gone → Went
-went gone = record { input = Some gone.rest.now; output = Some gone.answer.items }
+abbrev pub went_of : Gone → Went
+went_of gone = record { input = Some gone.rest.now; output = Some gone.answer.items }
 
 abbrev pub clientele_of : KnownClients → Clientele
 clientele_of clients = record {
-  coming = map came (drop clients.place clients.all.now);
-  gone = map went clients.gone.items;
+  coming = map came_of (drop clients.place clients.all.now);
+  gone = map went_of clients.gone.items;
 }

@@ -63,18 +63,18 @@ pub record WasClosed {S : Type 0} (old new : Kept S) : Type 0 where
 
 -- why the keeper is closed: 61 for calls and views alike, 1 and 60 only where a call changes the
 -- farm
-abbrev pub Cause : {S : Type 0} → Ghosts S → Kept S → Kept S → Ask → KeepFault → Type 0
-Cause g old new what KeepFault.Closed = WasClosed old new
-Cause g old new (Ask.Call call) KeepFault.NoMemory = LacksMemory old new call
-Cause g old new (Ask.Call call) KeepFault.Store = LosesStore g old new call
-Cause g old new what fault = ⊥
+abbrev pub IsCause : {S : Type 0} → Ghosts S → Kept S → Kept S → Ask → KeepFault → Type 0
+IsCause g old new what KeepFault.Closed = WasClosed old new
+IsCause g old new (Ask.Call call) KeepFault.NoMemory = LacksMemory old new call
+IsCause g old new (Ask.Call call) KeepFault.Store = LosesStore g old new call
+IsCause g old new what fault = ⊥
 
 -- the keeper gave this fault: the constant answer of its number is due, and the keeper is closed
 pub record Closes {S : Type 0} (g : Ghosts S) (old new : Kept S) (what : Ask) (fault : KeepFault)
     (bytes : List ℕ) : Type 0 where
   pub says : bytes ≡ reply_bytes (refusal (fault_code fault))
   pub is_closed : new.is_open ≡ false
-  pub cause : Cause g old new what fault
+  pub cause : IsCause g old new what fault
 
 abbrev pub ClosesIfAsked : {S : Type 0} → Ghosts S → Kept S → Kept S → Result Ask Denial → KeepFault
     → List ℕ → Type 0

@@ -2,11 +2,11 @@
 ghost use Rattle.std.specs.Prelude.{◌≡◌, ◌≤◌, false, map, Ok};
 ghost use Rattle.sqlite.specs.Held.{state};
 ghost use Rattle.sqlite_trees.specs.View.{doubt};
-ghost use Rattle.farm_core.specs.Answers.{shown as told};
+ghost use Rattle.farm_core.specs.Answers.{answer_of};
 ghost use Rattle.farm_types.specs.Farm.{job_of};
 ghost use Rattle.farm_types.specs.Pick.{queue, shown_claim};
 ghost use Rattle.farm_types.specs.Refuse.{kind_of};
-ghost use Rattle.farm_desk.specs.Answers.{replied, IsView, ListsClaims, ShowsJob};
+ghost use Rattle.farm_desk.specs.Answers.{out_of_answer, IsView, ListsClaims, ShowsJob};
 ghost use Rattle.farm_desk.specs.Response.{IsResponseTo};
 ghost use Rattle.farm_desk.specs.Made.{IsMadeOfOne, bytes_in};
 ghost use Rattle.farm_wire.specs.declared.ask.Ask.{Ask as Asking};
@@ -49,7 +49,7 @@ fn response_to_call<S: Alter>(alloc: Global, keeper: &mut Keeper<S>, call: &Call
 
 /// What a caller is told of the machine's answer.
 fn reply_of(call: &Call, answer: &Answer) -> Out<'static>
-    ensures { result ≡ replied (kind_of call.entry.now.cmd) (told answer.now) }
+    ensures { result ≡ out_of_answer (kind_of call.entry.now.cmd) (answer_of answer.now) }
 {
     match answer {
         Answer::Did(reply, _) | Answer::Kept(reply) => Out::Reply(call.cmd.kind(), *reply),

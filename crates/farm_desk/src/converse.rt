@@ -2,7 +2,7 @@
 ghost use Rattle.std.specs.Prelude.{◌≡◌, ◌≢◌, ◌≤◌, ◌↔◌, false, Err, IfOk, IfErr, IsTrue};
 ghost use Rattle.sqlite.specs.Held.{state};
 ghost use Rattle.sqlite_trees.specs.View.{doubt};
-ghost use Rattle.farm_http.specs.Counts.{unread, unwritten, reader_of, reading_of, writer_of};
+ghost use Rattle.farm_http.specs.Counts.{nothing_read, nothing_written, reader_of, reading_of, writer_of};
 ghost use Rattle.farm_http.specs.Counts.{writing_of, IsSameReader, IsSameWriter, IsSpent};
 ghost use Rattle.farm_desk.specs.Response.{IsResponse};
 ghost use Rattle.farm_desk.specs.Ends.{IsAnswered, IsUnwritten, IsUnread, IsTold, IsToldBy};
@@ -68,8 +68,8 @@ pub fn converse_counted<R: Read, W: Write, S: Alter>(
     writer: &mut CountedWriter<'_, W>,
     now: u64,
 ) -> Result<u16, DeskFault>
-    requires unread { reading_of reader.old ≡ unread }
-    requires unwritten { writing_of writer.old ≡ unwritten }
+    requires unread { reading_of reader.old ≡ nothing_read }
+    requires unwritten { writing_of writer.old ≡ nothing_written }
     ensures same_reader { IsSameReader reader.old reader.new }
     ensures same_writer { IsSameWriter writer.old writer.new }
 
@@ -113,8 +113,8 @@ impl Server {
         writer: &mut CountedWriter<'_, W>,
         now: u64,
     ) -> Result<u16, DeskFault>
-        requires unread { reading_of reader.old ≡ unread }
-        requires unwritten { writing_of writer.old ≡ unwritten }
+        requires unread { reading_of reader.old ≡ nothing_read }
+        requires unwritten { writing_of writer.old ≡ nothing_written }
         ensures same_reader { IsSameReader reader.old reader.new }
         ensures same_writer { IsSameWriter writer.old writer.new }
 
@@ -146,7 +146,7 @@ impl Server {
         reader: &mut CountedReader<'_, R>,
         now: u64,
     ) -> Result<Response, DeskFault>
-        requires { reading_of reader.old ≡ unread }
+        requires { reading_of reader.old ≡ nothing_read }
         ensures same { IsSameReader reader.old reader.new }
         ensures response { IfOk result (λ response. IsResponse S.Store keeper.old keeper.new
             (R.remaining (reader_of reader.old)) (R.remaining (reader_of reader.new)) now

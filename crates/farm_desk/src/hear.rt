@@ -1,9 +1,9 @@
 //! Hearing a request: its bytes, and what they ask.
 ghost use Rattle.std.specs.Prelude.{◌≡◌};
-ghost use Rattle.farm_http.specs.Counts.{unread, reader_of, reading_of, IsSameReader, IsSpent};
+ghost use Rattle.farm_http.specs.Counts.{nothing_read, reader_of, reading_of, IsSameReader, IsSpent};
 ghost use Rattle.farm_http.specs.Request.{Request};
 ghost use Rattle.farm_http.specs.Requests.{Spells};
-ghost use Rattle.farm_wire.specs.Asked.{ask, asked};
+ghost use Rattle.farm_wire.specs.Asked.{ask, shown_ask};
 ghost use Rattle.farm_wire.specs.Reading.{Meets};
 ghost use Rattle.farm_desk.specs.Heard.{Gives};
 
@@ -24,9 +24,9 @@ pub(crate) enum Unheard {
 }
 
 impl From<WireFault> for Unheard {
-    ghost use Rattle.farm_desk.specs.Heard.{unheard};
+    ghost use Rattle.farm_desk.specs.Heard.{reason_unheard};
 
-    ghost from_gives = { λ fault e. e ≡ unheard fault };
+    ghost from_gives = { λ fault e. e ≡ reason_unheard fault };
 
     fn from(fault: WireFault) -> Unheard {
         match fault {
@@ -54,7 +54,7 @@ impl Server {
         reader: &mut CountedReader<'_, R>,
         now: u64,
     ) -> Result<Ask, Unheard>
-        requires { reading_of reader.old ≡ unread }
+        requires { reading_of reader.old ≡ nothing_read }
         ensures same { IsSameReader reader.old reader.new }
         ensures gives { Gives (R.remaining (reader_of reader.old))
             (R.remaining (reader_of reader.new)) now
@@ -67,7 +67,7 @@ impl Server {
     /// What a request asks at a moment.
     fn asked_of(&self, taken: &Taken, now: u64) -> Result<Ask, AskFault>
         ensures { (request : Request) → Spells taken.now.bytes.items taken.now.head request
-            → Meets asked result (ask request now) }
+            → Meets shown_ask result (ask request now) }
     {
         match &self.routes {
             Some(routes) => routes.ask(self.alloc, taken, now),

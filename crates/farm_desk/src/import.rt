@@ -27,14 +27,14 @@ pub struct ImportEnd {
 
 impl ImportEnd {
     ghost use Rattle.std.specs.Prelude.{◌+◌, ◌^◌, ◌<◌};
-    ghost use Rattle.farm_core.specs.Answers.{shown};
+    ghost use Rattle.farm_core.specs.Answers.{answer_of};
     ghost use Rattle.farm_desk.specs.Imports.{Counts};
 
     /// Counts an answer, or gives the refusal that it is.
     fn count(&mut self, answer: &Answer) -> Option<Refusal>
         requires accepted { self.old.accepted + 1 < 2 ^ 64 }
         requires kept { self.old.kept + 1 < 2 ^ 64 }
-        ensures { Counts (shown answer.now) self.old self.new result }
+        ensures { Counts (answer_of answer.now) self.old self.new result }
     {
         match answer {
             Answer::Did(_, _) => {

@@ -1,6 +1,6 @@
 //! Clients that are known beforehand.
 ghost use Rattle.std.specs.Prelude.{◌≡◌, ◌+◌, ◌<◌, IfOk, [], map, length, vec_capacity, Some};
-ghost use Rattle.farm_desk.specs.Known.{came, clientele_of};
+ghost use Rattle.farm_desk.specs.Known.{came_of, clientele_of};
 
 mod list;
 
@@ -26,7 +26,7 @@ impl<'a> KnownClients<'a> {
     /// Clients that come in this order, none of whom has gone.
     pub fn new(alloc: Global, all: &'a [Sent<'a>]) -> Result<KnownClients<'a>, AllocError>
         ensures { IfOk result (λ clients. clientele_of clients ≡ record {
-          coming = map came all.now;
+          coming = map came_of all.now;
           gone = [];
         }) }
     {

@@ -3,7 +3,7 @@ ghost use Rattle.std.specs.Prelude.{◌≤◌, ◌++◌, ◌↔◌, List, OnOk, 
 ghost use Rattle.sqlite.specs.Held.{state};
 ghost use Rattle.sqlite_trees.specs.View.{doubt};
 ghost use Rattle.farm_desk.specs.Conversations.{Desk, Talk, ConverseInTurn, ConverseApart, desk};
-ghost use Rattle.farm_desk.specs.Conversations.{AnswersAll, StopsAt, AnsweredActAsRun, ToldAgain};
+ghost use Rattle.farm_desk.specs.Conversations.{AnswersAll, StopsAt, AnsweredActAsRun, IsToldAgain};
 ghost use Rattle.farm_desk.specs.Conversations.{OpenKeepsDone, ClosedKeepsPrefix};
 ghost use Rattle.farm_desk.specs.InFiles.{LeavesFiles};
 ghost use Rattle.farm_desk.specs.Upgrades.{LeavesEitherFile};
@@ -60,7 +60,7 @@ pub fn answered_act_as_run<S: Alter>()
 /// A request that is sent again under its key is told the kept reply, or is refused for its key or
 /// its moment: a client that gets no answer may send it again until it gets one.
 pub fn request_told_again()
-    ensures { ToldAgain }
+    ensures { IsToldAgain }
 {}
 
 /// However conversations end, the store keeps the farm after the calls that were done. Where one of

@@ -1,7 +1,7 @@
 //! Carrying out an order.
 ghost use Rattle.std.specs.Prelude.{◌≡◌, ◌≤◌, ◌⊎◌, true, IfOk, IfErr, OnOk};
 ghost use Rattle.std.specs.Io.KnownBytes.{Appends};
-ghost use Rattle.farm_types.specs.Farm.{empty};
+ghost use Rattle.farm_types.specs.Farm.{empty_farm};
 ghost use Rattle.farm_desk.specs.Conversations.{AnswersOne, desk};
 ghost use Rattle.farm_desk.specs.Imports.{IsImport};
 ghost use Rattle.farm_desk.specs.Lines.{counts_line, port_line, TellsImport};
@@ -128,7 +128,7 @@ fn answer_one<R: Read, W: Write, S: Alter>(
 
 /// The keeper of an empty farm in memory.
 fn memory_keeper(alloc: Global) -> Result<Keeper<MemStore>, DeskFault>
-    ensures made { IfOk result (λ keeper. (keeper.is_open ≡ true) × (keeper.farm.farm ≡ empty)) }
+    ensures made { IfOk result (λ keeper. (keeper.is_open ≡ true) × (keeper.farm.farm ≡ empty_farm)) }
     ensures fault { IfErr result (λ fault. (fault ≡ DeskFault.NoMemory)
         ⊎ (fault ≡ DeskFault.Keep KeepFault.Store)) }
 {

@@ -7,7 +7,8 @@ use Rattle.httparse.specs.Grammar.{RequestHead, ReadsRequest, LineEnd, crlf, lf,
 use Rattle.httparse.specs.Spans.{IsRequestOf, header_bytes, name_and_value}
 use Rattle.httparse.specs.declared.spans.HeaderSpan.{HeaderSpan}
 use Rattle.httparse.specs.declared.spans.RequestSpans.{RequestSpans}
-use Rattle.farm_http.specs.Heads.{IsHead, IsOpen, OpenBelow}
+use Rattle.farm_types.specs.Limits.{longest_head, most_fields}
+use Rattle.farm_http.specs.Heads.{IsHead, IsOpen, IsOpenBelow}
 use Rattle.farm_http.specs.Faults.{BodyFails, HeadFails}
 use Rattle.farm_http.specs.declared.fault.WireFault.{WireFault}
 use Rattle.farm_http.specs.declared.fault.WireFault.TheVariants.{NoMemory, Read, Write, Refused}
@@ -32,7 +33,7 @@ unfolding print_request
 head_ends_line h = after_ends_line _ _ (after_ends_line _ _ (end_ends_line h.last))
 
 -- no open line lies before the end of a head
-pub head_exact : (buf : List ℕ) (h : RequestHead) (rest : List ℕ) → ReadsRequest buf h rest → OpenBelow (length buf - 1) buf → rest ≡ []
+pub head_exact : (buf : List ℕ) (h : RequestHead) (rest : List ℕ) → ReadsRequest buf h rest → IsOpenBelow (length buf - 1) buf → rest ≡ []
 head_exact buf h [] r o = refl
 head_exact buf h (x ∷ xs) r o =
     let end = head_ends_line h in
@@ -47,8 +48,8 @@ head_exact buf h (x ∷ xs) r o =
     absurd ((o (length front) below at).none h [] (r.0, cut ∙ sym (append-nil (print_request h))))
 
 -- a parse that is complete has found a head that fits
-pub head_of : (buf : List ℕ) (headers : List HeaderSpan) (r : RequestSpans) → IsRequestOf buf headers r → length headers ≡ 64 → length buf ≤ 8192
-    → OpenBelow (length buf - 1) buf → (h : RequestHead) × IsHead buf h
+pub head_of : (buf : List ℕ) (headers : List HeaderSpan) (r : RequestSpans) → IsRequestOf buf headers r → length headers ≡ most_fields → length buf ≤ longest_head
+    → IsOpenBelow (length buf - 1) buf → (h : RequestHead) × IsHead buf h
 head_of buf headers r found room short o =
     let h = found.0 in
     let at = found.1 in
@@ -64,23 +65,23 @@ head_of buf headers r found room short o =
     )
 
 -- a byte behind them leaves the lines before it
-pub open_push : (bytes : List ℕ) (b : ℕ) → OpenBelow (length bytes) bytes → OpenBelow (length bytes) (bytes ++ b ∷ [])
+pub open_push : (bytes : List ℕ) (b : ℕ) → IsOpenBelow (length bytes) bytes → IsOpenBelow (length bytes) (bytes ++ b ∷ [])
 open_push bytes b o i below at =
     subst IsOpen (sym (take-append-le (i + 1) bytes (b ∷ []) (omega arith))) (o i below (sym (get_or-append bytes (b ∷ []) 0 i below) ∙ at))
 
 -- they are all its lines but the last
-pub open_pushed : (bytes all : List ℕ) (b : ℕ) → all ≡ bytes ++ b ∷ [] → OpenBelow (length bytes) bytes → OpenBelow (length all - 1) all
+pub open_pushed : (bytes all : List ℕ) (b : ℕ) → all ≡ bytes ++ b ∷ [] → IsOpenBelow (length bytes) bytes → IsOpenBelow (length all - 1) all
 open_pushed bytes all b is o =
     let long : length all ≡ length bytes + 1 = ap length is ∙ length-append bytes (b ∷ []) in
     let before : length bytes ≡ length all - 1 = omega (arith, long) in
-    subst (λ n. OpenBelow n all) before (subst (OpenBelow (length bytes)) (sym is) (open_push bytes b o))
+    subst (λ n. IsOpenBelow n all) before (subst (IsOpenBelow (length bytes)) (sym is) (open_push bytes b o))
 
 -- one more line that is open, or one more byte of a line
-pub open_more : (bytes : List ℕ) → 0 < length bytes → OpenBelow (length bytes - 1) bytes → (get_or bytes (length bytes - 1) 0 ≡ 10 → IsOpen bytes) → OpenBelow (length bytes) bytes
+pub open_more : (bytes : List ℕ) → 0 < length bytes → IsOpenBelow (length bytes - 1) bytes → (get_or bytes (length bytes - 1) 0 ≡ 10 → IsOpen bytes) → IsOpenBelow (length bytes) bytes
 open_more bytes some o last =
     let long : length bytes - 1 + 1 ≡ length bytes = omega arith in
     let whole : take (length bytes - 1 + 1) bytes ≡ bytes = ap (λ n. take n bytes) long ∙ take-length bytes in
-    subst (λ n. OpenBelow n bytes) long (below_more (λ i. get_or bytes i 0 ≡ 10 → IsOpen (take (i + 1) bytes)) (length bytes - 1) o (λ at. subst IsOpen (sym whole) (last at)))
+    subst (λ n. IsOpenBelow n bytes) long (below_more (λ i. get_or bytes i 0 ≡ 10 → IsOpen (take (i + 1) bytes)) (length bytes - 1) o (λ at. subst IsOpen (sym whole) (last at)))
 
 -- bytes whose last is a line feed
 pub ends_line : (bytes : List ℕ) → 0 < length bytes → get_or bytes (length bytes - 1) 0 ≡ 10 → EndsLine bytes
@@ -113,7 +114,7 @@ pub read_more : (a b c : Option (List ℕ)) (old all : List ℕ) (x : ℕ) → a
 read_more a b c old all x is before read = subst (Consumes a c) (sym is) (Consumes-trans a b c old (x ∷ []) before read)
 
 -- where no further byte came, no head did
-pub byte_fails : (old : List ℕ) (AtEnd Spent : Type 0) (e : WireFault) → length old < 8192 → OpenBelow (length old) old → BodyFails 1 [] AtEnd Spent e → HeadFails old AtEnd Spent e
+pub byte_fails : (old : List ℕ) (AtEnd Spent : Type 0) (e : WireFault) → length old < longest_head → IsOpenBelow (length old) old → BodyFails 1 [] AtEnd Spent e → HeadFails old AtEnd Spent e
 byte_fails old AtEnd Spent NoMemory short o f = f
 byte_fails old AtEnd Spent Read short o f = f
 byte_fails old AtEnd Spent Write short o f = f

@@ -13,8 +13,8 @@ pub record Reading : Type 0 where
   pub failed : Bool
 
 -- a reader that was not called
-abbrev pub unread : Reading
-unread = record { calls = 0; failed = false }
+abbrev pub nothing_read : Reading
+nothing_read = record { calls = 0; failed = false }
 
 -- the reader failed, or all turns were taken
 abbrev pub IsSpent : Reading → Type 0
@@ -26,8 +26,8 @@ pub record Writing : Type 0 where
   pub failed : Bool
 
 -- a writer that was not called
-abbrev pub unwritten : Writing
-unwritten = record { calls = 0; failed = false }
+abbrev pub nothing_written : Writing
+nothing_written = record { calls = 0; failed = false }
 
 module _ {R : Type 0} where
   -- the reader whose calls are counted

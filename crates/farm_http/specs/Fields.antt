@@ -37,10 +37,10 @@ abbrev pub field_of : List ℕ → List (List ℕ × List ℕ) → Lookup
 field_of name fields = lookup_of (values_of name fields)
 
 -- the same as a call answers it
-abbrev pub answered : Result (Option (Bor (List ℕ))) Repeated → Lookup
-answered (Ok None) = absent
-answered (Ok (Some value)) = one value.now
-answered (Err e) = several
+abbrev pub called_lookup : Result (Option (Bor (List ℕ))) Repeated → Lookup
+called_lookup (Ok None) = absent
+called_lookup (Ok (Some value)) = one value.now
+called_lookup (Err e) = several
 
 -- the number that a value declares, or the number of the refusal
 abbrev pub declared_length : List ℕ → Result ℕ ℕ
@@ -73,6 +73,6 @@ abbrev pub body_length : RequestHead → Result ℕ ℕ
 body_length h = length_among (fields_of h)
 
 -- a result with its refusal by number
-abbrev pub numbered : {A : Type 0} → Result A Refusal → Result A ℕ
-numbered (Ok a) = Ok a
-numbered (Err refusal) = Err refusal.code
+abbrev pub by_number : {A : Type 0} → Result A Refusal → Result A ℕ
+by_number (Ok a) = Ok a
+by_number (Err refusal) = Err refusal.code

@@ -27,21 +27,21 @@ pub record AreSpansOf (bytes : List ℕ) (headers : List HeaderSpan) (spans : Re
   pub parts : (h : RequestHead) → IsHead bytes h → IsRequestAt bytes headers spans h
 
 -- each prefix that ends in one of the first n bytes, a line feed, is open
-abbrev pub OpenBelow : ℕ → List ℕ → Type 0
-OpenBelow n bytes =
+abbrev pub IsOpenBelow : ℕ → List ℕ → Type 0
+IsOpenBelow n bytes =
     (i : ℕ) → i < n → slice_index bytes i ≡ line_feed → IsOpen (take (i + 1) bytes)
 
 -- what true and false tell of bytes: they are a head, or each of their lines leaves it open
 abbrev pub TellsHead : List ℕ → Bool → Type 0
 TellsHead bytes true = (h : RequestHead) × IsHead bytes h
-TellsHead bytes false = OpenBelow (length bytes) bytes
+TellsHead bytes false = IsOpenBelow (length bytes) bytes
 
 -- the input ends before a head
 pub record EndsEarly (used : List ℕ) (AtEnd : Type 0) (code : ℕ) : Type 0 where
   pub refused : code ≡ bad_request
   pub end : AtEnd
   pub short : length used < longest_head
-  pub open_lines : OpenBelow (length used) used
+  pub open_lines : IsOpenBelow (length used) used
 
 -- the last line, and no line before it, makes a head impossible that has no more fields than it may
 pub record IsHopeless (used : List ℕ) (code : ℕ) : Type 0 where
@@ -49,13 +49,13 @@ pub record IsHopeless (used : List ℕ) (code : ℕ) : Type 0 where
   pub short : length used ≤ longest_head
   pub line : (front : List ℕ) × (used ≡ front ++ line_feed ∷ [])
   pub overflows : RequestOverflows most_fields used
-  pub open_lines : OpenBelow (length used - 1) used
+  pub open_lines : IsOpenBelow (length used - 1) used
 
 -- as many bytes as a head may have are none yet
 pub record IsTooLong (used : List ℕ) (code : ℕ) : Type 0 where
   pub refused : code ≡ too_large
   pub long : length used ≡ longest_head
-  pub open_lines : OpenBelow longest_head used
+  pub open_lines : IsOpenBelow longest_head used
 
 -- these bytes are taken, and there is no head
 abbrev pub HasNoHead : List ℕ → Type 0 → ℕ → Type 0

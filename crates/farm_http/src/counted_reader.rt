@@ -16,13 +16,13 @@ pub struct CountedReader<'a, R> {
 }
 
 impl<'a, R: Read> CountedReader<'a, R> {
-    ghost use Rattle.farm_http.specs.Counts.{unread, reader_of, reading_of, IsSameReader, TellsFailure};
+    ghost use Rattle.farm_http.specs.Counts.{nothing_read, reader_of, reading_of, IsSameReader, TellsFailure};
 
     /// A reader that was not called yet.
     pub fn new(reader: &'a mut R) -> CountedReader<'a, R>
         ensures lent { result.reader.ghost_name ≡ reader.entry.ghost_name }
         ensures reader { reader_of result ≡ reader.old }
-        ensures unread { reading_of result ≡ unread }
+        ensures unread { reading_of result ≡ nothing_read }
     {
         CountedReader {
             reader,

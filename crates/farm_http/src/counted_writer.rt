@@ -19,13 +19,13 @@ pub struct CountedWriter<'a, W> {
 pub struct NotTaken;
 
 impl<'a, W: Write> CountedWriter<'a, W> {
-    ghost use Rattle.farm_http.specs.Counts.{unwritten, writer_of, writing_of, IsSameWriter};
+    ghost use Rattle.farm_http.specs.Counts.{nothing_written, writer_of, writing_of, IsSameWriter};
 
     /// A writer that was not called yet.
     pub fn new(writer: &'a mut W) -> CountedWriter<'a, W>
         ensures lent { result.writer.ghost_name ≡ writer.entry.ghost_name }
         ensures writer { writer_of result ≡ writer.old }
-        ensures unwritten { writing_of result ≡ unwritten }
+        ensures unwritten { writing_of result ≡ nothing_written }
     {
         CountedWriter {
             writer,

@@ -7,8 +7,8 @@ ghost use Rattle.std.specs.Str.{str_eq_ignore_ascii_case};
 ghost use Rattle.std.specs.Str.Parse.{digits_value};
 ghost use Rattle.httparse.specs.Spans.{IsHeaderWithin, header_bytes};
 ghost use Rattle.farm_types.specs.Limits.{longest_body};
-ghost use Rattle.farm_http.specs.Fields.{answered, field_of, declared_length, length_among};
-ghost use Rattle.farm_http.specs.Fields.{numbered};
+ghost use Rattle.farm_http.specs.Fields.{called_lookup, field_of, declared_length, length_among};
+ghost use Rattle.farm_http.specs.Fields.{by_number};
 
 use farm_types::limits::LONGEST_BODY;
 use farm_types::refusal::{BAD_CODING, BAD_REQUEST, Refusal, TOO_LARGE};
@@ -26,7 +26,7 @@ pub(crate) fn find<'b>(
     name: &[u8],
 ) -> Result<Option<&'b [u8]>, Repeated>
     requires { All (IsHeaderWithin (length buf.now)) headers.now }
-    ensures { answered result ≡ field_of name.now (map (header_bytes buf.now) headers.now) }
+    ensures { called_lookup result ≡ field_of name.now (map (header_bytes buf.now) headers.now) }
 {
     let mut found: Option<&'b [u8]> = None;
     for header in headers {
@@ -52,7 +52,7 @@ fn is_named(buf: &[u8], header: &HeaderSpan, name: &[u8]) -> bool
 /// any transfer coding, and a `content-length` that stands twice, is no number or is above that.
 pub(crate) fn declared_among(head: &[u8], headers: &[HeaderSpan]) -> Result<usize, Refusal>
     requires { All (IsHeaderWithin (length head.now)) headers.now }
-    ensures length { numbered result ≡ length_among (map (header_bytes head.now) headers.now) }
+    ensures length { by_number result ≡ length_among (map (header_bytes head.now) headers.now) }
     ensures small { IfOk result (λ n. n ≤ longest_body) }
 {
     let Ok(None) = find(head, headers, b"transfer-encoding") else {
@@ -67,7 +67,7 @@ pub(crate) fn declared_among(head: &[u8], headers: &[HeaderSpan]) -> Result<usiz
 
 /// The number that a `content-length` declares: decimal digits alone, leading zeros too.
 fn declared(value: &[u8]) -> Result<usize, Refusal>
-    ensures number { numbered result ≡ declared_length value.now }
+    ensures number { by_number result ≡ declared_length value.now }
     ensures small { IfOk result (λ n. n ≤ longest_body) }
 {
     if !is_number(value) {

@@ -2,7 +2,7 @@
 ghost use Rattle.std.specs.Prelude.{◌≡◌, ◌+◌, ◌<◌, ◌≤◌, length, take, map};
 ghost use Rattle.httparse.specs.Grammar.{RequestHead};
 ghost use Rattle.httparse.specs.Spans.{IsRequestAt, IsRequestWithin, span_bytes, header_bytes};
-ghost use Rattle.farm_http.specs.Fields.{answered, field_of};
+ghost use Rattle.farm_http.specs.Fields.{called_lookup, field_of};
 ghost use Rattle.farm_http.specs.Heads.{IsHead};
 ghost use Rattle.farm_http.specs.Request.{Request};
 ghost use Rattle.farm_http.specs.Requests.{Spells};
@@ -70,7 +70,7 @@ impl<'a> Parts<'a> {
     /// The value of the only field of that name, whatever the case of its letters, without the
     /// spaces and tabs at both ends. Looks at each field once.
     pub fn field(&self, name: &[u8]) -> Result<Option<&'a [u8]>, Repeated>
-        ensures { answered result ≡ field_of name.now self.now.fields }
+        ensures { called_lookup result ≡ field_of name.now self.now.fields }
     {
         find(self.head, &self.headers[..self.spans.headers], name)
     }

@@ -5,10 +5,10 @@ ghost use Rattle.std.specs.Prelude.{OnOk, OnErr, IsErrOf};
 ghost use Rattle.std.specs.Io.KnownBytes.{Consumes, IsAtEnd, Keeps};
 ghost use Rattle.httparse.specs.Grammar.{RequestHead};
 ghost use Rattle.farm_types.specs.Limits.{longest_body, longest_head, most_fields, most_reads};
-ghost use Rattle.farm_http.specs.Fields.{body_length, numbered};
+ghost use Rattle.farm_http.specs.Fields.{body_length, by_number};
 ghost use Rattle.farm_http.specs.Faults.{HeadFails, BodyFails, FailsAfter, TakesFrom};
-ghost use Rattle.farm_http.specs.Heads.{IsHead, IsHopeless, OpenBelow, TellsHead, AreSpansOf};
-ghost use Rattle.farm_http.specs.Counts.{unread, reader_of, reading_of, IsSameReader, IsSpent};
+ghost use Rattle.farm_http.specs.Heads.{IsHead, IsHopeless, IsOpenBelow, TellsHead, AreSpansOf};
+ghost use Rattle.farm_http.specs.Counts.{nothing_read, reader_of, reading_of, IsSameReader, IsSpent};
 ghost use Rattle.farm_http.specs.Requests.{IsRequest};
 
 use crate::counted_reader::CountedReader;
@@ -53,7 +53,7 @@ pub fn read_request_counted<R: Read>(
     alloc: Global,
     reader: &mut CountedReader<'_, R>,
 ) -> Result<Taken, WireFault>
-    requires fresh { reading_of reader.old ≡ unread }
+    requires fresh { reading_of reader.old ≡ nothing_read }
     ensures same { IsSameReader reader.old reader.new }
     ensures taken { IfOk result
         (λ taken. Consumes (R.remaining (reader_of reader.old)) (R.remaining (reader_of reader.new))
@@ -78,7 +78,7 @@ fn take_request<R: Read>(
     alloc: Global,
     reader: &mut CountedReader<'_, R>,
 ) -> Result<Taken, WireFault>
-    requires { reading_of reader.old ≡ unread }
+    requires { reading_of reader.old ≡ nothing_read }
     ensures same { IsSameReader reader.old reader.new }
     ensures taken { IfOk result
         (λ taken. Consumes (R.remaining (reader_of reader.old)) (R.remaining (reader_of reader.new))
@@ -113,7 +113,7 @@ fn fill<R: Read>(
     requires empty { bytes.old.items ≡ [] }
     requires fields { length headers.old ≡ most_fields }
     requires room { longest_head + longest_body ≤ vec_capacity bytes.old }
-    requires fresh { reading_of reader.old ≡ unread }
+    requires fresh { reading_of reader.old ≡ nothing_read }
     ensures same { IsSameReader reader.old reader.new }
     ensures request { IfOk result (λ found. IsRequest bytes.new.items found.0) }
     ensures spans { IfOk result
@@ -146,7 +146,7 @@ fn read_head<R: Read>(
     requires empty { bytes.old.items ≡ [] }
     requires room { longest_head ≤ vec_capacity bytes.old }
     requires fields { length headers.old ≡ most_fields }
-    requires fresh { reading_of reader.old ≡ unread }
+    requires fresh { reading_of reader.old ≡ nothing_read }
     ensures same { IsSameReader reader.old reader.new }
     ensures capacity { vec_capacity bytes.old ≤ vec_capacity bytes.new }
     ensures within { OnOk result (length bytes.new.items ≤ longest_head) }
@@ -202,7 +202,7 @@ fn spans_of(bytes: &[u8], headers: &mut [HeaderSpan]) -> Result<Option<RequestSp
     requires fields { length headers.old ≡ most_fields }
     requires some { 0 < length bytes.now }
     requires short { length bytes.now ≤ longest_head }
-    requires open_lines { OpenBelow (length bytes.now - 1) bytes.now }
+    requires open_lines { IsOpenBelow (length bytes.now - 1) bytes.now }
     ensures told { IfOk result (λ found. TellsHead bytes.now (is_some found)) }
     ensures spans { IfOk result (λ found. IfSome found (AreSpansOf bytes.now headers.new)) }
     ensures refused { IfErr result (λ refusal. IsHopeless bytes.now refusal.code) }
@@ -221,7 +221,7 @@ fn spans_of(bytes: &[u8], headers: &mut [HeaderSpan]) -> Result<Option<RequestSp
 /// How long the body is that follows a head with these parts.
 fn length_after(head: &[u8], headers: &[HeaderSpan], spans: RequestSpans) -> Result<usize, Refusal>
     requires { AreSpansOf head.now headers.now spans }
-    ensures length { (h : RequestHead) → IsHead head.now h → numbered result ≡ body_length h }
+    ensures length { (h : RequestHead) → IsHead head.now h → by_number result ≡ body_length h }
     ensures small { IfOk result (λ n. n ≤ longest_body) }
 {
     declared_among(head, &headers[..spans.headers])

@@ -2,7 +2,7 @@
 ghost use Rattle.std.specs.Prelude.{◌≡◌, ℕ, ◌+◌, ◌<◌, ◌≤◌, length, take, IsTrue, IsErr, OnOk};
 ghost use Rattle.std.specs.Prelude.{IfErr, OnErr, ◌↔◌};
 ghost use Rattle.std.specs.Io.KnownBytes.{Appends};
-ghost use Rattle.farm_http.specs.Counts.{unwritten, writer_of, writing_of, IsSameWriter};
+ghost use Rattle.farm_http.specs.Counts.{nothing_written, writer_of, writing_of, IsSameWriter};
 ghost use Rattle.farm_http.specs.Faults.{WritesPrefix};
 
 use crate::counted_writer::CountedWriter;
@@ -26,7 +26,7 @@ pub fn write_whole_counted<W: Write>(
     writer: &mut CountedWriter<'_, W>,
     bytes: &[u8],
 ) -> Result<(), WireFault>
-    requires fresh { writing_of writer.old ≡ unwritten }
+    requires fresh { writing_of writer.old ≡ nothing_written }
     ensures same { IsSameWriter writer.old writer.new }
     ensures ok { OnOk result (Appends
         (W.contents (writer_of writer.old)) (W.contents (writer_of writer.new)) bytes.now) }

@@ -5,6 +5,7 @@ use Rattle.std.specs.List.{list_all}
 use Rattle.std.proofs.lemmas.Bool.Decides.{nat_tests}
 use Rattle.std.proofs.lemmas.List.Folds.{list_all-append}
 use Rattle.toml.specs.Data.{Data, Members, member}
+use Rattle.farm_types.specs.Limits.{longest_key, longest_name}
 use Rattle.farm_types.specs.Words.{is_word, is_name_byte, word_or}
 use Rattle.farm_types.specs.declared.fault.WordFault.{WordFault}
 use Rattle.farm_types.specs.declared.fault.WordFault.TheVariants.{Refused, NoMemory}
@@ -12,7 +13,7 @@ use Rattle.farm_types.specs.declared.refusal.Refusal.{Refusal}
 use Rattle.farm_types.proofs.WordLemmas.{and_parts}
 use Rattle.farm_types.specs.Reads.{◌>>=◌, Refuses}
 use Rattle.farm_jobfile.specs.Reading.{Fault}
-use Rattle.farm_jobfile.specs.Lab.{Entry, each}
+use Rattle.farm_jobfile.specs.Lab.{Entry, entries_of}
 
 -- a word is not refused
 pub word_taken : (most : ℕ) (text : List ℕ) (code : ℕ) (fault : WordFault) (refusal : Refusal) → fault ≡ Refused refusal → is_word most text ≡ true → Refuses fault (word_or (is_word most text) text code) → ⊥
@@ -23,16 +24,16 @@ word_taken most text code (Refused r) refusal e is h = by (is_word most text) is
     by true is h = cc
     by false is h = cc
 
-pub admin_is_word : is_word 48 (codes "admin") ≡ true
+pub admin_is_word : is_word longest_name (codes "admin") ≡ true
 unfolding is_word
 admin_is_word = refl
 
 -- a short prefix and a name are a key
-pub key_is_word : (prefix name : List ℕ) → length prefix ≤ 16 → list_all is_name_byte prefix ≡ true → is_word 48 name ≡ true → is_word 64 (prefix ++ name) ≡ true
+pub key_is_word : (prefix name : List ℕ) → length prefix ≤ 16 → list_all is_name_byte prefix ≡ true → is_word longest_name name ≡ true → is_word longest_key (prefix ++ name) ≡ true
 unfolding is_word
 key_is_word prefix name short bytes is =
-    let all = and_parts (nat_le 1 (length name) && nat_le (length name) 48) (list_all is_name_byte name) is in
-    let sizes = and_parts (nat_le 1 (length name)) (nat_le (length name) 48) all.0 in
+    let all = and_parts (nat_le 1 (length name) && nat_le (length name) longest_name) (list_all is_name_byte name) is in
+    let sizes = and_parts (nat_le 1 (length name)) (nat_le (length name) longest_name) all.0 in
     let some : nat_le 1 (length (prefix ++ name)) ≡ true = at_least (length name) (length prefix) _ (length-append prefix name) sizes.0 in
     let few : nat_le (length (prefix ++ name)) 64 ≡ true = at_most (length name) (length prefix) _ (length-append prefix name) short sizes.1 in
     rw (some, few, list_all-append is_name_byte prefix name, bytes, all.1) refl
@@ -40,13 +41,13 @@ key_is_word prefix name short bytes is =
     at_least : (n p k : ℕ) → k ≡ p + n → nat_le 1 n ≡ true → nat_le 1 k ≡ true
     at_least n p k sum h = grind (arith, nat_tests)
 
-    at_most : (n p k : ℕ) → k ≡ p + n → p ≤ 16 → nat_le n 48 ≡ true → nat_le k 64 ≡ true
+    at_most : (n p k : ℕ) → k ≡ p + n → p ≤ 16 → nat_le n longest_name ≡ true → nat_le k longest_key ≡ true
     at_most n p k sum short h = grind (arith, nat_tests)
 
 -- one more member of a table is read
-pub each_turn : (read : List ℕ → Data → Result Entry Fault) (name : List ℕ) (d : Data) (rest : Members) (entry : Entry) (done : List Entry) (whole : Result (List Entry) Fault) → read name d ≡ Ok entry → whole ≡ (each read (member name d rest) >>= λ more. Ok (done ++ more)) → whole ≡ (each read rest >>= λ more. Ok ((done ++ entry ∷ []) ++ more))
+pub each_turn : (read : List ℕ → Data → Result Entry Fault) (name : List ℕ) (d : Data) (rest : Members) (entry : Entry) (done : List Entry) (whole : Result (List Entry) Fault) → read name d ≡ Ok entry → whole ≡ (entries_of read (member name d rest) >>= λ more. Ok (done ++ more)) → whole ≡ (entries_of read rest >>= λ more. Ok ((done ++ entry ∷ []) ++ more))
 each_turn read name d rest entry done whole here is =
-    is ∙ (ap (λ r. (r >>= λ e. each read rest >>= λ es. Ok (e ∷ es)) >>= λ more. Ok (done ++ more)) here ∙ by (each read rest))
+    is ∙ (ap (λ r. (r >>= λ e. entries_of read rest >>= λ es. Ok (e ∷ es)) >>= λ more. Ok (done ++ more)) here ∙ by (entries_of read rest))
   where
     by : (r : Result (List Entry) Fault) → ((r >>= λ es. Ok (entry ∷ es)) >>= λ more. Ok (done ++ more)) ≡ (r >>= λ more. Ok ((done ++ entry ∷ []) ++ more))
     by (Ok more) = ap Ok (sym (append_assoc done (entry ∷ []) more))

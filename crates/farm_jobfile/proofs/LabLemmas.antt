@@ -9,7 +9,7 @@ use Rattle.farm_types.specs.declared.calls.Cmd.{Cmd}
 use Rattle.farm_types.specs.Reads.{◌>>=◌}
 use Rattle.farm_jobfile.specs.Reading.{Fault, Spells, kind_or}
 use Rattle.farm_jobfile.specs.Fields.{name_or, name_in, tags_in}
-use Rattle.farm_jobfile.specs.Lab.{Entry, entry_of, asks, check_in, own_tags, type_in, board_in, each, section, calls_in, IsAddition}
+use Rattle.farm_jobfile.specs.Lab.{Entry, entry_of, given_entry, check_in, own_tags, type_in, board_in, entries_of, section, calls_in, IsAddition}
 use Rattle.farm_jobfile.specs.declared.fault.FileKind.TheVariants.{LabFile}
 use Rattle.farm_jobfile.specs.declared.fault.FileFault.{FileFault}
 
@@ -40,7 +40,7 @@ type_adds now name d e h =
     let (kind, _, h1) = first_ok (name_or name) _ e h in
     let (_, _, h2) = first_ok (kind_or LabFile (as_table d)) _ e h1 in
     let (check, _, h3) = first_ok (check_in d) _ e h2 in
-    adds_as (Ok (asks (codes "type.") kind now (Cmd.AddType kind check))) _ e refl h3 tt
+    adds_as (Ok (given_entry (codes "type.") kind now (Cmd.AddType kind check))) _ e refl h3 tt
 
 board_adds : (now : ℕ) (name : List ℕ) (d : Data) (e : Entry) → board_in now name d ≡ Ok e → Adds e
 unfolding board_in
@@ -50,17 +50,17 @@ board_adds now name d e h =
     let (kind, _, h3) = first_ok (name_in LabFile (codes "type") d) _ e h2 in
     let (tags, _, h4) = first_ok (tags_in LabFile d) _ e h3 in
     let (own, _, h5) = first_ok (own_tags tags) _ e h4 in
-    adds_as (Ok (asks (codes "board.") board now (Cmd.AddBoard board kind own))) _ e refl h5 tt
+    adds_as (Ok (given_entry (codes "board.") board now (Cmd.AddBoard board kind own))) _ e refl h5 tt
 
 all_as : (r : Read (List Entry)) (es fs : List Entry) → r ≡ Ok es → r ≡ Ok fs → AllAdd es → AllAdd fs
 all_as r es fs h k a = subst AllAdd (value_of r es fs h k) a
 
 each_adds : (read : List ℕ → Data → Read Entry) → ((name : List ℕ) (d : Data) (e : Entry) → read name d ≡ Ok e → Adds e)
-    → (ms : Members) (es : List Entry) → each read ms ≡ Ok es → AllAdd es
+    → (ms : Members) (es : List Entry) → entries_of read ms ≡ Ok es → AllAdd es
 each_adds read one no_members es h = all_as (Ok []) [] es refl h tt
 each_adds read one (member name d rest) es h =
     let (e, here, h1) = first_ok (read name d) _ es h in
-    let (more, there, h2) = first_ok (each read rest) _ es h1 in
+    let (more, there, h2) = first_ok (entries_of read rest) _ es h1 in
     all_as (Ok (e ∷ more)) (e ∷ more) es refl h2 (one name d e here, each_adds read one rest more there)
 
 section_adds : (read : List ℕ → Data → Read Entry) → ((name : List ℕ) (d : Data) (e : Entry) → read name d ≡ Ok e → Adds e)

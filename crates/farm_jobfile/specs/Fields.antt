@@ -11,9 +11,9 @@ use Rattle.farm_jobfile.specs.Reading.{Fault, or_word, there_or, kind_or}
 use Rattle.farm_jobfile.specs.declared.fault.FileKind.{FileKind}
 
 -- a number that is not below zero
-abbrev pub natural : ℤ → Option ℕ
-natural (pos n) = Some n
-natural (negsuc n) = None
+abbrev pub natural_of : ℤ → Option ℕ
+natural_of (pos n) = Some n
+natural_of (negsuc n) = None
 
 -- a name, or a bad one
 abbrev pub name_or : List ℕ → Result (List ℕ) Fault

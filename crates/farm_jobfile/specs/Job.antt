@@ -6,7 +6,7 @@ use Rattle.toml.specs.Data.{as_table}
 use Rattle.std.specs.Option.{option_map_or}
 use Rattle.farm_types.specs.Words.{is_word}
 use Rattle.farm_types.specs.Limits.{are_few_wants, is_priority, longest_job_file, longest_name, most_wants}
-use Rattle.farm_types.specs.Called.{medium, priority_called}
+use Rattle.farm_types.specs.Called.{medium_priority, priority_called}
 use Rattle.farm_types.specs.Proper.{is_want}
 use Rattle.farm_types.specs.declared.rows.Want.{Want}
 use Rattle.farm_types.specs.declared.calls.Cmd.{Cmd}
@@ -14,7 +14,7 @@ use Rattle.farm_types.specs.Refusals.{bad_count, bad_priority}
 use Rattle.farm_types.specs.Reads.{◌>>=◌}
 use Rattle.farm_jobfile.specs.Reading.{Fault, bad, word, there_or, kind_or}
 use Rattle.farm_jobfile.specs.Document.{text_in, tree_in}
-use Rattle.farm_jobfile.specs.Fields.{natural, name_or, name_from, name_in, tags_in}
+use Rattle.farm_jobfile.specs.Fields.{natural_of, name_or, name_from, name_in, tags_in}
 use Rattle.farm_jobfile.specs.declared.fault.FileKind.TheVariants.{JobFile}
 use Rattle.farm_jobfile.specs.declared.fault.Reason.{Reason}
 use Rattle.farm_jobfile.specs.declared.member.Member.{Member}
@@ -48,7 +48,7 @@ named_or (Some n) = Ok n
 -- a text, a whole number, another number, or another kind
 abbrev pub priority_by : Option (List ℕ) → Option ℤ → Bool → Result ℕ Fault
 priority_by (Some text) number is_float = named_or (priority_called text)
-priority_by None (Some number) is_float = priority_or (natural number)
+priority_by None (Some number) is_float = priority_or (natural_of number)
 priority_by None None is_float = if is_float then Err (word bad_priority)
     else Err (bad JobFile Reason.WrongKind)
 
@@ -57,7 +57,7 @@ priority_from d = priority_by (as_str d) (as_integer d) (is_some (as_float d))
 
 -- absent means medium
 abbrev pub priority_at : Option Data → Result ℕ Fault
-priority_at None = Ok medium
+priority_at None = Ok medium_priority
 priority_at (Some d) = priority_from d
 
 -- the priority under the key `priority`
@@ -85,7 +85,7 @@ unfoldable pub count_in : Data → Result ℕ Fault
 count_in d = do
   field ← there_or JobFile (get (codes "count") d)
   number ← kind_or JobFile (as_integer field)
-  count_or (natural number)
+  count_or (natural_of number)
 
 -- the members that play one role
 unfoldable pub role_in : List ℕ → Data → Result (List Member) Fault

@@ -13,7 +13,7 @@ use Rattle.farm_types.specs.Refusals.{bad_tag}
 use Rattle.farm_types.specs.Reads.{◌>>=◌}
 use Rattle.farm_jobfile.specs.Reading.{Fault, bad, word, there_or, kind_or}
 use Rattle.farm_jobfile.specs.Document.{text_in, tree_in}
-use Rattle.farm_jobfile.specs.Fields.{natural, name_or, name_in, tags_in}
+use Rattle.farm_jobfile.specs.Fields.{natural_of, name_or, name_in, tags_in}
 use Rattle.farm_jobfile.specs.declared.fault.FileKind.TheVariants.{LabFile}
 use Rattle.farm_jobfile.specs.declared.fault.Reason.{Reason}
 
@@ -29,8 +29,8 @@ abbrev pub entry_of : Call → Entry
 entry_of call = record { caller = call.caller; key = call.key; now = call.now; cmd = call.cmd }
 
 -- the call of a lab file's command: an admin gives it, under a key of its own
-abbrev pub asks : List ℕ → List ℕ → ℕ → Cmd → Entry
-asks prefix name now cmd = record {
+abbrev pub given_entry : List ℕ → List ℕ → ℕ → Cmd → Entry
+given_entry prefix name now cmd = record {
   caller = codes "admin";
   key = Some (prefix ++ name);
   now = now;
@@ -58,7 +58,7 @@ unfoldable pub every_in : Data → Result ℕ Fault
 every_in d = do
   field ← there_or LabFile (get (codes "every") d)
   number ← kind_or LabFile (as_integer field)
-  every_or (natural number)
+  every_or (natural_of number)
 
 -- the check that the two keys spell
 unfoldable pub check_in : Data → Result Check Fault
@@ -70,7 +70,7 @@ type_in now name d = do
   kind ← name_or name
   table ← kind_or LabFile (as_table d)
   check ← check_in d
-  Ok (asks (codes "type.") kind now (Cmd.AddType kind check))
+  Ok (given_entry (codes "type.") kind now (Cmd.AddType kind check))
 
 -- ---- boards
 
@@ -86,21 +86,21 @@ board_in now name d = do
   kind ← name_in LabFile (codes "type") d
   tags ← tags_in LabFile d
   own ← own_tags tags
-  Ok (asks (codes "board.") board now (Cmd.AddBoard board kind own))
+  Ok (given_entry (codes "board.") board now (Cmd.AddBoard board kind own))
 
 -- ---- the lab
 
 -- what each member of a table spells, in the order of the tree, which is the byte order of the
 -- names
-abbrev pub each : (List ℕ → Data → Result Entry Fault) → Members → Result (List Entry) Fault
-each read no_members = Ok []
-each read (member name d rest) = read name d >>= λ entry. each read rest >>= λ entries.
+abbrev pub entries_of : (List ℕ → Data → Result Entry Fault) → Members → Result (List Entry) Fault
+entries_of read no_members = Ok []
+entries_of read (member name d rest) = read name d >>= λ entry. entries_of read rest >>= λ entries.
     Ok (entry ∷ entries)
 
 -- an absent table has no members
 abbrev pub section : (List ℕ → Data → Result Entry Fault) → Option Data → Result (List Entry) Fault
 section read None = Ok []
-section read (Some d) = kind_or LabFile (as_table d) >>= each read
+section read (Some d) = kind_or LabFile (as_table d) >>= entries_of read
 
 -- the calls that a tree spells at a moment: each type is added, then each board
 unfoldable pub calls_in : ℕ → Data → Result (List Entry) Fault

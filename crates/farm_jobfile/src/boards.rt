@@ -3,7 +3,7 @@ ghost use Rattle.std.specs.Prelude.{◌≢◌, map, Err, IsTrue, IfOk};
 ghost use Rattle.toml.specs.View.{view, table_view};
 ghost use Rattle.farm_types.specs.Proper.{has_no_name_tag};
 ghost use Rattle.farm_jobfile.specs.Reading.{Spells};
-ghost use Rattle.farm_jobfile.specs.Lab.{entry_of, own_tags, board_in, each};
+ghost use Rattle.farm_jobfile.specs.Lab.{entry_of, own_tags, board_in, entries_of};
 
 use crate::call::call_of;
 use crate::fault::{FileFault, FileKind};
@@ -48,7 +48,7 @@ fn board_of(alloc: Global, name: &str, value: &Value, now: u64) -> Result<Call, 
 /// The calls that add the boards of a table, which has them in byte order.
 pub(crate) fn boards_of(alloc: Global, table: &Table, now: u64) -> Result<Vec<Call>, FileFault>
     ensures { Spells (λ calls. map entry_of calls.items) result
-        (each (board_in now) (table_view table.now)) }
+        (entries_of (board_in now) (table_view table.now)) }
 {
     let mut calls = Vec::new(alloc);
     for (name, value) in table.iter() {

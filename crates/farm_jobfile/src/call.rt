@@ -5,7 +5,7 @@ ghost use Rattle.farm_types.specs.Limits.{longest_name};
 ghost use Rattle.farm_types.specs.Words.{is_word, is_name_byte};
 ghost use Rattle.farm_types.specs.Proper.{is_proper_cmd};
 ghost use Rattle.farm_jobfile.specs.declared.fault.FileFault.{FileFault};
-ghost use Rattle.farm_jobfile.specs.Lab.{asks, entry_of};
+ghost use Rattle.farm_jobfile.specs.Lab.{given_entry, entry_of};
 
 use crate::fault::FileFault;
 use farm_types::calls::{Call, Cmd};
@@ -56,7 +56,7 @@ pub(crate) fn call_of(
     requires short { length prefix.now ≤ 16 }
     requires bytes { list_all is_name_byte prefix.now ≡ true }
     requires proper { IsTrue (is_proper_cmd cmd) }
-    ensures { MatchResult result (λ call. entry_of call ≡ asks prefix.now name.now now cmd)
+    ensures { MatchResult result (λ call. entry_of call ≡ given_entry prefix.now name.now now cmd)
         (λ fault. fault ≡ FileFault.NoMemory) }
 {
     let key = key_of(alloc, prefix, name)?;

@@ -4,7 +4,7 @@ ghost use Rattle.toml.specs.View.{view, table_view};
 ghost use Rattle.farm_types.specs.Limits.{is_every};
 ghost use Rattle.farm_types.specs.Proper.{is_frequency};
 ghost use Rattle.farm_jobfile.specs.Reading.{Spells};
-ghost use Rattle.farm_jobfile.specs.Lab.{entry_of, unit_in, every_in, check_in, type_in, each};
+ghost use Rattle.farm_jobfile.specs.Lab.{entry_of, unit_in, every_in, check_in, type_in, entries_of};
 
 use crate::call::call_of;
 use crate::fault::{FileFault, FileKind, Reason};
@@ -78,7 +78,7 @@ fn type_of(alloc: Global, name: &str, value: &Value, now: u64) -> Result<Call, F
 /// The calls that add the types of a table, which has them in byte order.
 pub(crate) fn types_of(alloc: Global, table: &Table, now: u64) -> Result<Vec<Call>, FileFault>
     ensures { Spells (λ calls. map entry_of calls.items) result
-        (each (type_in now) (table_view table.now)) }
+        (entries_of (type_in now) (table_view table.now)) }
 {
     let mut calls = Vec::new(alloc);
     for (name, value) in table.iter() {

@@ -9,13 +9,14 @@ use Rattle.std.specs.Str.{bytes_eq}
 use Rattle.std.proofs.lemmas.Cmp.{tied_itself}
 use Rattle.std.proofs.lemmas.List.Sums.{fold-append}
 use Rattle.std.proofs.lemmas.Slice.Eq.{bytes_eq-Decides}
+use Rattle.farm_types.specs.Refusals.{bad_moment, forbidden, key_reused}
 use Rattle.farm_types.specs.Words.{text_cmp}
 use Rattle.farm_types.specs.Table.{kept_cmp}
 use Rattle.farm_types.specs.Farm.{Farm, board_of, job_of, kept_of, put_board, put_kept}
-use Rattle.farm_types.specs.Pass.{with_board, back, expire}
+use Rattle.farm_types.specs.Pass.{with_board, giving_back, expire}
 use Rattle.farm_types.specs.Refuse.{kind_of, is_late, kept_for, is_full, may_give, first_code, refusal, early_refusal, own_refusal}
-use Rattle.farm_types.specs.Change.{Done, done, act, change, moved}
-use Rattle.farm_types.specs.Machine.{Answered, Changed, Repeated, Denied, answer, answer_by, repeated, step, step_by, run}
+use Rattle.farm_types.specs.Change.{Done, done_with, act, change, farm_at_call}
+use Rattle.farm_types.specs.Machine.{Answered, Changed, Repeated, Denied, answer, answer_by, repeated_reply, step, step_by, run}
 use Rattle.farm_types.specs.declared.rows.BoardRow.{BoardRow}
 use Rattle.farm_types.specs.declared.rows.KeptRow.{KeptRow}
 use Rattle.farm_types.specs.declared.rows.Reply.{Reply}
@@ -25,7 +26,7 @@ use Rattle.farm_types.proofs.Put.{find_put_is}
 use Rattle.farm_sound.proofs.Grow.{same_texts}
 use Rattle.farm_sound.proofs.Numbers.{kept_total}
 use Rattle.farm_sound.proofs.Replies.{pass_kept}
-use Rattle.farm_keep.specs.Restarts.{again}
+use Rattle.farm_keep.specs.Restarts.{answer_again}
 
 -- ---- no command changes the kept replies
 
@@ -36,7 +37,7 @@ with_board_kept f F name = by (board_of F name)
     by None = refl
     by (Some b) = refl
 
-done_kept : {X : Type 0} (F : Farm) (f : X → Done) → ((x : X) → (f x).farm.kept ≡ F.kept) → (o : Option X) → (option_map_or f o (done 0 F)).farm.kept ≡ F.kept
+done_kept : {X : Type 0} (F : Farm) (f : X → Done) → ((x : X) → (f x).farm.kept ≡ F.kept) → (o : Option X) → (option_map_or f o (done_with 0 F)).farm.kept ≡ F.kept
 done_kept F f same None = refl
 done_kept F f same (Some x) = same x
 
@@ -54,7 +55,7 @@ act_kept F caller (Cmd.Acquire number) = refl
 act_kept F caller (Cmd.Release number) = refl
 act_kept F caller (Cmd.Refresh number) = refl
 act_kept F caller (Cmd.CancelRes number) = refl
-act_kept F caller Cmd.Pass = pass_kept (expire (back F) F.clock) F.collector F.clock
+act_kept F caller Cmd.Pass = pass_kept (expire (giving_back F) F.clock) F.collector F.clock
 
 -- ---- the table of kept replies
 
@@ -107,13 +108,13 @@ answers_kept : (F : Farm) (call : Call) (row : KeptRow) → kept_for F call ≡ 
 unfolding answer refusal early_refusal
 answers_kept F call row is =
     let by_kept = λ (o : Option KeptRow). answer_by (cond (is_late call) None (cond (option_map_or (λ r. r.kind == kind_of call.cmd) o false) (option_map (λ r. r.reply) o) None))
-    (option_or (first_code ((is_late call, 2) ∷ (is_some o && not (option_map_or (λ r. r.kind == kind_of call.cmd) o false), 40) ∷ (not (may_give call.caller call.cmd), 3) ∷ []))
+    (option_or (first_code ((is_late call, bad_moment) ∷ (is_some o && not (option_map_or (λ r. r.kind == kind_of call.cmd) o false), key_reused) ∷ (not (may_give call.caller call.cmd), forbidden) ∷ []))
     (option_or (own_refusal F call) (then_some (is_full F call) 4)))
     (change F call).reply in
     ap by_kept is ∙ by (is_late call) (row.kind == kind_of call.cmd)
   where
     by : (late same : Bool) → answer_by (cond late None (cond same (Some row.reply) None))
-        (option_or (first_code ((late, 2) ∷ (not same, 40) ∷ (not (may_give call.caller call.cmd), 3) ∷ []))
+        (option_or (first_code ((late, bad_moment) ∷ (not same, key_reused) ∷ (not (may_give call.caller call.cmd), forbidden) ∷ []))
         (option_or (own_refusal F call) (then_some (is_full F call) 4)))
         (change F call).reply ≡ cond late (Denied 2) (cond same (Repeated row.reply) (Denied 40))
     by true same = refl
@@ -138,11 +139,11 @@ kept_changed : (F : Farm) (d : Call) (caller key : List ℕ) → kept_of (change
 unfolding change
 kept_changed F d caller key = by d.key
   where
-    by : (o : Option (List ℕ)) → find (is_for caller key) (option_map_or (λ k. put_kept (act (moved F d) d.caller d.cmd).farm (kept_row d k (act (moved F d) d.caller d.cmd).reply)) o (act (moved F d) d.caller d.cmd).farm).kept
-        ≡ option_map_or (λ k. cond (is_for caller key (kept_row d k (act (moved F d) d.caller d.cmd).reply)) (Some (kept_row d k (act (moved F d) d.caller d.cmd).reply)) (kept_of F caller key)) o (kept_of F caller key)
-    by None = ap (find (is_for caller key)) (act_kept (moved F d) d.caller d.cmd)
-    by (Some k) = kept_put (act (moved F d) d.caller d.cmd).farm (kept_row d k (act (moved F d) d.caller d.cmd).reply) caller key
-        ∙ ap (λ rows. cond (is_for caller key (kept_row d k (act (moved F d) d.caller d.cmd).reply)) (Some (kept_row d k (act (moved F d) d.caller d.cmd).reply)) (find (is_for caller key) rows)) (act_kept (moved F d) d.caller d.cmd)
+    by : (o : Option (List ℕ)) → find (is_for caller key) (option_map_or (λ k. put_kept (act (farm_at_call F d) d.caller d.cmd).farm (kept_row d k (act (farm_at_call F d) d.caller d.cmd).reply)) o (act (farm_at_call F d) d.caller d.cmd).farm).kept
+        ≡ option_map_or (λ k. cond (is_for caller key (kept_row d k (act (farm_at_call F d) d.caller d.cmd).reply)) (Some (kept_row d k (act (farm_at_call F d) d.caller d.cmd).reply)) (kept_of F caller key)) o (kept_of F caller key)
+    by None = ap (find (is_for caller key)) (act_kept (farm_at_call F d) d.caller d.cmd)
+    by (Some k) = kept_put (act (farm_at_call F d) d.caller d.cmd).farm (kept_row d k (act (farm_at_call F d) d.caller d.cmd).reply) caller key
+        ∙ ap (λ rows. cond (is_for caller key (kept_row d k (act (farm_at_call F d) d.caller d.cmd).reply)) (Some (kept_row d k (act (farm_at_call F d) d.caller d.cmd).reply)) (find (is_for caller key) rows)) (act_kept (farm_at_call F d) d.caller d.cmd)
 
 step_changed : (F : Farm) (d : Call) (r : Reply) → answer F d ≡ Changed r → step F d ≡ (change F d).farm
 unfolding step
@@ -158,7 +159,7 @@ step_denied F d code e = ap (λ a. step_by a F (change F d).farm) e
 
 changed_reply : (F : Farm) (d : Call) (r : Reply) → answer F d ≡ Changed r → (change F d).reply ≡ r
 unfolding answer
-changed_reply F d r = by (repeated F d) (refusal F d)
+changed_reply F d r = by (repeated_reply F d) (refusal F d)
   where
     by : (o : Option Reply) (p : Option ℕ) → answer_by o p (change F d).reply ≡ Changed r → (change F d).reply ≡ r
     by (Some k) p e = absurd (let no : Repeated k ≡ Changed r = e in cc)
@@ -203,7 +204,7 @@ run_keeps F [] caller key row is = is
 run_keeps F (d ∷ calls) caller key row is = run_keeps (step F d) calls caller key row (kept_stays F d caller key row is)
 
 pub again_kept : (F : Farm) (before between : List Call) (first call : Call) (key : List ℕ) (reply : Reply) → first.key ≡ Some key → call.key ≡ Some key → call.caller ≡ first.caller
-    → answer (run F before) first ≡ Changed reply → answer (run F (before ++ first ∷ between)) call ≡ again first reply call
+    → answer (run F before) first ≡ Changed reply → answer (run F (before ++ first ∷ between)) call ≡ answer_again first reply call
 again_kept F before between first call key reply keyed keyed_too same changed =
     let G = run F before in
     let H = run (step G first) between in

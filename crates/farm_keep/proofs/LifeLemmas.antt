@@ -20,7 +20,7 @@ use Rattle.farm_store.specs.Holds.{Holds, Stands}
 use Rattle.farm_keep.specs.Headline.{Denies, LeavesRun}
 use Rattle.farm_keep.specs.Kept.{Kept, Keeps}
 use Rattle.farm_keep.specs.Lives.{AreLived, GivesFarm, IsDone, IsLived, IsRestart, Life}
-use Rattle.farm_keep.specs.Restarts.{Restart, joined}
+use Rattle.farm_keep.specs.Restarts.{Restart, calls_of}
 use Rattle.farm_keep.specs.declared.keeper.run.RunEnd.{RunEnd}
 use Rattle.farm_keep.specs.declared.fault.KeepFault.{KeepFault}
 
@@ -87,8 +87,8 @@ one_life g stands life first last F sound holds it =
 pub record LeftLives {S : Type 0} (db : Trees) (F : Farm) (lives : List (Life S)) : Type 0 where
   pub restarts : List Restart
   pub each : AllZip IsRestart lives restarts
-  pub sound : IsSound (run F (joined restarts))
-  pub holds : Holds db (rows_of (run F (joined restarts)))
+  pub sound : IsSound (run F (calls_of restarts))
+  pub holds : Holds db (rows_of (run F (calls_of restarts)))
 
 pub all_lives : {S : Type 0} (g : Ghosts S) → StandsOpened g → (lives : List (Life S)) (first last : Trees) (F : Farm)
     → IsSound F → Holds first (rows_of F) → AreLived g lives first last → LeftLives last F lives
@@ -99,7 +99,7 @@ all_lives g stands (life ∷ lives) first last F sound holds lived =
     let done = take one.done life.calls in
     let rest = all_lives g stands lives lived.0 last (run F done) (IsSound-run done F sound) one.holds lived.2 in
     let restart : Restart = record { calls = life.calls; done = one.done } in
-    let same : run (run F done) (joined rest.restarts) ≡ run F (joined (restart ∷ rest.restarts)) = sym (fold-append step F done (joined rest.restarts)) in
+    let same : run (run F done) (calls_of rest.restarts) ≡ run F (calls_of (restart ∷ rest.restarts)) = sym (fold-append step F done (calls_of rest.restarts)) in
     record {
       restarts = restart ∷ rest.restarts;
       each = (record { calls = refl; done = one.counts }, rest.each);

@@ -10,7 +10,7 @@ use Rattle.farm_types.specs.Farm.{Farm}
 use Rattle.farm_types.specs.Machine.{run}
 use Rattle.farm_types.specs.Sound.{IsSound}
 use Rattle.farm_types.specs.declared.calls.Call.{Call}
-use Rattle.farm_core.specs.Answers.{shown}
+use Rattle.farm_core.specs.Answers.{answer_of}
 use Rattle.farm_store.specs.Columns.{IsOfSchema, Tables, rows_of}
 use Rattle.farm_store.specs.Holds.{Holds, Stands, LeavesNoMore}
 use Rattle.farm_store.specs.Schema.{farm_schema}
@@ -60,7 +60,7 @@ pub record Runs {S : Type 0} (g : Ghosts S) (old new : Kept S) (end : RunEnd) (c
   -- the answers are the machine's, one for each call that was done
   pub counted : length end.answers.items ≡ end.done
   pub within : end.done ≤ length calls
-  pub answers : map shown end.answers.items ≡ answers_of old.farm.farm (take end.done calls)
+  pub answers : map answer_of end.answers.items ≡ answers_of old.farm.farm (take end.done calls)
   -- without a fault all calls were done, and the store keeps the farm that they lead to
   pub whole : IfNone end.fault ((end.done ≡ length calls) × (new.is_open ≡ old.is_open))
   pub farm : IfNone end.fault (new.farm.farm ≡ run old.farm.farm calls)

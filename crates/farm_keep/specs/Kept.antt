@@ -44,7 +44,7 @@ KeepsEither g k F G = HasCleanDisk (state g k.conn)
     → LeavesEither (state g k.conn) (rows_of F) (rows_of G)
 
 -- a fact for an answer that is no change's
-abbrev pub OnNoChange : Answer → Type 0 → Type 0
-OnNoChange (Answer.Did reply changes) P = ⊤
-OnNoChange (Answer.Kept reply) P = P
-OnNoChange (Answer.Refused refusal) P = P
+abbrev pub IfNoChange : Answer → Type 0 → Type 0
+IfNoChange (Answer.Did reply changes) P = ⊤
+IfNoChange (Answer.Kept reply) P = P
+IfNoChange (Answer.Refused refusal) P = P

@@ -11,7 +11,7 @@ use Rattle.farm_types.specs.Machine.{run}
 use Rattle.farm_types.specs.declared.calls.Call.{Call}
 use Rattle.farm_keep.specs.Kept.{Kept}
 use Rattle.farm_keep.specs.Headline.{Resumes}
-use Rattle.farm_keep.specs.Restarts.{Restart, joined}
+use Rattle.farm_keep.specs.Restarts.{Restart, calls_of}
 use Rattle.farm_keep.specs.declared.keeper.run.RunEnd.{RunEnd}
 use Rattle.farm_keep.specs.declared.fault.KeepFault.{KeepFault}
 
@@ -69,4 +69,4 @@ pub record GivesRestarts {S : Type 0} (result : Result Shown KeepFault) (F : Far
     (lives : List (Life S)) : Type 0 where
   pub restarts : List Restart
   pub each : AllZip IsRestart lives restarts
-  pub gives : GivesFarm result (run F (joined restarts))
+  pub gives : GivesFarm result (run F (calls_of restarts))

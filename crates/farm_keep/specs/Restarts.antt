@@ -20,12 +20,12 @@ done_calls restart = take restart.done restart.calls
 abbrev pub run_all : Farm → List Restart → Farm
 run_all F restarts = fold (λ G restart. run G (done_calls restart)) F restarts
 
-abbrev pub joined : List Restart → List Call
-joined restarts = flat_map done_calls restarts
+abbrev pub calls_of : List Restart → List Call
+calls_of restarts = flat_map done_calls restarts
 
 -- what a call is answered whose caller and key were those of an accepted call with this reply
-abbrev pub again : Call → Reply → Call → Answered
-again first reply call =
+abbrev pub answer_again : Call → Reply → Call → Answered
+answer_again first reply call =
     if is_late call then Denied 2
     else (if kind_of first.cmd == kind_of call.cmd then Repeated reply else Denied 40)
 
@@ -33,7 +33,7 @@ again first reply call =
 -- the first is accepted
 pub record IsRepeated (F : Farm) (restarts : List Restart) (before between after : List Call)
     (first call : Call) (key : List ℕ) (reply : Reply) : Type 0 where
-  pub in_list : joined restarts ≡ before ++ first ∷ (between ++ call ∷ after)
+  pub in_list : calls_of restarts ≡ before ++ first ∷ (between ++ call ∷ after)
   pub keyed : first.key ≡ Some key
   pub same_key : call.key ≡ Some key
   pub same_caller : call.caller ≡ first.caller
@@ -44,7 +44,7 @@ abbrev pub AnswersAgain : Type 0
 AnswersAgain = (F : Farm) (restarts : List Restart) (before between after : List Call)
     (first call : Call) (key : List ℕ) (reply : Reply)
     → IsRepeated F restarts before between after first call key reply
-    → answer (run F (before ++ first ∷ between)) call ≡ again first reply call
+    → answer (run F (before ++ first ∷ between)) call ≡ answer_again first reply call
 
 -- and so it changes nothing
 abbrev pub ActsOnce : Type 0

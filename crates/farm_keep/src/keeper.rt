@@ -4,14 +4,14 @@ ghost use Rattle.std.specs.Prelude.{MatchOption};
 ghost use Rattle.sqlite.specs.Held.{state};
 ghost use Rattle.sqlite.specs.State.{HasCleanDisk};
 ghost use Rattle.sqlite_trees.specs.View.{doubt};
-ghost use Rattle.farm_types.specs.Farm.{empty};
+ghost use Rattle.farm_types.specs.Farm.{empty_farm};
 ghost use Rattle.farm_types.specs.Machine.{answer, step};
 ghost use Rattle.farm_types.specs.Sound.{IsSound};
-ghost use Rattle.farm_core.specs.Answers.{shown, IsChange, Leads};
+ghost use Rattle.farm_core.specs.Answers.{answer_of, IsChange, Leads};
 ghost use Rattle.farm_store.specs.Columns.{Tables, rows_of};
 ghost use Rattle.farm_store.specs.Holds.{LeavesEither, Stands, StandsFor};
 ghost use Rattle.farm_store.specs.Schema.{no_schema};
-ghost use Rattle.farm_keep.specs.Kept.{Keeps, KeepsEither, OnNoChange};
+ghost use Rattle.farm_keep.specs.Kept.{Keeps, KeepsEither, IfNoChange};
 ghost use Rattle.farm_keep.specs.Headline.{Adopts, Denies, IsAlwaysClean};
 
 mod run;
@@ -54,7 +54,7 @@ impl<S: Alter + Drop> Keeper<S> {
     /// is lent the connection: such a store stands for its tables as before.
     pub fn fresh(alloc: Global, mut conn: Connection<S>) -> Result<Keeper<S>, KeepFault>
         requires { conn.in_transaction ≡ false }
-        ensures opened { IfOk result (λ k. (k.is_open ≡ true) × (k.farm.farm ≡ empty)) }
+        ensures opened { IfOk result (λ k. (k.is_open ≡ true) × (k.farm.farm ≡ empty_farm)) }
         ensures keeps { IfOk result (λ k. (state S.Store conn).now.schema ≡ no_schema
             → Keeps S.Store k) }
         ensures refused { IfOk result (λ k. HasCleanDisk (state S.Store k.conn) → (T : Tables)
@@ -117,7 +117,7 @@ impl<S: Alter> Keeper<S> {
     /// of the store.
     pub fn act(&mut self, call: &Call) -> Result<Answer, KeepFault>
         // The answer is the machine's, and so is the farm, which the store then keeps.
-        ensures answer { IfOk result (λ a. shown a ≡ answer self.old.farm.farm call.entry.now) }
+        ensures answer { IfOk result (λ a. answer_of a ≡ answer self.old.farm.farm call.entry.now) }
         ensures farm { OnOk result (self.new.farm.farm ≡ step self.old.farm.farm call.entry.now) }
         ensures opened { OnOk result ((self.old.is_open ≡ true) × (self.new.is_open ≡ true)) }
         ensures stands { OnOk result (Keeps S.Store self.old → Keeps S.Store self.new) }
@@ -126,7 +126,7 @@ impl<S: Alter> Keeper<S> {
         ensures changes { IfOk result (λ a. Leads a self.old.farm.farm self.new.farm.farm) }
 
         // A kept reply and a refusal leave the very keeper.
-        ensures rests { IfOk result (λ a. OnNoChange a (self.new ≡ self.old)) }
+        ensures rests { IfOk result (λ a. IfNoChange a (self.new ≡ self.old)) }
 
         // Without memory for a change the keeper is closed, and its store is as it was.
         ensures memory { result ≡ Err KeepFault.NoMemory → (self.new.is_open ≡ false)
@@ -171,13 +171,13 @@ fn step_and_put<S: Alter>(
     ensures autocommit { conn.new.in_transaction ≡ false }
     ensures clean { doubt (state S.Store conn.old).is_clean ≤ doubt
         (state S.Store conn.new).is_clean }
-    ensures answer { IfOk result (λ a. shown a ≡ answer farm.old.farm call.entry.now) }
+    ensures answer { IfOk result (λ a. answer_of a ≡ answer farm.old.farm call.entry.now) }
     ensures farm { OnOk result (farm.new.farm ≡ step farm.old.farm call.entry.now) }
     ensures working { OnOk result ((farm.new.failed ≡ false) × IsSound farm.new.farm) }
     ensures changes { IfOk result (λ a. Leads a farm.old.farm farm.new.farm) }
     ensures stands { OnOk result (StandsFor (state S.Store conn.old) farm.old.farm
         → StandsFor (state S.Store conn.new) farm.new.farm) }
-    ensures rests { IfOk result (λ a. OnNoChange a ((conn.new ≡ conn.old)
+    ensures rests { IfOk result (λ a. IfNoChange a ((conn.new ≡ conn.old)
         × (farm.new ≡ farm.old))) }
     ensures change { IfErr result (λ _. IsChange (answer farm.old.farm call.entry.now)) }
     ensures memory { result ≡ Err KeepFault.NoMemory → conn.new ≡ conn.old }

@@ -17,7 +17,7 @@ ghost use Rattle.farm_keep.specs.declared.keeper.run.RunEnd.{RunEnd as End};
 ghost use Rattle.farm_types.specs.Machine.{run};
 ghost use Rattle.farm_types.specs.declared.calls.Call.{Call};
 ghost use Rattle.farm_keep.specs.Runs.{answers_of};
-ghost use Rattle.farm_keep.specs.Restarts.{Restart, run_all, joined, AnswersAgain, ActsOnce};
+ghost use Rattle.farm_keep.specs.Restarts.{Restart, run_all, calls_of, AnswersAgain, ActsOnce};
 
 use crate::fault::KeepFault;
 use crate::migrating::migrate;
@@ -37,7 +37,7 @@ pub fn runs_join()
 
 /// Restarts one after another are one run over the calls that were done.
 pub fn restarts_join()
-    ensures { (F : Plain) (restarts : List Restart) → run_all F restarts ≡ run F (joined restarts) }
+    ensures { (F : Plain) (restarts : List Restart) → run_all F restarts ≡ run F (calls_of restarts) }
 {}
 
 /// A store in memory always returns what was written: whatever else is said of a clean disk holds

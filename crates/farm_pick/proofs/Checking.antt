@@ -7,8 +7,8 @@ use Rattle.std.specs.declared.cmp.Ordering.TheVariants.{Greater}
 use Rattle.std.proofs.Math.Bool.{and-false}
 use Rattle.std.proofs.lemmas.List.{append-nil, append_assoc}
 use Rattle.farm_types.specs.Farm.{Farm}
-use Rattle.farm_types.specs.Pass.{check_job, check_one, checks, has_room, held, is_due}
-use Rattle.farm_types.specs.Pick.{Among, claim_cmp, claims, group_claim, leads_claim, queue, waits}
+use Rattle.farm_types.specs.Pass.{check_job, check_one, checks, has_room, held_board, is_due}
+use Rattle.farm_types.specs.Pick.{IsAmong, claim_cmp, claims, group_claim, leads_claim, queue, waits}
 use Rattle.farm_types.specs.Sound.{IsSound}
 use Rattle.farm_types.specs.Table.{change_where, job_cmp, put, put_all}
 use Rattle.farm_types.specs.declared.rows.BoardRow.{BoardRow}
@@ -43,7 +43,7 @@ check_all (b ∷ bs) F below = by (has_room F 1) (λ G low. check_all bs G low)
     by : (v : Bool) → ((G : Farm) → AreBelow G.next G.jobs → Checks G (fold check_one G bs))
         → Checks F (fold check_one (cond v (record F {
           jobs = put job_cmp F.jobs (check_job F.next b);
-          boards = change_where (λ c. bytes_eq c.name b.name) (held (Holder.Job F.next) State.Reserved) F.boards;
+          boards = change_where (λ c. bytes_eq c.name b.name) (held_board (Holder.Job F.next) State.Reserved) F.boards;
           next = F.next + 1;
         }) F) bs)
     by false rest = rest F below
@@ -53,7 +53,7 @@ check_all (b ∷ bs) F below = by (has_room F 1) (λ G low. check_all bs G low)
         (AllByRecursion-weaker (λ j low. sym (nat_cmp_is F.next j.number Greater low)) F.jobs below) in
         let is = rest (record F {
           jobs = put job_cmp F.jobs (check_job F.next b);
-          boards = change_where (λ c. bytes_eq c.name b.name) (held (Holder.Job F.next) State.Reserved) F.boards;
+          boards = change_where (λ c. bytes_eq c.name b.name) (held_board (Holder.Job F.next) State.Reserved) F.boards;
           next = F.next + 1;
         })
         (subst (AreBelow (F.next + 1)) (sym behind)
@@ -65,12 +65,12 @@ check_all (b ∷ bs) F below = by (has_room F 1) (λ G low. check_all bs G low)
           are = ((omega arith, refl), AllByRecursion-weaker (λ j two. (omega (arith, two.0), two.1)) is.new is.are);
         }
 
-among_behind : {A : Type 0} (x : A) (xs ys : List A) → Among x ys → Among x (xs ++ ys)
+among_behind : {A : Type 0} (x : A) (xs ys : List A) → IsAmong x ys → IsAmong x (xs ++ ys)
 among_behind x [] ys at = at
 among_behind x (y ∷ xs) ys at = inr (among_behind x xs ys at)
 
 -- a job that doesn't wait leads no claim
-leads_none : (G : Farm) (j : JobRow) → Among j G.jobs → waits j ≡ false → leads_claim G j ≡ false
+leads_none : (G : Farm) (j : JobRow) → IsAmong j G.jobs → waits j ≡ false → leads_claim G j ≡ false
 leads_none G j at is = ap (λ v. (j.number == j.group) && v) (one_fails (λ r. r.group == j.group) waits j G.jobs at (itself j.group) is)
     ∙ and-false (j.number == j.group)
 
@@ -81,8 +81,8 @@ claims_checked F G sound is =
     F.jobs sound.steady.jobs)
     ∙ ap (λ js. claims F ++ map (group_claim G) js)
     (none_pass (leads_claim G) is.new
-    (AllByRecursion-weaker (λ n two. leads_none G n (subst (Among n) (sym is.jobs) (among_behind n F.jobs is.new two.0)) two.1.1) is.new
-    (AllByRecursion-both (λ n. Among n is.new) (IsNew F.next) is.new (among_itself is.new) is.are)))
+    (AllByRecursion-weaker (λ n two. leads_none G n (subst (IsAmong n) (sym is.jobs) (among_behind n F.jobs is.new two.0)) two.1.1) is.new
+    (AllByRecursion-both (λ n. IsAmong n is.new) (IsNew F.next) is.new (among_itself is.new) is.are)))
     ∙ append-nil (claims F)
 
 pub checks_follow : (F : Farm) → IsSound F → queue (checks F F.clock) ≡ queue F

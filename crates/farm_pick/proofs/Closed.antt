@@ -7,7 +7,7 @@ use Rattle.std.specs.List.Sorted.{IsStrictlySortedBy}
 use Rattle.std.specs.Option.{option_map_or}
 use Rattle.std.specs.Str.{bytes_eq}
 use Rattle.farm_types.specs.Farm.{Farm}
-use Rattle.farm_types.specs.Pick.{Among, Claimed, are_apart, fits, is_free, least}
+use Rattle.farm_types.specs.Pick.{IsAmong, Claimed, are_apart, fits, is_free, least}
 use Rattle.farm_types.specs.Table.{board_cmp}
 use Rattle.farm_types.specs.declared.rows.BoardRow.{BoardRow}
 use Rattle.farm_types.specs.declared.rows.Want.{Want}
@@ -16,12 +16,12 @@ use Rattle.farm_sound.proofs.Tests.{both}
 use Rattle.farm_pick.specs.Queued.{IdleBoard, first_kind, idle_board, idle_boards, is_open, queue_kind}
 
 -- a free board is among the idle ones
-idle_any : (test : IdleBoard → Bool) (free : BoardRow → Bool) (b : BoardRow) (bs : List BoardRow) → Among b bs → free b ≡ true → test (idle_board b) ≡ true
+idle_any : (test : IdleBoard → Bool) (free : BoardRow → Bool) (b : BoardRow) (bs : List BoardRow) → IsAmong b bs → free b ≡ true → test (idle_board b) ≡ true
     → list_any test (map idle_board (filter free bs)) ≡ true
 idle_any test free b [] at is passes = absurd at
 idle_any test free b (c ∷ bs) at is passes = by (free c) refl at (λ later. idle_any test free b bs later is passes)
   where
-    by : (v : Bool) → free c ≡ v → Among b (c ∷ bs) → (Among b bs → list_any test (map idle_board (filter free bs)) ≡ true)
+    by : (v : Bool) → free c ≡ v → IsAmong b (c ∷ bs) → (IsAmong b bs → list_any test (map idle_board (filter free bs)) ≡ true)
         → list_any test (map idle_board (cond v (c ∷ filter free bs) (filter free bs))) ≡ true
     by true has (inl same) rest = rw (ap (λ (x : BoardRow). test (idle_board x)) (sym same) ∙ passes) refl
     by true has (inr later) rest = rw (rest later) (or_true (test (idle_board c)))
@@ -34,8 +34,8 @@ idle_any test free b (c ∷ bs) at is passes = by (free c) refl at (λ later. id
 
 -- the first board of a list that meets some wants
 first_meets : (boards : List BoardRow) (free : BoardRow → Bool) (w : Want) (ws : List Want) (bs : List BoardRow)
-    → AllByRecursion (λ b. Among b boards) bs → pointwise fits bs (w ∷ ws) ≡ true → list_all free bs ≡ true
-    → (b : BoardRow) × Among b boards × (fits b w ≡ true) × (free b ≡ true)
+    → AllByRecursion (λ b. IsAmong b boards) bs → pointwise fits bs (w ∷ ws) ≡ true → list_all free bs ≡ true
+    → (b : BoardRow) × IsAmong b boards × (fits b w ≡ true) × (free b ≡ true)
 first_meets boards free w ws [] among fit all = absurd (false≢true fit)
 first_meets boards free w ws (b ∷ bs) among fit all = (b, among.0, (both (fits b w) (pointwise fits bs ws) fit).0, (both (free b) (list_all free bs) all).0)
 
@@ -43,7 +43,7 @@ of_kind : (b : BoardRow) (w : Want) (kind : List ℕ) → w.kind ≡ Some kind �
 of_kind b w kind is fit = ap (λ k. option_map_or (λ x. bytes_eq b.kind x) k true) (sym is) ∙ (both (option_map_or (λ x. bytes_eq b.kind x) w.kind true) _ fit).0
 
 module _ (F : Farm) (sorted : IsStrictlySortedBy board_cmp F.boards) where
-  none_met : (w : Want) (ws : List Want) → ((b : BoardRow) → Among b F.boards → fits b w ≡ true → is_free F.types b ≡ true → ⊥)
+  none_met : (w : Want) (ws : List Want) → ((b : BoardRow) → IsAmong b F.boards → fits b w ≡ true → is_free F.types b ≡ true → ⊥)
       → least F.boards (is_free F.types) (w ∷ ws) ≡ None
   none_met w ws none = by (least F.boards (is_free F.types) (w ∷ ws)) refl
     where

@@ -4,8 +4,8 @@ use mathlib.Core.Bool.{true≢false}
 use Rattle.std.specs.List.{AllByRecursion, filter, fold, list_all}
 use Rattle.std.proofs.Math.Bool.{and-true}
 use Rattle.farm_types.specs.Farm.{Farm, job_of, members}
-use Rattle.farm_types.specs.Pass.{collect, give_member, may_collect, pass_over, placed}
-use Rattle.farm_types.specs.Pick.{Among, Claimed, is_waiting, queue, waits}
+use Rattle.farm_types.specs.Pass.{collect, give_member, may_collect, pass_over, placed_job}
+use Rattle.farm_types.specs.Pick.{IsAmong, Claimed, is_waiting, queue, waits}
 use Rattle.farm_types.specs.Sound.{IsSound}
 use Rattle.farm_types.specs.declared.rows.BoardRow.{BoardRow}
 use Rattle.farm_types.specs.declared.rows.JobRow.{JobRow}
@@ -27,8 +27,8 @@ S = JobState.Scheduling
 given_waits : (ps : List (JobRow × BoardRow)) (m : JobRow) → AllByRecursion (λ p. (m.number == p.0.number) ≡ true → waits m ≡ true) ps → waits (given S ps m) ≡ waits m
 given_waits [] m all = refl
 given_waits (p ∷ ps) m all =
-    by_cases (λ k. waits (given S ps k) ≡ waits m) (m.number == p.0.number) (placed S p.1.name m) m
-    (λ at. given_waits ps (placed S p.1.name m) (AllByRecursion-weaker (λ q _ _. refl) ps all.1) ∙ sym (all.0 at))
+    by_cases (λ k. waits (given S ps k) ≡ waits m) (m.number == p.0.number) (placed_job S p.1.name m) m
+    (λ at. given_waits ps (placed_job S p.1.name m) (AllByRecursion-weaker (λ q _ _. refl) ps all.1) ∙ sym (all.0 at))
     (λ _. given_waits ps m all.1)
 
 -- no reservation changes
@@ -86,6 +86,6 @@ module _ (F : Farm) (sound : IsSound F) where
       absurd (true≢false (sym (both (F.collector == 0) (not c.reservation) two.0).1 ∙ ap (λ (e : Claimed). not e.reservation) is.2))
   stays c (inr (j, is)) may = ap (λ (e : Claimed). queue (collect F e.number)) is.2 ∙ group_stays c j is
 
-  pub collecting_follows : (c : Claimed) → Among c (queue F) → queue (pass_over F c) ≡ queue F
+  pub collecting_follows : (c : Claimed) → IsAmong c (queue F) → queue (pass_over F c) ≡ queue F
   collecting_follows c at = by_cases (λ G. queue G ≡ queue F) (may_collect F c) (collect F c.number) F
       (stays c (among_has (IsClaim F) c (queue F) (queue_claims F sound.steady) at)) (λ _. refl)

@@ -6,10 +6,12 @@ use Rattle.std.specs.Str.{bytes_eq, is_utf8}
 use Rattle.std.proofs.Math.Bool.{and-false, and-true}
 use Rattle.std.proofs.lemmas.Bool.Decides.{nat_tests}
 use Rattle.std.proofs.lemmas.Simd.{map-map}
-use Rattle.farm_types.specs.Change.{act, after_check, after_job, cancel_group, done, finish_one, in_state, is_unstarted, moved, new_res, start_group}
+use Rattle.farm_types.specs.Limits.{longest_key, longest_name, longest_text}
+use Rattle.farm_types.specs.Refusals.{forbidden, no_job, no_reservation, reservation_expired, wrong_job_state, wrong_reservation_state}
+use Rattle.farm_types.specs.Change.{act, after_check, after_job, cancel_group, done_with, finish_one, in_state, is_unstarted, farm_at_call, new_res, start_group}
 use Rattle.farm_types.specs.Codes.{same_job_state, same_res_state}
 use Rattle.farm_types.specs.Farm.{Farm, board_of, job_of, put_board, res_of}
-use Rattle.farm_types.specs.Pass.{back, change_jobs, change_res, idle, is_dead, unplaced}
+use Rattle.farm_types.specs.Pass.{giving_back, change_jobs, change_res, freed_board, is_dead, unplaced_job}
 use Rattle.farm_types.specs.Pick.{is_waiting, queue, res_claim, waits}
 use Rattle.farm_types.specs.Proper.{is_priority, is_proper_cmd, is_want}
 use Rattle.farm_types.specs.Refuse.{first_code, is_alive, moment, own_refusal, owned_by, reasons, refusal, res_is, res_reasons}
@@ -33,7 +35,7 @@ use Rattle.farm_sound.proofs.Step.{IsSound-moved_to}
 use Rattle.farm_sound.proofs.Tests.{acquired_from, allocated_from, both, same_number, scheduled_from, scheduling_from, started_from}
 use Rattle.farm_sound.proofs.Where.{all_true, by_cases, map_id}
 use Rattle.farm_sound.proofs.Whole.{Alike}
-use Rattle.farm_pick.specs.Follow.{queue_after, without}
+use Rattle.farm_pick.specs.Follow.{queue_after, queue_without}
 use Rattle.farm_pick.proofs.Groups.{groups_differ, reservations_differ}
 use Rattle.farm_pick.proofs.Putting.{reserve_puts, submit_puts}
 use Rattle.farm_pick.proofs.Taking.{SameClaim, and_other, other, queue_stays, queue_takes, same_claim, same_then}
@@ -105,9 +107,9 @@ module _ (F : Farm) where
       })
 
 -- the collecting group that gives its boards back waits on
-pub backs_follow : (F : Farm) → queue (back F) ≡ queue F
+pub backs_follow : (F : Farm) → queue (giving_back F) ≡ queue F
 backs_follow F =
-    jobs_stay F (λ j. (j.group == F.collector) && same_job_state j.state JobState.Scheduling) unplaced idle
+    jobs_stay F (λ j. (j.group == F.collector) && same_job_state j.state JobState.Scheduling) unplaced_job freed_board
     (λ j. record { number = refl; group = refl; owner = refl; priority = refl; want = refl })
     (AllByRecursion-weaker (λ j _ so. sym (ap in_queue (scheduling_from j.state
     (both (j.group == F.collector) (same_job_state j.state JobState.Scheduling) so).1))) F.jobs (all_true F.jobs))
@@ -128,7 +130,7 @@ module _ (F : Farm) (sound : IsSound F) where
       let outcome : Outcome = cond (same_job_state j.state JobState.Canceling) Outcome.Canceled named in
       let at : j.number ≡ n = same_number j.number n (found_passes (λ (r : JobRow). r.number == n) j F.jobs there) in
       jobs_stay F (λ m. m.number == j.number) (λ m. record m { state = JobState.Finished; outcome = Some outcome })
-      (λ b. idle (cond j.checking (after_check outcome t b) (after_job outcome b)))
+      (λ b. freed_board (cond j.checking (after_check outcome t b) (after_job outcome b)))
       (λ m. record { number = refl; group = refl; owner = refl; priority = refl; want = refl })
       (AllByRecursion-weaker
       (λ m only so. sym (ap waits (only (same_number m.number j.number so ∙ at)) ∙ waits_by_phase j.state ∙ ap (λ p. p == 0) started))
@@ -161,7 +163,7 @@ module _ (F : Farm) (sound : IsSound F) where
       ∙ waits_in ((m.group == g) && is_unstarted m) (record m { state = JobState.Finished; outcome = Some Outcome.Canceled }) m refl
       ∙ waits_ended (m.group == g) m.state
 
-  cancel_follows : (n : ℕ) (j : JobRow) → job_of F n ≡ Some j → queue (cancel_group j.group F) ≡ without j.group (queue F)
+  cancel_follows : (n : ℕ) (j : JobRow) → job_of F n ≡ Some j → queue (cancel_group j.group F) ≡ queue_without j.group (queue F)
   cancel_follows n j there =
       queue_takes F (cancel_group j.group F) (other j.group) (λ m. stopped j.group (ended j.group m)) (λ r. r)
       (record {
@@ -176,7 +178,7 @@ module _ (F : Farm) (sound : IsSound F) where
       sound.steady
 
   cancel_by : (n : ℕ) (o : Option JobRow) → job_of F n ≡ o
-      → queue (option_map_or (λ j. done j.group (cancel_group j.group F)) o (done 0 F)).farm ≡ option_map_or (λ j. without j.group (queue F)) o (queue F)
+      → queue (option_map_or (λ j. done_with j.group (cancel_group j.group F)) o (done_with 0 F)).farm ≡ option_map_or (λ j. queue_without j.group (queue F)) o (queue F)
   cancel_by n None there = refl
   cancel_by n (Some j) there = cancel_follows n j there
 
@@ -194,9 +196,9 @@ module _ (F : Farm) (sound : IsSound F) where
       (AllByRecursion-weaker (λ r _ so. refl) F.reservations (all_true F.reservations))
 
   cancel_res_follows : (n : ℕ) (r : ResRow) → res_of F n ≡ Some r
-      → queue (change_res (λ q. q.number == n) (λ q. record q { state = ResState.Canceled }) idle F) ≡ without n (queue F)
+      → queue (change_res (λ q. q.number == n) (λ q. record q { state = ResState.Canceled }) freed_board F) ≡ queue_without n (queue F)
   cancel_res_follows n r there =
-      queue_takes F (change_res (λ q. q.number == n) (λ q. record q { state = ResState.Canceled }) idle F) (other n) (λ j. j)
+      queue_takes F (change_res (λ q. q.number == n) (λ q. record q { state = ResState.Canceled }) freed_board F) (other n) (λ j. j)
       (λ q. cond (q.number == n) (record q { state = ResState.Canceled }) q)
       (record {
         jobs = sym (map_id F.jobs);
@@ -219,21 +221,21 @@ right_res : (F : Farm) (t n : ℕ) (mine right : ResRow → Bool) → first_code
     → (r : ResRow) × (res_of F n ≡ Some r) × (right r ≡ true)
 right_res F t n mine right is =
     let late = res_is F n (λ r. same_res_state r.state ResState.Expired || is_dead t r) in
-    let there = first_clear (is_none (res_of F n)) 30 ((not (res_is F n mine), 3) ∷ (late, 31) ∷ (not (res_is F n right), 32) ∷ []) is in
-    let owned = first_clear (not (res_is F n mine)) 3 ((late, 31) ∷ (not (res_is F n right), 32) ∷ []) there.1 in
-    let alive = first_clear late 31 ((not (res_is F n right), 32) ∷ []) owned.1 in
+    let there = first_clear (is_none (res_of F n)) no_reservation ((not (res_is F n mine), forbidden) ∷ (late, reservation_expired) ∷ (not (res_is F n right), wrong_reservation_state) ∷ []) is in
+    let owned = first_clear (not (res_is F n mine)) forbidden ((late, reservation_expired) ∷ (not (res_is F n right), wrong_reservation_state) ∷ []) there.1 in
+    let alive = first_clear late reservation_expired ((not (res_is F n right), wrong_reservation_state) ∷ []) owned.1 in
     let r = some_of (res_of F n) there.0 in
-    (r.0, r.1, passes right (res_of F n) r.0 r.1 (first_clear (not (res_is F n right)) 32 [] alive.1).0)
+    (r.0, r.1, passes right (res_of F n) r.0 r.1 (first_clear (not (res_is F n right)) wrong_reservation_state [] alive.1).0)
 
 -- the job of Start or Finish is there, and in a right state
 right_job : (F : Farm) (n : ℕ) (right : JobRow → Bool)
-    → first_code ((is_none (job_of F n), 20) ∷ (not (option_map_or right (job_of F n) false), 21) ∷ []) ≡ None
+    → first_code ((is_none (job_of F n), no_job) ∷ (not (option_map_or right (job_of F n) false), wrong_job_state) ∷ []) ≡ None
     → (j : JobRow) × (job_of F n ≡ Some j) × (right j ≡ true)
 right_job F n right is =
     let wrong = not (option_map_or right (job_of F n) false) in
-    let there = first_clear (is_none (job_of F n)) 20 ((wrong, 21) ∷ []) is in
+    let there = first_clear (is_none (job_of F n)) no_job ((wrong, wrong_job_state) ∷ []) is in
     let j = some_of (job_of F n) there.0 in
-    (j.0, j.1, passes right (job_of F n) j.0 j.1 (first_clear wrong 21 [] there.1).0)
+    (j.0, j.1, passes right (job_of F n) j.0 j.1 (first_clear wrong wrong_job_state [] there.1).0)
 
 -- a proper group has some wants, and as many roles
 proper_group : (priority : ℕ) (wants : List Want) (roles : List (Option (List ℕ))) (body : List ℕ) → is_proper_cmd (Cmd.Submit priority wants roles body) ≡ true
@@ -244,10 +246,10 @@ proper_group priority wants roles body is =
     let second = first && nat_le (length wants) 4 in
     let third = second && list_all (λ (w : Want). is_some w.kind && is_want w) wants in
     let fourth = third && (length roles == length wants) in
-    let fifth = fourth && list_all (λ (r : Option (List ℕ)). option_map_or (is_word 48) r true) roles in
-    let p7 = both (fifth && nat_le (length body) 65536) (is_utf8 body) is in
-    let p6 = both fifth (nat_le (length body) 65536) p7.0 in
-    let p5 = both fourth (list_all (λ (r : Option (List ℕ)). option_map_or (is_word 48) r true) roles) p6.0 in
+    let fifth = fourth && list_all (λ (r : Option (List ℕ)). option_map_or (is_word longest_name) r true) roles in
+    let p7 = both (fifth && nat_le (length body) longest_text) (is_utf8 body) is in
+    let p6 = both fifth (nat_le (length body) longest_text) p7.0 in
+    let p5 = both fourth (list_all (λ (r : Option (List ℕ)). option_map_or (is_word longest_name) r true) roles) p6.0 in
     let p4 = both third (length roles == length wants) p5.0 in
     let p3 = both second (list_all (λ (w : Want). is_some w.kind && is_want w) wants) p4.0 in
     let p2 = both first (nat_le (length wants) 4) p3.0 in
@@ -266,13 +268,13 @@ module _ (F : Farm) (t : ℕ) (caller : List ℕ) (sound : IsSound F) where
   start_by : (n : ℕ) → first_code (reasons F t caller (Cmd.Start n)) ≡ None → Leaves (Cmd.Start n)
   start_by n clear =
       let j = right_job F n (λ j. same_job_state j.state JobState.Scheduled) clear in
-      ap (λ o. queue (option_map_or (λ j. done j.group (start_group j.group F)) o (done 0 F)).farm) j.1
+      ap (λ o. queue (option_map_or (λ j. done_with j.group (start_group j.group F)) o (done_with 0 F)).farm) j.1
       ∙ start_follows F sound n j.0 j.1 (scheduled_from j.0.state j.2)
 
   finish_by : (n : ℕ) (outcome : Outcome) → first_code (reasons F t caller (Cmd.Finish n outcome)) ≡ None → Leaves (Cmd.Finish n outcome)
   finish_by n outcome clear =
       let j = right_job F n (λ j. same_job_state j.state JobState.Running || same_job_state j.state JobState.Canceling) clear in
-      ap (λ o. queue (option_map_or (λ j. done n (finish_one F.clock outcome F j)) o (done 0 F)).farm) j.1
+      ap (λ o. queue (option_map_or (λ j. done_with n (finish_one F.clock outcome F j)) o (done_with 0 F)).farm) j.1
       ∙ finish_follows F sound n F.clock j.0 outcome j.1 (started_from j.0.state j.2).0
 
   acquire_by : (n : ℕ) → first_code (reasons F t caller (Cmd.Acquire n)) ≡ None → Leaves (Cmd.Acquire n)
@@ -325,8 +327,8 @@ unfolding own_refusal
 unreasoned F call clear = (unrefused F call clear).own
 
 pub commands_follow : (F : Farm) (call : Call) → IsSound F → None ≡ refusal F call → call.cmd ≢ Cmd.Pass
-    → queue (act (moved F call) call.caller call.cmd).farm ≡ queue_after (moved F call) call.caller call.cmd
+    → queue (act (farm_at_call F call) call.caller call.cmd).farm ≡ queue_after (farm_at_call F call) call.caller call.cmd
 commands_follow F call sound clear command =
-    command_follows (moved F call) (moment F call) call.caller (IsSound-moved_to F call clear sound) call.cmd
-    (both (is_word 48 call.caller && option_map_or (is_word 64) call.key true) (is_proper_cmd call.cmd) call.proper).1
+    command_follows (farm_at_call F call) (moment F call) call.caller (IsSound-moved_to F call clear sound) call.cmd
+    (both (is_word longest_name call.caller && option_map_or (is_word longest_key) call.key true) (is_proper_cmd call.cmd) call.proper).1
     (reasons_moved F (moment F call) (moment F call) call.caller call.cmd (unreasoned F call clear)) command

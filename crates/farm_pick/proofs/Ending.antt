@@ -4,7 +4,7 @@ use Rattle.std.specs.List.{AllByRecursion, filter, list_any}
 use Rattle.std.proofs.Math.Bool.{and-false, and-true}
 use Rattle.farm_types.specs.Farm.{Farm, res_of}
 use Rattle.farm_types.specs.Pass.{expire, is_dead}
-use Rattle.farm_types.specs.Pick.{Among, is_waiting, queue, res_claim, waits}
+use Rattle.farm_types.specs.Pick.{IsAmong, is_waiting, queue, res_claim, waits}
 use Rattle.farm_types.specs.Sound.{IsSound}
 use Rattle.farm_types.specs.declared.rows.ResRow.{ResRow}
 use Rattle.farm_types.specs.declared.rows.ResState.{ResState}
@@ -30,7 +30,7 @@ module _ (F : Farm) (t : ℕ) (sound : IsSound F) where
       (AllByRecursion-weaker (λ r two. two.0) (filter (is_dead t) F.reservations) (filter_all (λ r. (r.number == n) ≡ false) (is_dead t) F.reservations differ))
 
   -- a reservation's own number
-  ended_own : (r : ResRow) → Among r F.reservations → res_of F r.number ≡ Some r → ended r.number ≡ is_dead t r
+  ended_own : (r : ResRow) → IsAmong r F.reservations → res_of F r.number ≡ Some r → ended r.number ≡ is_dead t r
   ended_own r at own = any_own (is_dead t) (λ q. q.number == r.number) r F.reservations at (itself r.number)
       (AllByRecursion-weaker (λ q only same. only (same_number q.number r.number same)) F.reservations (only_res F sound.steady r.number r own))
 
@@ -51,6 +51,6 @@ module _ (F : Farm) (t : ℕ) (sound : IsSound F) where
             F.jobs (own_job F sound.steady);
         reservations_wait = AllByRecursion-weaker
             (λ r two. waits_after r (is_dead t r) ∙ ap (λ v. is_waiting r && not v) (sym (ended_own r two.0 two.1))) F.reservations
-            (AllByRecursion-both (λ r. Among r F.reservations) (λ r. res_of F r.number ≡ Some r) F.reservations (among_itself F.reservations) (own_res F sound.steady));
+            (AllByRecursion-both (λ r. IsAmong r F.reservations) (λ r. res_of F r.number ≡ Some r) F.reservations (among_itself F.reservations) (own_res F sound.steady));
       })
       sound.steady

@@ -9,6 +9,7 @@ use Rattle.std.specs.declared.cmp.Ordering.{Ordering}
 use Rattle.std.specs.declared.cmp.Ordering.TheVariants.{Equal, Greater, Less}
 use Rattle.std.proofs.lemmas.Bool.Decides.{nat_tests}
 use Rattle.std.proofs.lemmas.List.{drop_more}
+use Rattle.farm_types.specs.Limits.{highest_priority}
 use Rattle.farm_types.specs.Farm.{Farm, job_of, res_of}
 use Rattle.farm_types.specs.Pick.{Claimed, claim_cmp, group_claim, queue, res_claim}
 use Rattle.farm_types.specs.Sound.{EachTwo, IsJobRow, IsResRow, IsSound, IsSteady}
@@ -20,32 +21,32 @@ use Rattle.farm_sound.proofs.Claims.{IsClaim, IsGroupClaim, IsResClaim, claim_to
 use Rattle.farm_sound.proofs.Lists.{each_weaker, each_with}
 use Rattle.farm_sound.proofs.Where.{AllByRecursion-map}
 use Rattle.farm_pick.specs.Kept.{queued_cmp}
-use Rattle.farm_pick.specs.Queued.{Queued, queued}
+use Rattle.farm_pick.specs.Queued.{Queued, queued_of}
 use Rattle.farm_pick.proofs.Ordered.{not_below_itself}
 
 -- ---- what is put and what is taken, as the queues show it
 
 -- a claim is put where its shown one is put
-pub queued_put : (q : List Claimed) (c : Claimed) → map queued (put claim_cmp q c) ≡ put queued_cmp (map queued q) (queued c)
+pub queued_put : (q : List Claimed) (c : Claimed) → map queued_of (put claim_cmp q c) ≡ put queued_cmp (map queued_of q) (queued_of c)
 queued_put [] c = refl
 queued_put (r ∷ q) c = by (claim_cmp c r) (queued_put q c)
   where
-    by : (o : Ordering) → map queued (put claim_cmp q c) ≡ put queued_cmp (map queued q) (queued c)
-        → map queued (match_ordering o (c ∷ r ∷ q) (c ∷ q) (r ∷ put claim_cmp q c))
-        ≡ match_ordering o (queued c ∷ queued r ∷ map queued q) (queued c ∷ map queued q) (queued r ∷ put queued_cmp (map queued q) (queued c))
+    by : (o : Ordering) → map queued_of (put claim_cmp q c) ≡ put queued_cmp (map queued_of q) (queued_of c)
+        → map queued_of (match_ordering o (c ∷ r ∷ q) (c ∷ q) (r ∷ put claim_cmp q c))
+        ≡ match_ordering o (queued_of c ∷ queued_of r ∷ map queued_of q) (queued_of c ∷ map queued_of q) (queued_of r ∷ put queued_cmp (map queued_of q) (queued_of c))
     by Less rest = refl
     by Equal rest = refl
-    by Greater rest = ap (λ xs. queued r ∷ xs) rest
+    by Greater rest = ap (λ xs. queued_of r ∷ xs) rest
 
 -- claims that pass by their numbers are shown as the shown ones that pass
-pub queued_filter : (p : ℕ → Bool) (q : List Claimed) → map queued (filter (λ c. p c.number) q) ≡ filter (λ x. p x.claim.number) (map queued q)
+pub queued_filter : (p : ℕ → Bool) (q : List Claimed) → map queued_of (filter (λ c. p c.number) q) ≡ filter (λ x. p x.claim.number) (map queued_of q)
 queued_filter p [] = refl
 queued_filter p (c ∷ q) = by (p c.number) (queued_filter p q)
   where
-    by : (v : Bool) → map queued (filter (λ d. p d.number) q) ≡ filter (λ x. p x.claim.number) (map queued q)
-        → map queued (cond v (c ∷ filter (λ d. p d.number) q) (filter (λ d. p d.number) q))
-        ≡ cond v (queued c ∷ filter (λ x. p x.claim.number) (map queued q)) (filter (λ x. p x.claim.number) (map queued q))
-    by true rest = ap (λ xs. queued c ∷ xs) rest
+    by : (v : Bool) → map queued_of (filter (λ d. p d.number) q) ≡ filter (λ x. p x.claim.number) (map queued_of q)
+        → map queued_of (cond v (c ∷ filter (λ d. p d.number) q) (filter (λ d. p d.number) q))
+        ≡ cond v (queued_of c ∷ filter (λ x. p x.claim.number) (map queued_of q)) (filter (λ x. p x.claim.number) (map queued_of q))
+    by true rest = ap (λ xs. queued_of c ∷ xs) rest
     by false rest = rest
 
 -- ---- what each claim's row says of it
@@ -65,10 +66,10 @@ module _ (F : Farm) (steady : IsSteady F) where
       let same : c.number ≡ j.group = ap (λ (d : Claimed). d.number) is.2 in
       let row = job_row c j is in omega (arith, same, row.group.0, row.number.1)
 
-  low_from : (n : ℕ) → IsTrue (nat_le n 100) → n ≤ 100
-  low_from n is = let low : nat_le n 100 ≡ true = is in grind (arith, nat_tests)
+  low_from : (n : ℕ) → IsTrue (nat_le n highest_priority) → n ≤ highest_priority
+  low_from n is = let low : nat_le n highest_priority ≡ true = is in grind (arith, nat_tests)
 
-  priority_low : (c : Claimed) → IsClaim F c → c.priority ≤ 100
+  priority_low : (c : Claimed) → IsClaim F c → c.priority ≤ highest_priority
   priority_low c (inl (r, is)) =
       let same : c.priority ≡ r.priority = ap (λ (d : Claimed). d.priority) is.2 in
       let low = low_from r.priority (res_row c r is).priority in omega (arith, same, low)
@@ -82,12 +83,12 @@ fresh_next F sound = AllByRecursion-weaker (λ c claim same. let low = number_lo
     (queue F) (queue_claims F sound.steady)
 
 -- nor has one that is shown
-pub fresh_shown : (F : Farm) → IsSound F → AllByRecursion (λ (x : Queued). x.claim.number ≡ F.next → ⊥) (map queued (queue F))
-fresh_shown F sound = AllByRecursion-map (λ c. c.number ≡ F.next → ⊥) (λ (x : Queued). x.claim.number ≡ F.next → ⊥) queued (λ c fresh. fresh)
+pub fresh_shown : (F : Farm) → IsSound F → AllByRecursion (λ (x : Queued). x.claim.number ≡ F.next → ⊥) (map queued_of (queue F))
+fresh_shown F sound = AllByRecursion-map (λ c. c.number ≡ F.next → ⊥) (λ (x : Queued). x.claim.number ≡ F.next → ⊥) queued_of (λ c fresh. fresh)
     (queue F) (fresh_next F sound)
 
 -- each claim's priority is a priority
-pub low_priority : (F : Farm) → IsSound F → AllByRecursion (λ c. c.priority ≤ 100) (queue F)
+pub low_priority : (F : Farm) → IsSound F → AllByRecursion (λ c. c.priority ≤ highest_priority) (queue F)
 low_priority F sound = AllByRecursion-weaker (λ c claim. priority_low F sound.steady c claim) (queue F) (queue_claims F sound.steady)
 
 -- ---- claims of one number
@@ -152,17 +153,17 @@ put_first cmp x (y ∷ xs) less = ap (λ o. match_ordering o (x ∷ y ∷ xs) (x
 
 -- a claim is put before those behind it
 pub last_put : (F : Farm) (k : ℕ) (c : Claimed) → k < length (queue F) → get_or (queue F) k c ≡ c
-    → put queued_cmp (map queued (drop (k + 1) (queue F))) (queued c) ≡ map queued (drop k (queue F))
+    → put queued_cmp (map queued_of (drop (k + 1) (queue F))) (queued_of c) ≡ map queued_of (drop k (queue F))
 last_put F k c low is =
     let rest = drop (k + 1) (queue F) in
     sym (queued_put rest c)
-    ∙ ap (map queued) (put_first claim_cmp c rest
+    ∙ ap (map queued_of) (put_first claim_cmp c rest
     (each_after (λ a b. claim_cmp a b ≡ Less) (queue F) k c (each_in_order claim_cmp (queue F) (queue_sorted F)) low is)
     ∙ sym (drop_more (queue F) k c low ∙ ap (λ d. d ∷ rest) is))
 
 -- none of those behind a claim has its number
 pub fresh_before : (F : Farm) (k : ℕ) (c : Claimed) → IsSound F → k < length (queue F) → get_or (queue F) k c ≡ c
-    → AllByRecursion (λ (x : Queued). x.claim.number ≡ c.number → ⊥) (map queued (drop (k + 1) (queue F)))
+    → AllByRecursion (λ (x : Queued). x.claim.number ≡ c.number → ⊥) (map queued_of (drop (k + 1) (queue F)))
 fresh_before F k c sound low is =
-    AllByRecursion-map (λ d. c.number ≡ d.number → ⊥) (λ (x : Queued). x.claim.number ≡ c.number → ⊥) queued (λ d other same. other (sym same)) (drop (k + 1) (queue F))
+    AllByRecursion-map (λ d. c.number ≡ d.number → ⊥) (λ (x : Queued). x.claim.number ≡ c.number → ⊥) queued_of (λ d other same. other (sym same)) (drop (k + 1) (queue F))
     (each_after (λ a b. a.number ≡ b.number → ⊥) (queue F) k c (numbers_differ F sound) low is)

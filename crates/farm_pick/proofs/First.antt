@@ -8,10 +8,10 @@ use Rattle.std.specs.Ordering.{is_eq, is_gt, is_lt, nat_cmp, ordering_then, orde
 use Rattle.std.specs.declared.cmp.Ordering.{Ordering}
 use Rattle.std.specs.declared.cmp.Ordering.TheVariants.{Equal, Greater, Less}
 use Rattle.std.proofs.lemmas.Cmp.{tied_itself}
-use Rattle.farm_types.specs.Pick.{Among, shown_cmp}
+use Rattle.farm_types.specs.Pick.{IsAmong, shown_cmp}
 use Rattle.farm_types.specs.declared.claims.Claim.{Claim}
 use Rattle.farm_pick.specs.Kept.{spot_cmp, claim_at, IsKeyed}
-use Rattle.farm_pick.specs.Heads.{IsHead, IsFirst, rank_cmp, earlier}
+use Rattle.farm_pick.specs.Heads.{IsHead, IsFirst, rank_cmp, earlier_of}
 use Rattle.farm_pick.specs.declared.spot.Spot.{Spot}
 use Rattle.farm_pick.proofs.Keeping.{tied}
 
@@ -24,13 +24,13 @@ same_queue s t is = ap (λ o. ordering_then o (rank_cmp s t)) (ap (nat_cmp s.que
 
 -- the claim that is found has the rank of its spot
 pub found_entry : {K X : Type 0} (P : K × X → Type 0) (test : K → Bool) (v : X) (es : List (K × X)) → AllByRecursion P es → lookup test es ≡ Some v
-    → (e : K × X) × P e × (test e.0 ≡ true) × (e.1 ≡ v) × Among e es
+    → (e : K × X) × P e × (test e.0 ≡ true) × (e.1 ≡ v) × IsAmong e es
 found_entry P test v [] all found = cc
 found_entry P test v (e ∷ es) all found = by (test e.0) refl found (λ rest. found_entry P test v es all.1 rest)
   where
     by : (w : Bool) → test e.0 ≡ w → cond w (Some e.1) (lookup test es) ≡ Some v
-        → (lookup test es ≡ Some v → (d : _) × P d × (test d.0 ≡ true) × (d.1 ≡ v) × Among d es)
-        → (d : _) × P d × (test d.0 ≡ true) × (d.1 ≡ v) × Among d (e ∷ es)
+        → (lookup test es ≡ Some v → (d : _) × P d × (test d.0 ≡ true) × (d.1 ≡ v) × IsAmong d es)
+        → (d : _) × P d × (test d.0 ≡ true) × (d.1 ≡ v) × IsAmong d (e ∷ es)
     by true is here rest = let same : e.1 ≡ v = cc in (e, all.0, is, same, inl refl)
     by false is here rest = let more = rest here in (more.0, more.1, more.2, more.3, inr more.4)
 
@@ -105,7 +105,7 @@ module _ (kinds : List (List ℕ)) (es : List (Spot × Claim)) (keyed : AllByRec
     at_test : (s : Spot) → s.queue ≡ n → test s.queue ≡ true
     at_test s same = ap test same ∙ open_here
 
-    pub first_more : (o h : Option Claim) → IsFirst es test n last o → IsHead es here h → IsFirst es test (n + 1) last (earlier o h)
+    pub first_more : (o h : Option Claim) → IsFirst es test n last o → IsHead es here h → IsFirst es test (n + 1) last (earlier_of o h)
     first_more None None f g = λ t low is after. by t is after (below n t.queue low)
       where
         by : (t : Spot) → test t.queue ≡ true → rank_cmp last t ≡ Less → (t.queue < n) ⊎ (t.queue ≡ n) → claim_at es t ≡ None

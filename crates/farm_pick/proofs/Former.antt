@@ -3,8 +3,8 @@ use Rattle.std.proofs.Common.{◌&&◌, ◌+◌, ◌-◌, ◌==◌, ◌∙◌, �
 use mathlib.Core.Bool.{false≢true, true≢false}
 use Rattle.std.specs.List.{AllByRecursion, filter, find, list_all, list_any}
 use Rattle.farm_types.specs.Farm.{Farm, job_of, members}
-use Rattle.farm_types.specs.Pass.{back, checks, expire, is_dead, is_group}
-use Rattle.farm_types.specs.Pick.{Among, Claimed, group_claim, queue, waits}
+use Rattle.farm_types.specs.Pass.{giving_back, checks, expire, is_dead, is_group}
+use Rattle.farm_types.specs.Pick.{IsAmong, Claimed, group_claim, queue, waits}
 use Rattle.farm_types.specs.Sound.{IsJobRow, IsSound, phase}
 use Rattle.farm_types.specs.declared.rows.JobRow.{JobRow}
 use Rattle.farm_types.specs.declared.rows.ResRow.{ResRow}
@@ -27,12 +27,12 @@ use Rattle.farm_pick.proofs.Later.{among_later}
 -- ---- lists
 
 -- one that alone passes is found
-found_own : (test : Claimed → Bool) (c : Claimed) (cs : List Claimed) → Among c cs → test c ≡ true → AllByRecursion (λ d. test d ≡ true → d ≡ c) cs
+found_own : (test : Claimed → Bool) (c : Claimed) (cs : List Claimed) → IsAmong c cs → test c ≡ true → AllByRecursion (λ d. test d ≡ true → d ≡ c) cs
     → find test cs ≡ Some c
 found_own test c [] at is only = absurd at
 found_own test c (d ∷ cs) at is only = by (test d) refl at (λ more. found_own test c cs more is only.1)
   where
-    by : (v : Bool) → test d ≡ v → Among c (d ∷ cs) → (Among c cs → find test cs ≡ Some c) → cond v (Some d) (find test cs) ≡ Some c
+    by : (v : Bool) → test d ≡ v → IsAmong c (d ∷ cs) → (IsAmong c cs → find test cs ≡ Some c) → cond v (Some d) (find test cs) ≡ Some c
     by true has at rest = ap Some (only.0 has)
     by false has (inl same) rest = absurd (true≢false (sym is ∙ ap test same ∙ has))
     by false has (inr more) rest = rest more
@@ -45,12 +45,12 @@ all_wait : (ms : List JobRow) → AllByRecursion (λ m. waits m ≡ true) ms →
 all_wait [] all = refl
 all_wait (m ∷ ms) all = λ i. all.0 i && all_wait ms all.1 i
 
-some_of : (test : JobRow → Bool) (jobs : List JobRow) → 1 ≤ length (filter test jobs) → (j : JobRow) × Among j jobs × (test j ≡ true)
+some_of : (test : JobRow → Bool) (jobs : List JobRow) → 1 ≤ length (filter test jobs) → (j : JobRow) × IsAmong j jobs × (test j ≡ true)
 some_of test [] low = absurd (omega arith)
 some_of test (j ∷ jobs) low = by (test j) refl low (λ more. some_of test jobs more)
   where
     by : (v : Bool) → test j ≡ v → 1 ≤ length (cond v (j ∷ filter test jobs) (filter test jobs))
-        → (1 ≤ length (filter test jobs) → (k : JobRow) × Among k jobs × (test k ≡ true)) → (k : JobRow) × Among k (j ∷ jobs) × (test k ≡ true)
+        → (1 ≤ length (filter test jobs) → (k : JobRow) × IsAmong k jobs × (test k ≡ true)) → (k : JobRow) × IsAmong k (j ∷ jobs) × (test k ≡ true)
     by true is low rest = (j, inl refl, is)
     by false is low rest = let k = rest low in (k.0, inr k.1, k.2)
 
@@ -77,14 +77,14 @@ module _ (F : Farm) (sound : IsSound F) where
           (k.0, k.1, k.2, k.3 ∙ f.group)
 
   -- the group that collects waits
-  pub collector_claim : 1 ≤ F.collector → (c : Claimed) × Among c (queue F) × (is_group F.collector c ≡ true)
+  pub collector_claim : 1 ≤ F.collector → (c : Claimed) × IsAmong c (queue F) × (is_group F.collector c ≡ true)
   collector_claim low = (
     group_claim F k.0,
     among_queue F sound.steady (group_claim F k.0) (inr (k.0, (k.1, leading, refl))),
     ap (λ g. g == F.collector) group ∙ itself F.collector,
   )
     where
-      member : (j : JobRow) × Among j F.jobs × ((j.group == F.collector) ≡ true)
+      member : (j : JobRow) × IsAmong j F.jobs × ((j.group == F.collector) ≡ true)
       member = some_of (λ j. j.group == F.collector) F.jobs (let two = sound.collecting.several low in omega arith)
 
       k : (k : JobRow) × (job_of F k.number ≡ Some k) × (k.number ≡ k.group) × (k.group ≡ member.0.group)
@@ -103,15 +103,15 @@ module _ (F : Farm) (sound : IsSound F) where
       leading = λ i. (ap (λ n. n == k.0.group) k.2 ∙ itself k.0.group) i && all_wait (members F k.0.group) waiting i
 
   -- a group's claim is found by its number
-  pub group_found : (g : ℕ) (c : Claimed) → Among c (queue F) → is_group g c ≡ true → find (is_group g) (queue F) ≡ Some c
+  pub group_found : (g : ℕ) (c : Claimed) → IsAmong c (queue F) → is_group g c ≡ true → find (is_group g) (queue F) ≡ Some c
   group_found g c at is = found_own (is_group g) c (queue F) at is
       (AllByRecursion-weaker (λ d claim has. one_claim F sound.steady d c claim (among_has (IsClaim F) c (queue F) (queue_claims F sound.steady) at)
       (same_number d.number g (both (not d.reservation) (d.number == g) has).1 ∙ sym (same_number c.number g (both (not c.reservation) (c.number == g) is).1)))
       (queue F) (queue_claims F sound.steady))
 
   -- no reservation that ends has a group's number
-  pub group_stays : (t g : ℕ) (c : Claimed) → Among c (queue F) → is_group g c ≡ true → Among c (queue (expire F t))
-  group_stays t g c at is = subst (Among c) (sym (ends_follow F t sound))
+  pub group_stays : (t g : ℕ) (c : Claimed) → IsAmong c (queue F) → is_group g c ≡ true → IsAmong c (queue (expire F t))
+  group_stays t g c at is = subst (IsAmong c) (sym (ends_follow F t sound))
       (among_later (λ d. not (list_any (λ (r : ResRow). r.number == d.number) (filter (is_dead t) F.reservations))) c (queue F) at
       (ap not (by (among_has (IsClaim F) c (queue F) (queue_claims F sound.steady) at))))
     where
@@ -144,19 +144,19 @@ module _ (F : Farm) (sound : IsSound F) where
 
 -- the farm in which a pass tries the claims
 abbrev pub before_claims : Farm → Farm
-before_claims F = checks (expire (back F) F.clock) F.clock
+before_claims F = checks (expire (giving_back F) F.clock) F.clock
 
 pub IsSound-before : (F : Farm) → IsSound F → IsSound (before_claims F)
-IsSound-before F sound = IsSound-checks (expire (back F) F.clock) F.clock (IsSound-expire (back F) F.clock (IsSound-back F sound))
+IsSound-before F sound = IsSound-checks (expire (giving_back F) F.clock) F.clock (IsSound-expire (giving_back F) F.clock (IsSound-back F sound))
 
 -- the group that collected is the first claim that is tried
 pub former_found : (F : Farm) → IsSound F → 1 ≤ F.collector → (c : Claimed) × (find (is_group F.collector) (queue (before_claims F)) ≡ Some c)
 former_found F sound low =
     let claim = collector_claim F sound low in
-    let waits_on : Among claim.0 (queue (back F)) = subst (Among claim.0) (sym (backs_follow F)) claim.1 in
-    let stays : Among claim.0 (queue (expire (back F) F.clock)) = group_stays (back F) (IsSound-back F sound) F.clock F.collector claim.0 waits_on claim.2 in
-    let here : Among claim.0 (queue (before_claims F)) =
-    subst (Among claim.0) (sym (checks_follow (expire (back F) F.clock) (IsSound-expire (back F) F.clock (IsSound-back F sound)))) stays in
+    let waits_on : IsAmong claim.0 (queue (giving_back F)) = subst (IsAmong claim.0) (sym (backs_follow F)) claim.1 in
+    let stays : IsAmong claim.0 (queue (expire (giving_back F) F.clock)) = group_stays (giving_back F) (IsSound-back F sound) F.clock F.collector claim.0 waits_on claim.2 in
+    let here : IsAmong claim.0 (queue (before_claims F)) =
+    subst (IsAmong claim.0) (sym (checks_follow (expire (giving_back F) F.clock) (IsSound-expire (giving_back F) F.clock (IsSound-back F sound)))) stays in
     (claim.0, group_found (before_claims F) (IsSound-before F sound) F.collector claim.0 here claim.2)
 
 -- and where none did, none goes first

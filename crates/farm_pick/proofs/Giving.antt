@@ -6,8 +6,8 @@ use Rattle.std.specs.Str.{bytes_eq}
 use Rattle.std.proofs.Math.Bool.{and-false, and-true}
 use Rattle.std.proofs.lemmas.List.{length-map}
 use Rattle.farm_types.specs.Farm.{Farm, job_of, members}
-use Rattle.farm_types.specs.Pass.{allocated, give, give_group, give_member, give_res, held, placed}
-use Rattle.farm_types.specs.Pick.{Among, Claimed, group_claim, is_free, is_nobody, is_waiting, least, queue, res_claim, serves, waits}
+use Rattle.farm_types.specs.Pass.{allocated_reservation, give, give_group, give_member, give_res, held_board, placed_job}
+use Rattle.farm_types.specs.Pick.{IsAmong, Claimed, group_claim, is_free, is_nobody, is_waiting, least, queue, res_claim, serves, waits}
 use Rattle.farm_types.specs.Sound.{IsSound}
 use Rattle.farm_types.specs.Table.{change_where}
 use Rattle.farm_types.specs.declared.rows.BoardRow.{BoardRow}
@@ -26,7 +26,7 @@ use Rattle.farm_sound.proofs.Own.{itself, only_job, own_job}
 use Rattle.farm_sound.proofs.Serve.{res_kept}
 use Rattle.farm_sound.proofs.Tests.{same_number}
 use Rattle.farm_sound.proofs.Where.{AllByRecursion-both, all_true, by_cases, map_id}
-use Rattle.farm_pick.specs.Follow.{without}
+use Rattle.farm_pick.specs.Follow.{queue_without}
 use Rattle.farm_pick.specs.Queued.{IdleBoard, idle_board, idle_boards}
 use Rattle.farm_pick.proofs.Groups.{groups_differ, reservations_differ}
 use Rattle.farm_pick.proofs.Taking.{SameClaim, among_itself, and_other, any_own, other, queue_takes, same_claim, same_then, taken}
@@ -35,27 +35,27 @@ use Rattle.farm_pick.proofs.Taking.{SameClaim, among_itself, and_other, any_own,
 
 -- a board in someone's hands isn't free, and another stays as it was
 free_after : (types : List TypeRow) (h : Holder) (name : List ℕ) → is_nobody h ≡ false → (b : BoardRow)
-    → (is_free types (cond (bytes_eq b.name name) (held h State.Reserved b) b) ≡ (is_free types b && not (bytes_eq name b.name)))
-    × (idle_board (cond (bytes_eq b.name name) (held h State.Reserved b) b) ≡ idle_board b)
+    → (is_free types (cond (bytes_eq b.name name) (held_board h State.Reserved b) b) ≡ (is_free types b && not (bytes_eq name b.name)))
+    × (idle_board (cond (bytes_eq b.name name) (held_board h State.Reserved b) b) ≡ idle_board b)
 free_after types h name taken b = (
   by (bytes_eq b.name name) refl,
-  by_cases (λ c. idle_board c ≡ idle_board b) (bytes_eq b.name name) (held h State.Reserved b) b (λ _. refl) (λ _. refl),
+  by_cases (λ c. idle_board c ≡ idle_board b) (bytes_eq b.name name) (held_board h State.Reserved b) b (λ _. refl) (λ _. refl),
 )
   where
     back : bytes_eq name b.name ≡ bytes_eq b.name name
     back = nat_list_eq_equiv.symm name b.name
 
-    by : (v : Bool) → bytes_eq b.name name ≡ v → is_free types (cond v (held h State.Reserved b) b) ≡ (is_free types b && not (bytes_eq name b.name))
+    by : (v : Bool) → bytes_eq b.name name ≡ v → is_free types (cond v (held_board h State.Reserved b) b) ≡ (is_free types b && not (bytes_eq name b.name))
     by true is =
-        ap (λ v. serves types (held h State.Reserved b) && v) taken ∙ and-false (serves types (held h State.Reserved b))
+        ap (λ v. serves types (held_board h State.Reserved b) && v) taken ∙ and-false (serves types (held_board h State.Reserved b))
         ∙ sym (ap (λ v. is_free types b && not v) (back ∙ is) ∙ and-false (is_free types b))
     by false is = sym (ap (λ v. is_free types b && not v) (back ∙ is) ∙ and-true (is_free types b))
 
 one_given : (types : List TypeRow) (h : Holder) (name : List ℕ) → is_nobody h ≡ false → (boards : List BoardRow)
-    → map idle_board (filter (is_free types) (change_where (λ c. bytes_eq c.name name) (held h State.Reserved) boards))
+    → map idle_board (filter (is_free types) (change_where (λ c. bytes_eq c.name name) (held_board h State.Reserved) boards))
     ≡ filter (λ x. not (bytes_eq name x.name)) (map idle_board (filter (is_free types) boards))
 one_given types h name is boards =
-    taken (λ b. cond (bytes_eq b.name name) (held h State.Reserved b) b) (is_free types) (is_free types) idle_board idle_board
+    taken (λ b. cond (bytes_eq b.name name) (held_board h State.Reserved b) b) (is_free types) (is_free types) idle_board idle_board
     (λ x. not (bytes_eq name x.name)) boards (AllByRecursion-weaker (λ b _. free_after types h name is b) boards (all_true boards))
 
 -- a member's board goes, whatever state the member comes to
@@ -96,17 +96,17 @@ group_given (m ∷ ms) (b ∷ bs) F long =
 
 -- what the gift of these boards leaves of the queue and of the free boards
 abbrev Leaves : Farm → Claimed → List BoardRow → ℕ → Type 0
-Leaves F c bs t = (queue (give F c bs t) ≡ without c.number (queue F)) × (idle_boards (give F c bs t) ≡ filter (is_left bs) (idle_boards F))
+Leaves F c bs t = (queue (give F c bs t) ≡ queue_without c.number (queue F)) × (idle_boards (give F c bs t) ≡ filter (is_left bs) (idle_boards F))
 
 -- a member that is given a board waits no more
 given_waits : (ps : List (JobRow × BoardRow)) (m : JobRow)
     → waits (given JobState.Scheduled ps m) ≡ (waits m && not (list_any (λ (p : JobRow × BoardRow). m.number == p.0.number) ps))
 given_waits [] m = sym (and-true (waits m))
-given_waits (p ∷ ps) m = by (m.number == p.0.number) (given_waits ps (placed JobState.Scheduled p.1.name m)) (given_waits ps m)
+given_waits (p ∷ ps) m = by (m.number == p.0.number) (given_waits ps (placed_job JobState.Scheduled p.1.name m)) (given_waits ps m)
   where
-    by : (v : Bool) → waits (given JobState.Scheduled ps (placed JobState.Scheduled p.1.name m)) ≡ false
+    by : (v : Bool) → waits (given JobState.Scheduled ps (placed_job JobState.Scheduled p.1.name m)) ≡ false
         → waits (given JobState.Scheduled ps m) ≡ (waits m && not (list_any (λ (p : JobRow × BoardRow). m.number == p.0.number) ps))
-        → waits (given JobState.Scheduled ps (cond v (placed JobState.Scheduled p.1.name m) m))
+        → waits (given JobState.Scheduled ps (cond v (placed_job JobState.Scheduled p.1.name m) m))
         ≡ (waits m && not (v || list_any (λ (p : JobRow × BoardRow). m.number == p.0.number) ps))
     by true one other = one ∙ sym (and-false (waits m))
     by false one other = other
@@ -114,9 +114,9 @@ given_waits (p ∷ ps) m = by (m.number == p.0.number) (given_waits ps (placed J
 given_same : (ps : List (JobRow × BoardRow)) (m : JobRow) → SameClaim m (given JobState.Scheduled ps m)
 given_same [] m = same_claim m
 given_same (p ∷ ps) m =
-    let after = cond (m.number == p.0.number) (placed JobState.Scheduled p.1.name m) m in
+    let after = cond (m.number == p.0.number) (placed_job JobState.Scheduled p.1.name m) m in
     same_then m after (given JobState.Scheduled ps after)
-    (by_cases (SameClaim m) (m.number == p.0.number) (placed JobState.Scheduled p.1.name m) m
+    (by_cases (SameClaim m) (m.number == p.0.number) (placed_job JobState.Scheduled p.1.name m) m
     (λ _. record { number = refl; group = refl; owner = refl; priority = refl; want = refl }) (λ _. same_claim m))
     (given_same ps after)
 
@@ -136,12 +136,12 @@ module _ (F : Farm) (bs : List BoardRow) (t : ℕ) (sound : IsSound F) where
       by [] one = absurd (omega arith)
       by (b ∷ a ∷ bs) one = absurd (omega arith)
       by (b ∷ []) one = (
-        queue_takes F (give_res F r.number (b ∷ []) t) (other r.number) (λ j. j) (λ q. cond (q.number == r.number) (allocated b.name t q) q)
+        queue_takes F (give_res F r.number (b ∷ []) t) (other r.number) (λ j. j) (λ q. cond (q.number == r.number) (allocated_reservation b.name t q) q)
             (record {
               jobs = sym (map_id F.jobs);
               reservations = refl;
               same_job = same_claim;
-              same_res = λ q. by_cases (λ k. res_claim k ≡ res_claim q) (q.number == r.number) (allocated b.name t q) q (λ _. refl) (λ _. refl);
+              same_res = λ q. by_cases (λ k. res_claim k ≡ res_claim q) (q.number == r.number) (allocated_reservation b.name t q) q (λ _. refl) (λ _. refl);
               jobs_wait = AllByRecursion-weaker (λ j differs. and_other (waits j) j.group r.number differs) F.jobs
                   (groups_differ F sound.steady r.number r is.0);
               reservations_wait = AllByRecursion-weaker (λ q _. waits_after q (q.number == r.number)) F.reservations (all_true F.reservations);
@@ -150,7 +150,7 @@ module _ (F : Farm) (bs : List BoardRow) (t : ℕ) (sound : IsSound F) where
         one_given F.types (Holder.Res r.number) b.name refl F.boards ∙ sym (all_left _) ∙ left_twice b [] (idle_boards F),
       )
         where
-          waits_after : (q : ResRow) (v : Bool) → is_waiting (cond v (allocated b.name t q) q) ≡ (is_waiting q && not v)
+          waits_after : (q : ResRow) (v : Bool) → is_waiting (cond v (allocated_reservation b.name t q) q) ≡ (is_waiting q && not v)
           waits_after q true = sym (and-false (is_waiting q))
           waits_after q false = sym (and-true (is_waiting q))
 
@@ -164,7 +164,7 @@ module _ (F : Farm) (bs : List BoardRow) (t : ℕ) (sound : IsSound F) where
           same_job = given_same (zip (members F j.group) bs);
           same_res = λ r. refl;
           jobs_wait = AllByRecursion-weaker (λ m two. waits_after m two.0 two.1) F.jobs
-              (AllByRecursion-both (λ m. Among m F.jobs) (λ m. job_of F m.number ≡ Some m) F.jobs (among_itself F.jobs) (own_job F sound.steady));
+              (AllByRecursion-both (λ m. IsAmong m F.jobs) (λ m. job_of F m.number ≡ Some m) F.jobs (among_itself F.jobs) (own_job F sound.steady));
           reservations_wait = AllByRecursion-weaker (λ r differs. and_other (is_waiting r) r.number j.group differs) F.reservations
               (reservations_differ F sound.steady j.number j is.0);
         })
@@ -172,7 +172,7 @@ module _ (F : Farm) (bs : List BoardRow) (t : ℕ) (sound : IsSound F) where
     group_given (members F j.group) bs F long,
   )
     where
-      waits_after : (m : JobRow) → Among m F.jobs → job_of F m.number ≡ Some m
+      waits_after : (m : JobRow) → IsAmong m F.jobs → job_of F m.number ≡ Some m
           → waits (given JobState.Scheduled (zip (members F j.group) bs) m) ≡ (waits m && other j.group m.group)
       waits_after m at own =
           given_waits (zip (members F j.group) bs) m
@@ -182,7 +182,7 @@ module _ (F : Farm) (bs : List BoardRow) (t : ℕ) (sound : IsSound F) where
           (AllByRecursion-weaker (λ k only same. only (sym (same_number m.number k.number same))) F.jobs (only_job F sound.steady m.number m own)))
 
 -- a claim of the queue that is met
-pub giving_follows : (F : Farm) (c : Claimed) (bs : List BoardRow) (t : ℕ) → IsSound F → t ≤ F.clock → Among c (queue F)
+pub giving_follows : (F : Farm) (c : Claimed) (bs : List BoardRow) (t : ℕ) → IsSound F → t ≤ F.clock → IsAmong c (queue F)
     → least F.boards (is_free F.types) c.wants ≡ Some bs → Leaves F c bs t
 giving_follows F c bs t sound low at found = by (among_has (IsClaim F) c (queue F) (queue_claims F sound.steady) at)
   where

@@ -10,7 +10,7 @@ use Rattle.std.specs.Ordering.{is_eq, nat_cmp, ordering_then}
 use Rattle.std.specs.declared.cmp.Ordering.{Ordering}
 use Rattle.std.specs.declared.cmp.Ordering.TheVariants.{Equal, Greater, Less}
 use Rattle.std.proofs.lemmas.Cmp.{ranked}
-use Rattle.farm_types.specs.Pick.{Among, shown_cmp}
+use Rattle.farm_types.specs.Pick.{IsAmong, shown_cmp}
 use Rattle.farm_types.specs.Sound.{EachTwo}
 use Rattle.farm_types.specs.Table.{put, put_all}
 use Rattle.farm_types.specs.declared.claims.Claim.{Claim}
@@ -79,21 +79,21 @@ tie a b t =
 -- ---- look-ups
 
 lookup_has : {K X : Type 0} (P : K × X → Type 0) (test : K → Bool) (v : X) (es : List (K × X)) → AllByRecursion P es → lookup test es ≡ Some v
-    → (e : K × X) × P e × (test e.0 ≡ true) × Among e es
+    → (e : K × X) × P e × (test e.0 ≡ true) × IsAmong e es
 lookup_has P test v [] all found = cc
 lookup_has P test v (e ∷ es) all found = by (test e.0) refl found (λ rest. lookup_has P test v es all.1 rest)
   where
     by : (w : Bool) → test e.0 ≡ w → cond w (Some e.1) (lookup test es) ≡ Some v
-        → (lookup test es ≡ Some v → (d : _) × P d × (test d.0 ≡ true) × Among d es)
-        → (d : _) × P d × (test d.0 ≡ true) × Among d (e ∷ es)
+        → (lookup test es ≡ Some v → (d : _) × P d × (test d.0 ≡ true) × IsAmong d es)
+        → (d : _) × P d × (test d.0 ≡ true) × IsAmong d (e ∷ es)
     by true is here rest = (e, all.0, is, inl refl)
     by false is here rest = let more = rest here in (more.0, more.1, more.2, inr more.3)
 
-lookup_some : {K X : Type 0} (test : K → Bool) (e : K × X) (es : List (K × X)) → Among e es → test e.0 ≡ true → is_some (lookup test es) ≡ true
+lookup_some : {K X : Type 0} (test : K → Bool) (e : K × X) (es : List (K × X)) → IsAmong e es → test e.0 ≡ true → is_some (lookup test es) ≡ true
 lookup_some test e [] at is = absurd at
 lookup_some test e (d ∷ es) at is = by (test d.0) refl at (λ rest. lookup_some test e es rest is)
   where
-    by : (w : Bool) → test d.0 ≡ w → Among e (d ∷ es) → (Among e es → is_some (lookup test es) ≡ true) → is_some (cond w (Some d.1) (lookup test es)) ≡ true
+    by : (w : Bool) → test d.0 ≡ w → IsAmong e (d ∷ es) → (IsAmong e es → is_some (lookup test es) ≡ true) → is_some (cond w (Some d.1) (lookup test es)) ≡ true
     by true has at rest = refl
     by false has (inl same) rest = absurd (true≢false (sym is ∙ ap (λ (x : _). test x.0) same ∙ has))
     by false has (inr more) rest = rest more
@@ -154,7 +154,7 @@ module _ (kinds : List (List ℕ)) (es : List (Spot × Claim)) (ps : List (ℕ �
       )
 
   -- and a claim's number is placed
-  pub entry_placed : (e : Spot × Claim) → Among e es → place_at ps e.0.number ≡ None → ⊥
+  pub entry_placed : (e : Spot × Claim) → IsAmong e es → place_at ps e.0.number ≡ None → ⊥
   entry_placed e at none =
       let here = lookup_some (λ x. is_eq (spot_cmp e.0 x)) e es at (tie e.0 e.0 (record { queue = refl; priority = refl; number = refl })) in
       true≢false (sym here ∙ are.placed e.0 ∙ ap (λ o. option_map_or (λ (r : Place). (r.queue == e.0.queue) && (r.priority == e.0.priority)) o false) none)
@@ -269,7 +269,7 @@ module _ (kinds : List (List ℕ)) (es : List (Spot × Claim)) (ps : List (ℕ �
   filter_same n [] all = refl
   filter_same n (x ∷ xs) all = ap (λ v. cond v (x ∷ filter (is_other n) xs) (filter (is_other n) xs)) all.0 ∙ ap (λ ys. x ∷ ys) (filter_same n xs all.1)
 
-  all_entry : (ds : List (Spot × Claim)) → AllByRecursion (λ d. Among d ds) ds
+  all_entry : (ds : List (Spot × Claim)) → AllByRecursion (λ d. IsAmong d ds) ds
   all_entry [] = tt
   all_entry (d ∷ ds) = (inl refl, AllByRecursion-weaker (λ e at. inr at) ds (all_entry ds))
 
@@ -277,7 +277,7 @@ module _ (kinds : List (List ℕ)) (es : List (Spot × Claim)) (ps : List (ℕ �
   pub none_taken : (n : ℕ) → place_at ps n ≡ None → shown_claims kinds es ≡ filter (is_other n) (shown_claims kinds es)
   none_taken n none = sym (filter_same n (shown_claims kinds es) (all_shown (λ x. is_other n x ≡ true) es
       (AllByRecursion-weaker (λ e two. other_true e.1.number n (λ same. entry_placed e two.0 (ap (place_at ps) (two.1.number ∙ same) ∙ none))) es
-      (AllByRecursion-both (λ d. Among d es) (IsKeyed kinds) es (all_entry es) are.keyed))))
+      (AllByRecursion-both (λ d. IsAmong d es) (IsKeyed kinds) es (all_entry es) are.keyed))))
 
   module _ (n : ℕ) (p : Place) (there : place_at ps n ≡ Some p) (fs : List (Spot × Claim)) (qs : List (ℕ × Place)) where
     abbrev spot_of : Spot

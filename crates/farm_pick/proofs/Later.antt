@@ -6,7 +6,7 @@ use Rattle.std.specs.List.Sorted.{IsStrictlySortedBy}
 use Rattle.std.specs.Ordering.{is_lt}
 use Rattle.std.specs.declared.cmp.Ordering.{Ordering}
 use Rattle.std.specs.declared.cmp.Ordering.TheVariants.{Equal, Greater, Less}
-use Rattle.farm_types.specs.Pick.{Among, Claimed, claim_cmp}
+use Rattle.farm_types.specs.Pick.{IsAmong, Claimed, claim_cmp}
 use Rattle.farm_types.proofs.Put.{AllByRecursion-weaker, found_has}
 use Rattle.farm_sound.proofs.Claims.{claim_total}
 use Rattle.farm_pick.specs.Merged.{comes_after}
@@ -16,11 +16,11 @@ use Rattle.farm_pick.proofs.Ordered.{not_below_itself}
 abbrev pub later : Option Claimed → List Claimed → List Claimed
 later last xs = filter (comes_after last) xs
 
-pub among_later : (test : Claimed → Bool) (d : Claimed) (xs : List Claimed) → Among d xs → test d ≡ true → Among d (filter test xs)
+pub among_later : (test : Claimed → Bool) (d : Claimed) (xs : List Claimed) → IsAmong d xs → test d ≡ true → IsAmong d (filter test xs)
 among_later test d [] at is = at
 among_later test d (x ∷ xs) at is = by (test x) refl at (λ more. among_later test d xs more is)
   where
-    by : (v : Bool) → test x ≡ v → Among d (x ∷ xs) → (Among d xs → Among d (filter test xs)) → Among d (cond v (x ∷ filter test xs) (filter test xs))
+    by : (v : Bool) → test x ≡ v → IsAmong d (x ∷ xs) → (IsAmong d xs → IsAmong d (filter test xs)) → IsAmong d (cond v (x ∷ filter test xs) (filter test xs))
     by true has (inl same) rest = inl same
     by true has (inr more) rest = inr (rest more)
     by false has (inl same) rest = absurd (true≢false (sym is ∙ ap test same ∙ has))

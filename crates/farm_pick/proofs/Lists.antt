@@ -9,7 +9,7 @@ use Rattle.std.specs.declared.cmp.Ordering.{Ordering}
 use Rattle.std.specs.declared.cmp.Ordering.TheVariants.{Less}
 use Rattle.std.proofs.lemmas.Bool.{true≢false, cases_Bool}
 use Rattle.farm_types.specs.Table.{board_cmp}
-use Rattle.farm_types.specs.Pick.{Among, AreAmong, meets, names_cmp, lists_of, least, IsLeast}
+use Rattle.farm_types.specs.Pick.{IsAmong, AreAmong, meets, names_cmp, lists_of, least, IsLeast}
 use Rattle.farm_types.specs.declared.rows.Want.{Want}
 use Rattle.farm_types.specs.declared.rows.BoardRow.{BoardRow}
 use Rattle.farm_pick.proofs.Places.{AreInNameOrder, board_cmp-self}
@@ -18,15 +18,15 @@ use Rattle.farm_pick.proofs.Meeting.{length-meets}
 
 -- ---- elements of joined and mapped lists
 
-among_left : {X : Type 0} (x : X) (xs ys : List X) → Among x xs → Among x (xs ++ ys)
+among_left : {X : Type 0} (x : X) (xs ys : List X) → IsAmong x xs → IsAmong x (xs ++ ys)
 among_left x [] ys h = absurd h
 among_left x (y ∷ xs) ys h = elim h [ inl same ↦ inl same | inr later ↦ inr (among_left x xs ys later) ]
 
-among_right : {X : Type 0} (x : X) (xs ys : List X) → Among x ys → Among x (xs ++ ys)
+among_right : {X : Type 0} (x : X) (xs ys : List X) → IsAmong x ys → IsAmong x (xs ++ ys)
 among_right x [] ys h = h
 among_right x (y ∷ xs) ys h = inr (among_right x xs ys h)
 
-among_either : {X : Type 0} (x : X) (xs ys : List X) → Among x (xs ++ ys) → Among x xs ⊎ Among x ys
+among_either : {X : Type 0} (x : X) (xs ys : List X) → IsAmong x (xs ++ ys) → IsAmong x xs ⊎ IsAmong x ys
 among_either x [] ys h = inr h
 among_either x (y ∷ xs) ys h =
     elim h [
@@ -34,11 +34,11 @@ among_either x (y ∷ xs) ys h =
       | inr later ↦ elim (among_either x xs ys later) [ inl l ↦ inl (inr l) | inr r ↦ inr r ]
     ]
 
-among_map : {X Y : Type 0} (f : X → Y) (x : X) (xs : List X) → Among x xs → Among (f x) (map f xs)
+among_map : {X Y : Type 0} (f : X → Y) (x : X) (xs : List X) → IsAmong x xs → IsAmong (f x) (map f xs)
 among_map f x [] h = absurd h
 among_map f x (y ∷ xs) h = elim h [ inl same ↦ inl (ap f same) | inr later ↦ inr (among_map f x xs later) ]
 
-among_unmap : {X Y : Type 0} (f : X → Y) (y : Y) (xs : List X) → Among y (map f xs) → (x : X) × Among x xs × (y ≡ f x)
+among_unmap : {X Y : Type 0} (f : X → Y) (y : Y) (xs : List X) → IsAmong y (map f xs) → (x : X) × IsAmong x xs × (y ≡ f x)
 among_unmap f y [] h = absurd h
 among_unmap f y (x ∷ xs) h =
     elim h [
@@ -61,12 +61,12 @@ sorted_join R (x ∷ xs) ys h k below =
 abbrev lists_with : List (List BoardRow) → List BoardRow → List (List BoardRow)
 lists_with ls boards = flat_map (λ b. map (λ bs. b ∷ bs) ls) boards
 
-with_board : (b : BoardRow) (bs : List BoardRow) (ls : List (List BoardRow)) (boards : List BoardRow) → Among b boards → Among bs ls → Among (b ∷ bs) (lists_with ls boards)
+with_board : (b : BoardRow) (bs : List BoardRow) (ls : List (List BoardRow)) (boards : List BoardRow) → IsAmong b boards → IsAmong bs ls → IsAmong (b ∷ bs) (lists_with ls boards)
 with_board b bs ls [] h k = absurd h
 with_board b bs ls (c ∷ boards) h k =
     elim h [
       | inl same ↦
-          let here : Among (b ∷ bs) (map (λ xs. c ∷ xs) ls) = rw same (among_map (λ (xs : List BoardRow). c ∷ xs) bs ls k) in
+          let here : IsAmong (b ∷ bs) (map (λ xs. c ∷ xs) ls) = rw same (among_map (λ (xs : List BoardRow). c ∷ xs) bs ls k) in
           among_left (b ∷ bs) (map (λ xs. c ∷ xs) ls) (lists_with ls boards) here
       | inr later ↦ among_right (b ∷ bs) (map (λ xs. c ∷ xs) ls) (lists_with ls boards) (with_board b bs ls boards later k)
     ]
@@ -75,11 +75,11 @@ with_board b bs ls (c ∷ boards) h k =
 record IsWith (ls : List (List BoardRow)) (boards xs : List BoardRow) : Type 0 where
   first : BoardRow
   others : List BoardRow
-  known : Among first boards
-  rest : Among others ls
+  known : IsAmong first boards
+  rest : IsAmong others ls
   is : xs ≡ first ∷ others
 
-parts_of : (ls : List (List BoardRow)) (boards xs : List BoardRow) → Among xs (lists_with ls boards) → IsWith ls boards xs
+parts_of : (ls : List (List BoardRow)) (boards xs : List BoardRow) → IsAmong xs (lists_with ls boards) → IsWith ls boards xs
 parts_of ls [] xs h = absurd h
 parts_of ls (b ∷ boards) xs h =
     elim (among_either xs (map (λ bs. b ∷ bs) ls) (lists_with ls boards) h) [
@@ -124,7 +124,7 @@ sorted_with ls (b ∷ boards) s ordered =
 -- ---- all lists of n of the boards
 
 module _ (boards : List BoardRow) where
-  listed : (n : ℕ) (bs : List BoardRow) → AreAmong boards bs → length bs ≡ n → Among bs (lists_of n boards)
+  listed : (n : ℕ) (bs : List BoardRow) → AreAmong boards bs → length bs ≡ n → IsAmong bs (lists_of n boards)
   listed zero [] known e = inl refl
   listed zero (b ∷ bs) known e = absurd (omega arith)
   listed (suc n) [] known e = absurd (omega arith)
@@ -132,7 +132,7 @@ module _ (boards : List BoardRow) where
       let fewer : length bs ≡ n = omega arith in
       with_board b bs (lists_of n boards) boards known.0 (listed n bs known.1 fewer)
 
-  known_of : (n : ℕ) (bs : List BoardRow) → Among bs (lists_of n boards) → AreAmong boards bs
+  known_of : (n : ℕ) (bs : List BoardRow) → IsAmong bs (lists_of n boards) → AreAmong boards bs
   known_of zero bs h = elim h [ inl same ↦ rw same tt | inr none ↦ absurd none ]
   known_of (suc n) bs h =
       let part = parts_of (lists_of n boards) boards bs h in
@@ -156,12 +156,12 @@ same_from_some x y e = cc
 
 -- b passes, and none that passes comes before it
 record IsFirst {X : Type 0} (R : X → X → Ordering) (p : X → Bool) (xs : List X) (b : X) : Type 0 where
-  among : Among b xs
+  among : IsAmong b xs
   passes : p b ≡ true
-  first : (c : X) → Among c xs → p c ≡ true → is_lt (R c b) ≡ false
+  first : (c : X) → IsAmong c xs → p c ≡ true → is_lt (R c b) ≡ false
 
 module _ {X : Type 0} (R : X → X → Ordering) (o : IsTotalOrder R) (p : X → Bool) where
-  above : (x c : X) (xs : List X) → AllByRecursion (λ y. R x y ≡ Less) xs → Among c xs → R x c ≡ Less
+  above : (x c : X) (xs : List X) → AllByRecursion (λ y. R x y ≡ Less) xs → IsAmong c xs → R x c ≡ Less
   above x c [] h k = absurd k
   above x c (y ∷ xs) h k = elim k [ inl same ↦ rw same h.0 | inr later ↦ above x c xs h.1 later ]
 
@@ -192,7 +192,7 @@ module _ {X : Type 0} (R : X → X → Ordering) (o : IsTotalOrder R) (p : X →
             }
       ]
 
-  none_passes : (xs : List X) → find p xs ≡ None → (c : X) → Among c xs → p c ≡ true → ⊥
+  none_passes : (xs : List X) → find p xs ≡ None → (c : X) → IsAmong c xs → p c ≡ true → ⊥
   none_passes [] e c k q = absurd k
   none_passes (x ∷ xs) e c k q =
       elim (cases_Bool (p x)) [

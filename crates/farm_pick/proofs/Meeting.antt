@@ -13,7 +13,7 @@ use Rattle.farm_types.specs.Pick.{AreAmong, fits, are_apart, meets, names_cmp}
 use Rattle.farm_types.specs.declared.rows.Want.{Want}
 use Rattle.farm_types.specs.declared.rows.BoardRow.{BoardRow}
 use Rattle.farm_pick.specs.Test.{is_candidate}
-use Rattle.farm_pick.specs.Choice.{Chooses, NotAfter, candidate_at}
+use Rattle.farm_pick.specs.Choice.{Chooses, IsNotAfter, candidate_at}
 use Rattle.farm_pick.proofs.Places.{AreInNameOrder, AreAt, candidate_board, among_at, place_of, apart, not_among, same_from_some, rises, board_cmp-self, board_cmp-reverse}
 
 -- ---- one board more
@@ -89,7 +89,7 @@ module _ (boards : List BoardRow) (test : BoardRow → Bool) where
 -- ---- the order of places is the order of names
 
 module _ (boards : List BoardRow) (ordered : AreInNameOrder boards) where
-  pub not_before : (ps qs : List ℕ) (bs cs : List BoardRow) → AreAt boards ps bs → AreAt boards qs cs → NotAfter ps qs → is_lt (names_cmp cs bs) ≡ false
+  pub not_before : (ps qs : List ℕ) (bs cs : List BoardRow) → AreAt boards ps bs → AreAt boards qs cs → IsNotAfter ps qs → is_lt (names_cmp cs bs) ≡ false
   not_before [] qs [] [] at at' n = refl
   not_before [] qs [] (c ∷ cs) at at' n = refl
   not_before [] qs (b ∷ bs) cs at at' n = absurd at

@@ -9,8 +9,8 @@ use Rattle.std.proofs.Math.Bool.{and-false}
 use Rattle.std.proofs.lemmas.List.{length-map}
 use Rattle.std.proofs.lemmas.List.Sums.{fold-append}
 use Rattle.farm_types.specs.Farm.{Farm, members}
-use Rattle.farm_types.specs.Pass.{Served, collect, give, give_group, give_member, give_res, held, is_group, may_collect, pass_over, serve, serve_all}
-use Rattle.farm_types.specs.Pick.{Among, Claimed, is_free, least, queue}
+use Rattle.farm_types.specs.Pass.{Served, collect, give, give_group, give_member, give_res, held_board, is_group, may_collect, pass_over, serve, serve_all}
+use Rattle.farm_types.specs.Pick.{IsAmong, Claimed, is_free, least, queue}
 use Rattle.farm_types.specs.Sound.{EachTwo, IsSound}
 use Rattle.farm_types.specs.Table.{board_cmp, change_where}
 use Rattle.farm_types.specs.Words.{text_cmp}
@@ -29,9 +29,9 @@ use Rattle.farm_sound.proofs.Serve.{IsOpen-give, IsSound-give, give_clock, over}
 use Rattle.farm_sound.proofs.Tests.{both, same_number}
 use Rattle.farm_sound.proofs.Unmet.{IsUnmet, IsUnmet-give}
 use Rattle.farm_sound.proofs.Where.{AllByRecursion-both, all_true, by_cases, sorted_map}
-use Rattle.farm_pick.specs.Follow.{without}
+use Rattle.farm_pick.specs.Follow.{queue_without}
 use Rattle.farm_pick.specs.Queued.{idle_boards, is_open, queue_kind}
-use Rattle.farm_pick.specs.Merged.{comes_after, first_tried, is_tried, may_act, merged, next_lent, next_tried, rest}
+use Rattle.farm_pick.specs.Merged.{comes_after, first_tried, is_tried, may_act, merged_pass, next_lent, next_tried, rest}
 use Rattle.farm_pick.proofs.Closed.{closed_is_unmet}
 use Rattle.farm_pick.proofs.Collects.{collecting_follows}
 use Rattle.farm_pick.proofs.Filling.{numbers_differ, one_claim}
@@ -60,12 +60,12 @@ some_want F c (inr (j, is)) =
 -- ---- what trying a claim leaves
 
 -- no claim but those of a number fails the test
-filter_without : (p : Claimed → Bool) (n : ℕ) (cs : List Claimed) → AllByRecursion (λ d. d.number ≡ n → p d ≡ false) cs → filter p (without n cs) ≡ filter p cs
+filter_without : (p : Claimed → Bool) (n : ℕ) (cs : List Claimed) → AllByRecursion (λ d. d.number ≡ n → p d ≡ false) cs → filter p (queue_without n cs) ≡ filter p cs
 filter_without p n [] all = refl
 filter_without p n (d ∷ cs) all = by (d.number == n) refl (filter_without p n cs all.1)
   where
-    by : (v : Bool) → (d.number == n) ≡ v → filter p (without n cs) ≡ filter p cs
-        → filter p (cond (not v) (d ∷ without n cs) (without n cs)) ≡ cond (p d) (d ∷ filter p cs) (filter p cs)
+    by : (v : Bool) → (d.number == n) ≡ v → filter p (queue_without n cs) ≡ filter p cs
+        → filter p (cond (not v) (d ∷ queue_without n cs) (queue_without n cs)) ≡ cond (p d) (d ∷ filter p cs) (filter p cs)
     by true is more = more ∙ sym (ap (λ v. cond v (d ∷ filter p cs) (filter p cs)) (all.0 (same_number d.number n is)))
     by false is more = ap (λ ds. cond (p d) (d ∷ ds) ds) more
 
@@ -83,7 +83,7 @@ leaves t s c low sound is = record { low = parts.0; sound = parts.1; opens = par
     claim : IsClaim s.farm c
     claim = claim_of_open s.farm c is
 
-    among : Among c (queue s.farm)
+    among : IsAmong c (queue s.farm)
     among = among_queue s.farm sound.steady c claim
 
     fails : (p : Claimed → Bool) → p c ≡ false → AllByRecursion (λ d. d.number ≡ c.number → p d ≡ false) (queue s.farm)
@@ -115,19 +115,19 @@ leaves t s c low sound is = record { low = parts.0; sound = parts.1; opens = par
     parts = by (least s.farm.boards (is_free s.farm.types) c.wants) refl
 
 -- one claim that is served is one less in the queue
-length_without : (c : Claimed) (cs : List Claimed) → Among c cs → 1 + length (without c.number cs) ≤ length cs
+length_without : (c : Claimed) (cs : List Claimed) → IsAmong c cs → 1 + length (queue_without c.number cs) ≤ length cs
 length_without c [] at = absurd at
 length_without c (d ∷ cs) (inl same) =
-    subst (λ v. 1 + length (cond (not v) (d ∷ without c.number cs) (without c.number cs)) ≤ length (d ∷ cs))
+    subst (λ v. 1 + length (cond (not v) (d ∷ queue_without c.number cs) (queue_without c.number cs)) ≤ length (d ∷ cs))
     (sym (ap (λ (e : Claimed). d.number == e.number) same ∙ itself d.number))
     (let few = length_filter (λ (e : Claimed). not (e.number == c.number)) cs in omega (arith, few))
 length_without c (d ∷ cs) (inr at) = by (d.number == c.number) (length_without c cs at)
   where
-    by : (v : Bool) → 1 + length (without c.number cs) ≤ length cs → 1 + length (cond (not v) (d ∷ without c.number cs) (without c.number cs)) ≤ length (d ∷ cs)
+    by : (v : Bool) → 1 + length (queue_without c.number cs) ≤ length cs → 1 + length (cond (not v) (d ∷ queue_without c.number cs) (queue_without c.number cs)) ≤ length (d ∷ cs)
     by true few = omega (arith, few)
     by false few = omega (arith, few)
 
-pub served_few : (t : ℕ) (s : Served) (c : Claimed) → IsSound s.farm → t ≤ s.farm.clock → Among c (queue s.farm)
+pub served_few : (t : ℕ) (s : Served) (c : Claimed) → IsSound s.farm → t ≤ s.farm.clock → IsAmong c (queue s.farm)
     → (serve t s c).claims + length (queue (serve t s c).farm) ≤ s.claims + length (queue s.farm)
 served_few t s c sound low at = by (least s.farm.boards (is_free s.farm.types) c.wants) refl
   where
@@ -138,7 +138,7 @@ served_few t s c sound low at = by (least s.farm.boards (is_free s.farm.types) c
         → Few (option_map_or (λ bs. record { farm = give s.farm c bs t; claims = s.claims + 1 }) o (record { farm = pass_over s.farm c; claims = s.claims }))
     by None met = let same : length (queue (pass_over s.farm c)) ≡ length (queue s.farm) = ap length (collecting_follows s.farm sound c at) in omega (arith, same)
     by (Some bs) met =
-        let same : length (queue (give s.farm c bs t)) ≡ length (without c.number (queue s.farm)) = ap length (giving_follows s.farm c bs t sound low at met).0 in
+        let same : length (queue (give s.farm c bs t)) ≡ length (queue_without c.number (queue s.farm)) = ap length (giving_follows s.farm c bs t sound low at met).0 in
         omega (arith, same, length_without c (queue s.farm) at)
 
 -- ---- claims that are passed over
@@ -220,11 +220,11 @@ not_true true is = absurd (true≢false (sym is))
 not_true false is = refl
 
 -- what is found stands in the list
-pub found_among : (p : Claimed → Bool) (c : Claimed) (cs : List Claimed) → find p cs ≡ Some c → Among c cs
+pub found_among : (p : Claimed → Bool) (c : Claimed) (cs : List Claimed) → find p cs ≡ Some c → IsAmong c cs
 found_among p c [] is = cc
 found_among p c (d ∷ cs) is = by (p d) is (λ more. found_among p c cs more)
   where
-    by : (v : Bool) → cond v (Some d) (find p cs) ≡ Some c → (find p cs ≡ Some c → Among c cs) → Among c (d ∷ cs)
+    by : (v : Bool) → cond v (Some d) (find p cs) ≡ Some c → (find p cs ≡ Some c → IsAmong c cs) → IsAmong c (d ∷ cs)
     by true is more = let same : d ≡ c = cc in inl (sym same)
     by false is more = inr (more is)
 
@@ -411,7 +411,7 @@ module _ (F : Farm) (group t : ℕ) (sound : IsSound F) (none : F.collector ≡ 
   }
 
   -- and where it is one
-  pub begins_with : (c : Claimed) → find (is_group group) (queue F) ≡ Some c → Among c (queue F) × Begins (serve t start c)
+  pub begins_with : (c : Claimed) → find (is_group group) (queue F) ≡ Some c → IsAmong c (queue F) × Begins (serve t start c)
   begins_with c found = (
     among,
     record {
@@ -433,7 +433,7 @@ module _ (F : Farm) (group t : ℕ) (sound : IsSound F) (none : F.collector ≡ 
       own : others c ≡ false
       own = ap not (found_passes (is_group group) c (queue F) found)
 
-      among : Among c (queue F)
+      among : IsAmong c (queue F)
       among = found_among (is_group group) c (queue F) found
 
       after : Leaves t start c
@@ -449,7 +449,7 @@ no_length [] low = refl
 no_length (x ∷ xs) low = absurd (omega arith)
 
 merged_on : (n former t : ℕ) (s : Served) (last : Option Claimed) → IsTrying former t s last → length (later last (queue s.farm)) ≤ n
-    → merged former n t s last ≡ fold (serve t) s (rest former last s.farm)
+    → merged_pass former n t s last ≡ fold (serve t) s (rest former last s.farm)
 merged_on zero former t s last trying few =
     sym (ap (fold (serve_but former t) s) (no_length (later last (queue s.farm)) few)) ∙ fold_but former t last s (queue s.farm)
 merged_on (suc n) former t s last trying few =
@@ -457,37 +457,37 @@ merged_on (suc n) former t s last trying few =
   where
     by : (o : Option Claimed) → next_tried former s.farm last ≡ o
         → ((c : Claimed) → IsTrying former t (serve t s c) (Some c) → length (later (Some c) (queue (serve t s c).farm)) ≤ n
-        → merged former n t (serve t s c) (Some c) ≡ fold (serve t) (serve t s c) (rest former (Some c) (serve t s c).farm))
-        → option_map_or (λ c. merged former n t (serve t s c) (Some c)) o s ≡ fold (serve t) s (rest former last s.farm)
+        → merged_pass former n t (serve t s c) (Some c) ≡ fold (serve t) (serve t s c) (rest former (Some c) (serve t s c).farm))
+        → option_map_or (λ c. merged_pass former n t (serve t s c) (Some c)) o s ≡ fold (serve t) s (rest former last s.farm)
     by None is more = sym (none_tried former t s last trying.sound is)
     by (Some c) is more =
         let one = tried former t s last c trying is in
         more c one.1.on (omega (arith, one.1.fewer, few)) ∙ sym one.1.folds
 
 pub merging_serves : (F : Farm) (group t n : ℕ) → IsSound F → F.collector ≡ 0 → t ≤ F.clock → length (queue F) ≤ n
-    → merged group n t (first_tried group t (record { farm = F; claims = 0 })) None ≡ serve_all F group t
+    → merged_pass group n t (first_tried group t (record { farm = F; claims = 0 })) None ≡ serve_all F group t
 merging_serves F group t n sound none low few = by (find (is_group group) (queue F)) refl
   where
-    on : (s : Served) → Begins F group t sound none low s → merged group n t s None ≡ serve_all F group t
+    on : (s : Served) → Begins F group t sound none low s → merged_pass group n t s None ≡ serve_all F group t
     on s begins =
         merged_on n group t s None begins.on
         (let same : length (later None (queue s.farm)) ≡ length (queue s.farm) = ap length (later_none (queue s.farm)) in omega (arith, same, begins.few, few))
         ∙ sym begins.folds
 
     by : (o : Option Claimed) → find (is_group group) (queue F) ≡ o
-        → merged group n t (option_map_or (λ c. serve t (record { farm = F; claims = 0 }) c) o (record { farm = F; claims = 0 })) None ≡ serve_all F group t
+        → merged_pass group n t (option_map_or (λ c. serve t (record { farm = F; claims = 0 }) c) o (record { farm = F; claims = 0 })) None ≡ serve_all F group t
     by None found = on (record { farm = F; claims = 0 }) (begins_without F group t sound none low found)
     by (Some c) found = on (serve t (record { farm = F; claims = 0 }) c) (begins_with F group t sound none low c found).1
 
 -- ---- wants that were found unmet
 
 held_sorted : (h : Holder) (name : List ℕ) (bs : List BoardRow) → IsStrictlySortedBy board_cmp bs
-    → IsStrictlySortedBy board_cmp (change_where (λ b. bytes_eq b.name name) (held h State.Reserved) bs)
+    → IsStrictlySortedBy board_cmp (change_where (λ b. bytes_eq b.name name) (held_board h State.Reserved) bs)
 held_sorted h name bs sorted =
-    sorted_map board_cmp (λ b. cond (bytes_eq b.name name) (held h State.Reserved b) b) (λ a b i. text_cmp (name_kept a i) (name_kept b i)) bs sorted
+    sorted_map board_cmp (λ b. cond (bytes_eq b.name name) (held_board h State.Reserved b) b) (λ a b i. text_cmp (name_kept a i) (name_kept b i)) bs sorted
   where
-    name_kept : (b : BoardRow) → (cond (bytes_eq b.name name) (held h State.Reserved b) b).name ≡ b.name
-    name_kept b = by_cases (λ (c : BoardRow). c.name ≡ b.name) (bytes_eq b.name name) (held h State.Reserved b) b (λ _. refl) (λ _. refl)
+    name_kept : (b : BoardRow) → (cond (bytes_eq b.name name) (held_board h State.Reserved b) b).name ≡ b.name
+    name_kept b = by_cases (λ (c : BoardRow). c.name ≡ b.name) (bytes_eq b.name name) (held_board h State.Reserved b) b (λ _. refl) (λ _. refl)
 
 members_sorted : (ps : List (JobRow × BoardRow)) (F : Farm) → IsStrictlySortedBy board_cmp F.boards
     → IsStrictlySortedBy board_cmp (fold (give_member JobState.Scheduled) F ps).boards
@@ -503,7 +503,7 @@ give_sorted : (F : Farm) (c : Claimed) (bs : List BoardRow) (t : ℕ) → IsStri
 give_sorted F c bs t sorted = by_cases (λ (G : Farm). IsStrictlySortedBy board_cmp G.boards) c.reservation (give_res F c.number bs t) (give_group F c.number bs)
     (λ _. res_sorted F c.number bs t sorted) (λ _. members_sorted (zip (members F c.number) bs) F sorted)
 
-pub unmet_stays : (t : ℕ) (s : Served) (c : Claimed) (wants : List Want) → IsSound s.farm → t ≤ s.farm.clock → Among c (queue s.farm)
+pub unmet_stays : (t : ℕ) (s : Served) (c : Claimed) (wants : List Want) → IsSound s.farm → t ≤ s.farm.clock → IsAmong c (queue s.farm)
     → least s.farm.boards (is_free s.farm.types) wants ≡ None → least (serve t s c).farm.boards (is_free (serve t s c).farm.types) wants ≡ None
 unmet_stays t s c wants sound low at none = by (least s.farm.boards (is_free s.farm.types) c.wants)
   where

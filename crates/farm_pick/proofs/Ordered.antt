@@ -14,7 +14,7 @@ use Rattle.std.proofs.lemmas.Fn.{always_returns_same}
 use Rattle.std.proofs.lemmas.List.Elements.{All-from_recursion, recursion_from_All}
 use Rattle.std.proofs.lemmas.List.Sorted.{All-permutation, IsPermutation-sym, ranks_by}
 use Rattle.std.proofs.lemmas.Map.Keys.{IsDistinct-IsPermutation, IsDistinct-from_sorted, apart_from_distinct, sorted_from_all_adjacent}
-use Rattle.farm_types.specs.Pick.{Among}
+use Rattle.farm_types.specs.Pick.{IsAmong}
 use Rattle.farm_types.proofs.Put.{AllByRecursion-weaker}
 use Rattle.farm_sound.proofs.Lists.{among_has}
 
@@ -24,7 +24,7 @@ module _ {R : Type 0} (cmp : R → R → Ordering) (total : IsTotalOrder cmp) wh
 
   -- ---- lists in strict order that have the same elements
 
-  first_or_behind : (x y : R) (ys : List R) → AllByRecursion (λ z. cmp y z ≡ Less) ys → Among x (y ∷ ys) → (x ≡ y) ⊎ (cmp y x ≡ Less)
+  first_or_behind : (x y : R) (ys : List R) → AllByRecursion (λ z. cmp y z ≡ Less) ys → IsAmong x (y ∷ ys) → (x ≡ y) ⊎ (cmp y x ≡ Less)
   first_or_behind x y ys above (inl same) = inl same
   first_or_behind x y ys above (inr at) = inr (among_has (λ z. cmp y z ≡ Less) x ys above at)
 
@@ -33,17 +33,17 @@ module _ {R : Type 0} (cmp : R → R → Ordering) (total : IsTotalOrder cmp) wh
   same_first x y (inr less) (inl same) = sym same
   same_first x y (inr less) (inr more) = absurd (not_below_itself x (total.trans x y x more less))
 
-  among_rest : (x : R) (ys xs : List R) → AllByRecursion (λ z. cmp x z ≡ Less) xs → AllByRecursion (λ z. Among z (x ∷ ys)) xs → AllByRecursion (λ z. Among z ys) xs
+  among_rest : (x : R) (ys xs : List R) → AllByRecursion (λ z. cmp x z ≡ Less) xs → AllByRecursion (λ z. IsAmong z (x ∷ ys)) xs → AllByRecursion (λ z. IsAmong z ys) xs
   among_rest x ys [] above among = tt
   among_rest x ys (z ∷ xs) above among = (by among.0, among_rest x ys xs above.1 among.1)
     where
-      by : Among z (x ∷ ys) → Among z ys
+      by : IsAmong z (x ∷ ys) → IsAmong z ys
       by (inl same) = absurd (not_below_itself x (subst (λ w. cmp x w ≡ Less) same above.0))
       by (inr at) = at
 
   -- two lists in strict order that have the same elements are one
   pub same_elements : (xs ys : List R) → IsStrictlySortedBy cmp xs → IsStrictlySortedBy cmp ys
-      → AllByRecursion (λ x. Among x ys) xs → AllByRecursion (λ y. Among y xs) ys → xs ≡ ys
+      → AllByRecursion (λ x. IsAmong x ys) xs → AllByRecursion (λ y. IsAmong y xs) ys → xs ≡ ys
   unfolding IsStrictlySortedBy
   same_elements [] [] rise rises here there = refl
   same_elements [] (y ∷ ys) rise rises here there = absurd there.0
@@ -51,12 +51,12 @@ module _ {R : Type 0} (cmp : R → R → Ordering) (total : IsTotalOrder cmp) wh
   same_elements (x ∷ xs) (y ∷ ys) rise rises here there =
       let same : x ≡ y = same_first x y (first_or_behind x y ys rises.0 here.0) (first_or_behind y x xs rise.0 there.0) in
       let rest : xs ≡ ys = same_elements xs ys rise.1 rises.1
-      (among_rest x ys xs rise.0 (subst (λ w. AllByRecursion (λ z. Among z (w ∷ ys)) xs) (sym same) here.1))
-      (among_rest y xs ys rises.0 (subst (λ w. AllByRecursion (λ z. Among z (w ∷ xs)) ys) same there.1)) in
+      (among_rest x ys xs rise.0 (subst (λ w. AllByRecursion (λ z. IsAmong z (w ∷ ys)) xs) (sym same) here.1))
+      (among_rest y xs ys rises.0 (subst (λ w. AllByRecursion (λ z. IsAmong z (w ∷ xs)) ys) same there.1)) in
       ap (λ w. w ∷ xs) same ∙ ap (λ zs. y ∷ zs) rest
 
   -- two of a list in strict order that tie are one
-  pub tied_same : (x y : R) (xs : List R) → IsStrictlySortedBy cmp xs → Among x xs → Among y xs → cmp x y ≡ Equal → x ≡ y
+  pub tied_same : (x y : R) (xs : List R) → IsStrictlySortedBy cmp xs → IsAmong x xs → IsAmong y xs → cmp x y ≡ Equal → x ≡ y
   unfolding IsStrictlySortedBy
   tied_same x y [] rise here there tie = absurd here
   tied_same x y (z ∷ xs) rise (inl is) (inl same) tie = is ∙ sym same
@@ -70,13 +70,13 @@ module _ {R : Type 0} (cmp : R → R → Ordering) (total : IsTotalOrder cmp) wh
 
   -- ---- permutations
 
-  among_itself : (xs : List R) → AllByRecursion (λ x. Among x xs) xs
+  among_itself : (xs : List R) → AllByRecursion (λ x. IsAmong x xs) xs
   among_itself [] = tt
   among_itself (x ∷ xs) = (inl refl, AllByRecursion-weaker (λ z at. inr at) xs (among_itself xs))
 
-  among_permuted : (xs ys : List R) → IsPermutation xs ys → AllByRecursion (λ y. Among y xs) ys
-  among_permuted xs ys permuted = recursion_from_All (λ y. Among y xs) ys
-      (All-permutation (λ y. Among y xs) xs ys permuted (All-from_recursion (λ x. Among x xs) xs (among_itself xs)))
+  among_permuted : (xs ys : List R) → IsPermutation xs ys → AllByRecursion (λ y. IsAmong y xs) ys
+  among_permuted xs ys permuted = recursion_from_All (λ y. IsAmong y xs) ys
+      (All-permutation (λ y. IsAmong y xs) xs ys permuted (All-from_recursion (λ x. IsAmong x xs) xs (among_itself xs)))
 
   equal_back : (o : Ordering) → is_eq (ordering_reverse o) ≡ is_eq o
   equal_back Less = refl

@@ -14,7 +14,7 @@ use Rattle.std.proofs.lemmas.Map.Text.{is_eq-slice_cmp}
 use Rattle.std.proofs.lemmas.Option.{slice_get_within}
 use Rattle.std.proofs.lemmas.Slice.Eq.{bytes_eq-Decides}
 use Rattle.farm_types.specs.Table.{board_cmp}
-use Rattle.farm_types.specs.Pick.{Among}
+use Rattle.farm_types.specs.Pick.{IsAmong}
 use Rattle.farm_types.specs.declared.rows.Want.{Want}
 use Rattle.farm_types.specs.declared.rows.BoardRow.{BoardRow}
 use Rattle.farm_pick.specs.Test.{is_candidate}
@@ -38,12 +38,12 @@ at_place P [] i x h e = absurd (none_is_not_some x e)
 at_place P (y ∷ xs) zero x h e = subst P (same_from_some y x e) h.0
 at_place P (y ∷ xs) (suc i) x h e = at_place P xs i x h.1 e
 
-pub among_at : {X : Type 0} (xs : List X) (i : ℕ) (x : X) → slice_get xs i ≡ Some x → Among x xs
+pub among_at : {X : Type 0} (xs : List X) (i : ℕ) (x : X) → slice_get xs i ≡ Some x → IsAmong x xs
 among_at [] i x e = absurd (none_is_not_some x e)
 among_at (y ∷ xs) zero x e = inl (sym (same_from_some y x e))
 among_at (y ∷ xs) (suc i) x e = inr (among_at xs i x e)
 
-pub place_of : {X : Type 0} (x : X) (xs : List X) → Among x xs → (i : ℕ) × (slice_get xs i ≡ Some x)
+pub place_of : {X : Type 0} (x : X) (xs : List X) → IsAmong x xs → (i : ℕ) × (slice_get xs i ≡ Some x)
 place_of x [] h = absurd h
 place_of x (y ∷ xs) h =
     elim h [
@@ -112,7 +112,7 @@ module _ (boards : List BoardRow) (ordered : AreInNameOrder boards) where
       or_from (bytes_eq b.name c.name) (list_any (λ d. bytes_eq b.name d.name) bs) (names_differ p q b c e at.0 (λ s. eqb-false q p parts.0 (sym s))) (apart ps bs p b at.1 e parts.1)
 
   -- two boards of one name are one board
-  pub one_board : (a b : BoardRow) → Among a boards → Among b boards → board_cmp a b ≡ Equal → a ≡ b
+  pub one_board : (a b : BoardRow) → IsAmong a boards → IsAmong b boards → board_cmp a b ≡ Equal → a ≡ b
   one_board a b m n e =
       let i = place_of a boards m in
       let j = place_of b boards n in

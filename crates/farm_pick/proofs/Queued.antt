@@ -24,7 +24,7 @@ use Rattle.farm_sound.proofs.Own.{differs, differs_more, itself}
 use Rattle.farm_sound.proofs.Queue.{queue_permutes}
 use Rattle.farm_sound.proofs.Tests.{both, same_number}
 use Rattle.farm_sound.proofs.Where.{AllByRecursion-both, AllByRecursion-map}
-use Rattle.farm_pick.specs.Queue.{leads, mates, shown_group, shown_groups, shown_reservation}
+use Rattle.farm_pick.specs.Queue.{leads, mates, most_mates, shown_group, shown_groups, shown_reservation}
 use Rattle.farm_pick.proofs.Ordered.{sorted_is_one}
 
 -- ---- the members of a group stand near its first one
@@ -68,7 +68,7 @@ module _ (F : Farm) where
       here g (omega arith) ∙ ap (λ v. cond v (j ∷ filter (in_group g) jobs) (filter (in_group g) jobs)) (differs j.group g (omega (arith, near.0)))
 
   members_near : (low : ℕ) (j : JobRow) (jobs : List JobRow) → IsStrictlySortedBy job_cmp (j ∷ jobs) → AllByRecursion IsNear jobs → low ≤ j.number → HasMembers low (j ∷ jobs)
-      → j.number ≡ j.group → members F j.group ≡ j ∷ mates j (take 3 jobs)
+      → j.number ≡ j.group → members F j.group ≡ j ∷ mates j (take most_mates jobs)
   unfolding IsStrictlySortedBy
   members_near low j jobs sorted near above here first =
       here j.group (omega arith)
@@ -94,18 +94,18 @@ module _ (F : Farm) where
       by (leads_claim F j) refl
       (groups_shown (j.number + 1) jobs sorted.1 near.1 (behind j jobs sorted.0) (members_behind low j jobs near.0 above.0 here))
     where
-      own : j.number ≡ j.group → members F j.group ≡ j ∷ mates j (take 3 jobs)
+      own : j.number ≡ j.group → members F j.group ≡ j ∷ mates j (take most_mates jobs)
       own = members_near low j jobs sorted near.1 above.0 here
 
       by : (v : Bool) → leads_claim F j ≡ v → map shown_claim (map (group_claim F) (filter (leads_claim F) jobs)) ≡ shown_groups jobs
           → map shown_claim (map (group_claim F) (cond v (j ∷ filter (leads_claim F) jobs) (filter (leads_claim F) jobs)))
-          ≡ cond (leads j (take 3 jobs)) (shown_group j (take 3 jobs) ∷ shown_groups jobs) (shown_groups jobs)
+          ≡ cond (leads j (take most_mates jobs)) (shown_group j (take most_mates jobs) ∷ shown_groups jobs) (shown_groups jobs)
       by true is rest =
           let first = same_number j.number j.group (both (j.number == j.group) (list_all waits (members F j.group)) is).0 in
-          ap (λ c. c ∷ map shown_claim (map (group_claim F) (filter (leads_claim F) jobs))) (group_same j (take 3 jobs) (own first))
-          ∙ ap (λ cs. shown_group j (take 3 jobs) ∷ cs) rest
-          ∙ ap (λ v. cond v (shown_group j (take 3 jobs) ∷ shown_groups jobs) (shown_groups jobs)) (sym is ∙ leads_same j (take 3 jobs) own)
-      by false is rest = rest ∙ ap (λ v. cond v (shown_group j (take 3 jobs) ∷ shown_groups jobs) (shown_groups jobs)) (sym is ∙ leads_same j (take 3 jobs) own)
+          ap (λ c. c ∷ map shown_claim (map (group_claim F) (filter (leads_claim F) jobs))) (group_same j (take most_mates jobs) (own first))
+          ∙ ap (λ cs. shown_group j (take most_mates jobs) ∷ cs) rest
+          ∙ ap (λ v. cond v (shown_group j (take most_mates jobs) ∷ shown_groups jobs) (shown_groups jobs)) (sym is ∙ leads_same j (take most_mates jobs) own)
+      by false is rest = rest ∙ ap (λ v. cond v (shown_group j (take most_mates jobs) ∷ shown_groups jobs) (shown_groups jobs)) (sym is ∙ leads_same j (take most_mates jobs) own)
 
 -- ---- the queue
 

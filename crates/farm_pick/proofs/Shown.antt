@@ -9,7 +9,7 @@ use Rattle.std.specs.Map.{lookup}
 use Rattle.std.specs.Ordering.{is_eq, is_lt, nat_cmp, ordering_then}
 use Rattle.std.specs.declared.cmp.Ordering.{Ordering}
 use Rattle.std.specs.declared.cmp.Ordering.TheVariants.{Equal, Greater, Less}
-use Rattle.farm_types.specs.Pick.{Among}
+use Rattle.farm_types.specs.Pick.{IsAmong}
 use Rattle.farm_types.specs.Sound.{EachTwo}
 use Rattle.farm_types.specs.Table.{put, put_all}
 use Rattle.farm_types.specs.declared.claims.Claim.{Claim}
@@ -30,7 +30,7 @@ use Rattle.farm_pick.proofs.First.{IsRanked, found_entry, ranked_at, shown_rank}
 -- ---- the first of a list in strict order that passes
 
 module _ {R : Type 0} (cmp : R → R → Ordering) (total : IsTotalOrder cmp) (test : R → Bool) where
-  pub find_none : (xs : List R) → ((x : R) → Among x xs → test x ≡ true → ⊥) → find test xs ≡ None
+  pub find_none : (xs : List R) → ((x : R) → IsAmong x xs → test x ≡ true → ⊥) → find test xs ≡ None
   find_none [] none = refl
   find_none (x ∷ xs) none = by (test x) refl (find_none xs (λ y at. none y (inr at)))
     where
@@ -38,13 +38,13 @@ module _ {R : Type 0} (cmp : R → R → Ordering) (total : IsTotalOrder cmp) (t
       by true is rest = absurd (none x (inl refl) is)
       by false is rest = rest
 
-  pub find_first : (c : R) (xs : List R) → IsStrictlySortedBy cmp xs → Among c xs → test c ≡ true → ((x : R) → Among x xs → test x ≡ true → cmp x c ≡ Less → ⊥)
+  pub find_first : (c : R) (xs : List R) → IsStrictlySortedBy cmp xs → IsAmong c xs → test c ≡ true → ((x : R) → IsAmong x xs → test x ≡ true → cmp x c ≡ Less → ⊥)
       → find test xs ≡ Some c
   unfolding IsStrictlySortedBy
   find_first c [] sorted at is least = absurd at
   find_first c (x ∷ xs) sorted at is least = by (test x) refl at (λ later. find_first c xs sorted.1 later is (λ y there. least y (inr there)))
     where
-      by : (v : Bool) → test x ≡ v → Among c (x ∷ xs) → (Among c xs → find test xs ≡ Some c) → cond v (Some x) (find test xs) ≡ Some c
+      by : (v : Bool) → test x ≡ v → IsAmong c (x ∷ xs) → (IsAmong c xs → find test xs ≡ Some c) → cond v (Some x) (find test xs) ≡ Some c
       by true has (inl same) rest = ap Some (sym same)
       by true has (inr later) rest = absurd (least x (inl refl) has (among_has (λ y. cmp x y ≡ Less) c xs sorted.0 later))
       by false has (inl same) rest = absurd (true≢false (sym is ∙ ap test same ∙ has))
@@ -58,11 +58,11 @@ module _ {R : Type 0} (cmp : R → R → Ordering) (total : IsTotalOrder cmp) (t
   unfolding IsStrictlySortedBy
   sorted_put_all ys = all_sorted [] ys tt
 
-some_there : {K X : Type 0} (test : K → Bool) (e : K × X) (es : List (K × X)) → Among e es → test e.0 ≡ true → IsSome (lookup test es)
+some_there : {K X : Type 0} (test : K → Bool) (e : K × X) (es : List (K × X)) → IsAmong e es → test e.0 ≡ true → IsSome (lookup test es)
 some_there test e [] at is = absurd at
 some_there test e (d ∷ es) at is = by (test d.0) refl at (λ later. some_there test e es later is)
   where
-    by : (w : Bool) → test d.0 ≡ w → Among e (d ∷ es) → (Among e es → IsSome (lookup test es)) → IsSome (cond w (Some d.1) (lookup test es))
+    by : (w : Bool) → test d.0 ≡ w → IsAmong e (d ∷ es) → (IsAmong e es → IsSome (lookup test es)) → IsSome (cond w (Some d.1) (lookup test es))
     by true has at rest = refl
     by false has (inl same) rest = absurd (true≢false (sym is ∙ ap (λ (x : _). test x.0) same ∙ has))
     by false has (inr more) rest = rest more
@@ -86,42 +86,42 @@ module _ (kinds : List (List ℕ)) (es : List (Spot × Claim)) (keyed : AllByRec
 
   -- an entry of the map that is shown
   abbrev IsEntry : Queued → Type 0
-  IsEntry x = (e : Spot × Claim) × Among e es × (shown_entry kinds e ≡ x)
+  IsEntry x = (e : Spot × Claim) × IsAmong e es × (shown_entry kinds e ≡ x)
 
-  entries_self : (ds : List (Spot × Claim)) → ((e : Spot × Claim) → Among e ds → Among e es) → AllByRecursion IsEntry (map (shown_entry kinds) ds)
+  entries_self : (ds : List (Spot × Claim)) → ((e : Spot × Claim) → IsAmong e ds → IsAmong e es) → AllByRecursion IsEntry (map (shown_entry kinds) ds)
   entries_self [] inside = tt
   entries_self (d ∷ ds) inside = ((d, inside d (inl refl), refl), entries_self ds (λ e at. inside e (inr at)))
 
-  pub entry_of : (x : Queued) → Among x (shown_claims kinds es) → IsEntry x
+  pub entry_of : (x : Queued) → IsAmong x (shown_claims kinds es) → IsEntry x
   entry_of x at = among_has IsEntry x (shown_claims kinds es) (all_put queued_cmp queued_total IsEntry (map (shown_entry kinds) es) [] tt (entries_self es (λ e at. at))) at
 
-  among_map : (e : Spot × Claim) (ds : List (Spot × Claim)) → Among e ds → Among (shown_entry kinds e) (map (shown_entry kinds) ds)
+  among_map : (e : Spot × Claim) (ds : List (Spot × Claim)) → IsAmong e ds → IsAmong (shown_entry kinds e) (map (shown_entry kinds) ds)
   among_map e [] at = at
   among_map e (d ∷ ds) (inl same) = inl (ap (shown_entry kinds) same)
   among_map e (d ∷ ds) (inr at) = inr (among_map e ds at)
 
-  pub shown_at : (e : Spot × Claim) → Among e es → Among (shown_entry kinds e) (shown_claims kinds es)
-  shown_at e at = among_has (λ x. Among x (shown_claims kinds es)) (shown_entry kinds e) (map (shown_entry kinds) es)
+  pub shown_at : (e : Spot × Claim) → IsAmong e es → IsAmong (shown_entry kinds e) (shown_claims kinds es)
+  shown_at e at = among_has (λ x. IsAmong x (shown_claims kinds es)) (shown_entry kinds e) (map (shown_entry kinds) es)
       (all_among queued_cmp queued_total (map (shown_entry kinds) es) (shown_apart kinds es apart)) (among_map e es at)
 
-  keyed_at : (e : Spot × Claim) → Among e es → IsKeyed kinds e
+  keyed_at : (e : Spot × Claim) → IsAmong e es → IsKeyed kinds e
   keyed_at e at = among_has (IsKeyed kinds) e es keyed at
 
   -- what the test says of an entry
-  tests : (e : Spot × Claim) → Among e es → passes (shown_entry kinds e) ≡ true → (rank_cmp last e.0 ≡ Less) × (test e.0.queue ≡ true)
+  tests : (e : Spot × Claim) → IsAmong e es → passes (shown_entry kinds e) ≡ true → (rank_cmp last e.0 ≡ Less) × (test e.0.queue ≡ true)
   tests e at is =
       let two = both (is_later last e.1) (opens (kind_at kinds e.0.queue)) is in
       let key = keyed_at e at in
       (sym (rank_of last e.0 e.1 (record { number = key.number; priority = key.priority })) ∙ less_is (rank_of_claim last e.1) two.0, same_test e.0.queue key.queue ∙ two.1)
 
-  pub IsSome-at : (e : Spot × Claim) → Among e es → IsSome (claim_at es e.0)
+  pub IsSome-at : (e : Spot × Claim) → IsAmong e es → IsSome (claim_at es e.0)
   IsSome-at e at = some_there (λ x. is_eq (spot_cmp e.0 x)) e es at (tie e.0 e.0 (record { queue = refl; priority = refl; number = refl }))
 
   pub first_shown : (o : Option Claim) → IsFirst es test (length kinds + 1) last o → o ≡ option_map (λ (x : Queued). x.claim) (find passes (shown_claims kinds es))
   first_shown None first =
       sym (ap (option_map (λ (x : Queued). x.claim)) (find_none queued_cmp queued_total passes (shown_claims kinds es) none))
     where
-      none : (x : Queued) → Among x (shown_claims kinds es) → passes x ≡ true → ⊥
+      none : (x : Queued) → IsAmong x (shown_claims kinds es) → passes x ≡ true → ⊥
       none x at is =
           let e = entry_of x at in
           let t = tests e.0 e.1 (ap passes e.2 ∙ is) in
@@ -130,7 +130,7 @@ module _ (kinds : List (List ℕ)) (es : List (Spot × Claim)) (keyed : AllByRec
       sym (ap (option_map (λ (x : Queued). x.claim)) (find_first queued_cmp queued_total passes (shown_entry kinds e.0) (shown_claims kinds es)
       (sorted_put_all queued_cmp queued_total passes (map (shown_entry kinds) es)) (shown_at e.0 e.4) passes_here least) ∙ ap Some e.3)
     where
-      e : (d : Spot × Claim) × IsKeyed kinds d × (is_eq (spot_cmp first.0 d.0) ≡ true) × (d.1 ≡ c) × Among d es
+      e : (d : Spot × Claim) × IsKeyed kinds d × (is_eq (spot_cmp first.0 d.0) ≡ true) × (d.1 ≡ c) × IsAmong d es
       e = found_entry (IsKeyed kinds) (λ x. is_eq (spot_cmp first.0 x)) c es keyed first.4
 
       ranked : IsRanked first.0 e.0.1
@@ -142,7 +142,7 @@ module _ (kinds : List (List ℕ)) (es : List (Spot × Claim)) (keyed : AllByRec
           ap (λ v. v && opens (kind_at kinds e.0.0.queue)) (ap is_lt (rank_of last first.0 e.0.1 ranked ∙ first.3))
           ∙ (sym (same_test e.0.0.queue e.1.queue) ∙ ap test (sym (tied first.0 e.0.0 e.2).queue) ∙ first.2)
 
-      least : (x : Queued) → Among x (shown_claims kinds es) → passes x ≡ true → queued_cmp x (shown_entry kinds e.0) ≡ Less → ⊥
+      least : (x : Queued) → IsAmong x (shown_claims kinds es) → passes x ≡ true → queued_cmp x (shown_entry kinds e.0) ≡ Less → ⊥
       least x at is less =
           let d = entry_of x at in
           let key = keyed_at d.0 d.1 in

@@ -7,7 +7,7 @@ use Rattle.std.specs.List.Sorted.{IsStrictlySortedBy}
 use Rattle.std.specs.Ordering.{is_gt, is_lt, ordering_reverse}
 use Rattle.std.specs.declared.cmp.Ordering.{Ordering}
 use Rattle.std.specs.declared.cmp.Ordering.TheVariants.{Equal, Greater, Less}
-use Rattle.farm_types.specs.Pick.{Among}
+use Rattle.farm_types.specs.Pick.{IsAmong}
 use Rattle.farm_types.proofs.Put.{found_has}
 use Rattle.farm_sound.proofs.Lists.{among_has}
 use Rattle.farm_pick.proofs.Ordered.{not_below_itself}
@@ -49,19 +49,19 @@ found_passes test c (x ∷ xs) is = by (test x) refl is (found_passes test c xs)
     by true has is rest = let same : x ≡ c = cc in ap test (sym same) ∙ has
     by false has is rest = rest is
 
-pub found_there : {R : Type 0} (test : R → Bool) (c : R) (xs : List R) → find test xs ≡ Some c → Among c xs
+pub found_there : {R : Type 0} (test : R → Bool) (c : R) (xs : List R) → find test xs ≡ Some c → IsAmong c xs
 found_there test c [] is = cc
 found_there test c (x ∷ xs) is = by (test x) is (found_there test c xs)
   where
-    by : (v : Bool) → cond v (Some x) (find test xs) ≡ Some c → (find test xs ≡ Some c → Among c xs) → Among c (x ∷ xs)
+    by : (v : Bool) → cond v (Some x) (find test xs) ≡ Some c → (find test xs ≡ Some c → IsAmong c xs) → IsAmong c (x ∷ xs)
     by true is rest = let same : x ≡ c = cc in inl (sym same)
     by false is rest = inr (rest is)
 
-pub none_passes : {R : Type 0} (test : R → Bool) (x : R) (xs : List R) → find test xs ≡ None → Among x xs → test x ≡ true → ⊥
+pub none_passes : {R : Type 0} (test : R → Bool) (x : R) (xs : List R) → find test xs ≡ None → IsAmong x xs → test x ≡ true → ⊥
 none_passes test x [] is at has = at
 none_passes test x (y ∷ ys) is at has = by (test y) refl is at (λ more later. none_passes test x ys more later has)
   where
-    by : (v : Bool) → test y ≡ v → cond v (Some y) (find test ys) ≡ None → Among x (y ∷ ys) → (find test ys ≡ None → Among x ys → ⊥) → ⊥
+    by : (v : Bool) → test y ≡ v → cond v (Some y) (find test ys) ≡ None → IsAmong x (y ∷ ys) → (find test ys ≡ None → IsAmong x ys → ⊥) → ⊥
     by true is none at rest = cc
     by false is none (inl same) rest = true≢false (sym has ∙ ap test same ∙ is)
     by false is none (inr later) rest = rest none later
@@ -88,13 +88,13 @@ module _ {R : Type 0} (cmp : R → R → Ordering) (total : IsTotalOrder cmp) wh
       by Greater is = absurd (none (total.antisymm b a ∙ ap ordering_reverse is))
 
   -- the first that passes goes before no other that does
-  pub found_first : (test : R → Bool) (c : R) (xs : List R) → IsStrictlySortedBy cmp xs → find test xs ≡ Some c → (d : R) → Among d xs → test d ≡ true → is_gt (cmp c d) ≡ false
+  pub found_first : (test : R → Bool) (c : R) (xs : List R) → IsStrictlySortedBy cmp xs → find test xs ≡ Some c → (d : R) → IsAmong d xs → test d ≡ true → is_gt (cmp c d) ≡ false
   unfolding IsStrictlySortedBy
   found_first test c [] sorted is d at has = cc
   found_first test c (x ∷ xs) sorted is d at has =
       by (test x) refl is at (λ more later. found_first test c xs sorted.1 more d later has)
     where
-      by : (v : Bool) → test x ≡ v → cond v (Some x) (find test xs) ≡ Some c → Among d (x ∷ xs) → (find test xs ≡ Some c → Among d xs → is_gt (cmp c d) ≡ false)
+      by : (v : Bool) → test x ≡ v → cond v (Some x) (find test xs) ≡ Some c → IsAmong d (x ∷ xs) → (find test xs ≡ Some c → IsAmong d xs → is_gt (cmp c d) ≡ false)
           → is_gt (cmp c d) ≡ false
       by true so is (inl same) rest =
           let here : x ≡ c = cc in

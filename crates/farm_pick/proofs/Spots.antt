@@ -8,7 +8,7 @@ use Rattle.std.specs.Ordering.{is_eq, is_lt}
 use Rattle.std.specs.declared.cmp.Ordering.TheVariants.{Less}
 use Rattle.std.specs.declared.ops.Bound.TheVariants.{Excluded, Unbounded}
 use Rattle.std.proofs.lemmas.Bool.Decides.{nat_tests}
-use Rattle.farm_types.specs.Pick.{Among}
+use Rattle.farm_types.specs.Pick.{IsAmong}
 use Rattle.farm_types.specs.Sound.{EachTwo}
 use Rattle.farm_types.specs.declared.claims.Claim.{Claim}
 use Rattle.farm_sound.proofs.Lists.{among_has}
@@ -52,7 +52,7 @@ forgotten false w = refl
 -- ---- what is shown
 
 -- one entry alone has a number
-one_of : (a b : Spot × Claim) (es : List (Spot × Claim)) → EachTwo (λ a b. a.1.number ≡ b.1.number → ⊥) es → Among a es → Among b es
+one_of : (a b : Spot × Claim) (es : List (Spot × Claim)) → EachTwo (λ a b. a.1.number ≡ b.1.number → ⊥) es → IsAmong a es → IsAmong b es
     → a.1.number ≡ b.1.number → a ≡ b
 one_of a b [] each here there same = absurd here
 one_of a b (e ∷ es) each (inl is) (inl at) same = is ∙ sym at
@@ -68,14 +68,14 @@ module _ (kinds : List (List ℕ)) (es : List (Spot × Claim)) (keyed : AllByRec
   passes x = is_later last x.claim && nat_le 2 x.claim.boards
 
   -- an entry that is shown, and whether it is shown
-  entry : (x : Queued) → Among x (shown_claims kinds es) → (e : Spot × Claim) × Among e es × (shown_entry kinds e ≡ x)
+  entry : (x : Queued) → IsAmong x (shown_claims kinds es) → (e : Spot × Claim) × IsAmong e es × (shown_entry kinds e ≡ x)
   entry = entry_of kinds es keyed apart last (λ _. true) (λ _. true) (λ _ _. refl)
 
-  ranked : (e : Spot × Claim) → Among e es → IsRanked e.0 e.1
+  ranked : (e : Spot × Claim) → IsAmong e es → IsRanked e.0 e.1
   ranked e at = let key = among_has (IsKeyed kinds) e es keyed at in record { number = key.number; priority = key.priority }
 
   -- each claim is found at its spot
-  own_claim : (e : Spot × Claim) → Among e es → claim_at es e.0 ≡ Some e.1
+  own_claim : (e : Spot × Claim) → IsAmong e es → claim_at es e.0 ≡ Some e.1
   own_claim e at = by (claim_at es e.0) refl
     where
       by : (o : Option Claim) → claim_at es e.0 ≡ o → o ≡ Some e.1
@@ -87,7 +87,7 @@ module _ (kinds : List (List ℕ)) (es : List (Spot × Claim)) (keyed : AllByRec
           ap Some (sym d.3 ∙ ap (λ (k : Spot × Claim). k.1) (one_of d.0 e es apart d.4 at same))
 
   -- what the test says of an entry
-  tests : (e : Spot × Claim) → Among e es → passes (shown_entry kinds e) ≡ true → (rank_cmp last e.0 ≡ Less) × (is_several es e.0 ≡ true)
+  tests : (e : Spot × Claim) → IsAmong e es → passes (shown_entry kinds e) ≡ true → (rank_cmp last e.0 ≡ Less) × (is_several es e.0 ≡ true)
   tests e at is =
       let two = both (is_later last e.1) (nat_le 2 e.1.boards) is in (
         sym (rank_of last e.0 e.1 (ranked e at)) ∙ less_is (rank_of_claim last e.1) two.0,
@@ -98,7 +98,7 @@ module _ (kinds : List (List ℕ)) (es : List (Spot × Claim)) (keyed : AllByRec
   several_shown None first =
       sym (ap (option_map (λ (x : Queued). x.claim)) (find_none queued_cmp queued_total passes (shown_claims kinds es) none))
     where
-      none : (x : Queued) → Among x (shown_claims kinds es) → passes x ≡ true → ⊥
+      none : (x : Queued) → IsAmong x (shown_claims kinds es) → passes x ≡ true → ⊥
       none x at is =
           let e = entry x at in
           let t = tests e.0 e.1 (ap passes e.2 ∙ is) in
@@ -108,7 +108,7 @@ module _ (kinds : List (List ℕ)) (es : List (Spot × Claim)) (keyed : AllByRec
       (sorted_put_all queued_cmp queued_total passes (map (shown_entry kinds) es))
       (shown_at kinds es keyed apart last (λ _. true) (λ _. true) (λ _ _. refl) e.0 e.4) passes_here least) ∙ ap Some e.3)
     where
-      e : (d : Spot × Claim) × IsKeyed kinds d × (is_eq (spot_cmp first.0 d.0) ≡ true) × (d.1 ≡ c) × Among d es
+      e : (d : Spot × Claim) × IsKeyed kinds d × (is_eq (spot_cmp first.0 d.0) ≡ true) × (d.1 ≡ c) × IsAmong d es
       e = found_entry (IsKeyed kinds) (λ x. is_eq (spot_cmp first.0 x)) c es keyed first.2
 
       stands : IsRanked first.0 e.0.1
@@ -117,7 +117,7 @@ module _ (kinds : List (List ℕ)) (es : List (Spot × Claim)) (keyed : AllByRec
       passes_here : passes (shown_entry kinds e.0) ≡ true
       passes_here = λ i. (ap is_lt (rank_of last first.0 e.0.1 stands) ∙ ap is_lt first.1) i && (ap (λ (d : Claim). nat_le 2 d.boards) e.3 ∙ first.3) i
 
-      least : (x : Queued) → Among x (shown_claims kinds es) → passes x ≡ true → queued_cmp x (shown_entry kinds e.0) ≡ Less → ⊥
+      least : (x : Queued) → IsAmong x (shown_claims kinds es) → passes x ≡ true → queued_cmp x (shown_entry kinds e.0) ≡ Less → ⊥
       least x at is less =
           let d = entry x at in
           let t = tests d.0 d.1 (ap passes d.2 ∙ is) in

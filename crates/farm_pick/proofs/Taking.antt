@@ -7,7 +7,7 @@ use Rattle.std.proofs.lemmas.List.Elements.{filter-append}
 use Rattle.std.proofs.lemmas.List.Folds.{list_all-map}
 use Rattle.std.proofs.lemmas.List.Kept.{IsStrictlySortedBy-filter}
 use Rattle.farm_types.specs.Farm.{Farm}
-use Rattle.farm_types.specs.Pick.{Among, Claimed, claim_cmp, claims, group_claim, is_waiting, leads_claim, queue, res_claim, waits}
+use Rattle.farm_types.specs.Pick.{IsAmong, Claimed, claim_cmp, claims, group_claim, is_waiting, leads_claim, queue, res_claim, waits}
 use Rattle.farm_types.specs.Sound.{IsSteady}
 use Rattle.farm_types.specs.Table.{put_all}
 use Rattle.farm_types.specs.declared.rows.JobRow.{JobRow}
@@ -59,12 +59,12 @@ seen_same f test view (x ∷ xs) all =
     by false is rest = rest
 
 -- one of those that pass the first test fails the second
-pub one_fails : {A : Type 0} (test pass : A → Bool) (x : A) (xs : List A) → Among x xs → test x ≡ true → pass x ≡ false
+pub one_fails : {A : Type 0} (test pass : A → Bool) (x : A) (xs : List A) → IsAmong x xs → test x ≡ true → pass x ≡ false
     → list_all pass (filter test xs) ≡ false
 one_fails test pass x [] at is fails = absurd at
 one_fails test pass x (y ∷ xs) at is fails = by (test y) refl at (λ more. one_fails test pass x xs more is fails)
   where
-    by : (v : Bool) → test y ≡ v → Among x (y ∷ xs) → (Among x xs → list_all pass (filter test xs) ≡ false)
+    by : (v : Bool) → test y ≡ v → IsAmong x (y ∷ xs) → (IsAmong x xs → list_all pass (filter test xs) ≡ false)
         → list_all pass (cond v (y ∷ filter test xs) (filter test xs)) ≡ false
     by true has (inl same) rest = ap (λ v. v && list_all pass (filter test xs)) (sym (ap pass same) ∙ fails)
     by true has (inr more) rest = ap (λ v. pass y && v) (rest more) ∙ and-false (pass y)
@@ -77,11 +77,11 @@ none_any test [] all = refl
 none_any test (x ∷ xs) all = ap (λ v. v || list_any test xs) all.0 ∙ none_any test xs all.1
 
 -- one that passes both tests
-one_any : {A : Type 0} (test pass : A → Bool) (x : A) (xs : List A) → Among x xs → test x ≡ true → pass x ≡ true → list_any pass (filter test xs) ≡ true
+one_any : {A : Type 0} (test pass : A → Bool) (x : A) (xs : List A) → IsAmong x xs → test x ≡ true → pass x ≡ true → list_any pass (filter test xs) ≡ true
 one_any test pass x [] at is passes = absurd at
 one_any test pass x (y ∷ xs) at is passes = by (test y) refl at (λ more. one_any test pass x xs more is passes)
   where
-    by : (v : Bool) → test y ≡ v → Among x (y ∷ xs) → (Among x xs → list_any pass (filter test xs) ≡ true)
+    by : (v : Bool) → test y ≡ v → IsAmong x (y ∷ xs) → (IsAmong x xs → list_any pass (filter test xs) ≡ true)
         → list_any pass (cond v (y ∷ filter test xs) (filter test xs)) ≡ true
     by true has (inl same) rest = ap (λ v. v || list_any pass (filter test xs)) (sym (ap pass same) ∙ passes)
     by true has (inr more) rest = ap (λ v. pass y || v) (rest more) ∙ or-true (pass y)
@@ -89,7 +89,7 @@ one_any test pass x (y ∷ xs) at is passes = by (test y) refl at (λ more. one_
     by false has (inr more) rest = rest more
 
 -- where x alone passes the second test, one of those that pass the first does so if x passes the first
-pub any_own : {A : Type 0} (test own : A → Bool) (x : A) (xs : List A) → Among x xs → own x ≡ true → AllByRecursion (λ q. own q ≡ true → q ≡ x) xs
+pub any_own : {A : Type 0} (test own : A → Bool) (x : A) (xs : List A) → IsAmong x xs → own x ≡ true → AllByRecursion (λ q. own q ≡ true → q ≡ x) xs
     → list_any own (filter test xs) ≡ test x
 any_own {A = A} test own x xs at is only = by (test x) refl
   where
@@ -102,11 +102,11 @@ any_own {A = A} test own x xs at is only = by (test x) refl
     by false fails = none_any own (filter test xs)
         (AllByRecursion-weaker (λ q two. other q two.0 two.1 fails (own q) refl) (filter test xs) (filter_all (λ q. own q ≡ true → q ≡ x) test xs only))
 
-pub among_itself : {A : Type 0} (xs : List A) → AllByRecursion (λ x. Among x xs) xs
+pub among_itself : {A : Type 0} (xs : List A) → AllByRecursion (λ x. IsAmong x xs) xs
 among_itself [] = tt
 among_itself (x ∷ xs) = (inl refl, AllByRecursion-weaker (λ y at. inr at) xs (among_itself xs))
 
-among_mapped : {A : Type 0} (f : A → A) (x : A) (xs : List A) → Among x xs → Among (f x) (map f xs)
+among_mapped : {A : Type 0} (f : A → A) (x : A) (xs : List A) → IsAmong x xs → IsAmong (f x) (map f xs)
 among_mapped f x [] at = absurd at
 among_mapped f x (y ∷ xs) (inl same) = inl (ap f same)
 among_mapped f x (y ∷ xs) (inr at) = inr (among_mapped f x xs at)
@@ -117,20 +117,20 @@ pub queue_taken : (F G : Farm) (kept : Claimed → Bool) → IsSteady F → clai
 queue_taken F G kept old is =
     same_elements claim_cmp claim_total (queue G) (filter kept (queue F)) (queue_sorted G)
     (IsStrictlySortedBy-filter claim_cmp kept (queue F) (queue_sorted F))
-    (all_put claim_cmp claim_total (λ c. Among c (filter kept (queue F))) (claims G) [] tt here)
+    (all_put claim_cmp claim_total (λ c. IsAmong c (filter kept (queue F))) (claims G) [] tt here)
     (AllByRecursion-weaker (λ c two. there c two.0 two.1) (filter kept (queue F))
-    (filter_all (λ c. Among c (claims F)) kept (queue F)
-    (all_put claim_cmp claim_total (λ c. Among c (claims F)) (claims F) [] tt (among_itself (claims F)))))
+    (filter_all (λ c. IsAmong c (claims F)) kept (queue F)
+    (all_put claim_cmp claim_total (λ c. IsAmong c (claims F)) (claims F) [] tt (among_itself (claims F)))))
   where
-    here : AllByRecursion (λ c. Among c (filter kept (queue F))) (claims G)
+    here : AllByRecursion (λ c. IsAmong c (filter kept (queue F))) (claims G)
     here = rw is (AllByRecursion-weaker (λ c two. among_later kept c (queue F) two.0 two.1) (filter kept (claims F))
-        (filter_all (λ c. Among c (queue F)) kept (claims F)
+        (filter_all (λ c. IsAmong c (queue F)) kept (claims F)
         (AllByRecursion-weaker (λ c claim. among_queue F old c claim) (claims F) (all_claims F old))))
 
     -- those that tie are one, since the old queue is in strict order
-    there : (c : Claimed) → Among c (claims F) → kept c ≡ true → Among c (queue G)
+    there : (c : Claimed) → IsAmong c (claims F) → kept c ≡ true → IsAmong c (queue G)
     there c at is_kept =
-        among_puts claim_cmp claim_total (λ d. Among d (filter kept (queue F)))
+        among_puts claim_cmp claim_total (λ d. IsAmong d (filter kept (queue F)))
         (λ d e one other tie. tied_same claim_cmp claim_total d e (filter kept (queue F))
         (IsStrictlySortedBy-filter claim_cmp kept (queue F) (queue_sorted F)) one other tie)
         c (claims G) [] here tt (inl (rw is (among_later kept c (claims F) at is_kept)))
@@ -189,7 +189,7 @@ module _ (F G : Farm) (kept : ℕ → Bool) (fj : JobRow → JobRow) (fr : ResRo
         )) F.jobs takes.jobs_wait))
         ∙ list_all-map (λ v. v) waits (filter (of_group g) F.jobs)
 
-    leads_after : (j : JobRow) → Among j F.jobs → waits (fj j) ≡ (waits j && kept j.group) → leads_claim G (fj j) ≡ (leads_claim F j && kept j.group)
+    leads_after : (j : JobRow) → IsAmong j F.jobs → waits (fj j) ≡ (waits j && kept j.group) → leads_claim G (fj j) ≡ (leads_claim F j && kept j.group)
     leads_after j at is =
         (λ i. ((takes.same_job j).number i == (takes.same_job j).group i) && list_all waits (filter (of_group ((takes.same_job j).group i)) (takes.jobs i)))
         ∙ by (kept j.group) refl
@@ -224,7 +224,7 @@ module _ (F G : Farm) (kept : ℕ → Bool) (fj : JobRow → JobRow) (fr : ResRo
         (AllByRecursion-weaker (λ r is. (is, takes.same_res r)) F.reservations takes.reservations_wait) i
         ++ taken fj (leads_claim F) (leads_claim G) (group_claim F) (group_claim G) (λ c. kept c.number) F.jobs
         (AllByRecursion-weaker (λ j two. (leads_after j two.0 two.1, claim_after j)) F.jobs
-        (AllByRecursion-both (λ j. Among j F.jobs) (λ j. waits (fj j) ≡ (waits j && kept j.group)) F.jobs (among_itself F.jobs) takes.jobs_wait)) i)
+        (AllByRecursion-both (λ j. IsAmong j F.jobs) (λ j. waits (fj j) ≡ (waits j && kept j.group)) F.jobs (among_itself F.jobs) takes.jobs_wait)) i)
         ∙ sym (filter-append (λ c. kept c.number) (map res_claim (filter is_waiting F.reservations)) (map (group_claim F) (filter (leads_claim F) F.jobs)))
 
     pub queue_takes : IsSteady F → queue G ≡ filter (λ c. kept c.number) (queue F)

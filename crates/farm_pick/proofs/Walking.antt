@@ -10,7 +10,7 @@ use Rattle.std.specs.declared.cmp.Ordering.{Ordering}
 use Rattle.std.specs.declared.cmp.Ordering.TheVariants.{Equal, Greater, Less}
 use Rattle.std.proofs.lemmas.Cmp.{ranked, tied_itself}
 use Rattle.std.proofs.lemmas.List.{get_or-set_same, get_or-set_other, get_or_append_left, get_or_default, get_or_push, length-append, length-set}
-use Rattle.farm_types.specs.Pick.{Among, shown_cmp}
+use Rattle.farm_types.specs.Pick.{IsAmong, shown_cmp}
 use Rattle.farm_types.specs.Sound.{EachTwo}
 use Rattle.farm_types.specs.declared.claims.Claim.{Claim}
 use Rattle.farm_sound.proofs.Lists.{among_has}
@@ -21,7 +21,7 @@ use Rattle.farm_pick.specs.Heads.{AreHeads, IsFirst, is_later, queue_open, rank_
 use Rattle.farm_pick.specs.Kept.{IsKeyed, claim_at, queued_cmp, shown_claims, shown_entry, shown_idle, spot_cmp}
 use Rattle.farm_pick.specs.Queued.{Queued, is_open}
 use Rattle.farm_pick.specs.declared.idle.IdleRow.{IdleRow}
-use Rattle.farm_pick.specs.Walked.{AreCursors, IsAt, IsCursor, IsLeastOf, IsWalk, StandsIn, StepsTo, behind, earlier_place, walk_from, walked}
+use Rattle.farm_pick.specs.Walked.{AreCursors, IsAt, IsCursor, IsLeastOf, IsWalk, StandsIn, StepsTo, entries_behind, earlier_place, walk_from, claims_after}
 use Rattle.farm_pick.specs.declared.spot.Spot.{Spot}
 use Rattle.farm_pick.specs.declared.walk.Cursor.{Cursor}
 use Rattle.farm_pick.proofs.First.{IsRanked, below, found_entry, rank_total, ranked_at, same_queue, shown_rank}
@@ -56,7 +56,7 @@ one_spot : (s t : Spot) → is_eq (spot_cmp s t) ≡ true → t ≡ s
 one_spot s t is = let same = tied s t is in λ i. record { queue = sym same.queue i; priority = sym same.priority i; number = sym same.number i }
 
 -- each entry is found at its spot
-found_at : (es : List (Spot × Claim)) → IsStrictlySortedBy entry_cmp es → (e : Spot × Claim) → Among e es → claim_at es e.0 ≡ Some e.1
+found_at : (es : List (Spot × Claim)) → IsStrictlySortedBy entry_cmp es → (e : Spot × Claim) → IsAmong e es → claim_at es e.0 ≡ Some e.1
 unfolding IsStrictlySortedBy
 found_at [] sorted e at = absurd at
 found_at (d ∷ es) sorted e (inl same) =
@@ -79,10 +79,10 @@ all_any : (es : List (Spot × Claim)) → AllByRecursion (λ e. Unit {0}) es
 all_any [] = tt
 all_any (e ∷ es) = (tt, all_any es)
 
-entry_at : (es : List (Spot × Claim)) (t : Spot) → IsSome (claim_at es t) → (d : Spot × Claim) × Among d es × (d.0 ≡ t)
+entry_at : (es : List (Spot × Claim)) (t : Spot) → IsSome (claim_at es t) → (d : Spot × Claim) × IsAmong d es × (d.0 ≡ t)
 entry_at es t some = by (claim_at es t) refl some
   where
-    by : (o : Option Claim) → claim_at es t ≡ o → IsSome o → (d : Spot × Claim) × Among d es × (d.0 ≡ t)
+    by : (o : Option Claim) → claim_at es t ≡ o → IsSome o → (d : Spot × Claim) × IsAmong d es × (d.0 ≡ t)
     by None is some = absurd (true≢false (sym some))
     by (Some c) is some =
         let e = found_entry (λ e. Unit {0}) (λ x. is_eq (spot_cmp t x)) c es (all_any es) is in
@@ -120,17 +120,17 @@ module _ (es : List (Spot × Claim)) (sorted : IsStrictlySortedBy spot_cmp (map 
   behind_is e less = ap (λ o. is_lt o && true) less
 
   -- the first that is left is the first behind the spot
-  first_left : (e : Spot × Claim) (more : List (Spot × Claim)) → behind es s ≡ e ∷ more → (t : Spot) → spot_cmp s t ≡ Less → IsSome (claim_at es t) → is_gt (spot_cmp e.0 t) ≡ false
+  first_left : (e : Spot × Claim) (more : List (Spot × Claim)) → entries_behind es s ≡ e ∷ more → (t : Spot) → spot_cmp s t ≡ Less → IsSome (claim_at es t) → is_gt (spot_cmp e.0 t) ≡ false
   first_left e more is t less some =
       let d = entry_at es t some in
       subst (λ u. is_gt (spot_cmp e.0 u) ≡ false) d.2
       (found_first entry_cmp entry_total is_behind e es rises (found_of_filter is_behind es e more is) d.0 d.1
       (behind_is d.0 (ap (spot_cmp s) d.2 ∙ less)))
 
-  after_left : (e : Spot × Claim) (more : List (Spot × Claim)) → behind es s ≡ e ∷ more → spot_cmp s e.0 ≡ Less
+  after_left : (e : Spot × Claim) (more : List (Spot × Claim)) → entries_behind es s ≡ e ∷ more → spot_cmp s e.0 ≡ Less
   after_left e more is = less_of (spot_cmp s e.0) (true_left (is_lt (spot_cmp s e.0)) true (found_passes is_behind e es (found_of_filter is_behind es e more is)))
 
-  none_left : behind es s ≡ [] → (t : Spot) → spot_cmp s t ≡ Less → claim_at es t ≡ None
+  none_left : entries_behind es s ≡ [] → (t : Spot) → spot_cmp s t ≡ Less → claim_at es t ≡ None
   none_left is t less = by (claim_at es t) refl
     where
       by : (o : Option Claim) → claim_at es t ≡ o → o ≡ None
@@ -140,10 +140,10 @@ module _ (es : List (Spot × Claim)) (sorted : IsStrictlySortedBy spot_cmp (map 
           absurd (none_passes is_behind d.0 es (none_of_filter is_behind es is) d.1 (behind_is d.0 (ap (spot_cmp s) d.2 ∙ less)))
 
   -- one step on
-  pub stands_in : (rest : List (Spot × Claim)) (o : Option Cursor) → rest ≡ behind es s → StepsTo rest s.queue o → StandsIn es s o
-  stands_in rest None is steps = λ t same less. by (behind es s) refl t same less
+  pub stands_in : (rest : List (Spot × Claim)) (o : Option Cursor) → rest ≡ entries_behind es s → StepsTo rest s.queue o → StandsIn es s o
+  stands_in rest None is steps = λ t same less. by (entries_behind es s) refl t same less
     where
-      by : (xs : List (Spot × Claim)) → behind es s ≡ xs → (t : Spot) → t.queue ≡ s.queue → spot_cmp s t ≡ Less → claim_at es t ≡ None
+      by : (xs : List (Spot × Claim)) → entries_behind es s ≡ xs → (t : Spot) → t.queue ≡ s.queue → spot_cmp s t ≡ Less → claim_at es t ≡ None
       by [] left t same less = none_left left t less
       by (e ∷ more) left t same less = open_end (claim_at es t) refl
         where
@@ -154,7 +154,7 @@ module _ (es : List (Spot × Claim)) (sorted : IsStrictlySortedBy spot_cmp (map 
               let high = queue_rises e.0 t (first_left e more left t less (ap is_some so)) in
               absurd (steps e more (is ∙ left) (omega (arith, low, high, same)))
   stands_in rest (Some x) is steps =
-      let left : behind es s ≡ (steps.0, x.claim.now) ∷ x.rest = sym is ∙ steps.1 in
+      let left : entries_behind es s ≡ (steps.0, x.claim.now) ∷ x.rest = sym is ∙ steps.1 in
       record {
         spot = steps.0;
         queue = steps.2;
@@ -191,7 +191,7 @@ pub cursor_unseen : (es : List (Spot × Claim)) (test : ℕ → Bool) (last : Sp
 cursor_unseen es test last closed = λ is. absurd (true≢false (sym is ∙ closed))
 
 -- two entries of one number are one
-one_entry : (es : List (Spot × Claim)) → EachTwo (λ a b. a.1.number ≡ b.1.number → ⊥) es → (a b : Spot × Claim) → Among a es → Among b es → a.1.number ≡ b.1.number → a ≡ b
+one_entry : (es : List (Spot × Claim)) → EachTwo (λ a b. a.1.number ≡ b.1.number → ⊥) es → (a b : Spot × Claim) → IsAmong a es → IsAmong b es → a.1.number ≡ b.1.number → a ≡ b
 one_entry [] each a b here there same = absurd here
 one_entry (e ∷ es) each a b (inl here) (inl there) same = here ∙ sym there
 one_entry (e ∷ es) each a b (inl here) (inr there) same =
@@ -410,13 +410,13 @@ rank_up last x y is less =
     (less_of (rank_of_claim last x.claim) is) less)
 
 -- behind a claim there are those that are after it
-pub walked_on : (opens : Option (List ℕ) → Bool) (last : Spot) (xs : List Queued) → IsStrictlySortedBy queued_cmp xs → (c : Claim) (cs : List Claim) → walked opens last xs ≡ c ∷ cs
+pub walked_on : (opens : Option (List ℕ) → Bool) (last : Spot) (xs : List Queued) → IsStrictlySortedBy queued_cmp xs → (c : Claim) (cs : List Claim) → claims_after opens last xs ≡ c ∷ cs
     → (l : Spot) → l.priority ≡ c.priority → l.number ≡ c.number
-    → (option_map (λ (x : Queued). x.claim) (find (λ x. is_later last x.claim && opens x.kind) xs) ≡ Some c) × (cs ≡ walked opens l xs)
+    → (option_map (λ (x : Queued). x.claim) (find (λ x. is_later last x.claim && opens x.kind) xs) ≡ Some c) × (cs ≡ claims_after opens l xs)
 walked_on opens last xs sorted c cs is l priority number = by (filter (λ x. is_later last x.claim && opens x.kind) xs) refl is
   where
     by : (ys : List Queued) → filter (λ x. is_later last x.claim && opens x.kind) xs ≡ ys → map (λ (x : Queued). x.claim) ys ≡ c ∷ cs
-        → (option_map (λ (x : Queued). x.claim) (find (λ x. is_later last x.claim && opens x.kind) xs) ≡ Some c) × (cs ≡ walked opens l xs)
+        → (option_map (λ (x : Queued). x.claim) (find (λ x. is_later last x.claim && opens x.kind) xs) ≡ Some c) × (cs ≡ claims_after opens l xs)
     by [] at is = cc
     by (x ∷ ys) at is =
         let same : x.claim ≡ c = cc in
@@ -432,7 +432,7 @@ walked_on opens last xs sorted c cs is l priority number = by (filter (λ x. is_
         )
 
 -- and where none is left none is found
-pub walked_none : (opens : Option (List ℕ) → Bool) (last : Spot) (xs : List Queued) → walked opens last xs ≡ []
+pub walked_none : (opens : Option (List ℕ) → Bool) (last : Spot) (xs : List Queued) → claims_after opens last xs ≡ []
     → option_map (λ (x : Queued). x.claim) (find (λ x. is_later last x.claim && opens x.kind) xs) ≡ None
 walked_none opens last xs is = by (filter (λ x. is_later last x.claim && opens x.kind) xs) refl is
   where

@@ -25,15 +25,15 @@ Chooses serves used (w ∷ ws) (p ∷ ps) =
     (serves w p ≡ true) × (has used p ≡ false) × (has ps p ≡ false) × Chooses serves used ws ps
 
 -- ps is qs or comes before it
-abbrev pub NotAfter : List ℕ → List ℕ → Type 0
-NotAfter [] qs = ⊤
-NotAfter (p ∷ ps) [] = ⊥
-NotAfter (p ∷ ps) (q ∷ qs) = (p < q) ⊎ ((p ≡ q) × NotAfter ps qs)
+abbrev pub IsNotAfter : List ℕ → List ℕ → Type 0
+IsNotAfter [] qs = ⊤
+IsNotAfter (p ∷ ps) [] = ⊥
+IsNotAfter (p ∷ ps) (q ∷ qs) = (p < q) ⊎ ((p ≡ q) × IsNotAfter ps qs)
 
 pub record IsLeastChoice {W : Type 0} (serves : W → ℕ → Bool) (used : List ℕ) (ws : List W)
     (ps : List ℕ) : Type 0 where
   pub chooses : Chooses serves used ws ps
-  pub least : (qs : List ℕ) → Chooses serves used ws qs → NotAfter ps qs
+  pub least : (qs : List ℕ) → Chooses serves used ws qs → IsNotAfter ps qs
 
 -- xs are the first places that pass, in order: all of them, or at least as many as the limit
 pub record IsShortlist (passes : ℕ → Bool) (limit : ℕ) (xs : List ℕ) : Type 0 where

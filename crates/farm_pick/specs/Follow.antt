@@ -4,10 +4,10 @@ use Rattle.std.specs.List.{filter, list_any}
 use Rattle.std.specs.Option.{option_map_or}
 use Rattle.std.specs.Str.{bytes_eq}
 use Rattle.farm_types.specs.Limits.{lease}
-use Rattle.farm_types.specs.Change.{act, moved, new_res}
+use Rattle.farm_types.specs.Change.{act, farm_at_call, new_res}
 use Rattle.farm_types.specs.Farm.{Farm, job_of}
-use Rattle.farm_types.specs.Pass.{back, checks, expire, give, is_dead, pass_over}
-use Rattle.farm_types.specs.Pick.{Among, Claimed, claim_cmp, is_free, least, queue, res_claim}
+use Rattle.farm_types.specs.Pass.{giving_back, checks, expire, give, is_dead, pass_over}
+use Rattle.farm_types.specs.Pick.{IsAmong, Claimed, claim_cmp, is_free, least, queue, res_claim}
 use Rattle.farm_types.specs.Refuse.{refusal}
 use Rattle.farm_types.specs.Sound.{IsSound}
 use Rattle.farm_types.specs.Table.{put}
@@ -17,8 +17,8 @@ use Rattle.farm_types.specs.declared.rows.BoardRow.{BoardRow}
 use Rattle.farm_pick.specs.Queued.{idle_boards}
 
 -- the queue without the claim of a number
-abbrev pub without : ℕ → List Claimed → List Claimed
-without number claims = filter (λ c. not (c.number == number)) claims
+abbrev pub queue_without : ℕ → List Claimed → List Claimed
+queue_without number claims = filter (λ c. not (c.number == number)) claims
 
 -- the queue that a command leaves: Submit and Reserve put a claim, Cancel and CancelRes take one,
 -- and no other command but a pass changes it
@@ -34,20 +34,20 @@ queue_after F caller (Cmd.Submit priority wants roles body) =
 queue_after F caller (Cmd.Reserve priority tags) =
     put claim_cmp (queue F) (res_claim (new_res F.next caller priority tags (F.clock + lease)))
 queue_after F caller (Cmd.Cancel number) =
-    option_map_or (λ j. without j.group (queue F)) (job_of F number) (queue F)
-queue_after F caller (Cmd.CancelRes number) = without number (queue F)
+    option_map_or (λ j. queue_without j.group (queue F)) (job_of F number) (queue F)
+queue_after F caller (Cmd.CancelRes number) = queue_without number (queue F)
 queue_after F caller cmd = queue F
 
 -- an accepted command but a pass leaves that queue
 abbrev pub CommandsFollow : Type 0
 CommandsFollow = (F : Farm) (call : Call) → IsSound F → None ≡ refusal F call
     → call.cmd ≢ Cmd.Pass
-    → queue (act (moved F call) call.caller call.cmd).farm
-    ≡ queue_after (moved F call) call.caller call.cmd
+    → queue (act (farm_at_call F call) call.caller call.cmd).farm
+    ≡ queue_after (farm_at_call F call) call.caller call.cmd
 
 -- a pass begins with the boards that the collecting group gives back: it still waits
 abbrev pub BacksFollow : Type 0
-BacksFollow = (F : Farm) → queue (back F) ≡ queue F
+BacksFollow = (F : Farm) → queue (giving_back F) ≡ queue F
 
 -- then the dead reservations end: their claims go
 abbrev pub EndsFollow : Type 0
@@ -63,12 +63,12 @@ ChecksFollow = (F : Farm) → IsSound F → queue (checks F F.clock) ≡ queue F
 -- then each claim that is met goes, and its boards are free no more
 abbrev pub GivingFollows : Type 0
 GivingFollows = (F : Farm) (c : Claimed) (bs : List BoardRow) (t : ℕ) → IsSound F → t ≤ F.clock
-    → Among c (queue F) → least F.boards (is_free F.types) c.wants ≡ Some bs
-    → (queue (give F c bs t) ≡ without c.number (queue F))
+    → IsAmong c (queue F) → least F.boards (is_free F.types) c.wants ≡ Some bs
+    → (queue (give F c bs t) ≡ queue_without c.number (queue F))
     × (idle_boards (give F c bs t)
     ≡ filter (λ x. not (list_any (λ b. bytes_eq b.name x.name) bs)) (idle_boards F))
 
 -- and each that isn't stays, also where it collects
 abbrev pub CollectingFollows : Type 0
-CollectingFollows = (F : Farm) (c : Claimed) → IsSound F → Among c (queue F)
+CollectingFollows = (F : Farm) (c : Claimed) → IsSound F → IsAmong c (queue F)
     → queue (pass_over F c) ≡ queue F

@@ -5,6 +5,7 @@ use Rattle.std.specs.List.{AllByRecursion, filter_map, list_any, range_with_len}
 use Rattle.std.specs.Ordering.{is_gt, is_lt, nat_cmp, ordering_then}
 use Rattle.std.specs.declared.cmp.Ordering.{Ordering}
 use Rattle.std.specs.declared.cmp.Ordering.TheVariants.{Less}
+use Rattle.farm_types.specs.Limits.{highest_priority}
 use Rattle.farm_types.specs.Pick.{shown_cmp}
 use Rattle.farm_types.specs.Sound.{EachTwo}
 use Rattle.farm_types.specs.declared.claims.Claim.{Claim}
@@ -37,10 +38,10 @@ IsFirst es test n last (Some c) =
     → IsSome (claim_at es t) → rank_cmp t s ≡ Less → ⊥)
 
 -- of two claims the one that goes first
-abbrev pub earlier : Option Claim → Option Claim → Option Claim
-earlier None b = b
-earlier (Some a) None = Some a
-earlier (Some a) (Some b) = if is_lt (shown_cmp b a) then Some b else Some a
+abbrev pub earlier_of : Option Claim → Option Claim → Option Claim
+earlier_of None b = b
+earlier_of (Some a) None = Some a
+earlier_of (Some a) (Some b) = if is_lt (shown_cmp b a) then Some b else Some a
 
 -- whether a board of a queue's type is free; for the reservations' queue any board
 abbrev pub queue_open : List IdleRow → ℕ → Bool
@@ -56,7 +57,7 @@ is_later last c = is_lt (rank_of_claim last c)
 
 -- the spot of a claim that was tried; without one, a spot before all claims
 abbrev pub last_spot : Option (ℕ × ℕ) → Spot
-last_spot None = record { queue = 0; priority = 101; number = 0 }
+last_spot None = record { queue = 0; priority = highest_priority + 1; number = 0 }
 last_spot (Some after) = record { queue = 0; priority = after.0; number = after.1 }
 
 -- ---- the heads of the queues, one after the other

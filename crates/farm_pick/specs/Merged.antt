@@ -7,11 +7,11 @@ use Rattle.std.specs.Option.{option_map_or}
 use Rattle.std.specs.Ordering.{is_lt}
 use Rattle.farm_types.specs.Farm.{Farm}
 use Rattle.farm_types.specs.Pass.{Served, is_group, may_collect, serve, serve_all}
-use Rattle.farm_types.specs.Pick.{Among, Claimed, claim_cmp, is_free, least, queue}
+use Rattle.farm_types.specs.Pick.{IsAmong, Claimed, claim_cmp, is_free, least, queue}
 use Rattle.farm_types.specs.declared.claims.Claim.{Claim}
 use Rattle.farm_types.specs.declared.rows.Want.{Want}
 use Rattle.farm_types.specs.Sound.{IsSound}
-use Rattle.farm_pick.specs.Heads.{earlier, is_later, last_spot}
+use Rattle.farm_pick.specs.Heads.{earlier_of, is_later, last_spot}
 use Rattle.farm_pick.specs.Queued.{Lists, idle_boards, is_open, queue_kind}
 
 -- whether a claim comes after the one tried last, if one was
@@ -36,9 +36,9 @@ abbrev pub next_tried : ℕ → Farm → Option Claimed → Option Claimed
 next_tried former F last = find (is_tried former F last) (queue F)
 
 -- so many claims are tried
-abbrev pub merged : ℕ → ℕ → ℕ → Served → Option Claimed → Served
-merged former zero t s last = s
-merged former (suc n) t s last = option_map_or (λ c. merged former n t (serve t s c) (Some c))
+abbrev pub merged_pass : ℕ → ℕ → ℕ → Served → Option Claimed → Served
+merged_pass former zero t s last = s
+merged_pass former (suc n) t s last = option_map_or (λ c. merged_pass former n t (serve t s c) (Some c))
     (next_tried former s.farm last) s
 
 -- the claim of a group is tried, if it is one
@@ -50,14 +50,14 @@ first_tried group t s = option_map_or (λ c. serve t s c) (find (is_group group)
 abbrev pub MergingServes : Type 0
 MergingServes = (F : Farm) (group t n : ℕ) → IsSound F → F.collector ≡ 0 → t ≤ F.clock
     → length (queue F) ≤ n
-    → merged group n t (first_tried group t (record { farm = F; claims = 0 })) None
+    → merged_pass group n t (first_tried group t (record { farm = F; claims = 0 })) None
     ≡ serve_all F group t
 
 -- what no free boards meet stays so while another claim is tried
 abbrev pub UnmetStays : Type 0
 UnmetStays =
     (t : ℕ) (s : Served) (c : Claimed) (wants : List Want) → IsSound s.farm → t ≤ s.farm.clock
-    → Among c (queue s.farm)
+    → IsAmong c (queue s.farm)
     → least s.farm.boards (is_free s.farm.types) wants ≡ None
     → least (serve t s c).farm.boards (is_free (serve t s c).farm.types) wants ≡ None
 
@@ -80,9 +80,9 @@ lent_several lists after = option_map (λ x. x.claim)
     (find (λ x. is_later (last_spot after) x.claim && nat_le 2 x.claim.boards) lists.claims)
 
 -- while nobody collects the one that goes first
-abbrev pub lent : Bool → Lists → Option (ℕ × ℕ) → Option Claim
-lent nobody lists after =
-    if nobody then earlier (lent_open lists after) (lent_several lists after)
+abbrev pub lent_claim : Bool → Lists → Option (ℕ × ℕ) → Option Claim
+lent_claim nobody lists after =
+    if nobody then earlier_of (lent_open lists after) (lent_several lists after)
     else lent_open lists after
 
 -- it is the next claim, `former`'s among them, that may change the farm

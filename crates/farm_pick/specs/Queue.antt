@@ -1,7 +1,8 @@
 -- The queue's claims as the rows show them: a reservation by itself, a group by its first member
 -- and the rows behind it.
-use Rattle.std.specs.Prelude.{◌==◌, ◌&&◌, Bool, List, [], ◌∷◌, length, take, filter, if◌then◌else◌}
+use Rattle.std.specs.Prelude.{◌==◌, ◌&&◌, ◌-◌, ℕ, Bool, List, [], ◌∷◌, length, take, filter, if◌then◌else◌}
 use Rattle.std.specs.List.{list_all}
+use Rattle.farm_types.specs.Limits.{most_wants}
 use Rattle.farm_types.specs.Pick.{res_claim, shown_claim, waits}
 use Rattle.farm_types.specs.declared.rows.JobRow.{JobRow}
 use Rattle.farm_types.specs.declared.rows.ResRow.{ResRow}
@@ -28,9 +29,12 @@ shown_group j near = record {
   boards = length (j ∷ mates j near);
 }
 
--- a group's members have four numbers at most, so of rows in order only the next three can be
--- members too
+-- how many rows behind the first member of a group may be members of it, since their numbers
+-- follow each other
+abbrev pub most_mates : ℕ
+most_mates = most_wants - 1
+
 abbrev pub shown_groups : List JobRow → List Claim
 shown_groups [] = []
-shown_groups (j ∷ jobs) = if leads j (take 3 jobs) then shown_group j (take 3 jobs)
+shown_groups (j ∷ jobs) = if leads j (take most_mates jobs) then shown_group j (take most_mates jobs)
     ∷ shown_groups jobs else shown_groups jobs

@@ -33,8 +33,8 @@ first_kind (w ∷ ws) = w.kind
 abbrev pub queue_kind : Claimed → Option (List ℕ)
 queue_kind c = if c.reservation then None else first_kind c.wants
 
-abbrev pub queued : Claimed → Queued
-queued c = record { claim = shown_claim c; kind = queue_kind c }
+abbrev pub queued_of : Claimed → Queued
+queued_of c = record { claim = shown_claim c; kind = queue_kind c }
 
 abbrev pub idle_board : BoardRow → IdleBoard
 idle_board b = record { name = b.name; kind = b.kind }
@@ -44,7 +44,7 @@ abbrev pub idle_boards : Farm → List IdleBoard
 idle_boards F = map idle_board (filter (is_free F.types) F.boards)
 
 abbrev pub lists_of : Farm → Lists
-lists_of F = record { claims = map queued (queue F); boards = idle_boards F }
+lists_of F = record { claims = map queued_of (queue F); boards = idle_boards F }
 
 -- a queue is open where a board of its type is free; that of the reservations where any board is
 abbrev pub is_open : List IdleBoard → Option (List ℕ) → Bool

@@ -17,18 +17,18 @@ use Rattle.farm_pick.specs.declared.spot.Spot.{Spot}
 use Rattle.farm_pick.specs.declared.walk.Cursor.{Cursor}
 
 -- the claims after a spot, of the queues that pass a test
-abbrev pub walked : (Option (List ℕ) → Bool) → Spot → List Queued → List Claim
-walked opens last claims =
+abbrev pub claims_after : (Option (List ℕ) → Bool) → Spot → List Queued → List Claim
+claims_after opens last claims =
     map (λ x. x.claim) (filter (λ x. is_later last x.claim && opens x.kind) claims)
 
 -- what a walk lends that is after a spot
 abbrev pub walk_from : List (List ℕ) → List (Spot × Claim) → List IdleRow → Bool → Spot → List Claim
 walk_from kinds es rows all last =
-    walked (λ k. all || is_open (map (shown_idle kinds) rows) k) last (shown_claims kinds es)
+    claims_after (λ k. all || is_open (map (shown_idle kinds) rows) k) last (shown_claims kinds es)
 
 -- the entries of the map behind a spot
-abbrev pub behind : List (Spot × Claim) → Spot → List (Spot × Claim)
-behind es spot = entries_between spot_cmp (Excluded spot) Unbounded es
+abbrev pub entries_behind : List (Spot × Claim) → Spot → List (Spot × Claim)
+entries_behind es spot = entries_between spot_cmp (Excluded spot) Unbounded es
 
 -- a cursor stands at the first claim after a spot in the spot's queue, with the entries behind it
 pub record IsAt (es : List (Spot × Claim)) (last : Spot) (x : Cursor) : Type 0 where
@@ -38,7 +38,7 @@ pub record IsAt (es : List (Spot × Claim)) (last : Spot) (x : Cursor) : Type 0 
   pub claim : claim_at es spot ≡ Some x.claim.now
   pub first : (t : Spot) → t.queue ≡ last.queue → spot_cmp last t ≡ Less → IsSome (claim_at es t)
       → is_gt (spot_cmp spot t) ≡ false
-  pub rest : x.rest ≡ behind es spot
+  pub rest : x.rest ≡ entries_behind es spot
   pub sorted : IsStrictlySortedBy spot_cmp (map (λ e. e.0) es)
 
 -- where a walk stands in the queue of a spot, after the spot

@@ -1,6 +1,7 @@
 //! Places for wants: the first candidates of each, and the least choice among them.
 ghost use Rattle.std.specs.Prelude.{◌≡◌, ◌+◌, ◌≤◌, ℕ, List, ◌++◌, length, IfSome, IfNone};
 ghost use Rattle.std.specs.List.{AllByRecursion};
+ghost use Rattle.farm_types.specs.Limits.{most_wants};
 ghost use Rattle.farm_pick.specs.Test.{passes};
 ghost use Rattle.farm_pick.specs.Choice.{has, Ascends, Chooses, IsLeastChoice, IsShortlist};
 ghost use Rattle.farm_pick.specs.Choice.{candidate_at};
@@ -19,7 +20,7 @@ pub fn shortlist(
     free: Free,
     limit: usize,
 ) -> Picked
-    requires { limit ≤ 4 }
+    requires { limit ≤ most_wants }
     ensures { IsShortlist (candidate_at boards.now (passes types.now free) want.now) limit result }
 {
     let mut found = Picked::new();
@@ -37,7 +38,7 @@ pub fn shortlist(
 /// The least choice of different places, one of each list, that are not in use: those in use and
 /// then these. Four lists of four places cost at most 4 + 16 + 64 + 256 = 340 steps.
 pub fn choose(lists: &[Picked], used: Picked) -> Option<Picked>
-    requires room { length used + length lists.now ≤ 4 }
+    requires room { length used + length lists.now ≤ most_wants }
     requires ascend { AllByRecursion Ascends lists.now }
     ensures found { IfSome result (λ r. ((ps : List ℕ) × (r ≡ used ++ ps)
         × IsLeastChoice has used lists.now ps)) }

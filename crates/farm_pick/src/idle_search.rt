@@ -2,6 +2,7 @@
 ghost use Rattle.std.specs.Prelude.{◌≡◌, ◌≢◌, ◌==◌, ◌||◌, ◌<◌, ◌≤◌, ℕ, true, false, All, AllPairs};
 ghost use Rattle.std.specs.Prelude.{filter, length, map, None, IfNone, IfSome, option_map};
 ghost use Rattle.std.specs.List.Sorted.{IsStrictlySortedBy};
+ghost use Rattle.farm_types.specs.Limits.{most_wants};
 ghost use Rattle.farm_types.specs.Table.{board_cmp};
 ghost use Rattle.farm_types.specs.Pick.{is_free, least};
 ghost use Rattle.farm_pick.specs.Choice.{IsShortlist, candidate_at};
@@ -84,7 +85,7 @@ fn shortlist(
     want: &Want,
     limit: usize,
 ) -> Picked
-    requires few { limit ≤ 4 }
+    requires few { limit ≤ most_wants }
     requires ordered { IsStrictlySortedBy board_cmp boards.now }
     requires idle { AreIdle kinds.now rows.now }
     requires free { map (shown_idle kinds.now) rows.now ≡ map idle_board
@@ -116,7 +117,7 @@ pub fn least_of(
     wants: &[&Want],
 ) -> Option<Picked>
     requires ordered { IsStrictlySortedBy board_cmp boards.now }
-    requires few { length wants.now ≤ 4 }
+    requires few { length wants.now ≤ most_wants }
     requires idle { AreIdle kinds.now rows.now }
     requires free { map (shown_idle kinds.now) rows.now ≡ map idle_board
         (filter (is_free types.now) boards.now) }

@@ -1,5 +1,7 @@
 ghost use Rattle.std.specs.Prelude.{◌≡◌, ◌+◌, ◌<◌, ◌≤◌, [], ◌∷◌, ◌++◌, length};
+ghost use Rattle.farm_types.specs.Limits.{most_wants};
 
+use farm_types::limits::MOST_WANTS;
 use std::marker::Model;
 
 /// Up to four places in a list, counted from 0. Contracts see the list of these places.
@@ -8,17 +10,18 @@ pub struct Picked {
     /// How many places there are.
     pub len: usize,
     /// The places first, and then numbers that mean nothing.
-    pub at: [usize; 4],
+    pub at: [usize; MOST_WANTS],
 }
 
 impl Model for Picked {
     ghost use Rattle.std.specs.Prelude.{List, ℕ, ◌≤◌, take};
+    ghost use Rattle.farm_types.specs.Limits.{most_wants};
 
     ghost Value = { List ℕ };
 
     ghost view = { λ p. take p.len p.at };
 
-    ghost invariant = { λ p. p.len ≤ 4 };
+    ghost invariant = { λ p. p.len ≤ most_wants };
 }
 
 impl Picked {
@@ -26,13 +29,16 @@ impl Picked {
     pub fn new() -> Picked
         ensures { result ≡ [] }
     {
-        Picked { len: 0, at: [0; 4] }
+        Picked {
+            len: 0,
+            at: [0; MOST_WANTS],
+        }
     }
 
     /// How many places there are.
     pub fn len(&self) -> usize
         ensures len { result ≡ length self.now }
-        ensures bound { result ≤ 4 }
+        ensures bound { result ≤ most_wants }
     {
         self.len
     }
@@ -46,7 +52,7 @@ impl Picked {
 
     /// These places and one more.
     pub fn with(&self, place: usize) -> Picked
-        requires { length self.now < 4 }
+        requires { length self.now < most_wants }
         ensures { result ≡ self.now ++ place ∷ [] }
     {
         let mut at = self.at;

@@ -4,17 +4,18 @@ ghost use Rattle.std.specs.List.{list_all};
 ghost use Rattle.farm_types.specs.Farm.{Farm};
 ghost use Rattle.farm_types.specs.Sound.{IsSteady};
 ghost use Rattle.farm_types.specs.Pick.{is_waiting, queue, shown_claim, shown_cmp, waits};
-ghost use Rattle.farm_pick.specs.Queue.{shown_reservation, leads, shown_group};
+ghost use Rattle.farm_pick.specs.Queue.{leads, most_mates, shown_group, shown_reservation};
 ghost use Rattle.farm_pick.specs.Queue.{shown_groups};
 
 use crate::order::queue_order;
 use farm_types::claims::{Claim, ClaimKind};
+use farm_types::limits::MOST_WANTS;
 use farm_types::rows::{JobRow, JobState, ResRow, ResState};
 use std::alloc::{AllocError, Global};
 use std::cmp::Ordering;
 
 /// How many rows behind the first member of a group may be members of it.
-const MOST_MATES: usize = 3;
+const MOST_MATES: usize = MOST_WANTS - 1;
 
 fn is_waiting(reservation: &ResRow) -> bool
     ensures { result ≡ is_waiting reservation.now }
@@ -56,8 +57,8 @@ fn waits(job: &JobRow) -> bool
 
 /// The rows that may be members of a group whose first one stands before them.
 fn nearby(behind: &[JobRow]) -> &[JobRow]
-    ensures near { result.now ≡ take 3 behind.now }
-    ensures few { length result.now ≤ 3 }
+    ensures near { result.now ≡ take most_mates behind.now }
+    ensures few { length result.now ≤ most_mates }
 {
     &behind[..behind.len().min(MOST_MATES)]
 }
@@ -80,15 +81,15 @@ fn all_wait(group: u64, near: &[JobRow]) -> bool
 }
 
 fn count_mates(group: u64, near: &[JobRow]) -> u64
-    requires { length near.now ≤ 3 }
+    requires { length near.now ≤ most_mates }
     ensures count { result ≡ length (filter (λ m. m.group == group) near.now) }
-    ensures few { result ≤ 3 }
+    ensures few { result ≤ most_mates }
 {
     near.iter().filter(|job| job.group == group).count() as u64
 }
 
 fn shown_group(job: &JobRow, near: &[JobRow]) -> Result<Claim, AllocError>
-    requires { length near.now ≤ 3 }
+    requires { length near.now ≤ most_mates }
     ensures { IfOk result (λ claim. claim ≡ shown_group job.now near.now) }
 {
     Ok(Claim {

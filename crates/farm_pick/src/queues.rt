@@ -6,12 +6,13 @@ ghost use Rattle.std.specs.List.{AllByRecursion, filter, filter_map, find};
 ghost use Rattle.std.specs.Option.{option_copied};
 ghost use Rattle.std.specs.Str.{bytes_eq};
 ghost use Rattle.std.specs.List.Sorted.{IsStrictlySortedBy};
+ghost use Rattle.farm_types.specs.Limits.{most_wants};
 ghost use Rattle.farm_types.specs.Pick.{is_free, least};
 ghost use Rattle.farm_types.specs.Table.{board_cmp, put};
 ghost use Rattle.farm_pick.specs.Least.{boards_at};
 ghost use Rattle.farm_pick.specs.Heads.{is_later, last_spot};
 ghost use Rattle.farm_pick.specs.Queued.{AreKindsOf, head_of, idle_board, is_open};
-ghost use Rattle.farm_pick.specs.Walked.{walked};
+ghost use Rattle.farm_pick.specs.Walked.{claims_after};
 ghost use Rattle.farm_pick.specs.Kept.{queued_cmp, named_cmp};
 
 use crate::heads::Heads;
@@ -186,7 +187,7 @@ impl Queues {
     /// With C claims and K types it costs O(K log C) to begin, and then a comparison a queue for
     /// each claim that is lent, and no search.
     pub fn walk(&self, after: Option<(Priority, u64)>, all: bool) -> Result<Walk<'_>, AllocError>
-        ensures { IfOk result (λ walk. walk ≡ walked (λ k. all || is_open self.now.boards k)
+        ensures { IfOk result (λ walk. walk ≡ claims_after (λ k. all || is_open self.now.boards k)
             (last_spot after) self.now.claims) }
     {
         let alloc = *self.kinds.allocator();
@@ -240,7 +241,7 @@ impl Queues {
         wants: &[&Want],
     ) -> Option<Picked>
         requires ordered { IsStrictlySortedBy board_cmp boards.now }
-        requires few { length wants.now ≤ 4 }
+        requires few { length wants.now ≤ most_wants }
         requires free { self.now.boards ≡ map idle_board (filter (is_free types.now) boards.now) }
         ensures least { option_map (boards_at boards.now) result ≡ least boards.now
             (is_free types.now) (map (λ w. w.now) wants.now) }

@@ -1,6 +1,7 @@
 ghost use Rattle.std.specs.Prelude.{◌≡◌, ◌≢◌, ◌<◌, ◌≤◌, All, AllPairs, length, map, IfSome};
 ghost use Rattle.std.specs.Prelude.{option_map};
 ghost use Rattle.std.specs.List.Sorted.{IsStrictlySortedBy};
+ghost use Rattle.farm_types.specs.Limits.{most_wants};
 ghost use Rattle.farm_types.specs.Table.{board_cmp};
 ghost use Rattle.farm_types.specs.Pick.{least};
 ghost use Rattle.farm_pick.specs.Test.{passes};
@@ -30,7 +31,7 @@ pub fn least_of(
     free: Free,
 ) -> Option<Picked>
     requires ordered { IsStrictlySortedBy board_cmp boards.now }
-    requires few { length wants.now ≤ 4 }
+    requires few { length wants.now ≤ most_wants }
     ensures least { option_map (boards_at boards.now) result
         ≡ least boards.now (passes types.now free) (map (λ w. w.now) wants.now) }
     ensures len { IfSome result (λ places. length places ≡ length wants.now) }

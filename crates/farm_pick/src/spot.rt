@@ -6,11 +6,12 @@ ghost use Rattle.std.specs.Cmp.Rules.{comparing};
 ghost use Rattle.std.specs.Ordering.{nat_cmp, on, flip_args, then_cmp, as_partial_cmp};
 ghost use Rattle.farm_pick.specs.Heads.{last_spot};
 
+use farm_types::limits::HIGHEST_PRIORITY;
 use farm_types::words::Priority;
 use std::cmp::Ordering;
 
 /// A priority above that of each claim.
-const ABOVE_ALL: u64 = 101;
+const ABOVE_ALL: u64 = HIGHEST_PRIORITY + 1;
 
 /// The spot of a claim: its queue, and in it the higher priority first, then the smaller number.
 #[derive(Clone, Copy, Debug, PartialEq, Eq)]

@@ -7,7 +7,7 @@ ghost use Rattle.std.specs.BTreeMap.{insert_entry, values};
 ghost use Rattle.std.specs.Option.{option_copied};
 ghost use Rattle.std.specs.Ordering.{is_eq, is_lt, nat_cmp};
 ghost use Rattle.farm_types.specs.Pick.{shown_cmp};
-ghost use Rattle.farm_pick.specs.Heads.{AreHeads, IsHead, IsFirst, earlier, head_in, queue_open};
+ghost use Rattle.farm_pick.specs.Heads.{AreHeads, IsHead, IsFirst, earlier_of, head_in, queue_open};
 ghost use Rattle.farm_pick.specs.Kept.{spot_cmp, claim_at, place_at, IsKeyed, TakesOrStays};
 
 use crate::idle::{self, IdleRow};
@@ -99,7 +99,7 @@ pub fn head(claims: &BTreeMap<Spot, Claim>, last: Spot) -> Option<&Claim>
 
 /// Of two claims the one that goes first; of one alone this one.
 pub fn earlier<'a>(first: Option<&'a Claim>, second: Option<&'a Claim>) -> Option<&'a Claim>
-    ensures { option_copied result ≡ earlier (option_copied first.entry)
+    ensures { option_copied result ≡ earlier_of (option_copied first.entry)
         (option_copied second.entry) }
 {
     match (first, second) {

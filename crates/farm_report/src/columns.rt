@@ -1,12 +1,12 @@
 //! The columns of a line.
 ghost use Rattle.std.specs.Prelude.{◌≡◌, ◌∷◌, [], ◌++◌, IfOk, OnOk, string_bytes};
-ghost use Rattle.farm_report.specs.Columns.{left, right};
+ghost use Rattle.farm_report.specs.Columns.{left_column, right_column};
 
 use std::alloc::{AllocError, Global};
 
 /// A text at the left of a column of that width.
 pub(crate) fn left(alloc: Global, text: &str, width: usize) -> Result<String, AllocError>
-    ensures { IfOk result (λ column. string_bytes column ≡ left width text.now) }
+    ensures { IfOk result (λ column. string_bytes column ≡ left_column width text.now) }
 {
     let gap = " ".repeat(alloc, width.saturating_sub(text.len()))?;
     format!(in alloc; "{text}{gap}")
@@ -14,7 +14,7 @@ pub(crate) fn left(alloc: Global, text: &str, width: usize) -> Result<String, Al
 
 /// A number at the right of a column of that width.
 pub(crate) fn right(alloc: Global, number: u64, width: usize) -> Result<String, AllocError>
-    ensures { IfOk result (λ column. string_bytes column ≡ right width number) }
+    ensures { IfOk result (λ column. string_bytes column ≡ right_column width number) }
 {
     let digits = format!(in alloc; "{number}")?;
     let gap = " ".repeat(alloc, width.saturating_sub(digits.len()))?;

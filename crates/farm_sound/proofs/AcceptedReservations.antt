@@ -2,10 +2,12 @@
 use Rattle.std.proofs.Common.{◌+◌, ◌||◌, ◌∙◌, ◌∷◌, ◌≡◌, Bool, List, None, Some, ap, arith, is_none, length, nat_le, not, refl, true, ℕ, []}
 use Rattle.std.specs.Str.{bytes_eq}
 use Rattle.std.proofs.lemmas.Bool.Decides.{nat_tests}
+use Rattle.farm_types.specs.Refusals.{forbidden, no_reservation, reservation_expired, wrong_reservation_state}
+use Rattle.farm_types.specs.Limits.{most_reservations, numbers_end}
 use Rattle.farm_types.specs.Change.{act}
 use Rattle.farm_types.specs.Codes.{same_res_state}
 use Rattle.farm_types.specs.Farm.{Farm, res_of}
-use Rattle.farm_types.specs.Pass.{back, checks, expire, is_dead}
+use Rattle.farm_types.specs.Pass.{giving_back, checks, expire, is_dead}
 use Rattle.farm_types.specs.Proper.{is_priority, is_proper_cmd}
 use Rattle.farm_types.specs.Refuse.{first_code, is_alive, owned_by, res_is, res_reasons}
 use Rattle.farm_types.specs.Sound.{IsSound}
@@ -33,11 +35,11 @@ right_res F t n mine right is =
     let others = not (res_is F n mine) in
     let late = res_is F n (λ r. same_res_state r.state ResState.Expired || is_dead t r) in
     let wrong = not (res_is F n right) in
-    let there = first_clear (is_none (res_of F n)) 30 ((others, 3) ∷ (late, 31) ∷ (wrong, 32) ∷ []) is in
-    let owned = first_clear others 3 ((late, 31) ∷ (wrong, 32) ∷ []) there.1 in
-    let alive = first_clear late 31 ((wrong, 32) ∷ []) owned.1 in
+    let there = first_clear (is_none (res_of F n)) no_reservation ((others, forbidden) ∷ (late, reservation_expired) ∷ (wrong, wrong_reservation_state) ∷ []) is in
+    let owned = first_clear others forbidden ((late, reservation_expired) ∷ (wrong, wrong_reservation_state) ∷ []) there.1 in
+    let alive = first_clear late reservation_expired ((wrong, wrong_reservation_state) ∷ []) owned.1 in
     let r = some_of (res_of F n) there.0 in
-    (r.0, r.1, passes right (res_of F n) r.0 r.1 (first_clear wrong 32 [] alive.1).0)
+    (r.0, r.1, passes right (res_of F n) r.0 r.1 (first_clear wrong wrong_reservation_state [] alive.1).0)
 
 module _ (F : Farm) (t : ℕ) (caller : List ℕ) (sound : IsSound F) where
   pub acted_reserve : (priority : ℕ) (tags : List (List ℕ)) → IsAccepted F t caller (Cmd.Reserve priority tags)
@@ -45,7 +47,7 @@ module _ (F : Farm) (t : ℕ) (caller : List ℕ) (sound : IsSound F) where
   unfolding is_proper_cmd
   acted_reserve priority tags is =
       let words = both (is_priority priority) (is_tags tags) is.proper in
-      let rooms = both_false (nat_le 100000 (length F.reservations)) (nat_le 1000000000 F.next) is.room in
+      let rooms = both_false (nat_le most_reservations (length F.reservations)) (nat_le numbers_end F.next) is.room in
       acted_one F (act F caller (Cmd.Reserve priority tags)).farm F.next refl sound.steady.next.1
       (IsSound-reserve F caller priority tags is.caller words.0 words.1 (let r = rooms.0 in grind (arith, nat_tests))
       (let r = rooms.1 in grind (arith, nat_tests)) sound)
@@ -80,9 +82,9 @@ module _ (F : Farm) (t : ℕ) (caller : List ℕ) (sound : IsSound F) where
 
   pub acted_pass : Acted F (act F caller Cmd.Pass)
   acted_pass =
-      let expired : Farm = expire (back F) F.clock in
+      let expired : Farm = expire (giving_back F) F.clock in
       let checked : Farm = checks expired F.clock in
-      let steady = (IsSound-checks expired F.clock (IsSound-expire (back F) F.clock (IsSound-back F sound))).steady in
+      let steady = (IsSound-checks expired F.clock (IsSound-expire (giving_back F) F.clock (IsSound-back F sound))).steady in
       record {
         sound = IsSound-pass F sound;
         kept = pass_kept expired F.collector F.clock;

@@ -8,8 +8,9 @@ use Rattle.std.specs.Str.{bytes_eq}
 use Rattle.std.specs.declared.cmp.Ordering.TheVariants.{Equal}
 use Rattle.std.proofs.lemmas.Bool.Decides.{nat_tests}
 use Rattle.std.proofs.lemmas.Cmp.{ranked, tied_itself}
+use Rattle.farm_types.specs.Limits.{most_jobs, most_reservations, numbers_end}
 use Rattle.farm_types.specs.Farm.{Farm, job_of, res_of}
-use Rattle.farm_types.specs.Pass.{held}
+use Rattle.farm_types.specs.Pass.{held_board}
 use Rattle.farm_types.specs.Sound.{IsHeldBy, IsHeldByKeys, IsJobRow, IsResRow, IsSteady, hold_of, job_hold, res_hold}
 use Rattle.farm_types.specs.Table.{job_cmp, put, res_cmp}
 use Rattle.farm_types.specs.declared.rows.BoardRow.{BoardRow}
@@ -22,9 +23,9 @@ use Rattle.farm_sound.proofs.Own.{differs_more, fresh_job, fresh_res}
 
 -- the same holds and the same boards
 pub IsHeldByKeys-same : (F G : Farm) → ((h : Holder) → hold_of G h ≡ hold_of F h) → G.boards ≡ F.boards → IsHeldByKeys F → IsHeldByKeys G
-IsHeldByKeys-same F G same boards held = record {
-  boards = subst (AllByRecursion (λ b. IsHeldBy G b b.holder)) (sym boards) (AllByRecursion-weaker (λ b. told b b.holder) F.boards held.boards);
-  rows = λ h x is. subst (λ l. IsSomeAnd (find (λ r. bytes_eq r.name x.board) l) (λ b. b.holder ≡ h)) (sym boards) (held.rows h x (sym (same h) ∙ is));
+IsHeldByKeys-same F G same boards held_board = record {
+  boards = subst (AllByRecursion (λ b. IsHeldBy G b b.holder)) (sym boards) (AllByRecursion-weaker (λ b. told b b.holder) F.boards held_board.boards);
+  rows = λ h x is. subst (λ l. IsSomeAnd (find (λ r. bytes_eq r.name x.board) l) (λ b. b.holder ≡ h)) (sym boards) (held_board.rows h x (sym (same h) ∙ is));
 }
   where
     told : (b : BoardRow) (h : Holder) → IsHeldBy F b h → IsHeldBy G b h
@@ -73,7 +74,7 @@ module _ (F : Farm) (row : JobRow) where
     next = omega arith;
   }
 
-  pub IsSteady-add_job : row.number ≡ F.next → length F.jobs < 100000 → F.next < 1000000000 → IsJobRow (add_job row F) row → IsSteady F
+  pub IsSteady-add_job : row.number ≡ F.next → length F.jobs < most_jobs → F.next < numbers_end → IsJobRow (add_job row F) row → IsSteady F
       → IsSteady (add_job row F)
   IsSteady-add_job fresh room numbers is steady =
       let G = add_job row F in
@@ -110,7 +111,7 @@ module _ (F : Farm) (row : JobRow) where
   hold_at n false other steady fresh nothing = ap (λ o. option_map_or job_hold o None) (job_of-add n ∙ ap (λ v. cond v (Some row) (job_of F n)) other)
 
   pub IsHeldByKeys-add_job : IsSteady F → row.number ≡ F.next → job_hold row ≡ None → IsHeldByKeys F → IsHeldByKeys (add_job row F)
-  IsHeldByKeys-add_job steady fresh nothing held = IsHeldByKeys-same F (add_job row F) same refl held
+  IsHeldByKeys-add_job steady fresh nothing held_board = IsHeldByKeys-same F (add_job row F) same refl held_board
     where
       same : (h : Holder) → hold_of (add_job row F) h ≡ hold_of F h
       same Holder.Nobody = refl
@@ -139,7 +140,7 @@ module _ (F : Farm) (row : ResRow) where
     next = omega arith;
   }
 
-  pub IsSteady-add_res : row.number ≡ F.next → length F.reservations < 100000 → F.next < 1000000000 → IsResRow (add_res row F) row → IsSteady F
+  pub IsSteady-add_res : row.number ≡ F.next → length F.reservations < most_reservations → F.next < numbers_end → IsResRow (add_res row F) row → IsSteady F
       → IsSteady (add_res row F)
   IsSteady-add_res fresh room numbers is steady =
       let G = add_res row F in
@@ -177,7 +178,7 @@ module _ (F : Farm) (row : ResRow) where
   res_hold_at n false other steady fresh nothing = ap (λ o. option_map_or res_hold o None) (res_of-add n ∙ ap (λ v. cond v (Some row) (res_of F n)) other)
 
   pub IsHeldByKeys-add_res : IsSteady F → row.number ≡ F.next → res_hold row ≡ None → IsHeldByKeys F → IsHeldByKeys (add_res row F)
-  IsHeldByKeys-add_res steady fresh nothing held = IsHeldByKeys-same F (add_res row F) same refl held
+  IsHeldByKeys-add_res steady fresh nothing held_board = IsHeldByKeys-same F (add_res row F) same refl held_board
     where
       same : (h : Holder) → hold_of (add_res row F) h ≡ hold_of F h
       same Holder.Nobody = refl

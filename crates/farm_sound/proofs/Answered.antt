@@ -3,9 +3,10 @@ use Rattle.std.proofs.Common.{◌<◌, ◌≡◌, Bool, None, Option, Some, ap, 
 use Rattle.std.specs.Bool.{then_some}
 use Rattle.std.specs.Option.{option_or}
 use Rattle.std.proofs.lemmas.Bool.Decides.{nat_tests}
+use Rattle.farm_types.specs.Limits.{most_commands}
 use Rattle.farm_types.specs.Change.{change}
 use Rattle.farm_types.specs.Farm.{Farm}
-use Rattle.farm_types.specs.Machine.{Answered, Changed, Denied, Repeated, answer, answer_by, repeated, step, step_by}
+use Rattle.farm_types.specs.Machine.{Answered, Changed, Denied, Repeated, answer, answer_by, repeated_reply, step, step_by}
 use Rattle.farm_types.specs.Refuse.{early_refusal, is_full, own_refusal, refusal}
 use Rattle.farm_types.specs.declared.calls.Call.{Call}
 use Rattle.farm_types.specs.declared.rows.Reply.{Reply}
@@ -15,21 +16,21 @@ pub record Answers (F : Farm) (call : Call) (a : Answered) (G : Farm) : Type 0 w
   pub answer : answer F call ≡ a
   pub step : step F call ≡ G
 
-pub answers_repeated : (F : Farm) (call : Call) (r : Reply) → Some r ≡ repeated F call → Answers F call (Repeated r) F
+pub answers_repeated : (F : Farm) (call : Call) (r : Reply) → Some r ≡ repeated_reply F call → Answers F call (Repeated r) F
 unfolding answer step
 answers_repeated F call r is = record {
   answer = ap (λ kept. answer_by kept (refusal F call) (change F call).reply) (sym is);
   step = ap (λ kept. step_by (answer_by kept (refusal F call) (change F call).reply) F (change F call).farm) (sym is);
 }
 
-pub answers_denied : (F : Farm) (call : Call) (code : ℕ) → None ≡ repeated F call → Some code ≡ refusal F call → Answers F call (Denied code) F
+pub answers_denied : (F : Farm) (call : Call) (code : ℕ) → None ≡ repeated_reply F call → Some code ≡ refusal F call → Answers F call (Denied code) F
 unfolding answer step
 answers_denied F call code none is = record {
   answer = λ i. answer_by (sym none i) (sym is i) (change F call).reply;
   step = λ i. step_by (answer_by (sym none i) (sym is i) (change F call).reply) F (change F call).farm;
 }
 
-pub answers_changed : (F : Farm) (call : Call) → None ≡ repeated F call → None ≡ refusal F call
+pub answers_changed : (F : Farm) (call : Call) → None ≡ repeated_reply F call → None ≡ refusal F call
     → Answers F call (Changed (change F call).reply) (change F call).farm
 unfolding answer step
 answers_changed F call none is = record {
@@ -59,5 +60,5 @@ unrefused F call is =
     record { early = first.0; own = last.0; room = none_of_then (is_full F call) 4 last.1 }
 
 -- the count has room
-pub count_has_room : (F : Farm) (call : Call) → None ≡ refusal F call → F.count < 9000000000000000000
+pub count_has_room : (F : Farm) (call : Call) → None ≡ refusal F call → F.count < most_commands
 count_has_room F call is = let room = (unrefused F call is).room in grind (arith, nat_tests)

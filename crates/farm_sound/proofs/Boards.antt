@@ -9,8 +9,9 @@ use Rattle.std.specs.declared.cmp.Ordering.TheVariants.{Equal}
 use Rattle.std.proofs.lemmas.Cmp.{tied_itself}
 use Rattle.std.proofs.lemmas.Map.Text.{is_eq-slice_cmp}
 use Rattle.std.proofs.lemmas.Slice.Eq.{bytes_eq-Decides}
+use Rattle.farm_types.specs.Limits.{most_boards, most_boards_of_type}
 use Rattle.farm_types.specs.Farm.{Farm, board_of, put_board, put_type}
-use Rattle.farm_types.specs.Pass.{held, idle}
+use Rattle.farm_types.specs.Pass.{held_board, freed_board}
 use Rattle.farm_types.specs.Sound.{Hold, IsBoardRow, IsHeldBy, IsHeldByKeys, IsSound, IsSteady, IsTypeRow, hold_of, holds}
 use Rattle.farm_types.specs.Table.{board_cmp, type_cmp}
 use Rattle.farm_types.specs.Words.{text_cmp}
@@ -40,7 +41,7 @@ type_grows F row = record {
   next = omega arith;
 }
 
-pub IsSound-put_type : (F : Farm) (row : TypeRow) → IsTypeRow row → length F.types < 64 → IsSound F → IsSound (put_type F row)
+pub IsSound-put_type : (F : Farm) (row : TypeRow) → IsTypeRow row → length F.types < most_boards_of_type → IsSound F → IsSound (put_type F row)
 IsSound-put_type F row is room sound =
     let G : Farm = put_type F row in
     let steady = sound.steady in
@@ -101,8 +102,8 @@ board_of-put F row k =
     (λ r. text_ties row.name r.name k) F.boards
 
 -- the row's place among the boards keeps all that a farm promises but the counts of boards
-IsSteady-put_board : (F : Farm) (row : BoardRow) → IsBoardRow F row → length (put_board F row).boards ≤ 256
-    → ((kind : List ℕ) → length (filter (λ b. bytes_eq b.kind kind) (put_board F row).boards) ≤ 64) → IsSteady F → IsSteady (put_board F row)
+IsSteady-put_board : (F : Farm) (row : BoardRow) → IsBoardRow F row → length (put_board F row).boards ≤ most_boards
+    → ((kind : List ℕ) → length (filter (λ b. bytes_eq b.kind kind) (put_board F row).boards) ≤ most_boards_of_type) → IsSteady F → IsSteady (put_board F row)
 IsSteady-put_board F row is few few_of_kind steady =
     let G : Farm = put_board F row in
     let grows = board_grows F row in
@@ -132,9 +133,9 @@ IsSteady-put_board F row is few few_of_kind steady =
 -- the row's holder is right, and it names the row's board where that is asked
 IsHeldByKeys-put_board : (F : Farm) (row : BoardRow) → IsHeldBy F row row.holder
     → ((h : Holder) → IsSomeAnd (board_of F row.name) (λ b. b.holder ≡ h) → row.holder ≡ h) → IsHeldByKeys F → IsHeldByKeys (put_board F row)
-IsHeldByKeys-put_board F row told holds held = record {
+IsHeldByKeys-put_board F row told holds held_board = record {
   boards = AllByRecursion-put board_cmp board_total row (λ b. IsHeldBy G b b.holder) (still row row.holder told) F.boards
-      (AllByRecursion-weaker (λ b. still b b.holder) F.boards held.boards);
+      (AllByRecursion-weaker (λ b. still b b.holder) F.boards held_board.boards);
   rows = rows;
 }
   where
@@ -153,7 +154,7 @@ IsHeldByKeys-put_board F row told holds held = record {
 
     rows : (h : Holder) (x : Hold) → hold_of G h ≡ Some x → IsSomeAnd (board_of G x.board) (λ b. b.holder ≡ h)
     rows h x is = subst (λ o. IsSomeAnd o (λ b. b.holder ≡ h)) (sym (board_of-put F row x.board))
-        (by (bytes_eq row.name x.board) refl (held.rows h x (sym (same h) ∙ is)))
+        (by (bytes_eq row.name x.board) refl (held_board.rows h x (sym (same h) ∙ is)))
       where
         by : (v : Bool) → bytes_eq row.name x.board ≡ v → IsSomeAnd (board_of F x.board) (λ b. b.holder ≡ h)
             → IsSomeAnd (cond v (Some row) (board_of F x.board)) (λ b. b.holder ≡ h)
@@ -163,26 +164,26 @@ IsHeldByKeys-put_board F row told holds held = record {
 -- ---- a board is added
 
 -- the type's count has room for one more, and the others stay
-few_more : (F : Farm) (row : BoardRow) → length (filter (λ b. bytes_eq b.kind row.kind) F.boards) < 64
-    → (kind : List ℕ) → length (filter (λ b. bytes_eq b.kind kind) F.boards) ≤ 64
-    → (n : ℕ) → n ≤ length (filter (λ b. bytes_eq b.kind kind) F.boards) + cond (bytes_eq row.kind kind) 1 0 → n ≤ 64
+few_more : (F : Farm) (row : BoardRow) → length (filter (λ b. bytes_eq b.kind row.kind) F.boards) < most_boards_of_type
+    → (kind : List ℕ) → length (filter (λ b. bytes_eq b.kind kind) F.boards) ≤ most_boards_of_type
+    → (n : ℕ) → n ≤ length (filter (λ b. bytes_eq b.kind kind) F.boards) + cond (bytes_eq row.kind kind) 1 0 → n ≤ most_boards_of_type
 few_more F row room kind few n more = by (bytes_eq row.kind kind) refl more
   where
-    by : (v : Bool) → bytes_eq row.kind kind ≡ v → n ≤ length (filter (λ b. bytes_eq b.kind kind) F.boards) + cond v 1 0 → n ≤ 64
+    by : (v : Bool) → bytes_eq row.kind kind ≡ v → n ≤ length (filter (λ b. bytes_eq b.kind kind) F.boards) + cond v 1 0 → n ≤ most_boards_of_type
     by true is more =
         let same : row.kind ≡ kind = (bytes_eq-Decides row.kind kind).0 is in
-        let room' : length (filter (λ b. bytes_eq b.kind kind) F.boards) < 64 = subst (λ k. length (filter (λ b. bytes_eq b.kind k) F.boards) < 64) same room in
+        let room' : length (filter (λ b. bytes_eq b.kind kind) F.boards) < most_boards_of_type = subst (λ k. length (filter (λ b. bytes_eq b.kind k) F.boards) < most_boards_of_type) same room in
         omega arith
     by false is more = omega arith
 
 -- a board with a new name is added, whose type has room
 pub IsSound-put_board : (F : Farm) (row : BoardRow) → IsBoardRow F row → board_of F row.name ≡ None → row.holder ≡ Holder.Nobody → row.state ≡ State.Idle
-    → length F.boards < 256 → length (filter (λ b. bytes_eq b.kind row.kind) F.boards) < 64 → IsSound F → IsSound (put_board F row)
-IsSound-put_board F row is absent nobody idle room room_of_kind sound = record {
+    → length F.boards < most_boards → length (filter (λ b. bytes_eq b.kind row.kind) F.boards) < most_boards_of_type → IsSound F → IsSound (put_board F row)
+IsSound-put_board F row is absent nobody freed_board room room_of_kind sound = record {
   steady = IsSteady-put_board F row is (omega (arith, length_put board_cmp board_total row F.boards))
       (λ kind. few_more F row room_of_kind kind (sound.steady.few_of_kind kind) _
       (count_put board_cmp board_total row (λ b. bytes_eq b.kind kind) F.boards)) sound.steady;
-  held = IsHeldByKeys-put_board F row (subst (IsHeldBy F row) (sym nobody) idle)
+  held = IsHeldByKeys-put_board F row (subst (IsHeldBy F row) (sym nobody) freed_board)
       (λ h was. absurd (subst (λ o. IsSomeAnd o (λ b. b.holder ≡ h)) absent was)) sound.held;
   whole = sound.whole;
   collecting = sound.collecting;

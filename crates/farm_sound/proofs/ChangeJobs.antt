@@ -5,8 +5,8 @@ use Rattle.std.specs.List.{AllByRecursion}
 use Rattle.std.specs.Option.{option_map, option_map_or}
 use Rattle.std.specs.Str.{bytes_eq}
 use Rattle.farm_types.specs.Farm.{Farm, job_of}
-use Rattle.farm_types.specs.Pass.{change_jobs, held, is_job_so}
-use Rattle.farm_types.specs.Sound.{IsBoardRow, IsHeldByKeys, IsJobRow, IsSound, IsCollecting, IsSteady, IsWhole, hold_of, job_hold, shown}
+use Rattle.farm_types.specs.Pass.{change_jobs, held_board, is_job_so}
+use Rattle.farm_types.specs.Sound.{IsBoardRow, IsHeldByKeys, IsJobRow, IsSound, IsCollecting, IsSteady, IsWhole, hold_of, job_hold, shown_hold}
 use Rattle.farm_types.specs.Table.{change_where}
 use Rattle.farm_types.specs.declared.rows.BoardRow.{BoardRow}
 use Rattle.farm_types.specs.declared.rows.Holder.{Holder}
@@ -26,7 +26,7 @@ module _ (F : Farm) (test : JobRow → Bool) (f : JobRow → JobRow) (g : BoardR
     pub board_kind : (b : BoardRow) → (g b).kind ≡ b.kind
     pub board_row : (b : BoardRow) → is_job_so F test b.holder ≡ true → IsBoardRow F b → IsBoardRow F (g b)
     pub none : (j : JobRow) → test j ≡ true → P j → job_hold j ≡ None → job_hold (f j) ≡ None
-    pub left : (j : JobRow) (b : BoardRow) → test j ≡ true → P j → job_hold j ≡ Some (shown b) → IsLeft (job_hold (f j)) (g b)
+    pub left : (j : JobRow) (b : BoardRow) → test j ≡ true → P j → job_hold j ≡ Some (shown_hold b) → IsLeft (job_hold (f j)) (g b)
 
   job_at : ChangesJobs → (n : ℕ) → job_of (change_jobs test f g F) n ≡ option_map (λ j. cond (test j) (f j) j) (job_of F n)
   job_at ch n = find_map (λ (r : JobRow). r.number == n) (λ j. cond (test j) (f j) j)
@@ -58,7 +58,7 @@ module _ (F : Farm) (test : JobRow → Bool) (f : JobRow → JobRow) (g : BoardR
       hold_at ch n j true there so ∙ ch.none j so (found_has P (λ r. r.number == n) j F.jobs ch.jobs there) (sym (hold_was n j there) ∙ none)
 
   left_at : ChangesJobs → (n : ℕ) (b : BoardRow) (o : Option JobRow) → job_of F n ≡ o → is_job_so F test (Holder.Job n) ≡ true
-      → hold_of F (Holder.Job n) ≡ Some (shown b) → IsLeft (hold_of (change_jobs test f g F) (Holder.Job n)) (g b)
+      → hold_of F (Holder.Job n) ≡ Some (shown_hold b) → IsLeft (hold_of (change_jobs test f g F) (Holder.Job n)) (g b)
   left_at ch n b None there is mine = absurd (false≢true (sym (ap (λ o. option_map_or test o false) there) ∙ is))
   left_at ch n b (Some j) there is mine =
       let so : test j ≡ true = sym (so_was n j there) ∙ is in
@@ -75,7 +75,7 @@ module _ (F : Farm) (test : JobRow → Bool) (f : JobRow → JobRow) (g : BoardR
   none_of ch (Holder.Job n) is none = none_at ch n (job_of F n) refl is none
   none_of ch (Holder.Res n) is none = none
 
-  left_of : ChangesJobs → (h : Holder) (b : BoardRow) → is_job_so F test h ≡ true → b.holder ≡ h → hold_of F h ≡ Some (shown b)
+  left_of : ChangesJobs → (h : Holder) (b : BoardRow) → is_job_so F test h ≡ true → b.holder ≡ h → hold_of F h ≡ Some (shown_hold b)
       → IsLeft (hold_of (change_jobs test f g F) h) (g b)
   left_of ch Holder.Nobody b is at mine = absurd (false≢true is)
   left_of ch (Holder.Job n) b is at mine = left_at ch n b (job_of F n) refl is mine
@@ -102,7 +102,7 @@ module _ (F : Farm) (test : JobRow → Bool) (f : JobRow → JobRow) (g : BoardR
       steady
 
   pub IsHeldByKeys-change_jobs : ChangesJobs → IsHeldByKeys F → IsHeldByKeys (change_jobs test f g F)
-  IsHeldByKeys-change_jobs ch held =
+  IsHeldByKeys-change_jobs ch held_board =
       let fb = λ (b : BoardRow). cond (is_job_so F test b.holder) (g b) b in
       IsHeldByKeys-regiven F (change_jobs test f g F) (is_job_so F test) g
       (record {
@@ -114,7 +114,7 @@ module _ (F : Farm) (test : JobRow → Bool) (f : JobRow → JobRow) (g : BoardR
         stays = stays_of ch;
         gains_none = none_of ch;
         gives = left_of ch;
-      }) refl held
+      }) refl held_board
 
   -- the collector may become another, or none
   pub IsSound-change_jobs : (c : ℕ) → ChangesJobs → IsWhole (change_jobs test f g F) → IsCollecting c (change_where test f F.jobs) → IsSound F

@@ -5,8 +5,8 @@ use Rattle.std.specs.List.{AllByRecursion}
 use Rattle.std.specs.Option.{option_map, option_map_or}
 use Rattle.std.specs.Str.{bytes_eq}
 use Rattle.farm_types.specs.Farm.{Farm, res_of}
-use Rattle.farm_types.specs.Pass.{change_res, held, is_res_so}
-use Rattle.farm_types.specs.Sound.{IsBoardRow, IsHeldByKeys, IsResRow, IsSound, IsSteady, hold_of, res_hold, shown}
+use Rattle.farm_types.specs.Pass.{change_res, held_board, is_res_so}
+use Rattle.farm_types.specs.Sound.{IsBoardRow, IsHeldByKeys, IsResRow, IsSound, IsSteady, hold_of, res_hold, shown_hold}
 use Rattle.farm_types.specs.Table.{change_where}
 use Rattle.farm_types.specs.declared.rows.BoardRow.{BoardRow}
 use Rattle.farm_types.specs.declared.rows.Holder.{Holder}
@@ -25,7 +25,7 @@ module _ (F : Farm) (test : ResRow → Bool) (f : ResRow → ResRow) (g : BoardR
     pub board_kind : (b : BoardRow) → (g b).kind ≡ b.kind
     pub board_row : (b : BoardRow) → is_res_so F test b.holder ≡ true → IsBoardRow F b → IsBoardRow F (g b)
     pub none : (j : ResRow) → test j ≡ true → P j → res_hold j ≡ None → res_hold (f j) ≡ None
-    pub left : (j : ResRow) (b : BoardRow) → test j ≡ true → P j → res_hold j ≡ Some (shown b) → IsLeft (res_hold (f j)) (g b)
+    pub left : (j : ResRow) (b : BoardRow) → test j ≡ true → P j → res_hold j ≡ Some (shown_hold b) → IsLeft (res_hold (f j)) (g b)
 
   res_job_at : ChangesRes → (n : ℕ) → res_of (change_res test f g F) n ≡ option_map (λ j. cond (test j) (f j) j) (res_of F n)
   res_job_at ch n = find_map (λ (r : ResRow). r.number == n) (λ j. cond (test j) (f j) j)
@@ -60,7 +60,7 @@ module _ (F : Farm) (test : ResRow → Bool) (f : ResRow → ResRow) (g : BoardR
       ∙ ch.none j so (found_has P (λ r. r.number == n) j F.reservations ch.reservations there) (sym (res_hold_was n j there) ∙ none)
 
   res_left_at : ChangesRes → (n : ℕ) (b : BoardRow) (o : Option ResRow) → res_of F n ≡ o → is_res_so F test (Holder.Res n) ≡ true
-      → hold_of F (Holder.Res n) ≡ Some (shown b) → IsLeft (hold_of (change_res test f g F) (Holder.Res n)) (g b)
+      → hold_of F (Holder.Res n) ≡ Some (shown_hold b) → IsLeft (hold_of (change_res test f g F) (Holder.Res n)) (g b)
   res_left_at ch n b None there is mine = absurd (false≢true (sym (ap (λ o. option_map_or test o false) there) ∙ is))
   res_left_at ch n b (Some j) there is mine =
       let so : test j ≡ true = sym (res_so_was n j there) ∙ is in
@@ -77,7 +77,7 @@ module _ (F : Farm) (test : ResRow → Bool) (f : ResRow → ResRow) (g : BoardR
   res_none_of ch (Holder.Res n) is none = res_none_at ch n (res_of F n) refl is none
   res_none_of ch (Holder.Job n) is none = none
 
-  res_left_of : ChangesRes → (h : Holder) (b : BoardRow) → is_res_so F test h ≡ true → b.holder ≡ h → hold_of F h ≡ Some (shown b)
+  res_left_of : ChangesRes → (h : Holder) (b : BoardRow) → is_res_so F test h ≡ true → b.holder ≡ h → hold_of F h ≡ Some (shown_hold b)
       → IsLeft (hold_of (change_res test f g F) h) (g b)
   res_left_of ch Holder.Nobody b is at mine = absurd (false≢true is)
   res_left_of ch (Holder.Res n) b is at mine = res_left_at ch n b (res_of F n) refl is mine
@@ -104,7 +104,7 @@ module _ (F : Farm) (test : ResRow → Bool) (f : ResRow → ResRow) (g : BoardR
       steady
 
   pub IsHeldByKeys-change_res : ChangesRes → IsHeldByKeys F → IsHeldByKeys (change_res test f g F)
-  IsHeldByKeys-change_res ch held =
+  IsHeldByKeys-change_res ch held_board =
       let fb = λ (b : BoardRow). cond (is_res_so F test b.holder) (g b) b in
       IsHeldByKeys-regiven F (change_res test f g F) (is_res_so F test) g
       (record {
@@ -116,7 +116,7 @@ module _ (F : Farm) (test : ResRow → Bool) (f : ResRow → ResRow) (g : BoardR
         stays = res_stays_of ch;
         gains_none = res_none_of ch;
         gives = res_left_of ch;
-      }) refl held
+      }) refl held_board
 
   pub IsSound-change_res : ChangesRes → IsSound F → IsSound (change_res test f g F)
   IsSound-change_res ch sound = record { steady = IsSteady-change_res ch sound.steady; held = IsHeldByKeys-change_res ch sound.held; whole = sound.whole; collecting = sound.collecting }

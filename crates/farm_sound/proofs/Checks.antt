@@ -11,9 +11,10 @@ use Rattle.std.specs.declared.cmp.Ordering.TheVariants.{Less}
 use Rattle.std.proofs.lemmas.Bool.Decides.{nat_tests}
 use Rattle.std.proofs.lemmas.Map.Text.{is_eq-slice_cmp}
 use Rattle.std.proofs.lemmas.Slice.Eq.{bytes_eq-Decides}
+use Rattle.farm_types.specs.Limits.{most_jobs, numbers_end}
 use Rattle.farm_types.specs.Codes.{same_health}
 use Rattle.farm_types.specs.Farm.{Farm, board_of, job_of, type_of}
-use Rattle.farm_types.specs.Pass.{check_job, check_one, checks, has_room, held, is_due, is_due_by, is_reached}
+use Rattle.farm_types.specs.Pass.{check_job, check_one, checks, has_room, held_board, is_due, is_due_by, is_reached}
 use Rattle.farm_types.specs.Pick.{check_of, is_nobody}
 use Rattle.farm_types.specs.Proper.{is_want}
 use Rattle.farm_types.specs.Sound.{IsBoardRow, IsJobRow, IsSound, IsSteady, IsTypeRow, hold_of, job_hold}
@@ -64,7 +65,7 @@ module _ (F : Farm) (b : BoardRow) (free : IsFreeBoard F b) (sound : IsSound F) 
 
   -- the board in the check's hands, and then the check
   abbrev F1 : Farm
-  F1 = record F { boards = change_where (λ c. bytes_eq c.name b.name) (held (Holder.Job F.next) State.Reserved) F.boards }
+  F1 = record F { boards = change_where (λ c. bytes_eq c.name b.name) (held_board (Holder.Job F.next) State.Reserved) F.boards }
 
   row_b : IsBoardRow F b
   row_b = found_has (IsBoardRow F) (λ r. bytes_eq r.name b.name) b F.boards sound.steady.boards free.there
@@ -73,9 +74,9 @@ module _ (F : Farm) (b : BoardRow) (free : IsFreeBoard F b) (sound : IsSound F) 
   steady1 =
       IsSteady-mapped F (on_board (Holder.Job F.next) b) (λ j. j) (λ r. r) (λ c. c.name ≡ b.name → c ≡ b) (λ j. Unit {0}) (λ r. Unit {0})
       (record {
-        board_name = λ c. by_cases (λ (d : BoardRow). d.name ≡ c.name) (bytes_eq c.name b.name) (held (Holder.Job F.next) State.Reserved c) c
+        board_name = λ c. by_cases (λ (d : BoardRow). d.name ≡ c.name) (bytes_eq c.name b.name) (held_board (Holder.Job F.next) State.Reserved c) c
             (λ _. refl) (λ _. refl);
-        board_kind = λ c. by_cases (λ (d : BoardRow). d.kind ≡ c.kind) (bytes_eq c.name b.name) (held (Holder.Job F.next) State.Reserved c) c
+        board_kind = λ c. by_cases (λ (d : BoardRow). d.kind ≡ c.kind) (bytes_eq c.name b.name) (held_board (Holder.Job F.next) State.Reserved c) c
             (λ _. refl) (λ _. refl);
         job_same = same_job;
         res_number = λ r. refl;
@@ -86,7 +87,7 @@ module _ (F : Farm) (b : BoardRow) (free : IsFreeBoard F b) (sound : IsSound F) 
         job_row = λ j _ is. is;
         res_row = λ r _ is. is;
       })
-      (change_where (λ c. bytes_eq c.name b.name) (held (Holder.Job F.next) State.Reserved) F.boards) refl F.jobs (sym (map_id F.jobs)) F.reservations
+      (change_where (λ c. bytes_eq c.name b.name) (held_board (Holder.Job F.next) State.Reserved) F.boards) refl F.jobs (sym (map_id F.jobs)) F.reservations
       (sym (map_id F.reservations)) sound.steady
 
   board_there : IsSome (board_of F1 b.name)
@@ -122,7 +123,7 @@ module _ (F : Farm) (b : BoardRow) (free : IsFreeBoard F b) (sound : IsSound F) 
   stays_all (Holder.Job k) = stays_check k (F.next == k) refl
   stays_all (Holder.Res k) = inl refl
 
-  checked_sound : length F.jobs < 100000 → F.next < 1000000000 → IsSound (add_job row F1)
+  checked_sound : length F.jobs < most_jobs → F.next < numbers_end → IsSound (add_job row F1)
   checked_sound room numbers = record {
     steady = IsSteady-add_job F1 row refl room numbers check_row steady1;
     held = IsHeldByKeys-given F (add_job row F1) (Holder.Job F.next) b
@@ -143,7 +144,7 @@ module _ (F : Farm) (b : BoardRow) (free : IsFreeBoard F b) (sound : IsSound F) 
 
   pub IsSound-check_one : IsSound (check_one F b)
   IsSound-check_one = by_cases IsSound (has_room F 1) (add_job row F1) F
-      (λ room. let two = both (nat_le (length F.jobs + 1) 100000) (nat_le (F.next + 1) 1000000000) room in
+      (λ room. let two = both (nat_le (length F.jobs + 1) most_jobs) (nat_le (F.next + 1) numbers_end) room in
       checked_sound (let r = two.0 in grind (arith, nat_tests)) (let r = two.1 in grind (arith, nat_tests)))
       (λ _. sound)
 
@@ -151,7 +152,7 @@ module _ (F : Farm) (b : BoardRow) (free : IsFreeBoard F b) (sound : IsSound F) 
   still_free c other is = by_cases (λ G. IsFreeBoard G c) (has_room F 1) (add_job row F1) F
       (λ _. record {
         there = boards_on F (Holder.Job F.next) b c.name ∙ ap (option_map (on_board (Holder.Job F.next) b)) is.there
-            ∙ ap (λ v. Some (cond v (held (Holder.Job F.next) State.Reserved c) c)) other;
+            ∙ ap (λ v. Some (cond v (held_board (Holder.Job F.next) State.Reserved c) c)) other;
         nobody = is.nobody;
         kept = is.kept;
       })
@@ -210,7 +211,7 @@ check_clock (b ∷ bs) F = check_clock bs (check_one F b) ∙ one (has_room F 1)
   where
     one : (v : Bool) → (cond v (record F {
       jobs = put job_cmp F.jobs (check_job F.next b);
-      boards = change_where (λ c. bytes_eq c.name b.name) (held (Holder.Job F.next) State.Reserved) F.boards;
+      boards = change_where (λ c. bytes_eq c.name b.name) (held_board (Holder.Job F.next) State.Reserved) F.boards;
       next = F.next + 1;
     }) F).clock
         ≡ F.clock
@@ -223,7 +224,7 @@ checks_kept (b ∷ bs) F = checks_kept bs (check_one F b) ∙ one (has_room F 1)
   where
     one : (v : Bool) → (cond v (record F {
       jobs = put job_cmp F.jobs (check_job F.next b);
-      boards = change_where (λ c. bytes_eq c.name b.name) (held (Holder.Job F.next) State.Reserved) F.boards;
+      boards = change_where (λ c. bytes_eq c.name b.name) (held_board (Holder.Job F.next) State.Reserved) F.boards;
       next = F.next + 1;
     }) F).kept ≡ F.kept
     one true = refl

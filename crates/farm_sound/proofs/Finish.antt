@@ -1,10 +1,11 @@
 -- Finish keeps soundness.
 use Rattle.std.proofs.Common.{◌+◌, ◌==◌, ◌||◌, ◌∙◌, ◌≡◌, ◌≤◌, IsSome, IsTrue, Some, ap, arith, cond, min, refl, subst, sym, ℕ}
 use mathlib.Core.Bool.{false≢true}
-use Rattle.farm_types.specs.Change.{after_check, after_job, finish_one, graded}
+use Rattle.farm_types.specs.Limits.{most_jobs_since}
+use Rattle.farm_types.specs.Change.{after_check, after_job, finish_one, graded_board}
 use Rattle.farm_types.specs.Codes.{same_health, same_job_state, same_outcome}
 use Rattle.farm_types.specs.Farm.{Farm, job_of, type_of}
-use Rattle.farm_types.specs.Pass.{idle}
+use Rattle.farm_types.specs.Pass.{freed_board}
 use Rattle.farm_types.specs.Proper.{has_no_name_tag}
 use Rattle.farm_types.specs.Sound.{IsBoardRow, IsSound, phase}
 use Rattle.farm_types.specs.Words.{IsName, IsTags}
@@ -30,20 +31,20 @@ record Used (F : Farm) (b c : BoardRow) : Type 0 where
   pub name : c.name ≡ b.name
   pub kind : c.kind ≡ b.kind
   pub tags : c.tags ≡ b.tags
-  pub since : c.jobs_since ≤ 1000000
+  pub since : c.jobs_since ≤ most_jobs_since
   pub checked : c.last_check ≤ F.clock
 
-used_graded : (F : Farm) (h : Health) (b c : BoardRow) → Used F b c → Used F b (graded h c)
+used_graded : (F : Farm) (h : Health) (b c : BoardRow) → Used F b c → Used F b (graded_board h c)
 used_graded F h b c is = by_cases (Used F b) (same_health c.health Health.Good || same_health c.health Health.Unknown) (record c { health = h }) c
     (λ _. record { name = is.name; kind = is.kind; tags = is.tags; since = is.since; checked = is.checked }) (λ _. is)
 
 used_job : (F : Farm) (o : Outcome) (b : BoardRow) → IsBoardRow F b → Used F b (after_job o b)
 used_job F o b is =
-    let used : Used F b (record b { jobs_since = min (b.jobs_since + 1) 1000000 }) =
+    let used : Used F b (record b { jobs_since = min (b.jobs_since + 1) most_jobs_since }) =
     record { name = refl; kind = refl; tags = refl; since = omega arith; checked = is.checked } in
-    by_cases (Used F b) (same_outcome o Outcome.Infra) (graded Health.Unknown (record b { jobs_since = min (b.jobs_since + 1) 1000000 }))
-    (record b { jobs_since = min (b.jobs_since + 1) 1000000 })
-    (λ _. used_graded F Health.Unknown b (record b { jobs_since = min (b.jobs_since + 1) 1000000 }) used) (λ _. used)
+    by_cases (Used F b) (same_outcome o Outcome.Infra) (graded_board Health.Unknown (record b { jobs_since = min (b.jobs_since + 1) most_jobs_since }))
+    (record b { jobs_since = min (b.jobs_since + 1) most_jobs_since })
+    (λ _. used_graded F Health.Unknown b (record b { jobs_since = min (b.jobs_since + 1) most_jobs_since }) used) (λ _. used)
 
 used_check : (F : Farm) (o : Outcome) (b : BoardRow) → IsBoardRow F b → Used F b (after_check o F.clock b)
 used_check F Outcome.Complete b is =
@@ -53,7 +54,7 @@ used_check F Outcome.Incomplete b is = used_graded F Health.Bad b b (record { na
 used_check F Outcome.Infra b is = used_graded F Health.Bad b b (record { name = refl; kind = refl; tags = refl; since = is.since; checked = is.checked })
 used_check F Outcome.Canceled b is = record { name = refl; kind = refl; tags = refl; since = is.since; checked = is.checked }
 
-idle_row : (F : Farm) (b c : BoardRow) → Used F b c → IsBoardRow F b → IsBoardRow F (idle c)
+idle_row : (F : Farm) (b c : BoardRow) → Used F b c → IsBoardRow F b → IsBoardRow F (freed_board c)
 idle_row F b c used is = record {
   name = subst IsName (sym used.name) is.name;
   kind = subst (λ k. IsSome (type_of F k)) (sym used.kind) is.kind;
@@ -86,7 +87,7 @@ module _ (F : Farm) (n : ℕ) (j : JobRow) (named : Outcome) (there : job_of F n
   name_after b = by_cases (λ (c : BoardRow). c.name ≡ b.name) j.checking (after_check outcome F.clock b) (after_job outcome b) (λ _. checked outcome)
       (λ _. job_used outcome)
     where
-      graded_name : (h : Health) (c : BoardRow) → (graded h c).name ≡ c.name
+      graded_name : (h : Health) (c : BoardRow) → (graded_board h c).name ≡ c.name
       graded_name h c = by_cases (λ (d : BoardRow). d.name ≡ c.name) (same_health c.health Health.Good || same_health c.health Health.Unknown)
           (record c { health = h }) c (λ _. refl) (λ _. refl)
 
@@ -98,15 +99,15 @@ module _ (F : Farm) (n : ℕ) (j : JobRow) (named : Outcome) (there : job_of F n
 
       job_used : (o : Outcome) → (after_job o b).name ≡ b.name
       job_used o = by_cases (λ (d : BoardRow). d.name ≡ b.name) (same_outcome o Outcome.Infra)
-          (graded Health.Unknown (record b { jobs_since = min (b.jobs_since + 1) 1000000 }))
-          (record b { jobs_since = min (b.jobs_since + 1) 1000000 })
-          (λ _. graded_name Health.Unknown (record b { jobs_since = min (b.jobs_since + 1) 1000000 })) (λ _. refl)
+          (graded_board Health.Unknown (record b { jobs_since = min (b.jobs_since + 1) most_jobs_since }))
+          (record b { jobs_since = min (b.jobs_since + 1) most_jobs_since })
+          (λ _. graded_name Health.Unknown (record b { jobs_since = min (b.jobs_since + 1) most_jobs_since })) (λ _. refl)
 
   kind_after : (b : BoardRow) → (after b).kind ≡ b.kind
   kind_after b = by_cases (λ (c : BoardRow). c.kind ≡ b.kind) j.checking (after_check outcome F.clock b) (after_job outcome b) (λ _. checked outcome)
       (λ _. job_used outcome)
     where
-      graded_kind : (h : Health) (c : BoardRow) → (graded h c).kind ≡ c.kind
+      graded_kind : (h : Health) (c : BoardRow) → (graded_board h c).kind ≡ c.kind
       graded_kind h c = by_cases (λ (d : BoardRow). d.kind ≡ c.kind) (same_health c.health Health.Good || same_health c.health Health.Unknown)
           (record c { health = h }) c (λ _. refl) (λ _. refl)
 
@@ -118,9 +119,9 @@ module _ (F : Farm) (n : ℕ) (j : JobRow) (named : Outcome) (there : job_of F n
 
       job_used : (o : Outcome) → (after_job o b).kind ≡ b.kind
       job_used o = by_cases (λ (d : BoardRow). d.kind ≡ b.kind) (same_outcome o Outcome.Infra)
-          (graded Health.Unknown (record b { jobs_since = min (b.jobs_since + 1) 1000000 }))
-          (record b { jobs_since = min (b.jobs_since + 1) 1000000 })
-          (λ _. graded_kind Health.Unknown (record b { jobs_since = min (b.jobs_since + 1) 1000000 })) (λ _. refl)
+          (graded_board Health.Unknown (record b { jobs_since = min (b.jobs_since + 1) most_jobs_since }))
+          (record b { jobs_since = min (b.jobs_since + 1) most_jobs_since })
+          (λ _. graded_kind Health.Unknown (record b { jobs_since = min (b.jobs_since + 1) most_jobs_since })) (λ _. refl)
 
   alike_over : (k m : JobRow) → (k.number ≡ j.number → k ≡ j) → (m.number ≡ j.number → m ≡ j) → Alike k m
       → Alike (cond (k.number == j.number) (over k) k) (cond (m.number == j.number) (over m) m)
@@ -136,7 +137,7 @@ module _ (F : Farm) (n : ℕ) (j : JobRow) (named : Outcome) (there : job_of F n
   IsSound-finish sound =
       let at : j.number ≡ n = same_number j.number n (found_passes (λ (r : JobRow). r.number == n) j F.jobs there) in
       let only = only_job F sound.steady j.number j (ap (job_of F) at ∙ there) in
-      IsSound-change_jobs F (λ m. m.number == j.number) over (λ b. idle (after b)) (λ m. Unit {0}) F.collector
+      IsSound-change_jobs F (λ m. m.number == j.number) over (λ b. freed_board (after b)) (λ m. Unit {0}) F.collector
       (record {
         jobs = all_true F.jobs;
         same = λ m. record { number = refl; group = refl; owner = refl; priority = refl; checking = refl };
@@ -145,7 +146,7 @@ module _ (F : Farm) (n : ℕ) (j : JobRow) (named : Outcome) (there : job_of F n
         board_kind = kind_after;
         board_row = λ b so is. idle_row F b (after b) (used_after b is) is;
         none = λ m so p is. hold_nothing (Holder.Job m.number) m.board;
-        left = λ m b so p is. left_off (Holder.Job m.number) m.board (idle (after b)) refl refl;
+        left = λ m b so p is. left_off (Holder.Job m.number) m.board (freed_board (after b)) refl refl;
       })
       (IsWhole-map_by F (λ m. m.number ≡ j.number → m ≡ j) (λ m. cond (m.number == j.number) (over m) m) only alike_over sound.whole)
       (IsCollecting-map F.collector (λ m. m.number ≡ j.number → m ≡ j) (λ m. cond (m.number == j.number) (over m) m) F.jobs only

@@ -5,7 +5,7 @@ use Rattle.std.specs.Cmp.Lexicographic.{as_long, pointwise}
 use Rattle.std.specs.List.{AllByRecursion, list_all}
 use Rattle.farm_types.specs.Codes.{same_health}
 use Rattle.farm_types.specs.Farm.{Farm, board_of}
-use Rattle.farm_types.specs.Pick.{Among, are_apart, check_of, fits, is_checked, is_free, is_nobody, least, serves}
+use Rattle.farm_types.specs.Pick.{IsAmong, are_apart, check_of, fits, is_checked, is_free, is_nobody, least, serves}
 use Rattle.farm_types.specs.Sound.{IsSteady}
 use Rattle.farm_types.specs.declared.rows.BoardRow.{BoardRow}
 use Rattle.farm_types.specs.declared.rows.Health.{Health}
@@ -35,7 +35,7 @@ free_boards F wants bs steady found =
             nobody = nobody_from b.holder (both (serves F.types b) (is_nobody b.holder) two.1).1;
             kept = serves_kept F.types b (both (serves F.types b) (is_nobody b.holder) two.1).0;
           })
-          bs (AllByRecursion-both (λ b. Among b F.boards) (λ b. is_free F.types b ≡ true) bs is.among (all_tested (is_free F.types) bs outer.1)),
+          bs (AllByRecursion-both (λ b. IsAmong b F.boards) (λ b. is_free F.types b ≡ true) bs is.among (all_tested (is_free F.types) bs outer.1)),
       inner.1,
       as_long fits bs wants inner.0,
     )

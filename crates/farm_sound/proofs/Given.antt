@@ -5,8 +5,8 @@ use Rattle.std.specs.Option.{option_map}
 use Rattle.std.specs.Str.{bytes_eq}
 use Rattle.std.proofs.lemmas.Slice.Eq.{bytes_eq-Decides}
 use Rattle.farm_types.specs.Farm.{Farm, board_of}
-use Rattle.farm_types.specs.Pass.{held}
-use Rattle.farm_types.specs.Sound.{Hold, IsHeldBy, IsHeldByKeys, hold_of, shown}
+use Rattle.farm_types.specs.Pass.{held_board}
+use Rattle.farm_types.specs.Sound.{Hold, IsHeldBy, IsHeldByKeys, hold_of, shown_hold}
 use Rattle.farm_types.specs.declared.rows.BoardRow.{BoardRow}
 use Rattle.farm_types.specs.declared.rows.Holder.{Holder}
 use Rattle.farm_types.specs.declared.rows.State.{State}
@@ -17,7 +17,7 @@ use Rattle.farm_sound.proofs.Where.{AllByRecursion-map, by_cases}
 module _ (F G : Farm) (h0 : Holder) (b0 : BoardRow) where
   -- the boards after the gift
   abbrev pub given_board : BoardRow → BoardRow
-  given_board c = cond (bytes_eq c.name b0.name) (held h0 State.Reserved c) c
+  given_board c = cond (bytes_eq c.name b0.name) (held_board h0 State.Reserved c) c
 
   pub record IsGift : Type 0 where
     pub free : b0.holder ≡ Holder.Nobody
@@ -35,13 +35,13 @@ module _ (F G : Farm) (h0 : Holder) (b0 : BoardRow) where
 
   stays_told : IsGift → (c : BoardRow) (h : Holder) → IsHeldBy F c h → IsHeldBy G c h
   stays_told gift c Holder.Nobody told = told
-  stays_told gift c (Holder.Job n) told = stays_by (Holder.Job n) None (gift.stays (Holder.Job n)) gift.nothing (shown c) told
-  stays_told gift c (Holder.Res n) told = stays_by (Holder.Res n) None (gift.stays (Holder.Res n)) gift.nothing (shown c) told
+  stays_told gift c (Holder.Job n) told = stays_by (Holder.Job n) None (gift.stays (Holder.Job n)) gift.nothing (shown_hold c) told
+  stays_told gift c (Holder.Res n) told = stays_by (Holder.Res n) None (gift.stays (Holder.Res n)) gift.nothing (shown_hold c) told
 
   told_given : IsGift → (c : BoardRow) → IsHeldBy F c c.holder → IsHeldBy G (given_board c) (given_board c).holder
   told_given gift c told =
-      by_cases (λ (d : BoardRow). IsHeldBy G d d.holder) (bytes_eq c.name b0.name) (held h0 State.Reserved c) c
-      (λ so. held_from G (held h0 State.Reserved c) h0
+      by_cases (λ (d : BoardRow). IsHeldBy G d d.holder) (bytes_eq c.name b0.name) (held_board h0 State.Reserved c) c
+      (λ so. held_from G (held_board h0 State.Reserved c) h0
       (gift.gets ∙ ap (λ n. Some (record { board = n; holder = h0; state = State.Reserved })) (sym ((bytes_eq-Decides c.name b0.name).0 so))))
       (λ _. stays_told gift c c.holder told)
 
@@ -67,7 +67,7 @@ module _ (F G : Farm) (h0 : Holder) (b0 : BoardRow) where
               cc
           other false apart =
               let found' : board_of G x.board ≡ Some c =
-              gift.boards x.board ∙ ap (option_map given_board) found ∙ ap (λ w. Some (cond w (held h0 State.Reserved c) c)) apart in
+              gift.boards x.board ∙ ap (option_map given_board) found ∙ ap (λ w. Some (cond w (held_board h0 State.Reserved c) c)) apart in
               rw found' told
 
       by : (hold_of G h ≡ hold_of F h) ⊎ (h ≡ h0) → IsSomeAnd (board_of G x.board) (λ b. b.holder ≡ h)
@@ -75,9 +75,9 @@ module _ (F G : Farm) (h0 : Holder) (b0 : BoardRow) where
       by (inr mine) =
           let e : Some x ≡ Some (record { board = b0.name; holder = h0; state = State.Reserved }) = sym is ∙ ap (hold_of G) mine ∙ gift.gets in
           let at : x ≡ record { board = b0.name; holder = h0; state = State.Reserved } = cc in
-          let found : board_of G x.board ≡ Some (held h0 State.Reserved b0) =
+          let found : board_of G x.board ≡ Some (held_board h0 State.Reserved b0) =
           ap (λ (y : Hold). board_of G y.board) at ∙ gift.boards b0.name ∙ ap (option_map given_board) gift.there
-          ∙ ap (λ w. Some (cond w (held h0 State.Reserved b0) b0)) itself in
+          ∙ ap (λ w. Some (cond w (held_board h0 State.Reserved b0) b0)) itself in
           rw found (sym mine)
 
   pub IsHeldByKeys-given : IsGift → IsHeldByKeys F → IsHeldByKeys G

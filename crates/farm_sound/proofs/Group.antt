@@ -9,7 +9,7 @@ use Rattle.std.specs.declared.cmp.Ordering.TheVariants.{Less}
 use Rattle.std.proofs.lemmas.Bool.Decides.{nat_tests}
 use Rattle.std.proofs.lemmas.Cmp.{ranked}
 use Rattle.farm_types.specs.Farm.{Farm, job_of, members}
-use Rattle.farm_types.specs.Pass.{give_group, give_member, held, placed}
+use Rattle.farm_types.specs.Pass.{give_group, give_member, held_board, placed_job}
 use Rattle.farm_types.specs.Pick.{are_apart}
 use Rattle.farm_types.specs.Sound.{IsCollecting, IsHeldByKeys, IsSound, IsSteady, phase}
 use Rattle.farm_types.specs.Table.{job_cmp}
@@ -55,11 +55,11 @@ rest_ready F p (q ∷ qs) is apart all = (
 
 pub give_all : (ps : List (JobRow × BoardRow)) (F : Farm) → AllByRecursion (ArePairs F) ps → AreApart ps → IsSteady F → IsHeldByKeys F
     → IsSteady (fold (give_member JobState.Scheduled) F ps) × IsHeldByKeys (fold (give_member JobState.Scheduled) F ps)
-give_all [] F all apart steady held = (steady, held)
-give_all (p ∷ ps) F all apart steady held =
+give_all [] F all apart steady held_board = (steady, held_board)
+give_all (p ∷ ps) F all apart steady held_board =
     give_all ps (give_member JobState.Scheduled F (p.0, p.1)) (rest_ready F p ps all.0 apart.0 all.1) apart.1
     (IsSteady-give_member JobState.Scheduled as_scheduled F p.0 p.1 all.0.0.0 all.0.0.1 all.0.1 steady)
-    (IsHeldByKeys-give_member JobState.Scheduled as_scheduled F p.0 p.1 all.0.0.0 all.0.0.1 all.0.1 held)
+    (IsHeldByKeys-give_member JobState.Scheduled as_scheduled F p.0 p.1 all.0.0.0 all.0.0.1 all.0.1 held_board)
 
 zip_all : {A B : Type 0} (P : A → Type 0) (Q : B → Type 0) (xs : List A) (ys : List B) → AllByRecursion P xs → AllByRecursion Q ys
     → AllByRecursion (λ p. P p.0 × Q p.1) (zip xs ys)
@@ -101,7 +101,7 @@ zip_apart (m ∷ ms) (b ∷ bs) sorted apart =
 
 abbrev pub given : JobState → List (JobRow × BoardRow) → JobRow → JobRow
 given state [] m = m
-given state (p ∷ ps) m = given state ps (cond (m.number == p.0.number) (placed state p.1.name m) m)
+given state (p ∷ ps) m = given state ps (cond (m.number == p.0.number) (placed_job state p.1.name m) m)
 
 map_map : {A : Type 0} (f g : A → A) (xs : List A) → map g (map f xs) ≡ map (λ x. g (f x)) xs
 map_map f g [] = refl
@@ -113,7 +113,7 @@ map_itself (x ∷ xs) = ap (λ rest. x ∷ rest) (map_itself xs)
 
 pub jobs_given : (state : JobState) (ps : List (JobRow × BoardRow)) (F : Farm) → (fold (give_member state) F ps).jobs ≡ map (given state ps) F.jobs
 jobs_given state [] F = map_itself F.jobs
-jobs_given state (p ∷ ps) F = jobs_given state ps (give_member state F (p.0, p.1)) ∙ map_map (λ m. cond (m.number == p.0.number) (placed state p.1.name m) m) (given state ps) F.jobs
+jobs_given state (p ∷ ps) F = jobs_given state ps (give_member state F (p.0, p.1)) ∙ map_map (λ m. cond (m.number == p.0.number) (placed_job state p.1.name m) m) (given state ps) F.jobs
 
 abbrev HasNumber : ℕ → List (JobRow × BoardRow) → Type 0
 HasNumber n [] = ⊥
@@ -131,20 +131,20 @@ has_from n (m ∷ ms) (b ∷ bs) long (inr at) = inr (has_from n ms bs (omega ar
 
 pub given_number : (state : JobState) (ps : List (JobRow × BoardRow)) (m : JobRow) → (given state ps m).number ≡ m.number
 given_number state [] m = refl
-given_number state (p ∷ ps) m = given_number state ps (cond (m.number == p.0.number) (placed state p.1.name m) m)
-    ∙ by_cases (λ (k : JobRow). k.number ≡ m.number) (m.number == p.0.number) (placed state p.1.name m) m (λ _. refl) (λ _. refl)
+given_number state (p ∷ ps) m = given_number state ps (cond (m.number == p.0.number) (placed_job state p.1.name m) m)
+    ∙ by_cases (λ (k : JobRow). k.number ≡ m.number) (m.number == p.0.number) (placed_job state p.1.name m) m (λ _. refl) (λ _. refl)
 
 pub given_group : (state : JobState) (ps : List (JobRow × BoardRow)) (m : JobRow) → (given state ps m).group ≡ m.group
 given_group state [] m = refl
-given_group state (p ∷ ps) m = given_group state ps (cond (m.number == p.0.number) (placed state p.1.name m) m)
-    ∙ by_cases (λ (k : JobRow). k.group ≡ m.group) (m.number == p.0.number) (placed state p.1.name m) m (λ _. refl) (λ _. refl)
+given_group state (p ∷ ps) m = given_group state ps (cond (m.number == p.0.number) (placed_job state p.1.name m) m)
+    ∙ by_cases (λ (k : JobRow). k.group ≡ m.group) (m.number == p.0.number) (placed_job state p.1.name m) m (λ _. refl) (λ _. refl)
 
 given_scheduled : (ps : List (JobRow × BoardRow)) (m : JobRow) → (m.state ≡ JobState.Scheduled) ⊎ HasNumber m.number ps
     → (given JobState.Scheduled ps m).state ≡ JobState.Scheduled
 given_scheduled [] m (inl is) = is
 given_scheduled [] m (inr at) = absurd at
-given_scheduled (p ∷ ps) m at = given_scheduled ps (cond (m.number == p.0.number) (placed JobState.Scheduled p.1.name m) m)
-    (by_cases (λ (k : JobRow). (k.state ≡ JobState.Scheduled) ⊎ HasNumber k.number ps) (m.number == p.0.number) (placed JobState.Scheduled p.1.name m) m
+given_scheduled (p ∷ ps) m at = given_scheduled ps (cond (m.number == p.0.number) (placed_job JobState.Scheduled p.1.name m) m)
+    (by_cases (λ (k : JobRow). (k.state ≡ JobState.Scheduled) ⊎ HasNumber k.number ps) (m.number == p.0.number) (placed_job JobState.Scheduled p.1.name m) m
     (λ _. inl refl) (λ other. left at other))
   where
     left : (m.state ≡ JobState.Scheduled) ⊎ HasNumber m.number (p ∷ ps) → (m.number == p.0.number) ≡ false
@@ -159,10 +159,10 @@ pub given_state : (state : JobState) (ps : List (JobRow × BoardRow)) (m : JobRo
 given_state state [] m = inl refl
 given_state state (p ∷ ps) m =
     by_cases (λ (k : JobRow). ((given state ps k).state ≡ m.state) ⊎ ((given state ps k).state ≡ state)) (m.number == p.0.number)
-    (placed state p.1.name m) m (λ _. placed_one (given_state state ps (placed state p.1.name m))) (λ _. given_state state ps m)
+    (placed_job state p.1.name m) m (λ _. placed_one (given_state state ps (placed_job state p.1.name m))) (λ _. given_state state ps m)
   where
-    placed_one : ((given state ps (placed state p.1.name m)).state ≡ state) ⊎ ((given state ps (placed state p.1.name m)).state ≡ state)
-        → ((given state ps (placed state p.1.name m)).state ≡ m.state) ⊎ ((given state ps (placed state p.1.name m)).state ≡ state)
+    placed_one : ((given state ps (placed_job state p.1.name m)).state ≡ state) ⊎ ((given state ps (placed_job state p.1.name m)).state ≡ state)
+        → ((given state ps (placed_job state p.1.name m)).state ≡ m.state) ⊎ ((given state ps (placed_job state p.1.name m)).state ≡ state)
     placed_one (inl is) = inr is
     placed_one (inr is) = inr is
 
@@ -172,11 +172,11 @@ pub given_same : (state : JobState) (ps : List (JobRow × BoardRow)) (m : JobRow
 given_same state [] m = (refl, refl, refl)
 given_same state (p ∷ ps) m = by_cases
     (λ (k : JobRow). ((given state ps k).owner ≡ m.owner) × ((given state ps k).priority ≡ m.priority) × ((given state ps k).want ≡ m.want))
-    (m.number == p.0.number) (placed state p.1.name m) m (λ _. given_same state ps (placed state p.1.name m)) (λ _. given_same state ps m)
+    (m.number == p.0.number) (placed_job state p.1.name m) m (λ _. given_same state ps (placed_job state p.1.name m)) (λ _. given_same state ps m)
 
 pub given_other : (state : JobState) (ps : List (JobRow × BoardRow)) (m : JobRow) → AllByRecursion (λ p. (m.number == p.0.number) ≡ false) ps → given state ps m ≡ m
 given_other state [] m all = refl
-given_other state (p ∷ ps) m all = ap (λ v. given state ps (cond v (placed state p.1.name m) m)) all.0 ∙ given_other state ps m all.1
+given_other state (p ∷ ps) m all = ap (λ v. given state ps (cond v (placed_job state p.1.name m) m)) all.0 ∙ given_other state ps m all.1
 
 members_number : (group : ℕ) (jobs : List JobRow) → AllByRecursion (λ m. m.group ≡ group → IsNumberOf m.number (filter (λ r. r.group == group) jobs)) jobs
 members_number group [] = tt

@@ -6,8 +6,8 @@ use Rattle.std.specs.Option.{option_map, option_map_or}
 use Rattle.std.specs.Str.{bytes_eq}
 use Rattle.std.proofs.lemmas.Bool.Decides.{nat_tests}
 use Rattle.farm_types.specs.Farm.{Farm, board_of, job_of, res_of}
-use Rattle.farm_types.specs.Pass.{held}
-use Rattle.farm_types.specs.Sound.{Hold, IsHeldBy, IsHeldByKeys, hold, hold_of, job_gives, job_hold, res_gives, res_hold, shown}
+use Rattle.farm_types.specs.Pass.{held_board}
+use Rattle.farm_types.specs.Sound.{Hold, IsHeldBy, IsHeldByKeys, hold, hold_of, job_gives, job_hold, res_gives, res_hold, shown_hold}
 use Rattle.farm_types.specs.declared.rows.BoardRow.{BoardRow}
 use Rattle.farm_types.specs.declared.rows.Holder.{Holder}
 use Rattle.farm_types.specs.declared.rows.JobRow.{JobRow}
@@ -40,12 +40,12 @@ holder_is F (Holder.Res n) x is = by (res_of F n) refl is
         hold_names (Holder.Res r.number) r.board (res_gives r.state) x is ∙ ap Holder.Res e
 
 -- a board's holder that holds something holds this board
-pub held_is : (F : Farm) (b : BoardRow) (h : Holder) (x : Hold) → IsHeldBy F b h → hold_of F h ≡ Some x → x ≡ shown b
+pub held_is : (F : Farm) (b : BoardRow) (h : Holder) (x : Hold) → IsHeldBy F b h → hold_of F h ≡ Some x → x ≡ shown_hold b
 held_is F b Holder.Nobody x told is = cc
 held_is F b (Holder.Job n) x told is = cc
 held_is F b (Holder.Res n) x told is = cc
 
-pub held_from : (F : Farm) (b : BoardRow) (h : Holder) → hold_of F h ≡ Some (shown b) → IsHeldBy F b h
+pub held_from : (F : Farm) (b : BoardRow) (h : Holder) → hold_of F h ≡ Some (shown_hold b) → IsHeldBy F b h
 held_from F b Holder.Nobody is = cc
 held_from F b (Holder.Job n) is = is
 held_from F b (Holder.Res n) is = is
@@ -53,7 +53,7 @@ held_from F b (Holder.Res n) is = is
 -- the board after its holder's row has changed: in nobody's hands, or in the same ones
 abbrev pub IsLeft : Option Hold → BoardRow → Type 0
 IsLeft None b = (b.holder ≡ Holder.Nobody) × (b.state ≡ State.Idle)
-IsLeft (Some x) b = x ≡ shown b
+IsLeft (Some x) b = x ≡ shown_hold b
 
 -- some holders' rows change, and the boards that they hold
 module _ (F G : Farm) (moved : Holder → Bool) (g : BoardRow → BoardRow) where
@@ -63,7 +63,7 @@ module _ (F G : Farm) (moved : Holder → Bool) (g : BoardRow → BoardRow) wher
     pub boards : (name : List ℕ) → board_of G name ≡ option_map (λ b. cond (moved b.holder) (g b) b) (board_of F name)
     pub stays : (h : Holder) → moved h ≡ false → hold_of G h ≡ hold_of F h
     pub gains_none : (h : Holder) → moved h ≡ true → hold_of F h ≡ None → hold_of G h ≡ None
-    pub gives : (h : Holder) (b : BoardRow) → moved h ≡ true → b.holder ≡ h → hold_of F h ≡ Some (shown b) → IsLeft (hold_of G h) (g b)
+    pub gives : (h : Holder) (b : BoardRow) → moved h ≡ true → b.holder ≡ h → hold_of F h ≡ Some (shown_hold b) → IsLeft (hold_of G h) (g b)
 
   left_told : (b : BoardRow) (h : Holder) (o : Option Hold) → hold_of G h ≡ o → b.holder ≡ h → IsLeft o (g b) → IsHeldBy G (g b) (g b).holder
   left_told b h None is mine left = subst (λ k. IsHeldBy G (g b) k) (sym left.0) left.1
@@ -87,26 +87,26 @@ module _ (F G : Farm) (moved : Holder → Bool) (g : BoardRow → BoardRow) wher
       (λ apart. stays_told re b b.holder apart told)
 
   rows_after : Regives → IsHeldByKeys F → (h : Holder) (x : Hold) → hold_of G h ≡ Some x → IsSomeAnd (board_of G x.board) (λ b. b.holder ≡ h)
-  rows_after re held h x is = by (moved h) refl
+  rows_after re held_board h x is = by (moved h) refl
     where
       -- a board that h holds in F
       there : (y : Hold) → hold_of F h ≡ Some y → (o : Option BoardRow) → board_of F y.board ≡ o → IsSomeAnd o (λ b. b.holder ≡ h)
-          → (b : BoardRow) × (board_of F y.board ≡ Some b) × (b.holder ≡ h) × (y ≡ shown b)
+          → (b : BoardRow) × (board_of F y.board ≡ Some b) × (b.holder ≡ h) × (y ≡ shown_hold b)
       there y was None found told = absurd told
       there y was (Some b) found told = (
         b,
         found,
         told,
         held_is F b h y
-            (subst (IsHeldBy F b) told (found_has (λ b. IsHeldBy F b b.holder) (λ r. bytes_eq r.name y.board) b F.boards held.boards found)) was,
+            (subst (IsHeldBy F b) told (found_has (λ b. IsHeldBy F b b.holder) (λ r. bytes_eq r.name y.board) b F.boards held_board.boards found)) was,
       )
 
       by_hold : moved h ≡ true → (o : Option Hold) → hold_of F h ≡ o → IsSomeAnd (board_of G x.board) (λ b. b.holder ≡ h)
       by_hold so None was = let n : hold_of G h ≡ None = re.gains_none h so was in cc
       by_hold so (Some y) was =
-          let t = there y was (board_of F y.board) refl (held.rows h y was) in
+          let t = there y was (board_of F y.board) refl (held_board.rows h y was) in
           let b : BoardRow = t.0 in
-          let left : x ≡ shown (g b) = subst (λ o. IsLeft o (g b)) is (re.gives h b so t.2 (was ∙ ap Some t.3)) in
+          let left : x ≡ shown_hold (g b) = subst (λ o. IsLeft o (g b)) is (re.gives h b so t.2 (was ∙ ap Some t.3)) in
           let here : x.board ≡ y.board = ap (λ (z : Hold). z.board) left ∙ re.name b ∙ sym (ap (λ (z : Hold). z.board) t.3) in
           let found : board_of G x.board ≡ Some (g b) =
           ap (board_of G) here ∙ re.boards y.board ∙ ap (option_map (λ b. cond (moved b.holder) (g b) b)) t.1
@@ -117,16 +117,16 @@ module _ (F G : Farm) (moved : Holder → Bool) (g : BoardRow → BoardRow) wher
       by true so = by_hold so (hold_of F h) refl
       by false apart =
           let was : hold_of F h ≡ Some x = sym (re.stays h apart) ∙ is in
-          let t = there x was (board_of F x.board) refl (held.rows h x was) in
+          let t = there x was (board_of F x.board) refl (held_board.rows h x was) in
           let b : BoardRow = t.0 in
           let found : board_of G x.board ≡ Some b =
           re.boards x.board ∙ ap (option_map (λ b. cond (moved b.holder) (g b) b)) t.1 ∙ ap (λ v. Some (cond v (g b) b)) (ap moved t.2 ∙ apart) in
           rw found t.2
 
   pub IsHeldByKeys-regiven : Regives → G.boards ≡ map (λ b. cond (moved b.holder) (g b) b) F.boards → IsHeldByKeys F → IsHeldByKeys G
-  IsHeldByKeys-regiven re same held = record {
+  IsHeldByKeys-regiven re same held_board = record {
     boards = subst (AllByRecursion (λ b. IsHeldBy G b b.holder)) (sym same)
         (AllByRecursion-map (λ b. IsHeldBy F b b.holder) (λ b. IsHeldBy G b b.holder) (λ b. cond (moved b.holder) (g b) b)
-        (told_after re) F.boards held.boards);
-    rows = rows_after re held;
+        (told_after re) F.boards held_board.boards);
+    rows = rows_after re held_board;
   }

@@ -5,8 +5,8 @@ use Rattle.std.specs.List.{AllByRecursion}
 use Rattle.farm_types.specs.Change.{cancel_group, in_state, is_unstarted, start_group}
 use Rattle.farm_types.specs.Codes.{same_job_state}
 use Rattle.farm_types.specs.Farm.{Farm, job_of}
-use Rattle.farm_types.specs.Pass.{back, change_jobs, idle, unplaced}
-use Rattle.farm_types.specs.Sound.{IsCollecting, IsSound, hold, job_gives, phase, shown}
+use Rattle.farm_types.specs.Pass.{giving_back, change_jobs, freed_board, unplaced_job}
+use Rattle.farm_types.specs.Sound.{IsCollecting, IsSound, hold, job_gives, phase, shown_hold}
 use Rattle.farm_types.specs.Table.{change_where}
 use Rattle.farm_types.specs.declared.rows.Holder.{Holder}
 use Rattle.farm_types.specs.declared.rows.JobRow.{JobRow}
@@ -64,7 +64,7 @@ IsSound-start F n j there ready sound =
       left = λ m b so p is.
           let s : m.state ≡ JobState.Scheduled = p (same_number m.group j.group so) in
           left_on (Holder.Job m.number) m.board State.Reserved State.Running b
-          (subst (λ x. hold (Holder.Job m.number) m.board (job_gives x) ≡ Some (shown b)) s is);
+          (subst (λ x. hold (Holder.Job m.number) m.board (job_gives x) ≡ Some (shown_hold b)) s is);
     })
     (IsWhole-map F (change_where test f F.jobs) (λ m. cond (test m) (f m) m) refl
     (Alike-where test f (λ m. refl) (λ m k so same. refl) (λ m k same _. ap (λ g. g == j.group) same)) sound.whole)
@@ -82,7 +82,7 @@ IsSound-start F n j there ready sound =
 -- the farm in which those that have not started are canceled
 abbrev unstarted_off : ℕ → Farm → Farm
 unstarted_off group F = record (change_jobs (λ j. (j.group == group) && is_unstarted j)
-    (λ j. record j { state = JobState.Finished; outcome = Some Outcome.Canceled }) idle F) {
+    (λ j. record j { state = JobState.Finished; outcome = Some Outcome.Canceled }) freed_board F) {
       collector = cond (F.collector == group) 0 F.collector;
     }
 
@@ -137,7 +137,7 @@ cancel_unstarted : (F : Farm) (group : ℕ) → IsSound F → IsSound (unstarted
 cancel_unstarted F group sound =
     let test = λ (m : JobRow). (m.group == group) && is_unstarted m in
     let f = λ (m : JobRow). record m { state = JobState.Finished; outcome = Some Outcome.Canceled } in
-    IsSound-change_jobs F test f idle (λ m. Unit {0}) (cond (F.collector == group) 0 F.collector)
+    IsSound-change_jobs F test f freed_board (λ m. Unit {0}) (cond (F.collector == group) 0 F.collector)
     (record {
       jobs = all_true F.jobs;
       same = λ m. record { number = refl; group = refl; owner = refl; priority = refl; checking = refl };
@@ -147,7 +147,7 @@ cancel_unstarted F group sound =
       board_kind = λ b. refl;
       board_row = λ b so is. board_row_in F b Holder.Nobody State.Idle (λ _. refl) is;
       none = λ m so p is. hold_nothing (Holder.Job m.number) m.board;
-      left = λ m b so p is. left_off (Holder.Job m.number) m.board (idle b) refl refl;
+      left = λ m b so p is. left_off (Holder.Job m.number) m.board (freed_board b) refl refl;
     })
     (IsWhole-map F (change_where test f F.jobs) (λ m. cond (test m) (f m) m) refl
     (Alike-where test f (λ m. refl) (λ m k so same. refl)
@@ -177,7 +177,7 @@ cancel_running F group sound =
       board_row = λ b so is. is;
       none = λ m so p is. subst (λ x. hold (Holder.Job m.number) m.board (job_gives x) ≡ None) (running m so) is;
       left = λ m b so p is. left_same (hold (Holder.Job m.number) m.board (Some State.Running)) b
-          (subst (λ x. hold (Holder.Job m.number) m.board (job_gives x) ≡ Some (shown b)) (running m so) is);
+          (subst (λ x. hold (Holder.Job m.number) m.board (job_gives x) ≡ Some (shown_hold b)) (running m so) is);
     })
     (IsWhole-map F (change_where test f F.jobs) (λ m. cond (test m) (f m) m) refl
     (Alike-kept test f (λ m. refl) (λ m so. ap phase (sym (running m so)))) sound.whole)
@@ -195,11 +195,11 @@ IsSound-cancel F group sound = cancel_running (unstarted_off group F) group (can
 -- ---- the collector gives its boards back
 
 -- each job in it is Scheduling
-pub IsSound-back : (F : Farm) → IsSound F → IsSound (back F)
+pub IsSound-back : (F : Farm) → IsSound F → IsSound (giving_back F)
 IsSound-back F sound =
     let test = λ (m : JobRow). (m.group == F.collector) && same_job_state m.state JobState.Scheduling in
     let scheduling = λ (m : JobRow) (so : test m ≡ true). scheduling_from m.state (both (m.group == F.collector) (same_job_state m.state JobState.Scheduling) so).1 in
-    IsSound-change_jobs F test unplaced idle (λ m. Unit {0}) 0
+    IsSound-change_jobs F test unplaced_job freed_board (λ m. Unit {0}) 0
     (record {
       jobs = all_true F.jobs;
       same = λ m. record { number = refl; group = refl; owner = refl; priority = refl; checking = refl };
@@ -212,17 +212,17 @@ IsSound-back F sound =
       board_kind = λ b. refl;
       board_row = λ b so is. board_row_in F b Holder.Nobody State.Idle (λ _. refl) is;
       none = λ m so p is. refl;
-      left = λ m b so p is. left_off (Holder.Job m.number) None (idle b) refl refl;
+      left = λ m b so p is. left_off (Holder.Job m.number) None (freed_board b) refl refl;
     })
-    (IsWhole-map F (change_where test unplaced F.jobs) (λ m. cond (test m) (unplaced m) m) refl
-    (Alike-kept test unplaced (λ m. refl) (λ m so. ap phase (sym (scheduling m so)))) sound.whole)
-    (none_collects (change_where test unplaced F.jobs)
+    (IsWhole-map F (change_where test unplaced_job F.jobs) (λ m. cond (test m) (unplaced_job m) m) refl
+    (Alike-kept test unplaced_job (λ m. refl) (λ m so. ap phase (sym (scheduling m so)))) sound.whole)
+    (none_collects (change_where test unplaced_job F.jobs)
     (AllByRecursion-map (λ j. j.state ≡ JobState.Scheduling → (1 ≤ F.collector) × (j.group ≡ F.collector)) (λ j. j.state ≡ JobState.Scheduling → ⊥)
-    (λ m. cond (test m) (unplaced m) m) (λ j only. none_left j only (test j) refl) F.jobs sound.collecting.only))
+    (λ m. cond (test m) (unplaced_job m) m) (λ j only. none_left j only (test j) refl) F.jobs sound.collecting.only))
     sound
   where
     none_left : (j : JobRow) → (j.state ≡ JobState.Scheduling → (1 ≤ F.collector) × (j.group ≡ F.collector)) → (v : Bool)
-        → ((j.group == F.collector) && same_job_state j.state JobState.Scheduling) ≡ v → (cond v (unplaced j) j).state ≡ JobState.Scheduling → ⊥
+        → ((j.group == F.collector) && same_job_state j.state JobState.Scheduling) ≡ v → (cond v (unplaced_job j) j).state ≡ JobState.Scheduling → ⊥
     none_left j only true at e = cc
     none_left j only false at e =
         let both_true : ((j.group == F.collector) && same_job_state j.state JobState.Scheduling) ≡ true =

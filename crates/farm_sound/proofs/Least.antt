@@ -8,39 +8,39 @@ use Rattle.std.specs.List.Sorted.{IsStrictlySortedBy}
 use Rattle.std.specs.Ordering.{is_lt, ordering_reverse}
 use Rattle.std.specs.declared.cmp.Ordering.TheVariants.{Less}
 use Rattle.std.proofs.lemmas.Cmp.{tied_itself}
-use Rattle.farm_types.specs.Pick.{Among, AreAmong, IsLeast, are_apart, fits, least, lists_of, meets, names_cmp}
+use Rattle.farm_types.specs.Pick.{IsAmong, AreAmong, IsLeast, are_apart, fits, least, lists_of, meets, names_cmp}
 use Rattle.farm_types.specs.Table.{board_cmp}
 use Rattle.farm_types.specs.declared.rows.BoardRow.{BoardRow}
 use Rattle.farm_types.specs.declared.rows.Want.{Want}
 use Rattle.farm_types.proofs.Put.{AllByRecursion-weaker, found_has, found_passes}
 use Rattle.farm_sound.proofs.Lists.{all_join}
 
-among_all : {A : Type 0} (P : A → Type 0) (x : A) (xs : List A) → AllByRecursion P xs → Among x xs → P x
+among_all : {A : Type 0} (P : A → Type 0) (x : A) (xs : List A) → AllByRecursion P xs → IsAmong x xs → P x
 among_all P x [] all at = absurd at
 among_all P x (y ∷ ys) all (inl same) = subst P (sym same) all.0
 among_all P x (y ∷ ys) all (inr at) = among_all P x ys all.1 at
 
-among_left : {A : Type 0} (x : A) (xs ys : List A) → Among x xs → Among x (xs ++ ys)
+among_left : {A : Type 0} (x : A) (xs ys : List A) → IsAmong x xs → IsAmong x (xs ++ ys)
 among_left x [] ys at = absurd at
 among_left x (y ∷ xs) ys (inl same) = inl same
 among_left x (y ∷ xs) ys (inr at) = inr (among_left x xs ys at)
 
-among_right : {A : Type 0} (x : A) (xs ys : List A) → Among x ys → Among x (xs ++ ys)
+among_right : {A : Type 0} (x : A) (xs ys : List A) → IsAmong x ys → IsAmong x (xs ++ ys)
 among_right x [] ys at = at
 among_right x (y ∷ xs) ys at = inr (among_right x xs ys at)
 
-among_map : {A B : Type 0} (f : A → B) (x : A) (xs : List A) → Among x xs → Among (f x) (map f xs)
+among_map : {A B : Type 0} (f : A → B) (x : A) (xs : List A) → IsAmong x xs → IsAmong (f x) (map f xs)
 among_map f x [] at = absurd at
 among_map f x (y ∷ ys) (inl same) = inl (ap f same)
 among_map f x (y ∷ ys) (inr at) = inr (among_map f x ys at)
 
-among_flat : {A B : Type 0} (f : A → List B) (x : A) (z : B) (xs : List A) → Among x xs → Among z (f x) → Among z (flat_map f xs)
+among_flat : {A B : Type 0} (f : A → List B) (x : A) (z : B) (xs : List A) → IsAmong x xs → IsAmong z (f x) → IsAmong z (flat_map f xs)
 among_flat f x z [] at here = absurd at
-among_flat f x z (y ∷ ys) (inl same) here = among_left z (f y) (flat_map f ys) (subst (λ w. Among z (f w)) same here)
+among_flat f x z (y ∷ ys) (inl same) here = among_left z (f y) (flat_map f ys) (subst (λ w. IsAmong z (f w)) same here)
 among_flat f x z (y ∷ ys) (inr at) here = among_right z (f y) (flat_map f ys) (among_flat f x z ys at here)
 
 -- each list of so many of the boards is one of the lists
-pub among_lists : (boards : List BoardRow) (n : ℕ) (cs : List BoardRow) → length cs ≡ n → AllByRecursion (λ c. Among c boards) cs → Among cs (lists_of n boards)
+pub among_lists : (boards : List BoardRow) (n : ℕ) (cs : List BoardRow) → length cs ≡ n → AllByRecursion (λ c. IsAmong c boards) cs → IsAmong cs (lists_of n boards)
 among_lists boards zero [] long all = inl refl
 among_lists boards zero (c ∷ cs) long all = absurd (omega arith)
 among_lists boards (suc n) [] long all = absurd (omega arith)
@@ -50,14 +50,14 @@ among_lists boards (suc n) (c ∷ cs) long all =
 
 module _ {A : Type 0} (cmp : A → A → Ordering) (total : IsTotalOrder cmp) where
   -- the first that passes is the least that passes
-  pub first_is_least : (p : A → Bool) (b c : A) (xs : List A) → IsStrictlySortedBy cmp xs → find p xs ≡ Some b → Among c xs → p c ≡ true
+  pub first_is_least : (p : A → Bool) (b c : A) (xs : List A) → IsStrictlySortedBy cmp xs → find p xs ≡ Some b → IsAmong c xs → p c ≡ true
       → is_lt (cmp c b) ≡ false
   unfolding IsStrictlySortedBy
   first_is_least p b c [] sorted found at passes = absurd at
   first_is_least p b c (x ∷ xs) sorted found at passes = by (first_is_least p b c xs sorted.1) (p x) refl found at
     where
-      by : (find p xs ≡ Some b → Among c xs → p c ≡ true → is_lt (cmp c b) ≡ false) → (v : Bool) → p x ≡ v → cond v (Some x) (find p xs) ≡ Some b
-          → Among c (x ∷ xs) → is_lt (cmp c b) ≡ false
+      by : (find p xs ≡ Some b → IsAmong c xs → p c ≡ true → is_lt (cmp c b) ≡ false) → (v : Bool) → p x ≡ v → cond v (Some x) (find p xs) ≡ Some b
+          → IsAmong c (x ∷ xs) → is_lt (cmp c b) ≡ false
       by rest true is here (inl same) = let e : x ≡ b = cc in ap is_lt (ap (λ z. cmp z b) (same ∙ e) ∙ tied_itself total b)
       by rest true is here (inr later) =
           let e : x ≡ b = cc in
@@ -123,7 +123,7 @@ long_as_wants test wants cs is =
 
 -- no list that meets the wants comes before the one that is found
 pub least_is_least : (boards : List BoardRow) (test : BoardRow → Bool) (wants : List Want) (bs cs : List BoardRow)
-    → IsStrictlySortedBy board_cmp boards → least boards test wants ≡ Some bs → AllByRecursion (λ c. Among c boards) cs → meets test wants cs ≡ true
+    → IsStrictlySortedBy board_cmp boards → least boards test wants ≡ Some bs → AllByRecursion (λ c. IsAmong c boards) cs → meets test wants cs ≡ true
     → is_lt (names_cmp cs bs) ≡ false
 unfolding least
 least_is_least boards test wants bs cs sorted found among meeting =
@@ -131,24 +131,24 @@ least_is_least boards test wants bs cs sorted found among meeting =
     (lists_sorted boards sorted (length wants)) found
     (among_lists boards (length wants) cs (long_as_wants test wants cs meeting) among) meeting
 
-none_found : {A : Type 0} (p : A → Bool) (c : A) (xs : List A) → find p xs ≡ None → Among c xs → p c ≡ true → ⊥
+none_found : {A : Type 0} (p : A → Bool) (c : A) (xs : List A) → find p xs ≡ None → IsAmong c xs → p c ≡ true → ⊥
 none_found p c [] none at passes = at
 none_found p c (x ∷ xs) none at passes = by (none_found p c xs) (p x) refl none at
   where
-    by : (find p xs ≡ None → Among c xs → p c ≡ true → ⊥) → (v : Bool) → p x ≡ v → cond v (Some x) (find p xs) ≡ None → Among c (x ∷ xs) → ⊥
+    by : (find p xs ≡ None → IsAmong c xs → p c ≡ true → ⊥) → (v : Bool) → p x ≡ v → cond v (Some x) (find p xs) ≡ None → IsAmong c (x ∷ xs) → ⊥
     by rest true is here at' = cc
     by rest false is here (inl same) = false≢true (sym is ∙ sym (ap p same) ∙ passes)
     by rest false is here (inr later) = rest here later passes
 
 -- where none is found, no list meets the wants
 pub none_meets : (boards : List BoardRow) (test : BoardRow → Bool) (wants : List Want) (cs : List BoardRow) → least boards test wants ≡ None
-    → AllByRecursion (λ c. Among c boards) cs → meets test wants cs ≡ true → ⊥
+    → AllByRecursion (λ c. IsAmong c boards) cs → meets test wants cs ≡ true → ⊥
 unfolding least
 none_meets boards test wants cs none among meeting =
     none_found (meets test wants) cs (lists_of (length wants) boards) none
     (among_lists boards (length wants) cs (long_as_wants test wants cs meeting) among) meeting
 
-all_self : {A : Type 0} (xs : List A) → AllByRecursion (λ x. Among x xs) xs
+all_self : {A : Type 0} (xs : List A) → AllByRecursion (λ x. IsAmong x xs) xs
 all_self [] = tt
 all_self (x ∷ xs) = (inl refl, AllByRecursion-weaker (λ y at. inr at) xs (all_self xs))
 
@@ -160,7 +160,7 @@ all_map_from Q P f each (x ∷ xs) all = (each x all.0, all_map_from Q P f each 
 lists_among : (boards : List BoardRow) (n : ℕ) → AllByRecursion (AreAmong boards) (lists_of n boards)
 lists_among boards zero = (tt, tt)
 lists_among boards (suc n) =
-    all_flat (AreAmong boards) (λ b. Among b boards) (λ b. map (λ bs. b ∷ bs) (lists_of n boards)) boards (all_self boards)
+    all_flat (AreAmong boards) (λ b. IsAmong b boards) (λ b. map (λ bs. b ∷ bs) (lists_of n boards)) boards (all_self boards)
     (λ b at. all_map_from (AreAmong boards) (AreAmong boards) (λ bs. b ∷ bs) (λ bs all. (at, all)) (lists_of n boards) (lists_among boards n))
 
 -- what is found is the least list

@@ -5,7 +5,7 @@ use Rattle.std.specs.List.{AllByRecursion, filter, find, list_all, list_any}
 use Rattle.std.specs.List.Sorted.{IsStrictlySortedBy}
 use Rattle.std.specs.declared.cmp.Ordering.{Ordering}
 use Rattle.std.specs.declared.cmp.Ordering.TheVariants.{Less}
-use Rattle.farm_types.specs.Pick.{Among}
+use Rattle.farm_types.specs.Pick.{IsAmong}
 use Rattle.farm_types.specs.Sound.{EachTwo}
 use Rattle.farm_types.proofs.Put.{AllByRecursion-weaker}
 use Rattle.farm_sound.proofs.Tests.{both, both_false}
@@ -19,7 +19,7 @@ pub none_found : {R : Type 0} (test : R → Bool) (rows : List R) → AllByRecur
 none_found test [] all = refl
 none_found test (r ∷ rows) all = rw all.0 (none_found test rows all.1)
 
-pub among_has : {A : Type 0} (P : A → Type 0) (x : A) (xs : List A) → AllByRecursion P xs → Among x xs → P x
+pub among_has : {A : Type 0} (P : A → Type 0) (x : A) (xs : List A) → AllByRecursion P xs → IsAmong x xs → P x
 among_has P x [] all at = absurd at
 among_has P x (y ∷ ys) all (inl same) = subst P (sym same) all.0
 among_has P x (y ∷ ys) all (inr at) = among_has P x ys all.1 at
@@ -112,7 +112,7 @@ each_weaker R S follows [] each = tt
 each_weaker R S follows (x ∷ xs) each = (AllByRecursion-weaker (follows x) xs each.0, each_weaker R S follows xs each.1)
 
 -- of one list or the other, so of both
-pub among_append : {A : Type 0} (x : A) (xs ys : List A) → Among x xs ⊎ Among x ys → Among x (xs ++ ys)
+pub among_append : {A : Type 0} (x : A) (xs ys : List A) → IsAmong x xs ⊎ IsAmong x ys → IsAmong x (xs ++ ys)
 among_append x [] ys (inl at) = absurd at
 among_append x [] ys (inr at) = at
 among_append x (y ∷ xs) ys (inl (inl same)) = inl same

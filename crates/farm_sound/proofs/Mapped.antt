@@ -7,6 +7,7 @@ use Rattle.std.specs.Option.{option_map}
 use Rattle.std.specs.Ordering.{nat_cmp}
 use Rattle.std.specs.Str.{bytes_eq}
 use Rattle.std.proofs.lemmas.List.{length-map}
+use Rattle.farm_types.specs.Limits.{most_boards, most_boards_of_type, most_jobs, most_reservations}
 use Rattle.farm_types.specs.Farm.{Farm, board_of, res_of}
 use Rattle.farm_types.specs.Sound.{IsBoardRow, IsJobRow, IsResRow, IsSteady}
 use Rattle.farm_types.specs.Table.{board_cmp, job_cmp, res_cmp}
@@ -100,12 +101,12 @@ module _ (F : Farm) (fb : BoardRow → BoardRow) (fj : JobRow → JobRow) (fr : 
             (AllByRecursion-both PR (IsResRow F) F.reservations maps.reservations steady.reservations));
         kept = steady.kept;
         few_types = steady.few_types;
-        few_boards = subst (λ l. length l ≤ 256) (sym bs) (rw length-map steady.few_boards);
-        few_of_kind = λ kind. subst (λ l. length (filter (λ (b : BoardRow). bytes_eq b.kind kind) l) ≤ 64) (sym bs)
+        few_boards = subst (λ l. length l ≤ most_boards) (sym bs) (rw length-map steady.few_boards);
+        few_of_kind = λ kind. subst (λ l. length (filter (λ (b : BoardRow). bytes_eq b.kind kind) l) ≤ most_boards_of_type) (sym bs)
             (rw (count_map (λ (b : BoardRow). bytes_eq b.kind kind) fb (λ r. ap (λ n. bytes_eq n kind) (maps.board_kind r)) F.boards)
             (steady.few_of_kind kind));
-        few_jobs = subst (λ l. length l ≤ 100000) (sym js) (rw length-map steady.few_jobs);
-        few_reservations = subst (λ l. length l ≤ 100000) (sym rs) (rw length-map steady.few_reservations);
+        few_jobs = subst (λ l. length l ≤ most_jobs) (sym js) (rw length-map steady.few_jobs);
+        few_reservations = subst (λ l. length l ≤ most_reservations) (sym rs) (rw length-map steady.few_reservations);
         few_kept = steady.few_kept;
         clock = steady.clock;
         count = steady.count;

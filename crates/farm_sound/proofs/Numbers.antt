@@ -4,7 +4,8 @@ use Rattle.std.specs.Cmp.{IsTotalOrder, on_total, then_total}
 use Rattle.std.specs.Cmp.Lexicographic.{nat_list_cmp_total}
 use Rattle.std.specs.List.{AllByRecursion}
 use Rattle.std.specs.List.Sorted.{IsStrictlySortedBy}
-use Rattle.farm_types.specs.Farm.{Farm, board_of, empty, put_kept}
+use Rattle.farm_types.specs.Limits.{last_moment, most_commands, most_replies}
+use Rattle.farm_types.specs.Farm.{Farm, board_of, empty_farm, put_kept}
 use Rattle.farm_types.specs.Sound.{Hold, IsKeptRow, IsSound, hold_of}
 use Rattle.farm_types.specs.Table.{kept_cmp, put}
 use Rattle.farm_types.specs.declared.rows.Holder.{Holder}
@@ -15,7 +16,7 @@ use Rattle.farm_sound.proofs.Grow.{Grows, IsBoardRow-grows, IsJobRow-grows, IsRe
 
 -- ---- the empty farm
 
-pub IsSound-empty : IsSound empty
+pub IsSound-empty : IsSound empty_farm
 unfolding IsStrictlySortedBy
 IsSound-empty = record {
   steady = record {
@@ -44,14 +45,14 @@ IsSound-empty = record {
   collecting = record { only = tt; several = λ low. absurd (omega arith); waits = λ low. tt };
 }
   where
-    rows : (h : Holder) (x : Hold) → hold_of empty h ≡ Some x → IsSomeAnd (board_of empty x.board) (λ b. b.holder ≡ h)
+    rows : (h : Holder) (x : Hold) → hold_of empty_farm h ≡ Some x → IsSomeAnd (board_of empty_farm x.board) (λ b. b.holder ≡ h)
     rows Holder.Nobody x is = cc
     rows (Holder.Job n) x is = cc
     rows (Holder.Res n) x is = cc
 
 -- ---- the clock
 
-pub IsSound-moved : (F : Farm) (t : ℕ) → F.clock ≤ t → t ≤ 250000000000 → IsSound F → IsSound (record F { clock = t })
+pub IsSound-moved : (F : Farm) (t : ℕ) → F.clock ≤ t → t ≤ last_moment → IsSound F → IsSound (record F { clock = t })
 IsSound-moved F t later low sound =
     let G : Farm = record F { clock = t } in
     let steady = sound.steady in
@@ -101,7 +102,7 @@ pub kept_total : IsTotalOrder kept_cmp
 kept_total = then_total (on_total (λ (r : KeptRow). r.caller) nat_list_cmp_total) (on_total (λ (r : KeptRow). r.key) nat_list_cmp_total)
 
 IsSound-noted : (F : Farm) (kept : List KeptRow) (n : ℕ) → IsStrictlySortedBy kept_cmp kept → AllByRecursion IsKeptRow kept
-    → length kept ≤ 300000 → n ≤ 9000000000000000000 → IsSound F → IsSound (record F { kept = kept; count = n })
+    → length kept ≤ most_replies → n ≤ most_commands → IsSound F → IsSound (record F { kept = kept; count = n })
 IsSound-noted F kept n sorted rows few low sound =
     let G : Farm = record F { kept = kept; count = n } in
     let steady = sound.steady in
@@ -145,11 +146,11 @@ IsSound-noted F kept n sorted rows few low sound =
     same (Holder.Job n) = refl
     same (Holder.Res n) = refl
 
-pub IsSound-put_kept : (F : Farm) (row : KeptRow) → IsKeptRow row → length F.kept < 300000 → IsSound F → IsSound (put_kept F row)
+pub IsSound-put_kept : (F : Farm) (row : KeptRow) → IsKeptRow row → length F.kept < most_replies → IsSound F → IsSound (put_kept F row)
 IsSound-put_kept F row is room sound =
     IsSound-noted F (put kept_cmp F.kept row) F.count (put_sorted kept_cmp kept_total row F.kept sound.steady.kept_sorted)
     (AllByRecursion-put kept_cmp kept_total row IsKeptRow is F.kept sound.steady.kept)
     (omega (arith, length_put kept_cmp kept_total row F.kept)) sound.steady.count sound
 
-pub IsSound-counted : (F : Farm) (n : ℕ) → n ≤ 9000000000000000000 → IsSound F → IsSound (record F { count = n })
+pub IsSound-counted : (F : Farm) (n : ℕ) → n ≤ most_commands → IsSound F → IsSound (record F { count = n })
 IsSound-counted F n low sound = IsSound-noted F F.kept n sound.steady.kept_sorted sound.steady.kept sound.steady.few_kept low sound

@@ -10,9 +10,9 @@ use Rattle.std.specs.declared.cmp.Ordering.TheVariants.{Less}
 use Rattle.std.proofs.lemmas.Cmp.{ranked}
 use Rattle.std.proofs.lemmas.Slice.Eq.{bytes_eq-Decides}
 use Rattle.farm_types.specs.Farm.{Farm, board_of, job_of, res_of}
-use Rattle.farm_types.specs.Pass.{held}
-use Rattle.farm_types.specs.Pick.{Among}
-use Rattle.farm_types.specs.Sound.{EachTwo, Hold, IsBoardOf, IsHeldBy, IsHeldByKeys, IsHeldOnce, IsJobRow, IsResRow, IsSteady, hold, hold_of, holds, job_gives, job_hold, no_hold, res_gives, res_hold, shown}
+use Rattle.farm_types.specs.Pass.{held_board}
+use Rattle.farm_types.specs.Pick.{IsAmong}
+use Rattle.farm_types.specs.Sound.{EachTwo, Hold, IsBoardOf, IsHeldBy, IsHeldByKeys, IsHeldOnce, IsJobRow, IsResRow, IsSteady, hold, hold_of, holds, job_gives, job_hold, no_hold, res_gives, res_hold, shown_hold}
 use Rattle.farm_types.specs.Table.{job_cmp, res_cmp}
 use Rattle.farm_types.specs.declared.rows.BoardRow.{BoardRow}
 use Rattle.farm_types.specs.declared.rows.Holder.{Holder}
@@ -47,47 +47,47 @@ filter_map_two {R = R} {S = S} cmp f P two (r ∷ rows) sorted = by (f r) refl (
     by None is rest = rest
     by (Some x) is rest = (filter_map_all f (P x) rows (AllByRecursion-weaker (λ b less y. two r b x y less is) rows sorted.0), rest)
 
-among_found : {A : Type 0} (test : A → Bool) (x : A) (xs : List A) → find test xs ≡ Some x → Among x xs
+among_found : {A : Type 0} (test : A → Bool) (x : A) (xs : List A) → find test xs ≡ Some x → IsAmong x xs
 among_found test x [] is = cc
 among_found test x (y ∷ ys) is = by (test y) is (among_found test x ys)
   where
-    by : (v : Bool) → cond v (Some y) (find test ys) ≡ Some x → (find test ys ≡ Some x → Among x ys) → Among x (y ∷ ys)
+    by : (v : Bool) → cond v (Some y) (find test ys) ≡ Some x → (find test ys ≡ Some x → IsAmong x ys) → IsAmong x (y ∷ ys)
     by true is rest = let e : y ≡ x = cc in inl (sym e)
     by false is rest = inr (rest is)
 
-among_filter_map : {R S : Type 0} (f : R → Option S) (r : R) (x : S) (rows : List R) → Among r rows → f r ≡ Some x → Among x (filter_map f rows)
+among_filter_map : {R S : Type 0} (f : R → Option S) (r : R) (x : S) (rows : List R) → IsAmong r rows → f r ≡ Some x → IsAmong x (filter_map f rows)
 among_filter_map f r x [] at is = absurd at
 among_filter_map {S = S} f r x (q ∷ rows) (inl same) is = by (f q) (ap f (sym same) ∙ is)
   where
-    by : (o : Option S) → o ≡ Some x → Among x (cons_option o (filter_map f rows))
+    by : (o : Option S) → o ≡ Some x → IsAmong x (cons_option o (filter_map f rows))
     by None is = cc
     by (Some y) is = let e : y ≡ x = cc in inl (sym e)
 among_filter_map {S = S} f r x (q ∷ rows) (inr at) is = by (f q) (among_filter_map f r x rows at is)
   where
-    by : (o : Option S) → Among x (filter_map f rows) → Among x (cons_option o (filter_map f rows))
+    by : (o : Option S) → IsAmong x (filter_map f rows) → IsAmong x (cons_option o (filter_map f rows))
     by None at = at
     by (Some y) at = inr at
 
-among_join_left : {A : Type 0} (x : A) (xs ys : List A) → Among x xs → Among x (xs ++ ys)
+among_join_left : {A : Type 0} (x : A) (xs ys : List A) → IsAmong x xs → IsAmong x (xs ++ ys)
 among_join_left x [] ys at = absurd at
 among_join_left x (y ∷ xs) ys (inl same) = inl same
 among_join_left x (y ∷ xs) ys (inr at) = inr (among_join_left x xs ys at)
 
-among_join_right : {A : Type 0} (x : A) (xs ys : List A) → Among x ys → Among x (xs ++ ys)
+among_join_right : {A : Type 0} (x : A) (xs ys : List A) → IsAmong x ys → IsAmong x (xs ++ ys)
 among_join_right x [] ys at = at
 among_join_right x (y ∷ xs) ys at = inr (among_join_right x xs ys at)
 
-among_none : {A : Type 0} (test : A → Bool) (x : A) (xs : List A) → Among x xs → test x ≡ true → find test xs ≡ None → ⊥
+among_none : {A : Type 0} (test : A → Bool) (x : A) (xs : List A) → IsAmong x xs → test x ≡ true → find test xs ≡ None → ⊥
 among_none test x [] at passes none = at
 among_none test x (y ∷ ys) at passes none = by (test y) refl none at (among_none test x ys)
   where
-    by : (v : Bool) → test y ≡ v → cond v (Some y) (find test ys) ≡ None → Among x (y ∷ ys) → (Among x ys → test x ≡ true → find test ys ≡ None → ⊥) → ⊥
+    by : (v : Bool) → test y ≡ v → cond v (Some y) (find test ys) ≡ None → IsAmong x (y ∷ ys) → (IsAmong x ys → test x ≡ true → find test ys ≡ None → ⊥) → ⊥
     by true is none at rest = cc
     by false is none (inl same) rest = false≢true (sym is ∙ ap test (sym same) ∙ passes)
     by false is none (inr later) rest = rest later passes none
 
 -- two of a list that stand to each other in no way are one
-two_same : {S : Type 0} (key : S → List ℕ) (x y : S) (xs : List S) → EachTwo (λ a b. key a ≢ key b) xs → Among x xs → Among y xs → key x ≡ key y → x ≡ y
+two_same : {S : Type 0} (key : S → List ℕ) (x y : S) (xs : List S) → EachTwo (λ a b. key a ≢ key b) xs → IsAmong x xs → IsAmong y xs → key x ≡ key y → x ≡ y
 two_same key x y [] two ax ay same = absurd ax
 two_same key x y (z ∷ xs) two (inl p) (inl q) same = p ∙ sym q
 two_same key x y (z ∷ xs) two (inl p) (inr q) same = absurd (among_has (λ b. key z ≢ key b) y xs two.0 q (ap key (sym p) ∙ same))
@@ -137,17 +137,17 @@ module _ (F : Farm) (steady : IsSteady F) where
       F.reservations (own_res F steady))) F.jobs (own_job F steady)))
 
   -- what is held is in the list
-  among_holds : (h : Holder) (x : Hold) → hold_of F h ≡ Some x → Among x (holds F)
+  among_holds : (h : Holder) (x : Hold) → hold_of F h ≡ Some x → IsAmong x (holds F)
   among_holds Holder.Nobody x is = cc
   among_holds (Holder.Job n) x is = by (job_of F n) refl is
     where
-      by : (o : Option JobRow) → job_of F n ≡ o → option_map_or job_hold o None ≡ Some x → Among x (holds F)
+      by : (o : Option JobRow) → job_of F n ≡ o → option_map_or job_hold o None ≡ Some x → IsAmong x (holds F)
       by None there is = cc
       by (Some j) there is = among_join_left x (filter_map job_hold F.jobs) (filter_map res_hold F.reservations)
           (among_filter_map job_hold j x F.jobs (among_found (λ r. r.number == n) j F.jobs there) is)
   among_holds (Holder.Res n) x is = by (res_of F n) refl is
     where
-      by : (o : Option ResRow) → res_of F n ≡ o → option_map_or res_hold o None ≡ Some x → Among x (holds F)
+      by : (o : Option ResRow) → res_of F n ≡ o → option_map_or res_hold o None ≡ Some x → IsAmong x (holds F)
       by None there is = cc
       by (Some r) there is = among_join_right x (filter_map job_hold F.jobs) (filter_map res_hold F.reservations)
           (among_filter_map res_hold r x F.reservations (among_found (λ q. q.number == n) r F.reservations there) is)
@@ -156,12 +156,12 @@ module _ (F : Farm) (steady : IsSteady F) where
 
   -- the holder of a held board is its row
   holder_by_keys : IsHeldByKeys F → (x : Hold) → hold_of F x.holder ≡ Some x → (b : BoardRow) → board_of F x.board ≡ Some b → b.holder ≡ x.holder
-  holder_by_keys held x own b there = rw there at (held.rows x.holder x own)
+  holder_by_keys held_board x own b there = rw there at (held_board.rows x.holder x own)
 
   one_holder : IsHeldByKeys F → (x y : Hold) → hold_of F x.holder ≡ Some x → hold_of F y.holder ≡ Some y → x.board ≡ y.board → x.holder ≡ y.holder
-  one_holder held x y ox oy same =
-      by (board_of F x.board) refl (held.rows x.holder x ox)
-      (subst (λ n. IsSomeAnd (board_of F n) (λ b. b.holder ≡ y.holder)) (sym same) (held.rows y.holder y oy))
+  one_holder held_board x y ox oy same =
+      by (board_of F x.board) refl (held_board.rows x.holder x ox)
+      (subst (λ n. IsSomeAnd (board_of F n) (λ b. b.holder ≡ y.holder)) (sym same) (held_board.rows y.holder y oy))
     where
       by : (o : Option BoardRow) → board_of F x.board ≡ o → IsSomeAnd o (λ b. b.holder ≡ x.holder) → IsSomeAnd o (λ b. b.holder ≡ y.holder)
           → x.holder ≡ y.holder
@@ -169,39 +169,39 @@ module _ (F : Farm) (steady : IsSteady F) where
       by (Some b) there hx hy = sym hx ∙ hy
 
   told_by_keys : IsHeldByKeys F → (b : BoardRow) → board_of F b.name ≡ Some b → IsHeldBy F b b.holder
-      → shown b ≡ unwrap_or (find (λ h. bytes_eq h.board b.name) (holds F)) (no_hold b.name)
-  told_by_keys held b own told = by (find (λ h. bytes_eq h.board b.name) (holds F)) refl
+      → shown_hold b ≡ unwrap_or (find (λ h. bytes_eq h.board b.name) (holds F)) (no_hold b.name)
+  told_by_keys held_board b own told = by (find (λ h. bytes_eq h.board b.name) (holds F)) refl
     where
-      none : (h : Holder) → b.holder ≡ h → IsHeldBy F b h → find (λ x. bytes_eq x.board b.name) (holds F) ≡ None → shown b ≡ no_hold b.name
+      none : (h : Holder) → b.holder ≡ h → IsHeldBy F b h → find (λ x. bytes_eq x.board b.name) (holds F) ≡ None → shown_hold b ≡ no_hold b.name
       none Holder.Nobody at told is = λ i. record { board = b.name; holder = at i; state = told i }
       none (Holder.Job n) at told is =
-          absurd (among_none (λ x. bytes_eq x.board b.name) (shown b) (holds F) (among_holds (Holder.Job n) (shown b) told) (text_itself b.name) is)
+          absurd (among_none (λ x. bytes_eq x.board b.name) (shown_hold b) (holds F) (among_holds (Holder.Job n) (shown_hold b) told) (text_itself b.name) is)
       none (Holder.Res n) at told is =
-          absurd (among_none (λ x. bytes_eq x.board b.name) (shown b) (holds F) (among_holds (Holder.Res n) (shown b) told) (text_itself b.name) is)
+          absurd (among_none (λ x. bytes_eq x.board b.name) (shown_hold b) (holds F) (among_holds (Holder.Res n) (shown_hold b) told) (text_itself b.name) is)
 
-      by : (o : Option Hold) → find (λ h. bytes_eq h.board b.name) (holds F) ≡ o → shown b ≡ unwrap_or o (no_hold b.name)
+      by : (o : Option Hold) → find (λ h. bytes_eq h.board b.name) (holds F) ≡ o → shown_hold b ≡ unwrap_or o (no_hold b.name)
       by None is = none b.holder refl told is
       by (Some x) is =
           let ox : hold_of F x.holder ≡ Some x = found_has (λ y. hold_of F y.holder ≡ Some y) (λ y. bytes_eq y.board b.name) x (holds F) own_holds is in
           let at : x.board ≡ b.name = (bytes_eq-Decides x.board b.name).0 (found_passes (λ (y : Hold). bytes_eq y.board b.name) x (holds F) is) in
-          let mine : b.holder ≡ x.holder = holder_by_keys held x ox b (ap (board_of F) at ∙ own) in
+          let mine : b.holder ≡ x.holder = holder_by_keys held_board x ox b (ap (board_of F) at ∙ own) in
           sym (held_is F b b.holder x told (ap (hold_of F) mine ∙ ox))
 
   pub IsHeldOnce-from_keys : IsHeldByKeys F → IsHeldOnce F
-  IsHeldOnce-from_keys held = record {
+  IsHeldOnce-from_keys held_board = record {
     once = each_weaker (λ x y. (x.holder ≢ y.holder) × (hold_of F x.holder ≡ Some x) × (hold_of F y.holder ≡ Some y)) (λ x y. x.board ≢ y.board)
-        (λ x y three same. three.0 (one_holder held x y three.1 three.2 same)) (holds F)
+        (λ x y three same. three.0 (one_holder held_board x y three.1 three.2 same)) (holds F)
         (each_with (λ x y. x.holder ≢ y.holder) (λ x. hold_of F x.holder ≡ Some x) (holds F) two_holders own_holds);
-    told = AllByRecursion-weaker (λ b two. told_by_keys held b two.0 two.1) F.boards
-        (AllByRecursion-both (λ b. board_of F b.name ≡ Some b) (λ b. IsHeldBy F b b.holder) F.boards (own_board F steady) held.boards);
+    told = AllByRecursion-weaker (λ b two. told_by_keys held_board b two.0 two.1) F.boards
+        (AllByRecursion-both (λ b. board_of F b.name ≡ Some b) (λ b. IsHeldBy F b b.holder) F.boards (own_board F steady) held_board.boards);
   }
 
   -- ---- once, so by keys
 
-  keys_told : (b : BoardRow) → shown b ≡ unwrap_or (find (λ h. bytes_eq h.board b.name) (holds F)) (no_hold b.name) → IsHeldBy F b b.holder
+  keys_told : (b : BoardRow) → shown_hold b ≡ unwrap_or (find (λ h. bytes_eq h.board b.name) (holds F)) (no_hold b.name) → IsHeldBy F b b.holder
   keys_told b told = by (find (λ h. bytes_eq h.board b.name) (holds F)) refl told
     where
-      by : (o : Option Hold) → find (λ h. bytes_eq h.board b.name) (holds F) ≡ o → shown b ≡ unwrap_or o (no_hold b.name) → IsHeldBy F b b.holder
+      by : (o : Option Hold) → find (λ h. bytes_eq h.board b.name) (holds F) ≡ o → shown_hold b ≡ unwrap_or o (no_hold b.name) → IsHeldBy F b b.holder
       by None is told = subst (IsHeldBy F b) (sym (ap (λ (x : Hold). x.holder) told)) (ap (λ (x : Hold). x.state) told)
       by (Some x) is told =
           let ox : hold_of F x.holder ≡ Some x = found_has (λ y. hold_of F y.holder ≡ Some y) (λ y. bytes_eq y.board b.name) x (holds F) own_holds is in
@@ -230,15 +230,15 @@ module _ (F : Farm) (steady : IsSteady F) where
           (found_has (IsResRow F) (λ q. q.number == n) r F.reservations steady.reservations there).board
 
   keys_rows : IsHeldOnce F → (h : Holder) (x : Hold) → hold_of F h ≡ Some x → x.holder ≡ h → IsSomeAnd (board_of F x.board) (λ b. b.holder ≡ h)
-  keys_rows held h x is mine = by (board_of F x.board) refl (board_there h x is)
+  keys_rows held_board h x is mine = by (board_of F x.board) refl (board_there h x is)
     where
       found : (b : BoardRow) → b.name ≡ x.board → (o : Option Hold) → find (λ y. bytes_eq y.board b.name) (holds F) ≡ o
-          → shown b ≡ unwrap_or o (no_hold b.name) → b.holder ≡ h
+          → shown_hold b ≡ unwrap_or o (no_hold b.name) → b.holder ≡ h
       found b named None none told =
           absurd (among_none (λ y. bytes_eq y.board b.name) x (holds F) (among_holds h x is) ((bytes_eq-Decides x.board b.name).1 (sym named)) none)
       found b named (Some y) at told =
           let same : y.board ≡ x.board = (bytes_eq-Decides y.board b.name).0 (found_passes (λ (z : Hold). bytes_eq z.board b.name) y (holds F) at) ∙ named in
-          let e : y ≡ x = two_same (λ z. z.board) y x (holds F) held.once (among_found (λ z. bytes_eq z.board b.name) y (holds F) at)
+          let e : y ≡ x = two_same (λ z. z.board) y x (holds F) held_board.once (among_found (λ z. bytes_eq z.board b.name) y (holds F) at)
           (among_holds h x is) same in
           ap (λ (z : Hold). z.holder) (told ∙ e) ∙ mine
 
@@ -247,11 +247,11 @@ module _ (F : Farm) (steady : IsSteady F) where
       by (Some b) there some =
           found b ((bytes_eq-Decides b.name x.board).0 (found_passes (λ (c : BoardRow). bytes_eq c.name x.board) b F.boards there))
           (find (λ y. bytes_eq y.board b.name) (holds F)) refl
-          (found_has (λ b. shown b ≡ unwrap_or (find (λ h. bytes_eq h.board b.name) (holds F)) (no_hold b.name))
-          (λ c. bytes_eq c.name x.board) b F.boards held.told there)
+          (found_has (λ b. shown_hold b ≡ unwrap_or (find (λ h. bytes_eq h.board b.name) (holds F)) (no_hold b.name))
+          (λ c. bytes_eq c.name x.board) b F.boards held_board.told there)
 
   pub IsHeldByKeys-from_once : IsHeldOnce F → IsHeldByKeys F
-  IsHeldByKeys-from_once held = record {
-    boards = AllByRecursion-weaker keys_told F.boards held.told;
-    rows = λ h x is. keys_rows held h x is (holder_is F h x is);
+  IsHeldByKeys-from_once held_board = record {
+    boards = AllByRecursion-weaker keys_told F.boards held_board.told;
+    rows = λ h x is. keys_rows held_board h x is (holder_is F h x is);
   }

@@ -6,8 +6,8 @@ use Rattle.std.specs.Option.{option_map, option_map_or}
 use Rattle.std.specs.Str.{bytes_eq}
 use Rattle.farm_types.specs.Change.{keep}
 use Rattle.farm_types.specs.Farm.{Farm, job_of, members, res_of}
-use Rattle.farm_types.specs.Pass.{Served, allocated, back, check_job, check_one, checks, expire, give, give_group, give_res, has_room, held, is_due, is_group, pass_over, serve, serve_all, taken}
-use Rattle.farm_types.specs.Pick.{Among, Claimed, claims, is_free, is_waiting, leads_claim, least, queue, waits}
+use Rattle.farm_types.specs.Pass.{Served, allocated_reservation, giving_back, check_job, check_one, checks, expire, give, give_group, give_res, has_room, held_board, is_due, is_group, pass_over, serve, serve_all, claims_taken}
+use Rattle.farm_types.specs.Pick.{IsAmong, Claimed, claims, is_free, is_waiting, leads_claim, least, queue, waits}
 use Rattle.farm_types.specs.Sound.{IsSound, phase}
 use Rattle.farm_types.specs.Table.{change_where, job_cmp, put}
 use Rattle.farm_types.specs.declared.rows.BoardRow.{BoardRow}
@@ -50,13 +50,13 @@ numbers_differ c d other same = true≢false (sym (itself d.number) ∙ ap (λ (
 
 -- the one that waits afterwards is another
 waits_still : (r : ResRow) (name : List ℕ) (t : ℕ) (o : Option ResRow) (q : ResRow)
-    → option_map (λ k. cond (k.number == r.number) (allocated name t k) k) o ≡ Some q → is_waiting q ≡ true
+    → option_map (λ k. cond (k.number == r.number) (allocated_reservation name t k) k) o ≡ Some q → is_waiting q ≡ true
     → (o ≡ Some q) × ((q.number == r.number) ≡ false)
 waits_still r name t None q is waits = cc
 waits_still r name t (Some k) q is waits = by (k.number == r.number) refl is
   where
-    by : (v : Bool) → (k.number == r.number) ≡ v → Some (cond v (allocated name t k) k) ≡ Some q → (Some k ≡ Some q) × ((q.number == r.number) ≡ false)
-    by true at is = let same : allocated name t k ≡ q = cc in absurd (false≢true (ap is_waiting same ∙ waits))
+    by : (v : Bool) → (k.number == r.number) ≡ v → Some (cond v (allocated_reservation name t k) k) ≡ Some q → (Some k ≡ Some q) × ((q.number == r.number) ≡ false)
+    by true at is = let same : allocated_reservation name t k ≡ q = cc in absurd (false≢true (ap is_waiting same ∙ waits))
     by false at is = let same : k ≡ q = cc in (is, ap (λ (x : ResRow). x.number == r.number) (sym same) ∙ at)
 
 old_of_res : (F : Farm) (c d : Claimed) (r : ResRow) (bs : List BoardRow) (t : ℕ) → IsResClaim F c r → AllByRecursion (IsFreeBoard F) bs → length bs ≡ 1
@@ -146,7 +146,7 @@ IsOld-give F c d bs t (inr (j, is)) found sound later =
 
 -- a claim finds no free boards, or is still to come
 abbrev IsLeft : Farm → List Claimed → Claimed → Type 0
-IsLeft F cs d = IsUnmet F d.wants ⊎ Among d cs
+IsLeft F cs d = IsUnmet F d.wants ⊎ IsAmong d cs
 
 left_unserved : (F G : Farm) (c d : Claimed) (cs : List Claimed) → ((wants : List Want) → IsUnmet F wants → IsUnmet G wants) → IsUnmet F c.wants
     → IsLeft F (c ∷ cs) d → IsLeft G cs d
@@ -216,26 +216,26 @@ served t (c ∷ cs) s is =
     by (Some bs) is unserved served = served bs is
 
 -- a claim of the queue is among those that are taken
-among_passing : (keep : Claimed → Bool) (d : Claimed) (xs : List Claimed) → Among d xs → keep d ≡ true → Among d (filter keep xs)
+among_passing : (keep : Claimed → Bool) (d : Claimed) (xs : List Claimed) → IsAmong d xs → keep d ≡ true → IsAmong d (filter keep xs)
 among_passing keep d [] at so = absurd at
 among_passing keep d (x ∷ xs) at so = here at (keep x) refl (λ later. among_passing keep d xs later so)
   where
-    here : Among d (x ∷ xs) → (v : Bool) → keep x ≡ v → (Among d xs → Among d (filter keep xs)) → Among d (cond v (x ∷ filter keep xs) (filter keep xs))
+    here : IsAmong d (x ∷ xs) → (v : Bool) → keep x ≡ v → (IsAmong d xs → IsAmong d (filter keep xs)) → IsAmong d (cond v (x ∷ filter keep xs) (filter keep xs))
     here (inl same) true is rest = inl same
     here (inl same) false is rest = absurd (true≢false (sym so ∙ ap keep same ∙ is))
     here (inr later) true is rest = inr (rest later)
     here (inr later) false is rest = rest later
 
-among_split : (test : Claimed → Bool) (d : Claimed) (cs : List Claimed) → Among d cs → Among d (filter test cs ++ filter (λ c. not (test c)) cs)
+among_split : (test : Claimed → Bool) (d : Claimed) (cs : List Claimed) → IsAmong d cs → IsAmong d (filter test cs ++ filter (λ c. not (test c)) cs)
 among_split test d cs at = by (test d) refl
   where
-    by : (v : Bool) → test d ≡ v → Among d (filter test cs ++ filter (λ c. not (test c)) cs)
+    by : (v : Bool) → test d ≡ v → IsAmong d (filter test cs ++ filter (λ c. not (test c)) cs)
     by true so = among_append d (filter test cs) (filter (λ c. not (test c)) cs) (inl (among_passing test d cs at so))
     by false so = among_append d (filter test cs) (filter (λ c. not (test c)) cs) (inr (among_passing (λ c. not (test c)) d cs at (ap not so)))
 
 pub all_served : (F : Farm) (group t : ℕ) → F.collector ≡ 0 → t ≤ F.clock → IsSound F → IsAllServed (serve_all F group t).farm
 all_served F group t none low sound =
-    served t (taken F group) (record { farm = F; claims = 0 })
+    served t (claims_taken F group) (record { farm = F; claims = 0 })
     (record {
       apart = taken_apart F group;
       coming = taken_open F group none sound;
@@ -254,29 +254,29 @@ check_collector (b ∷ bs) F = check_collector bs (check_one F b) ∙ one (has_r
   where
     one : (v : Bool) → (cond v (record F {
       jobs = put job_cmp F.jobs (check_job F.next b);
-      boards = change_where (λ c. bytes_eq c.name b.name) (held (Holder.Job F.next) State.Reserved) F.boards;
+      boards = change_where (λ c. bytes_eq c.name b.name) (held_board (Holder.Job F.next) State.Reserved) F.boards;
       next = F.next + 1;
     }) F).collector ≡ F.collector
     one true = refl
     one false = refl
 
-pub pass_leaves : (F : Farm) → IsSound F → IsAllServed (serve_all (checks (expire (back F) F.clock) F.clock) F.collector F.clock).farm
+pub pass_leaves : (F : Farm) → IsSound F → IsAllServed (serve_all (checks (expire (giving_back F) F.clock) F.clock) F.collector F.clock).farm
 pass_leaves F sound =
-    let expired : Farm = expire (back F) F.clock in
+    let expired : Farm = expire (giving_back F) F.clock in
     let due = filter (is_due expired F.clock) expired.boards in
     all_served (checks expired F.clock) F.collector F.clock (check_collector due expired) (omega (arith, check_clock due expired))
-    (IsSound-checks expired F.clock (IsSound-expire (back F) F.clock (IsSound-back F sound)))
+    (IsSound-checks expired F.clock (IsSound-expire (giving_back F) F.clock (IsSound-back F sound)))
 
-pub IsSound-pass : (F : Farm) → IsSound F → IsSound (serve_all (checks (expire (back F) F.clock) F.clock) F.collector F.clock).farm
+pub IsSound-pass : (F : Farm) → IsSound F → IsSound (serve_all (checks (expire (giving_back F) F.clock) F.clock) F.collector F.clock).farm
 IsSound-pass F sound = (pass_leaves F sound).sound
 
 -- the group that collects after a pass isn't met by the free boards and its own together
-pub pass_is_short : (F : Farm) → IsSound F → IsShort (serve_all (checks (expire (back F) F.clock) F.clock) F.collector F.clock).farm
+pub pass_is_short : (F : Farm) → IsSound F → IsShort (serve_all (checks (expire (giving_back F) F.clock) F.clock) F.collector F.clock).farm
 pass_is_short F sound = (pass_leaves F sound).short
 
 -- no claim of the farm after a pass is met by boards free in it
-pub pass_serves : (F : Farm) → IsSound F → IsServed (serve_all (checks (expire (back F) F.clock) F.clock) F.collector F.clock).farm
+pub pass_serves : (F : Farm) → IsSound F → IsServed (serve_all (checks (expire (giving_back F) F.clock) F.clock) F.collector F.clock).farm
 pass_serves F sound =
     let is = pass_leaves F sound in
-    let H : Farm = (serve_all (checks (expire (back F) F.clock) F.clock) F.collector F.clock).farm in
+    let H : Farm = (serve_all (checks (expire (giving_back F) F.clock) F.clock) F.collector F.clock).farm in
     AllByRecursion-weaker is.unmet (claims H) (all_claims H is.sound.steady)

@@ -10,7 +10,7 @@ use Rattle.std.specs.declared.cmp.Ordering.TheVariants.{Equal, Greater, Less}
 use Rattle.std.proofs.lemmas.Cmp.{ranked}
 use Rattle.std.proofs.lemmas.List.Sorted.{IsPermutation-append_right, IsPermutation-cons, IsPermutation-middle, IsPermutation-refl, IsPermutation-sym, IsPermutation-trans}
 use Rattle.farm_types.specs.Farm.{Farm, res_of}
-use Rattle.farm_types.specs.Pick.{Among, Claimed, claim_cmp, claims, group_claim, is_waiting, leads_claim, queue, res_claim}
+use Rattle.farm_types.specs.Pick.{IsAmong, Claimed, claim_cmp, claims, group_claim, is_waiting, leads_claim, queue, res_claim}
 use Rattle.farm_types.specs.Sound.{EachTwo, IsJobRow, IsSteady}
 use Rattle.farm_types.specs.Table.{job_cmp, put, put_all, res_cmp}
 use Rattle.farm_types.specs.declared.rows.JobRow.{JobRow}
@@ -43,12 +43,12 @@ module _ {R : Type 0} (cmp : R → R → Ordering) (total : IsTotalOrder cmp) wh
           (IsPermutation-sym (r ∷ row ∷ rows) (row ∷ r ∷ rows) (IsPermutation-middle (r ∷ []) row rows))
           (IsPermutation-cons r (row ∷ rows) (put cmp rows row) rest)
 
-  among_put : (x row : R) (rows : List R) → AllByRecursion (IsApart row) rows → Among x (row ∷ rows) → Among x (put cmp rows row)
+  among_put : (x row : R) (rows : List R) → AllByRecursion (IsApart row) rows → IsAmong x (row ∷ rows) → IsAmong x (put cmp rows row)
   among_put x row [] apart at = at
   among_put x row (r ∷ rows) apart at = by (among_put x row rows apart.1) (cmp row r) refl at
     where
-      by : (Among x (row ∷ rows) → Among x (put cmp rows row)) → (o : Ordering) → cmp row r ≡ o → Among x (row ∷ r ∷ rows)
-          → Among x (match_ordering o (row ∷ r ∷ rows) (row ∷ rows) (r ∷ put cmp rows row))
+      by : (IsAmong x (row ∷ rows) → IsAmong x (put cmp rows row)) → (o : Ordering) → cmp row r ≡ o → IsAmong x (row ∷ r ∷ rows)
+          → IsAmong x (match_ordering o (row ∷ r ∷ rows) (row ∷ rows) (r ∷ put cmp rows row))
       by rest Less is at = at
       by rest Equal is at = absurd (apart.0 is)
       by rest Greater is (inl same) = inr (rest (inl same))
@@ -73,13 +73,13 @@ module _ {R : Type 0} (cmp : R → R → Ordering) (total : IsTotalOrder cmp) wh
       (put_all_permutes changed (put cmp rows c) each.1 (still_apart c changed rows each.0 apart.1)))
 
   pub among_put_all : (x : R) (changed rows : List R) → EachTwo IsApart changed → AllByRecursion (λ c. AllByRecursion (IsApart c) rows) changed
-      → Among x changed ⊎ Among x rows → Among x (put_all cmp rows changed)
+      → IsAmong x changed ⊎ IsAmong x rows → IsAmong x (put_all cmp rows changed)
   among_put_all x [] rows each apart (inl at) = absurd at
   among_put_all x [] rows each apart (inr at) = at
   among_put_all x (c ∷ changed) rows each apart at =
       among_put_all x changed (put cmp rows c) each.1 (still_apart c changed rows each.0 apart.1) (by at)
     where
-      by : Among x (c ∷ changed) ⊎ Among x rows → Among x changed ⊎ Among x (put cmp rows c)
+      by : IsAmong x (c ∷ changed) ⊎ IsAmong x rows → IsAmong x changed ⊎ IsAmong x (put cmp rows c)
       by (inl (inl same)) = inr (among_put x c rows apart.0 (inl same))
       by (inl (inr later)) = inl later
       by (inr there) = inr (among_put x c rows apart.0 (inr there))
@@ -148,27 +148,27 @@ module _ (F : Farm) (steady : IsSteady F) where
   -- ---- each claim stands in the queue
 
   among_filter : {A B : Type 0} (find_test test : A → Bool) (f : A → B) (x : A) (xs : List A) → find find_test xs ≡ Some x → test x ≡ true
-      → Among (f x) (map f (filter test xs))
+      → IsAmong (f x) (map f (filter test xs))
   among_filter find_test test f x [] there passes = cc
   among_filter find_test test f x (y ∷ xs) there passes = by (find_test y) there (test y) refl (λ later. among_filter find_test test f x xs later passes)
     where
       by : (v : Bool) → cond v (Some y) (find find_test xs) ≡ Some x → (w : Bool) → test y ≡ w
-          → (find find_test xs ≡ Some x → Among (f x) (map f (filter test xs)))
-          → Among (f x) (map f (cond w (y ∷ filter test xs) (filter test xs)))
+          → (find find_test xs ≡ Some x → IsAmong (f x) (map f (filter test xs)))
+          → IsAmong (f x) (map f (cond w (y ∷ filter test xs) (filter test xs)))
       by true is true here rest = let same : y ≡ x = cc in inl (ap f (sym same))
       by true is false here rest = let same : y ≡ x = cc in absurd (true≢false (sym passes ∙ ap test (sym same) ∙ here))
       by false is true here rest = inr (rest is)
       by false is false here rest = rest is
 
-  among_claims : (d : Claimed) → IsClaim F d → Among d (claims F)
+  among_claims : (d : Claimed) → IsClaim F d → IsAmong d (claims F)
   among_claims d (inl (r, is)) =
-      subst (λ e. Among e (claims F)) (sym is.2)
+      subst (λ e. IsAmong e (claims F)) (sym is.2)
       (among_append (res_claim r) (map res_claim (filter is_waiting F.reservations)) (map (group_claim F) (filter (leads_claim F) F.jobs))
       (inl (among_filter (λ q. q.number == r.number) is_waiting res_claim r F.reservations is.0 is.1)))
   among_claims d (inr (j, is)) =
-      subst (λ e. Among e (claims F)) (sym is.2)
+      subst (λ e. IsAmong e (claims F)) (sym is.2)
       (among_append (group_claim F j) (map res_claim (filter is_waiting F.reservations)) (map (group_claim F) (filter (leads_claim F) F.jobs))
       (inr (among_filter (λ k. k.number == j.number) (leads_claim F) (group_claim F) j F.jobs is.0 is.1)))
 
-  pub among_queue : (d : Claimed) → IsClaim F d → Among d (queue F)
+  pub among_queue : (d : Claimed) → IsClaim F d → IsAmong d (queue F)
   among_queue d is = among_put_all claim_cmp claim_total d (claims F) [] claims_apart (none_before (claims F)) (inl (among_claims d is))

@@ -4,7 +4,7 @@ use Rattle.std.specs.List.{filter, fold, zip}
 use Rattle.std.specs.Option.{option_map_or}
 use Rattle.std.proofs.lemmas.List.{length-append, length-map}
 use Rattle.farm_types.specs.Farm.{Farm, members}
-use Rattle.farm_types.specs.Pass.{Served, checks, collect, give, give_group, give_member, give_res, is_due, is_group, may_collect, pass_over, serve, serve_all, taken}
+use Rattle.farm_types.specs.Pass.{Served, checks, collect, give, give_group, give_member, give_res, is_due, is_group, may_collect, pass_over, serve, serve_all, claims_taken}
 use Rattle.farm_types.specs.Pick.{Claimed, claim_cmp, claims, group_claim, is_free, is_waiting, leads_claim, least, queue, res_claim}
 use Rattle.farm_types.specs.Table.{put, put_all}
 use Rattle.farm_types.specs.declared.rows.BoardRow.{BoardRow}
@@ -54,7 +54,7 @@ split_length test (c ∷ cs) = by (test c) (split_length test cs)
 
 pub few_served : (F : Farm) (group t : ℕ) → (serve_all F group t).claims ≤ length F.reservations + length F.jobs
 few_served F group t =
-    omega (arith, served_few t (taken F group) (record { farm = F; claims = 0 }), split_length (is_group group) (queue F), few_claims F)
+    omega (arith, served_few t (claims_taken F group) (record { farm = F; claims = 0 }), split_length (is_group group) (queue F), few_claims F)
 
 -- ---- the kept replies stay
 
@@ -88,4 +88,4 @@ served_kept t (c ∷ cs) s = by (λ u. served_kept t cs u) (least s.farm.boards 
     by rest (Some bs) = rest (record { farm = give s.farm c bs t; claims = s.claims + 1 }) ∙ give_kept s.farm c bs t
 
 pub pass_kept : (F : Farm) (group t : ℕ) → (serve_all (checks F t) group t).farm.kept ≡ F.kept
-pass_kept F group t = served_kept t (taken (checks F t) group) (record { farm = checks F t; claims = 0 }) ∙ checks_kept (filter (is_due F t) F.boards) F
+pass_kept F group t = served_kept t (claims_taken (checks F t) group) (record { farm = checks F t; claims = 0 }) ∙ checks_kept (filter (is_due F t) F.boards) F

@@ -2,9 +2,10 @@
 use Rattle.std.proofs.Common.{◌+◌, ◌<◌, ◌==◌, ◌∙◌, ◌≡◌, ◌≤◌, Bool, IsSome, IsTrue, List, None, Some, ap, arith, length, refl, subst, sym, ℕ}
 use mathlib.Core.Bool.{false≢true}
 use Rattle.std.specs.List.{AllByRecursion}
+use Rattle.farm_types.specs.Limits.{most_reservations, numbers_end}
 use Rattle.farm_types.specs.Change.{in_state, new_res}
 use Rattle.farm_types.specs.Farm.{Farm, put_res}
-use Rattle.farm_types.specs.Pass.{change_res, expire, idle, is_dead}
+use Rattle.farm_types.specs.Pass.{change_res, expire, freed_board, is_dead}
 use Rattle.farm_types.specs.Proper.{is_priority}
 use Rattle.farm_types.specs.Sound.{IsSound, hold, res_gives, res_hold}
 use Rattle.farm_types.specs.Words.{IsName, IsTags}
@@ -20,7 +21,7 @@ use Rattle.farm_sound.proofs.Tests.{same_number}
 use Rattle.farm_sound.proofs.Where.{all_true}
 
 pub IsSound-reserve : (F : Farm) (caller : List ℕ) (priority : ℕ) (tags : List (List ℕ)) → IsName caller → IsTrue (is_priority priority) → IsTags tags
-    → length F.reservations < 100000 → F.next < 1000000000 → IsSound F
+    → length F.reservations < most_reservations → F.next < numbers_end → IsSound F
     → IsSound (record (put_res F (new_res F.next caller priority tags (F.clock + 60))) { next = F.next + 1 })
 IsSound-reserve F caller priority tags name prio words room numbers sound =
     let row = new_res F.next caller priority tags (F.clock + 60) in
@@ -46,9 +47,9 @@ IsSound-reserve F caller priority tags name prio words room numbers sound =
 
 -- a reservation lets its board go, if it has one
 let_go : (F : Farm) (test : ResRow → Bool) (s : ResState) → res_gives s ≡ None → (s ≡ ResState.Waiting → ⊥) → IsSound F
-    → IsSound (change_res test (λ r. record r { state = s }) idle F)
+    → IsSound (change_res test (λ r. record r { state = s }) freed_board F)
 let_go F test s gives ends sound =
-    IsSound-change_res F test (λ r. record r { state = s }) idle (λ r. Unit {0})
+    IsSound-change_res F test (λ r. record r { state = s }) freed_board (λ r. Unit {0})
     (record {
       reservations = all_true F.reservations;
       same = λ r. refl;
@@ -57,15 +58,15 @@ let_go F test s gives ends sound =
       board_kind = λ b. refl;
       board_row = λ b so is. board_row_in F b Holder.Nobody State.Idle (λ _. refl) is;
       none = λ r so p is. ap (hold (Holder.Res r.number) r.board) gives ∙ hold_nothing (Holder.Res r.number) r.board;
-      left = λ r b so p is. subst (λ o. IsLeft (hold (Holder.Res r.number) r.board o) (idle b)) (sym gives)
-          (left_off (Holder.Res r.number) r.board (idle b) refl refl);
+      left = λ r b so p is. subst (λ o. IsLeft (hold (Holder.Res r.number) r.board o) (freed_board b)) (sym gives)
+          (left_off (Holder.Res r.number) r.board (freed_board b) refl refl);
     })
     sound
 
 pub IsSound-expire : (F : Farm) (t : ℕ) → IsSound F → IsSound (expire F t)
 IsSound-expire F t sound = let_go F (is_dead t) ResState.Expired refl (λ e. cc) sound
 
-pub IsSound-cancel_res : (F : Farm) (n : ℕ) → IsSound F → IsSound (change_res (λ r. r.number == n) (λ r. record r { state = ResState.Canceled }) idle F)
+pub IsSound-cancel_res : (F : Farm) (n : ℕ) → IsSound F → IsSound (change_res (λ r. r.number == n) (λ r. record r { state = ResState.Canceled }) freed_board F)
 IsSound-cancel_res F n sound = let_go F (λ r. r.number == n) ResState.Canceled refl (λ e. cc) sound
 
 -- a reservation that holds a board goes on in another state in which it does

@@ -2,7 +2,7 @@
 use Rattle.std.proofs.Common.{◌+◌, ◌↔◌, ◌≡◌, ◌≤◌, IsSome, IsTrue, List, None, Option, Some, ap, is_some, refl, true, ℕ}
 use Rattle.farm_types.specs.Change.{in_state}
 use Rattle.farm_types.specs.Farm.{Farm}
-use Rattle.farm_types.specs.Sound.{Hold, IsBoardOf, IsBoardRow, IsJobRow, IsResRow, hold, holds, job_gives, phase, res_gives, shown}
+use Rattle.farm_types.specs.Sound.{Hold, IsBoardOf, IsBoardRow, IsJobRow, IsResRow, hold, holds, job_gives, phase, res_gives, shown_hold}
 use Rattle.farm_types.specs.declared.rows.BoardRow.{BoardRow}
 use Rattle.farm_types.specs.declared.rows.Health.{Health}
 use Rattle.farm_types.specs.declared.rows.Holder.{Holder}
@@ -97,11 +97,11 @@ hold_none h None s t is = refl
 hold_none h (Some name) s t is = cc
 
 -- the board goes on in another state
-pub left_on : (h : Holder) (board : Option (List ℕ)) (s t : State) (b : BoardRow) → hold h board (Some s) ≡ Some (shown b)
+pub left_on : (h : Holder) (board : Option (List ℕ)) (s t : State) (b : BoardRow) → hold h board (Some s) ≡ Some (shown_hold b)
     → IsLeft (hold h board (Some t)) (in_state t b)
 left_on h None s t b is = cc
 left_on h (Some name) s t b is =
-    let e : record { board = name; holder = h; state = s } ≡ shown b = cc in
+    let e : record { board = name; holder = h; state = s } ≡ shown_hold b = cc in
     ap (λ (x : Hold). record { board = x.board; holder = x.holder; state = t }) e
 
 -- the board is let go
@@ -110,6 +110,6 @@ left_off h None b nobody free = (nobody, free)
 left_off h (Some name) b nobody free = (nobody, free)
 
 -- nothing changes
-pub left_same : (o : Option Hold) (b : BoardRow) → o ≡ Some (shown b) → IsLeft o b
+pub left_same : (o : Option Hold) (b : BoardRow) → o ≡ Some (shown_hold b) → IsLeft o b
 left_same None b is = cc
 left_same (Some x) b is = cc

@@ -4,8 +4,8 @@ use mathlib.Core.Bool.{false≢true}
 use Rattle.std.specs.List.{AllByRecursion}
 use Rattle.std.specs.Option.{option_map_or}
 use Rattle.farm_types.specs.Farm.{Farm, board_of, job_of, res_of}
-use Rattle.farm_types.specs.Pass.{held}
-use Rattle.farm_types.specs.Sound.{Hold, IsHeldBy, IsHeldByKeys, IsJobRow, IsResRow, hold, hold_of, job_gives, job_hold, res_gives, res_hold, shown}
+use Rattle.farm_types.specs.Pass.{held_board}
+use Rattle.farm_types.specs.Sound.{Hold, IsHeldBy, IsHeldByKeys, IsJobRow, IsResRow, hold, hold_of, job_gives, job_hold, res_gives, res_hold, shown_hold}
 use Rattle.farm_types.specs.declared.rows.BoardRow.{BoardRow}
 use Rattle.farm_types.specs.declared.rows.Holder.{Holder}
 use Rattle.farm_types.specs.declared.rows.JobRow.{JobRow}
@@ -47,27 +47,27 @@ module _ (F : Farm) where
       let j = some_and {P = λ j. (j.board ≡ Some b.name) × (job_gives j.state ≡ Some b.state)} (job_of F n) named in
       let number : j.0.number ≡ n = same_number j.0.number n (found_passes (λ r. r.number == n) j.0 F.jobs j.1) in
       ap (λ o. option_map_or job_hold o None) j.1
-      ∙ hold_from (Holder.Job j.0.number) j.0.board (job_gives j.0.state) (shown b) j.2.0 (ap Holder.Job number ∙ sym e) j.2.1
+      ∙ hold_from (Holder.Job j.0.number) j.0.board (job_gives j.0.state) (shown_hold b) j.2.0 (ap Holder.Job number ∙ sym e) j.2.1
   held_from_named b (Holder.Res n) e named =
       let r = some_and {P = λ r. (r.board ≡ Some b.name) × (res_gives r.state ≡ Some b.state)} (res_of F n) named in
       let number : r.0.number ≡ n = same_number r.0.number n (found_passes (λ q. q.number == n) r.0 F.reservations r.1) in
       ap (λ o. option_map_or res_hold o None) r.1
-      ∙ hold_from (Holder.Res r.0.number) r.0.board (res_gives r.0.state) (shown b) r.2.0 (ap Holder.Res number ∙ sym e) r.2.1
+      ∙ hold_from (Holder.Res r.0.number) r.0.board (res_gives r.0.state) (shown_hold b) r.2.0 (ap Holder.Res number ∙ sym e) r.2.1
 
   named_from_held : (b : BoardRow) (holder : Holder) → IsHeldBy F b holder → IsNamedBy F b holder
-  named_from_held b Holder.Nobody held = held
-  named_from_held b (Holder.Job n) held = by (job_of F n) held
+  named_from_held b Holder.Nobody held_board = held_board
+  named_from_held b (Holder.Job n) held_board = by (job_of F n) held_board
     where
-      by : (o : Option JobRow) → option_map_or job_hold o None ≡ Some (shown b)
+      by : (o : Option JobRow) → option_map_or job_hold o None ≡ Some (shown_hold b)
           → IsSomeAnd o (λ j. (j.board ≡ Some b.name) × (job_gives j.state ≡ Some b.state))
       by None e = cc
-      by (Some j) e = let is = is_hold (Holder.Job j.number) j.board (job_gives j.state) (shown b) e in (is.board, is.state)
-  named_from_held b (Holder.Res n) held = by (res_of F n) held
+      by (Some j) e = let is = is_hold (Holder.Job j.number) j.board (job_gives j.state) (shown_hold b) e in (is.board, is.state)
+  named_from_held b (Holder.Res n) held_board = by (res_of F n) held_board
     where
-      by : (o : Option ResRow) → option_map_or res_hold o None ≡ Some (shown b)
+      by : (o : Option ResRow) → option_map_or res_hold o None ≡ Some (shown_hold b)
           → IsSomeAnd o (λ r. (r.board ≡ Some b.name) × (res_gives r.state ≡ Some b.state))
       by None e = cc
-      by (Some r) e = let is = is_hold (Holder.Res r.number) r.board (res_gives r.state) (shown b) e in (is.board, is.state)
+      by (Some r) e = let is = is_hold (Holder.Res r.number) r.board (res_gives r.state) (shown_hold b) e in (is.board, is.state)
 
   -- ---- jobs and reservations
 
@@ -108,25 +108,25 @@ module _ (F : Farm) where
   }
 
   pub named_from_keys : IsHeldByKeys F → AllByRecursion (λ b. IsNamedBy F b b.holder) F.boards
-  named_from_keys held = AllByRecursion-weaker (λ b told. named_from_held b b.holder told) F.boards held.boards
+  named_from_keys held_board = AllByRecursion-weaker (λ b told. named_from_held b b.holder told) F.boards held_board.boards
 
   -- the board of a row that gives a state says so
   said_by : (h : Holder) (board : Option (List ℕ)) (given : Option State) → IsHeldByKeys F → hold_of F h ≡ hold h board given → (IsSome given → IsSome board)
       → IfSome given (λ _. IsSaid F board h)
-  said_by h board None held is some = tt
-  said_by h None (Some s) held is some = absurd (false≢true (some refl))
-  said_by h (Some name) (Some s) held is some = held.rows h (record { board = name; holder = h; state = s }) is
+  said_by h board None held_board is some = tt
+  said_by h None (Some s) held_board is some = absurd (false≢true (some refl))
+  said_by h (Some name) (Some s) held_board is some = held_board.rows h (record { board = name; holder = h; state = s }) is
 
   pub jobs_from_keys : IsHeldByKeys F → AllByRecursion (λ j. job_of F j.number ≡ Some j) F.jobs → AllByRecursion (IsJobRow F) F.jobs
       → AllByRecursion (IsSaidOfJob F) F.jobs
-  jobs_from_keys held own rows =
-      AllByRecursion-weaker (λ j two. said_by (Holder.Job j.number) j.board (job_gives j.state) held
+  jobs_from_keys held_board own rows =
+      AllByRecursion-weaker (λ j two. said_by (Holder.Job j.number) j.board (job_gives j.state) held_board
       (ap (λ o. option_map_or job_hold o None) two.0) two.1.holds) F.jobs
       (AllByRecursion-both (λ j. job_of F j.number ≡ Some j) (IsJobRow F) F.jobs own rows)
 
   pub reservations_from_keys : IsHeldByKeys F → AllByRecursion (λ r. res_of F r.number ≡ Some r) F.reservations → AllByRecursion (IsResRow F) F.reservations
       → AllByRecursion (IsSaidOfRes F) F.reservations
-  reservations_from_keys held own rows =
-      AllByRecursion-weaker (λ r two. said_by (Holder.Res r.number) r.board (res_gives r.state) held
+  reservations_from_keys held_board own rows =
+      AllByRecursion-weaker (λ r two. said_by (Holder.Res r.number) r.board (res_gives r.state) held_board
       (ap (λ o. option_map_or res_hold o None) two.0) two.1.holds) F.reservations
       (AllByRecursion-both (λ r. res_of F r.number ≡ Some r) (IsResRow F) F.reservations own rows)

@@ -9,7 +9,7 @@ use Rattle.std.proofs.lemmas.Bool.Decides.{nat_tests}
 use Rattle.std.proofs.lemmas.Cmp.{tied_itself}
 use Rattle.std.proofs.lemmas.List.{length-map}
 use Rattle.farm_types.specs.Farm.{Farm, job_of, members, res_of}
-use Rattle.farm_types.specs.Pass.{allocated, collect, give, give_group, give_member, give_res, is_group, may_collect, pass_over, taken}
+use Rattle.farm_types.specs.Pass.{allocated_reservation, collect, give, give_group, give_member, give_res, is_group, may_collect, pass_over, claims_taken}
 use Rattle.farm_types.specs.Pick.{Claimed, claim_cmp, group_claim, is_free, is_waiting, least, queue, res_claim, waits}
 use Rattle.farm_types.specs.Sound.{EachTwo, IsSound}
 use Rattle.farm_types.specs.declared.rows.BoardRow.{BoardRow}
@@ -79,8 +79,8 @@ after_res_res F r q (b ∷ bs) t d there waits free other is =
       q,
       (
         res_at F r.number r b bs t there (waiting_from r.state waits) free.0 q.number
-            ∙ ap (option_map (λ k. cond (k.number == r.number) (allocated b.name t k) k)) is.0
-            ∙ ap (λ v. Some (cond v (allocated b.name t q) q)) other,
+            ∙ ap (option_map (λ k. cond (k.number == r.number) (allocated_reservation b.name t k) k)) is.0
+            ∙ ap (λ v. Some (cond v (allocated_reservation b.name t q) q)) other,
         is.1,
         is.2,
       ),
@@ -248,9 +248,9 @@ split_all P test cs all = all_join P (filter test cs) (filter (λ c. not (test c
     (AllByRecursion-weaker (λ c two. two.0) (filter test cs) (filter_all P test cs all))
     (AllByRecursion-weaker (λ c two. two.0) (filter (λ c. not (test c)) cs) (filter_all P (λ c. not (test c)) cs all))
 
-pub taken_apart : (F : Farm) (group : ℕ) → AreApartClaims (taken F group)
+pub taken_apart : (F : Farm) (group : ℕ) → AreApartClaims (claims_taken F group)
 taken_apart F group = split_apart (is_group group) (queue F) (queue_sorted F)
 
-pub taken_open : (F : Farm) (group : ℕ) → F.collector ≡ 0 → IsSound F → AllByRecursion (IsOpen F) (taken F group)
+pub taken_open : (F : Farm) (group : ℕ) → F.collector ≡ 0 → IsSound F → AllByRecursion (IsOpen F) (claims_taken F group)
 taken_open F group none sound = split_all (IsOpen F) (is_group group) (queue F)
     (AllByRecursion-weaker (open_of_claim F none sound.collecting) (queue F) (queue_claims F sound.steady))

@@ -1,9 +1,9 @@
 -- After a call that makes a pass no claim is met by free boards, and the group that collects not by its own with them.
 use Rattle.std.proofs.Common.{◌+◌, ◌∙◌, ◌≡◌, List, None, Option, Some, refl, subst, sym, ℕ}
 use Rattle.std.specs.Option.{option_map_or}
-use Rattle.farm_types.specs.Change.{act, change, keep, moved}
+use Rattle.farm_types.specs.Change.{act, change, keep, farm_at_call}
 use Rattle.farm_types.specs.Farm.{Farm, put_kept}
-use Rattle.farm_types.specs.Machine.{Changed, Denied, Repeated, answer, repeated, step}
+use Rattle.farm_types.specs.Machine.{Changed, Denied, Repeated, answer, repeated_reply, step}
 use Rattle.farm_types.specs.Refuse.{kind_of, refusal}
 use Rattle.farm_types.specs.Sound.{IsSound}
 use Rattle.farm_types.specs.declared.calls.Call.{Call}
@@ -30,15 +30,15 @@ module _ (P : Farm → Type 0) (stays : (F : Farm) (kept : List KeptRow) (count 
   left_changed : (F : Farm) (call : Call) → call.cmd ≡ Cmd.Pass → None ≡ refusal F call → IsSound F → P (change F call).farm
   unfolding change
   left_changed F call pass clear sound =
-      let G : Farm = moved F call in
+      let G : Farm = farm_at_call F call in
       let acted : P (act G call.caller call.cmd).farm =
       subst (λ c. P (act G call.caller c).farm) (sym pass) (passes G call.caller (IsSound-moved_to F call clear sound)) in
       left_kept (act G call.caller call.cmd).farm call (act G call.caller call.cmd).reply (F.count + 1) acted
 
   pub left_stepped : (F : Farm) (call : Call) (reply : Reply) → call.cmd ≡ Cmd.Pass → answer F call ≡ Changed reply → IsSound F → P (step F call)
-  left_stepped F call reply pass changed sound = by (repeated F call) refl (refusal F call) refl
+  left_stepped F call reply pass changed sound = by (repeated_reply F call) refl (refusal F call) refl
     where
-      by : (kept : Option Reply) → repeated F call ≡ kept → (code : Option ℕ) → refusal F call ≡ code → P (step F call)
+      by : (kept : Option Reply) → repeated_reply F call ≡ kept → (code : Option ℕ) → refusal F call ≡ code → P (step F call)
       by (Some r) is code denied = let e : Changed reply ≡ Repeated r = sym changed ∙ (answers_repeated F call r (sym is)).answer in cc
       by None is (Some code) denied = let e : Changed reply ≡ Denied code = sym changed ∙ (answers_denied F call code (sym is) (sym denied)).answer in cc
       by None is None denied = subst P (sym (answers_changed F call (sym is) (sym denied)).step) (left_changed F call pass (sym denied) sound)

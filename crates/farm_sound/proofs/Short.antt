@@ -7,9 +7,9 @@ use Rattle.std.specs.Str.{bytes_eq}
 use Rattle.std.proofs.lemmas.Slice.Eq.{bytes_eq-Decides}
 use Rattle.farm_types.specs.Codes.{same_job_state}
 use Rattle.farm_types.specs.Farm.{Farm, job_of, members}
-use Rattle.farm_types.specs.Pass.{back, collect, collect_member, first_free, give, give_group, give_member, give_res, held, idle, is_job_so, may_collect, pass_over}
-use Rattle.farm_types.specs.Pick.{Among, Claimed, is_free, is_nobody, leads_claim, least}
-use Rattle.farm_types.specs.Sound.{IsHeldBy, IsHeldByKeys, IsSound, IsSteady, hold, job_gives, job_hold, shown}
+use Rattle.farm_types.specs.Pass.{giving_back, collect, collect_member, first_free, give, give_group, give_member, give_res, held_board, freed_board, is_job_so, may_collect, pass_over}
+use Rattle.farm_types.specs.Pick.{IsAmong, Claimed, is_free, is_nobody, leads_claim, least}
+use Rattle.farm_types.specs.Sound.{IsHeldBy, IsHeldByKeys, IsSound, IsSteady, hold, job_gives, job_hold, shown_hold}
 use Rattle.farm_types.specs.Table.{change_where, job_cmp}
 use Rattle.farm_types.specs.declared.rows.BoardRow.{BoardRow}
 use Rattle.farm_types.specs.declared.rows.Holder.{Holder}
@@ -44,30 +44,30 @@ owned F = is_job_so F (collects F.collector)
 
 -- these boards, without such holders
 abbrev freed : (Holder → Bool) → List BoardRow → List BoardRow
-freed own bs = change_where (λ b. own b.holder) idle bs
+freed own bs = change_where (λ b. own b.holder) freed_board bs
 
 freed_same : (f g : Holder → Bool) → ((h : Holder) → f h ≡ g h) → (bs : List BoardRow) → freed f bs ≡ freed g bs
 freed_same f g same [] = refl
-freed_same f g same (b ∷ bs) = λ i. cond (same b.holder i) (idle b) b ∷ freed_same f g same bs i
+freed_same f g same (b ∷ bs) = λ i. cond (same b.holder i) (freed_board b) b ∷ freed_same f g same bs i
 
 freed_none : (own : Holder → Bool) (bs : List BoardRow) → AllByRecursion (λ b. own b.holder ≡ false) bs → freed own bs ≡ bs
 freed_none own [] none = refl
-freed_none own (b ∷ bs) none = λ i. cond (none.0 i) (idle b) b ∷ freed_none own bs none.1 i
+freed_none own (b ∷ bs) none = λ i. cond (none.0 i) (freed_board b) b ∷ freed_none own bs none.1 i
 
 -- a board, in the holder's hands or as it was
 abbrev taken_if : Bool → Holder → BoardRow → BoardRow
-taken_if v h c = cond v (held h State.Reserved c) c
+taken_if v h c = cond v (held_board h State.Reserved c) c
 
 -- a board is given to one that isn't such a holder
 given_freed : (types : List TypeRow) (own : Holder → Bool) (h : Holder) (name : List ℕ) → is_nobody h ≡ false → own h ≡ false → (bs : List BoardRow)
-    → Shrinks types (freed own bs) (freed own (change_where (λ c. bytes_eq c.name name) (held h State.Reserved) bs))
+    → Shrinks types (freed own bs) (freed own (change_where (λ c. bytes_eq c.name name) (held_board h State.Reserved) bs))
 given_freed types own h name taken other [] b at free = at
 given_freed types own h name taken other (c ∷ bs) b (inr at) free = inr (given_freed types own h name taken other bs b at free)
 given_freed types own h name taken other (c ∷ bs) b (inl same) free = by (bytes_eq c.name name) same
   where
-    by : (v : Bool) → b ≡ cond (own (taken_if v h c).holder) (idle (taken_if v h c)) (taken_if v h c) → Among b (freed own (c ∷ bs))
+    by : (v : Bool) → b ≡ cond (own (taken_if v h c).holder) (freed_board (taken_if v h c)) (taken_if v h c) → IsAmong b (freed own (c ∷ bs))
     by true is = absurd (not_free types h c taken
-        (subst (λ x. is_free types x ≡ true) (is ∙ ap (λ v. cond v (idle (held h State.Reserved c)) (held h State.Reserved c)) other) free))
+        (subst (λ x. is_free types x ≡ true) (is ∙ ap (λ v. cond v (freed_board (held_board h State.Reserved c)) (held_board h State.Reserved c)) other) free))
     by false is = inl is
 
 fold_freed : (state : JobState) (own : Holder → Bool) (ps : List (JobRow × BoardRow)) (F : Farm) → AllByRecursion (λ p. own (Holder.Job p.0.number) ≡ false) ps
@@ -81,19 +81,19 @@ abbrev WasIdle : BoardRow → BoardRow → Type 0
 WasIdle b c = bytes_eq c.name b.name ≡ true → (c.holder ≡ Holder.Nobody) × (c.state ≡ State.Idle)
 
 taken_freed : (types : List TypeRow) (own : Holder → Bool) (h : Holder) (b : BoardRow) → is_nobody h ≡ false → own Holder.Nobody ≡ false → (bs : List BoardRow)
-    → AllByRecursion (WasIdle b) bs → Shrinks types (freed own bs) (freed own (change_where (λ c. bytes_eq c.name b.name) (held h State.Reserved) bs))
+    → AllByRecursion (WasIdle b) bs → Shrinks types (freed own bs) (freed own (change_where (λ c. bytes_eq c.name b.name) (held_board h State.Reserved) bs))
 taken_freed types own h b taken nobody [] idles d at free = at
 taken_freed types own h b taken nobody (c ∷ bs) idles d (inr at) free = inr (taken_freed types own h b taken nobody bs idles.1 d at free)
 taken_freed types own h b taken nobody (c ∷ bs) idles d (inl same) free = by (bytes_eq c.name b.name) refl same
   where
-    mine : (c.holder ≡ Holder.Nobody) × (c.state ≡ State.Idle) → (v : Bool) → d ≡ cond v (idle (held h State.Reserved c)) (held h State.Reserved c) → Among d (freed own (c ∷ bs))
+    mine : (c.holder ≡ Holder.Nobody) × (c.state ≡ State.Idle) → (v : Bool) → d ≡ cond v (freed_board (held_board h State.Reserved c)) (held_board h State.Reserved c) → IsAmong d (freed own (c ∷ bs))
     mine was true is =
-        let back : idle c ≡ c = λ i. record c { holder = sym was.0 i; state = sym was.1 i } in
+        let giving_back : freed_board c ≡ c = λ i. record c { holder = sym was.0 i; state = sym was.1 i } in
         let none : own c.holder ≡ false = ap own was.0 ∙ nobody in
-        inl (is ∙ back ∙ sym (ap (λ v. cond v (idle c) c) none))
+        inl (is ∙ giving_back ∙ sym (ap (λ v. cond v (freed_board c) c) none))
     mine was false is = absurd (not_free types h c taken (subst (λ x. is_free types x ≡ true) is free))
 
-    by : (v : Bool) → bytes_eq c.name b.name ≡ v → d ≡ cond (own (taken_if v h c).holder) (idle (taken_if v h c)) (taken_if v h c) → Among d (freed own (c ∷ bs))
+    by : (v : Bool) → bytes_eq c.name b.name ≡ v → d ≡ cond (own (taken_if v h c).holder) (freed_board (taken_if v h c)) (taken_if v h c) → IsAmong d (freed own (c ∷ bs))
     by true so is = mine (idles.0 so) (own h) is
     by false so is = inl is
 
@@ -109,12 +109,12 @@ was_idle F b free steady holds = AllByRecursion-weaker
 
 short_step : (F G : Farm) → IsSound G → G.types ≡ F.types → G.collector ≡ F.collector
     → (1 ≤ F.collector → map (λ m. m.want) (members G F.collector) ≡ map (λ m. m.want) (members F F.collector))
-    → Shrinks F.types (back F).boards (back G).boards → IsShort F → IsShort G
+    → Shrinks F.types (giving_back F).boards (giving_back G).boards → IsShort F → IsShort G
 short_step F G sound types collector wants shrinks short low =
     let low_too : 1 ≤ F.collector = subst (λ n. 1 ≤ n) collector low in
     let ws = ap (λ n. map (λ m. m.want) (members G n)) collector ∙ wants low_too in
-    (λ i. least (back G).boards (is_free (types i)) (ws i))
-    ∙ unmet_shrinks F.types (back F).boards (back G).boards (map (λ m. m.want) (members F F.collector)) (IsSound-back G sound).steady.boards_sorted shrinks (short low_too)
+    (λ i. least (giving_back G).boards (is_free (types i)) (ws i))
+    ∙ unmet_shrinks F.types (giving_back F).boards (giving_back G).boards (map (λ m. m.want) (members F F.collector)) (IsSound-back G sound).steady.boards_sorted shrinks (short low_too)
 
 -- a reservation is served
 pub IsShort-give_res : (F : Farm) (n : ℕ) (bs : List BoardRow) (t : ℕ) → IsSound (give_res F n bs t) → IsShort F → IsShort (give_res F n bs t)
@@ -198,7 +198,7 @@ module _ (F : Farm) (c : Claimed) (j : JobRow) (bs : List BoardRow) (is : IsOpen
       (λ low. ap (map (λ (m : JobRow). m.want))
       (ap (filter (λ (r : JobRow). r.group == F.collector)) (jobs_given JobState.Scheduled ps F)
       ∙ filter_given ps j.group F.collector F.jobs (apart low (F.collector == j.group) refl) (AllByRecursion-weaker (λ m share. share.other) F.jobs shares)))
-      (subst (Shrinks F.types (back F).boards) (sym (freed_same (owned G) (owned F) owned_still G.boards)) (fold_freed JobState.Scheduled (owned F) ps F none_gives))
+      (subst (Shrinks F.types (giving_back F).boards) (sym (freed_same (owned G) (owned F) owned_still G.boards)) (fold_freed JobState.Scheduled (owned F) ps F none_gives))
       short
     where
       apart : 1 ≤ F.collector → (v : Bool) → (F.collector == j.group) ≡ v → (F.collector == j.group) ≡ false
@@ -251,7 +251,7 @@ module _ (F : Farm) (j : JobRow) (sound : IsSound F) (none : F.collector ≡ 0) 
   unowned b (Holder.Job n) is =
       ap (λ o. option_map_or (collects j.group) o false) (job_after F j sound none there lead submitted several n) ∙ by (job_of F n) refl is
     where
-      by : (o : Option JobRow) → job_of F n ≡ o → option_map_or job_hold o None ≡ Some (shown b) → option_map_or (collects j.group) (option_map then o) false ≡ false
+      by : (o : Option JobRow) → job_of F n ≡ o → option_map_or job_hold o None ≡ Some (shown_hold b) → option_map_or (collects j.group) (option_map then o) false ≡ false
       by None at holds = refl
       by (Some m) at holds = at_group (m.group == j.group) refl
         where
@@ -261,12 +261,12 @@ module _ (F : Farm) (j : JobRow) (sound : IsSound F) (none : F.collector ≡ 0) 
           at_group : (v : Bool) → (m.group == j.group) ≡ v → collects j.group (then m) ≡ false
           at_group true so =
               let s : m.state ≡ JobState.Submitted = part.mine (same_number m.group j.group so) in
-              let nothing : None ≡ Some (shown b) = sym (hold_nothing (Holder.Job m.number) m.board) ∙ ap (λ x. hold (Holder.Job m.number) m.board (job_gives x)) (sym s) ∙ holds in
+              let nothing : None ≡ Some (shown_hold b) = sym (hold_nothing (Holder.Job m.number) m.board) ∙ ap (λ x. hold (Holder.Job m.number) m.board (job_gives x)) (sym s) ∙ holds in
               cc
           at_group false so = ap (collects j.group) (part.other so) ∙ ap (λ v. v && same_job_state m.state S) so
 
-  freed_boards : Shrinks F.types F.boards (back H).boards
-  freed_boards = subst (λ bs. Shrinks F.types bs (back H).boards)
+  freed_boards : Shrinks F.types F.boards (giving_back H).boards
+  freed_boards = subst (λ bs. Shrinks F.types bs (giving_back H).boards)
       (freed_none (owned H) F.boards (AllByRecursion-weaker (λ b is. unowned b b.holder is) F.boards sound.held.boards))
       (collect_freed (owned H) refl (members F j.group) F (ready_collected F j sound none there lead submitted several)
       (filter_sorted (λ r. r.group == j.group) F.jobs sound.steady.jobs_sorted) sound.steady sound.held)
@@ -276,8 +276,8 @@ module _ (F : Farm) (j : JobRow) (sound : IsSound F) (none : F.collector ≡ 0) 
       let types = (collect_shrinks F j sound none there lead submitted several).0 in
       let ws = ap (map (λ (m : JobRow). m.want)) (members_after F j sound none there lead submitted several j.group)
       ∙ map_same then (λ m. m.want) (λ m. (given_same S (pairs_for F (members F j.group)) m).2) (members F j.group) in
-      (λ i. least (back H).boards (is_free (types i)) (ws i))
-      ∙ unmet_shrinks F.types F.boards (back H).boards (map (λ m. m.want) (members F j.group)) (IsSound-back H after).steady.boards_sorted freed_boards unmet
+      (λ i. least (giving_back H).boards (is_free (types i)) (ws i))
+      ∙ unmet_shrinks F.types F.boards (giving_back H).boards (map (λ m. m.want) (members F j.group)) (IsSound-back H after).steady.boards_sorted freed_boards unmet
 
 collected : (F : Farm) (c : Claimed) → IsOpen F c → IsSound F → may_collect F c ≡ true → IsUnmet F c.wants → IsSound (collect F c.number) → IsShort (collect F c.number)
 collected F c (inl (r, is)) sound may unmet = absurd (res_collects_not F c r is may)

@@ -2,9 +2,10 @@
 use Rattle.std.proofs.Common.{◌&&◌, ◌+◌, ◌<◌, ◌||◌, ◌∷◌, ◌≡◌, ◌≤◌, List, None, Option, Some, arith, false, is_some, length, nat_le, not, refl, subst, sym, true, ℕ, []}
 use Rattle.std.specs.Option.{option_map_or}
 use Rattle.std.proofs.lemmas.Bool.Decides.{nat_tests}
-use Rattle.farm_types.specs.Change.{Done, act, change, keep, moved}
+use Rattle.farm_types.specs.Limits.{last_kind, last_moment, longest_key, longest_name, most_commands, most_replies}
+use Rattle.farm_types.specs.Change.{Done, act, change, keep, farm_at_call}
 use Rattle.farm_types.specs.Farm.{Farm, put_kept}
-use Rattle.farm_types.specs.Machine.{repeated, run, step}
+use Rattle.farm_types.specs.Machine.{repeated_reply, run, step}
 use Rattle.farm_types.specs.Proper.{is_proper_cmd}
 use Rattle.farm_types.specs.Refuse.{early_refusal, is_full_for, is_late, is_reused, kind_of, may_give, moment, own_refusal, refusal}
 use Rattle.farm_types.specs.Sound.{IsSound}
@@ -50,7 +51,7 @@ IsAccepted-moved F m t caller cmd is = record { caller = is.caller; proper = is.
 
 -- ---- the reply is kept
 
-low_kind : (cmd : Cmd) → (1 ≤ kind_of cmd) × (kind_of cmd ≤ 14)
+low_kind : (cmd : Cmd) → (1 ≤ kind_of cmd) × (kind_of cmd ≤ last_kind)
 low_kind (Cmd.AddType a b) = (omega arith, omega arith)
 low_kind (Cmd.AddBoard a b c) = (omega arith, omega arith)
 low_kind (Cmd.SetTags a b) = (omega arith, omega arith)
@@ -66,21 +67,21 @@ low_kind (Cmd.Refresh a) = (omega arith, omega arith)
 low_kind (Cmd.CancelRes a) = (omega arith, omega arith)
 low_kind Cmd.Pass = (omega arith, omega arith)
 
-IsSound-keep : (F : Farm) (call : Call) (d : Done) → Acted F d → (is_some call.key && nat_le 300000 (length F.kept)) ≡ false
+IsSound-keep : (F : Farm) (call : Call) (d : Done) → Acted F d → (is_some call.key && nat_le most_replies (length F.kept)) ≡ false
     → IsSound (keep call d.reply d.farm)
 IsSound-keep F call d left room = by call.key words.1 room
   where
-    words : (is_word 48 call.caller ≡ true) × (option_map_or (is_word 64) call.key true ≡ true)
-    words = both (is_word 48 call.caller) (option_map_or (is_word 64) call.key true)
-        (both (is_word 48 call.caller && option_map_or (is_word 64) call.key true) (is_proper_cmd call.cmd) call.proper).0
+    words : (is_word longest_name call.caller ≡ true) × (option_map_or (is_word longest_key) call.key true ≡ true)
+    words = both (is_word longest_name call.caller) (option_map_or (is_word longest_key) call.key true)
+        (both (is_word longest_name call.caller && option_map_or (is_word longest_key) call.key true) (is_proper_cmd call.cmd) call.proper).0
 
-    by : (key : Option (List ℕ)) → option_map_or (is_word 64) key true ≡ true → (is_some key && nat_le 300000 (length F.kept)) ≡ false
+    by : (key : Option (List ℕ)) → option_map_or (is_word longest_key) key true ≡ true → (is_some key && nat_le most_replies (length F.kept)) ≡ false
         → IsSound (option_map_or (λ k. put_kept d.farm (record { caller = call.caller; key = k; kind = kind_of call.cmd; reply = d.reply })) key d.farm)
     by None proper room = left.sound
     by (Some k) proper room =
         IsSound-put_kept d.farm (record { caller = call.caller; key = k; kind = kind_of call.cmd; reply = d.reply })
         (record { caller = words.0; key = proper; kind = low_kind call.cmd; reply = (left.first, left.second, left.third) })
-        (subst (λ rows. length rows < 300000) (sym left.kept) (grind (arith, nat_tests))) left.sound
+        (subst (λ rows. length rows < most_replies) (sym left.kept) (grind (arith, nat_tests))) left.sound
 
 -- ---- a change, a step and a run
 
@@ -88,44 +89,44 @@ pub accepted : (F : Farm) (call : Call) → None ≡ refusal F call → IsAccept
 unfolding own_refusal
 accepted F call clear =
     let free = unrefused F call clear in
-    let full = both_false (is_full_for F call.cmd || (is_some call.key && nat_le 300000 (length F.kept))) (nat_le 9000000000000000000 F.count) free.room in
-    let words = both (is_word 48 call.caller && option_map_or (is_word 64) call.key true) (is_proper_cmd call.cmd) call.proper in
+    let full = both_false (is_full_for F call.cmd || (is_some call.key && nat_le most_replies (length F.kept))) (nat_le most_commands F.count) free.room in
+    let words = both (is_word longest_name call.caller && option_map_or (is_word longest_key) call.key true) (is_proper_cmd call.cmd) call.proper in
     record {
-      caller = (both (is_word 48 call.caller) (option_map_or (is_word 64) call.key true) words.0).0;
+      caller = (both (is_word longest_name call.caller) (option_map_or (is_word longest_key) call.key true) words.0).0;
       proper = words.1;
       clear = free.own;
-      room = (both_false (is_full_for F call.cmd) (is_some call.key && nat_le 300000 (length F.kept)) full.0).0;
+      room = (both_false (is_full_for F call.cmd) (is_some call.key && nat_le most_replies (length F.kept)) full.0).0;
     }
 
 -- the farm whose clock has moved
-pub IsSound-moved_to : (F : Farm) (call : Call) → None ≡ refusal F call → IsSound F → IsSound (moved F call)
+pub IsSound-moved_to : (F : Farm) (call : Call) → None ≡ refusal F call → IsSound F → IsSound (farm_at_call F call)
 unfolding early_refusal
 IsSound-moved_to F call clear sound =
     let free = unrefused F call clear in
     let early = first_clear (is_late call) 2 ((is_reused F call, 40) ∷ (not (may_give call.caller call.cmd), 3) ∷ []) free.early in
-    let in_time : call.now ≤ 250000000000 = (let late = early.0 in grind (arith, nat_tests)) in
+    let in_time : call.now ≤ last_moment = (let late = early.0 in grind (arith, nat_tests)) in
     IsSound-moved F (moment F call) (omega arith) (omega (arith, sound.steady.clock)) sound
 
 -- what the command leaves, before its reply is kept
-pub acted_call : (F : Farm) (call : Call) → None ≡ refusal F call → IsSound F → Acted (moved F call) (act (moved F call) call.caller call.cmd)
+pub acted_call : (F : Farm) (call : Call) → None ≡ refusal F call → IsSound F → Acted (farm_at_call F call) (act (farm_at_call F call) call.caller call.cmd)
 acted_call F call clear sound =
-    acted (moved F call) (moment F call) call.caller call.cmd
+    acted (farm_at_call F call) (moment F call) call.caller call.cmd
     (IsAccepted-moved F (moment F call) (moment F call) call.caller call.cmd (accepted F call clear)) (IsSound-moved_to F call clear sound)
 
 pub IsSound-change : (F : Farm) (call : Call) → None ≡ refusal F call → IsSound F → IsSound (change F call).farm
 unfolding change
 IsSound-change F call clear sound =
-    let done : Done = act (moved F call) call.caller call.cmd in
-    let full = both_false (is_full_for F call.cmd || (is_some call.key && nat_le 300000 (length F.kept))) (nat_le 9000000000000000000 F.count)
+    let done : Done = act (farm_at_call F call) call.caller call.cmd in
+    let full = both_false (is_full_for F call.cmd || (is_some call.key && nat_le most_replies (length F.kept))) (nat_le most_commands F.count)
     (unrefused F call clear).room in
-    let room = both_false (is_full_for F call.cmd) (is_some call.key && nat_le 300000 (length F.kept)) full.0 in
+    let room = both_false (is_full_for F call.cmd) (is_some call.key && nat_le most_replies (length F.kept)) full.0 in
     IsSound-counted (keep call done.reply done.farm) (F.count + 1) (omega (arith, count_has_room F call clear))
-    (IsSound-keep (moved F call) call done (acted_call F call clear sound) room.1)
+    (IsSound-keep (farm_at_call F call) call done (acted_call F call clear sound) room.1)
 
 pub IsSound-step : (F : Farm) (call : Call) → IsSound F → IsSound (step F call)
-IsSound-step F call sound = by (repeated F call) refl (refusal F call) refl
+IsSound-step F call sound = by (repeated_reply F call) refl (refusal F call) refl
   where
-    by : (kept : Option Reply) → repeated F call ≡ kept → (code : Option ℕ) → refusal F call ≡ code → IsSound (step F call)
+    by : (kept : Option Reply) → repeated_reply F call ≡ kept → (code : Option ℕ) → refusal F call ≡ code → IsSound (step F call)
     by (Some r) is code denied = subst IsSound (sym (answers_repeated F call r (sym is)).step) sound
     by None is (Some code) denied = subst IsSound (sym (answers_denied F call code (sym is) (sym denied)).step) sound
     by None is None denied = subst IsSound (sym (answers_changed F call (sym is) (sym denied)).step) (IsSound-change F call (sym denied) sound)

@@ -4,6 +4,7 @@ use Rattle.std.specs.List.{AllByRecursion, filter, find}
 use Rattle.std.specs.Str.{bytes_eq}
 use Rattle.std.proofs.lemmas.Bool.Decides.{nat_tests}
 use Rattle.std.proofs.lemmas.Slice.Eq.{bytes_eq-Decides}
+use Rattle.farm_types.specs.Limits.{most_boards_of_type}
 use Rattle.farm_types.specs.Farm.{Farm, job_of}
 use Rattle.farm_types.specs.Sound.{Follows, IsJobRow, IsWhole, phase}
 use Rattle.farm_types.specs.declared.rows.BoardRow.{BoardRow}
@@ -88,12 +89,12 @@ module _ (F : Farm) where
 
   -- ---- few of each board's type are few of each type
 
-  pub few_of_kinds : AllByRecursion (IsOfFew F) F.boards → (kind : List ℕ) → length (filter (λ b. bytes_eq b.kind kind) F.boards) ≤ 64
+  pub few_of_kinds : AllByRecursion (IsOfFew F) F.boards → (kind : List ℕ) → length (filter (λ b. bytes_eq b.kind kind) F.boards) ≤ most_boards_of_type
   few_of_kinds few kind = by (find (λ b. bytes_eq b.kind kind) F.boards) refl
     where
-      by : (o : Option BoardRow) → find (λ b. bytes_eq b.kind kind) F.boards ≡ o → length (filter (λ b. bytes_eq b.kind kind) F.boards) ≤ 64
-      by None is = subst (λ n. n ≤ 64)
+      by : (o : Option BoardRow) → find (λ b. bytes_eq b.kind kind) F.boards ≡ o → length (filter (λ b. bytes_eq b.kind kind) F.boards) ≤ most_boards_of_type
+      by None is = subst (λ n. n ≤ most_boards_of_type)
           (sym (ap length (none_pass (λ b. bytes_eq b.kind kind) F.boards (all_fail (λ b. bytes_eq b.kind kind) F.boards is)))) (omega arith)
       by (Some b) is =
           let e : b.kind ≡ kind = (bytes_eq-Decides b.kind kind).0 (found_passes (λ b. bytes_eq b.kind kind) b F.boards is) in
-          subst (λ k. length (filter (λ b. bytes_eq b.kind k) F.boards) ≤ 64) e (found_has (IsOfFew F) (λ b. bytes_eq b.kind kind) b F.boards few is)
+          subst (λ k. length (filter (λ b. bytes_eq b.kind k) F.boards) ≤ most_boards_of_type) e (found_has (IsOfFew F) (λ b. bytes_eq b.kind kind) b F.boards few is)

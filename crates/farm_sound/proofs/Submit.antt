@@ -2,6 +2,7 @@
 use Rattle.std.proofs.Common.{◌+◌, ◌-◌, ◌<◌, ◌∙◌, ◌∷◌, ◌≡◌, ◌≢◌, ◌≤◌, IfSome, IsNone, IsSome, IsSomeAnd, IsTrue, List, None, Option, Some, ap, arith, cond, false, length, refl, subst, sym, ℕ, []}
 use mathlib.Core.Bool.{false≢true}
 use Rattle.std.specs.List.{AllByRecursion}
+use Rattle.farm_types.specs.Limits.{longest_text, most_jobs, numbers_end}
 use Rattle.farm_types.specs.Change.{new_members}
 use Rattle.farm_types.specs.Farm.{Farm, job_of, put_jobs, type_of}
 use Rattle.farm_types.specs.Proper.{is_priority, is_want}
@@ -25,7 +26,7 @@ pub record Next (F : Farm) (group : ℕ) (owner : List ℕ) (priority : ℕ) (bo
   pub previous : F.next ≢ group → (p : JobRow) × (job_of F (F.next - 1) ≡ Some p) × (p.group ≡ group) × (p.owner ≡ owner) × (p.priority ≡ priority) ×
       (p.checking ≡ false)
   pub text : F.next ≢ group → body ≡ []
-  pub few : length body ≤ 65536
+  pub few : length body ≤ longest_text
   pub utf8 : IsText body
 
 abbrev IsMemberWant : Farm → Want → Type 0
@@ -77,7 +78,7 @@ module _ (F : Farm) (group : ℕ) (owner : List ℕ) (priority : ℕ) (want : Wa
     check = λ so. absurd (false≢true so);
   }
 
-  pub member_sound : length F.jobs < 100000 → F.next < 1000000000 → IsSound (add_job row F)
+  pub member_sound : length F.jobs < most_jobs → F.next < numbers_end → IsSound (add_job row F)
   member_sound room numbers = record {
     steady = IsSteady-add_job F row refl room numbers member_row sound.steady;
     held = IsHeldByKeys-add_job F row sound.steady refl refl sound.held;
@@ -106,7 +107,7 @@ module _ (F : Farm) (group : ℕ) (owner : List ℕ) (priority : ℕ) (want : Wa
 pub members_sound : (wants : List Want) (roles : List (Option (List ℕ))) (F : Farm) (group : ℕ) (owner : List ℕ) (priority : ℕ) (body : List ℕ)
     → IsSound F → Next F group owner priority body → IsName owner → IsTrue (is_priority priority)
     → AllByRecursion (IsMemberWant F) wants → AllByRecursion (λ r. IfSome r IsName) roles → length roles ≡ length wants
-    → F.next + length wants ≤ group + 4 → length F.jobs + length wants ≤ 100000 → F.next + length wants ≤ 1000000000
+    → F.next + length wants ≤ group + 4 → length F.jobs + length wants ≤ most_jobs → F.next + length wants ≤ numbers_end
     → IsSound (record (put_jobs F (new_members group F.next owner priority wants roles body)) { next = F.next + length wants })
 members_sound [] [] F group owner priority body sound next name prio wanted named long in_group room numbers =
     subst (λ n. IsSound (record F { next = n })) (omega arith) sound
@@ -138,9 +139,9 @@ members_sound (want ∷ wants) (role ∷ roles) F group owner priority body soun
 
 -- a whole group: its number is its first member's
 pub IsSound-submit : (F : Farm) (owner : List ℕ) (priority : ℕ) (wants : List Want) (roles : List (Option (List ℕ))) (body : List ℕ) → IsSound F
-    → IsName owner → IsTrue (is_priority priority) → length body ≤ 65536 → IsText body
+    → IsName owner → IsTrue (is_priority priority) → length body ≤ longest_text → IsText body
     → AllByRecursion (IsMemberWant F) wants → AllByRecursion (λ r. IfSome r IsName) roles → length roles ≡ length wants → length wants ≤ 4
-    → length F.jobs + length wants ≤ 100000 → F.next + length wants ≤ 1000000000
+    → length F.jobs + length wants ≤ most_jobs → F.next + length wants ≤ numbers_end
     → IsSound (record (put_jobs F (new_members F.next F.next owner priority wants roles body)) { next = F.next + length wants })
 IsSound-submit F owner priority wants roles body sound name prio few utf8 wanted named long four room numbers =
     members_sound wants roles F F.next owner priority body sound

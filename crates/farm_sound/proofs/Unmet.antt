@@ -6,8 +6,8 @@ use Rattle.std.specs.List.{fold, list_all, zip}
 use Rattle.std.specs.List.Sorted.{IsStrictlySortedBy}
 use Rattle.std.specs.Str.{bytes_eq}
 use Rattle.farm_types.specs.Farm.{Farm, members}
-use Rattle.farm_types.specs.Pass.{give, give_group, give_member, give_res, held}
-use Rattle.farm_types.specs.Pick.{Among, Claimed, are_apart, fits, is_free, is_nobody, least, serves}
+use Rattle.farm_types.specs.Pass.{give, give_group, give_member, give_res, held_board}
+use Rattle.farm_types.specs.Pick.{IsAmong, Claimed, are_apart, fits, is_free, is_nobody, least, serves}
 use Rattle.farm_types.specs.Table.{board_cmp, change_where}
 use Rattle.farm_types.specs.declared.rows.BoardRow.{BoardRow}
 use Rattle.farm_types.specs.declared.rows.Holder.{Holder}
@@ -28,7 +28,7 @@ IsUnmet F wants = least F.boards (is_free F.types) wants ≡ None
 
 -- each free board of the later list is one of the earlier list
 abbrev pub Shrinks : List TypeRow → List BoardRow → List BoardRow → Type 0
-Shrinks types old new = (b : BoardRow) → Among b new → is_free types b ≡ true → Among b old
+Shrinks types old new = (b : BoardRow) → IsAmong b new → is_free types b ≡ true → IsAmong b old
 
 pub unmet_shrinks : (types : List TypeRow) (old new : List BoardRow) (wants : List Want) → IsStrictlySortedBy board_cmp new → Shrinks types old new
     → least old (is_free types) wants ≡ None → least new (is_free types) wants ≡ None
@@ -41,20 +41,20 @@ unmet_shrinks types old new wants sorted shrinks none = by (least new (is_free t
         let free = all_tested (is_free types) bs (both (pointwise fits bs wants && are_apart bs) (list_all (is_free types) bs) best.meeting).1 in
         absurd (none_meets old (is_free types) wants bs none
         (AllByRecursion-weaker (λ b two. shrinks b two.0 two.1) bs
-        (AllByRecursion-both (λ b. Among b new) (λ b. is_free types b ≡ true) bs best.among free)) best.meeting)
+        (AllByRecursion-both (λ b. IsAmong b new) (λ b. is_free types b ≡ true) bs best.among free)) best.meeting)
 
 -- a board in someone's hands isn't free
-pub not_free : (types : List TypeRow) (h : Holder) (b : BoardRow) → is_nobody h ≡ false → is_free types (held h State.Reserved b) ≡ true → ⊥
-not_free types h b taken free = false≢true (sym taken ∙ (both (serves types (held h State.Reserved b)) (is_nobody h) free).1)
+pub not_free : (types : List TypeRow) (h : Holder) (b : BoardRow) → is_nobody h ≡ false → is_free types (held_board h State.Reserved b) ≡ true → ⊥
+not_free types h b taken free = false≢true (sym taken ∙ (both (serves types (held_board h State.Reserved b)) (is_nobody h) free).1)
 
 -- a board is given
 given_shrinks : (types : List TypeRow) (h : Holder) (name : List ℕ) → is_nobody h ≡ false → (bs : List BoardRow)
-    → Shrinks types bs (change_where (λ c. bytes_eq c.name name) (held h State.Reserved) bs)
+    → Shrinks types bs (change_where (λ c. bytes_eq c.name name) (held_board h State.Reserved) bs)
 given_shrinks types h name taken [] b at free = at
 given_shrinks types h name taken (c ∷ bs) b (inr at) free = inr (given_shrinks types h name taken bs b at free)
 given_shrinks types h name taken (c ∷ bs) b (inl same) free = by (bytes_eq c.name name) same
   where
-    by : (v : Bool) → b ≡ cond v (held h State.Reserved c) c → Among b (c ∷ bs)
+    by : (v : Bool) → b ≡ cond v (held_board h State.Reserved c) c → IsAmong b (c ∷ bs)
     by true is = absurd (not_free types h c taken (subst (λ x. is_free types x ≡ true) is free))
     by false is = inl is
 

@@ -2,7 +2,7 @@
 use Rattle.std.specs.Prelude.{◌≡◌, ◌≤◌, None, map}
 use Rattle.std.specs.List.{AllByRecursion}
 use Rattle.farm_types.specs.Farm.{Farm, members}
-use Rattle.farm_types.specs.Pass.{back}
+use Rattle.farm_types.specs.Pass.{giving_back}
 use Rattle.farm_types.specs.Pick.{claims, least, is_free}
 
 -- no claim is met by free boards
@@ -12,5 +12,5 @@ IsServed F = AllByRecursion (λ c. least F.boards (is_free F.types) c.wants ≡ 
 -- the group that collects isn't met even by the free boards and its own together: those that are
 -- free when it gives its own back
 abbrev pub IsShort : Farm → Type 0
-IsShort F = 1 ≤ F.collector → least (back F).boards (is_free F.types)
+IsShort F = 1 ≤ F.collector → least (giving_back F).boards (is_free F.types)
     (map (λ m. m.want) (members F F.collector)) ≡ None

@@ -11,7 +11,7 @@ ghost use Rattle.farm_types.specs.Words.{IsName, IsTags, IsText};
 ghost use Rattle.farm_types.specs.Proper.{is_priority, is_want};
 ghost use Rattle.farm_types.specs.Table.{put, put_all, change_where, type_cmp, board_cmp, job_cmp};
 ghost use Rattle.farm_types.specs.Table.{res_cmp, kept_cmp};
-ghost use Rattle.farm_types.specs.Farm.{Farm, empty, type_of, board_of, job_of, res_of};
+ghost use Rattle.farm_types.specs.Farm.{Farm, empty_farm, type_of, board_of, job_of, res_of};
 ghost use Rattle.farm_types.specs.Pick.{Claimed, claim_cmp, claims, queue, least, is_free};
 ghost use Rattle.farm_types.specs.Pass.{give};
 ghost use Rattle.farm_types.specs.Change.{act};
@@ -38,9 +38,9 @@ pub fn step_is_sound()
 
 /// The empty farm is sound, and so is every farm that calls make of a sound one.
 pub fn run_is_sound()
-    ensures empty { IsSound empty }
+    ensures empty { IsSound empty_farm }
     ensures run { (F : Farm) (calls : List Call) → IsSound F → IsSound (run F calls) }
-    ensures from_empty { (calls : List Call) → IsSound (run empty calls) }
+    ensures from_empty { (calls : List Call) → IsSound (run empty_farm calls) }
 {}
 
 /// After a pass, and after a call that makes one, no claim of the farm is met by boards that are

@@ -3,13 +3,13 @@ use Rattle.std.proofs.Common.{refl, ◌≡◌, ℕ, zero, suc, [], ◌∷◌, le
 use Rattle.sqlite.specs.Order.{Row}
 use Rattle.sqlite_value.specs.Order.{column}
 use Rattle.farm_store.specs.Reading.{Spells}
-use Rattle.farm_store.specs.Stored.{IsWide, unnumbered, with_number}
+use Rattle.farm_store.specs.Stored.{IsWide, row_less_rowid, with_number}
 
 abbrev pub columns_from : ℕ → ℕ → Row → Row
 columns_from at zero r = []
 columns_from at (suc n) r = column r at ∷ columns_from (suc at) n r
 
-shifted : (at n : ℕ) (r : Row) → columns_from (suc at) n r ≡ columns_from at n (unnumbered r)
+shifted : (at n : ℕ) (r : Row) → columns_from (suc at) n r ≡ columns_from at n (row_less_rowid r)
 shifted at zero r = refl
 shifted at (suc n) [] = ap (λ l. column [] at ∷ l) (shifted (suc at) n [])
 shifted at (suc n) (v ∷ r) = ap (λ l. column r at ∷ l) (shifted (suc at) n (v ∷ r))
@@ -39,14 +39,14 @@ pub spells_itself : (row vs : Row) → row ≡ vs → Spells row 0 vs
 spells_itself row vs same = spells row 0 vs (ap (columns_from 0 (length vs)) same ∙ whole (length vs) vs refl)
 
 -- less the rowid
-pub of_unnumbered : (n : ℕ) (r : Row) → columns_from 1 n r ≡ columns_from 0 n (unnumbered r)
+pub of_unnumbered : (n : ℕ) (r : Row) → columns_from 1 n r ≡ columns_from 0 n (row_less_rowid r)
 of_unnumbered n r = shifted 0 n r
 
 -- the rowid, and what follows the column that stands for it
 pub of_numbered : (n : ℕ) (r : Row) → ◌≡◌ {A = Row} (column r 0 ∷ columns_from 2 n r) (columns_from 0 (suc n) (with_number r))
-of_numbered n r = ap (λ l. column r 0 ∷ l) (shifted 1 n r ∙ shifted 0 n (unnumbered r) ∙ ap (columns_from 0 n) (twice r) ∙ sym (shifted 0 n (with_number r)))
+of_numbered n r = ap (λ l. column r 0 ∷ l) (shifted 1 n r ∙ shifted 0 n (row_less_rowid r) ∙ ap (columns_from 0 n) (twice r) ∙ sym (shifted 0 n (with_number r)))
   where
-    twice : (r : Row) → unnumbered (unnumbered r) ≡ unnumbered (with_number r)
+    twice : (r : Row) → row_less_rowid (row_less_rowid r) ≡ row_less_rowid (with_number r)
     twice [] = refl
     twice (v ∷ []) = refl
     twice (v ∷ w ∷ r) = refl

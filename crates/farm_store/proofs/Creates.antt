@@ -21,7 +21,7 @@ use Rattle.farm_store.specs.declared.kept.TheConstants.{MAKE as MAKE_KEPT}
 use Rattle.farm_store.specs.declared.meta.TheConstants.{MAKE as MAKE_META}
 use Rattle.farm_store.specs.Schema.{farm_schema, no_schema, types_table, boards_table, jobs_table, reservations_table, kept_table, meta_table}
 use Rattle.farm_store.specs.Columns.{Tables, no_rows}
-use Rattle.farm_store.specs.Edits.{Ran}
+use Rattle.farm_store.specs.Edits.{HasRun}
 use Rattle.farm_store.specs.Holds.{IsInside}
 use Rattle.farm_store.specs.Places.{Place, of_types, of_boards, of_jobs, of_reservations, of_kept, of_meta}
 use Rattle.farm_store.specs.Stored.{Lists}
@@ -43,7 +43,7 @@ pub record Makes (old new : State) (schema : Schema) (table : Table) : Type 0 wh
   pub sound : IsDatabase new.now
 
 makes : (old new : State) (text : List ℕ) (s : Schema) (t : Table) → command_of (understood s text) ≡ CreateTable → statement_of text (understood s text) ≡ text → IsPlain (understood s text)
-    → table_defined_by text ≡ Ok t → lacks_sequence (created s t) ≡ false → old.now.schema ≡ s → Ran text old new → Makes old new s t
+    → table_defined_by text ≡ Ok t → lacks_sequence (created s t) ≡ false → old.now.schema ≡ s → HasRun text old new → Makes old new s t
 makes old new text s t is whole plain defined no_sequence has ran =
     let w = subst (λ u. Writes old new Rattle.std.proofs.Common.None CreateTable u [] ran.0) whole (runs_as text [] old new s has CreateTable is plain ran.0 ran.1) in
     let all = went w.changed in
@@ -64,42 +64,42 @@ makes old new text s t is whole plain defined no_sequence has ran =
 abbrev pub schema_1 : Schema
 schema_1 = created no_schema types_table
 
-pub makes_types : (old new : State) → old.now.schema ≡ no_schema → Ran MAKE_TYPES.now old new → Makes old new no_schema types_table
+pub makes_types : (old new : State) → old.now.schema ≡ no_schema → HasRun MAKE_TYPES.now old new → Makes old new no_schema types_table
 unfolding understood everything
 makes_types old new has ran = makes old new MAKE_TYPES.now no_schema types_table refl refl (refl, refl) refl refl has ran
 
 abbrev pub schema_2 : Schema
 schema_2 = created schema_1 boards_table
 
-pub makes_boards : (old new : State) → old.now.schema ≡ schema_1 → Ran MAKE_BOARDS.now old new → Makes old new schema_1 boards_table
+pub makes_boards : (old new : State) → old.now.schema ≡ schema_1 → HasRun MAKE_BOARDS.now old new → Makes old new schema_1 boards_table
 unfolding understood everything
 makes_boards old new has ran = makes old new MAKE_BOARDS.now schema_1 boards_table refl refl (refl, refl) refl refl has ran
 
 abbrev pub schema_3 : Schema
 schema_3 = created schema_2 jobs_table
 
-pub makes_jobs : (old new : State) → old.now.schema ≡ schema_2 → Ran MAKE_JOBS.now old new → Makes old new schema_2 jobs_table
+pub makes_jobs : (old new : State) → old.now.schema ≡ schema_2 → HasRun MAKE_JOBS.now old new → Makes old new schema_2 jobs_table
 unfolding understood everything
 makes_jobs old new has ran = makes old new MAKE_JOBS.now schema_2 jobs_table refl refl (refl, refl) refl refl has ran
 
 abbrev pub schema_4 : Schema
 schema_4 = created schema_3 reservations_table
 
-pub makes_reservations : (old new : State) → old.now.schema ≡ schema_3 → Ran MAKE_RESERVATIONS.now old new → Makes old new schema_3 reservations_table
+pub makes_reservations : (old new : State) → old.now.schema ≡ schema_3 → HasRun MAKE_RESERVATIONS.now old new → Makes old new schema_3 reservations_table
 unfolding understood everything
 makes_reservations old new has ran = makes old new MAKE_RESERVATIONS.now schema_3 reservations_table refl refl (refl, refl) refl refl has ran
 
 abbrev pub schema_5 : Schema
 schema_5 = created schema_4 kept_table
 
-pub makes_kept : (old new : State) → old.now.schema ≡ schema_4 → Ran MAKE_KEPT.now old new → Makes old new schema_4 kept_table
+pub makes_kept : (old new : State) → old.now.schema ≡ schema_4 → HasRun MAKE_KEPT.now old new → Makes old new schema_4 kept_table
 unfolding understood everything
 makes_kept old new has ran = makes old new MAKE_KEPT.now schema_4 kept_table refl refl (refl, refl) refl refl has ran
 
 abbrev pub schema_6 : Schema
 schema_6 = created schema_5 meta_table
 
-pub makes_meta : (old new : State) → old.now.schema ≡ schema_5 → Ran MAKE_META.now old new → Makes old new schema_5 meta_table
+pub makes_meta : (old new : State) → old.now.schema ≡ schema_5 → HasRun MAKE_META.now old new → Makes old new schema_5 meta_table
 unfolding understood everything
 makes_meta old new has ran = makes old new MAKE_META.now schema_5 meta_table refl refl (refl, refl) refl refl has ran
 
@@ -111,7 +111,7 @@ none_at : (p : Place) (db : Trees) → db p.tree ≡ [] → Lists p.cmp p.show p
 none_at p db is = no_rows_there p.cmp p.show p.width (db p.tree) is
 
 -- the six tables are made, and have no rows
-pub makes_all : (a b c d e f h : State) → a.now.schema ≡ no_schema → Ran MAKE_TYPES.now a b → Ran MAKE_BOARDS.now b c → Ran MAKE_JOBS.now c d → Ran MAKE_RESERVATIONS.now d e → Ran MAKE_KEPT.now e f → Ran MAKE_META.now f h → IsInside h no_rows
+pub makes_all : (a b c d e f h : State) → a.now.schema ≡ no_schema → HasRun MAKE_TYPES.now a b → HasRun MAKE_BOARDS.now b c → HasRun MAKE_JOBS.now c d → HasRun MAKE_RESERVATIONS.now d e → HasRun MAKE_KEPT.now e f → HasRun MAKE_META.now f h → IsInside h no_rows
 makes_all a b c d e f h has one two three four five six =
     let p = makes_types a b has one in
     let q = makes_boards b c p.is two in
@@ -142,16 +142,16 @@ makes_all a b c d e f h has one two three four five six =
 
 -- ---- where the tables are there already
 
-taken : (old new : State) (text : List ℕ) (s : Schema) → is_ok (understood s text) ≡ false → old.now.schema ≡ s → Ran text old new → ⊥
+taken : (old new : State) (text : List ℕ) (s : Schema) → is_ok (understood s text) ≡ false → old.now.schema ≡ s → HasRun text old new → ⊥
 unfolding ExecutesIn
 taken old new text s refused has ran =
     let known : Ok ran.1.0 ≡ understood s text = sym ran.1.1.is ∙ ap (λ u. understood u text) has in
     let no : true ≡ false = ap is_ok known ∙ refused in cc
 
 -- the first table is not made over the farm's
-pub types_taken : (old new : State) → old.now.schema ≡ farm_schema → Ran MAKE_TYPES.now old new → ⊥
+pub types_taken : (old new : State) → old.now.schema ≡ farm_schema → HasRun MAKE_TYPES.now old new → ⊥
 unfolding understood everything
 types_taken old new has ran = taken old new MAKE_TYPES.now farm_schema refl has ran
 
-pub tables_taken : (old new : State) (T : Tables) → IsInside old T → Ran MAKE_TYPES.now old new → ⊥
+pub tables_taken : (old new : State) (T : Tables) → IsInside old T → HasRun MAKE_TYPES.now old new → ⊥
 tables_taken old new T at ran = types_taken old new (at.shown ran.2).schema ran

@@ -22,7 +22,7 @@ use Rattle.sqlite.specs.Rowids.TheVariants.{Chosen}
 use Rattle.sqlite_rules.proofs.ListLemmas.{some_from, all_has}
 use Rattle.sqlite_rules.proofs.PlaceLemmas.{next_is_free}
 use Rattle.farm_store.specs.Columns.{by_first, by_two}
-use Rattle.farm_store.specs.Stored.{HasInt, unnumbered, with_number}
+use Rattle.farm_store.specs.Stored.{HasInt, row_less_rowid, with_number}
 
 pub first_total : IsTotalOrder by_first
 first_total = on_total (λ (r : Row). column r 0) value_cmp_total
@@ -96,13 +96,13 @@ module _ (raws : List Row) (x : Row) (ordered : IsTable raws) (keyed : AllByRecu
 
   -- so only rows with its key conflict
   pub by_next : is_null (column x 0) ≡ false → (raw : Row) → Has raws raw
-      → (agree plain (0 ∷ []) raw (0 ∷ []) new || (agree plain (1 ∷ []) raw (1 ∷ []) new || false)) ≡ is_eq (by_first (unnumbered raw) x)
+      → (agree plain (0 ∷ []) raw (0 ∷ []) new || (agree plain (1 ∷ []) raw (1 ∷ []) new || false)) ≡ is_eq (by_first (row_less_rowid raw) x)
   by_next there [] h = absurd (let int : is_int (rowid []) ≡ true = all_has HasInt raws [] keyed h in cc)
   by_next there (v ∷ rest) h =
       ap (λ b. b || (agree plain (1 ∷ []) (v ∷ rest) (1 ∷ []) new || false)) (other_rowid (v ∷ rest) h) ∙ or_false _ ∙ agree_next v (Int (next_rowid raws)) rest x there
 
   pub by_next_two : is_null (column x 0) ≡ false → is_null (column x 1) ≡ false → (raw : Row) → Has raws raw
-      → (agree plain (0 ∷ []) raw (0 ∷ []) new || (agree plain (1 ∷ 2 ∷ []) raw (1 ∷ 2 ∷ []) new || false)) ≡ is_eq (by_two (unnumbered raw) x)
+      → (agree plain (0 ∷ []) raw (0 ∷ []) new || (agree plain (1 ∷ 2 ∷ []) raw (1 ∷ 2 ∷ []) new || false)) ≡ is_eq (by_two (row_less_rowid raw) x)
   by_next_two there too [] h = absurd (let int : is_int (rowid []) ≡ true = all_has HasInt raws [] keyed h in cc)
   by_next_two there too (v ∷ rest) h =
       ap (λ b. b || (agree plain (1 ∷ 2 ∷ []) (v ∷ rest) (1 ∷ 2 ∷ []) new || false)) (other_rowid (v ∷ rest) h) ∙ or_false _ ∙ agree_two v (Int (next_rowid raws)) rest x there too

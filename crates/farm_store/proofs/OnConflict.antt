@@ -19,12 +19,12 @@ use Rattle.sqlite.specs.declared.run.Mode.{Mode}
 use Rattle.sqlite_rules.specs.declared.error.Refusal.{Refusal}
 use Rattle.sqlite.specs.Command.TheVariants.{InsertOr}
 use Rattle.sqlite.specs.Rows.{Task, count_of, Written, nothing, Upserts, Judged, Tries, TriesEach, InsertsOr}
-use Rattle.farm_store.specs.Schema.{strict}
+use Rattle.farm_store.specs.Schema.{strict_table}
 use Rattle.farm_store.proofs.Replace.{went, same_value}
 
 module _ (limit : Option ℕ) (mode : Mode) (schema : Schema) (name : List ℕ) (tree : ℕ) (columns : List Column) (key : Option ℕ) (primary : List ℕ) (uniques : List (List ℕ)) (orders : List Order) (params : Row) (clause : Upsert) where
   abbrev pub table : Table
-  table = strict name tree columns key primary uniques orders
+  table = strict_table name tree columns key primary uniques orders
 
   abbrev pub task : Task
   task = record { limit = limit; keys = mode.keys; schema = schema; table = table; params = params }

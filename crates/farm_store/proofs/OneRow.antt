@@ -26,7 +26,7 @@ use Rattle.sqlite_rules.specs.Lists.{Has}
 use Rattle.sqlite_catalog.specs.Listing.{AreListed}
 use Rattle.sqlite_trees.specs.Objects.{catalog_tree}
 use Rattle.farm_types.specs.Table.{put}
-use Rattle.farm_store.specs.Schema.{farm_schema, strict}
+use Rattle.farm_store.specs.Schema.{farm_schema, strict_table}
 use Rattle.farm_store.specs.Places.{Place}
 use Rattle.farm_store.specs.Stored.{HasInt, IsWide, Lists}
 use Rattle.farm_store.proofs.Replace.{does}
@@ -42,7 +42,7 @@ pub record Upserted (p : Place) (old new : State) (x : Row) : Type 0 where
 module _ (p : Place) (total : IsTotalOrder p.cmp) (name : List ℕ) (columns : List Column) (key : Option ℕ) (primary : List ℕ) (uniques : List (List ℕ)) (orders : List Order)
     (at : ℕ) (still : (keys : Keys) (olds news : List Row) → works farm_schema keys 0 p.tree olds news ≡ []) where
   abbrev table : Table
-  table = strict name p.tree columns key primary uniques orders
+  table = strict_table name p.tree columns key primary uniques orders
 
   module _ (there : slice_get farm_schema.tables at ≡ Some table) (text : List ℕ) (terms : List Term) (wide : ℕ)
       (is : command_of (understood farm_schema text) ≡ InsertOr at Replace (Values terms wide) []) (plain : IsPlain (understood farm_schema text)) where

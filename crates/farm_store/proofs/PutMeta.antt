@@ -54,12 +54,12 @@ use Rattle.sqlite_rules.proofs.ListLemmas.{all_has, all_from}
 use Rattle.sqlite_rules.proofs.PlaceLemmas.{tied_same}
 use Rattle.sqlite_rules.proofs.TableLemmas.{int_is}
 use Rattle.farm_store.specs.declared.meta.TheConstants.{PUT}
-use Rattle.farm_store.specs.Schema.{farm_schema, strict, meta_table}
+use Rattle.farm_store.specs.Schema.{farm_schema, strict_table, meta_table}
 use Rattle.farm_store.specs.Columns.{Tables, by_first, meta_row}
 use Rattle.farm_store.specs.Holds.{IsInside}
 use Rattle.farm_store.specs.Places.{of_meta, put_at}
 use Rattle.farm_store.specs.Replaces.{Replaces}
-use Rattle.farm_store.specs.Stored.{Differ, HasInt, Lists, unnumbered}
+use Rattle.farm_store.specs.Stored.{Differ, HasInt, Lists, row_less_rowid}
 use Rattle.farm_store.proofs.Sorted.{tie_same}
 use Rattle.farm_store.proofs.Order.{permuted}
 use Rattle.farm_store.proofs.Keys.{first_total, by_next, or_false, equal_is_tied, agree_one, agree_next}
@@ -97,7 +97,7 @@ unfolding understood everything
 put_plain = (refl, refl)
 
 abbrev table : Table
-table = strict (codes "meta") 8 meta_table.columns None (1 ∷ []) ((1 ∷ []) ∷ []) (record { digits = 0 } ∷ [])
+table = strict_table (codes "meta") 8 meta_table.columns None (1 ∷ []) ((1 ∷ []) ∷ []) (record { digits = 0 } ∷ [])
 
 casts : (name : List ℕ) (value : ℕ) → cast_row table (Null ∷ meta_row name value) ≡ Null ∷ meta_row name value
 casts name value = rw (cast_null, cast_int (pos value))
@@ -170,11 +170,11 @@ apart_same show (r ∷ raws) a b up (inr h) (inl k) same = absurd (all_has (Diff
 apart_same show (r ∷ raws) a b up (inr h) (inr k) same = apart_same show raws a b up.1 h k same
 
 -- the first column behind the rowid
-second : (r : Row) → column r 1 ≡ column (unnumbered r) 0
+second : (r : Row) → column r 1 ≡ column (row_less_rowid r) 0
 second [] = refl
 second (v ∷ rest) = refl
 
-module _ (mode : Mode) (limit : Option ℕ) (db : Trees) (rows : List Row) (it : Lists by_first unnumbered 2 (db 8) rows) (name : List ℕ) (value : ℕ) where
+module _ (mode : Mode) (limit : Option ℕ) (db : Trees) (rows : List Row) (it : Lists by_first row_less_rowid 2 (db 8) rows) (name : List ℕ) (value : ℕ) where
   abbrev x : Row
   x = meta_row name value
 
@@ -187,14 +187,14 @@ module _ (mode : Mode) (limit : Option ℕ) (db : Trees) (rows : List Row) (it :
   -- a row that shows the name and the value is put in the place of those with its key
   pub record Makes (next : Trees) : Type 0 where
     pub row : Row
-    pub shows : unnumbered row ≡ x
-    pub clash : (raw : Row) → Has (db 8) raw → conflicts None farm_schema.indexes table row raw ≡ is_eq (by_first (unnumbered raw) x)
-    pub replaces : Replaces unnumbered farm_schema table row db next
+    pub shows : row_less_rowid row ≡ x
+    pub clash : (raw : Row) → Has (db 8) raw → conflicts None farm_schema.indexes table row raw ≡ is_eq (by_first (row_less_rowid raw) x)
+    pub replaces : Replaces row_less_rowid farm_schema table row db next
 
   keyed_at : (raw : Row) → Has (db 8) raw → is_int (rowid raw) ≡ true
   keyed_at raw h = all_has HasInt (db 8) raw it.keyed h
 
-  named : (id : Value) (raw : Row) → Has (db 8) raw → agree plain (1 ∷ []) raw (1 ∷ []) (id ∷ x) ≡ is_eq (by_first (unnumbered raw) x)
+  named : (id : Value) (raw : Row) → Has (db 8) raw → agree plain (1 ∷ []) raw (1 ∷ []) (id ∷ x) ≡ is_eq (by_first (row_less_rowid raw) x)
   named id [] h = absurd (let int : is_int (rowid []) ≡ true = keyed_at [] h in cc)
   named id (v ∷ rest) h = agree_next v id rest x refl
 
@@ -213,10 +213,10 @@ module _ (mode : Mode) (limit : Option ℕ) (db : Trees) (rows : List Row) (it :
         row = new;
         shows = refl;
         clash = clash;
-        replaces = clears unnumbered limit mode farm_schema (codes "meta") 8 table.columns None (1 ∷ []) ((1 ∷ []) ∷ []) (record { digits = 0 } ∷ []) (still mode.keys) x db new it.ordered it.keyed refl (stays _ name value) [] none w h;
+        replaces = clears row_less_rowid limit mode farm_schema (codes "meta") 8 table.columns None (1 ∷ []) ((1 ∷ []) ∷ []) (record { digits = 0 } ∷ []) (still mode.keys) x db new it.ordered it.keyed refl (stays _ name value) [] none w h;
       }
 
-  module _ (r : Row) (h : Has (db 8) r) (tie : by_first (unnumbered r) x ≡ Equal) where
+  module _ (r : Row) (h : Has (db 8) r) (tie : by_first (row_less_rowid r) x ≡ Equal) where
     abbrev id : ℤ
     id = id_in (rowid r)
 
@@ -227,22 +227,22 @@ module _ (mode : Mode) (limit : Option ℕ) (db : Trees) (rows : List Row) (it :
     own = int_is (rowid r) (keyed_at r h)
 
     -- only the row that is there has its key
-    clash_at : (raw : Row) → Has (db 8) raw → conflicts None farm_schema.indexes table row raw ≡ is_eq (by_first (unnumbered raw) x)
+    clash_at : (raw : Row) → Has (db 8) raw → conflicts None farm_schema.indexes table row raw ≡ is_eq (by_first (row_less_rowid raw) x)
     clash_at raw k =
         let by_id : agree plain (0 ∷ []) raw (0 ∷ []) row ≡ is_eq (value_cmp (rowid raw) (Int id)) = agree_one raw row refl in
         let by_name = or_false _ ∙ named (Int id) raw k in
         elim (cases_Bool (is_eq (value_cmp (rowid raw) (Int id)))) [
           | inl same ↦
               let one : raw ≡ r = tied_same (db 8) raw r it.ordered k h (ap (value_cmp (rowid raw)) own ∙ eq_is _ same) in
-              rw (by_id, same) (sym (ap (λ k. is_eq (by_first (unnumbered k) x)) one ∙ ap is_eq tie))
+              rw (by_id, same) (sym (ap (λ k. is_eq (by_first (row_less_rowid k) x)) one ∙ ap is_eq tie))
           | inr other ↦ rw (by_id, other) by_name
         ]
 
     one : (raw : Row) → Has (db 8) raw → conflicts None farm_schema.indexes table row raw ≡ true → raw ≡ r
     one raw k same =
         let tied = eq_is _ (sym (clash_at raw k) ∙ same) in
-        let alike = first_total.congr (unnumbered raw) x (unnumbered r) tied ∙ tied_back first_total (unnumbered r) x tie in
-        apart_same unnumbered (db 8) raw r it.apart k h (tie_same first_total rows (unnumbered raw) (unnumbered r) it.strict (it.complete raw k) (it.complete r h) alike)
+        let alike = first_total.congr (row_less_rowid raw) x (row_less_rowid r) tied ∙ tied_back first_total (row_less_rowid r) x tie in
+        apart_same row_less_rowid (db 8) raw r it.apart k h (tie_same first_total rows (row_less_rowid raw) (row_less_rowid r) it.strict (it.complete raw k) (it.complete r h) alike)
 
     conflicting : AreConflicts None farm_schema.indexes table (db 8) row ((rowid r ∷ []) ∷ [])
     conflicting = record {
@@ -267,7 +267,7 @@ module _ (mode : Mode) (limit : Option ℕ) (db : Trees) (rows : List Row) (it :
           row = row;
           shows = refl;
           clash = clash_at;
-          replaces = from_put unnumbered limit mode farm_schema (codes "meta") 8 table.columns None (1 ∷ []) ((1 ∷ []) ∷ []) (record { digits = 0 } ∷ []) (still mode.keys) x db row it.ordered it.keyed refl (stays id name value)
+          replaces = from_put row_less_rowid limit mode farm_schema (codes "meta") 8 table.columns None (1 ∷ []) ((1 ∷ []) ∷ []) (record { digits = 0 } ∷ []) (still mode.keys) x db row it.ordered it.keyed refl (stays id name value)
               ((rowid r ∷ []) ∷ []) conflicting wrote.0 (subst (λ n. are_fresh (without_all (db 8) (id ∷ [])) (n ∷ []) ≡ true) cast applied.fresh)
               (applied.rows ∙ ap (λ n. put_all (without_all (db 8) (id ∷ [])) (n ∷ [])) cast) applied.tables;
         })
@@ -302,6 +302,6 @@ puts old new name value count T at ran =
       schema = did.0;
       listed = subst (AreListed (new.now.trees catalog_tree)) did.0 run.sound.lists.listed;
       others = did.1.replaces.others;
-      lists = λ rows stored. lists_put first_total unnumbered 2 farm_schema table did.1.row x did.1.shows refl db new.now.trees did.1.clash rows stored did.1.replaces;
+      lists = λ rows stored. lists_put first_total row_less_rowid 2 farm_schema table did.1.row x did.1.shows refl db new.now.trees did.1.clash rows stored did.1.replaces;
     } in
     stands_put of_meta meta_known old new T x upserted see ran.1.mode

@@ -56,7 +56,7 @@ use Rattle.farm_store.specs.Editions.{job_columns_in, state_code_in}
 use Rattle.farm_store.specs.Holds.{IsInside}
 use Rattle.farm_store.specs.Places.{of_jobs}
 use Rattle.farm_store.specs.Raising.{columns_below, edition_below, raised_below}
-use Rattle.farm_store.specs.Schema.{farm_schema, strict, jobs_table}
+use Rattle.farm_store.specs.Schema.{farm_schema, strict_table, jobs_table}
 use Rattle.farm_store.specs.Stored.{Differ, HasInt, IsStrict, IsWide, Lists, with_number}
 use Rattle.farm_store.proofs.Order.{permuted}
 use Rattle.farm_store.proofs.PutAt.{jobs_known, stands_rewritten}
@@ -91,7 +91,7 @@ unfolding understood everything
 raise_plain = (refl, refl)
 
 abbrev table : Table
-table = strict (codes "jobs") 4 jobs_table.columns (Some 0) (0 ∷ []) [] []
+table = strict_table (codes "jobs") 4 jobs_table.columns (Some 0) (0 ∷ []) [] []
 
 -- ---- numbers, as the statement compares them
 

@@ -38,7 +38,7 @@ use Rattle.sqlite_rules.proofs.ListLemmas.{all_has, all_from, has_filtered}
 use Rattle.sqlite_rules.proofs.ProbeLemmas.{has_mapped, mapped_has}
 use Rattle.sqlite_rules.proofs.TableLemmas.{int_is, put_all_has, put_all_keeps, put_all_adds, without_all_has}
 use Rattle.sqlite_rules.proofs.PlaceLemmas.{left_or_taken, row_at_is}
-use Rattle.farm_store.specs.Schema.{strict}
+use Rattle.farm_store.specs.Schema.{strict_table}
 use Rattle.farm_store.specs.Replaces.{Replaces}
 use Rattle.farm_store.specs.Stored.{HasInt, Differ}
 use Rattle.sqlite_trees.proofs.TreeLemmas.{IsTable-put_row, all-put_row}
@@ -98,7 +98,7 @@ left_table (id ∷ ids) rows up all = left_table ids (without_rowid id rows) (fi
 module _ (show : Row → Row) (limit : Option ℕ) (mode : Mode) (schema : Schema) (name : List ℕ) (tree : ℕ) (columns : List Column) (key : Option ℕ) (primary : List ℕ) (uniques : List (List ℕ)) (orders : List Order)
     (still : (olds news : List Row) → works schema mode.keys 0 tree olds news ≡ []) (params : Row) where
   abbrev table : Table
-  table = strict name tree columns key primary uniques orders
+  table = strict_table name tree columns key primary uniques orders
 
   abbrev task : Task
   task = record { limit = limit; keys = mode.keys; schema = schema; table = table; params = params }

@@ -39,7 +39,7 @@ use Rattle.farm_store.specs.declared.boards.TheConstants.{PUT as PUT_BOARDS}
 use Rattle.farm_store.specs.declared.jobs.TheConstants.{PUT as PUT_JOBS}
 use Rattle.farm_store.specs.declared.reservations.TheConstants.{PUT as PUT_RESERVATIONS}
 use Rattle.farm_store.specs.declared.kept.TheConstants.{PUT as PUT_KEPT}
-use Rattle.farm_store.specs.Schema.{farm_schema, strict, types_table, boards_table, jobs_table, reservations_table, kept_table}
+use Rattle.farm_store.specs.Schema.{farm_schema, strict_table, types_table, boards_table, jobs_table, reservations_table, kept_table}
 use Rattle.farm_store.specs.Columns.{Tables, type_columns, board_columns, job_columns, res_columns, kept_columns}
 use Rattle.farm_store.specs.Holds.{IsInside}
 use Rattle.farm_store.specs.Places.{Place, put_at, of_types, of_boards, of_jobs, of_reservations, of_kept}
@@ -81,7 +81,7 @@ module _ (p : Place) (known : IsKnown p) (still : (keys : Keys) (olds news : Lis
   -- a table that is keyed by columns: the store chooses the rowid
   module _ (key : List ℕ) (x : Row) where
     abbrev keyed_table : Table
-    keyed_table = strict name p.tree columns None key (key ∷ []) (record { digits = 0 } ∷ [])
+    keyed_table = strict_table name p.tree columns None key (key ∷ []) (record { digits = 0 } ∷ [])
 
     keyed_puts : slice_get farm_schema.tables at ≡ Some keyed_table → command_of (understood farm_schema text) ≡ InsertOr at Replace (Values terms (suc p.width)) [] → all_fit columns x ≡ true → IsWide p.width x
         → value_rows (x ++ []) (suc p.width) (length terms / suc p.width) terms ≡ (Null ∷ x) ∷ [] → mended Replace keyed_table (Null ∷ x) ≡ Null ∷ x → ((id : ℤ) → p.show (Int id ∷ x) ≡ x)
@@ -106,7 +106,7 @@ module _ (p : Place) (known : IsKnown p) (still : (keys : Keys) (olds news : Lis
     stored = Int n ∷ Null ∷ rest
 
     abbrev numbered_table : Table
-    numbered_table = strict name p.tree columns (Some 0) (0 ∷ []) [] []
+    numbered_table = strict_table name p.tree columns (Some 0) (0 ∷ []) [] []
 
     numbered_puts : slice_get farm_schema.tables at ≡ Some numbered_table → command_of (understood farm_schema text) ≡ InsertOr at Replace (Values terms (suc p.width)) [] → all_fit columns (Null ∷ rest) ≡ true → IsWide p.width x
         → value_rows (x ++ []) (suc p.width) (length terms / suc p.width) terms ≡ stored ∷ [] → mended Replace numbered_table stored ≡ stored → p.show stored ≡ x

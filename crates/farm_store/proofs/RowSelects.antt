@@ -34,7 +34,7 @@ use Rattle.farm_store.specs.Columns.{Tables, by_first, by_two}
 use Rattle.farm_store.specs.Holds.{IsInside, ShowsTables}
 use Rattle.farm_store.specs.Places.{Place, of_types, of_boards, of_jobs, of_reservations, of_kept, of_meta}
 use Rattle.farm_store.specs.Reading.{CommitShows}
-use Rattle.farm_store.specs.Stored.{IsWide, unnumbered, with_number}
+use Rattle.farm_store.specs.Stored.{IsWide, row_less_rowid, with_number}
 use Rattle.farm_store.proofs.ColumnsFrom.{columns_from, whole, of_unnumbered, of_numbered}
 use Rattle.farm_store.proofs.PutAt.{IsKnown, types_known, boards_known, jobs_known, reservations_known, kept_known, meta_known}
 use Rattle.farm_store.proofs.Selects.{Selected, selected, rows_are}
@@ -101,7 +101,7 @@ first_is a b = then-Equal (value_cmp (column a 0) (column b 0))
 two_are : (a b : Row) → output_cmp (query_of 0 [] two_keys) (column a 0 ∷ column a 1 ∷ [], a) (column b 0 ∷ column b 1 ∷ [], b) ≡ by_two a b
 two_are a b = ap (ordering_then (value_cmp (column a 0) (column b 0))) (then-Equal (value_cmp (column a 1) (column b 1)))
 
-behind : (at : ℕ) (r : Row) → column r (suc at) ≡ column (unnumbered r) at
+behind : (at : ℕ) (r : Row) → column r (suc at) ≡ column (row_less_rowid r) at
 behind at [] = refl
 behind at (v ∷ r) = refl
 
@@ -119,14 +119,14 @@ module _ (p : Place) (known : IsKnown p) (alone : (db : Trees) → overlay db []
       (a.distinct ∙ ap (map (output query)) a.grouped ∙ ap (λ raws. map (output query) (flat_map (λ r. ([] ∷ r ∷ []) ∷ []) raws)) (alone old.now.trees)) a.same a.sorted a.shown there in
       (same, subst (AllByRecursion (IsWide p.width)) (sym same) there.wide, got)
 
-  shown_by_key : IsQuery text (by_key p) names → ((r : Row) → unnumbered r ≡ p.show r) → ((a b : Row) → by_first a b ≡ p.cmp a b) → Shows p text (by_key p)
+  shown_by_key : IsQuery text (by_key p) names → ((r : Row) → row_less_rowid r ≡ p.show r) → ((a b : Row) → by_first a b ≡ p.cmp a b) → Shows p text (by_key p)
   shown_by_key is show cmp =
       let Q : Row → Output = λ r. (column r 0 ∷ [], columns_from 0 p.width r) in
       by_output (cols 1 p.width) (first_key 1) (λ r. (column r 1 ∷ [], columns_from 1 p.width r)) Q is
       (λ r. ap₂ (λ (k : Value) (l : Row). (k ∷ [], l)) (behind 0 r) (of_unnumbered p.width r) ∙ ap Q (show r)) (λ a b. first_is a b ∙ cmp a b) (whole p.width)
       (λ r. ap (λ (l : Row). (column r 1 ∷ [], l)) (of_cols 1 p.width r))
 
-  shown_by_keys : IsQuery text (by_keys p) names → ((r : Row) → unnumbered r ≡ p.show r) → ((a b : Row) → by_two a b ≡ p.cmp a b) → Shows p text (by_keys p)
+  shown_by_keys : IsQuery text (by_keys p) names → ((r : Row) → row_less_rowid r ≡ p.show r) → ((a b : Row) → by_two a b ≡ p.cmp a b) → Shows p text (by_keys p)
   shown_by_keys is show cmp =
       let Q : Row → Output = λ r. (column r 0 ∷ column r 1 ∷ [], columns_from 0 p.width r) in
       by_output (cols 1 p.width) two_keys (λ r. (column r 1 ∷ column r 2 ∷ [], columns_from 1 p.width r)) Q is

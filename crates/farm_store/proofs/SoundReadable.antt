@@ -5,6 +5,7 @@ use Rattle.std.specs.Option.{option_map_or}
 use Rattle.std.specs.Str.{bytes_eq}
 use Rattle.std.proofs.lemmas.Bool.{cases_Bool}
 use Rattle.std.proofs.lemmas.Slice.Eq.{bytes_eq-Decides}
+use Rattle.farm_types.specs.Limits.{longest_name}
 use Rattle.farm_types.specs.Words.{IsName, IsTags, is_word, is_tags}
 use Rattle.farm_types.specs.Farm.{Farm}
 use Rattle.farm_types.specs.Proper.{is_want}
@@ -23,9 +24,9 @@ found_name name_of (r ∷ rows) names name found = elim (cases_Bool (bytes_eq (n
 ]
 
 want_kind : (w : Want) → IsTrue (is_want w) → IfSome w.kind IsName × IsTags w.tags
-want_kind w want = let both = and_parts (option_map_or (is_word 48) w.kind true) (is_tags w.tags) want in (by w.kind both.0, both.1)
+want_kind w want = let both = and_parts (option_map_or (is_word longest_name) w.kind true) (is_tags w.tags) want in (by w.kind both.0, both.1)
   where
-    by : (kind : Option (List ℕ)) → option_map_or (is_word 48) kind true ≡ true → IfSome kind IsName
+    by : (kind : Option (List ℕ)) → option_map_or (is_word longest_name) kind true ≡ true → IfSome kind IsName
     by None h = tt
     by (Some name) h = h
 

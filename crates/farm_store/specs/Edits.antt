@@ -29,6 +29,6 @@ module _ {S : Type 0} (g : Ghosts S) where
     pub survives : CommitsNothing (state g old.conn.now) (state g new.conn.now)
 
 -- the text ran in a transaction
-abbrev pub Ran : List ℕ → State → State → Type 0
-Ran sql old new = (count : ℕ) × Executes sql [] old new (Ok count) × IsTrue old.is_open
+abbrev pub HasRun : List ℕ → State → State → Type 0
+HasRun sql old new = (count : ℕ) × Executes sql [] old new (Ok count) × IsTrue old.is_open
     × IsTrue new.is_open × IsTrue new.in_transaction

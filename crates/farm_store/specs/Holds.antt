@@ -10,7 +10,7 @@ use Rattle.farm_store.specs.Schema.{farm_schema}
 use Rattle.farm_store.specs.Columns.{Tables, rows_of}
 use Rattle.farm_store.specs.Places.{HoldsAt, of_types, of_boards, of_jobs, of_reservations, of_kept}
 use Rattle.farm_store.specs.Places.{of_meta}
-use Rattle.farm_types.specs.Farm.{Farm, empty}
+use Rattle.farm_types.specs.Farm.{Farm, empty_farm}
 
 -- the trees list the farm's schema, and its tables have these rows
 pub record Holds (db : Trees) (T : Tables) : Type 0 where
@@ -60,4 +60,4 @@ StandsFor s F = HasCleanDisk s → Stands s (rows_of F)
 -- the store stood for no tables, and these are those of the empty farm
 pub record IsMadeIn (s : State) (db : Trees) : Type 0 where
   pub free : (T : Tables) → ¬ Stands s T
-  pub made : Holds db (rows_of empty)
+  pub made : Holds db (rows_of empty_farm)

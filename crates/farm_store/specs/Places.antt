@@ -9,7 +9,7 @@ use Rattle.farm_store.specs.Columns.{Tables, by_first, by_two, type_columns, boa
 use Rattle.farm_store.specs.Columns.{job_columns, res_columns, kept_columns, number_rows}
 use Rattle.farm_store.specs.Schema.{types_table, boards_table, jobs_table, reservations_table}
 use Rattle.farm_store.specs.Schema.{kept_table, meta_table}
-use Rattle.farm_store.specs.Stored.{Lists, unnumbered, with_number}
+use Rattle.farm_store.specs.Stored.{Lists, row_less_rowid, with_number}
 
 -- one of the six tables: its tree, what a raw row of it shows, how wide that is, the order of its
 -- rows, which rows they are, and the tables with other rows there
@@ -24,7 +24,7 @@ pub record Place : Type 0 where
 abbrev pub of_types : Place
 of_types = record {
   tree = 0;
-  show = unnumbered;
+  show = row_less_rowid;
   width = length types_table.columns;
   cmp = by_first;
   rows = λ T. T.types;
@@ -34,7 +34,7 @@ of_types = record {
 abbrev pub of_boards : Place
 of_boards = record {
   tree = 2;
-  show = unnumbered;
+  show = row_less_rowid;
   width = length boards_table.columns;
   cmp = by_first;
   rows = λ T. T.boards;
@@ -64,7 +64,7 @@ of_reservations = record {
 abbrev pub of_kept : Place
 of_kept = record {
   tree = 6;
-  show = unnumbered;
+  show = row_less_rowid;
   width = length kept_table.columns;
   cmp = by_two;
   rows = λ T. T.kept;
@@ -74,7 +74,7 @@ of_kept = record {
 abbrev pub of_meta : Place
 of_meta = record {
   tree = 8;
-  show = unnumbered;
+  show = row_less_rowid;
   width = length meta_table.columns;
   cmp = by_first;
   rows = λ T. T.meta;

@@ -36,8 +36,8 @@ pub record Lists (cmp : Row → Row → Ordering) (show : Row → Row) (width : 
   pub complete : (raw : Row) → Has raws raw → Has rows (show raw)
 
 -- a raw row less its rowid, and a raw row whose first column is its rowid
-abbrev pub unnumbered : Row → Row
-unnumbered r = drop 1 r
+abbrev pub row_less_rowid : Row → Row
+row_less_rowid r = drop 1 r
 
 abbrev pub with_number : Row → Row
 with_number r = column r 0 ∷ drop 2 r

@@ -3,9 +3,9 @@ ghost use Rattle.std.specs.Prelude.{◌≡◌, ◌⊎◌, false, IsTrue, IfErr, 
 ghost use Rattle.sqlite.specs.Held.{state};
 ghost use Rattle.sqlite.specs.State.{HasCleanDisk, KeepsCommit};
 ghost use Rattle.sqlite.specs.Tree.{Trees};
-ghost use Rattle.farm_types.specs.Farm.{empty};
+ghost use Rattle.farm_types.specs.Farm.{empty_farm};
 ghost use Rattle.farm_store.specs.Columns.{Tables, no_rows, rows_of};
-ghost use Rattle.farm_store.specs.Edits.{GoesOn, Ran, StaysOpen};
+ghost use Rattle.farm_store.specs.Edits.{GoesOn, HasRun, StaysOpen};
 ghost use Rattle.farm_store.specs.Holds.{IsInside, IsMadeIn, KeepsDoubt, Stands};
 ghost use Rattle.farm_store.specs.Reading.{CommitShows};
 ghost use Rattle.farm_store.specs.Schema.{no_schema};
@@ -28,7 +28,7 @@ fn make<S: Alter>(tx: &mut Transaction<'_, S>, sql: &str) -> Result<(), Error>
     ensures goes_on { GoesOn S.Store tx.old tx.new }
     ensures ran { HasCleanDisk (state S.Store tx.new.conn.now)
         → OnOk result (IsTrue (state S.Store tx.old.conn.now).in_transaction
-        → Ran sql.now (state S.Store tx.old.conn.now) (state S.Store tx.new.conn.now)) }
+        → HasRun sql.now (state S.Store tx.old.conn.now) (state S.Store tx.new.conn.now)) }
     ensures kept { HasCleanDisk (state S.Store tx.new.conn.now)
         → IsTrue (state S.Store tx.old.conn.now).in_transaction
         → KeepsCommit (state S.Store tx.old.conn.now) (state S.Store tx.new.conn.now) }
@@ -64,7 +64,7 @@ fn put_first_numbers<S: Alter>(tx: &mut Transaction<'_, S>) -> Result<(), Error>
     ensures goes_on { GoesOn S.Store tx.old tx.new }
     ensures put { HasCleanDisk (state S.Store tx.new.conn.now)
         → OnOk result (IsInside (state S.Store tx.old.conn.now) no_rows
-        → IsInside (state S.Store tx.new.conn.now) (rows_of empty)) }
+        → IsInside (state S.Store tx.new.conn.now) (rows_of empty_farm)) }
     ensures stays_open { StaysOpen result (state S.Store tx.old.conn.now)
         (state S.Store tx.new.conn.now) }
 {
@@ -90,7 +90,7 @@ pub fn create<S: Alter>(conn: &mut Connection<S>) -> Result<(), StoreFault>
     ensures autocommit { conn.new.in_transaction ≡ false }
     ensures clean { KeepsDoubt (state S.Store conn.old) (state S.Store conn.new) }
     ensures ok { HasCleanDisk (state S.Store conn.new)
-        → OnOk result (Stands (state S.Store conn.new) (rows_of empty)) }
+        → OnOk result (Stands (state S.Store conn.new) (rows_of empty_farm)) }
     ensures refused { HasCleanDisk (state S.Store conn.new)
         → OnOk result ((T : Tables) → ¬ Stands (state S.Store conn.old) T) }
     ensures bare { OnOk result ((state S.Store conn.old).now.schema ≡ no_schema) }

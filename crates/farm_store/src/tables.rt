@@ -1,7 +1,7 @@
 //! Whether a store's tables are the farm's.
 ghost use Rattle.std.specs.Prelude.{◌≡◌, ◌↔◌, ◌∷◌, [], IsTrue, codes, true, map};
-ghost use Rattle.farm_store.specs.Schema.{IsBare, farm_indexes, farm_schema, key_index, keyed};
-ghost use Rattle.farm_store.specs.Schema.{no_schema, numbered, strict_column};
+ghost use Rattle.farm_store.specs.Schema.{IsBare, farm_indexes, farm_schema, key_index, keyed_table};
+ghost use Rattle.farm_store.specs.Schema.{no_schema, numbered_table, strict_column};
 
 use crate::boards::is_boards;
 use crate::jobs::is_jobs;
@@ -88,7 +88,7 @@ fn is_ordered_plainly(table: &Table) -> bool
 /// at these places.
 pub(crate) fn is_keyed(table: &Table, name: &str, tree: u32, places: &[usize]) -> bool
     ensures { IsTrue result
-        ↔ (table.now ≡ record (keyed name.now places.now table.now.columns) { tree = tree }) }
+        ↔ (table.now ≡ record (keyed_table name.now places.now table.now.columns) { tree = tree }) }
 {
     table.name.as_slice() == name.as_bytes()
         && table.tree == tree
@@ -103,7 +103,7 @@ pub(crate) fn is_keyed(table: &Table, name: &str, tree: u32, places: &[usize]) -
 /// rowid.
 pub(crate) fn is_numbered(table: &Table, name: &str, tree: u32) -> bool
     ensures { IsTrue result
-        ↔ (table.now ≡ record (numbered name.now table.now.columns) { tree = tree }) }
+        ↔ (table.now ≡ record (numbered_table name.now table.now.columns) { tree = tree }) }
 {
     table.name.as_slice() == name.as_bytes()
         && table.tree == tree

@@ -4,9 +4,7 @@ ghost use Rattle.std.specs.Prelude.{◌≡◌, IfOk};
 use farm_types::calls::Rows;
 use farm_types::fault::WordFault;
 use farm_types::priority::Priority;
-use farm_types::rows::{
-    BoardRow, Check, Health, Holder, JobRow, JobState, MetaRow, State, TypeRow, Want,
-};
+use farm_types::rows::{BoardRow, Check, Health, JobRow, JobState, MetaRow, TypeRow, Want};
 use farm_types::tags::Tags;
 use farm_types::words::{Body, Name};
 use std::alloc::Global;
@@ -31,16 +29,9 @@ pub(crate) fn board(alloc: Global, called: &str, texts: &str) -> Result<BoardRow
     let name = name(alloc, called)?;
     let kind = Name::parse(alloc, b"bbb")?;
     let tags = tags(alloc, texts)?;
-    Ok(BoardRow {
-        name,
-        kind,
-        tags,
-        health: Health::Good,
-        state: State::Idle,
-        holder: Holder::Nobody,
-        jobs_since: 0,
-        last_check: 0,
-    })
+    let mut row = BoardRow::new(name, kind, tags);
+    row.health = Health::Good;
+    Ok(row)
 }
 
 /// A want of type `bbb`.

@@ -27,14 +27,14 @@ outcome_called = first_called outcome_word (Outcome.Complete ∷ Outcome.Incompl
 -- ---- priorities
 
 -- the priority of a claim that names none
-abbrev pub medium : ℕ
-medium = 50
+abbrev pub medium_priority : ℕ
+medium_priority = 50
 
 -- one of three words
 abbrev pub priority_called : List ℕ → Option ℕ
 priority_called text =
     if bytes_eq text (codes "low") then Some 0
-    else if bytes_eq text (codes "medium") then Some medium
+    else if bytes_eq text (codes "medium") then Some medium_priority
     else if bytes_eq text (codes "high") then Some highest_priority
     else None
 

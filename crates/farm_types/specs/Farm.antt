@@ -25,8 +25,8 @@ pub record Farm : Type 0 where
   pub next : ℕ
 
 -- the farm that nothing was asked of
-abbrev pub empty : Farm
-empty = record { types = []; boards = []; jobs = []; reservations = []; kept = []; clock = 0; collector = 0; count = 0; next = 1 }
+abbrev pub empty_farm : Farm
+empty_farm = record { types = []; boards = []; jobs = []; reservations = []; kept = []; clock = 0; collector = 0; count = 0; next = 1 }
 
 -- the row with a key
 abbrev pub type_of : Farm → List ℕ → Option TypeRow

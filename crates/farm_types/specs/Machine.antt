@@ -15,8 +15,8 @@ pub data Answered : Type 0 where
   Denied : ℕ → Answered
 
 -- the reply that is kept for the call's key and the same command, where the moment is good
-abbrev pub repeated : Farm → Call → Option Reply
-repeated F call =
+abbrev pub repeated_reply : Farm → Call → Option Reply
+repeated_reply F call =
     if is_late call then None
     else (if keeps_kind F call then option_map (λ r. r.reply) (kept_for F call) else None)
 
@@ -27,7 +27,7 @@ answer_by None None reply = Changed reply
 
 -- a kept reply goes before every refusal but that of the moment
 unfoldable pub answer : Farm → Call → Answered
-answer F call = answer_by (repeated F call) (refusal F call) (change F call).reply
+answer F call = answer_by (repeated_reply F call) (refusal F call) (change F call).reply
 
 abbrev pub step_by : Answered → Farm → Farm → Farm
 step_by (Changed reply) F G = G

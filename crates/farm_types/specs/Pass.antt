@@ -20,15 +20,15 @@ use Rattle.farm_types.specs.declared.rows.JobRow.{JobRow}
 use Rattle.farm_types.specs.declared.rows.ResRow.{ResRow}
 
 -- a board in someone's hands, and in nobody's
-abbrev pub held : Holder → State → BoardRow → BoardRow
-held holder state b = record b { holder = holder; state = state }
+abbrev pub held_board : Holder → State → BoardRow → BoardRow
+held_board holder state b = record b { holder = holder; state = state }
 
-abbrev pub idle : BoardRow → BoardRow
-idle = held Holder.Nobody State.Idle
+abbrev pub freed_board : BoardRow → BoardRow
+freed_board = held_board Holder.Nobody State.Idle
 
 -- a job without a board
-abbrev pub unplaced : JobRow → JobRow
-unplaced j = record j { state = JobState.Submitted; board = None }
+abbrev pub unplaced_job : JobRow → JobRow
+unplaced_job j = record j { state = JobState.Submitted; board = None }
 
 -- the farm with a named board changed; with none named it stays
 abbrev pub with_board : (BoardRow → BoardRow) → Farm → Option (List ℕ) → Farm
@@ -57,12 +57,12 @@ abbrev pub change_res : (ResRow → Bool) → (ResRow → ResRow) → (BoardRow 
 change_res test f g F = record F { reservations = change_where test f F.reservations; boards = change_where (λ b. is_res_so F test b.holder) g F.boards }
 
 -- 1. the collecting group gives its boards back, and none collects
-abbrev pub back : Farm → Farm
-back F = record (change_jobs (λ j. (j.group == F.collector) && same_job_state j.state JobState.Scheduling) unplaced idle F) { collector = 0 }
+abbrev pub giving_back : Farm → Farm
+giving_back F = record (change_jobs (λ j. (j.group == F.collector) && same_job_state j.state JobState.Scheduling) unplaced_job freed_board F) { collector = 0 }
 
 -- 2. each dead reservation is expired, and the board that it holds is free
 abbrev pub expire : Farm → ℕ → Farm
-expire F t = change_res (is_dead t) (λ r. record r { state = ResState.Expired }) idle F
+expire F t = change_res (is_dead t) (λ r. record r { state = ResState.Expired }) freed_board F
 
 -- 3. each due board is checked, while there is room
 abbrev pub is_reached : ℕ → BoardRow → Check → Bool
@@ -101,7 +101,7 @@ check_one F b =
     if has_room F 1
     then record F {
       jobs = put job_cmp F.jobs (check_job F.next b);
-      boards = change_where (λ c. bytes_eq c.name b.name) (held (Holder.Job F.next) State.Reserved) F.boards;
+      boards = change_where (λ c. bytes_eq c.name b.name) (held_board (Holder.Job F.next) State.Reserved) F.boards;
       next = F.next + 1;
     }
     else F
@@ -110,17 +110,17 @@ abbrev pub checks : Farm → ℕ → Farm
 checks F t = fold check_one F (filter (is_due F t) F.boards)
 
 -- 4. the claims are taken, the one that collected first and then in queue order, and each is given the least list of free boards that meets it
-abbrev pub placed : JobState → List ℕ → JobRow → JobRow
-placed state name j = record j { state = state; board = Some name }
+abbrev pub placed_job : JobState → List ℕ → JobRow → JobRow
+placed_job state name j = record j { state = state; board = Some name }
 
-abbrev pub allocated : List ℕ → ℕ → ResRow → ResRow
-allocated name t r = record r { state = ResState.Allocated; board = Some name; deadline = t + lease }
+abbrev pub allocated_reservation : List ℕ → ℕ → ResRow → ResRow
+allocated_reservation name t r = record r { state = ResState.Allocated; board = Some name; deadline = t + lease }
 
 -- a member is in the state and holds the board
 abbrev pub give_member : JobState → Farm → JobRow × BoardRow → Farm
 give_member state F (j, b) = record F {
-  jobs = change_where (λ m. m.number == j.number) (placed state b.name) F.jobs;
-  boards = change_where (λ c. bytes_eq c.name b.name) (held (Holder.Job j.number) State.Reserved) F.boards;
+  jobs = change_where (λ m. m.number == j.number) (placed_job state b.name) F.jobs;
+  boards = change_where (λ c. bytes_eq c.name b.name) (held_board (Holder.Job j.number) State.Reserved) F.boards;
 }
 
 -- each member is given its board
@@ -130,8 +130,8 @@ give_group F group bs = fold (give_member JobState.Scheduled) F (zip (members F 
 abbrev pub give_res : Farm → ℕ → List BoardRow → ℕ → Farm
 give_res F number [] t = F
 give_res F number (b ∷ bs) t = record F {
-  reservations = change_where (λ r. r.number == number) (allocated b.name t) F.reservations;
-  boards = change_where (λ c. bytes_eq c.name b.name) (held (Holder.Res number) State.Reserved) F.boards;
+  reservations = change_where (λ r. r.number == number) (allocated_reservation b.name t) F.reservations;
+  boards = change_where (λ c. bytes_eq c.name b.name) (held_board (Holder.Res number) State.Reserved) F.boards;
 }
 
 abbrev pub give : Farm → Claimed → List BoardRow → ℕ → Farm
@@ -168,8 +168,8 @@ serve t s c =
 abbrev pub is_group : ℕ → Claimed → Bool
 is_group group c = not c.reservation && (c.number == group)
 
-abbrev pub taken : Farm → ℕ → List Claimed
-taken F group = filter (is_group group) (queue F) ++ filter (λ c. not (is_group group c)) (queue F)
+abbrev pub claims_taken : Farm → ℕ → List Claimed
+claims_taken F group = filter (is_group group) (queue F) ++ filter (λ c. not (is_group group c)) (queue F)
 
 abbrev pub serve_all : Farm → ℕ → ℕ → Served
-serve_all F group t = fold (serve t) (record { farm = F; claims = 0 }) (taken F group)
+serve_all F group t = fold (serve t) (record { farm = F; claims = 0 }) (claims_taken F group)

@@ -68,12 +68,12 @@ abbrev pub names_cmp : List BoardRow → List BoardRow → Ordering
 names_cmp = slice_cmp board_cmp
 
 -- x is one of the list
-abbrev pub Among : {A : Type 0} → A → List A → Type 0
-Among x [] = ⊥
-Among x (y ∷ ys) = (x ≡ y) ⊎ Among x ys
+abbrev pub IsAmong : {A : Type 0} → A → List A → Type 0
+IsAmong x [] = ⊥
+IsAmong x (y ∷ ys) = (x ≡ y) ⊎ IsAmong x ys
 
 abbrev pub AreAmong : List BoardRow → List BoardRow → Type 0
-AreAmong boards bs = AllByRecursion (λ b. Among b boards) bs
+AreAmong boards bs = AllByRecursion (λ b. IsAmong b boards) bs
 
 -- these boards meet the wants, and no list of boards that meets them comes before
 pub record IsLeast (boards : List BoardRow) (test : BoardRow → Bool) (wants : List Want) (bs : List BoardRow) : Type 0 where

@@ -56,14 +56,14 @@ hold_of F (Holder.Job n) = option_map_or job_hold (job_of F n) None
 hold_of F (Holder.Res n) = option_map_or res_hold (res_of F n) None
 
 -- what a board says of itself
-abbrev pub shown : BoardRow → Hold
-shown b = record { board = b.name; holder = b.holder; state = b.state }
+abbrev pub shown_hold : BoardRow → Hold
+shown_hold b = record { board = b.name; holder = b.holder; state = b.state }
 
 -- the board is Idle in nobody's hands, or its holder holds it and gives it its state
 abbrev pub IsHeldBy : Farm → BoardRow → Holder → Type 0
 IsHeldBy F b Holder.Nobody = b.state ≡ State.Idle
-IsHeldBy F b (Holder.Job n) = hold_of F (Holder.Job n) ≡ Some (shown b)
-IsHeldBy F b (Holder.Res n) = hold_of F (Holder.Res n) ≡ Some (shown b)
+IsHeldBy F b (Holder.Job n) = hold_of F (Holder.Job n) ≡ Some (shown_hold b)
+IsHeldBy F b (Holder.Res n) = hold_of F (Holder.Res n) ≡ Some (shown_hold b)
 
 -- each board and the row that holds it name each other
 pub record IsHeldByKeys (F : Farm) : Type 0 where
@@ -86,7 +86,7 @@ EachTwo R (x ∷ xs) = AllByRecursion (R x) xs × EachTwo R xs
 -- no board is held twice, and each says who holds it, or that nobody does
 pub record IsHeldOnce (F : Farm) : Type 0 where
   pub once : EachTwo (λ h k. h.board ≢ k.board) (holds F)
-  pub told : AllByRecursion (λ b. shown b ≡ unwrap_or (find (λ h. bytes_eq h.board b.name) (holds F)) (no_hold b.name)) F.boards
+  pub told : AllByRecursion (λ b. shown_hold b ≡ unwrap_or (find (λ h. bytes_eq h.board b.name) (holds F)) (no_hold b.name)) F.boards
 
 -- 0 while a group waits for boards, 1 when all its members have boards, 2 from the start on
 abbrev pub phase : JobState → ℕ

@@ -4,7 +4,7 @@ use Rattle.std.specs.Option.{option_map}
 use Rattle.farm_types.specs.Proper.{is_proper}
 use Rattle.farm_types.specs.Farm.{Farm, board_of, job_of, res_of}
 use Rattle.farm_types.specs.Machine.{Answered, Changed, answer, step}
-use Rattle.farm_types.specs.Change.{replied}
+use Rattle.farm_types.specs.Change.{reply_of}
 use Rattle.farm_types.specs.declared.rows.Check.{Check}
 use Rattle.farm_types.specs.declared.rows.Health.{Health}
 use Rattle.farm_types.specs.declared.rows.State.{State}
@@ -36,10 +36,10 @@ abbrev pub board_shows : Farm → List ℕ → Option (Health × State × Holder
 board_shows F name = option_map (λ b. (b.health, b.state, b.holder, b.jobs_since, b.last_check)) (board_of F name)
 
 abbrev pub did : ℕ → Answered
-did n = Changed (replied n 0 0)
+did n = Changed (reply_of n 0 0)
 
 abbrev pub passed : ℕ → ℕ → ℕ → Answered
-passed c e s = Changed (replied c e s)
+passed c e s = Changed (reply_of c e s)
 
 -- the callers of the scripts
 abbrev pub by_admin : (now : ℕ) (cmd : Cmd) → is_proper (codes "admin") None cmd ≡ true → Call

@@ -3,7 +3,7 @@ use Rattle.std.specs.Prelude.{◌≡◌, List, [], ◌∷◌, Some, codes, refl}
 use Rattle.std.specs.Str.{is_utf8, chars}
 use Rattle.farm_types.specs.Words.{is_word, is_tag, is_tags}
 use Rattle.farm_types.specs.Proper.{is_proper_cmd}
-use Rattle.farm_types.specs.Farm.{empty}
+use Rattle.farm_types.specs.Farm.{empty_farm}
 use Rattle.farm_types.specs.Machine.{run}
 use Rattle.farm_types.specs.Worked.{answers, board_shows, did, passed, by_admin, by_dispatcher, by_ann, new_type, new_board, set, single}
 use Rattle.farm_types.specs.declared.rows.Check.{Check}
@@ -75,9 +75,9 @@ check_in_maintenance =
 
 -- what each script answers and leaves
 pub record AllChecksAsWorked : Type 0 where
-  pub check_goes_first_answers : answers empty check_goes_first ≡ did 0 ∷ did 0 ∷ did 0 ∷ did 1 ∷ passed 1 0 0 ∷ did 2 ∷ did 2 ∷ passed 0 0 1 ∷ []
-  pub check_goes_first_board__b1 : board_shows (run empty check_goes_first) (codes "b1") ≡ Some (Health.Good, State.Reserved, Holder.Job 1, 0, 1100)
-  pub hours_since_the_last_check_answers : answers empty hours_since_the_last_check ≡ did 0 ∷ did 0 ∷ did 0 ∷ passed 0 0 0 ∷ passed 1 0 0 ∷ []
-  pub jobs_since_the_last_check_answers : answers empty jobs_since_the_last_check ≡ did 0 ∷ did 0 ∷ did 0 ∷ did 1 ∷ did 2 ∷ passed 0 0 1 ∷ did 1 ∷ did 1 ∷ passed 0 0 1 ∷ did 2 ∷ did 2 ∷ passed 1 0 0 ∷ did 3 ∷ did 3 ∷ passed 0 0 0 ∷ []
-  pub jobs_since_the_last_check_board__b1 : board_shows (run empty jobs_since_the_last_check) (codes "b1") ≡ Some (Health.Bad, State.Idle, Holder.Nobody, 2, 0)
-  pub check_in_maintenance_board__b1 : board_shows (run empty check_in_maintenance) (codes "b1") ≡ Some (Health.Maintenance, State.Idle, Holder.Nobody, 0, 90)
+  pub check_goes_first_answers : answers empty_farm check_goes_first ≡ did 0 ∷ did 0 ∷ did 0 ∷ did 1 ∷ passed 1 0 0 ∷ did 2 ∷ did 2 ∷ passed 0 0 1 ∷ []
+  pub check_goes_first_board__b1 : board_shows (run empty_farm check_goes_first) (codes "b1") ≡ Some (Health.Good, State.Reserved, Holder.Job 1, 0, 1100)
+  pub hours_since_the_last_check_answers : answers empty_farm hours_since_the_last_check ≡ did 0 ∷ did 0 ∷ did 0 ∷ passed 0 0 0 ∷ passed 1 0 0 ∷ []
+  pub jobs_since_the_last_check_answers : answers empty_farm jobs_since_the_last_check ≡ did 0 ∷ did 0 ∷ did 0 ∷ did 1 ∷ did 2 ∷ passed 0 0 1 ∷ did 1 ∷ did 1 ∷ passed 0 0 1 ∷ did 2 ∷ did 2 ∷ passed 1 0 0 ∷ did 3 ∷ did 3 ∷ passed 0 0 0 ∷ []
+  pub jobs_since_the_last_check_board__b1 : board_shows (run empty_farm jobs_since_the_last_check) (codes "b1") ≡ Some (Health.Bad, State.Idle, Holder.Nobody, 2, 0)
+  pub check_in_maintenance_board__b1 : board_shows (run empty_farm check_in_maintenance) (codes "b1") ≡ Some (Health.Maintenance, State.Idle, Holder.Nobody, 0, 90)

@@ -3,7 +3,7 @@ use Rattle.std.specs.Prelude.{◌≡◌, ◌++◌, List, [], ◌∷◌, Some, No
 use Rattle.std.specs.Str.{is_utf8, chars}
 use Rattle.farm_types.specs.Words.{is_word, is_tag, is_tags}
 use Rattle.farm_types.specs.Proper.{is_proper_cmd}
-use Rattle.farm_types.specs.Farm.{empty}
+use Rattle.farm_types.specs.Farm.{empty_farm}
 use Rattle.farm_types.specs.Machine.{Denied, run}
 use Rattle.farm_types.specs.Worked.{answers, job_shows, res_shows, board_shows, did, passed, by_admin, by_dispatcher, by_ann, new_type, new_board, set, a_board, single, pair}
 use Rattle.farm_types.specs.declared.rows.Check.{Check}
@@ -91,42 +91,42 @@ types_are_served = by_admin 35 (set (codes "a1") Health.Good) refl ∷ by_dispat
 
 -- what each script answers and leaves
 pub record AllCollectingAsWorked : Type 0 where
-  pub group_collects_answers : answers empty group_collects ≡ did 0 ∷ did 0 ∷ did 0 ∷ did 0 ∷ did 1 ∷ did 3 ∷ passed 0 0 0 ∷ []
-  pub group_collects_job_1 : job_shows (run empty group_collects) 1 ≡ Some (JobState.Scheduling, Some (codes "b1"), None)
-  pub group_collects_job_2 : job_shows (run empty group_collects) 2 ≡ Some (JobState.Submitted, None, None)
-  pub group_collects_job_3 : job_shows (run empty group_collects) 3 ≡ Some (JobState.Submitted, None, None)
-  pub group_collects_board__b1 : board_shows (run empty group_collects) (codes "b1") ≡ Some (Health.Good, State.Reserved, Holder.Job 1, 0, 0)
-  pub group_collects_collector : (run empty group_collects).collector ≡ 1
-  pub collector_is_served_answers : answers (run empty group_collects) collector_is_served ≡ did 0 ∷ passed 0 0 1 ∷ []
-  pub collector_is_served_job_1 : job_shows (run empty (group_collects ++ collector_is_served)) 1 ≡ Some (JobState.Scheduled, Some (codes "b1"), None)
-  pub collector_is_served_job_2 : job_shows (run empty (group_collects ++ collector_is_served)) 2 ≡ Some (JobState.Scheduled, Some (codes "b2"), None)
-  pub collector_is_served_job_3 : job_shows (run empty (group_collects ++ collector_is_served)) 3 ≡ Some (JobState.Submitted, None, None)
-  pub collector_is_served_collector : (run empty (group_collects ++ collector_is_served)).collector ≡ 0
-  pub higher_group_answers : answers (run empty group_collects) higher_group_collects_next ≡ did 4 ∷ did 0 ∷ passed 0 0 1 ∷ []
-  pub higher_group_job_1 : job_shows (run empty (group_collects ++ higher_group_collects_next)) 1 ≡ Some (JobState.Scheduled, Some (codes "b1"), None)
-  pub higher_group_job_2 : job_shows (run empty (group_collects ++ higher_group_collects_next)) 2 ≡ Some (JobState.Scheduled, Some (codes "b2"), None)
-  pub higher_group_job_4 : job_shows (run empty (group_collects ++ higher_group_collects_next)) 4 ≡ Some (JobState.Submitted, None, None)
-  pub higher_group_job_5 : job_shows (run empty (group_collects ++ higher_group_collects_next)) 5 ≡ Some (JobState.Submitted, None, None)
-  pub higher_group_collector : (run empty (group_collects ++ higher_group_collects_next)).collector ≡ 4
-  pub canceled_answers : answers (run empty group_collects) (collector_is_canceled ++ one_pass_more) ≡ did 1 ∷ passed 0 0 1 ∷ []
-  pub canceled_job_1 : job_shows (run empty (group_collects ++ collector_is_canceled)) 1 ≡ Some (JobState.Finished, Some (codes "b1"), Some Outcome.Canceled)
-  pub canceled_job_2 : job_shows (run empty (group_collects ++ collector_is_canceled)) 2 ≡ Some (JobState.Finished, None, Some Outcome.Canceled)
-  pub canceled_board__b1 : board_shows (run empty (group_collects ++ collector_is_canceled)) (codes "b1") ≡ Some (Health.Good, State.Idle, Holder.Nobody, 0, 0)
-  pub canceled_collector : (run empty (group_collects ++ collector_is_canceled)).collector ≡ 0
-  pub canceled_job_3 : job_shows (run empty (group_collects ++ collector_is_canceled ++ one_pass_more)) 3 ≡ Some (JobState.Scheduled, Some (codes "b1"), None)
-  pub not_started_answers : answers (run empty group_collects) collector_is_not_started ≡ Denied 21 ∷ Denied 21 ∷ Denied 14 ∷ []
-  pub swaps_first_job_1 : job_shows (run empty collector_swaps) 1 ≡ Some (JobState.Scheduling, Some (codes "b1"), None)
-  pub swaps_first_collector : (run empty collector_swaps).collector ≡ 1
-  pub swaps_answers : answers (run empty collector_swaps) collector_is_served ≡ did 0 ∷ passed 0 0 1 ∷ []
-  pub swaps_job_1 : job_shows (run empty (collector_swaps ++ collector_is_served)) 1 ≡ Some (JobState.Scheduled, Some (codes "b2"), None)
-  pub swaps_job_2 : job_shows (run empty (collector_swaps ++ collector_is_served)) 2 ≡ Some (JobState.Scheduled, Some (codes "b1"), None)
-  pub types_answers : answers empty types_collect ≡ did 0 ∷ did 0 ∷ did 0 ∷ did 0 ∷ did 0 ∷ did 1 ∷ did 3 ∷ did 4 ∷ passed 0 0 0 ∷ []
-  pub types_job_1 : job_shows (run empty types_collect) 1 ≡ Some (JobState.Submitted, None, None)
-  pub types_job_2 : job_shows (run empty types_collect) 2 ≡ Some (JobState.Scheduling, Some (codes "b1"), None)
-  pub types_collector : (run empty types_collect).collector ≡ 1
-  pub types_served_answers : answers (run empty types_collect) types_are_served ≡ did 0 ∷ passed 0 0 1 ∷ []
-  pub types_served_job_1 : job_shows (run empty (types_collect ++ types_are_served)) 1 ≡ Some (JobState.Scheduled, Some (codes "a1"), None)
-  pub types_served_job_2 : job_shows (run empty (types_collect ++ types_are_served)) 2 ≡ Some (JobState.Scheduled, Some (codes "b1"), None)
-  pub types_served_job_3 : job_shows (run empty (types_collect ++ types_are_served)) 3 ≡ Some (JobState.Submitted, None, None)
-  pub types_served_reservation_4 : res_shows (run empty (types_collect ++ types_are_served)) 4 ≡ Some (ResState.Waiting, None, 80)
-  pub types_served_collector : (run empty (types_collect ++ types_are_served)).collector ≡ 0
+  pub group_collects_answers : answers empty_farm group_collects ≡ did 0 ∷ did 0 ∷ did 0 ∷ did 0 ∷ did 1 ∷ did 3 ∷ passed 0 0 0 ∷ []
+  pub group_collects_job_1 : job_shows (run empty_farm group_collects) 1 ≡ Some (JobState.Scheduling, Some (codes "b1"), None)
+  pub group_collects_job_2 : job_shows (run empty_farm group_collects) 2 ≡ Some (JobState.Submitted, None, None)
+  pub group_collects_job_3 : job_shows (run empty_farm group_collects) 3 ≡ Some (JobState.Submitted, None, None)
+  pub group_collects_board__b1 : board_shows (run empty_farm group_collects) (codes "b1") ≡ Some (Health.Good, State.Reserved, Holder.Job 1, 0, 0)
+  pub group_collects_collector : (run empty_farm group_collects).collector ≡ 1
+  pub collector_is_served_answers : answers (run empty_farm group_collects) collector_is_served ≡ did 0 ∷ passed 0 0 1 ∷ []
+  pub collector_is_served_job_1 : job_shows (run empty_farm (group_collects ++ collector_is_served)) 1 ≡ Some (JobState.Scheduled, Some (codes "b1"), None)
+  pub collector_is_served_job_2 : job_shows (run empty_farm (group_collects ++ collector_is_served)) 2 ≡ Some (JobState.Scheduled, Some (codes "b2"), None)
+  pub collector_is_served_job_3 : job_shows (run empty_farm (group_collects ++ collector_is_served)) 3 ≡ Some (JobState.Submitted, None, None)
+  pub collector_is_served_collector : (run empty_farm (group_collects ++ collector_is_served)).collector ≡ 0
+  pub higher_group_answers : answers (run empty_farm group_collects) higher_group_collects_next ≡ did 4 ∷ did 0 ∷ passed 0 0 1 ∷ []
+  pub higher_group_job_1 : job_shows (run empty_farm (group_collects ++ higher_group_collects_next)) 1 ≡ Some (JobState.Scheduled, Some (codes "b1"), None)
+  pub higher_group_job_2 : job_shows (run empty_farm (group_collects ++ higher_group_collects_next)) 2 ≡ Some (JobState.Scheduled, Some (codes "b2"), None)
+  pub higher_group_job_4 : job_shows (run empty_farm (group_collects ++ higher_group_collects_next)) 4 ≡ Some (JobState.Submitted, None, None)
+  pub higher_group_job_5 : job_shows (run empty_farm (group_collects ++ higher_group_collects_next)) 5 ≡ Some (JobState.Submitted, None, None)
+  pub higher_group_collector : (run empty_farm (group_collects ++ higher_group_collects_next)).collector ≡ 4
+  pub canceled_answers : answers (run empty_farm group_collects) (collector_is_canceled ++ one_pass_more) ≡ did 1 ∷ passed 0 0 1 ∷ []
+  pub canceled_job_1 : job_shows (run empty_farm (group_collects ++ collector_is_canceled)) 1 ≡ Some (JobState.Finished, Some (codes "b1"), Some Outcome.Canceled)
+  pub canceled_job_2 : job_shows (run empty_farm (group_collects ++ collector_is_canceled)) 2 ≡ Some (JobState.Finished, None, Some Outcome.Canceled)
+  pub canceled_board__b1 : board_shows (run empty_farm (group_collects ++ collector_is_canceled)) (codes "b1") ≡ Some (Health.Good, State.Idle, Holder.Nobody, 0, 0)
+  pub canceled_collector : (run empty_farm (group_collects ++ collector_is_canceled)).collector ≡ 0
+  pub canceled_job_3 : job_shows (run empty_farm (group_collects ++ collector_is_canceled ++ one_pass_more)) 3 ≡ Some (JobState.Scheduled, Some (codes "b1"), None)
+  pub not_started_answers : answers (run empty_farm group_collects) collector_is_not_started ≡ Denied 21 ∷ Denied 21 ∷ Denied 14 ∷ []
+  pub swaps_first_job_1 : job_shows (run empty_farm collector_swaps) 1 ≡ Some (JobState.Scheduling, Some (codes "b1"), None)
+  pub swaps_first_collector : (run empty_farm collector_swaps).collector ≡ 1
+  pub swaps_answers : answers (run empty_farm collector_swaps) collector_is_served ≡ did 0 ∷ passed 0 0 1 ∷ []
+  pub swaps_job_1 : job_shows (run empty_farm (collector_swaps ++ collector_is_served)) 1 ≡ Some (JobState.Scheduled, Some (codes "b2"), None)
+  pub swaps_job_2 : job_shows (run empty_farm (collector_swaps ++ collector_is_served)) 2 ≡ Some (JobState.Scheduled, Some (codes "b1"), None)
+  pub types_answers : answers empty_farm types_collect ≡ did 0 ∷ did 0 ∷ did 0 ∷ did 0 ∷ did 0 ∷ did 1 ∷ did 3 ∷ did 4 ∷ passed 0 0 0 ∷ []
+  pub types_job_1 : job_shows (run empty_farm types_collect) 1 ≡ Some (JobState.Submitted, None, None)
+  pub types_job_2 : job_shows (run empty_farm types_collect) 2 ≡ Some (JobState.Scheduling, Some (codes "b1"), None)
+  pub types_collector : (run empty_farm types_collect).collector ≡ 1
+  pub types_served_answers : answers (run empty_farm types_collect) types_are_served ≡ did 0 ∷ passed 0 0 1 ∷ []
+  pub types_served_job_1 : job_shows (run empty_farm (types_collect ++ types_are_served)) 1 ≡ Some (JobState.Scheduled, Some (codes "a1"), None)
+  pub types_served_job_2 : job_shows (run empty_farm (types_collect ++ types_are_served)) 2 ≡ Some (JobState.Scheduled, Some (codes "b1"), None)
+  pub types_served_job_3 : job_shows (run empty_farm (types_collect ++ types_are_served)) 3 ≡ Some (JobState.Submitted, None, None)
+  pub types_served_reservation_4 : res_shows (run empty_farm (types_collect ++ types_are_served)) 4 ≡ Some (ResState.Waiting, None, 80)
+  pub types_served_collector : (run empty_farm (types_collect ++ types_are_served)).collector ≡ 0

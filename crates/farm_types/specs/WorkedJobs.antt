@@ -3,7 +3,7 @@ use Rattle.std.specs.Prelude.{◌≡◌, List, [], ◌∷◌, Some, None, codes,
 use Rattle.std.specs.Str.{is_utf8, chars}
 use Rattle.farm_types.specs.Words.{is_word, is_tag, is_tags}
 use Rattle.farm_types.specs.Proper.{is_proper_cmd}
-use Rattle.farm_types.specs.Farm.{empty}
+use Rattle.farm_types.specs.Farm.{empty_farm}
 use Rattle.farm_types.specs.Machine.{Denied, run}
 use Rattle.farm_types.specs.Worked.{answers, job_shows, board_shows, did, passed, by_admin, by_dispatcher, by_ann, by_bob, new_type, new_board, set, a_board, single, pair}
 use Rattle.farm_types.specs.declared.rows.Check.{Check}
@@ -141,21 +141,21 @@ wrong_callers_and_rows =
 
 -- what each script answers and leaves
 pub record AllJobsAsWorked : Type 0 where
-  pub higher_priority_first_board__b1 : board_shows (run empty higher_priority_first) (codes "b1") ≡ Some (Health.Good, State.Reserved, Holder.Job 2, 0, 0)
-  pub higher_priority_first_job_1 : job_shows (run empty higher_priority_first) 1 ≡ Some (JobState.Submitted, None, None)
-  pub least_list_by_tag_job_1 : job_shows (run empty least_list_by_tag) 1 ≡ Some (JobState.Scheduled, Some (codes "b2"), None)
-  pub least_list_by_tag_job_2 : job_shows (run empty least_list_by_tag) 2 ≡ Some (JobState.Scheduled, Some (codes "b1"), None)
-  pub least_of_three_boards_job_1 : job_shows (run empty least_of_three_boards) 1 ≡ Some (JobState.Scheduled, Some (codes "b2"), None)
-  pub least_of_three_boards_job_2 : job_shows (run empty least_of_three_boards) 2 ≡ Some (JobState.Scheduled, Some (codes "b1"), None)
-  pub cancel_half_of_a_group_job_1 : job_shows (run empty cancel_half_of_a_group) 1 ≡ Some (JobState.Finished, Some (codes "b1"), Some Outcome.Complete)
-  pub cancel_half_of_a_group_job_2 : job_shows (run empty cancel_half_of_a_group) 2 ≡ Some (JobState.Finished, Some (codes "b2"), Some Outcome.Canceled)
-  pub cancel_half_of_a_group_board__b2 : board_shows (run empty cancel_half_of_a_group) (codes "b2") ≡ Some (Health.Good, State.Idle, Holder.Nobody, 1, 0)
-  pub cancel_before_the_start_job_1 : job_shows (run empty cancel_before_the_start) 1 ≡ Some (JobState.Finished, Some (codes "b1"), Some Outcome.Canceled)
-  pub cancel_before_the_start_job_2 : job_shows (run empty cancel_before_the_start) 2 ≡ Some (JobState.Finished, Some (codes "b2"), Some Outcome.Canceled)
-  pub cancel_before_the_start_board__b1 : board_shows (run empty cancel_before_the_start) (codes "b1") ≡ Some (Health.Good, State.Idle, Holder.Nobody, 0, 0)
-  pub cancel_before_the_start_board__b2 : board_shows (run empty cancel_before_the_start) (codes "b2") ≡ Some (Health.Good, State.Idle, Holder.Nobody, 0, 0)
-  pub cancel_before_the_start_answers : answers empty cancel_before_the_start ≡ did 0 ∷ did 0 ∷ did 0 ∷ did 0 ∷ did 0 ∷ did 1 ∷ passed 0 0 1 ∷ did 1 ∷ Denied 21 ∷ []
-  pub retire_a_held_board_answers : answers empty retire_a_held_board ≡ did 0 ∷ did 0 ∷ did 0 ∷ did 1 ∷ passed 0 0 1 ∷ Denied 14 ∷ did 1 ∷ did 1 ∷ did 0 ∷ Denied 15 ∷ Denied 15 ∷ []
-  pub more_boards_than_there_are_answers : answers empty more_boards_than_there_are ≡ did 0 ∷ did 0 ∷ did 0 ∷ did 0 ∷ Denied 22 ∷ did 1 ∷ []
-  pub more_boards_than_there_are_number_next : (run empty more_boards_than_there_are).next ≡ 4
-  pub wrong_callers_and_rows_answers : answers empty wrong_callers_and_rows ≡ Denied 3 ∷ did 0 ∷ Denied 11 ∷ Denied 10 ∷ did 0 ∷ Denied 13 ∷ Denied 12 ∷ Denied 12 ∷ Denied 3 ∷ did 1 ∷ Denied 10 ∷ Denied 3 ∷ Denied 21 ∷ Denied 21 ∷ Denied 3 ∷ Denied 20 ∷ Denied 3 ∷ []
+  pub higher_priority_first_board__b1 : board_shows (run empty_farm higher_priority_first) (codes "b1") ≡ Some (Health.Good, State.Reserved, Holder.Job 2, 0, 0)
+  pub higher_priority_first_job_1 : job_shows (run empty_farm higher_priority_first) 1 ≡ Some (JobState.Submitted, None, None)
+  pub least_list_by_tag_job_1 : job_shows (run empty_farm least_list_by_tag) 1 ≡ Some (JobState.Scheduled, Some (codes "b2"), None)
+  pub least_list_by_tag_job_2 : job_shows (run empty_farm least_list_by_tag) 2 ≡ Some (JobState.Scheduled, Some (codes "b1"), None)
+  pub least_of_three_boards_job_1 : job_shows (run empty_farm least_of_three_boards) 1 ≡ Some (JobState.Scheduled, Some (codes "b2"), None)
+  pub least_of_three_boards_job_2 : job_shows (run empty_farm least_of_three_boards) 2 ≡ Some (JobState.Scheduled, Some (codes "b1"), None)
+  pub cancel_half_of_a_group_job_1 : job_shows (run empty_farm cancel_half_of_a_group) 1 ≡ Some (JobState.Finished, Some (codes "b1"), Some Outcome.Complete)
+  pub cancel_half_of_a_group_job_2 : job_shows (run empty_farm cancel_half_of_a_group) 2 ≡ Some (JobState.Finished, Some (codes "b2"), Some Outcome.Canceled)
+  pub cancel_half_of_a_group_board__b2 : board_shows (run empty_farm cancel_half_of_a_group) (codes "b2") ≡ Some (Health.Good, State.Idle, Holder.Nobody, 1, 0)
+  pub cancel_before_the_start_job_1 : job_shows (run empty_farm cancel_before_the_start) 1 ≡ Some (JobState.Finished, Some (codes "b1"), Some Outcome.Canceled)
+  pub cancel_before_the_start_job_2 : job_shows (run empty_farm cancel_before_the_start) 2 ≡ Some (JobState.Finished, Some (codes "b2"), Some Outcome.Canceled)
+  pub cancel_before_the_start_board__b1 : board_shows (run empty_farm cancel_before_the_start) (codes "b1") ≡ Some (Health.Good, State.Idle, Holder.Nobody, 0, 0)
+  pub cancel_before_the_start_board__b2 : board_shows (run empty_farm cancel_before_the_start) (codes "b2") ≡ Some (Health.Good, State.Idle, Holder.Nobody, 0, 0)
+  pub cancel_before_the_start_answers : answers empty_farm cancel_before_the_start ≡ did 0 ∷ did 0 ∷ did 0 ∷ did 0 ∷ did 0 ∷ did 1 ∷ passed 0 0 1 ∷ did 1 ∷ Denied 21 ∷ []
+  pub retire_a_held_board_answers : answers empty_farm retire_a_held_board ≡ did 0 ∷ did 0 ∷ did 0 ∷ did 1 ∷ passed 0 0 1 ∷ Denied 14 ∷ did 1 ∷ did 1 ∷ did 0 ∷ Denied 15 ∷ Denied 15 ∷ []
+  pub more_boards_than_there_are_answers : answers empty_farm more_boards_than_there_are ≡ did 0 ∷ did 0 ∷ did 0 ∷ did 0 ∷ Denied 22 ∷ did 1 ∷ []
+  pub more_boards_than_there_are_number_next : (run empty_farm more_boards_than_there_are).next ≡ 4
+  pub wrong_callers_and_rows_answers : answers empty_farm wrong_callers_and_rows ≡ Denied 3 ∷ did 0 ∷ Denied 11 ∷ Denied 10 ∷ did 0 ∷ Denied 13 ∷ Denied 12 ∷ Denied 12 ∷ Denied 3 ∷ did 1 ∷ Denied 10 ∷ Denied 3 ∷ Denied 21 ∷ Denied 21 ∷ Denied 3 ∷ Denied 20 ∷ Denied 3 ∷ []

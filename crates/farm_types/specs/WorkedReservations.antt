@@ -3,7 +3,7 @@ use Rattle.std.specs.Prelude.{◌≡◌, List, [], ◌∷◌, Some, None, codes,
 use Rattle.std.specs.Str.{is_utf8, chars}
 use Rattle.farm_types.specs.Words.{is_word, is_tag, is_tags}
 use Rattle.farm_types.specs.Proper.{is_proper_cmd}
-use Rattle.farm_types.specs.Farm.{empty}
+use Rattle.farm_types.specs.Farm.{empty_farm}
 use Rattle.farm_types.specs.Machine.{Denied, run}
 use Rattle.farm_types.specs.Worked.{answers, job_shows, res_shows, board_shows, did, passed, by_admin, by_dispatcher, by_ann, by_bob, new_type, new_board, set, single, any_board}
 use Rattle.farm_types.specs.declared.rows.Check.{Check}
@@ -124,19 +124,19 @@ cancel_an_acquired_one =
 
 -- what each script answers and leaves
 pub record AllReservationsAsWorked : Type 0 where
-  pub reservation_before_job_reservation_1 : res_shows (run empty reservation_before_job) 1 ≡ Some (ResState.Allocated, Some (codes "b1"), 90)
-  pub reservation_before_job_job_2 : job_shows (run empty reservation_before_job) 2 ≡ Some (JobState.Submitted, None, None)
-  pub lease_ends_answers : answers empty lease_ends ≡ did 0 ∷ did 0 ∷ did 0 ∷ did 1 ∷ passed 0 0 1 ∷ did 1 ∷ passed 0 0 0 ∷ passed 0 1 0 ∷ []
-  pub lease_ends_reservation_1 : res_shows (run empty lease_ends) 1 ≡ Some (ResState.Expired, Some (codes "b1"), 160)
-  pub lease_ends_board__b1 : board_shows (run empty lease_ends) (codes "b1") ≡ Some (Health.Good, State.Idle, Holder.Nobody, 0, 0)
-  pub acquire_at_deadline_answers : answers empty acquire_at_deadline ≡ did 0 ∷ did 0 ∷ did 0 ∷ did 1 ∷ passed 0 0 1 ∷ did 1 ∷ Denied 31 ∷ []
-  pub acquire_at_deadline_number_clock : (run empty acquire_at_deadline).clock ≡ 100
-  pub acquire_at_deadline_reservation_1 : res_shows (run empty acquire_at_deadline) 1 ≡ Some (ResState.Allocated, Some (codes "b1"), 160)
-  pub clock_never_falls_back_reservation_1 : res_shows (run empty clock_never_falls_back) 1 ≡ Some (ResState.Waiting, None, 160)
-  pub clock_never_falls_back_number_clock : (run empty clock_never_falls_back).clock ≡ 100
-  pub acquired_outlives_deadline_answers : answers empty acquired_outlives_deadline ≡ did 0 ∷ did 0 ∷ did 0 ∷ did 1 ∷ passed 0 0 1 ∷ Denied 3 ∷ Denied 3 ∷ did 1 ∷ passed 0 0 0 ∷ did 1 ∷ []
-  pub acquired_outlives_deadline_reservation_1 : res_shows (run empty acquired_outlives_deadline) 1 ≡ Some (ResState.Allocated, Some (codes "b1"), 560)
-  pub refreshed_too_late_answers : answers empty refreshed_too_late ≡ did 0 ∷ did 0 ∷ did 1 ∷ Denied 31 ∷ did 2 ∷ Denied 32 ∷ Denied 3 ∷ Denied 30 ∷ []
-  pub canceled_and_expired_answers : answers empty canceled_and_expired ≡ did 0 ∷ did 0 ∷ did 1 ∷ did 1 ∷ Denied 32 ∷ did 2 ∷ passed 0 1 0 ∷ Denied 31 ∷ Denied 32 ∷ []
-  pub cancel_an_acquired_one_reservation_1 : res_shows (run empty cancel_an_acquired_one) 1 ≡ Some (ResState.Canceled, Some (codes "b1"), 90)
-  pub cancel_an_acquired_one_board__b1 : board_shows (run empty cancel_an_acquired_one) (codes "b1") ≡ Some (Health.Good, State.Idle, Holder.Nobody, 0, 0)
+  pub reservation_before_job_reservation_1 : res_shows (run empty_farm reservation_before_job) 1 ≡ Some (ResState.Allocated, Some (codes "b1"), 90)
+  pub reservation_before_job_job_2 : job_shows (run empty_farm reservation_before_job) 2 ≡ Some (JobState.Submitted, None, None)
+  pub lease_ends_answers : answers empty_farm lease_ends ≡ did 0 ∷ did 0 ∷ did 0 ∷ did 1 ∷ passed 0 0 1 ∷ did 1 ∷ passed 0 0 0 ∷ passed 0 1 0 ∷ []
+  pub lease_ends_reservation_1 : res_shows (run empty_farm lease_ends) 1 ≡ Some (ResState.Expired, Some (codes "b1"), 160)
+  pub lease_ends_board__b1 : board_shows (run empty_farm lease_ends) (codes "b1") ≡ Some (Health.Good, State.Idle, Holder.Nobody, 0, 0)
+  pub acquire_at_deadline_answers : answers empty_farm acquire_at_deadline ≡ did 0 ∷ did 0 ∷ did 0 ∷ did 1 ∷ passed 0 0 1 ∷ did 1 ∷ Denied 31 ∷ []
+  pub acquire_at_deadline_number_clock : (run empty_farm acquire_at_deadline).clock ≡ 100
+  pub acquire_at_deadline_reservation_1 : res_shows (run empty_farm acquire_at_deadline) 1 ≡ Some (ResState.Allocated, Some (codes "b1"), 160)
+  pub clock_never_falls_back_reservation_1 : res_shows (run empty_farm clock_never_falls_back) 1 ≡ Some (ResState.Waiting, None, 160)
+  pub clock_never_falls_back_number_clock : (run empty_farm clock_never_falls_back).clock ≡ 100
+  pub acquired_outlives_deadline_answers : answers empty_farm acquired_outlives_deadline ≡ did 0 ∷ did 0 ∷ did 0 ∷ did 1 ∷ passed 0 0 1 ∷ Denied 3 ∷ Denied 3 ∷ did 1 ∷ passed 0 0 0 ∷ did 1 ∷ []
+  pub acquired_outlives_deadline_reservation_1 : res_shows (run empty_farm acquired_outlives_deadline) 1 ≡ Some (ResState.Allocated, Some (codes "b1"), 560)
+  pub refreshed_too_late_answers : answers empty_farm refreshed_too_late ≡ did 0 ∷ did 0 ∷ did 1 ∷ Denied 31 ∷ did 2 ∷ Denied 32 ∷ Denied 3 ∷ Denied 30 ∷ []
+  pub canceled_and_expired_answers : answers empty_farm canceled_and_expired ≡ did 0 ∷ did 0 ∷ did 1 ∷ did 1 ∷ Denied 32 ∷ did 2 ∷ passed 0 1 0 ∷ Denied 31 ∷ Denied 32 ∷ []
+  pub cancel_an_acquired_one_reservation_1 : res_shows (run empty_farm cancel_an_acquired_one) 1 ≡ Some (ResState.Canceled, Some (codes "b1"), 90)
+  pub cancel_an_acquired_one_board__b1 : board_shows (run empty_farm cancel_an_acquired_one) (codes "b1") ≡ Some (Health.Good, State.Idle, Holder.Nobody, 0, 0)

@@ -3,9 +3,9 @@ use Rattle.std.specs.Prelude.{◌≡◌, List, [], ◌∷◌, Some, None, codes,
 use Rattle.std.specs.Str.{is_utf8, chars}
 use Rattle.farm_types.specs.Words.{is_word, is_tag, is_tags}
 use Rattle.farm_types.specs.Proper.{is_proper_cmd}
-use Rattle.farm_types.specs.Farm.{empty}
+use Rattle.farm_types.specs.Farm.{empty_farm}
 use Rattle.farm_types.specs.Machine.{Repeated, Denied, run}
-use Rattle.farm_types.specs.Change.{replied}
+use Rattle.farm_types.specs.Change.{reply_of}
 use Rattle.farm_types.specs.Worked.{with_key, answers, job_shows, res_shows, board_shows, did, passed, by_admin, by_dispatcher, by_ann, new_type, new_board, set, a_board, any_board}
 use Rattle.farm_types.specs.declared.rows.Check.{Check}
 use Rattle.farm_types.specs.declared.rows.Health.{Health}
@@ -75,21 +75,21 @@ last_moment =
 
 -- what each script answers and leaves
 pub record AllAsWorked : Type 0 where
-  pub all_fourteen_commands_answers : answers empty all_fourteen_commands ≡ did 0 ∷ did 0 ∷ did 0 ∷ did 0 ∷ did 1 ∷ did 2 ∷ passed 0 0 1 ∷ did 1 ∷ did 1 ∷ did 1 ∷ did 2 ∷ passed 0 0 1 ∷ did 2 ∷ did 2 ∷ did 2 ∷ []
-  pub all_fourteen_commands_number_count : (run empty all_fourteen_commands).count ≡ 15
-  pub all_fourteen_commands_number_clock : (run empty all_fourteen_commands).clock ≡ 80
-  pub all_fourteen_commands_number_next : (run empty all_fourteen_commands).next ≡ 3
-  pub all_fourteen_commands_job_1 : job_shows (run empty all_fourteen_commands) 1 ≡ Some (JobState.Finished, Some (codes "b1"), Some Outcome.Canceled)
-  pub all_fourteen_commands_reservation_2 : res_shows (run empty all_fourteen_commands) 2 ≡ Some (ResState.Canceled, Some (codes "b1"), 130)
-  pub all_fourteen_commands_board__b1 : board_shows (run empty all_fourteen_commands) (codes "b1") ≡ Some (Health.Good, State.Idle, Holder.Nobody, 1, 0)
-  pub pass_on_empty_farm_answers : answers empty pass_on_empty_farm ≡ passed 0 0 0 ∷ []
-  pub pass_on_empty_farm_number_count : (run empty pass_on_empty_farm).count ≡ 1
-  pub pass_on_empty_farm_number_clock : (run empty pass_on_empty_farm).clock ≡ 1700000000
-  pub same_type_twice_answers : answers empty same_type_twice ≡ did 0 ∷ Denied 11 ∷ []
-  pub same_type_twice_number_count : (run empty same_type_twice).count ≡ 1
-  pub same_type_twice_number_clock : (run empty same_type_twice).clock ≡ 10
-  pub keyed_type_twice_answers : answers empty keyed_type_twice ≡ did 0 ∷ Repeated (replied 0 0 0) ∷ Denied 40 ∷ did 0 ∷ []
-  pub keyed_type_twice_number_count : (run empty keyed_type_twice).count ≡ 2
-  pub last_moment_answers : answers empty last_moment ≡ Denied 2 ∷ did 0 ∷ did 0 ∷ did 1 ∷ []
-  pub last_moment_reservation_1 : res_shows (run empty last_moment) 1 ≡ Some (ResState.Waiting, None, 250000000060)
-  pub last_moment_number_count : (run empty last_moment).count ≡ 3
+  pub all_fourteen_commands_answers : answers empty_farm all_fourteen_commands ≡ did 0 ∷ did 0 ∷ did 0 ∷ did 0 ∷ did 1 ∷ did 2 ∷ passed 0 0 1 ∷ did 1 ∷ did 1 ∷ did 1 ∷ did 2 ∷ passed 0 0 1 ∷ did 2 ∷ did 2 ∷ did 2 ∷ []
+  pub all_fourteen_commands_number_count : (run empty_farm all_fourteen_commands).count ≡ 15
+  pub all_fourteen_commands_number_clock : (run empty_farm all_fourteen_commands).clock ≡ 80
+  pub all_fourteen_commands_number_next : (run empty_farm all_fourteen_commands).next ≡ 3
+  pub all_fourteen_commands_job_1 : job_shows (run empty_farm all_fourteen_commands) 1 ≡ Some (JobState.Finished, Some (codes "b1"), Some Outcome.Canceled)
+  pub all_fourteen_commands_reservation_2 : res_shows (run empty_farm all_fourteen_commands) 2 ≡ Some (ResState.Canceled, Some (codes "b1"), 130)
+  pub all_fourteen_commands_board__b1 : board_shows (run empty_farm all_fourteen_commands) (codes "b1") ≡ Some (Health.Good, State.Idle, Holder.Nobody, 1, 0)
+  pub pass_on_empty_farm_answers : answers empty_farm pass_on_empty_farm ≡ passed 0 0 0 ∷ []
+  pub pass_on_empty_farm_number_count : (run empty_farm pass_on_empty_farm).count ≡ 1
+  pub pass_on_empty_farm_number_clock : (run empty_farm pass_on_empty_farm).clock ≡ 1700000000
+  pub same_type_twice_answers : answers empty_farm same_type_twice ≡ did 0 ∷ Denied 11 ∷ []
+  pub same_type_twice_number_count : (run empty_farm same_type_twice).count ≡ 1
+  pub same_type_twice_number_clock : (run empty_farm same_type_twice).clock ≡ 10
+  pub keyed_type_twice_answers : answers empty_farm keyed_type_twice ≡ did 0 ∷ Repeated (reply_of 0 0 0) ∷ Denied 40 ∷ did 0 ∷ []
+  pub keyed_type_twice_number_count : (run empty_farm keyed_type_twice).count ≡ 2
+  pub last_moment_answers : answers empty_farm last_moment ≡ Denied 2 ∷ did 0 ∷ did 0 ∷ did 1 ∷ []
+  pub last_moment_reservation_1 : res_shows (run empty_farm last_moment) 1 ≡ Some (ResState.Waiting, None, 250000000060)
+  pub last_moment_number_count : (run empty_farm last_moment).count ≡ 3

@@ -1,7 +1,7 @@
 //! Priorities.
 ghost use Rattle.std.specs.Prelude.{◌≡◌, ◌≤◌, ◌<◌, MatchResult, IsTrue};
 ghost use Rattle.farm_types.specs.Limits.{highest_priority, is_priority};
-ghost use Rattle.farm_types.specs.Called.{medium, priority_called};
+ghost use Rattle.farm_types.specs.Called.{medium_priority, priority_called};
 
 use crate::limits::HIGHEST_PRIORITY;
 use crate::refusal::{BAD_PRIORITY, Refusal};
@@ -47,7 +47,7 @@ impl Priority {
 
     /// The priority of a claim that names none.
     pub fn medium() -> Priority
-        ensures { result ≡ medium }
+        ensures { result ≡ medium_priority }
     {
         Priority { number: MEDIUM }
     }

@@ -1,5 +1,6 @@
 //! The rows of the six tables.
 ghost use Rattle.std.specs.Prelude.{◌≡◌, IfOk};
+ghost use Rattle.farm_types.specs.Change.{new_board};
 ghost use Rattle.farm_types.specs.Proper.{is_frequency};
 
 use crate::called::is_every;
@@ -211,6 +212,22 @@ impl KeptRow {
 }
 
 impl BoardRow {
+    /// A new board: in maintenance, idle, in nobody's hands, never checked.
+    pub fn new(name: Name, kind: Name, tags: Tags) -> BoardRow
+        ensures { result ≡ new_board name kind tags }
+    {
+        BoardRow {
+            name,
+            kind,
+            tags,
+            health: Health::Maintenance,
+            state: State::Idle,
+            holder: Holder::Nobody,
+            jobs_since: 0,
+            last_check: 0,
+        }
+    }
+
     /// An equal row.
     pub fn copy(&self) -> Result<BoardRow, AllocError>
         ensures { IfOk result (λ copy. copy ≡ self.now) }

@@ -22,9 +22,9 @@ pub data Asked : Type 0 where
   view : View → Asked
 
 -- the same of what a call returns
-abbrev pub asked : Ask → Asked
-asked (Ask.Call call) = command call.caller call.key call.now call.cmd
-asked (Ask.View shown) = view shown
+abbrev pub shown_ask : Ask → Asked
+shown_ask (Ask.Call call) = command call.caller call.key call.now call.cmd
+shown_ask (Ask.View shown) = view shown
 
 -- the caller is looked at first, then the key, then the path and the body
 unfoldable pub call_in : CommandKind → List ℕ → Request → ℕ → Result Asked ℕ

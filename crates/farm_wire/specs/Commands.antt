@@ -4,7 +4,7 @@ use Rattle.std.specs.Prelude.{codes, if◌then◌else◌}
 use Rattle.serde_json.specs.Data.{Num, Data}
 use Rattle.serde_json.specs.Find.{get, as_str, as_number, as_u64}
 use Rattle.farm_types.specs.Limits.{is_priority, is_every}
-use Rattle.farm_types.specs.Called.{health_called, outcome_called, medium, priority_called}
+use Rattle.farm_types.specs.Called.{health_called, outcome_called, medium_priority, priority_called}
 use Rattle.farm_types.specs.Called.{unit_called, check_by}
 use Rattle.farm_types.specs.declared.called.CheckUnit.{CheckUnit}
 use Rattle.farm_types.specs.declared.rows.Check.{Check}
@@ -126,7 +126,7 @@ priority_from d = priority_by (as_str d) (as_number d)
 
 -- absent means medium
 abbrev pub priority_or : Option Data → Result ℕ ℕ
-priority_or None = Ok medium
+priority_or None = Ok medium_priority
 priority_or (Some d) = priority_from d
 
 -- the priority under the key `priority`

@@ -22,8 +22,8 @@ abbrev pub answer_text : ℕ → List ℕ → List ℕ → List ℕ
 answer_text status more body = head_text status more (length body) ++ body
 
 -- an answer without further fields
-abbrev pub plain : ℕ → Data → List ℕ
-plain status json = answer_text status [] (compact_text json)
+abbrev pub plain_answer : ℕ → Data → List ℕ
+plain_answer status json = answer_text status [] (compact_text json)
 
 -- the status of a refusal; a fault that is never answered over HTTP would be 503
 abbrev pub status_or : ℕ → ℕ
@@ -37,13 +37,13 @@ method_text allowed =
 
 -- the bytes of an answer
 unfoldable pub reply_bytes : Out → List ℕ
-reply_bytes (Out.Reply kind reply) = plain 200 (reply_data kind reply)
-reply_bytes (Out.Refused refusal) = plain (status_or refusal.code) (refusal_data refusal.code)
+reply_bytes (Out.Reply kind reply) = plain_answer 200 (reply_data kind reply)
+reply_bytes (Out.Refused refusal) = plain_answer (status_or refusal.code) (refusal_data refusal.code)
 reply_bytes (Out.Method allowed) = method_text allowed
-reply_bytes (Out.Types rows) = plain 200 (listing (codes "types") (map type_data rows.now))
-reply_bytes (Out.Boards rows) = plain 200 (listing (codes "boards") (map board_data rows.now))
-reply_bytes (Out.Queue claims) = plain 200 (listing (codes "queue") (map claim_data claims.now))
+reply_bytes (Out.Types rows) = plain_answer 200 (listing (codes "types") (map type_data rows.now))
+reply_bytes (Out.Boards rows) = plain_answer 200 (listing (codes "boards") (map board_data rows.now))
+reply_bytes (Out.Queue claims) = plain_answer 200 (listing (codes "queue") (map claim_data claims.now))
 reply_bytes (Out.Reservations rows) =
-    plain 200 (listing (codes "reservations") (map res_data rows.now))
-reply_bytes (Out.Job row) = plain 200 (job_data row.now)
-reply_bytes (Out.Status status) = plain 200 (status_data status)
+    plain_answer 200 (listing (codes "reservations") (map res_data rows.now))
+reply_bytes (Out.Job row) = plain_answer 200 (job_data row.now)
+reply_bytes (Out.Status status) = plain_answer 200 (status_data status)

@@ -1,7 +1,7 @@
 //! Answers as bytes.
 ghost use Rattle.std.specs.Prelude.{◌≡◌, IfOk, map};
 ghost use Rattle.serde_json.specs.Written.{compact_text};
-ghost use Rattle.farm_wire.specs.Replies.{reply_bytes, answer_text, method_text, plain, status_or};
+ghost use Rattle.farm_wire.specs.Replies.{reply_bytes, answer_text, method_text, plain_answer, status_or};
 ghost use Rattle.farm_wire.specs.Replies.{head_text};
 ghost use Rattle.farm_wire.specs.Shown.{listing, refusal_data};
 
@@ -68,14 +68,14 @@ fn answer_of<T: Shown>(
 
 /// The answer with all rows.
 fn listing_answer<R: Shown>(alloc: Global, key: &str, rows: &[R]) -> Result<Vec<u8>, AllocError>
-    ensures { IfOk result (λ b. b.items ≡ plain 200 (listing key.now (map R.json rows.now))) }
+    ensures { IfOk result (λ b. b.items ≡ plain_answer 200 (listing key.now (map R.json rows.now))) }
 {
     answer_of(alloc, 200, "", &Listing { key, rows })
 }
 
 /// The answer of a refusal.
 fn refusal_answer(alloc: Global, refusal: Refusal) -> Result<Vec<u8>, AllocError>
-    ensures { IfOk result (λ b. b.items ≡ plain (status_or refusal.code)
+    ensures { IfOk result (λ b. b.items ≡ plain_answer (status_or refusal.code)
         (refusal_data refusal.code)) }
 {
     let status = refusal.status().unwrap_or(UNAVAILABLE);

@@ -5,7 +5,7 @@ ghost use Rattle.farm_types.specs.Proper.{is_proper_cmd};
 ghost use Rattle.farm_types.specs.Reads.{Reads};
 ghost use Rattle.farm_http.specs.Request.{Request};
 ghost use Rattle.farm_http.specs.Requests.{Spells};
-ghost use Rattle.farm_wire.specs.Asked.{ask, asked, asked_at, call_in, view_in, endpoint_in};
+ghost use Rattle.farm_wire.specs.Asked.{ask, shown_ask, asked_at, call_in, view_in, endpoint_in};
 ghost use Rattle.farm_wire.specs.Commands.{command_in};
 ghost use Rattle.farm_wire.specs.Routes.{rows, path_in, route_in};
 ghost use Rattle.farm_wire.specs.Reading.{Meets, or_refused};
@@ -46,7 +46,7 @@ impl Routes {
     /// GET what its path is; memory is taken for the words and for the body's JSON.
     pub fn ask(&self, alloc: Global, taken: &Taken, now: u64) -> Result<Ask, AskFault>
         ensures { (request : Request) → Spells taken.now.bytes.items taken.now.head request
-            → Meets asked result (ask request now) }
+            → Meets shown_ask result (ask request now) }
     {
         self.meaning(alloc, &parts_of(taken), now)
     }
@@ -54,7 +54,7 @@ impl Routes {
     /// What the parts of a request ask.
     #[tactic(auto, unfolding(crate::specs::Asked::ask))]
     fn meaning(&self, alloc: Global, parts: &Parts<'_>, now: u64) -> Result<Ask, AskFault>
-        ensures { Meets asked result (ask parts.now now) }
+        ensures { Meets shown_ask result (ask parts.now now) }
     {
         let path = path_of(parts.target())?;
         let route = self.route(path)?;
@@ -80,7 +80,7 @@ impl Ask {
     /// to 0.4 us.
     pub fn of(alloc: Global, taken: &Taken, now: u64) -> Result<Ask, AskFault>
         ensures { (request : Request) → Spells taken.now.bytes.items taken.now.head request
-            → Meets asked result (ask request now) }
+            → Meets shown_ask result (ask request now) }
     {
         Routes::new(alloc)?.ask(alloc, taken, now)
     }
@@ -126,7 +126,7 @@ fn asked_at(
     parts: &Parts<'_>,
     now: u64,
 ) -> Result<Ask, WordFault>
-    ensures { Reads asked result (asked_at endpoint path.now parts.now now) }
+    ensures { Reads shown_ask result (asked_at endpoint path.now parts.now now) }
 {
     match endpoint {
         Endpoint::View(kind) => Ok(Ask::View(view_of(kind, path)?)),
@@ -158,7 +158,7 @@ fn call_of(
     parts: &Parts<'_>,
     now: u64,
 ) -> Result<Ask, WordFault>
-    ensures { Reads asked result (call_in kind path.now parts.now now) }
+    ensures { Reads shown_ask result (call_in kind path.now parts.now now) }
 {
     let caller = caller_of(alloc, parts)?;
     let key = key_of(alloc, parts)?;

@@ -12,9 +12,9 @@ use Rattle.farm_types.specs.Refusals.{line_of, reason_of}
 use Rattle.farm_types.specs.Proper.{is_proper_cmd}
 use Rattle.farm_types.specs.Farm.{Farm, members, job_of, res_of}
 use Rattle.farm_types.specs.Pick.{fits, serves, is_free, meets, names_cmp, least, queue}
-use Rattle.farm_types.specs.Pass.{is_due_by, taken}
+use Rattle.farm_types.specs.Pass.{is_due_by, claims_taken}
 use Rattle.farm_types.specs.Machine.{Denied, run}
-use Rattle.farm_types.specs.Change.{replied}
+use Rattle.farm_types.specs.Change.{reply_of}
 use Rattle.farm_types.specs.Sound.{holds, IsHeldOnce, IsWhole}
 use Rattle.farm_types.specs.Small.{IsSmall, every_of, held_by}
 use Rattle.farm_types.specs.Worked.{answers, a_board}
@@ -34,7 +34,7 @@ use Rattle.farm_types.specs.declared.calls.Cmd.{Cmd}
 use Rattle.farm_types.specs.declared.calls.Call.{Call}
 use Rattle.farm_worked.specs.Groups.{after_group_starts, after_one_member_ends, after_first_member_collects}
 use Rattle.farm_worked.specs.Reservations.{after_one_counter, after_lease_begins}
-use Rattle.farm_worked.specs.Kept.{under}
+use Rattle.farm_worked.specs.Kept.{call_under}
 use Rattle.farm_worked.specs.Limits.{board_named, many_types}
 
 -- ---- words
@@ -56,7 +56,7 @@ abbrev pub two_types : List TypeRow
 two_types = type_row (codes "aaa") Check.Never ∷ type_row (codes "ccc") Check.Never ∷ []
 
 abbrev pub under_k1 : List ℕ → KeptRow
-under_k1 caller = record { caller = caller; key = codes "k1"; kind = 5; reply = replied 1 0 0 }
+under_k1 caller = record { caller = caller; key = codes "k1"; kind = 5; reply = reply_of 1 0 0 }
 
 pub record BookOfTables : Type 0 where
   pub row_is_added : put type_cmp two_types (type_row (codes "bbb") Check.Never)
@@ -189,17 +189,17 @@ pub record BookOfPicks : Type 0 where
 -- ---- the pass
 
 -- b1 after so many jobs
-abbrev pub used : ℕ → BoardRow
-used n = record b1 { jobs_since = n }
+abbrev pub used_board : ℕ → BoardRow
+used_board n = record b1 { jobs_since = n }
 
 pub record BookOfPasses : Type 0 where
   pub due_by_hours : map (λ t. is_due_by (Check.Hours 1) t (record b1 { last_check = 100 }))
       (3699 ∷ 3700 ∷ []) ≡ false ∷ true ∷ []
-  pub due_by_jobs : map (λ n. is_due_by (Check.Jobs 2) 100 (used n)) (1 ∷ 2 ∷ [])
+  pub due_by_jobs : map (λ n. is_due_by (Check.Jobs 2) 100 (used_board n)) (1 ∷ 2 ∷ [])
       ≡ false ∷ true ∷ []
   pub who_is_due : map (is_due_by (Check.Hours 1) 100) all_health
       ≡ false ∷ true ∷ false ∷ false ∷ false ∷ []
-  pub collector_goes_first : map (λ c. c.number) (taken after_lease_begins 2) ≡ 2 ∷ 1 ∷ 5 ∷ []
+  pub collector_goes_first : map (λ c. c.number) (claims_taken after_lease_begins 2) ≡ 2 ∷ 1 ∷ 5 ∷ []
 
 -- ---- refusals in their order
 
@@ -211,11 +211,11 @@ no_more_types = record many_types { kept = under_k1 (codes "ann") ∷ []; count 
 unfoldable pub reasons_in_order : List Call
 unfolding is_proper_cmd is_word is_tag is_tags is_utf8 chars
 reasons_in_order =
-    under (codes "ann") (codes "k1") 250000000001 (Cmd.AddType (codes "a") Check.Never) refl
-    ∷ under (codes "ann") (codes "k1") 10 (Cmd.AddType (codes "a") Check.Never) refl
-    ∷ under (codes "ann") (codes "k2") 10 (Cmd.AddType (codes "a") Check.Never) refl
-    ∷ under (codes "admin") (codes "k1") 10 (Cmd.AddType (codes "a") Check.Never) refl
-    ∷ under (codes "admin") (codes "k1") 10 (Cmd.AddType (codes ".") Check.Never) refl
+    call_under (codes "ann") (codes "k1") 250000000001 (Cmd.AddType (codes "a") Check.Never) refl
+    ∷ call_under (codes "ann") (codes "k1") 10 (Cmd.AddType (codes "a") Check.Never) refl
+    ∷ call_under (codes "ann") (codes "k2") 10 (Cmd.AddType (codes "a") Check.Never) refl
+    ∷ call_under (codes "admin") (codes "k1") 10 (Cmd.AddType (codes "a") Check.Never) refl
+    ∷ call_under (codes "admin") (codes "k1") 10 (Cmd.AddType (codes ".") Check.Never) refl
     ∷ []
 
 pub record BookOfReasons : Type 0 where
@@ -233,8 +233,8 @@ abbrev pub on_one_board : Farm
 on_one_board = record after_group_starts { jobs = map on_b1 after_group_starts.jobs }
 
 -- one member runs, the other one has its board and waits for the start
-abbrev pub half_started : Farm
-half_started = record after_group_starts {
+abbrev pub half_started_farm : Farm
+half_started_farm = record after_group_starts {
   jobs =
       change_where (λ j. j.number == 2) (λ j. record j { state = JobState.Scheduled })
       after_group_starts.jobs;
@@ -244,7 +244,7 @@ pub record BookOfSound : Type 0 where
   pub what_is_held : holds after_one_member_ends
       ≡ record { board = codes "b1"; holder = Holder.Job 2; state = State.Running } ∷ []
   pub held_twice : IsHeldOnce on_one_board → ⊥
-  pub started_in_part : IsWhole half_started → ⊥
+  pub started_in_part : IsWhole half_started_farm → ⊥
 
 -- ---- numbers of a store
 

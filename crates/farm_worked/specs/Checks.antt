@@ -2,9 +2,10 @@
 use Rattle.std.specs.Prelude.{◌≡◌, List, [], ◌∷◌, Some, None, codes, refl, true, false}
 use Rattle.std.specs.Char.{encode_utf8}
 use Rattle.std.specs.Str.{is_utf8, chars}
+use Rattle.farm_types.specs.Change.{new_board as board_row}
 use Rattle.farm_types.specs.Words.{is_word, is_tag, is_tags}
 use Rattle.farm_types.specs.Proper.{is_proper_cmd}
-use Rattle.farm_types.specs.Farm.{Farm, empty}
+use Rattle.farm_types.specs.Farm.{Farm, empty_farm}
 use Rattle.farm_types.specs.Machine.{Denied, run}
 use Rattle.farm_types.specs.Worked.{answers, did, passed, by_admin, by_dispatcher, by_ann, new_type, new_board, set, a_board}
 use Rattle.farm_types.specs.declared.rows.Check.{Check}
@@ -32,7 +33,7 @@ abbrev pub after_check_is_made : Farm
 after_check_is_made = record {
   types = record { name = codes "bbb"; check = Check.Hours 1 } ∷ [];
   boards =
-      record { name = codes "b1"; kind = codes "bbb"; tags = codes "hdmi" ∷ []; health = Health.Unknown; state = State.Reserved; holder = Holder.Job 2; jobs_since = 0; last_check = 0 }
+      record (board_row (codes "b1") (codes "bbb") (codes "hdmi" ∷ [])) { health = Health.Unknown; state = State.Reserved; holder = Holder.Job 2 }
       ∷ [];
   jobs =
       record { number = 1; group = 1; checking = false; owner = codes "ann"; priority = 100; want = a_board []; role = None; state = JobState.Submitted; outcome = None; board = None; body = codes "one board" }
@@ -58,7 +59,7 @@ check_ends_well =
 abbrev pub after_check_ends_well : Farm
 after_check_ends_well = record after_check_is_made {
   boards =
-      record { name = codes "b1"; kind = codes "bbb"; tags = codes "hdmi" ∷ []; health = Health.Good; state = State.Reserved; holder = Holder.Job 1; jobs_since = 0; last_check = 90 }
+      record (board_row (codes "b1") (codes "bbb") (codes "hdmi" ∷ [])) { health = Health.Good; state = State.Reserved; holder = Holder.Job 1; last_check = 90 }
       ∷ [];
   jobs =
       record { number = 1; group = 1; checking = false; owner = codes "ann"; priority = 100; want = a_board []; role = None; state = JobState.Scheduled; outcome = None; board = Some (codes "b1"); body = codes "one board" }
@@ -81,7 +82,7 @@ lab_fault =
 abbrev pub after_lab_fault : Farm
 after_lab_fault = record after_check_is_made {
   boards =
-      record { name = codes "b1"; kind = codes "bbb"; tags = codes "hdmi" ∷ []; health = Health.Unknown; state = State.Running; holder = Holder.Job 3; jobs_since = 1; last_check = 90 }
+      record (board_row (codes "b1") (codes "bbb") (codes "hdmi" ∷ [])) { health = Health.Unknown; state = State.Running; holder = Holder.Job 3; jobs_since = 1; last_check = 90 }
       ∷ [];
   jobs =
       record { number = 1; group = 1; checking = false; owner = codes "ann"; priority = 100; want = a_board []; role = None; state = JobState.Finished; outcome = Some Outcome.Infra; board = Some (codes "b1"); body = codes "one board" }
@@ -106,7 +107,7 @@ board_is_retired =
 abbrev pub after_board_is_retired : Farm
 after_board_is_retired = record after_check_is_made {
   boards =
-      record { name = codes "b1"; kind = codes "bbb"; tags = codes "hdmi" ∷ []; health = Health.Retired; state = State.Idle; holder = Holder.Nobody; jobs_since = 1; last_check = 90 }
+      record (board_row (codes "b1") (codes "bbb") (codes "hdmi" ∷ [])) { health = Health.Retired; jobs_since = 1; last_check = 90 }
       ∷ [];
   jobs =
       record { number = 1; group = 1; checking = false; owner = codes "ann"; priority = 100; want = a_board []; role = None; state = JobState.Finished; outcome = Some Outcome.Infra; board = Some (codes "b1"); body = codes "one board" }
@@ -120,8 +121,8 @@ after_board_is_retired = record after_check_is_made {
 
 -- what each script answers and leaves
 pub record ChecksAsWorked : Type 0 where
-  pub check_is_made_answers : answers empty check_is_made ≡ did 0 ∷ did 0 ∷ did 0 ∷ did 1 ∷ passed 1 0 0 ∷ []
-  pub check_is_made_leaves : run empty check_is_made ≡ after_check_is_made
+  pub check_is_made_answers : answers empty_farm check_is_made ≡ did 0 ∷ did 0 ∷ did 0 ∷ did 1 ∷ passed 1 0 0 ∷ []
+  pub check_is_made_leaves : run empty_farm check_is_made ≡ after_check_is_made
   pub check_ends_well_answers : answers after_check_is_made check_ends_well ≡ did 2 ∷ did 2 ∷ passed 0 0 1 ∷ []
   pub check_ends_well_leaves : run after_check_is_made check_ends_well ≡ after_check_ends_well
   pub lab_fault_answers : answers after_check_ends_well lab_fault ≡ did 1 ∷ did 1 ∷ passed 1 0 0 ∷ did 3 ∷ []

@@ -4,10 +4,10 @@ use Rattle.std.specs.List.{range_with_len}
 use Rattle.std.specs.Str.{is_utf8, chars}
 use Rattle.farm_types.specs.Words.{is_word, is_tag, is_tags}
 use Rattle.farm_types.specs.Proper.{is_proper_cmd}
-use Rattle.farm_types.specs.Farm.{Farm, empty}
+use Rattle.farm_types.specs.Farm.{Farm, empty_farm}
 use Rattle.farm_types.specs.Pass.{checks}
 use Rattle.farm_types.specs.Machine.{Denied, Repeated, run}
-use Rattle.farm_types.specs.Change.{replied}
+use Rattle.farm_types.specs.Change.{reply_of}
 use Rattle.farm_types.specs.Worked.{answers, did, by_admin, by_ann, new_type, a_board, pair, any_board}
 use Rattle.farm_types.specs.declared.rows.Check.{Check}
 use Rattle.farm_types.specs.declared.rows.Health.{Health}
@@ -19,7 +19,7 @@ use Rattle.farm_types.specs.declared.rows.ResRow.{ResRow}
 use Rattle.farm_types.specs.declared.rows.KeptRow.{KeptRow}
 use Rattle.farm_types.specs.declared.calls.Cmd.{Cmd}
 use Rattle.farm_types.specs.declared.calls.Call.{Call}
-use Rattle.farm_worked.specs.Kept.{under}
+use Rattle.farm_worked.specs.Kept.{call_under}
 use Rattle.farm_worked.specs.Limits.{board_named}
 
 -- canceled before they had a board
@@ -27,7 +27,7 @@ abbrev pub ended_job : ℕ → JobRow
 ended_job n = record { number = n; group = n; checking = false; owner = codes "ann"; priority = 50; want = a_board []; role = None; state = JobState.Finished; outcome = Some Outcome.Canceled; board = None; body = [] }
 
 abbrev pub with_jobs : ℕ → Farm
-with_jobs n = record empty {
+with_jobs n = record empty_farm {
   types = record { name = codes "bbb"; check = Check.Never } ∷ [];
   boards = board_named (codes "bbb") (codes "b1") ∷ board_named (codes "bbb") (codes "b2") ∷ [];
   jobs = map ended_job (range_with_len 1 n);
@@ -68,22 +68,22 @@ abbrev pub six_digits : ℕ → List ℕ
 six_digits n = digit (n / 100000) ∷ digit (n / 10000) ∷ digit (n / 1000) ∷ digit (n / 100) ∷ digit (n / 10) ∷ digit n ∷ []
 
 abbrev pub kept_pass : ℕ → KeptRow
-kept_pass n = record { caller = codes "dispatcher"; key = six_digits n; kind = 14; reply = replied 0 0 0 }
+kept_pass n = record { caller = codes "dispatcher"; key = six_digits n; kind = 14; reply = reply_of 0 0 0 }
 
 abbrev pub with_kept : ℕ → Farm
-with_kept n = record empty { kept = map kept_pass (range_with_len 1 n); count = n }
+with_kept n = record empty_farm { kept = map kept_pass (range_with_len 1 n); count = n }
 
 -- no reply more is kept, but kept ones are answered, and calls without a key are accepted
 unfoldable pub one_more_key : List Call
 unfolding is_proper_cmd is_word is_tag is_tags is_utf8 chars
 one_more_key =
-    under (codes "admin") (codes "k1") 10 (new_type Check.Never) refl
+    call_under (codes "admin") (codes "k1") 10 (new_type Check.Never) refl
     ∷ []
 
 unfoldable pub first_key : List Call
 unfolding is_proper_cmd is_word is_tag is_tags is_utf8 chars
 first_key =
-    under (codes "dispatcher") (codes "000001") 10 Cmd.Pass refl
+    call_under (codes "dispatcher") (codes "000001") 10 Cmd.Pass refl
     ∷ []
 
 unfoldable pub without_a_key : List Call
@@ -105,5 +105,5 @@ pub record FullAsWorked : Type 0 where
   pub reservations_full : answers (with_reservations 99999) one_more_reservation ≡ did 100000 ∷ []
   pub reservations_full_length : length (run (with_reservations 99999) one_more_reservation).reservations ≡ 100000
   pub kept_beyond : answers (with_kept 300000) one_more_key ≡ Denied 4 ∷ []
-  pub kept_repeated : answers (with_kept 300000) first_key ≡ Repeated (replied 0 0 0) ∷ []
+  pub kept_repeated : answers (with_kept 300000) first_key ≡ Repeated (reply_of 0 0 0) ∷ []
   pub kept_passed_by : answers (with_kept 300000) without_a_key ≡ did 0 ∷ []

@@ -2,9 +2,10 @@
 use Rattle.std.specs.Prelude.{◌≡◌, List, [], ◌∷◌, Some, None, codes, refl, false}
 use Rattle.std.specs.Char.{encode_utf8}
 use Rattle.std.specs.Str.{is_utf8, chars}
+use Rattle.farm_types.specs.Change.{new_board as board_row}
 use Rattle.farm_types.specs.Words.{is_word, is_tag, is_tags}
 use Rattle.farm_types.specs.Proper.{is_proper_cmd}
-use Rattle.farm_types.specs.Farm.{Farm, empty}
+use Rattle.farm_types.specs.Farm.{Farm, empty_farm}
 use Rattle.farm_types.specs.Machine.{run}
 use Rattle.farm_types.specs.Worked.{answers, did, passed, by_admin, by_dispatcher, by_ann, new_type, new_board, set, a_board}
 use Rattle.farm_types.specs.declared.rows.Check.{Check}
@@ -33,8 +34,8 @@ abbrev pub after_group_asks : Farm
 after_group_asks = record {
   types = record { name = codes "bbb"; check = Check.Never } ∷ [];
   boards =
-      record { name = codes "b1"; kind = codes "bbb"; tags = codes "hdmi" ∷ []; health = Health.Good; state = State.Idle; holder = Holder.Nobody; jobs_since = 0; last_check = 0 }
-      ∷ record { name = codes "b2"; kind = codes "bbb"; tags = []; health = Health.Good; state = State.Idle; holder = Holder.Nobody; jobs_since = 0; last_check = 0 }
+      record (board_row (codes "b1") (codes "bbb") (codes "hdmi" ∷ [])) { health = Health.Good }
+      ∷ record (board_row (codes "b2") (codes "bbb") []) { health = Health.Good }
       ∷ [];
   jobs =
       record { number = 1; group = 1; checking = false; owner = codes "ann"; priority = 70; want = a_board []; role = Some (codes "client"); state = JobState.Submitted; outcome = None; board = None; body = codes "two boards" }
@@ -58,8 +59,8 @@ group_is_served =
 abbrev pub after_group_is_served : Farm
 after_group_is_served = record after_group_asks {
   boards =
-      record { name = codes "b1"; kind = codes "bbb"; tags = codes "hdmi" ∷ []; health = Health.Good; state = State.Reserved; holder = Holder.Job 2; jobs_since = 0; last_check = 0 }
-      ∷ record { name = codes "b2"; kind = codes "bbb"; tags = []; health = Health.Good; state = State.Reserved; holder = Holder.Job 1; jobs_since = 0; last_check = 0 }
+      record (board_row (codes "b1") (codes "bbb") (codes "hdmi" ∷ [])) { health = Health.Good; state = State.Reserved; holder = Holder.Job 2 }
+      ∷ record (board_row (codes "b2") (codes "bbb") []) { health = Health.Good; state = State.Reserved; holder = Holder.Job 1 }
       ∷ [];
   jobs =
       record { number = 1; group = 1; checking = false; owner = codes "ann"; priority = 70; want = a_board []; role = Some (codes "client"); state = JobState.Scheduled; outcome = None; board = Some (codes "b2"); body = codes "two boards" }
@@ -79,8 +80,8 @@ group_starts =
 abbrev pub after_group_starts : Farm
 after_group_starts = record after_group_asks {
   boards =
-      record { name = codes "b1"; kind = codes "bbb"; tags = codes "hdmi" ∷ []; health = Health.Good; state = State.Running; holder = Holder.Job 2; jobs_since = 0; last_check = 0 }
-      ∷ record { name = codes "b2"; kind = codes "bbb"; tags = []; health = Health.Good; state = State.Running; holder = Holder.Job 1; jobs_since = 0; last_check = 0 }
+      record (board_row (codes "b1") (codes "bbb") (codes "hdmi" ∷ [])) { health = Health.Good; state = State.Running; holder = Holder.Job 2 }
+      ∷ record (board_row (codes "b2") (codes "bbb") []) { health = Health.Good; state = State.Running; holder = Holder.Job 1 }
       ∷ [];
   jobs =
       record { number = 1; group = 1; checking = false; owner = codes "ann"; priority = 70; want = a_board []; role = Some (codes "client"); state = JobState.Running; outcome = None; board = Some (codes "b2"); body = codes "two boards" }
@@ -102,8 +103,8 @@ one_member_ends =
 abbrev pub after_one_member_ends : Farm
 after_one_member_ends = record after_group_asks {
   boards =
-      record { name = codes "b1"; kind = codes "bbb"; tags = codes "hdmi" ∷ []; health = Health.Good; state = State.Running; holder = Holder.Job 2; jobs_since = 0; last_check = 0 }
-      ∷ record { name = codes "b2"; kind = codes "bbb"; tags = []; health = Health.Good; state = State.Idle; holder = Holder.Nobody; jobs_since = 1; last_check = 0 }
+      record (board_row (codes "b1") (codes "bbb") (codes "hdmi" ∷ [])) { health = Health.Good; state = State.Running; holder = Holder.Job 2 }
+      ∷ record (board_row (codes "b2") (codes "bbb") []) { health = Health.Good; jobs_since = 1 }
       ∷ [];
   jobs =
       record { number = 1; group = 1; checking = false; owner = codes "ann"; priority = 70; want = a_board []; role = Some (codes "client"); state = JobState.Finished; outcome = Some Outcome.Incomplete; board = Some (codes "b2"); body = codes "two boards" }
@@ -123,8 +124,8 @@ the_other_ends =
 abbrev pub after_the_other_ends : Farm
 after_the_other_ends = record after_group_asks {
   boards =
-      record { name = codes "b1"; kind = codes "bbb"; tags = codes "hdmi" ∷ []; health = Health.Good; state = State.Idle; holder = Holder.Nobody; jobs_since = 1; last_check = 0 }
-      ∷ record { name = codes "b2"; kind = codes "bbb"; tags = []; health = Health.Good; state = State.Idle; holder = Holder.Nobody; jobs_since = 1; last_check = 0 }
+      record (board_row (codes "b1") (codes "bbb") (codes "hdmi" ∷ [])) { health = Health.Good; jobs_since = 1 }
+      ∷ record (board_row (codes "b2") (codes "bbb") []) { health = Health.Good; jobs_since = 1 }
       ∷ [];
   jobs =
       record { number = 1; group = 1; checking = false; owner = codes "ann"; priority = 70; want = a_board []; role = Some (codes "client"); state = JobState.Finished; outcome = Some Outcome.Incomplete; board = Some (codes "b2"); body = codes "two boards" }
@@ -162,8 +163,8 @@ first_member_collects =
 abbrev pub after_first_member_collects : Farm
 after_first_member_collects = record after_group_asks {
   boards =
-      record { name = codes "b1"; kind = codes "bbb"; tags = codes "hdmi" ∷ []; health = Health.Good; state = State.Reserved; holder = Holder.Job 1; jobs_since = 0; last_check = 0 }
-      ∷ record { name = codes "b2"; kind = codes "bbb"; tags = []; health = Health.Maintenance; state = State.Idle; holder = Holder.Nobody; jobs_since = 0; last_check = 0 }
+      record (board_row (codes "b1") (codes "bbb") (codes "hdmi" ∷ [])) { health = Health.Good; state = State.Reserved; holder = Holder.Job 1 }
+      ∷ board_row (codes "b2") (codes "bbb") []
       ∷ [];
   jobs =
       record { number = 1; group = 1; checking = false; owner = codes "ann"; priority = 70; want = a_board []; role = Some (codes "client"); state = JobState.Scheduling; outcome = None; board = Some (codes "b1"); body = codes "two boards" }
@@ -195,8 +196,8 @@ canceled_while_it_collects =
 abbrev pub after_canceled_while_it_collects : Farm
 after_canceled_while_it_collects = record after_group_asks {
   boards =
-      record { name = codes "b1"; kind = codes "bbb"; tags = codes "hdmi" ∷ []; health = Health.Good; state = State.Idle; holder = Holder.Nobody; jobs_since = 0; last_check = 0 }
-      ∷ record { name = codes "b2"; kind = codes "bbb"; tags = []; health = Health.Maintenance; state = State.Idle; holder = Holder.Nobody; jobs_since = 0; last_check = 0 }
+      record (board_row (codes "b1") (codes "bbb") (codes "hdmi" ∷ [])) { health = Health.Good }
+      ∷ board_row (codes "b2") (codes "bbb") []
       ∷ [];
   jobs =
       record { number = 1; group = 1; checking = false; owner = codes "ann"; priority = 70; want = a_board []; role = Some (codes "client"); state = JobState.Finished; outcome = Some Outcome.Canceled; board = Some (codes "b1"); body = codes "two boards" }
@@ -208,8 +209,8 @@ after_canceled_while_it_collects = record after_group_asks {
 
 -- what each script answers and leaves
 pub record GroupsAsWorked : Type 0 where
-  pub group_asks_answers : answers empty group_asks ≡ did 0 ∷ did 0 ∷ did 0 ∷ did 0 ∷ did 0 ∷ did 1 ∷ []
-  pub group_asks_leaves : run empty group_asks ≡ after_group_asks
+  pub group_asks_answers : answers empty_farm group_asks ≡ did 0 ∷ did 0 ∷ did 0 ∷ did 0 ∷ did 0 ∷ did 1 ∷ []
+  pub group_asks_leaves : run empty_farm group_asks ≡ after_group_asks
   pub group_is_served_answers : answers after_group_asks group_is_served ≡ passed 0 0 1 ∷ []
   pub group_is_served_leaves : run after_group_asks group_is_served ≡ after_group_is_served
   pub group_starts_answers : answers after_group_is_served group_starts ≡ did 1 ∷ []

@@ -4,9 +4,9 @@ use Rattle.std.specs.List.{flat_map}
 use Rattle.std.specs.Str.{is_utf8, chars}
 use Rattle.farm_types.specs.Words.{is_word, is_tag, is_tags}
 use Rattle.farm_types.specs.Proper.{is_proper_cmd}
-use Rattle.farm_types.specs.Farm.{Farm, empty}
+use Rattle.farm_types.specs.Farm.{Farm, empty_farm}
 use Rattle.farm_types.specs.Machine.{Denied, run}
-use Rattle.farm_types.specs.Change.{replied}
+use Rattle.farm_types.specs.Change.{new_board as board_row, reply_of}
 use Rattle.farm_types.specs.Worked.{answers, board_shows, res_shows, did, passed, by_admin, by_dispatcher, by_ann, new_type, a_board, single, any_board}
 use Rattle.farm_types.specs.declared.rows.Check.{Check}
 use Rattle.farm_types.specs.declared.rows.Health.{Health}
@@ -19,7 +19,7 @@ use Rattle.farm_types.specs.declared.rows.TypeRow.{TypeRow}
 use Rattle.farm_types.specs.declared.rows.BoardRow.{BoardRow}
 use Rattle.farm_types.specs.declared.calls.Cmd.{Cmd}
 use Rattle.farm_types.specs.declared.calls.Call.{Call}
-use Rattle.farm_worked.specs.Kept.{under}
+use Rattle.farm_worked.specs.Kept.{call_under}
 
 -- sixty-four names of one byte each, in order: all but the full stop
 abbrev pub letters : List ℕ
@@ -29,12 +29,12 @@ abbrev pub type_named : ℕ → TypeRow
 type_named c = record { name = c ∷ []; check = Check.Never }
 
 abbrev pub board_named : List ℕ → List ℕ → BoardRow
-board_named kind name = record { name = name; kind = kind; tags = []; health = Health.Good; state = State.Idle; holder = Holder.Nobody; jobs_since = 0; last_check = 0 }
+board_named kind name = record (board_row name kind []) { health = Health.Good }
 
 -- ---- types and boards
 
 abbrev pub many_types : Farm
-many_types = record empty { types = map type_named letters }
+many_types = record empty_farm { types = map type_named letters }
 
 unfoldable pub one_more_type : List Call
 unfolding is_proper_cmd is_word is_tag is_tags is_utf8 chars
@@ -43,11 +43,11 @@ one_more_type =
     ∷ []
 
 abbrev pub fewer_types : Farm
-fewer_types = record empty { types = map type_named (codes "-0123456789ABCDEFGHIJKLMNOPQRSTUVWXYZ_abcdefghijklmnopqrstuvwxy") }
+fewer_types = record empty_farm { types = map type_named (codes "-0123456789ABCDEFGHIJKLMNOPQRSTUVWXYZ_abcdefghijklmnopqrstuvwxy") }
 
 -- sixty-four boards of type a, and none of type b
 abbrev pub many_boards : Farm
-many_boards = record empty {
+many_boards = record empty_farm {
   types = map type_named (codes "ab");
   boards = map (λ c. board_named (codes "a") (c ∷ [])) letters;
 }
@@ -61,7 +61,7 @@ one_more_board =
 
 -- sixty-four boards of each of four types, and none of a fifth
 abbrev pub all_boards : Farm
-all_boards = record empty {
+all_boards = record empty_farm {
   types = map type_named (codes "abcde");
   boards = flat_map (λ k. map (λ c. board_named (k ∷ []) (k ∷ c ∷ [])) letters) (codes "abcd");
 }
@@ -76,10 +76,10 @@ one_more_of_a_fifth_type =
 
 -- one number is left, for a farm with a due board
 abbrev pub last_number : Farm
-last_number = record empty {
+last_number = record empty_farm {
   types = record { name = codes "bbb"; check = Check.Hours 1 } ∷ [];
   boards =
-      record { name = codes "b1"; kind = codes "bbb"; tags = []; health = Health.Unknown; state = State.Idle; holder = Holder.Nobody; jobs_since = 0; last_check = 0 }
+      record (board_row (codes "b1") (codes "bbb") []) { health = Health.Unknown }
       ∷ [];
   next = 999999999;
 }
@@ -88,7 +88,7 @@ last_number = record empty {
 unfoldable pub numbers_run_out : List Call
 unfolding is_proper_cmd is_word is_tag is_tags is_utf8 chars
 numbers_run_out =
-    under (codes "ann") (codes "k1") 20 any_board refl
+    call_under (codes "ann") (codes "k1") 20 any_board refl
     ∷ by_ann 21 any_board refl
     ∷ by_ann 22 (single 50) refl
     ∷ by_dispatcher 30 Cmd.Pass refl
@@ -96,7 +96,7 @@ numbers_run_out =
 
 -- one more command is counted
 abbrev pub last_count : Farm
-last_count = record empty { count = 8999999999999999999 }
+last_count = record empty_farm { count = 8999999999999999999 }
 
 unfoldable pub counting_ends : List Call
 unfolding is_proper_cmd is_word is_tag is_tags is_utf8 chars
@@ -109,10 +109,10 @@ counting_ends =
 
 -- a board that has counted a million jobs since its check runs one more
 abbrev pub a_million_jobs : Farm
-a_million_jobs = record empty {
+a_million_jobs = record empty_farm {
   types = record { name = codes "bbb"; check = Check.Never } ∷ [];
   boards =
-      record { name = codes "b1"; kind = codes "bbb"; tags = []; health = Health.Good; state = State.Running; holder = Holder.Job 1; jobs_since = 1000000; last_check = 0 }
+      record (board_row (codes "b1") (codes "bbb") []) { health = Health.Good; state = State.Running; holder = Holder.Job 1; jobs_since = 1000000 }
       ∷ [];
   jobs =
       record { number = 1; group = 1; checking = false; owner = codes "ann"; priority = 50; want = a_board []; role = None; state = JobState.Running; outcome = None; board = Some (codes "b1"); body = [] }
@@ -141,7 +141,7 @@ pub record LimitsAsWorked : Type 0 where
   pub numbers_run_out_next : (run last_number numbers_run_out).next ≡ 1000000000
   pub numbers_run_out_jobs : (run last_number numbers_run_out).jobs ≡ []
   pub numbers_run_out_reservation : res_shows (run last_number numbers_run_out) 999999999 ≡ Some (ResState.Waiting, None, 80)
-  pub numbers_run_out_kept : (run last_number numbers_run_out).kept ≡ record { caller = codes "ann"; key = codes "k1"; kind = 9; reply = replied 999999999 0 0 } ∷ []
+  pub numbers_run_out_kept : (run last_number numbers_run_out).kept ≡ record { caller = codes "ann"; key = codes "k1"; kind = 9; reply = reply_of 999999999 0 0 } ∷ []
   pub counting_ends_answers : answers last_count counting_ends ≡ did 0 ∷ Denied 11 ∷ Denied 4 ∷ Denied 4 ∷ []
   pub counting_ends_count : (run last_count counting_ends).count ≡ 9000000000000000000
   pub counting_ends_clock : (run last_count counting_ends).clock ≡ 10

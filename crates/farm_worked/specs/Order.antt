@@ -3,7 +3,7 @@ use Rattle.std.specs.Prelude.{◌≡◌, ℕ, List, [], ◌∷◌, Some, None, c
 use Rattle.std.specs.Str.{is_utf8, chars}
 use Rattle.farm_types.specs.Words.{is_word, is_tag, is_tags}
 use Rattle.farm_types.specs.Proper.{is_proper_cmd}
-use Rattle.farm_types.specs.Farm.{Farm, empty}
+use Rattle.farm_types.specs.Farm.{Farm, empty_farm}
 use Rattle.farm_types.specs.Machine.{run}
 use Rattle.farm_types.specs.Worked.{answers, did, by_admin, by_ann, a_board, single}
 use Rattle.farm_types.specs.declared.rows.Check.{Check}
@@ -64,8 +64,8 @@ place_of j = (j.number, j.group, j.priority)
 
 -- what each script answers and leaves
 pub record OrderAsWorked : Type 0 where
-  pub types_and_boards_answers : answers empty types_and_boards ≡ did 0 ∷ did 0 ∷ did 0 ∷ did 0 ∷ did 0 ∷ did 0 ∷ []
-  pub types_and_boards_leaves : run empty types_and_boards ≡ after_types_and_boards
+  pub types_and_boards_answers : answers empty_farm types_and_boards ≡ did 0 ∷ did 0 ∷ did 0 ∷ did 0 ∷ did 0 ∷ did 0 ∷ []
+  pub types_and_boards_leaves : run empty_farm types_and_boards ≡ after_types_and_boards
   pub four_members_answers : answers after_types_and_boards four_members ≡ did 0 ∷ did 0 ∷ did 1 ∷ did 2 ∷ did 6 ∷ []
   pub four_members_boards : map (λ b. b.name) (run after_types_and_boards four_members).boards ≡ codes "B3" ∷ codes "b10" ∷ codes "b2" ∷ codes "b4" ∷ codes "b5" ∷ []
   pub four_members_jobs : map place_of (run after_types_and_boards four_members).jobs

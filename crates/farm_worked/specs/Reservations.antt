@@ -1,9 +1,10 @@
 -- Worked scripts of reservations beside jobs: one counter of numbers, and deadlines.
 use Rattle.std.specs.Prelude.{◌≡◌, List, [], ◌∷◌, Some, None, codes, refl, false}
 use Rattle.std.specs.Str.{is_utf8, chars}
+use Rattle.farm_types.specs.Change.{new_board as board_row}
 use Rattle.farm_types.specs.Words.{is_word, is_tag, is_tags}
 use Rattle.farm_types.specs.Proper.{is_proper_cmd}
-use Rattle.farm_types.specs.Farm.{Farm, empty}
+use Rattle.farm_types.specs.Farm.{Farm, empty_farm}
 use Rattle.farm_types.specs.Machine.{run}
 use Rattle.farm_types.specs.Worked.{answers, did, passed, by_admin, by_dispatcher, by_ann, by_bob, new_type, new_board, set, a_board, single, pair, any_board}
 use Rattle.farm_types.specs.declared.rows.Check.{Check}
@@ -33,8 +34,8 @@ abbrev pub after_one_counter : Farm
 after_one_counter = record {
   types = record { name = codes "bbb"; check = Check.Never } ∷ [];
   boards =
-      record { name = codes "b1"; kind = codes "bbb"; tags = []; health = Health.Maintenance; state = State.Idle; holder = Holder.Nobody; jobs_since = 0; last_check = 0 }
-      ∷ record { name = codes "b2"; kind = codes "bbb"; tags = []; health = Health.Maintenance; state = State.Idle; holder = Holder.Nobody; jobs_since = 0; last_check = 0 }
+      board_row (codes "b1") (codes "bbb") []
+      ∷ board_row (codes "b2") (codes "bbb") []
       ∷ [];
   jobs =
       record { number = 2; group = 2; checking = false; owner = codes "bob"; priority = 50; want = a_board []; role = None; state = JobState.Submitted; outcome = None; board = None; body = [] }
@@ -63,8 +64,8 @@ lease_begins =
 abbrev pub after_lease_begins : Farm
 after_lease_begins = record after_one_counter {
   boards =
-      record { name = codes "b1"; kind = codes "bbb"; tags = []; health = Health.Good; state = State.Reserved; holder = Holder.Res 4; jobs_since = 0; last_check = 0 }
-      ∷ record { name = codes "b2"; kind = codes "bbb"; tags = []; health = Health.Maintenance; state = State.Idle; holder = Holder.Nobody; jobs_since = 0; last_check = 0 }
+      record (board_row (codes "b1") (codes "bbb") []) { health = Health.Good; state = State.Reserved; holder = Holder.Res 4 }
+      ∷ board_row (codes "b2") (codes "bbb") []
       ∷ [];
   reservations =
       record { number = 1; owner = codes "ann"; priority = 50; want = record { kind = None; tags = [] }; state = ResState.Waiting; deadline = 80; board = None }
@@ -86,8 +87,8 @@ one_is_acquired =
 abbrev pub after_one_is_acquired : Farm
 after_one_is_acquired = record after_one_counter {
   boards =
-      record { name = codes "b1"; kind = codes "bbb"; tags = []; health = Health.Good; state = State.Running; holder = Holder.Res 4; jobs_since = 0; last_check = 0 }
-      ∷ record { name = codes "b2"; kind = codes "bbb"; tags = []; health = Health.Maintenance; state = State.Idle; holder = Holder.Nobody; jobs_since = 0; last_check = 0 }
+      record (board_row (codes "b1") (codes "bbb") []) { health = Health.Good; state = State.Running; holder = Holder.Res 4 }
+      ∷ board_row (codes "b2") (codes "bbb") []
       ∷ [];
   reservations =
       record { number = 1; owner = codes "ann"; priority = 50; want = record { kind = None; tags = [] }; state = ResState.Expired; deadline = 80; board = None }
@@ -109,8 +110,8 @@ lease_goes_on =
 abbrev pub after_lease_goes_on : Farm
 after_lease_goes_on = record after_one_counter {
   boards =
-      record { name = codes "b1"; kind = codes "bbb"; tags = []; health = Health.Good; state = State.Reserved; holder = Holder.Res 4; jobs_since = 0; last_check = 0 }
-      ∷ record { name = codes "b2"; kind = codes "bbb"; tags = []; health = Health.Maintenance; state = State.Idle; holder = Holder.Nobody; jobs_since = 0; last_check = 0 }
+      record (board_row (codes "b1") (codes "bbb") []) { health = Health.Good; state = State.Reserved; holder = Holder.Res 4 }
+      ∷ board_row (codes "b2") (codes "bbb") []
       ∷ [];
   reservations =
       record { number = 1; owner = codes "ann"; priority = 50; want = record { kind = None; tags = [] }; state = ResState.Expired; deadline = 80; board = None }
@@ -133,8 +134,8 @@ lease_is_over =
 abbrev pub after_lease_is_over : Farm
 after_lease_is_over = record after_one_counter {
   boards =
-      record { name = codes "b1"; kind = codes "bbb"; tags = []; health = Health.Good; state = State.Reserved; holder = Holder.Job 2; jobs_since = 0; last_check = 0 }
-      ∷ record { name = codes "b2"; kind = codes "bbb"; tags = []; health = Health.Maintenance; state = State.Idle; holder = Holder.Nobody; jobs_since = 0; last_check = 0 }
+      record (board_row (codes "b1") (codes "bbb") []) { health = Health.Good; state = State.Reserved; holder = Holder.Job 2 }
+      ∷ board_row (codes "b2") (codes "bbb") []
       ∷ [];
   jobs =
       record { number = 2; group = 2; checking = false; owner = codes "bob"; priority = 50; want = a_board []; role = None; state = JobState.Scheduling; outcome = None; board = Some (codes "b1"); body = [] }
@@ -154,8 +155,8 @@ after_lease_is_over = record after_one_counter {
 
 -- what each script answers and leaves
 pub record ReservationsAsWorked : Type 0 where
-  pub one_counter_answers : answers empty one_counter ≡ did 0 ∷ did 0 ∷ did 0 ∷ did 1 ∷ did 2 ∷ did 4 ∷ did 5 ∷ []
-  pub one_counter_leaves : run empty one_counter ≡ after_one_counter
+  pub one_counter_answers : answers empty_farm one_counter ≡ did 0 ∷ did 0 ∷ did 0 ∷ did 1 ∷ did 2 ∷ did 4 ∷ did 5 ∷ []
+  pub one_counter_leaves : run empty_farm one_counter ≡ after_one_counter
   pub lease_begins_answers : answers after_one_counter lease_begins ≡ did 0 ∷ passed 0 0 1 ∷ []
   pub lease_begins_leaves : run after_one_counter lease_begins ≡ after_lease_begins
   pub one_is_acquired_answers : answers after_lease_begins one_is_acquired ≡ did 4 ∷ passed 0 1 0 ∷ []

@@ -1,7 +1,7 @@
 -- Each answer is counted, and a refusal or a fault ends it.
 use Rattle.std.proofs.Common.{◌≡◌, ◌≤◌, ◌<◌, ◌+◌, length, arith, sym, ◌∙◌, subst}
 use Rattle.std.specs.Prelude.{Some, None}
-use Rattle.farm_core.specs.Answers.{shown}
+use Rattle.farm_core.specs.Answers.{answer_of}
 use Rattle.farm_desk.specs.declared.fault.DeskFault.{DeskFault}
 use Rattle.farm_desk.specs.declared.import.ImportEnd.{ImportEnd}
 use Rattle.farm_desk.specs.Imports.{DoesCalls, EndsBy}
@@ -14,7 +14,7 @@ returns-in-Some-clause-does g c =
     let low : c.loop-call.call-index < length c.args.calls.now = omega arith in
     let done = c.loop-call.end.accepted + c.loop-call.end.kept in
     let did = c.in-Ok.ensures in
-    let out = counts_out (shown c.in-Ok.answer) c.loop-call.end c.count.new.self c.count.result c.in-Some.refusal c.in-Some.is c.count.ensures in
+    let out = counts_out (answer_of c.in-Ok.answer) c.loop-call.end c.count.new.self c.count.result c.in-Some.refusal c.in-Some.is c.count.ensures in
     let rests = rests_when_denied c.in-Ok.answer c.in-Some.refusal.code (c.act.new.self ≡ c.loop-call.keeper) out.0 did.rests in
     let ends : EndsBy g.S.Store c.args.keeper.now c.act.new.self c.args.calls.now done (Some (done + 1, c.in-Some.refusal)) c.loop-call.end.fault =
     subst (EndsBy g.S.Store c.args.keeper.now c.act.new.self c.args.calls.now done (Some (done + 1, c.in-Some.refusal))) (sym was.faultless)
@@ -30,7 +30,7 @@ loop-call-preserved g c =
     let was = c.loop-call.invariant in
     let low : c.loop-call.call-index < length c.args.calls.now = omega arith in
     let did = c.in-Ok.ensures in
-    let on = counts_on c.args.keeper.now.farm.farm c.loop-call.keeper.farm.farm c.args.calls.now c.loop-call.call-index c.call-item.result (shown c.in-Ok.answer)
+    let on = counts_on c.args.keeper.now.farm.farm c.loop-call.keeper.farm.farm c.args.calls.now c.loop-call.call-index c.call-item.result (answer_of c.in-Ok.answer)
     c.loop-call.end c.count.new.self c.count.result (record { low = low; here = c.call-item.is; before = was.farm; told_is = did.answer })
     was.done was.counted c.in_default.is c.count.ensures in
     record {

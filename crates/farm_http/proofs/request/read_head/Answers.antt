@@ -3,7 +3,8 @@ use Rattle.std.proofs.Common.{◌≡◌, ◌∷◌, [], length, ◌+◌, ◌<◌
 use Rattle.std.proofs.KnownBytes.{Consumes-kept}
 use Rattle.std.proofs.lemmas.Result.{err_from_is_err_and}
 use Rattle.std.specs.Io.KnownBytes.{IsAtEnd}
-use Rattle.farm_http.specs.Heads.{OpenBelow}
+use Rattle.farm_types.specs.Limits.{longest_head}
+use Rattle.farm_http.specs.Heads.{IsOpenBelow}
 use Rattle.farm_http.specs.Counts.{reader_of, reading_of, IsSpent}
 use Rattle.farm_http.proofs.HeadLemmas.{byte_fails, open_pushed, read_more}
 use Rattle.farm_http.proofs.request.read_head.Goals as goal
@@ -16,7 +17,7 @@ pub returns-in_err-byte-clause-fault : goal.returns-in_err-byte-clause-fault
 returns-in_err-byte-clause-fault g c =
     let p = err_from_is_err_and c.from_residual.result c.from_residual.ensures.1 in
     let old = c.loop-reader.bytes.items in
-    let short : length old < 8192 = omega arith in
+    let short : length old < longest_head = omega arith in
     rw (p.1, p.2) (
       old,
       Consumes-kept _ _ _ old c.loop-reader.invariant.taken c.in_err-byte.ensures.kept,
@@ -45,7 +46,7 @@ loop-reader-preserved g c =
     let all = c.push_reserved.new.self.items in
     let is = c.push_reserved.ensures.items in
     let long : length all ≡ length old + 1 = ap length is ∙ length-append old (c.in_ok-byte.byte ∷ []) in
-    let lines : OpenBelow (length c.as_slice.result.now) c.as_slice.result.now = rw c.in_default.is at c.in_ok-spans.ensures.told in
+    let lines : IsOpenBelow (length c.as_slice.result.now) c.as_slice.result.now = rw c.in_default.is at c.in_ok-spans.ensures.told in
     record {
       short = omega (arith, long);
       capacity = omega arith;
@@ -54,5 +55,5 @@ loop-reader-preserved g c =
       alive = c.in_ok-byte.ensures.alive;
       room = omega arith;
       taken = read_more _ _ _ old all c.in_ok-byte.byte is c.loop-reader.invariant.taken c.in_ok-byte.ensures.byte;
-      open_lines = subst (λ l. OpenBelow (length l) l) c.as_slice.ensures.value lines;
+      open_lines = subst (λ l. IsOpenBelow (length l) l) c.as_slice.ensures.value lines;
     }

@@ -3,7 +3,7 @@ use Rattle.std.proofs.Common.{◌-◌, ◌≤◌, ◌≡◌, false, length}
 use Rattle.std.specs.Prelude.{vec_capacity}
 use Rattle.std.specs.Io.KnownBytes.{Consumes}
 use Rattle.farm_types.specs.Limits.{longest_head, most_fields, most_reads}
-use Rattle.farm_http.specs.Heads.{OpenBelow}
+use Rattle.farm_http.specs.Heads.{IsOpenBelow}
 use Rattle.farm_http.specs.Counts.{reader_of, reading_of, IsSameReader}
 use Rattle.farm_http.proofs.request.read_head.Given as goal
 
@@ -16,7 +16,7 @@ invariant-loop-reader g l = record {
   alive : (reading_of l.reader).failed ≡ false;
   room : length l.headers ≡ most_fields;
   taken : Consumes (g.R.Read.remaining (reader_of l.fn.reader)) (g.R.Read.remaining (reader_of l.reader)) l.bytes.items;
-  open_lines : OpenBelow (length l.bytes.items) l.bytes.items;
+  open_lines : IsOpenBelow (length l.bytes.items) l.bytes.items;
 }
 
 abbrev pub decreases-loop-reader : goal.decreases-loop-reader

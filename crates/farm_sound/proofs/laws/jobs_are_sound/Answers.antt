@@ -1,6 +1,6 @@
 use Rattle.std.proofs.Common.{sym, subst}
 use Rattle.std.specs.Option.{option_map_or}
-use Rattle.farm_types.specs.Change.{done, cancel_group, start_group, finish_one}
+use Rattle.farm_types.specs.Change.{done_with, cancel_group, start_group, finish_one}
 use Rattle.farm_types.specs.Sound.{IsSound}
 use Rattle.farm_sound.proofs.Finish.{IsSound-finish}
 use Rattle.farm_sound.proofs.Jobs.{IsSound-cancel, IsSound-start}
@@ -8,13 +8,13 @@ use Rattle.farm_sound.proofs.laws.jobs_are_sound.Goals as goal
 
 pub returns-clause-cancel : goal.returns-clause-cancel
 returns-clause-cancel c = λ F caller n j there sound. subst
-    (λ o. IsSound (option_map_or (λ j. done j.group (cancel_group j.group F)) o (done 0 F)).farm) (sym there) (IsSound-cancel F j.group sound)
+    (λ o. IsSound (option_map_or (λ j. done_with j.group (cancel_group j.group F)) o (done_with 0 F)).farm) (sym there) (IsSound-cancel F j.group sound)
 
 pub returns-clause-start : goal.returns-clause-start
 returns-clause-start c = λ F caller n j there ready sound. subst
-    (λ o. IsSound (option_map_or (λ j. done j.group (start_group j.group F)) o (done 0 F)).farm) (sym there) (IsSound-start F n j there ready sound)
+    (λ o. IsSound (option_map_or (λ j. done_with j.group (start_group j.group F)) o (done_with 0 F)).farm) (sym there) (IsSound-start F n j there ready sound)
 
 pub returns-clause-finish : goal.returns-clause-finish
 returns-clause-finish c = λ F caller n j outcome there started going sound. subst
-    (λ o. IsSound (option_map_or (λ j. done n (finish_one F.clock outcome F j)) o (done 0 F)).farm) (sym there)
+    (λ o. IsSound (option_map_or (λ j. done_with n (finish_one F.clock outcome F j)) o (done_with 0 F)).farm) (sym there)
     (IsSound-finish F n j outcome there started going sound)

@@ -1,4 +1,4 @@
-use Rattle.farm_types.specs.Farm.{empty}
+use Rattle.farm_types.specs.Farm.{empty_farm}
 use Rattle.farm_sound.proofs.Numbers.{IsSound-empty}
 use Rattle.farm_sound.proofs.Step.{IsSound-run}
 use Rattle.farm_sound.proofs.laws.run_is_sound.Goals as goal
@@ -10,4 +10,4 @@ pub returns-clause-run : goal.returns-clause-run
 returns-clause-run c = λ F calls sound. IsSound-run calls F sound
 
 pub returns-clause-from_empty : goal.returns-clause-from_empty
-returns-clause-from_empty c = λ calls. IsSound-run calls empty IsSound-empty
+returns-clause-from_empty c = λ calls. IsSound-run calls empty_farm IsSound-empty

@@ -2,7 +2,7 @@ use Rattle.std.proofs.Common.{true, ◌≡◌, refl, inl, inr, sym, subst, arith
 use Rattle.sqlite.specs.Held.{state}
 use Rattle.sqlite.specs.State.{HasCleanDisk}
 use Rattle.sqlite.specs.Tree.{Trees}
-use Rattle.farm_types.specs.Farm.{empty}
+use Rattle.farm_types.specs.Farm.{empty_farm}
 use Rattle.farm_store.specs.Columns.{no_rows, rows_of}
 use Rattle.farm_store.specs.Holds.{Holds, IsInside, Stands}
 use Rattle.farm_store.specs.Schema.{no_schema}
@@ -32,7 +32,7 @@ returns-in_err-commit-clause-stop g c clean db may =
             let there : IsInside made no_rows = c.in_ok-make_all.ensures.made made_clean (rw is refl) (rw is has) in
             let inside = c.in_ok-put_first_numbers.ensures.put filled_clean there in
             let still = c.in_ok-put_first_numbers.ensures.stays_open filled_clean there.inside in
-            subst (λ (t : Trees). Holds t (rows_of empty)) (sym now) (inside.shown still.1).holds;
+            subst (λ (t : Trees). Holds t (rows_of empty_farm)) (sym now) (inside.shown still.1).holds;
       })
     ]
 
@@ -58,7 +58,7 @@ returns-clause-stop g c clean db may =
             let there : IsInside made no_rows = c.in_ok-make_all.ensures.made made_clean (rw is refl) (rw is has) in
             let inside = c.in_ok-put_first_numbers.ensures.put filled_clean there in
             let still = c.in_ok-put_first_numbers.ensures.stays_open filled_clean there.inside in
-            subst (λ (t : Trees). Holds t (rows_of empty)) (sym now) (inside.shown still.1).holds;
+            subst (λ (t : Trees). Holds t (rows_of empty_farm)) (sym now) (inside.shown still.1).holds;
       })
     ]
 
@@ -74,7 +74,7 @@ returns-clause-ok g c clean =
     let is = c.transaction-tx.ensures.begun in
     let inside = c.in_ok-put_first_numbers.ensures.put filled_clean (c.in_ok-make_all.ensures.made made_clean (rw is refl) (rw is has)) in
     let ok = c.in_ok-commit.ensures.ok late in
-    let stands : Stands (state g.S.Store end) (rows_of empty) = committed filled (state g.S.Store end) (rows_of empty) inside ok.1 (λ db may. g.met.S.Store.settled end.store db ok.1.is_open may) in
+    let stands : Stands (state g.S.Store end) (rows_of empty_farm) = committed filled (state g.S.Store end) (rows_of empty_farm) inside ok.1 (λ db may. g.met.S.Store.settled end.store db ok.1.is_open may) in
     search rules
 
 pub returns-clause-refused : goal.returns-clause-refused

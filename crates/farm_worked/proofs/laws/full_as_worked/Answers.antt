@@ -3,7 +3,7 @@ use Rattle.farm_types.specs.Words.{is_word, is_tag, is_tags}
 use Rattle.farm_types.specs.Pick.{least}
 use Rattle.farm_types.specs.Pass.{checks}
 use Rattle.farm_types.specs.Refuse.{refusal, early_refusal, own_refusal}
-use Rattle.farm_types.specs.Change.{change, replied}
+use Rattle.farm_types.specs.Change.{change, reply_of}
 use Rattle.farm_types.specs.Machine.{Denied, Repeated, run, answer, step}
 use Rattle.farm_types.specs.Worked.{answers, did}
 use Rattle.farm_worked.specs.Full.{with_jobs, with_due_board, with_reservations, with_kept, one_more_group, one_more_reservation, one_more_key, first_key, without_a_key}
@@ -49,7 +49,7 @@ kept_beyond : answers (with_kept 300000) one_more_key ≡ Denied 4 ∷ []
 unfolding one_more_key is_word is_tag is_tags least refusal early_refusal own_refusal change answer step
 kept_beyond = refl
 
-kept_repeated : answers (with_kept 300000) first_key ≡ Repeated (replied 0 0 0) ∷ []
+kept_repeated : answers (with_kept 300000) first_key ≡ Repeated (reply_of 0 0 0) ∷ []
 unfolding first_key is_word is_tag is_tags least refusal early_refusal own_refusal change answer step
 kept_repeated = refl
 

@@ -3,7 +3,7 @@ use Rattle.std.specs.List.Sorted.{IsStrictlySortedBy}
 use Rattle.farm_types.specs.Farm.{Farm}
 use Rattle.farm_types.specs.Table.{board_cmp}
 use Rattle.farm_types.specs.Pass.{is_due}
-use Rattle.farm_core.specs.Plain.{plain}
+use Rattle.farm_core.specs.Plain.{plain_farm}
 use Rattle.farm_core.specs.Drafted.{Drafted, at_farm}
 use Rattle.farm_core.proofs.Checking.{checks_end, checks_from, checked_clock, checked_long, checked_next, is_checked, not_due}
 use Rattle.farm_core.proofs.draft.Draft.checks.Goals as goal
@@ -16,7 +16,7 @@ loop-at-preserved c =
     let n = c.loop-at.at in
     let D : Drafted = c.loop-at.draft in
     let b = c.index.result.now in
-    let here : plain c.draft.inside.tables ≡ D.farm = ap (λ (D : Drafted). D.farm) c.draft.view_is in
+    let here : plain_farm c.draft.inside.tables ≡ D.farm = ap (λ (D : Drafted). D.farm) c.draft.view_is in
     let long : length c.self.inside.tables.boards.items ≡ length c.args.self.farm.boards = ap (λ (D : Drafted). length D.farm.boards) c.self.view_is in
     let low : n < length D.farm.boards = omega (arith, long) in
     let is : b ≡ get_or D.farm.boards n b = c.index.ensures ∙ ap (λ (F : Farm). get_or F.boards n b) here in

@@ -7,7 +7,7 @@ use Rattle.farm_types.specs.declared.rows.JobRow.{JobRow}
 use Rattle.farm_pick.specs.Queued.{IdleBoard, idle_boards}
 use Rattle.farm_core.specs.Collecting.{HasWant}
 use Rattle.farm_core.specs.Drafted.{Drafted}
-use Rattle.farm_core.specs.Plain.{plain}
+use Rattle.farm_core.specs.Plain.{plain_farm}
 use Rattle.farm_core.proofs.Collected.{held_free, takes_one}
 use Rattle.farm_core.proofs.draft.Draft.collect_member.Goals as goal
 
@@ -16,8 +16,8 @@ returns-in_ok-draft-in-Some c = λ j has.
     let D : Drafted = c.args.self in
     let F : Farm = D.farm in
     let name = c.in-Some.name in
-    let here : plain c.self.inside.tables ≡ F = ap (λ (D : Drafted). D.farm) c.self.view_is in
-    let picked : (j : JobRow) → HasWant (plain c.self.inside.tables) c.args.number j → Some name ≡ option_map (λ (b : BoardRow). b.name) (first_free (plain c.self.inside.tables) j.want) =
+    let here : plain_farm c.self.inside.tables ≡ F = ap (λ (D : Drafted). D.farm) c.self.view_is in
+    let picked : (j : JobRow) → HasWant (plain_farm c.self.inside.tables) c.args.number j → Some name ≡ option_map (λ (b : BoardRow). b.name) (first_free (plain_farm c.self.inside.tables) j.want) =
     let h = c.in_ok-pick_for_job.ensures in rw c.in-Some.is at h in
     let some = subst (λ (G : Farm). (j : JobRow) → HasWant G c.args.number j → Some name ≡ option_map (λ (b : BoardRow). b.name) (first_free G j.want)) here picked j has in
     let made = takes_one F c.args.number j has name some in

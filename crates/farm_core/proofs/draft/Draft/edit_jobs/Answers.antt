@@ -2,7 +2,7 @@ use Rattle.std.proofs.Common.{◌∙◌, ◌++◌, map, ap}
 use Rattle.std.specs.List.{filter}
 use Rattle.farm_types.specs.Table.{change_where}
 use Rattle.farm_types.specs.declared.rows.JobRow.{JobRow}
-use Rattle.farm_core.specs.Plain.{plain}
+use Rattle.farm_core.specs.Plain.{plain_farm}
 use Rattle.farm_core.specs.Edits.{job_passes, job_changed, first_of}
 use Rattle.farm_core.proofs.Windows.{none_before, none_behind, places_rise}
 use Rattle.farm_core.proofs.Tabled.{whole_jobs}
@@ -32,6 +32,6 @@ pub invariant_of-self : goal.invariant_of-self
 invariant_of-self c =
     let edit = c.args.edit in
     let was = c.replace-former.ensures.value in
-    whole_jobs (plain c.self.inside.tables) (job_passes edit) (job_changed edit) (keeps_job edit) c.self.invariant.orderly
+    whole_jobs (plain_farm c.self.inside.tables) (job_passes edit) (job_changed edit) (keeps_job edit) c.self.invariant.orderly
     c.in_ok-jobs.jobs (c.in_ok-jobs.ensures.rows ∙ ap (change_where (job_passes edit) (job_changed edit)) was) c.change.new.log
     (c.in_ok-jobs.ensures.log ∙ ap (λ rows. c.self.inside.changes.jobs.items ++ map (job_changed edit) (filter (job_passes edit) rows)) was) c.self.invariant.tracked c.self.invariant.noted

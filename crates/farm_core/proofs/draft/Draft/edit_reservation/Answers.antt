@@ -3,7 +3,7 @@ use Rattle.farm_types.specs.declared.rows.ResRow.{ResRow}
 use Rattle.farm_core.specs.Edits.{res_changed, res_passes}
 use Rattle.farm_core.specs.Leases.{AreNoted}
 use Rattle.farm_core.specs.Orderly.{IsPlaceOf}
-use Rattle.farm_core.specs.Plain.{plain}
+use Rattle.farm_core.specs.Plain.{plain_farm}
 use Rattle.farm_core.proofs.EditLemmas.{keeps_res}
 use Rattle.farm_core.proofs.Given.{logged_behind}
 use Rattle.farm_core.proofs.Leasing.{noted_changed}
@@ -32,5 +32,5 @@ noted c =
 
 pub invariant_of-self : goal.invariant_of-self
 invariant_of-self c =
-    whole_reservations (plain c.self.inside.tables) (res_passes c.args.edit) (res_changed c.args.edit) (keeps_res c.args.edit) c.requires.small c.self.invariant.orderly
+    whole_reservations (plain_farm c.self.inside.tables) (res_passes c.args.edit) (res_changed c.args.edit) (keeps_res c.args.edit) c.requires.small c.self.invariant.orderly
     c.change_rows.new.rows.items c.in_ok-change_rows.ensures.rows c.change_rows.new.log c.in_ok-change_rows.ensures.log c.self.invariant.tracked (noted c)

@@ -1,6 +1,6 @@
 use Rattle.std.proofs.Common.{◌≡◌, ◌∙◌, filter, ap}
 use Rattle.farm_types.specs.Farm.{Farm}
-use Rattle.farm_types.specs.Pass.{idle, is_dead}
+use Rattle.farm_types.specs.Pass.{freed_board, is_dead}
 use Rattle.farm_types.specs.Table.{change_where}
 use Rattle.farm_types.specs.declared.rows.BoardRow.{BoardRow}
 use Rattle.farm_types.specs.declared.rows.ResRow.{ResRow}
@@ -24,4 +24,4 @@ returns-clause-left c =
     let clock : c.self.inside.tables.clock ≡ F.clock = ap (λ (D : Drafted). D.farm.clock) c.self.view_is in
     c.in_ok-draft-2.ensures.left
     ∙ ap ended c.in_ok-draft.ensures
-    ∙ (λ i. ended (at_farm (record F { boards = change_where (λ (b : BoardRow). is_res_in F.reservations (is_dead (clock i)) b.holder) idle F.boards }) c.args.self))
+    ∙ (λ i. ended (at_farm (record F { boards = change_where (λ (b : BoardRow). is_res_in F.reservations (is_dead (clock i)) b.holder) freed_board F.boards }) c.args.self))

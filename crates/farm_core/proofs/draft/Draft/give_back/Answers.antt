@@ -1,6 +1,6 @@
 use Rattle.std.proofs.Common.{◌≡◌, ◌∙◌, ap, sym, subst}
 use Rattle.farm_types.specs.Farm.{Farm}
-use Rattle.farm_types.specs.Pass.{change_jobs, idle}
+use Rattle.farm_types.specs.Pass.{change_jobs, freed_board}
 use Rattle.farm_types.specs.Small.{IsSmall}
 use Rattle.farm_core.specs.declared.job_edit.JobEdit.{JobEdit}
 use Rattle.farm_core.specs.Drafted.{Drafted, at_farm}
@@ -23,5 +23,5 @@ returns c =
     let F : Farm = c.args.self.farm in
     let group : c.self.inside.tables.collector ≡ F.collector = ap (λ (D : Drafted). D.farm.collector) c.self.view_is in
     let given = c.in_ok-draft.ensures
-    ∙ (λ i. at_farm (change_jobs (job_passes (JobEdit.Back (group i))) (job_changed (JobEdit.Back (group i))) idle F) c.args.self) in
+    ∙ (λ i. at_farm (change_jobs (job_passes (JobEdit.Back (group i))) (job_changed (JobEdit.Back (group i))) freed_board F) c.args.self) in
     c.with_collector.ensures ∙ (λ i. at_farm (record (given i).farm { collector = 0 }) (given i))

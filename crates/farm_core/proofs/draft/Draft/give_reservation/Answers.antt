@@ -1,7 +1,7 @@
 use Rattle.std.proofs.Common.{◌≡◌, ◌==◌, ap, ◌∙◌}
 use Rattle.std.specs.Str.{bytes_eq}
 use Rattle.farm_types.specs.Table.{change_where}
-use Rattle.farm_types.specs.Pass.{allocated, held}
+use Rattle.farm_types.specs.Pass.{allocated_reservation, held_board}
 use Rattle.farm_types.specs.declared.rows.BoardRow.{BoardRow}
 use Rattle.farm_types.specs.declared.rows.Holder.{Holder}
 use Rattle.farm_types.specs.declared.rows.ResRow.{ResRow}
@@ -14,7 +14,7 @@ returns c =
     let F = c.args.self.farm in
     let name = c.args.name.now in
     let clock : c.self.inside.tables.clock ≡ F.clock = ap (λ (D : Drafted). D.farm.clock) c.self.view_is in
-    let lent : c.in_ok-draft.draft ≡ at_farm (record F { reservations = change_where (λ (r : ResRow). r.number == c.args.number) (allocated name F.clock) F.reservations }) c.args.self =
-    c.in_ok-draft.ensures ∙ (λ i. at_farm (record F { reservations = change_where (λ (r : ResRow). r.number == c.args.number) (allocated name (clock i)) F.reservations }) c.args.self) in
+    let lent : c.in_ok-draft.draft ≡ at_farm (record F { reservations = change_where (λ (r : ResRow). r.number == c.args.number) (allocated_reservation name F.clock) F.reservations }) c.args.self =
+    c.in_ok-draft.ensures ∙ (λ i. at_farm (record F { reservations = change_where (λ (r : ResRow). r.number == c.args.number) (allocated_reservation name (clock i)) F.reservations }) c.args.self) in
     c.in_ok-draft-2.ensures
-    ∙ ap (λ (D : Drafted). at_farm (record D.farm { boards = change_where (λ (b : BoardRow). bytes_eq b.name name) (held (Holder.Res c.args.number) State.Reserved) D.farm.boards }) D) lent
+    ∙ ap (λ (D : Drafted). at_farm (record D.farm { boards = change_where (λ (b : BoardRow). bytes_eq b.name name) (held_board (Holder.Res c.args.number) State.Reserved) D.farm.boards }) D) lent

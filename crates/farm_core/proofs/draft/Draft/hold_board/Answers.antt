@@ -1,14 +1,14 @@
 use Rattle.std.specs.Str.{bytes_eq}
 use Rattle.std.proofs.Common.{refl}
-use Rattle.farm_types.specs.Pass.{held}
+use Rattle.farm_types.specs.Pass.{held_board}
 use Rattle.farm_types.specs.declared.rows.BoardRow.{BoardRow}
 use Rattle.farm_types.specs.declared.rows.State.{State}
-use Rattle.farm_core.specs.Plain.{plain}
+use Rattle.farm_core.specs.Plain.{plain_farm}
 use Rattle.farm_core.proofs.Tabled.{whole_boards}
 use Rattle.farm_core.proofs.draft.Draft.hold_board.Goals as goal
 
 pub invariant_of-self : goal.invariant_of-self
 invariant_of-self c =
-    whole_boards (plain c.self.inside.tables) (λ (b : BoardRow). bytes_eq b.name c.args.name.now) (held c.args.holder State.Reserved) (λ b. refl)
+    whole_boards (plain_farm c.self.inside.tables) (λ (b : BoardRow). bytes_eq b.name c.args.name.now) (held_board c.args.holder State.Reserved) (λ b. refl)
     (λ b small. record { held_by = c.requires; jobs_since = small.jobs_since; last_check = small.last_check })
     c.self.invariant.orderly c.change_rows.new.rows.items c.in_ok-change_rows.ensures.rows c.change_rows.new.log c.in_ok-change_rows.ensures.log c.self.invariant.tracked c.self.invariant.noted

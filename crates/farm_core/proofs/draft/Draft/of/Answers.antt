@@ -1,5 +1,5 @@
-use Rattle.farm_core.specs.Plain.{plain}
+use Rattle.farm_core.specs.Plain.{plain_farm}
 use Rattle.farm_core.proofs.draft.Draft.of.Goals as goal
 
 pub invariant_of-result : goal.invariant_of-result
-invariant_of-result c = rw c.note-start.ensures (record { orderly = c.requires.orderly; tracked = c.no_changes-changes.ensures (plain c.args.tables); noted = c.requires.noted })
+invariant_of-result c = rw c.note-start.ensures (record { orderly = c.requires.orderly; tracked = c.no_changes-changes.ensures (plain_farm c.args.tables); noted = c.requires.noted })

@@ -1,10 +1,10 @@
 use Rattle.std.proofs.Common.{◌≡◌, ◌-◌, filter, length, ap, sym, ◌∙◌, subst}
 use Rattle.std.specs.List.Sorted.{IsStrictlySortedBy}
 use Rattle.farm_types.specs.Farm.{Farm}
-use Rattle.farm_types.specs.Pass.{Served, back, checks, expire, is_dead, serve_all}
+use Rattle.farm_types.specs.Pass.{Served, giving_back, checks, expire, is_dead, serve_all}
 use Rattle.farm_types.specs.Small.{IsSmall}
 use Rattle.farm_types.specs.Sound.{IsSound}
-use Rattle.farm_types.specs.Change.{replied}
+use Rattle.farm_types.specs.Change.{reply_of}
 use Rattle.farm_types.specs.Table.{board_cmp}
 use Rattle.farm_pick.specs.Queued.{Lists, idle_boards, lists_of}
 use Rattle.farm_core.specs.Drafted.{Drafted}
@@ -80,11 +80,11 @@ returns-clause-reply c =
     let farm = ap (λ (D : Drafted). D.farm) c.in_ok-draft-3.ensures.farm in
     let followed = ap (λ (D : Drafted). D.farm) c.in_ok-draft-4.ensures in
     let former = ap (λ (D : Drafted). D.farm.collector) c.self.view_is in
-    let expired : c.in_ok-draft-2.draft.farm ≡ expire (back F) F.clock = is_expired F c.in_ok-draft.draft.farm c.in_ok-draft-2.draft.farm c.in_ok-draft-3.draft.farm given ended farm in
+    let expired : c.in_ok-draft-2.draft.farm ≡ expire (giving_back F) F.clock = is_expired F c.in_ok-draft.draft.farm c.in_ok-draft-2.draft.farm c.in_ok-draft-3.draft.farm given ended farm in
     let over : c.in_ok-draft-2.ended ≡ length (filter (is_dead F.clock) F.reservations) =
     c.in_ok-draft-2.ensures.count ∙ ap (λ (G : Farm). length (filter (is_dead G.clock) G.reservations)) given in
     let checked : c.in_ok-draft-3.checked ≡ (prepared F).next - F.next = c.in_ok-draft-3.ensures.count ∙ (λ i. (checks (expired i) (expired i).clock).next - (expired i).next) in
     let served : c.in_ok-draft-5.served ≡ (serve_all (prepared F) F.collector F.clock).claims =
     c.in_ok-draft-5.ensures.count ∙ (λ i. (serve_all (followed i) (former i) (followed i).clock).claims)
     ∙ ap (λ (s : Served). s.claims) (served_is F c.in_ok-draft.draft.farm c.in_ok-draft-2.draft.farm c.in_ok-draft-3.draft.farm given ended farm F.collector) in
-    λ i. replied (checked i) (over i) (served i)
+    λ i. reply_of (checked i) (over i) (served i)

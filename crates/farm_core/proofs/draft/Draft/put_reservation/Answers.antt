@@ -1,10 +1,10 @@
 -- The row is put, and logged behind the others.
-use Rattle.farm_core.specs.Plain.{plain}
+use Rattle.farm_core.specs.Plain.{plain_farm}
 use Rattle.farm_core.proofs.Puts.{copy_logged, whole_res}
 use Rattle.farm_core.proofs.draft.Draft.put_reservation.Goals as goal
 
 pub invariant_of-self : goal.invariant_of-self
 invariant_of-self c =
     let logged = copy_logged c.self.inside.changes.reservations.items c.push.new.self.items c.args.row _ c.in_ok-push.ensures.items c.in_ok-copy.ensures in
-    whole_res (plain c.self.inside.tables) c.args.row c.requires c.upsert.new.rows.items c.push.new.self c.self.invariant logged c.in_ok-upsert.ensures.rows c.in_ok-upsert.ensures.sorted
+    whole_res (plain_farm c.self.inside.tables) c.args.row c.requires c.upsert.new.rows.items c.push.new.self c.self.invariant logged c.in_ok-upsert.ensures.rows c.in_ok-upsert.ensures.sorted
     c.in_ok-note_lease.ensures.noted c.in_ok-note_lease.ensures.grows

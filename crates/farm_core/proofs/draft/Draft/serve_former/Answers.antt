@@ -1,7 +1,7 @@
 use Rattle.std.proofs.Common.{◌≡◌, ◌∙◌, Bool, true, false, ap, arith, refl, subst, sym}
 use mir.Val.{bool_byte}
 use Rattle.farm_core.specs.Drafted.{Drafted}
-use Rattle.farm_core.specs.Serving.{Begins, boards_for, counted}
+use Rattle.farm_core.specs.Serving.{Begins, boards_for, count_after}
 use Rattle.farm_core.proofs.Trying.{former_waits, none_first, one_first}
 use Rattle.farm_core.proofs.draft.Draft.serve_former.Goals as goal
 
@@ -16,7 +16,7 @@ try_claim-requires-clause-waits c =
     (c.waits_for-boards.ensures ∙ ap (λ (D : Drafted). boards_for D.farm c.args.former) c.self.view_is) (λ none. omega (arith, none, c.if-boards-eq0.false))
 
 -- one where it was served
-as_counted : (v : Bool) → counted 0 v ≡ bool_byte v
+as_counted : (v : Bool) → count_after 0 v ≡ bool_byte v
 as_counted true = refl
 as_counted false = refl
 

@@ -1,7 +1,7 @@
 use Rattle.std.proofs.Common.{◌≡◌, ◌==◌, ◌∷◌, [], Some, filter, not, ap, sym, ◌∙◌, subst}
 use Rattle.farm_types.specs.Farm.{Farm}
 use Rattle.farm_pick.specs.Queued.{Queued}
-use Rattle.farm_core.specs.Plain.{plain}
+use Rattle.farm_core.specs.Plain.{plain_farm}
 use Rattle.farm_core.specs.Drafted.{Drafted}
 use Rattle.farm_core.specs.Following.{without_boards}
 use Rattle.farm_core.specs.Serving.{give_first}
@@ -16,7 +16,7 @@ returns-in_ok-draft-in-Some c = λ d of_res same asks.
     let G : Drafted = c.take_given.result in
     let stayed = ap (λ (D : Drafted). D.queues) c.in_ok-draft-in-Some.ensures in
     let names = c.in-Some.names.items in
-    let picked : Picks (plain c.self.inside.tables) c.args.number (Some names) = let h = c.in_ok-pick_for_reservation.ensures in rw c.in-Some.is at h in
+    let picked : Picks (plain_farm c.self.inside.tables) c.args.number (Some names) = let h = c.in_ok-pick_for_reservation.ensures in rw c.in-Some.is at h in
     let picked_here : Picks F c.args.number (Some names) = subst (λ (G : Farm). Picks G c.args.number (Some names)) (ap (λ (D : Drafted). D.farm) c.self.view_is) picked in
     let it = asked F d asks in
     let made : G.farm ≡ give_first F c.args.number names =

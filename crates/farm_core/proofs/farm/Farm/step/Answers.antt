@@ -1,6 +1,6 @@
 use Rattle.std.proofs.Common.{ap, sym, ◌∙◌}
 use Rattle.farm_types.specs.Machine.{Changed}
-use Rattle.farm_core.specs.Plain.{plain}
+use Rattle.farm_core.specs.Plain.{plain_farm}
 use Rattle.farm_sound.proofs.Answered.{answers_repeated, answers_denied, answers_changed}
 use Rattle.farm_sound.proofs.Step.{IsSound-change}
 use Rattle.farm_core.proofs.Sound.{IsOrderly-sound, AreSmall-sound}
@@ -64,5 +64,5 @@ change-requires-clause-sound c = (c.self.invariant c.if-self.false).sound
 
 pub returns-clause-small : goal.returns-clause-small
 returns-clause-small c =
-    AreSmall-sound _ (plain c.change.new.self) c.in_ok-reply.ensures.small c.in_ok-reply.ensures.meta
+    AreSmall-sound _ (plain_farm c.change.new.self) c.in_ok-reply.ensures.small c.in_ok-reply.ensures.meta
     (rw c.in_ok-reply.ensures.farm (IsSound-change _ c.args.call.now c.in_default-refusal.ensures (c.self.invariant c.if-self.false).sound))

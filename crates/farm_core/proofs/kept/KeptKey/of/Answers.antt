@@ -1,4 +1,5 @@
 use Rattle.std.proofs.Common.{◌≡◌, ◌≤◌, length, ap, arith}
+use Rattle.farm_types.specs.Limits.{longest_key, longest_name}
 use Rattle.farm_core.proofs.Replies.{word_fits}
 use Rattle.farm_core.proofs.kept.KeptKey.of.Goals as goal
 
@@ -6,12 +7,12 @@ pub push_str-requires : goal.push_str-requires
 push_str-requires c =
     let none : length c.new.result.bytes ≡ 0 = ap length c.new.ensures in
     let same : length c.as_str.result.now ≡ length c.args.caller.now = ap length c.as_str.ensures.text in
-    let fits : length c.args.caller.now ≤ 48 = word_fits 48 c.args.caller.now c.as_str.ensures.name in
+    let fits : length c.args.caller.now ≤ longest_name = word_fits longest_name c.args.caller.now c.as_str.ensures.name in
     (omega arith, omega (arith, none, same, fits))
 
 pub push_str-requires-2 : goal.push_str-requires-2
 push_str-requires-2 c =
     let none : length c.new-2.result.bytes ≡ 0 = ap length c.new-2.ensures in
     let same : length c.as_str-2.result.now ≡ length c.args.key.now = ap length c.as_str-2.ensures.text in
-    let fits : length c.args.key.now ≤ 64 = word_fits 64 c.args.key.now c.as_str-2.ensures.key in
+    let fits : length c.args.key.now ≤ longest_key = word_fits longest_key c.args.key.now c.as_str-2.ensures.key in
     (omega arith, omega (arith, none, same, fits))

@@ -1,20 +1,20 @@
 use Rattle.std.proofs.Common.{◌∙◌, map, ap, sym, subst, arith}
 use Rattle.farm_types.specs.Pick.{is_free, least}
 use Rattle.farm_types.specs.declared.rows.JobRow.{JobRow}
-use Rattle.farm_core.specs.Plain.{plain}
+use Rattle.farm_core.specs.Plain.{plain_farm}
 use Rattle.farm_core.specs.Serving.{AreUnmet, member_wants}
 use Rattle.farm_core.proofs.Sound.{IsOrderly-sound}
 use Rattle.farm_core.proofs.Skipping.{like_unmet}
 use Rattle.farm_core.proofs.tables.Tables.is_group_unmet.Goals as goal
 
 pub near_from-rows-requires-clause-orderly : goal.near_from-rows-requires-clause-orderly
-near_from-rows-requires-clause-orderly c = IsOrderly-sound (plain c.args.self.now) c.requires.sound
+near_from-rows-requires-clause-orderly c = IsOrderly-sound (plain_farm c.args.self.now) c.requires.sound
 
 pub is_like_group-requires-clause-orderly : goal.is_like_group-requires-clause-orderly
-is_like_group-requires-clause-orderly c = IsOrderly-sound (plain c.args.self.now) c.requires.sound
+is_like_group-requires-clause-orderly c = IsOrderly-sound (plain_farm c.args.self.now) c.requires.sound
 
 pub returns-then-is_like_group : goal.returns-then-is_like_group
 returns-then-is_like_group c = λ so.
     ap (λ ms. least c.args.self.now.boards.items (is_free c.args.self.now.types.items) (map (λ (m : JobRow). m.want) ms)) (sym c.near_from-rows.ensures.members)
-    ∙ like_unmet (plain c.args.self.now) c.claims-known-items.result.now (member_wants c.near_from-rows.result.now c.args.group) c.loop-known.known-index _ c.requires.sound
-    (subst (AreUnmet (plain c.args.self.now)) (sym c.claims-known-items.ensures) c.requires.known) (omega arith) (c.is_like_group.ensures c.if-is_like_group.true)
+    ∙ like_unmet (plain_farm c.args.self.now) c.claims-known-items.result.now (member_wants c.near_from-rows.result.now c.args.group) c.loop-known.known-index _ c.requires.sound
+    (subst (AreUnmet (plain_farm c.args.self.now)) (sym c.claims-known-items.ensures) c.requires.known) (omega arith) (c.is_like_group.ensures c.if-is_like_group.true)

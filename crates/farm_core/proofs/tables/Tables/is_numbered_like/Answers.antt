@@ -1,12 +1,12 @@
 use Rattle.std.proofs.Common.{◌∙◌, ap, sym}
-use Rattle.farm_core.specs.Plain.{plain}
+use Rattle.farm_core.specs.Plain.{plain_farm}
 use Rattle.farm_core.specs.Serving.{wants_of}
 use Rattle.farm_core.proofs.Marks.{members_near}
 use Rattle.farm_core.proofs.tables.Tables.is_numbered_like.Goals as goal
 
 pub returns-in-Group : goal.returns-in-Group
 returns-in-Group c = λ so.
-    let F = plain c.args.self.now in
+    let F = plain_farm c.args.self.now in
     let known = c.in-Some.known in (
       known,
       c.in-Some.is,

@@ -2,17 +2,17 @@ use Rattle.std.proofs.Common.{◌∙◌, ◌∷◌, [], ap, sym, subst, arith}
 use Rattle.std.specs.Option.{option_map_or}
 use Rattle.farm_types.specs.Pick.{is_free, least}
 use Rattle.farm_types.specs.declared.rows.ResRow.{ResRow}
-use Rattle.farm_core.specs.Plain.{plain}
+use Rattle.farm_core.specs.Plain.{plain_farm}
 use Rattle.farm_core.specs.Serving.{AreUnmet}
 use Rattle.farm_core.proofs.Sound.{IsOrderly-sound}
 use Rattle.farm_core.proofs.Skipping.{like_unmet}
 use Rattle.farm_core.proofs.tables.Tables.is_reservation_unmet.Goals as goal
 
 pub is_like_reservation-requires : goal.is_like_reservation-requires
-is_like_reservation-requires c = IsOrderly-sound (plain c.args.self.now) c.requires.sound
+is_like_reservation-requires c = IsOrderly-sound (plain_farm c.args.self.now) c.requires.sound
 
 pub returns-then-is_like_reservation : goal.returns-then-is_like_reservation
 returns-then-is_like_reservation c = λ so.
     ap (λ o. least c.args.self.now.boards.items (is_free c.args.self.now.types.items) (option_map_or (λ (r : ResRow). r.want ∷ []) o [])) c.requires.row
-    ∙ like_unmet (plain c.args.self.now) c.claims-known-items.result.now (c.args.row.now.want ∷ []) c.loop-known.known-index _ c.requires.sound
-    (subst (AreUnmet (plain c.args.self.now)) (sym c.claims-known-items.ensures) c.requires.known) (omega arith) (c.is_like_reservation.ensures c.if-is_like_reservation.true)
+    ∙ like_unmet (plain_farm c.args.self.now) c.claims-known-items.result.now (c.args.row.now.want ∷ []) c.loop-known.known-index _ c.requires.sound
+    (subst (AreUnmet (plain_farm c.args.self.now)) (sym c.claims-known-items.ensures) c.requires.known) (omega arith) (c.is_like_reservation.ensures c.if-is_like_reservation.true)

@@ -3,7 +3,7 @@ use Rattle.std.proofs.lemmas.List.{map-append, take_all}
 use Rattle.sqlite.specs.Held.{state}
 use Rattle.farm_sound.proofs.Step.{IsSound-run}
 use Rattle.farm_types.specs.Machine.{answer, step, run}
-use Rattle.farm_core.specs.Answers.{shown, IsChange}
+use Rattle.farm_core.specs.Answers.{answer_of, IsChange}
 use Rattle.farm_store.specs.Holds.{StandsFor}
 use Rattle.farm_keep.specs.declared.fault.KeepFault.{KeepFault}
 use Rattle.farm_keep.specs.Kept.{Keeps, KeepsFarm, KeepsEither}
@@ -29,8 +29,8 @@ loop-call-preserved g c =
       clean = omega (arith, c.act.ensures.clean);
       opened = did.opened.1 ∙ sym did.opened.0 ∙ was.opened;
       farm = stepped;
-      answers = ap (map shown) c.push_reserved.ensures.items ∙ map-append shown c.loop-call.answers.items (c.in-Ok.answer ∷ [])
-          ∙ ap (λ l. map shown c.loop-call.answers.items ++ l ∷ []) (did.answer ∙ ap (λ G. answer G call) was.farm ∙ ap (answer (run F (take i calls))) same)
+      answers = ap (map answer_of) c.push_reserved.ensures.items ∙ map-append answer_of c.loop-call.answers.items (c.in-Ok.answer ∷ [])
+          ∙ ap (λ l. map answer_of c.loop-call.answers.items ++ l ∷ []) (did.answer ∙ ap (λ G. answer G call) was.farm ∙ ap (answer (run F (take i calls))) same)
           ∙ ap (λ l. l ++ answer (run F (take i calls)) (get_or calls i call) ∷ []) was.answers ∙ sym said;
       len = c.push_reserved.ensures.len ∙ ap (λ n. n + 1) was.len;
       room = omega (arith, c.push_reserved.ensures.capacity);

@@ -1,7 +1,7 @@
 use Rattle.std.proofs.Common.{◌∙◌, ◌||◌, ap}
 use Rattle.farm_pick.specs.Queued.{Lists, is_open}
 use Rattle.farm_pick.specs.Heads.{last_spot}
-use Rattle.farm_pick.specs.Walked.{walk_from, walked}
+use Rattle.farm_pick.specs.Walked.{walk_from, claims_after}
 use Rattle.farm_pick.proofs.Headed.{heads_well}
 use Rattle.farm_pick.proofs.queues.Queues.walk.Goals as goal
 
@@ -14,4 +14,4 @@ pub returns : goal.returns
 returns c =
     c.in_ok-walk.ensures
     ∙ (λ i. walk_from (c.deref.ensures.value i) c.self.inside.claims.entries (c.deref-2.ensures.value i) c.args.all (c.last_spot-last.ensures i))
-    ∙ ap (λ (l : Lists). walked (λ k. c.args.all || is_open l.boards k) (last_spot c.args.after) l.claims) c.self.view_is
+    ∙ ap (λ (l : Lists). claims_after (λ k. c.args.all || is_open l.boards k) (last_spot c.args.after) l.claims) c.self.view_is
