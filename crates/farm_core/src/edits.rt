@@ -73,7 +73,10 @@ impl Draft {
     {
         let rows = self.tables.jobs.rows();
         let start = place_of(rows, edit.first());
-        let end = place_of(rows, edit.first() + GROUP_REACH);
+        let end = self
+            .tables
+            .jobs
+            .place_near(start, edit.first() + GROUP_REACH);
         let none = JobTable::new(*self.tables.types.allocator());
         let former = replace(&mut self.tables.jobs, none);
         let jobs = former.change(&mut self.changes.jobs, start, end, edit)?;

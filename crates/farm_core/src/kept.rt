@@ -108,14 +108,14 @@ impl Kept {
         }
     }
 
-    /// The replies of K rows, at the cost of K puts.
-    pub fn of(alloc: Global, rows: &[KeptRow]) -> Result<Kept, AllocError>
-        requires { IsStrictlySortedBy kept_cmp rows.now }
-        ensures { IfOk result (λ kept. kept ≡ rows.now) }
+    /// The replies of K rows, at the cost of K puts. Each row's memory is free once its reply is put.
+    pub fn of(rows: Vec<KeptRow>) -> Result<Kept, AllocError>
+        requires { IsStrictlySortedBy kept_cmp rows.items }
+        ensures { IfOk result (λ kept. kept ≡ rows.items) }
     {
-        let mut kept = Kept::new(alloc);
+        let mut kept = Kept::new(*rows.allocator());
         for row in rows {
-            kept.put(row)?;
+            kept.put(&row)?;
         }
         Ok(kept)
     }

@@ -114,17 +114,17 @@ impl Tables {
         }
     }
 
-    /// The names of the boards for a group.
-    fn pick_for_group(&self, group: u64) -> Result<Option<Vec<Name>>, AllocError>
+    /// The names of the boards for a group, whose members are among some rows.
+    fn pick_for_group(&self, near: &[JobRow], group: u64) -> Result<Option<Vec<Name>>, AllocError>
         requires orderly { IsOrderly (plain_farm self.now) }
-        requires small { IsSmall group }
+        requires near { filter (λ j. j.group == group) near.now ≡ members (plain_farm self.now) group }
         requires free { self.now.queues.boards ≡ idle_boards (plain_farm self.now) }
         ensures { IfOk result (λ picked. option_map (λ names. names.items) picked
             ≡ option_map (map (λ (b : BoardRow). b.name))
             (least (plain_farm self.now).boards (is_free (plain_farm self.now).types)
             (map (λ m. m.want) (members (plain_farm self.now) group)))) }
     {
-        let wants = wants_in(*self.boards.allocator(), self.near(group), group)?;
+        let wants = wants_in(*self.boards.allocator(), near, group)?;
         self.pick(&wants)
     }
 
@@ -167,10 +167,10 @@ impl Draft {
         ensures { IfOk result (λ r. (c : Claimed) → c.reservation ≡ false → c.number ≡ group
             → Asks false self.farm c → Tries self c r.1 r.0) }
     {
-        match self.tables.pick_for_group(group)? {
+        let near = self.tables.near(group);
+        match self.tables.pick_for_group(near, group)? {
             None => Ok((self, false)),
             Some(names) => {
-                let near = self.tables.near(group);
                 let numbers = numbers_in(*self.tables.boards.allocator(), near, group)?;
                 let draft = self.give_jobs(&numbers, &names)?;
                 Ok((draft.take_given(group, &names), true))

@@ -113,7 +113,7 @@ impl Tables {
         ensures queues { IfOk result (λ t. t.queues ≡ record { claims = []; boards = [] }) }
     {
         let alloc = *rows.types.allocator();
-        let kept = Kept::of(alloc, &rows.kept)?;
+        let kept = Kept::of(rows.kept)?;
         let jobs = JobTable::of(alloc, rows.jobs)?;
         Ok(Tables {
             types: rows.types,

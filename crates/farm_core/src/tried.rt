@@ -173,12 +173,15 @@ impl Tables {
     /// either. Its rows are looked for at a guess first, which comes to where they stand: where
     /// they are near it costs a comparison for each of the eight that is looked at, else with J
     /// jobs and R reservations O(log (J + R)) besides. Of jobs the marks are compared first, so
-    /// where they tell no row and no text of them is read.
+    /// where they tell no row and no text of them is read, and where none was found unmet nothing is.
     fn is_unmet(&self, unmet: &Unmet, claim: &Claim, guess: &mut Guess) -> bool
         requires sound { IsSound (plain_farm self.now) }
         requires known { AreUnmet (plain_farm self.now) unmet.now }
         ensures { result ≡ true → IsMissed (plain_farm self.now) claim.now.kind claim.now.number }
     {
+        if unmet.is_empty() {
+            return false;
+        }
         match claim.kind {
             ClaimKind::Group => {
                 guess.job = self.jobs.place_near(guess.job, claim.number);

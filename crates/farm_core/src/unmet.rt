@@ -54,6 +54,11 @@ impl Unmet {
         &self.claims
     }
 
+    /// Whether no claim is remembered: the first place is the first one that is taken.
+    pub fn is_empty(&self) -> bool {
+        self.claims[0].is_none()
+    }
+
     /// Remembers a claim, in the place of the oldest one.
     pub fn note(&mut self, claim: Known)
         ensures { (place : ℕ) × (self.new ≡ slice_set self.old place (Some claim)) }

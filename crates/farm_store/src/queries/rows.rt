@@ -50,14 +50,18 @@ pub(crate) trait Stored: Drop + Sized {
 }
 
 /// What each of these rows stands for in an edition.
-fn read_rows<R: Stored>(alloc: Global, rows: &[Row], edition: Edition) -> Result<Vec<R>, StoreFault>
-    ensures read { AllByRecursion (IsWide R.place.width) rows.now
-        → ReadsAll result (λ all. all.items) (R.IsGood edition) (R.columns edition) rows.now }
+fn read_rows<R: Stored>(
+    alloc: Global,
+    rows: Vec<Row>,
+    edition: Edition,
+) -> Result<Vec<R>, StoreFault>
+    ensures read { AllByRecursion (IsWide R.place.width) rows.items
+        → ReadsAll result (λ all. all.items) (R.IsGood edition) (R.columns edition) rows.items }
     ensures fault { IfErr result TellsNoVersion }
 {
-    let mut all = Vec::new(alloc);
+    let mut all = Vec::with_capacity(alloc, rows.len())?;
     for row in rows {
-        all.push(R::of(alloc, row, edition)?)?;
+        all.push(R::of(alloc, &row, edition)?)?;
     }
     Ok(all)
 }
@@ -85,5 +89,5 @@ pub(crate) fn read<R: Stored, S: Alter>(
         → CommitShows (state S.Store tx.new.conn.now) T }
 {
     let rows = R::rows(tx)?;
-    read_rows(alloc, &rows, edition)
+    read_rows(alloc, rows, edition)
 }

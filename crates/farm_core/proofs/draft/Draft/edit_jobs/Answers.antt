@@ -11,12 +11,12 @@ use Rattle.farm_core.proofs.draft.Draft.edit_jobs.Goals as goal
 
 pub change-requires-clause-start : goal.change-requires-clause-start
 change-requires-clause-start c =
-    places_rise (λ (r : JobRow). r.number) 4 c.self.inside.tables.jobs (first_of c.args.edit) c.place_of-start.result c.place_of-end.result
-    (rw (← c.rows-rows.ensures) c.place_of-start.ensures.within) (rw (← c.rows-rows.ensures) c.place_of-end.ensures.within)
-    (rw (← c.rows-rows.ensures, ← c.first.ensures) c.place_of-start.ensures.place) (rw (← c.rows-rows.ensures, ← c.first-2.ensures) c.place_of-end.ensures.place)
+    places_rise (λ (r : JobRow). r.number) 4 c.self.inside.tables.jobs (first_of c.args.edit) c.place_of-start.result c.place_near-end.result
+    (rw (← c.rows-rows.ensures) c.place_of-start.ensures.within) c.place_near-end.ensures.within
+    (rw (← c.rows-rows.ensures, ← c.first.ensures) c.place_of-start.ensures.place) (rw (← c.first-2.ensures) c.place_near-end.ensures.place)
 
 pub change-requires-clause-end : goal.change-requires-clause-end
-change-requires-clause-end c = rw c.replace-former.ensures.value (rw (← c.rows-rows.ensures) c.place_of-end.ensures.within)
+change-requires-clause-end c = rw c.replace-former.ensures.value c.place_near-end.ensures.within
 
 pub change-requires-clause-before : goal.change-requires-clause-before
 change-requires-clause-before c =
@@ -25,8 +25,8 @@ change-requires-clause-before c =
 
 pub change-requires-clause-behind : goal.change-requires-clause-behind
 change-requires-clause-behind c =
-    rw c.replace-former.ensures.value (none_behind c.self.inside.tables.jobs c.args.edit c.self.invariant.orderly.near c.place_of-end.result
-    (rw (← c.rows-rows.ensures, ← c.first-2.ensures) c.place_of-end.ensures.place))
+    rw c.replace-former.ensures.value (none_behind c.self.inside.tables.jobs c.args.edit c.self.invariant.orderly.near c.place_near-end.result
+    (rw (← c.first-2.ensures) c.place_near-end.ensures.place))
 
 pub invariant_of-self : goal.invariant_of-self
 invariant_of-self c =
