@@ -5,27 +5,14 @@
 # folder as it was, byte by byte, and once the files lie where they belong the farm is there.
 #     sh tests/mistakes.sh bin/farm
 set -eu
-farm=$(realpath "$1")
+. "$(dirname "$0")/folder.sh"
 examples=$(cd "$(dirname "$0")/../examples" && pwd)
-folder=$(mktemp -d)
-server=
-finish() {
-    [ -z "$server" ] || kill "$server" 2> /dev/null || :
-    chmod -R u+w "$folder"
-    rm -r "$folder"
-}
-trap finish EXIT
 mkdir "$folder/lab" "$folder/away"
 cd "$folder/lab"
 printf '[types.ccc]\n' > ../more.toml
 printf 'POST /types HTTP/1.1\r\nx-user: admin\r\ncontent-length: 14\r\n\r\n{"name":"ddd"}' > ../command
 store_fault='farm: 60 store fault'
 bad_store='farm: 62 bad store'
-
-fail() {
-    echo "mistakes: $*"
-    exit 1
-}
 
 # All that stands in the folder: names, kinds, rights, and the bytes of the files.
 stands() {
@@ -164,18 +151,7 @@ for round in 1 2 3 4 5; do
 done
 
 what='a second program while one serves'
-port=$((20000 + $$ % 20000))
-until "$farm" serve --db lab.db --port $port --max 0 > ../output 2> ../errors; do
-    [ "$(cat ../errors)" = 'farm: 80 read fault' ] || fail "serve told '$(cat ../errors)'"
-    port=$((port + 1))
-done
-: > ../listening
-"$farm" serve --db lab.db --port $port --max 9 > ../listening &
-server=$!
-while [ "$(wc -l < ../listening)" -eq 0 ]; do
-    kill -0 "$server" 2> /dev/null || fail "$what: serve ended"
-    sleep 0.01
-done
+serve_file lab.db 9
 refuses "$store_fault" lab.db init import once report serve
 kill "$server"
 wait "$server" 2> /dev/null || :

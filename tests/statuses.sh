@@ -3,21 +3,9 @@
 # tests/refused_memory.sh shows, and what the files hold afterwards. tests/words.sh has its words.
 #     sh tests/statuses.sh bin/farm
 set -eu
-farm=$(realpath "$1")
-folder=$(mktemp -d)
-server=
-finish() {
-    [ -z "$server" ] || kill "$server" 2> /dev/null || :
-    rm -r "$folder"
-}
-trap finish EXIT
+. "$(dirname "$0")/folder.sh"
 cd "$folder"
 : > input
-
-fail() {
-    echo "statuses: $*"
-    exit 1
-}
 
 # Runs the program, and demands status $1 and, byte by byte, what stands in `wanted` and `wanted_errors`.
 runs() {

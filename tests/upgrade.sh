@@ -5,16 +5,9 @@
 # replies go on from there. What is no sound farm of the first edition is refused and stays as it is.
 # Damages want the sqlite3 shell, a served farm wants curl.
 set -eu
-farm=$(realpath "$1")
+. "$(dirname "$0")/folder.sh"
 tests=$(cd "$(dirname "$0")" && pwd)
 first=$tests/first_edition
-folder=$(mktemp -d)
-server=
-finish() {
-    [ -z "$server" ] || kill "$server" 2> /dev/null || :
-    rm -r "$folder"
-}
-trap finish EXIT
 mkdir "$folder/lab" "$folder/old" "$folder/away"
 gunzip -c "$first/lab.db.gz" > "$folder/old/lab.db"
 gunzip -c "$first/lab.db-wal.gz" > "$folder/old/lab.db-wal"
@@ -24,11 +17,6 @@ old_schema='farm: 63 old schema'
 new_schema='farm: 64 new schema'
 store_fault='farm: 60 store fault'
 bad_store='farm: 62 bad store'
-
-fail() {
-    echo "upgrade: $*"
-    exit 1
-}
 
 # The files of the folder, their bytes and nothing else.
 stands() {
@@ -301,18 +289,7 @@ fi
 
 if command -v curl > /dev/null; then
     new_farm
-    port=$((20000 + $$ % 20000))
-    until "$farm" serve --db lab.db --port $port --max 0 > ../output 2> ../errors; do
-        [ "$(cat ../errors)" = 'farm: 80 read fault' ] || fail "serve told '$(cat ../errors)'"
-        port=$((port + 1))
-    done
-    : > ../listening
-    "$farm" serve --db lab.db --port $port --max 1000 > ../listening &
-    server=$!
-    while [ "$(wc -l < ../listening)" -eq 0 ]; do
-        kill -0 "$server" 2> /dev/null || fail "serve ended"
-        sleep 0.01
-    done
+    serve_file lab.db 1000
     refuses "$store_fault" migrate --db lab.db
     sed -n '/^report/q; p' ../shown > ../views
     while read -r method path; do

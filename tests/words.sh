@@ -3,21 +3,9 @@
 # the smallest and largest values, as what it then does shows.
 #     sh tests/words.sh bin/farm
 set -eu
-farm=$(realpath "$1")
-folder=$(mktemp -d)
-server=
-finish() {
-    [ -z "$server" ] || kill "$server" 2> /dev/null || :
-    rm -r "$folder"
-}
-trap finish EXIT
+. "$(dirname "$0")/folder.sh"
 cd "$folder"
 : > input
-
-fail() {
-    echo "words: $*"
-    exit 1
-}
 
 # Demands that words are refused: status 2, nothing printed, and a text that begins with `error: ` and
 # has $1 in it.

@@ -14,7 +14,7 @@ use Rattle.farm_types.specs.declared.rows.JobRow.{JobRow}
 use Rattle.farm_types.specs.Refusals.{no_job}
 use Rattle.farm_keep.specs.Kept.{Kept, Keeps}
 use Rattle.farm_wire.specs.Reading.{Denial, refused, other_methods}
-use Rattle.farm_wire.specs.Replies.{reply_bytes, status_or}
+use Rattle.farm_wire.specs.Replies.{method_status, ok_status, reply_bytes, status_or}
 use Rattle.farm_wire.specs.declared.ask.Ask.{Ask}
 use Rattle.farm_wire.specs.declared.ask.View.{View}
 use Rattle.farm_wire.specs.declared.answers.Out.{Out}
@@ -70,8 +70,8 @@ IsView (View.Job number) F out = ShowsJob (job_of F number) out
 -- its HTTP status
 abbrev pub http_status : Out → ℕ
 http_status (Out.Refused r) = status_or r.code
-http_status (Out.Method allowed) = 405
-http_status out = 200
+http_status (Out.Method allowed) = method_status
+http_status out = ok_status
 
 -- ---- in bytes
 

@@ -4,6 +4,7 @@ use Rattle.farm_types.specs.Refusals.{no_memory, read_fault, write_fault}
 use Rattle.farm_jobfile.specs.Reading.{code_of}
 use Rattle.farm_jobfile.specs.declared.fault.FileFault.{FileFault}
 use Rattle.farm_keep.specs.Faults.{fault_code}
+use Rattle.farm_wire.specs.Replies.{ok_status}
 use Rattle.farm_keep.specs.declared.fault.KeepFault.{KeepFault}
 use Rattle.farm_desk.specs.declared.fault.DeskFault.{DeskFault}
 use Rattle.farm_desk.specs.declared.orders.End.{End}
@@ -26,7 +27,7 @@ exit_status fault = FAILED
 
 -- a request that was answered with this HTTP status
 abbrev pub end_of : ℕ → End
-end_of status = if status == 200 then End.Done else End.Refused
+end_of status = if status == ok_status then End.Done else End.Refused
 
 -- how the order ends that answers one request
 abbrev pub ended_order : Result ℕ DeskFault → Result End DeskFault

@@ -2,6 +2,7 @@
 ghost use Rattle.std.specs.Prelude.{◌≡◌, ◌≤◌, ◌⊎◌, true, IfOk, IfErr, OnOk};
 ghost use Rattle.std.specs.Io.KnownBytes.{Appends};
 ghost use Rattle.farm_types.specs.Farm.{empty_farm};
+ghost use Rattle.farm_report.specs.Moments.{most_minutes};
 ghost use Rattle.farm_desk.specs.Conversations.{AnswersOne, desk};
 ghost use Rattle.farm_desk.specs.Imports.{IsImport};
 ghost use Rattle.farm_desk.specs.Lines.{counts_line, port_line, TellsImport};
@@ -12,12 +13,12 @@ use crate::fault::DeskFault;
 use crate::files::{make_farm, open_farm, read_lab};
 use crate::import::{ImportEnd, import};
 use crate::report::{report_text, zone_between};
-use crate::response::OK;
 use crate::serve::serve_on;
 use crate::upgrade::migrate_farm;
 use farm_keep::{KeepFault, Keeper};
 use farm_order::order::{Database, Order, Report};
 use farm_types::refusal::Refusal;
+use farm_wire::statuses::OK;
 use farm_wire::write_whole;
 use sqlite::{Alter, Connection, MemStore, Unknown};
 use std::alloc::Global;
@@ -252,8 +253,8 @@ fn print_report<W: Write, S: Alter>(
     which: Report,
     output: &mut W,
 ) -> Result<End, DeskFault>
-    ensures { IfOk result (λ end. (end ≡ End.Done) × (text : _) × (zone.0 ≤ 840 → zone.1 ≤ 840
-        → Reports which (seconds_ahead zone.0 zone.1) keeper.now.farm.farm text)
+    ensures { IfOk result (λ end. (end ≡ End.Done) × (text : _) × (zone.0 ≤ most_minutes
+        → zone.1 ≤ most_minutes → Reports which (seconds_ahead zone.0 zone.1) keeper.now.farm.farm text)
         × Appends (W.contents output.old) (W.contents output.new) text) }
 {
     let Some(farm) = keeper.farm() else {

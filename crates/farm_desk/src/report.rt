@@ -1,20 +1,20 @@
 //! Reports of a farm.
 ghost use Rattle.std.specs.Prelude.{◌≡◌, ◌≢◌, ◌≤◌, false, Ok, Err, IfOk, IfErr, string_bytes};
+ghost use Rattle.farm_report.specs.Moments.{most_minutes};
 ghost use Rattle.farm_desk.specs.Reports.{Reports, seconds_ahead};
 
 use crate::fault::DeskFault;
 use farm_core::farm::Farm;
 use farm_order::order::Report;
-use farm_report::{Offset, ReportFault, boards_text, queue_text, reservations_text, zone_of};
+use farm_report::{
+    MOST_MINUTES, Offset, ReportFault, boards_text, queue_text, reservations_text, zone_of,
+};
 use std::alloc::Global;
 
-/// The most minutes that the words give on either side of UTC.
-const MOST_MINUTES: u64 = 840;
-
-/// The offset that lies so many minutes east of UTC, less so many west; each counts as 840 where it
-/// is more.
+/// The offset that lies so many minutes east of UTC, less so many west; each counts as
+/// `MOST_MINUTES` where it is more.
 pub(crate) fn zone_between(east: u64, west: u64) -> Offset
-    ensures { east ≤ 840 → west ≤ 840 → result.seconds ≡ seconds_ahead east west }
+    ensures { east ≤ most_minutes → west ≤ most_minutes → result.seconds ≡ seconds_ahead east west }
 {
     let minutes = east.min(MOST_MINUTES) as i64 - west.min(MOST_MINUTES) as i64;
     match zone_of(minutes) {

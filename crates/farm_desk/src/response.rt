@@ -11,6 +11,7 @@ use farm_keep::KeepFault;
 use farm_wire::answers::{Out, answer_bytes};
 use farm_wire::constant::{closed_answer, no_memory_answer, store_answer};
 use farm_wire::fault::AskFault;
+use farm_wire::statuses::{METHOD_NOT_ALLOWED, OK, UNAVAILABLE};
 use std::alloc::Global;
 
 /// The bytes of an answer.
@@ -92,13 +93,6 @@ impl Response {
         }
     }
 }
-
-/// The status of a wrong method.
-const METHOD_NOT_ALLOWED: u16 = 405;
-/// The status of a fault that the table gives none.
-const UNAVAILABLE: u16 = 503;
-/// The status of an answer that is no refusal.
-pub(crate) const OK: u16 = 200;
 
 /// The HTTP status of an answer.
 fn http_status(out: &Out<'_>) -> u16

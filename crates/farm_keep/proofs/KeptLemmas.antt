@@ -16,6 +16,7 @@ use Rattle.farm_types.specs.Farm.{Farm, board_of, job_of, kept_of, put_board, pu
 use Rattle.farm_types.specs.Pass.{with_board, giving_back, expire}
 use Rattle.farm_types.specs.Refuse.{kind_of, is_late, kept_for, is_full, may_give, first_code, refusal, early_refusal, own_refusal}
 use Rattle.farm_types.specs.Change.{Done, done_with, act, change, farm_at_call}
+use Rattle.farm_types.specs.Refusals.{bad_moment, key_reused}
 use Rattle.farm_types.specs.Machine.{Answered, Changed, Repeated, Denied, answer, answer_by, repeated_reply, step, step_by, run}
 use Rattle.farm_types.specs.declared.rows.BoardRow.{BoardRow}
 use Rattle.farm_types.specs.declared.rows.KeptRow.{KeptRow}
@@ -99,7 +100,7 @@ kept_put F row caller key = find_put_is kept_cmp kept_total row (is_for caller k
 -- ---- a kept reply is answered again
 
 abbrev says : KeptRow → Call → Answered
-says row call = if is_late call then Denied 2 else (if row.kind == kind_of call.cmd then Repeated row.reply else Denied 40)
+says row call = if is_late call then Denied bad_moment else (if row.kind == kind_of call.cmd then Repeated row.reply else Denied key_reused)
 
 kept_is : (F : Farm) (call : Call) (key : List ℕ) (row : KeptRow) → call.key ≡ Some key → kept_of F call.caller key ≡ Some row → kept_for F call ≡ Some row
 kept_is F call key row keyed is = ap (λ k. option_map_or (λ key. kept_of F call.caller key) k None) keyed ∙ is
@@ -116,7 +117,7 @@ answers_kept F call row is =
     by : (late same : Bool) → answer_by (cond late None (cond same (Some row.reply) None))
         (option_or (first_code ((late, bad_moment) ∷ (not same, key_reused) ∷ (not (may_give call.caller call.cmd), forbidden) ∷ []))
         (option_or (own_refusal F call) (then_some (is_full F call) 4)))
-        (change F call).reply ≡ cond late (Denied 2) (cond same (Repeated row.reply) (Denied 40))
+        (change F call).reply ≡ cond late (Denied bad_moment) (cond same (Repeated row.reply) (Denied key_reused))
     by true same = refl
     by false true = refl
     by false false = refl
@@ -124,7 +125,7 @@ answers_kept F call row is =
 says_no_change : (row : KeptRow) (call : Call) (r : Reply) → says row call ≡ Changed r → ⊥
 says_no_change row call r = by (is_late call) (row.kind == kind_of call.cmd)
   where
-    by : (late same : Bool) → cond late (Denied 2) (cond same (Repeated row.reply) (Denied 40)) ≡ Changed r → ⊥
+    by : (late same : Bool) → cond late (Denied bad_moment) (cond same (Repeated row.reply) (Denied key_reused)) ≡ Changed r → ⊥
     by true same e = cc
     by false true e = cc
     by false false e = cc

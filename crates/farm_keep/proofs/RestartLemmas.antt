@@ -2,6 +2,7 @@
 use Rattle.std.proofs.Common.{◌≡◌, Bool, true, false, cond, List, [], ◌∷◌, ◌++◌, refl, sym, ap, ◌∙◌}
 use Rattle.std.proofs.lemmas.List.Sums.{fold-append}
 use Rattle.farm_types.specs.Farm.{Farm}
+use Rattle.farm_types.specs.Refusals.{bad_moment, key_reused}
 use Rattle.farm_types.specs.Machine.{Changed, Repeated, Denied, answer, step, run}
 use Rattle.farm_types.specs.declared.rows.Reply.{Reply}
 use Rattle.farm_types.specs.declared.calls.Call.{Call}
@@ -18,7 +19,7 @@ run_all-joined F (restart ∷ restarts) =
     run_all-joined (run F (done_calls restart)) restarts ∙ sym (fold-append step F (done_calls restart) (calls_of restarts))
 
 -- what is answered again is no change
-pub again_no_change : (late same : Bool) (reply other : Reply) → cond late (Denied 2) (cond same (Repeated reply) (Denied 40)) ≡ Changed other → ⊥
+pub again_no_change : (late same : Bool) (reply other : Reply) → cond late (Denied bad_moment) (cond same (Repeated reply) (Denied key_reused)) ≡ Changed other → ⊥
 again_no_change true same reply other e = cc
 again_no_change false true reply other e = cc
 again_no_change false false reply other e = cc

@@ -4,6 +4,7 @@ use Rattle.std.specs.Prelude.{if◌then◌else◌}
 use Rattle.std.specs.List.{fold, flat_map}
 use Rattle.farm_types.specs.Farm.{Farm}
 use Rattle.farm_types.specs.Refuse.{kind_of, is_late}
+use Rattle.farm_types.specs.Refusals.{bad_moment, key_reused}
 use Rattle.farm_types.specs.Machine.{Answered, Changed, Repeated, Denied, answer, run}
 use Rattle.farm_types.specs.declared.rows.Reply.{Reply}
 use Rattle.farm_types.specs.declared.calls.Call.{Call}
@@ -26,8 +27,8 @@ calls_of restarts = flat_map done_calls restarts
 -- what a call is answered whose caller and key were those of an accepted call with this reply
 abbrev pub answer_again : Call → Reply → Call → Answered
 answer_again first reply call =
-    if is_late call then Denied 2
-    else (if kind_of first.cmd == kind_of call.cmd then Repeated reply else Denied 40)
+    if is_late call then Denied bad_moment
+    else (if kind_of first.cmd == kind_of call.cmd then Repeated reply else Denied key_reused)
 
 -- two calls under one key of one caller, one after the other somewhere in the joined list, of which
 -- the first is accepted

@@ -7,6 +7,14 @@ use Rattle.clap.specs.declared.builder.action.ArgAction.TheVariants.{Set, SetTru
 use Rattle.clap.specs.declared.builder.command.Command.{Command}
 use Rattle.clap.specs.declared.builder.value_parser.ValueParser.TheVariants.{Unsigned}
 
+-- the ports are 1 to this one
+abbrev pub last_port : ℕ
+last_port = 65535
+
+-- how far a report's clock may be from UTC, in minutes
+abbrev pub most_minutes : ℕ
+most_minutes = 840
+
 -- `--memory`, a flag
 abbrev pub memory_rule : Rule
 memory_rule = record (new_rule (codes "memory")) {
@@ -47,7 +55,7 @@ at_rule = number_rule (codes "at") true 0 18446744073709551615
 
 -- `--port PORT`
 abbrev pub port_rule : Rule
-port_rule = number_rule (codes "port") true 1 65535
+port_rule = number_rule (codes "port") true 1 last_port
 
 -- `--max CONNECTIONS`, any `u64`
 abbrev pub max_rule : Rule
@@ -55,7 +63,7 @@ max_rule = number_rule (codes "max") true 0 18446744073709551615
 
 -- `--east MINUTES` or `--west MINUTES`
 abbrev pub offset_rule : Text → Rule
-offset_rule name = number_rule name false 0 840
+offset_rule name = number_rule name false 0 most_minutes
 
 -- `once --memory --at SECONDS` or `once --db FILE --at SECONDS`
 abbrev pub once_app : App

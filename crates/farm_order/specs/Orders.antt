@@ -7,6 +7,7 @@ use Rattle.std.specs.Str.{bytes_eq}
 use Rattle.std.specs.Str.Parse.{digits_value, without_leading_plus}
 use Rattle.clap.specs.ValueTests.{is_unsigned_in}
 use Rattle.clap.specs.Words.{Row, Text, first_of, one_of}
+use Rattle.farm_order.specs.App.{last_port, most_minutes}
 use Rattle.farm_order.specs.declared.order.Order.{Order}
 use Rattle.farm_order.specs.declared.order.Order.TheVariants.{Once, Init, Migrate, Import, Serve}
 use Rattle.farm_order.specs.declared.order.Order.TheVariants as order
@@ -49,8 +50,8 @@ form_of (order.Report file east west which) = report (string_bytes file) east we
 
 -- a port that can be listened on, and offsets of at most fourteen hours
 abbrev pub IsInBounds : Form → Type 0
-IsInBounds (serve file port max) = (1 ≤ port) × (port ≤ 65535)
-IsInBounds (report file east west which) = (east ≤ 840) × (west ≤ 840)
+IsInBounds (serve file port max) = (1 ≤ port) × (port ≤ last_port)
+IsInBounds (report file east west which) = (east ≤ most_minutes) × (west ≤ most_minutes)
 IsInBounds _ = ⊤
 
 -- ---- the values of a subcommand

@@ -60,6 +60,12 @@ fn open_choice(matches: &ArgMatches<'_>) -> &'static str {
 /// The program's version, which `--version` prints behind its name.
 const VERSION: &str = "2.0";
 
+/// The ports are 1 to this one.
+const LAST_PORT: i64 = 65535;
+
+/// How far a report's clock may be from UTC, in minutes.
+const MOST_MINUTES: i64 = 840;
+
 const NO_PLACE: &str = "\
 error: exactly one of '--memory' and '--db <FILE>' has to be provided
 
@@ -383,7 +389,7 @@ fn port_option<'a>(alloc: Global) -> Arg<'a>
         .help("The port to listen on, from 1 to 65535")
         .required(true)
         .action(ArgAction::Set)
-        .value_parser(clap::value_parser!(u64).range(1..=65535))
+        .value_parser(clap::value_parser!(u64).range(1..=LAST_PORT))
 }
 
 fn max_option<'a>(alloc: Global) -> Arg<'a>
@@ -408,7 +414,7 @@ fn offset<'a>(alloc: Global, name: &'a str, help: &'a str) -> Arg<'a>
         .value_name("MINUTES")
         .help(help)
         .action(ArgAction::Set)
-        .value_parser(clap::value_parser!(u64).range(0..=840))
+        .value_parser(clap::value_parser!(u64).range(0..=MOST_MINUTES))
 }
 
 fn positional<'a>(alloc: Global, id: &'a str, name: &'a str, help: &'a str) -> Arg<'a>

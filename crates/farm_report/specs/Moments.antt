@@ -3,6 +3,10 @@ use Rattle.std.specs.Prelude.{◌≡◌, ℕ, zero, suc, ℤ, pos, ◌+ℤ◌, L
 use Rattle.jiff.specs.Types.{DateTime}
 use Rattle.jiff.specs.Words.{civil_seconds, date_text, time_text}
 
+-- how far a report's clock may be from UTC, in minutes
+abbrev pub most_minutes : ℕ
+most_minutes = 840
+
 -- `2023-11-14 22:13:20`, in whole seconds
 abbrev pub civil_text : DateTime → List ℕ
 civil_text civil = date_text civil.date ++ 32 ∷ time_text (Some 0) civil.time

@@ -18,5 +18,5 @@ pub use boards::boards_text;
 pub use claims::{claims_text, queue_text};
 pub use fault::ReportFault;
 pub use jiff::tz::Offset;
-pub use moment::zone_of;
+pub use moment::{MOST_MINUTES, zone_of};
 pub use reservations::reservations_text;

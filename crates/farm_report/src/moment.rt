@@ -2,7 +2,7 @@
 ghost use Rattle.std.specs.Prelude.{◌≡◌, ◌↔◌, ◌<◌, ◌*ℤ◌, neg_ℤ, pos, Err, IfOk, IfSome, IsSome};
 ghost use Rattle.std.specs.Prelude.{string_bytes};
 ghost use Rattle.jiff.specs.Words.{IsBetween};
-ghost use Rattle.farm_report.specs.Moments.{ShowsCheck, ShowsMoment};
+ghost use Rattle.farm_report.specs.Moments.{ShowsCheck, ShowsMoment, most_minutes};
 ghost use Rattle.farm_report.specs.declared.fault.ReportFault.TheVariants.{BadMoment};
 ghost use Rattle.farm_report.specs.declared.moment.TheConstants.{LAST_SECOND};
 
@@ -12,18 +12,19 @@ use jiff::tz::Offset;
 use std::alloc::Global;
 
 /// How far a report's clock may be from UTC, in minutes.
-const MOST_MINUTES: i64 = 840;
+pub const MOST_MINUTES: u64 = 840;
 
 /// The last second that the calendar has at every offset, shortly before the year 10000.
 pub const LAST_SECOND: u64 = 253_402_207_200;
 
 /// The offset that is so many minutes east of UTC, or west of it where the number is negative; it
-/// is at most 840 minutes either side.
+/// is at most `MOST_MINUTES` either side.
 pub fn zone_of(minutes: i64) -> Option<Offset>
-    ensures taken { IsSome result ↔ IsBetween (neg_ℤ (pos 840)) (pos 840) minutes }
+    ensures taken { IsSome result ↔ IsBetween (neg_ℤ (pos most_minutes)) (pos most_minutes) minutes }
     ensures value { IfSome result (λ zone. zone.seconds ≡ minutes *ℤ pos 60) }
 {
-    if minutes < -MOST_MINUTES || minutes > MOST_MINUTES {
+    let most = MOST_MINUTES as i64;
+    if minutes < -most || minutes > most {
         return None;
     }
     Offset::from_seconds(minutes as i32 * 60).ok()

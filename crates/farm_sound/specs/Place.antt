@@ -1,5 +1,5 @@
 -- Rows by their keys, and the places at which they stand.
-use Rattle.std.specs.Prelude.{◌≡◌, ◌≤◌, ◌<◌, ◌==◌, ◌&&◌, ℕ, List, Option, Some, None, Result}
+use Rattle.std.specs.Prelude.{◌≡◌, ◌≤◌, ◌<◌, ◌==◌, ℕ, List, Option, Some, None, Result}
 use Rattle.std.specs.Prelude.{length, get_or, set, MatchResult}
 use Rattle.std.specs.List.{find, insert}
 use Rattle.std.specs.Str.{bytes_eq}
@@ -9,10 +9,8 @@ use Rattle.farm_types.specs.declared.rows.TypeRow.{TypeRow}
 use Rattle.farm_types.specs.declared.rows.BoardRow.{BoardRow}
 use Rattle.farm_types.specs.declared.rows.JobRow.{JobRow}
 use Rattle.farm_types.specs.declared.rows.ResRow.{ResRow}
-use Rattle.farm_types.specs.declared.rows.KeptRow.{KeptRow}
 
--- the row of a list with a key: of a farm's table it is `type_of`, `board_of`, `job_of`, `res_of`
--- and `kept_of`
+-- the row of a list with a key: of a farm's table it is `type_of`, `board_of`, `job_of` or `res_of`
 abbrev pub type_in : List TypeRow → List ℕ → Option TypeRow
 type_in rows name = find (λ r. bytes_eq r.name name) rows
 
@@ -24,9 +22,6 @@ job_in rows number = find (λ r. r.number == number) rows
 
 abbrev pub res_in : List ResRow → ℕ → Option ResRow
 res_in rows number = find (λ r. r.number == number) rows
-
-abbrev pub kept_in : List KeptRow → List ℕ → List ℕ → Option KeptRow
-kept_in rows caller key = find (λ r. bytes_eq r.caller caller && bytes_eq r.key key) rows
 
 module _ {R : Type 0} (cmp : R → R → Ordering) (HasKey : R → Type 0) (rows : List R)
     (found : Option R) where

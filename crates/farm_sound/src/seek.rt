@@ -3,11 +3,11 @@
 ghost use Rattle.std.specs.Prelude.{◌≡◌};
 ghost use Rattle.std.specs.List.Sorted.{IsStrictlySortedBy};
 ghost use Rattle.std.specs.Option.{option_copied};
-ghost use Rattle.farm_types.specs.Table.{type_cmp, board_cmp, job_cmp, res_cmp, kept_cmp};
-ghost use Rattle.farm_sound.specs.Place.{IsPlace, type_in, board_in, job_in, res_in, kept_in};
+ghost use Rattle.farm_types.specs.Table.{type_cmp, board_cmp, job_cmp, res_cmp};
+ghost use Rattle.farm_sound.specs.Place.{IsPlace, type_in, board_in, job_in, res_in};
 
-use farm_types::rows::{BoardRow, JobRow, KeptRow, ResRow, TypeRow};
-use farm_types::words::{Key, Name};
+use farm_types::rows::{BoardRow, JobRow, ResRow, TypeRow};
+use farm_types::words::Name;
 
 /// The place of the type with that name, or the place at which such a one is to be inserted.
 pub fn type_at(rows: &[TypeRow], name: &Name) -> Result<usize, usize>
@@ -83,27 +83,6 @@ pub fn res_of(rows: &[ResRow], number: u64) -> Option<&ResRow>
     ensures { option_copied result ≡ res_in rows.now number }
 {
     match res_at(rows, number) {
-        Ok(at) => Some(&rows[at]),
-        Err(_) => None,
-    }
-}
-
-/// The place of the kept reply of that caller and key, or the place at which such a one is to be
-/// inserted.
-pub fn kept_at(rows: &[KeptRow], caller: &Name, key: &Key) -> Result<usize, usize>
-    requires { IsStrictlySortedBy kept_cmp rows.now }
-    ensures { IsPlace kept_cmp (λ r. (r.caller ≡ caller.now) × (r.key ≡ key.now)) rows.now
-        (kept_in rows.now caller.now key.now) result }
-{
-    rows.binary_search_by(|row| row.caller.order(caller).then(row.key.order(key)))
-}
-
-/// The kept reply of that caller and key, if there is one.
-pub fn kept_of<'a>(rows: &'a [KeptRow], caller: &Name, key: &Key) -> Option<&'a KeptRow>
-    requires { IsStrictlySortedBy kept_cmp rows.now }
-    ensures { option_copied result ≡ kept_in rows.now caller.now key.now }
-{
-    match kept_at(rows, caller, key) {
         Ok(at) => Some(&rows[at]),
         Err(_) => None,
     }

@@ -10,6 +10,16 @@ use Rattle.farm_wire.specs.Shown.{claim_data, res_data, job_data, status_data}
 use Rattle.farm_wire.specs.declared.allowed.Allowed.{Allowed}
 use Rattle.farm_wire.specs.declared.answers.Out.{Out}
 
+-- the statuses of an answer that is no refusal, of a wrong method, and of a fault that the table of refusals gives none
+abbrev pub ok_status : ℕ
+ok_status = 200
+
+abbrev pub method_status : ℕ
+method_status = 405
+
+abbrev pub unavailable_status : ℕ
+unavailable_status = 503
+
 -- the head of an answer, with further fields and the length of its body
 abbrev pub head_text : ℕ → List ℕ → ℕ → List ℕ
 head_text status more len =
@@ -25,25 +35,25 @@ answer_text status more body = head_text status more (length body) ++ body
 abbrev pub plain_answer : ℕ → Data → List ℕ
 plain_answer status json = answer_text status [] (compact_text json)
 
--- the status of a refusal; a fault that is never answered over HTTP would be 503
+-- the status of a refusal
 abbrev pub status_or : ℕ → ℕ
-status_or code = unwrap_or (status_of code) 503
+status_or code = unwrap_or (status_of code) unavailable_status
 
 -- a wrong method, with a field that names the right ones
 abbrev pub method_text : Allowed → List ℕ
 method_text allowed =
-    answer_text 405 (codes "allow: " ++ (allow_text allowed ++ codes "\r\n"))
+    answer_text method_status (codes "allow: " ++ (allow_text allowed ++ codes "\r\n"))
     (compact_text (refusal_data wrong_method))
 
 -- the bytes of an answer
 unfoldable pub reply_bytes : Out → List ℕ
-reply_bytes (Out.Reply kind reply) = plain_answer 200 (reply_data kind reply)
+reply_bytes (Out.Reply kind reply) = plain_answer ok_status (reply_data kind reply)
 reply_bytes (Out.Refused refusal) = plain_answer (status_or refusal.code) (refusal_data refusal.code)
 reply_bytes (Out.Method allowed) = method_text allowed
-reply_bytes (Out.Types rows) = plain_answer 200 (listing (codes "types") (map type_data rows.now))
-reply_bytes (Out.Boards rows) = plain_answer 200 (listing (codes "boards") (map board_data rows.now))
-reply_bytes (Out.Queue claims) = plain_answer 200 (listing (codes "queue") (map claim_data claims.now))
+reply_bytes (Out.Types rows) = plain_answer ok_status (listing (codes "types") (map type_data rows.now))
+reply_bytes (Out.Boards rows) = plain_answer ok_status (listing (codes "boards") (map board_data rows.now))
+reply_bytes (Out.Queue claims) = plain_answer ok_status (listing (codes "queue") (map claim_data claims.now))
 reply_bytes (Out.Reservations rows) =
-    plain_answer 200 (listing (codes "reservations") (map res_data rows.now))
-reply_bytes (Out.Job row) = plain_answer 200 (job_data row.now)
-reply_bytes (Out.Status status) = plain_answer 200 (status_data status)
+    plain_answer ok_status (listing (codes "reservations") (map res_data rows.now))
+reply_bytes (Out.Job row) = plain_answer ok_status (job_data row.now)
+reply_bytes (Out.Status status) = plain_answer ok_status (status_data status)

@@ -2,7 +2,7 @@
 ghost use Rattle.std.specs.Prelude.{◌≡◌, IfOk, map};
 ghost use Rattle.serde_json.specs.Written.{compact_text};
 ghost use Rattle.farm_wire.specs.Replies.{reply_bytes, answer_text, method_text, plain_answer, status_or};
-ghost use Rattle.farm_wire.specs.Replies.{head_text};
+ghost use Rattle.farm_wire.specs.Replies.{head_text, ok_status};
 ghost use Rattle.farm_wire.specs.Shown.{listing, refusal_data};
 
 use crate::allowed::Allowed;
@@ -10,13 +10,11 @@ use crate::head::head;
 use crate::shown::{Listing, Shown};
 use crate::sink::Counter;
 use crate::small_shown::ReplyTo;
+use crate::statuses::{METHOD_NOT_ALLOWED, OK, UNAVAILABLE};
 use farm_types::claims::{Claim, Status};
 use farm_types::refusal::{Refusal, WRONG_METHOD};
 use farm_types::rows::{BoardRow, JobRow, Reply, ResRow, TypeRow};
 use std::alloc::{AllocError, Global};
-
-/// The status of a fault that is never answered.
-const UNAVAILABLE: u16 = 503;
 
 /// An answer, whose rows are lent.
 #[derive(Drop)]
@@ -68,9 +66,9 @@ fn answer_of<T: Shown>(
 
 /// The answer with all rows.
 fn listing_answer<R: Shown>(alloc: Global, key: &str, rows: &[R]) -> Result<Vec<u8>, AllocError>
-    ensures { IfOk result (λ b. b.items ≡ plain_answer 200 (listing key.now (map R.json rows.now))) }
+    ensures { IfOk result (λ b. b.items ≡ plain_answer ok_status (listing key.now (map R.json rows.now))) }
 {
-    answer_of(alloc, 200, "", &Listing { key, rows })
+    answer_of(alloc, OK, "", &Listing { key, rows })
 }
 
 /// The answer of a refusal.
@@ -88,7 +86,12 @@ fn method_answer(alloc: Global, allowed: Allowed) -> Result<Vec<u8>, AllocError>
 {
     let text = allowed.text();
     let more = format!(in alloc; "allow: {text}\r\n")?;
-    answer_of(alloc, 405, more.as_str(), &Refusal { code: WRONG_METHOD })
+    answer_of(
+        alloc,
+        METHOD_NOT_ALLOWED,
+        more.as_str(),
+        &Refusal { code: WRONG_METHOD },
+    )
 }
 
 /// The bytes of an answer: a status line, fields, and JSON, printed into one buffer. It costs two
@@ -103,7 +106,7 @@ pub fn answer_bytes(alloc: Global, out: &Out<'_>) -> Result<Vec<u8>, AllocError>
                 kind: *kind,
                 reply: *reply,
             };
-            answer_of(alloc, 200, "", &shown)
+            answer_of(alloc, OK, "", &shown)
         }
         Out::Refused(refusal) => refusal_answer(alloc, *refusal),
         Out::Method(allowed) => method_answer(alloc, *allowed),
@@ -111,7 +114,7 @@ pub fn answer_bytes(alloc: Global, out: &Out<'_>) -> Result<Vec<u8>, AllocError>
         Out::Boards(rows) => listing_answer(alloc, "boards", *rows),
         Out::Queue(claims) => listing_answer(alloc, "queue", *claims),
         Out::Reservations(rows) => listing_answer(alloc, "reservations", *rows),
-        Out::Job(row) => answer_of(alloc, 200, "", *row),
-        Out::Status(status) => answer_of(alloc, 200, "", status),
+        Out::Job(row) => answer_of(alloc, OK, "", *row),
+        Out::Status(status) => answer_of(alloc, OK, "", status),
     }
 }

@@ -32,6 +32,7 @@ pub mod sender;
 pub mod shown;
 pub mod sink;
 pub mod small_shown;
+pub mod statuses;
 pub mod text;
 pub mod type_body;
 pub mod type_shown;
