@@ -101,6 +101,16 @@ def read_words(process):
         return ""
 
 
+def processes_of(words):
+    """The processes that run these words."""
+    return [it for it in os.listdir("/proc") if it.isdigit() and words in read_words(it)]
+
+
+def running(words):
+    """The processes that run these words, once there is one: a job's begin is noted before its command starts."""
+    return wait_until(f"{words!r} runs", lambda: processes_of(words))
+
+
 def end_commands(place):
     """Kills the commands, and what runs them, that a test that fails left."""
     for name in os.listdir("/proc"):
@@ -215,17 +225,15 @@ def cancels(place):
     quiet = lab.farm.submit("exec sleep 100")
     stubborn = lab.farm.submit("trap : TERM; setsid sleep 101 & while true; do sleep 0.1; done")
     dispatcher = lab.dispatch("--grace", "1")
-    for number in (quiet, stubborn):
+    for number, words in ((quiet, "sleep\x00100\x00"), (stubborn, "sleep\x00101\x00")):
         lab.begun(number)
+        running(words)
         lab.farm.tell("ann", f"/jobs/{number}/cancel")
     demand("the one that ends", "Canceled", lab.finished(quiet))
     demand("how it ended", "status 143", read(lab.file(quiet, "ended")).strip())
     demand("the one that doesn't", "Canceled", lab.finished(stubborn))
     demand("how it ended", "signal 9", read(lab.file(stubborn, "ended")).strip())
-    left = [
-        it for it in os.listdir("/proc") if it.isdigit() and "sleep\x00101\x00" in read_words(it)
-    ]
-    demand("what it left", [], left)
+    demand("what it left", [], processes_of("sleep\x00101\x00"))
     lab.closes(dispatcher)
     return "a canceled job's command gets SIGTERM, then SIGKILL, and what it left behind is killed"
 
@@ -239,9 +247,7 @@ def lost_processes(place):
     for number in (alone, both, gone):
         lab.begun(number)
     os.kill(lab.runner(alone), signal.SIGKILL)
-    group_of_both = [
-        it for it in os.listdir("/proc") if it.isdigit() and "sleep\x00100\x00" in read_words(it)
-    ]
+    group_of_both = running("sleep\x00100\x00")
     os.kill(lab.runner(both), signal.SIGKILL)
     for process in group_of_both:
         os.killpg(os.getpgid(int(process)), signal.SIGKILL)
