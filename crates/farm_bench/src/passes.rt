@@ -103,16 +103,6 @@ fn run_queue(watch: &Watch<'_>, finished: u64, claims: u64) -> anyhow::Result<()
     measure(watch, "behind finished jobs", &behind, Deed::Queue)
 }
 
-/// Commands in a farm that keeps so many replies, and taking its rows.
-fn run_kept(watch: &Watch<'_>, kept: u64) -> anyhow::Result<()> {
-    let heading = format!(in watch.alloc(); "{kept} kept replies")?;
-    watch.begin(heading.as_str())?;
-    let shape = Shape { kept, ..IDLE };
-    measure(watch, "taken", &shape, Deed::Take)?;
-    measure(watch, "without a key", &shape, Deed::Reserve)?;
-    measure(watch, "under new keys", &shape, Deed::ReserveByKey)
-}
-
 /// The measures on the scale of a full farm where the watch takes times, else on a small scale.
 pub fn run(watch: &Watch<'_>) -> anyhow::Result<()> {
     if watch.timed {
@@ -121,14 +111,11 @@ pub fn run(watch: &Watch<'_>) -> anyhow::Result<()> {
         run_collector(watch, 1_000)?;
         run_rows(watch, 1_000)?;
         run_rows(watch, 100_000)?;
-        run_queue(watch, 97_000, 1_000)?;
-        run_kept(watch, 1_000)?;
-        run_kept(watch, 299_000)
+        run_queue(watch, 97_000, 1_000)
     } else {
         run_passes(watch, 20, 20)?;
         run_collector(watch, 20)?;
         run_rows(watch, 40)?;
-        run_queue(watch, 40, 10)?;
-        run_kept(watch, 40)
+        run_queue(watch, 40, 10)
     }
 }

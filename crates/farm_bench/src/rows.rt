@@ -3,9 +3,9 @@ use crate::boards;
 use farm_types::calls::Rows;
 use farm_types::fault::WordFault;
 use farm_types::rows::{
-    BoardRow, JobRow, JobState, KeptRow, MetaRow, Outcome, Reply, ResRow, ResState, TypeRow, Want,
+    BoardRow, JobRow, JobState, MetaRow, Outcome, ResRow, ResState, TypeRow, Want,
 };
-use farm_types::words::{Body, Key, Priority};
+use farm_types::words::{Body, Priority};
 use std::alloc::Global;
 
 /// The clock of a farm, in seconds since 1970.
@@ -44,8 +44,6 @@ pub struct Shape {
     pub rare: bool,
     /// Who waits in front of them.
     pub front: Front,
-    /// Replies that are kept for one caller.
-    pub kept: u64,
 }
 
 /// The boards alone.
@@ -58,7 +56,6 @@ pub const IDLE: Shape = Shape {
     waiting: 0,
     rare: false,
     front: Front::Nobody,
-    kept: 0,
 };
 
 /// The next free number, which is taken.
@@ -69,7 +66,7 @@ fn take_number(rows: &mut Rows) -> u64 {
 }
 
 /// The priority of what has a number: 0, 50 and 100 in turn.
-pub fn priority_of(number: u64) -> anyhow::Result<Priority> {
+fn priority_of(number: u64) -> anyhow::Result<Priority> {
     Ok(Priority::of(number % 3 * 50).map_err(WordFault::Refused)?)
 }
 
@@ -159,24 +156,6 @@ fn add_reservation(
     Ok(())
 }
 
-/// The key of a number; keys stand in order of number.
-pub fn key(alloc: Global, word: &str, number: u64) -> anyhow::Result<Key> {
-    let text = format!(in alloc; "{word}-{number:06}")?;
-    Ok(Key::parse(alloc, text.as_bytes())?)
-}
-
-/// A kept reply to a Reserve.
-fn add_kept(alloc: Global, rows: &mut Rows, number: u64) -> anyhow::Result<()> {
-    let row = KeptRow {
-        caller: boards::name(alloc, "ann")?,
-        key: key(alloc, "key", number)?,
-        kind: 9,
-        reply: Reply(number, 0, 0),
-    };
-    rows.kept.push(row)?;
-    Ok(())
-}
-
 /// The rows of a farm of these types and boards alone.
 fn idle(alloc: Global, types: Vec<TypeRow>, boards: Vec<BoardRow>) -> Rows {
     Rows {
@@ -212,9 +191,6 @@ pub fn rows(alloc: Global, shape: &Shape) -> anyhow::Result<Rows> {
     }
     for _ in 0..shape.waiting {
         add_reservation(alloc, &mut rows, ResState::Waiting, shape.rare)?;
-    }
-    for number in 0..shape.kept {
-        add_kept(alloc, &mut rows, number)?;
     }
     Ok(rows)
 }

@@ -95,27 +95,16 @@ same_rows {R = R} test (r ∷ rows) = by (test r) (same_rows test rows)
     by true rest = ap (λ rows. r ∷ rows) rest
     by false rest = ap (λ rows. r ∷ rows) rest
 
--- boards first and then the rows is the machine's change
-pub jobs_changed : (F : Farm) (test : JobRow → Bool) (f : JobRow → JobRow) (g : BoardRow → BoardRow) (G H : Farm) → G ≡ record F { boards = change_where (λ b. is_job_in F.jobs test b.holder) g F.boards } → H ≡ record G { jobs = change_where test f G.jobs } → H ≡ change_jobs test f g F
-jobs_changed F test f g G H first then =
-    then ∙ ap (λ (G : Farm). record G { jobs = change_where test f G.jobs }) first
-    ∙ (λ i. record F { jobs = change_where test f F.jobs; boards = change_where (λ b. of_jobs F test b.holder i) g F.boards })
-
-pub reservations_changed : (F : Farm) (test : ResRow → Bool) (f : ResRow → ResRow) (g : BoardRow → BoardRow) (G H : Farm) → G ≡ record F { boards = change_where (λ b. is_res_in F.reservations test b.holder) g F.boards } → H ≡ record G { reservations = change_where test f G.reservations } → H ≡ change_res test f g F
-reservations_changed F test f g G H first then =
-    then ∙ ap (λ (G : Farm). record G { reservations = change_where test f G.reservations }) first
-    ∙ (λ i. record F { reservations = change_where test f F.reservations; boards = change_where (λ b. of_reservations F test b.holder i) g F.boards })
-
 -- a change that leaves the boards
 pub jobs_alone : (F G : Farm) (test : JobRow → Bool) (f : JobRow → JobRow) → G ≡ record F { jobs = change_where test f F.jobs } → G ≡ change_jobs test f (λ b. b) F
 jobs_alone F G test f is = is ∙ (λ i. record F { jobs = change_where test f F.jobs; boards = same_rows (λ (b : BoardRow). is_job_so F test b.holder) F.boards i })
 
 -- each small board stays small
 pub small_board : (e : Becomes) → IfAfterCheck e → (b : BoardRow) → IsSmallBoard b → IsSmallBoard (board_after e b)
-small_board Becomes.Idle now b s = record { held_by = omega arith; jobs_since = s.jobs_since; last_check = s.last_check }
-small_board (Becomes.State state) now b s = record { held_by = s.held_by; jobs_since = s.jobs_since; last_check = s.last_check }
-small_board (Becomes.AfterJob outcome) now b s = job_by (λ x. IsSmallBoard (freed_board x)) outcome b (λ h. record { held_by = omega arith; jobs_since = omega arith; last_check = s.last_check })
-small_board (Becomes.AfterCheck outcome t) now b s = check_by (λ x. IsSmallBoard (freed_board x)) outcome t b (λ h. record { held_by = omega arith; jobs_since = s.jobs_since; last_check = s.last_check }) (λ h. record { held_by = omega arith; jobs_since = omega arith; last_check = now })
+small_board Becomes.Idle now b s = record { held_by = omega arith; numbers = s.numbers }
+small_board (Becomes.State state) now b s = record { held_by = s.held_by; numbers = s.numbers }
+small_board (Becomes.AfterJob outcome) now b s = job_by (λ x. IsSmallBoard (freed_board x)) outcome b (λ h. record { held_by = omega arith; numbers = (omega arith, s.numbers.1) })
+small_board (Becomes.AfterCheck outcome t) now b s = check_by (λ x. IsSmallBoard (freed_board x)) outcome t b (λ h. record { held_by = omega arith; numbers = s.numbers }) (λ h. record { held_by = omega arith; numbers = (omega arith, (now, s.numbers.1.1)) })
 
 pub reservations_alone : (F G : Farm) (test : ResRow → Bool) (f : ResRow → ResRow) → G ≡ record F { reservations = change_where test f F.reservations } → G ≡ change_res test f (λ b. b) F
 reservations_alone F G test f is = is ∙ (λ i. record F { reservations = change_where test f F.reservations; boards = same_rows (λ (b : BoardRow). is_res_so F test b.holder) F.boards i })

@@ -1,5 +1,5 @@
 -- The queues once a claim was given its boards.
-use Rattle.std.proofs.Common.{◌≡◌, ◌∙◌, ◌==◌, ◌||◌, ◌-◌, ◌+◌, ◌++◌, ℕ, List, [], ◌∷◌, length, take, drop, map, Bool, true, false, cond, not, Option, Some, None, refl, sym, ap, arith}
+use Rattle.std.proofs.Common.{◌≡◌, ◌∙◌, ◌==◌, ◌||◌, ◌-◌, ◌+◌, ◌++◌, ℕ, List, [], ◌∷◌, length, take, drop, Bool, true, false, cond, not, Option, Some, None, refl, sym, ap, arith}
 use Rattle.std.specs.List.{filter, list_any}
 use Rattle.std.specs.Option.{option_map, option_map_or}
 use Rattle.std.proofs.Math.Seq.{drop-append_seam}
@@ -59,13 +59,6 @@ taken_more p q r is (x ∷ xs) =
 pub all_pass : {A : Type 0} (xs : List A) → xs ≡ filter (λ x. not false) xs
 all_pass [] = refl
 all_pass (x ∷ xs) = ap (λ rest. x ∷ rest) (all_pass xs)
-
--- the claims of reservations go by their numbers alone
-pub without_changed : (f : ResRow → ResRow) → ((r : ResRow) → (f r).number ≡ r.number) → (rows : List ResRow) (claims : List Queued) → without_all (map f rows) claims ≡ without_all rows claims
-without_changed f keeps [] claims = refl
-without_changed f keeps (r ∷ rows) claims =
-    without_changed f keeps rows (filter (λ (x : Queued). not (x.claim.number == (f r).number)) claims)
-    ∙ ap (λ n. without_all rows (filter (λ (x : Queued). not (x.claim.number == n)) claims)) (keeps r)
 
 -- all at once
 pub without_each : (rows : List ResRow) (claims : List Queued) → without_all rows claims ≡ filter (λ (x : Queued). not (list_any (λ (r : ResRow). r.number == x.claim.number) rows)) claims

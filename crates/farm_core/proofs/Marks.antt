@@ -22,12 +22,6 @@ use Rattle.farm_core.specs.declared.job_table.Mark.{Mark}
 
 -- ---- numbers of wants
 
-pub no_number : (f : ℕ → Want) (last : ℕ) (w : Want) → IsNumber f last w 0
-no_number f last w = (omega arith, λ some. absurd (some refl))
-
-pub unnumbered : (rows : List JobRow) (marks : List Mark) (last : ℕ) (w : Want) → IsNumbered rows marks last last w 0
-unnumbered rows marks last w f are = (f, are, no_number f last w)
-
 -- a number that was given stays
 abbrev with_one : (ℕ → Want) → ℕ → Want → ℕ → Want
 with_one f n w k = cond (k == n) w (f k)

@@ -1,6 +1,5 @@
 -- What a row that is put keeps of the whole farm.
-use Rattle.std.proofs.Common.{◌≡◌, List, [], ◌∷◌, ◌++◌, Result, Ok, Err, sym, ap, subst, ◌∙◌, Vec, Global}
-use Rattle.std.specs.Prelude.{OnOk}
+use Rattle.std.proofs.Common.{◌≡◌, List, [], ◌∷◌, ◌++◌, sym, ap, subst, ◌∙◌, Vec, Global}
 use Rattle.std.specs.BTreeSet.{BTreeSet}
 use Rattle.std.specs.List.{AllByRecursion}
 use Rattle.std.specs.List.Sorted.{IsStrictlySortedBy}
@@ -22,11 +21,6 @@ use Rattle.farm_core.specs.Drafted.{IsWhole}
 use Rattle.farm_core.proofs.Edited.{put_all_join}
 use Rattle.farm_core.proofs.Small.{all_put, all_push}
 
--- two facts of a call that succeeds give a third
-pub both_ok : {T E P Q S : Type 0} (r : Result T E) → (P → Q → S) → OnOk r P → OnOk r Q → OnOk r S
-both_ok (Ok x) f p q = f p q
-both_ok (Err e) f p q = tt
-
 -- a copy of the row was logged
 pub copy_logged : {R : Type 0} (log new_log : List R) (row copy : R) → new_log ≡ log ++ copy ∷ [] → copy ≡ row → new_log ≡ log ++ row ∷ []
 copy_logged log new_log row copy logged same = logged ∙ ap (λ r. log ++ r ∷ []) same
@@ -41,10 +35,6 @@ all_behind P log new_log row here all logged = subst (AllByRecursion P) (sym log
 
 all_in : {R : Type 0} (P : R → Type 0) (cmp : R → R → Ordering) (rows new : List R) (row : R) → P row → AllByRecursion P rows → new ≡ put cmp rows row → AllByRecursion P new
 all_in P cmp rows new row here all is = subst (AllByRecursion P) (sym is) (all_put P cmp row here rows all)
-
--- a type is put
-pub with_types : (F : Farm) (row : TypeRow) (types : List TypeRow) → types ≡ put type_cmp F.types row → record F { types = types } ≡ record F { types = put type_cmp F.types row }
-with_types F row types is = ap (λ rows. record F { types = rows }) is
 
 module _ (F : Farm) (row : TypeRow) (small : IsSmallType row) (types : List TypeRow) where
   pub orderly_type : IsOrderly F → types ≡ put type_cmp F.types row → IsStrictlySortedBy type_cmp types → IsOrderly (record F { types = types })
@@ -79,10 +69,6 @@ module _ (F : Farm) (row : TypeRow) (small : IsSmallType row) (types : List Type
 
   pub whole_type : {E : Farm} {c : Changes} {leases : BTreeSet Lease} (log : Vec TypeRow Global) → IsWhole E c F leases → log.items ≡ c.types.items ++ row ∷ [] → types ≡ put type_cmp F.types row → IsStrictlySortedBy type_cmp types → IsWhole E (record c { types = log }) (record F { types = types }) leases
   whole_type {E = E} {c = c} log whole logged is sorted = record { orderly = orderly_type whole.orderly is sorted; tracked = tracks_type log c logged is E whole.tracked; noted = whole.noted }
-
--- a board is put
-pub with_boards : (F : Farm) (row : BoardRow) (boards : List BoardRow) → boards ≡ put board_cmp F.boards row → record F { boards = boards } ≡ record F { boards = put board_cmp F.boards row }
-with_boards F row boards is = ap (λ rows. record F { boards = rows }) is
 
 module _ (F : Farm) (row : BoardRow) (small : IsSmallBoard row) (boards : List BoardRow) where
   pub orderly_board : IsOrderly F → boards ≡ put board_cmp F.boards row → IsStrictlySortedBy board_cmp boards → IsOrderly (record F { boards = boards })

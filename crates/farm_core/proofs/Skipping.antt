@@ -1,6 +1,6 @@
 -- Claims that want what was found unmet are passed over.
-use Rattle.std.proofs.Common.{◌≡◌, ◌∙◌, ◌==◌, ◌+◌, ◌<◌, ◌≤◌, ◌++◌, ℕ, zero, suc, List, [], ◌∷◌, add-one, append_assoc, map, length, take, slice_set, get_or, Bool, true, false, cond, not, Option, Some, None, IsSomeAnd, inl, inr, refl, sym, ap, subst, arith}
-use Rattle.std.specs.List.{AllByRecursion, filter}
+use Rattle.std.proofs.Common.{◌≡◌, ◌∙◌, ◌==◌, ◌+◌, ◌<◌, ◌++◌, ℕ, zero, suc, List, [], ◌∷◌, add-one, append_assoc, map, length, take, slice_set, get_or, Bool, true, false, cond, not, Option, Some, None, IsSomeAnd, inl, inr, refl, sym, ap, subst, arith}
+use Rattle.std.specs.List.{filter}
 use Rattle.std.specs.Option.{option_map_or, option_to_list}
 use Rattle.std.specs.Str.{bytes_eq}
 use Rattle.std.proofs.lemmas.List.{take_more}
@@ -75,12 +75,6 @@ pub same_members_more : (first second : List JobRow) (group other place : ℕ) �
 same_members_more first second group other place so same =
     ap (λ n. member_wants (take n first) group) (add-one place) ∙ members_more first group place ∙ (λ i. so i ++ option_to_list (same i)) ∙ sym (members_more second other place)
     ∙ sym (ap (λ n. member_wants (take n second) other) (add-one place))
-
-pub all_taken : {A : Type 0} (n : ℕ) (xs : List A) → length xs ≤ n → take n xs ≡ xs
-all_taken zero [] low = refl
-all_taken zero (x ∷ xs) low = absurd (omega arith)
-all_taken (suc n) [] low = refl
-all_taken (suc n) (x ∷ xs) low = ap (λ ys. x ∷ ys) (all_taken n xs (omega arith))
 
 -- ---- what a claim wants, by its rows
 
@@ -184,10 +178,6 @@ pub all_set : (F : Farm) (places : List (Option Known)) (i : ℕ) (k : Known) �
 all_set F [] i k all new = tt
 all_set F (p ∷ places) zero k all new = (new, all.1)
 all_set F (p ∷ places) (suc i) k all new = (all.0, all_set F places i k all.1 new)
-
-pub all_none : (F : Farm) (places : List (Option Known)) → AllByRecursion (λ o. o ≡ None) places → AreUnmet F places
-all_none F [] all = tt
-all_none F (p ∷ places) all = (subst (IfUnmet F) (sym all.0) tt, all_none F places all.1)
 
 -- ---- a claim that is tried
 

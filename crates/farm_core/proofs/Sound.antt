@@ -37,8 +37,7 @@ module _ (F : Farm) (sound : IsSound F) where
   small_board : (b : BoardRow) → IsBoardRow F b × IsHeldBy F b b.holder → IsSmallBoard b
   small_board b is = record {
     held_by = small_holder b b.holder is.1;
-    jobs_since = omega (arith, is.0.since);
-    last_check = omega (arith, is.0.checked, sound.steady.clock);
+    numbers = (omega (arith, is.0.since), (omega (arith, is.0.checked, sound.steady.clock), tt));
   }
 
   pub IsOrderly-sound : IsOrderly F

@@ -1,5 +1,5 @@
 -- What an edit of one table keeps of the whole farm.
-use Rattle.std.proofs.Common.{◌≡◌, ℕ, ◌++◌, List, map, Bool, ap, ◌∙◌, Vec, Global}
+use Rattle.std.proofs.Common.{◌≡◌, ℕ, ◌++◌, List, map, Bool, ap, subst, sym, ◌∙◌, Vec, Global}
 use Rattle.std.specs.List.{filter}
 use Rattle.std.specs.Cmp.{on_total, nat_cmp_total}
 use Rattle.std.specs.Cmp.Lexicographic.{nat_list_cmp_total}
@@ -19,8 +19,17 @@ use Rattle.farm_core.specs.declared.leases.Lease.{Lease}
 use Rattle.farm_core.specs.Leases.{AreNoted}
 use Rattle.farm_core.specs.Orderly.{IsOrderly, IsNear}
 use Rattle.farm_core.specs.Tracks.{Tracks}
-use Rattle.farm_core.specs.Drafted.{IsWhole}
+use Rattle.farm_core.specs.Drafted.{Drafted, IsWhole}
+use Rattle.farm_core.specs.Plain.{plain_farm}
+use Rattle.farm_core.specs.declared.tables.Tables.{Tables}
 use Rattle.farm_core.proofs.Edited.{all_changed, sorted_changed, puts_logged, small_logged}
+
+-- tables that are read out of their box are those of the draft, and in order
+pub seen : {T U : Tables} {start : Farm} {D : Drafted} → U ≡ T → record { start = start; farm = plain_farm T; queues = T.queues } ≡ D → record { start = start; farm = plain_farm U; queues = U.queues } ≡ D
+seen {start = start} is view = (λ i. record { start = start; farm = plain_farm (is i); queues = (is i).queues }) ∙ view
+
+pub ordered : {T U : Tables} → U ≡ T → IsOrderly (plain_farm T) → IsOrderly (plain_farm U)
+ordered is o = subst (λ (T : Tables). IsOrderly (plain_farm T)) (sym is) o
 
 -- jobs keep their number and group
 pub record KeepsJob (f : JobRow → JobRow) : Type 0 where

@@ -150,18 +150,3 @@ found_res (r ∷ rows) (suc i) number x sorted low is same =
         let below = ranked r.number x.number Less (sym less) in
         absurd (omega (arith, tie, below, same))
     by false at = refl
-
-res_out : (edit : ResEdit) (number : ℕ) (r : ResRow) → ((r : ResRow) → res_passes edit r ≡ (r.number == number)) → (r.number ≡ number → ⊥) → res_passes edit r ≡ false
-res_out edit number r one out = one r ∙ by (r.number == number) refl
-  where
-    by : (v : Bool) → (r.number == number) ≡ v → v ≡ false
-    by true is = absurd (out (same r.number number is))
-    by false is = refl
-
--- an edit of one reservation
-module _ (reservations : List ResRow) (edit : ResEdit) (number : ℕ) (one : (r : ResRow) → res_passes edit r ≡ (r.number == number)) where
-  pub res_before : (start : ℕ) → IsPlaceOf (λ (r : ResRow). r.number) reservations number start → (k : ℕ) (d : ResRow) → k < start → res_passes edit (get_or reservations k d) ≡ false
-  res_before start place k d low = res_out edit number (get_or reservations k d) one (λ is. let less = place.below k d low in absurd (omega arith))
-
-  pub res_behind : (end : ℕ) → IsPlaceOf (λ (r : ResRow). r.number) reservations (number + 1) end → (k : ℕ) (d : ResRow) → end ≤ k → k < length reservations → res_passes edit (get_or reservations k d) ≡ false
-  res_behind end place k d high low = res_out edit number (get_or reservations k d) one (λ is. let more = place.above k d high low in absurd (omega arith))

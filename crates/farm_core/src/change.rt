@@ -48,7 +48,7 @@ impl Tables {
         self.clock = self.clock.max(call.now);
         let none = Tables::new(*self.types.allocator());
         // A `?` on the way leaves no rows.
-        let draft = Draft::of(replace(self, none));
+        let draft = Draft::of(replace(self, none))?;
         let (draft, reply) = draft.act(call)?;
         let draft = draft.keep(call, reply)?;
         let (tables, mut changes) = draft.into_parts();

@@ -127,12 +127,13 @@ impl Draft {
         ensures { IfOk result (λ d. (b : BoardRow) → b ≡ get_or self.farm.boards at b
             → d ≡ at_farm (check_one self.farm b) self) }
     {
-        if !self.tables.has_room(1) {
+        let tables = &*self.tables;
+        if !tables.has_room(1) {
             return Ok(self);
         }
-        let number = self.tables.next;
-        let board = &self.tables.boards[at];
-        let row = check_job(*self.tables.boards.allocator(), number, board)?;
+        let number = tables.next;
+        let board = &tables.boards[at];
+        let row = check_job(*tables.boards.allocator(), number, board)?;
         let name = board.name.copy()?;
         let draft = self.put_job(row)?;
         let draft = draft.hold_board(&name, Holder::Job(number))?;
@@ -146,11 +147,12 @@ impl Draft {
         ensures count { IfOk result
             (λ r. r.1 ≡ (checks self.farm self.farm.clock).next - self.farm.next) }
     {
-        let first = self.tables.next;
-        let count = self.tables.boards.len();
+        let tables = &*self.tables;
+        let (first, count) = (tables.next, tables.boards.len());
         let mut draft = self;
         for at in 0..count {
-            if draft.tables.is_due(&draft.tables.boards[at]) {
+            let tables = &*draft.tables;
+            if tables.is_due(&tables.boards[at]) {
                 draft = draft.check_board(at)?;
             }
         }

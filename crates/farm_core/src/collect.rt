@@ -107,8 +107,9 @@ impl Draft {
           queues = record self.queues { boards = idle_boards (collect self.farm group) };
         }) }
     {
-        let near = self.tables.near(group);
-        let numbers = numbers_in(*self.tables.boards.allocator(), near, group)?;
+        let tables = &*self.tables;
+        let near = tables.near(group);
+        let numbers = numbers_in(*tables.boards.allocator(), near, group)?;
         let members = numbers.as_slice();
         let mut draft = self;
         for at in 0..members.len() {

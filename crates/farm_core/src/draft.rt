@@ -28,13 +28,14 @@ use std::mem::replace;
 
 /// The tables are in order, each lease that may end is noted, and the changed rows, put into the
 /// farm at the start, give the tables. A step takes the draft and gives it back: one that fails for
-/// want of memory leaves none.
+/// want of memory leaves none. Tables and changes lie in boxes, since they take some 550 bytes and a
+/// draft is moved a dozen times for each claim that is served.
 #[derive(Drop)]
 pub struct Draft {
     /// The farm at the start, which only proofs read.
     pub start: Start<Tables>,
-    pub tables: Tables,
-    pub changes: Changes,
+    pub tables: Box<Tables>,
+    pub changes: Box<Changes>,
 }
 
 impl Model for Draft {
@@ -45,32 +46,32 @@ impl Model for Draft {
 
     ghost view = { λ d. record {
       start = plain_farm d.start.value;
-      farm = plain_farm d.tables;
-      queues = d.tables.queues;
+      farm = plain_farm d.tables.value;
+      queues = d.tables.value.queues;
     } };
 
-    ghost invariant = { λ d. IsWhole (plain_farm d.start.value) d.changes (plain_farm d.tables)
-        d.tables.leases };
+    ghost invariant = { λ d. IsWhole (plain_farm d.start.value) d.changes.value
+        (plain_farm d.tables.value) d.tables.value.leases };
 }
 
 impl Draft {
-    /// A draft in which nothing has changed.
-    pub fn of(tables: Tables) -> Draft
+    /// A draft in which nothing has changed. It takes memory for two boxes, whatever the farm's size.
+    pub fn of(tables: Tables) -> Result<Draft, AllocError>
         requires orderly { IsOrderly (plain_farm tables) }
         requires noted { AreNoted tables.leases (plain_farm tables).reservations }
-        ensures { result ≡ record {
+        ensures { IfOk result (λ d. d ≡ record {
           start = plain_farm tables;
           farm = plain_farm tables;
           queues = tables.queues;
-        } }
+        }) }
     {
         let start = Start::note(&tables);
-        let changes = no_changes(*tables.types.allocator());
-        Draft {
+        let alloc = *tables.types.allocator();
+        Ok(Draft {
             start,
-            tables,
-            changes,
-        }
+            tables: Box::new(alloc, tables)?,
+            changes: Box::new(alloc, no_changes(alloc))?,
+        })
     }
 
     /// The tables, and the rows that have changed.
@@ -80,7 +81,7 @@ impl Draft {
         ensures queues { result.0.queues ≡ self.queues }
         ensures noted { AreNoted result.0.leases self.farm.reservations }
     {
-        (self.tables, self.changes)
+        (Box::into_inner(self.tables), Box::into_inner(self.changes))
     }
 
     /// The next job or reservation has that number.
@@ -141,10 +142,11 @@ impl Draft {
             (λ d. d ≡ at_farm (record self.farm { jobs = put job_cmp self.farm.jobs row }) self) }
     {
         self.changes.jobs.push(row.copy()?)?;
-        let none = JobTable::new(*self.tables.types.allocator());
-        let former = replace(&mut self.tables.jobs, none);
+        let tables = &mut *self.tables;
+        let none = JobTable::new(*tables.types.allocator());
+        let former = replace(&mut tables.jobs, none);
         let jobs = former.put(row)?;
-        self.tables.jobs = jobs;
+        tables.jobs = jobs;
         Ok(self)
     }
 
@@ -154,8 +156,9 @@ impl Draft {
         ensures { IfOk result (λ d. d ≡ at_farm (put_res self.farm row) self) }
     {
         self.changes.reservations.push(row.copy()?)?;
-        note_lease(&mut self.tables.leases, &row)?;
-        upsert(&mut self.tables.reservations, row)?;
+        let tables = &mut *self.tables;
+        note_lease(&mut tables.leases, &row)?;
+        upsert(&mut tables.reservations, row)?;
         Ok(self)
     }
 

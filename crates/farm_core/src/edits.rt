@@ -71,16 +71,14 @@ impl Draft {
                   (job_changed edit.entry) self.farm.jobs;
             }) self) }
     {
-        let rows = self.tables.jobs.rows();
+        let tables = &mut *self.tables;
+        let rows = tables.jobs.rows();
         let start = place_of(rows, edit.first());
-        let end = self
-            .tables
-            .jobs
-            .place_near(start, edit.first() + GROUP_REACH);
-        let none = JobTable::new(*self.tables.types.allocator());
-        let former = replace(&mut self.tables.jobs, none);
+        let end = tables.jobs.place_near(start, edit.first() + GROUP_REACH);
+        let none = JobTable::new(*tables.types.allocator());
+        let former = replace(&mut tables.jobs, none);
         let jobs = former.change(&mut self.changes.jobs, start, end, edit)?;
-        self.tables.jobs = jobs;
+        tables.jobs = jobs;
         Ok(self)
     }
 
@@ -99,19 +97,14 @@ impl Draft {
                   (board_after becomes) self.farm.boards;
             }) self) }
     {
-        let end = self.tables.boards.len();
+        let tables = &mut *self.tables;
+        let end = tables.boards.len();
         let held = OfJobs {
-            jobs: self.tables.jobs.rows(),
+            jobs: tables.jobs.rows(),
             edit,
             becomes,
         };
-        change_rows(
-            &mut self.tables.boards,
-            &mut self.changes.boards,
-            0,
-            end,
-            &held,
-        )?;
+        change_rows(&mut tables.boards, &mut self.changes.boards, 0, end, &held)?;
         Ok(self)
     }
 
@@ -147,19 +140,14 @@ impl Draft {
                   (res_passes edit.entry) b.holder) (board_after becomes) self.farm.boards;
             }) self) }
     {
-        let end = self.tables.boards.len();
+        let tables = &mut *self.tables;
+        let end = tables.boards.len();
         let held = OfReservations {
-            reservations: &self.tables.reservations,
+            reservations: &tables.reservations,
             edit,
             becomes,
         };
-        change_rows(
-            &mut self.tables.boards,
-            &mut self.changes.boards,
-            0,
-            end,
-            &held,
-        )?;
+        change_rows(&mut tables.boards, &mut self.changes.boards, 0, end, &held)?;
         Ok(self)
     }
 
@@ -176,18 +164,20 @@ impl Draft {
                   (res_changed edit.entry) self.farm.reservations;
             }) self) }
     {
-        let start = res_place_of(&self.tables.reservations, number);
-        let end = res_place_of(&self.tables.reservations, number + 1);
-        let before = self.changes.reservations.len();
+        let tables = &mut *self.tables;
+        let changes = &mut *self.changes;
+        let start = res_place_of(&tables.reservations, number);
+        let end = res_place_of(&tables.reservations, number + 1);
+        let before = changes.reservations.len();
         change_rows(
-            &mut self.tables.reservations,
-            &mut self.changes.reservations,
+            &mut tables.reservations,
+            &mut changes.reservations,
             start,
             end,
             &edit,
         )?;
-        let changed = &self.changes.reservations[before..];
-        note_leases(&mut self.tables.leases, changed)?;
+        let changed = &changes.reservations[before..];
+        note_leases(&mut tables.leases, changed)?;
         Ok(self)
     }
 

@@ -30,11 +30,8 @@ impl Draft {
             (AllByRecursion (λ r. is_dead self.old.farm.clock r ≡ false)
             self.old.farm.reservations) }
     {
-        leases::first_dead(
-            &mut self.tables.leases,
-            &self.tables.reservations,
-            self.tables.clock,
-        )
+        let tables = &mut *self.tables;
+        leases::first_dead(&mut tables.leases, &tables.reservations, tables.clock)
     }
 
     /// The reservation of a number is expired, and its claim waits no more.

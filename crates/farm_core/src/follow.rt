@@ -63,11 +63,8 @@ impl Draft {
           queues = record self.queues { boards = idle_boards self.farm };
         }) }
     {
-        note_boards(
-            &mut self.tables.queues,
-            &self.tables.types,
-            &self.changes.boards,
-        )?;
+        let tables = &mut *self.tables;
+        note_boards(&mut tables.queues, &tables.types, &self.changes.boards)?;
         Ok(self)
     }
 
@@ -80,8 +77,9 @@ impl Draft {
           };
         } }
     {
-        self.tables.queues.take_claim(number);
-        take_boards(&mut self.tables.queues, names);
+        let tables = &mut *self.tables;
+        tables.queues.take_claim(number);
+        take_boards(&mut tables.queues, names);
         self
     }
 }

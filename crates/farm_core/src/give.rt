@@ -51,10 +51,11 @@ impl Draft {
                   (held_board holder State.Reserved) self.farm.boards;
             }) self) }
     {
-        let (start, end) = window_of(&self.tables.boards, name);
+        let tables = &mut *self.tables;
+        let (start, end) = window_of(&tables.boards, name);
         let hold = Hold { name, holder };
         change_rows(
-            &mut self.tables.boards,
+            &mut tables.boards,
             &mut self.changes.boards,
             start,
             end,

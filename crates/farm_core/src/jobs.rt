@@ -198,14 +198,12 @@ impl Draft {
         requires { IsSmall self.farm.clock }
         ensures { IfOk result (λ r. Acts self [] (Cmd.Finish number named) r.1 r.0) }
     {
-        let (outcome, becomes) = match self.tables.find_job(number) {
+        let tables = &*self.tables;
+        let (outcome, becomes) = match tables.find_job(number) {
             None => return Ok((self, 0)),
             Some(job) => {
                 let outcome = outcome_of(job, named);
-                (
-                    outcome,
-                    Becomes::after(job.checking, outcome, self.tables.clock),
-                )
+                (outcome, Becomes::after(job.checking, outcome, tables.clock))
             }
         };
         let draft = self.edit_jobs_and_boards(JobEdit::Finish(number, outcome), becomes)?;

@@ -60,7 +60,8 @@ impl Draft {
         requires fresh { IsFresh self.farm.next self.queues.claims }
         ensures { IfOk result (λ r. Acts self owner.now (Cmd.Reserve priority tags.now) r.1 r.0) }
     {
-        let number = self.tables.next;
+        let tables = &*self.tables;
+        let number = tables.next;
         let row = ResRow {
             number,
             owner: owner.copy()?,
@@ -70,7 +71,7 @@ impl Draft {
                 tags: tags.copy()?,
             },
             state: ResState::Waiting,
-            deadline: self.tables.clock + LEASE,
+            deadline: tables.clock + LEASE,
             board: None,
         };
         let claim = Claim {

@@ -167,11 +167,12 @@ impl Draft {
         ensures { IfOk result (λ r. (c : Claimed) → c.reservation ≡ false → c.number ≡ group
             → Asks false self.farm c → Tries self c r.1 r.0) }
     {
-        let near = self.tables.near(group);
-        match self.tables.pick_for_group(near, group)? {
+        let tables = &*self.tables;
+        let near = tables.near(group);
+        match tables.pick_for_group(near, group)? {
             None => Ok((self, false)),
             Some(names) => {
-                let numbers = numbers_in(*self.tables.boards.allocator(), near, group)?;
+                let numbers = numbers_in(*tables.boards.allocator(), near, group)?;
                 let draft = self.give_jobs(&numbers, &names)?;
                 Ok((draft.take_given(group, &names), true))
             }
@@ -186,7 +187,8 @@ impl Draft {
         ensures { IfOk result (λ r. (c : Claimed) → c.reservation ≡ true → c.number ≡ number
             → Asks true self.farm c → Tries self c r.1 r.0) }
     {
-        match self.tables.pick_for_reservation(number)? {
+        let tables = &*self.tables;
+        match tables.pick_for_reservation(number)? {
             None => Ok((self, false)),
             Some(names) => {
                 let draft = self.give_first(number, &names)?;

@@ -14,10 +14,9 @@ use Rattle.farm_keep.specs.declared.fault.KeepFault.{KeepFault}
 use Rattle.farm_wire.specs.Reading.{Denial, refused, other_methods}
 use Rattle.farm_wire.specs.Replies.{reply_bytes}
 use Rattle.farm_wire.specs.declared.ask.Ask.{Ask}
-use Rattle.farm_wire.specs.declared.ask.View.{View}
 use Rattle.farm_wire.specs.declared.answers.Out.{Out}
 use Rattle.farm_wire.specs.declared.fault.AskFault.{AskFault}
-use Rattle.farm_desk.specs.Answers.{IsView, Says, out_of_denial, refusal, out_of_answer}
+use Rattle.farm_desk.specs.Answers.{Says, out_of_denial, refusal, out_of_answer}
 use Rattle.farm_desk.specs.Response.{Closes, IsResponse, IsResponseTo, RunsOut}
 use Rattle.farm_desk.specs.Heard.{HearsNothing}
 use Rattle.farm_desk.specs.Made.{IsMadeOf, IsMadeOfNothing, IsMadeOfOne}
@@ -39,13 +38,6 @@ made_of_one P out bytes (Err fault) is made = made
 -- there was no memory for any of them
 pub short_of_all : (P : Out → Type 0) (bytes : List ℕ) (end : Result ℕ DeskFault) → bytes ≡ reply_bytes (refusal no_memory) → end ≡ Err DeskFault.NoMemory → IsMadeOfOne P bytes end
 short_of_all P bytes end says ends = subst (IsMadeOfOne P bytes) (sym ends) (record { fault_is = refl; bytes_are = says })
-
--- a view that was shown, or for which there was no memory
-pub view_is_response : {S : Type 0} (g : Ghosts S) (k : Kept S) (view : View) (bytes : List ℕ) (end : Result ℕ DeskFault)
-    → k.is_open ≡ true → IsMadeOfOne (IsView view k.farm.farm) bytes end → IsResponseTo g k k (Ok (Ask.View view)) bytes end
-view_is_response g k view bytes (Ok status) opened made = record { was_open = opened; out = made.0; shows = made.1; says = made.2; rests = refl }
-view_is_response g k view bytes (Err fault) opened made =
-    response_when_short g k k (Ok (Ask.View view)) bytes fault made.fault_is (record { says = made.bytes_are; was_open = opened; stays_open = refl; farm = refl })
 
 -- a denial that was made, or for which there was no memory
 pub denial_is_response : {S : Type 0} (g : Ghosts S) (k : Kept S) (why : Denial) (bytes : List ℕ) (end : Result ℕ DeskFault)

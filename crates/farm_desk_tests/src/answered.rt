@@ -7,7 +7,7 @@ use farm_tests::sent::{FIRST_TYPE, request};
 use farm_tests::stores::made;
 use farm_wire::{CountedReader, CountedWriter};
 use sqlite::{Alter, Connection};
-use std::alloc::Global;
+use std::alloc::{AllocError, Global};
 use std::io::{Read, Write};
 use std::process::Abort;
 use std::test::Fail;
@@ -99,7 +99,16 @@ fn expect_unread<R: Read, S: Alter>(
     (calls, failed)
 }
 
-/// A reader that fails at each byte in turn, and one that is interrupted for ever.
+/// A reader that fails behind so many bytes once, and one that does for good.
+fn expect_failing<S: Alter>(rt: &impl Abort, alloc: Global, keeper: &mut Keeper<S>, left: usize) {
+    for fails in [1, u32::MAX] {
+        let mut input = Slow::failing(FIRST_TYPE, left, fails);
+        let (_, failed) = expect_unread(rt, alloc, keeper, &mut input);
+        assert!(rt; failed, "at {left}");
+    }
+}
+
+/// Readers that fail at each byte in turn, and one that is interrupted for ever.
 fn readers_that_fail<S: Alter + Drop>(
     rt: &impl Abort,
     alloc: Global,
@@ -107,16 +116,7 @@ fn readers_that_fail<S: Alter + Drop>(
 ) -> Result<(), Fail> {
     let mut keeper = made(alloc, conn).ok_or("no farm")?;
     for left in 0..FIRST_TYPE.len() {
-        let mut once = Slow::failing(FIRST_TYPE, left, 1);
-        assert!(rt;
-            expect_unread(rt, alloc, &mut keeper, &mut once).1,
-            "at {left}"
-        );
-        let mut for_good = Slow::failing(FIRST_TYPE, left, u32::MAX);
-        assert!(rt;
-            expect_unread(rt, alloc, &mut keeper, &mut for_good).1,
-            "at {left}"
-        );
+        expect_failing(rt, alloc, &mut keeper, left);
     }
     let end = expect_unread(rt, alloc, &mut keeper, &mut Interrupted);
     assert_eq!(rt; end, (80_000, false));
@@ -156,16 +156,22 @@ const LARGEST: &[u8] = b"POST /pass HTTP/1.1\r\nx-user: admin\r\ncontent-length:
 const PASSED: &[u8] =
     b"HTTP/1.1 200 OK\r\ncontent-type: application/json\r\ncontent-length: 35\r\nconnection: close\r\n\r\n{\"checks\":0,\"expired\":0,\"served\":0}";
 
+/// A pass with the largest body.
+fn largest_request(alloc: Global) -> Result<Vec<u8>, AllocError> {
+    let mut request = LARGEST.to_vec(alloc)?;
+    request.extend_from_slice(vec![in alloc; b'z'; 65_536]?.as_slice())?;
+    Ok(request)
+}
+
 /// The largest body, of which each call gives one byte.
 fn largest_body<S: Alter + Drop>(
     rt: &impl Abort,
     alloc: Global,
     conn: Connection<S>,
+    request: &[u8],
 ) -> Result<(), Fail> {
     let mut keeper = made(alloc, conn).ok_or("no farm")?;
-    let mut request = LARGEST.to_vec(alloc)?;
-    request.extend_from_slice(vec![in alloc; b'z'; 65_536]?.as_slice())?;
-    let mut input = Slow::whole(request.as_slice(), 0);
+    let mut input = Slow::whole(request, 0);
     let (answer, end) = heard(rt, alloc, &mut keeper, &mut input);
     assert_eq!(rt; end, (200, 65_597, false));
     assert!(rt; answer.as_slice() == PASSED);
@@ -176,7 +182,13 @@ fn largest_body<S: Alter + Drop>(
 #[test]
 fn largest_body_byte_by_byte(rt: HostRuntime) -> Result<(), Fail> {
     let alloc = rt.alloc();
-    largest_body(&rt, alloc, Connection::open_in_memory(alloc)?)
+    let request = largest_request(alloc)?;
+    largest_body(
+        &rt,
+        alloc,
+        Connection::open_in_memory(alloc)?,
+        request.as_slice(),
+    )
 }
 
 /// Hears the next request, and demands that answer and status 200.
@@ -242,21 +254,31 @@ const KEYED_JOB: &[u8] =
 
 /// A writer that is interrupted after so many bytes, once or for good: these are the answer's
 /// first, the command is done, and its repetition is answered by the kept reply.
+fn expect_lost<S: Alter>(
+    rt: &impl Abort,
+    alloc: Global,
+    keeper: &mut Keeper<S>,
+    (room, stops): (usize, u32),
+) -> Result<(), Fail> {
+    prepare(rt, alloc, keeper)?;
+    let (answer, end) = heard_in_part(rt, alloc, keeper, &mut &KEYED_JOB[..], (room, stops));
+    assert_eq!(rt; end.0, 81);
+    assert!(rt; answer.len() == room && FIRST_NUMBER.starts_with(answer.as_slice()));
+    assert_eq!(rt; counts(keeper), Some((4, 1)));
+    expect(rt, alloc, keeper, &mut &KEYED_JOB[..], FIRST_NUMBER);
+    assert_eq!(rt; counts(keeper), Some((4, 1)));
+    Ok(())
+}
+
+/// The same of an empty farm.
 fn lost_after<S: Alter + Drop>(
     rt: &impl Abort,
     alloc: Global,
     conn: Connection<S>,
-    (room, stops): (usize, u32),
+    stop: (usize, u32),
 ) -> Result<(), Fail> {
     let mut keeper = made(alloc, conn).ok_or("no farm")?;
-    prepare(rt, alloc, &mut keeper)?;
-    let (answer, end) = heard_in_part(rt, alloc, &mut keeper, &mut &KEYED_JOB[..], (room, stops));
-    assert_eq!(rt; end.0, 81);
-    assert!(rt; answer.len() == room && FIRST_NUMBER.starts_with(answer.as_slice()));
-    assert_eq!(rt; counts(&keeper), Some((4, 1)));
-    expect(rt, alloc, &mut keeper, &mut &KEYED_JOB[..], FIRST_NUMBER);
-    assert_eq!(rt; counts(&keeper), Some((4, 1)));
-    Ok(())
+    expect_lost(rt, alloc, &mut keeper, stop)
 }
 
 #[test]

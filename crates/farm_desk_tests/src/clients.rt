@@ -98,6 +98,18 @@ const STATUS: &[u8] =
     b"HTTP/1.1 200 OK\r\ncontent-type: application/json\r\ncontent-length: 100\r\nconnection: close\r\n\r\n{\"boards\":0,\"clock\":1700000000,\"collector\":0,\"count\":1,\"jobs\":0,\"next\":1,\"reservations\":0,\"types\":1}";
 
 /// Serves so many clients by that clock; how many commands were accepted.
+fn count_served<S: Alter>(
+    alloc: Global,
+    keeper: &mut Keeper<S>,
+    listener: &TcpListener,
+    max: u64,
+    clock: &Hands,
+) -> Result<Option<u64>, Fail> {
+    serve(alloc, keeper, listener, max, clock)?;
+    Ok(count(keeper))
+}
+
+/// The same by a keeper of an empty farm.
 fn serve_on_new<S: Alter + Drop>(
     alloc: Global,
     conn: Connection<S>,
@@ -106,8 +118,7 @@ fn serve_on_new<S: Alter + Drop>(
     clock: &Hands,
 ) -> Result<Option<u64>, Fail> {
     let mut keeper = made(alloc, conn).ok_or("no farm")?;
-    serve(alloc, &mut keeper, listener, max, clock)?;
-    Ok(count(&keeper))
+    count_served(alloc, &mut keeper, listener, max, clock)
 }
 
 /// Two clients that wait: one adds a type, the other looks at the farm.
@@ -139,8 +150,22 @@ fn two_clients(rt: HostRuntime) -> Result<(), Fail> {
 const EXISTS: &[u8] =
     b"HTTP/1.1 409 Conflict\r\ncontent-type: application/json\r\ncontent-length: 32\r\nconnection: close\r\n\r\n{\"code\":11,\"text\":\"type exists\"}";
 
-/// Serves by one keeper in turns: so many connections by that clock, and then so many commands were
-/// accepted.
+/// Serves in turns: so many connections by that clock, and then so many commands were accepted.
+fn serve_each<S: Alter>(
+    rt: &impl Abort,
+    alloc: Global,
+    keeper: &mut Keeper<S>,
+    listener: &TcpListener,
+    turns: &[(u64, Hands, u64)],
+) -> Result<(), Fail> {
+    for (max, clock, wanted) in turns {
+        let found = count_served(alloc, keeper, listener, *max, clock)?;
+        assert_eq!(rt; found, Some(*wanted));
+    }
+    Ok(())
+}
+
+/// The same by one keeper of an empty farm.
 fn serve_in_turns<S: Alter + Drop>(
     rt: &impl Abort,
     alloc: Global,
@@ -149,11 +174,7 @@ fn serve_in_turns<S: Alter + Drop>(
     turns: &[(u64, Hands, u64)],
 ) -> Result<(), Fail> {
     let mut keeper = made(alloc, conn).ok_or("no farm")?;
-    for (max, clock, wanted) in turns {
-        serve(alloc, &mut keeper, listener, *max, clock)?;
-        assert_eq!(rt; count(&keeper), Some(*wanted));
-    }
-    Ok(())
+    serve_each(rt, alloc, &mut keeper, listener, turns)
 }
 
 /// None, then one, then one more.

@@ -72,35 +72,49 @@ fn serve_some<S: Alter>(
     serve(alloc, keeper, clients, max)
 }
 
-/// A head is refused at its first line, and what follows that stays unread. Four are served, then
-/// the last, and then nobody is left.
+/// What the first four clients were answered: a head is refused at its first line, and what follows
+/// that stays unread.
+const FOUR: [(&[u8], &[u8]); 4] = [
+    (DONE, b""),
+    (EXISTS, b"and more"),
+    (BAD, b"\r\n"),
+    (STATUS, b""),
+];
+
+/// And all five.
+const ALL: [(&[u8], &[u8]); 5] = [
+    (DONE, b""),
+    (EXISTS, b"and more"),
+    (BAD, b"\r\n"),
+    (STATUS, b""),
+    (EXISTS, b""),
+];
+
+/// Four are served, then the last, and then nobody is left.
+fn serve_known<S: Alter>(
+    rt: &impl Abort,
+    alloc: Global,
+    keeper: &mut Keeper<S>,
+    clients: &mut KnownClients<'_>,
+) -> Result<(), Fail> {
+    serve_some(alloc, keeper, clients, 4)?;
+    expect_gone(rt, clients, &FOUR);
+    assert_eq!(rt; count_and_clock(keeper), Some((1, 1_700_000_000)));
+    serve_some(alloc, keeper, clients, 9)?;
+    expect_gone(rt, clients, &ALL);
+    Ok(())
+}
+
+/// The same by a keeper of an empty farm.
 fn serve_all<S: Alter + Drop>(
     rt: &impl Abort,
     alloc: Global,
     conn: Connection<S>,
 ) -> Result<(), Fail> {
-    let mut keeper = made(alloc, conn).ok_or("no farm")?;
     let all = five();
+    let mut keeper = made(alloc, conn).ok_or("no farm")?;
     let mut clients = KnownClients::new(alloc, &all)?;
-    serve_some(alloc, &mut keeper, &mut clients, 4)?;
-    let four: [(&[u8], &[u8]); 4] = [
-        (DONE, b""),
-        (EXISTS, b"and more"),
-        (BAD, b"\r\n"),
-        (STATUS, b""),
-    ];
-    expect_gone(rt, &clients, &four);
-    assert_eq!(rt; count_and_clock(&keeper), Some((1, 1_700_000_000)));
-    serve_some(alloc, &mut keeper, &mut clients, 9)?;
-    let all_five: [(&[u8], &[u8]); 5] = [
-        (DONE, b""),
-        (EXISTS, b"and more"),
-        (BAD, b"\r\n"),
-        (STATUS, b""),
-        (EXISTS, b""),
-    ];
-    expect_gone(rt, &clients, &all_five);
-    Ok(())
+    serve_known(rt, alloc, &mut keeper, &mut clients)
 }
 
 #[test]

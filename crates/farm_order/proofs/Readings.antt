@@ -1,38 +1,14 @@
 -- What the readers of matches give, as the definitions say it.
-use Rattle.std.proofs.Common.{ℕ, Bool, true, false, cond, List, Option, Some, None, Result, Ok, Err, codes, option_map, option_and_then, unwrap_or, Box, ◌≡◌, ◌∙◌, ap, refl, sym, arith}
+use Rattle.std.proofs.Common.{ℕ, Bool, true, false, cond, List, Option, Some, None, Result, Ok, Err, codes, option_and_then, unwrap_or, ◌≡◌, ◌∙◌, ap, refl, sym, arith}
 use Rattle.std.specs.Option.{option_map_or}
 use Rattle.std.specs.Str.{bytes_eq}
 use Rattle.std.specs.Str.Parse.{ParsesBool, ParsesUnsigned, digits_value, without_leading_plus}
-use Rattle.std.specs.Box.{box_value}
 use Rattle.std.proofs.lemmas.Slice.Eq.{bytes_eq-Decides}
-use Rattle.clap.specs.Matches.{ReadsOne, subcommand_name_of}
-use Rattle.clap.specs.Simple.{subcommand_rows, subcommand_rows_of}
+use Rattle.clap.specs.Matches.{ReadsOne}
 use Rattle.clap.specs.ValueTests.{is_unsigned_in}
 use Rattle.clap.specs.declared.builder.value_parser.ValueParser.TheVariants.{Unsigned}
-use Rattle.clap.specs.declared.parser.matches.ArgMatches.{ArgMatches}
-use Rattle.clap.specs.declared.parser.matches.ArgMatches.TheViews.{out-ArgMatches, out-SubCommand}
-use Rattle.clap.specs.declared.parser.matches.SubCommand.{SubCommand}
 use Rattle.clap.proofs.ValueTestLemmas.{accepts-Accepts, Accepts-accepts}
 use Rattle.farm_order.specs.Orders.{u64_in}
-
--- both halves of a pair, where there is one
-pub paired : {A B C : Type 0} (f : A → B) (g : A → C) (r : Option A) (s : Option (B × C)) → option_map f r ≡ option_map (λ p. p.0) s
-    → option_map g r ≡ option_map (λ p. p.1) s → s ≡ option_map (λ x. (f x, g x)) r
-paired f g None None first second = refl
-paired f g None (Some p) first second = cc
-paired f g (Some x) None first second = cc
-paired f g (Some x) (Some p) first second =
-    let same_first : p.0 ≡ f x = sym (ap (λ o. unwrap_or o p.0) first) in
-    let same_second : p.1 ≡ g x = sym (ap (λ o. unwrap_or o p.1) second) in
-    rw (← same_first, ← same_second) refl
-
--- the name of the subcommand stands before its rows
-pub name_first : (m : ArgMatches) → subcommand_name_of m ≡ option_map (λ p. p.0) (subcommand_rows_of m)
-name_first m = go (out-ArgMatches m).subcommand
-  where
-    go : {Z : Type 0} (o : Option (Box SubCommand Z)) → option_map (λ b. (out-SubCommand (box_value b)).name.now) o ≡ option_map (λ p. p.0) (subcommand_rows o)
-    go None = refl
-    go (Some b) = refl
 
 -- a text that is read as a `u64`
 u64_read : {E : Type 0} (G : List ℕ → Result ℕ E → Type 0) (t : List ℕ) (r : Option ℕ) → ((x : Result ℕ E) → G t x → ParsesUnsigned 64 10 t x)

@@ -60,11 +60,6 @@ module _ (kinds : List (List ℕ)) (es : List (Spot × Claim)) (rows : List Idle
       let one : length kinds + 1 - queue ≡ suc (length kinds + 1 - (queue + 1)) = omega arith in
       ap (λ n. filter_map head_at (range_with_len queue n)) one
 
-  pub heads_end : (queue : ℕ) → length kinds < queue → heads_from kinds es rows all last queue ≡ []
-  heads_end queue high =
-      let none : length kinds + 1 - queue ≡ 0 = omega arith in
-      ap (λ n. filter_map head_at (range_with_len queue n)) none
-
 -- ---- and by their types
 
 filter_map_map : {A B C : Type 0} (f : B → Option C) (g : A → B) (xs : List A) → filter_map (λ x. f (g x)) xs ≡ filter_map f (map g xs)

@@ -21,7 +21,7 @@ use Rattle.farm_pick.specs.Heads.{AreHeads, IsFirst, is_later, queue_open, rank_
 use Rattle.farm_pick.specs.Kept.{IsKeyed, claim_at, queued_cmp, shown_claims, shown_entry, shown_idle, spot_cmp}
 use Rattle.farm_pick.specs.Queued.{Queued, is_open}
 use Rattle.farm_pick.specs.declared.idle.IdleRow.{IdleRow}
-use Rattle.farm_pick.specs.Walked.{AreCursors, IsAt, IsCursor, IsLeastOf, IsWalk, StandsIn, StepsTo, entries_behind, earlier_place, walk_from, claims_after}
+use Rattle.farm_pick.specs.Walked.{AreCursors, IsAt, IsCursor, IsLeastOf, IsWalk, StandsIn, StepsTo, entries_behind, earlier_place, walk_from}
 use Rattle.farm_pick.specs.declared.spot.Spot.{Spot}
 use Rattle.farm_pick.specs.declared.walk.Cursor.{Cursor}
 use Rattle.farm_pick.proofs.First.{IsRanked, below, found_entry, rank_total, ranked_at, same_queue, shown_rank}
@@ -280,11 +280,6 @@ least_more cursors n (Some x) (Some f) is least = by (is_lt (shown_cmp x.claim.n
     )
     by false above = (least.0, (let low = least.1 in omega arith), least.2, least.3, λ i y low at. here_or f.1 above least.4 i y at (below n i low))
 
--- at the end
-pub least_all : (cursors : List (Option Cursor)) (place : ℕ) (claim : Claim) → LeastBelow cursors (length cursors) (Some (place, claim)) → IsLeastOf cursors (Some place)
-least_all cursors place claim least =
-    (least.0, least.1, least.2, λ i y low at. ap (λ d. is_lt (shown_cmp y.claim.now d)) least.3 ∙ least.4 i y low at)
-
 module _ (kinds : List (List ℕ)) (es : List (Spot × Claim)) (keyed : AllByRecursion (IsKeyed kinds) es) (test : ℕ → Bool) (last : Spot) (n : ℕ)
     (cursors : List (Option Cursor)) (are : AreCursors es test last n cursors) where
   pub first_none : ((i : ℕ) → i < length cursors → get_or cursors i None ≡ None) → IsFirst es test n last None
@@ -408,38 +403,6 @@ rank_up : (last : Spot) (x y : Queued) → is_later last x.claim ≡ true → qu
 rank_up last x y is less =
     ap is_lt (rank_total.trans last (record { queue = 0; priority = x.claim.priority; number = x.claim.number }) (record { queue = 0; priority = y.claim.priority; number = y.claim.number })
     (less_of (rank_of_claim last x.claim) is) less)
-
--- behind a claim there are those that are after it
-pub walked_on : (opens : Option (List ℕ) → Bool) (last : Spot) (xs : List Queued) → IsStrictlySortedBy queued_cmp xs → (c : Claim) (cs : List Claim) → claims_after opens last xs ≡ c ∷ cs
-    → (l : Spot) → l.priority ≡ c.priority → l.number ≡ c.number
-    → (option_map (λ (x : Queued). x.claim) (find (λ x. is_later last x.claim && opens x.kind) xs) ≡ Some c) × (cs ≡ claims_after opens l xs)
-walked_on opens last xs sorted c cs is l priority number = by (filter (λ x. is_later last x.claim && opens x.kind) xs) refl is
-  where
-    by : (ys : List Queued) → filter (λ x. is_later last x.claim && opens x.kind) xs ≡ ys → map (λ (x : Queued). x.claim) ys ≡ c ∷ cs
-        → (option_map (λ (x : Queued). x.claim) (find (λ x. is_later last x.claim && opens x.kind) xs) ≡ Some c) × (cs ≡ claims_after opens l xs)
-    by [] at is = cc
-    by (x ∷ ys) at is =
-        let same : x.claim ≡ c = cc in
-        let rest : map (λ (x : Queued). x.claim) ys ≡ cs = cc in
-        let low : x.claim.priority ≡ l.priority = ap (λ (d : Claim). d.priority) same ∙ sym priority in
-        let num : x.claim.number ≡ l.number = ap (λ (d : Claim). d.number) same ∙ sym number in (
-          ap (option_map (λ (x : Queued). x.claim)) (found_of_filter (λ x. is_later last x.claim && opens x.kind) xs x ys at) ∙ ap Some same,
-          sym rest
-              ∙ ap (map (λ (y : Queued). y.claim))
-              (sieve_on queued_cmp queued_total (λ y. is_later last y.claim) (λ y. opens y.kind) (λ y z so less. rank_up last y z so less) x ys xs sorted at)
-              ∙ (λ i. map (λ (y : Queued). y.claim)
-              (filter (λ y. is_lt (ordering_then (nat_cmp y.claim.priority (low i)) (nat_cmp (num i) y.claim.number)) && opens y.kind) xs)),
-        )
-
--- and where none is left none is found
-pub walked_none : (opens : Option (List ℕ) → Bool) (last : Spot) (xs : List Queued) → claims_after opens last xs ≡ []
-    → option_map (λ (x : Queued). x.claim) (find (λ x. is_later last x.claim && opens x.kind) xs) ≡ None
-walked_none opens last xs is = by (filter (λ x. is_later last x.claim && opens x.kind) xs) refl is
-  where
-    by : (ys : List Queued) → filter (λ x. is_later last x.claim && opens x.kind) xs ≡ ys → map (λ (x : Queued). x.claim) ys ≡ []
-        → option_map (λ (x : Queued). x.claim) (find (λ x. is_later last x.claim && opens x.kind) xs) ≡ None
-    by [] at is = ap (option_map (λ (x : Queued). x.claim)) (none_of_filter (λ x. is_later last x.claim && opens x.kind) xs at)
-    by (x ∷ ys) at is = cc
 
 module _ (kinds : List (List ℕ)) (es : List (Spot × Claim)) (rows : List IdleRow) (are : AreHeads kinds es rows) (all : Bool) (last : Spot) where
   abbrev opens : Option (List ℕ) → Bool

@@ -76,7 +76,8 @@ fn fitting_place(
 /// The first places of free boards for the want: all of them, or as many as the limit. The free
 /// boards and the rows of all boards are walked side by side, in name order: each free board of the
 /// want's type costs a test, and a comparison for each board since the last one; where these are
-/// more than a few, a binary search.
+/// more than a few, a binary search. The boards are walked from where the first free one stands if
+/// none that is held stands behind one that is free: served claims take the first boards that fit.
 fn shortlist(
     kinds: &[Name],
     rows: &[IdleRow],
@@ -94,7 +95,7 @@ fn shortlist(
 {
     let queue = kind::asked_queue(kinds, &want.kind);
     let mut found = Picked::new();
-    let mut behind = 0;
+    let mut behind = boards.len().saturating_sub(rows.len());
     for row in rows {
         if found.len() >= limit {
             break;

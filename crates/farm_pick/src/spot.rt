@@ -35,11 +35,13 @@ impl Ord for Spot {
     ghost matches_eq = { Prim.search (comparing, rules) depth 9 };
 
     fn cmp(&self, other: &Spot) -> Ordering {
-        let in_queue = other
-            .priority
-            .cmp(&self.priority)
-            .then(self.number.cmp(&other.number));
-        self.queue.cmp(&other.queue).then(in_queue)
+        if self.queue != other.queue {
+            return self.queue.cmp(&other.queue);
+        }
+        if self.priority != other.priority {
+            return other.priority.cmp(&self.priority);
+        }
+        self.number.cmp(&other.number)
     }
 }
 

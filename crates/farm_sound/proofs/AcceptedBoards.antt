@@ -45,10 +45,8 @@ module _ (F : Farm) (t : ℕ) (caller : List ℕ) (sound : IsSound F) where
       acted_one F (put_board F (new_board name kind tags)) 0 refl (omega arith)
       (IsSound-put_board F (new_board name kind tags)
       (record {
-        name = names.0;
+        words = record { name = names.0; tags = more.1; no_name_tag = words.1 };
         kind = IsSome-from (type_of F kind) typed.0;
-        tags = more.1;
-        no_name_tag = words.1;
         since = omega arith;
         checked = omega arith;
         retired = λ _. refl;
@@ -66,10 +64,8 @@ module _ (F : Farm) (t : ℕ) (caller : List ℕ) (sound : IsSound F) where
       (acted_one F (put_board F (record b.0 { tags = tags })) 0 refl (omega arith)
       (IsSound-replace_board F name b.0 (record b.0 { tags = tags }) b.1 (record { name = refl; kind = refl; holder = refl; state = refl })
       (λ old. record {
-        name = old.name;
+        words = record { name = old.words.name; tags = more.1; no_name_tag = words.1 };
         kind = old.kind;
-        tags = more.1;
-        no_name_tag = words.1;
         since = old.since;
         checked = old.checked;
         retired = old.retired;
@@ -88,10 +84,8 @@ module _ (F : Farm) (t : ℕ) (caller : List ℕ) (sound : IsSound F) where
       (acted_one F (put_board F (record b.0 { health = health })) 0 refl (omega arith)
       (IsSound-replace_board F name b.0 (record b.0 { health = health }) b.1 (record { name = refl; kind = refl; holder = refl; state = refl })
       (λ old. record {
-        name = old.name;
+        words = old.words;
         kind = old.kind;
-        tags = old.tags;
-        no_name_tag = old.no_name_tag;
         since = old.since;
         checked = old.checked;
         retired = retired_idle health b.0.holder (sym (ap last b.1) ∙ third.0);

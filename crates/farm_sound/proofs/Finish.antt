@@ -6,9 +6,7 @@ use Rattle.farm_types.specs.Change.{after_check, after_job, finish_one, graded_b
 use Rattle.farm_types.specs.Codes.{same_health, same_job_state, same_outcome}
 use Rattle.farm_types.specs.Farm.{Farm, job_of, type_of}
 use Rattle.farm_types.specs.Pass.{freed_board}
-use Rattle.farm_types.specs.Proper.{has_no_name_tag}
-use Rattle.farm_types.specs.Sound.{IsBoardRow, IsSound, phase}
-use Rattle.farm_types.specs.Words.{IsName, IsTags}
+use Rattle.farm_types.specs.Sound.{Description, IsBoardRow, IsDescription, IsSound, description_of, phase}
 use Rattle.farm_types.specs.declared.rows.BoardRow.{BoardRow}
 use Rattle.farm_types.specs.declared.rows.Health.{Health}
 use Rattle.farm_types.specs.declared.rows.Holder.{Holder}
@@ -28,20 +26,18 @@ use Rattle.farm_sound.proofs.Whole.{Alike, IsWhole-map_by}
 
 -- what a board keeps after a job
 record Used (F : Farm) (b c : BoardRow) : Type 0 where
-  pub name : c.name ≡ b.name
-  pub kind : c.kind ≡ b.kind
-  pub tags : c.tags ≡ b.tags
+  pub same : description_of c ≡ description_of b
   pub since : c.jobs_since ≤ most_jobs_since
   pub checked : c.last_check ≤ F.clock
 
 used_graded : (F : Farm) (h : Health) (b c : BoardRow) → Used F b c → Used F b (graded_board h c)
 used_graded F h b c is = by_cases (Used F b) (same_health c.health Health.Good || same_health c.health Health.Unknown) (record c { health = h }) c
-    (λ _. record { name = is.name; kind = is.kind; tags = is.tags; since = is.since; checked = is.checked }) (λ _. is)
+    (λ _. record { same = is.same; since = is.since; checked = is.checked }) (λ _. is)
 
 used_job : (F : Farm) (o : Outcome) (b : BoardRow) → IsBoardRow F b → Used F b (after_job o b)
 used_job F o b is =
     let used : Used F b (record b { jobs_since = min (b.jobs_since + 1) most_jobs_since }) =
-    record { name = refl; kind = refl; tags = refl; since = omega arith; checked = is.checked } in
+    record { same = refl; since = omega arith; checked = is.checked } in
     by_cases (Used F b) (same_outcome o Outcome.Infra) (graded_board Health.Unknown (record b { jobs_since = min (b.jobs_since + 1) most_jobs_since }))
     (record b { jobs_since = min (b.jobs_since + 1) most_jobs_since })
     (λ _. used_graded F Health.Unknown b (record b { jobs_since = min (b.jobs_since + 1) most_jobs_since }) used) (λ _. used)
@@ -49,17 +45,15 @@ used_job F o b is =
 used_check : (F : Farm) (o : Outcome) (b : BoardRow) → IsBoardRow F b → Used F b (after_check o F.clock b)
 used_check F Outcome.Complete b is =
     used_graded F Health.Good b (record b { jobs_since = 0; last_check = F.clock })
-    (record { name = refl; kind = refl; tags = refl; since = omega arith; checked = omega arith })
-used_check F Outcome.Incomplete b is = used_graded F Health.Bad b b (record { name = refl; kind = refl; tags = refl; since = is.since; checked = is.checked })
-used_check F Outcome.Infra b is = used_graded F Health.Bad b b (record { name = refl; kind = refl; tags = refl; since = is.since; checked = is.checked })
-used_check F Outcome.Canceled b is = record { name = refl; kind = refl; tags = refl; since = is.since; checked = is.checked }
+    (record { same = refl; since = omega arith; checked = omega arith })
+used_check F Outcome.Incomplete b is = used_graded F Health.Bad b b (record { same = refl; since = is.since; checked = is.checked })
+used_check F Outcome.Infra b is = used_graded F Health.Bad b b (record { same = refl; since = is.since; checked = is.checked })
+used_check F Outcome.Canceled b is = record { same = refl; since = is.since; checked = is.checked }
 
 idle_row : (F : Farm) (b c : BoardRow) → Used F b c → IsBoardRow F b → IsBoardRow F (freed_board c)
 idle_row F b c used is = record {
-  name = subst IsName (sym used.name) is.name;
-  kind = subst (λ k. IsSome (type_of F k)) (sym used.kind) is.kind;
-  tags = subst IsTags (sym used.tags) is.tags;
-  no_name_tag = subst (λ t. IsTrue (has_no_name_tag t)) (sym used.tags) is.no_name_tag;
+  words = subst IsDescription (sym used.same) is.words;
+  kind = subst (λ (d : Description). IsSome (type_of F d.kind)) (sym used.same) is.kind;
   since = used.since;
   checked = used.checked;
   retired = λ _. refl;
@@ -83,45 +77,25 @@ module _ (F : Farm) (n : ℕ) (j : JobRow) (named : Outcome) (there : job_of F n
   used_after b is = by_cases (Used F b) j.checking (after_check outcome F.clock b) (after_job outcome b) (λ _. used_check F outcome b is)
       (λ _. used_job F outcome b is)
 
-  name_after : (b : BoardRow) → (after b).name ≡ b.name
-  name_after b = by_cases (λ (c : BoardRow). c.name ≡ b.name) j.checking (after_check outcome F.clock b) (after_job outcome b) (λ _. checked outcome)
+  description_after : (b : BoardRow) → description_of (after b) ≡ description_of b
+  description_after b = by_cases (λ (c : BoardRow). description_of c ≡ description_of b) j.checking (after_check outcome F.clock b) (after_job outcome b) (λ _. checked outcome)
       (λ _. job_used outcome)
     where
-      graded_name : (h : Health) (c : BoardRow) → (graded_board h c).name ≡ c.name
-      graded_name h c = by_cases (λ (d : BoardRow). d.name ≡ c.name) (same_health c.health Health.Good || same_health c.health Health.Unknown)
+      graded : (h : Health) (c : BoardRow) → description_of (graded_board h c) ≡ description_of c
+      graded h c = by_cases (λ (d : BoardRow). description_of d ≡ description_of c) (same_health c.health Health.Good || same_health c.health Health.Unknown)
           (record c { health = h }) c (λ _. refl) (λ _. refl)
 
-      checked : (o : Outcome) → (after_check o F.clock b).name ≡ b.name
-      checked Outcome.Complete = graded_name Health.Good (record b { jobs_since = 0; last_check = F.clock })
-      checked Outcome.Incomplete = graded_name Health.Bad b
-      checked Outcome.Infra = graded_name Health.Bad b
+      checked : (o : Outcome) → description_of (after_check o F.clock b) ≡ description_of b
+      checked Outcome.Complete = graded Health.Good (record b { jobs_since = 0; last_check = F.clock })
+      checked Outcome.Incomplete = graded Health.Bad b
+      checked Outcome.Infra = graded Health.Bad b
       checked Outcome.Canceled = refl
 
-      job_used : (o : Outcome) → (after_job o b).name ≡ b.name
-      job_used o = by_cases (λ (d : BoardRow). d.name ≡ b.name) (same_outcome o Outcome.Infra)
+      job_used : (o : Outcome) → description_of (after_job o b) ≡ description_of b
+      job_used o = by_cases (λ (d : BoardRow). description_of d ≡ description_of b) (same_outcome o Outcome.Infra)
           (graded_board Health.Unknown (record b { jobs_since = min (b.jobs_since + 1) most_jobs_since }))
           (record b { jobs_since = min (b.jobs_since + 1) most_jobs_since })
-          (λ _. graded_name Health.Unknown (record b { jobs_since = min (b.jobs_since + 1) most_jobs_since })) (λ _. refl)
-
-  kind_after : (b : BoardRow) → (after b).kind ≡ b.kind
-  kind_after b = by_cases (λ (c : BoardRow). c.kind ≡ b.kind) j.checking (after_check outcome F.clock b) (after_job outcome b) (λ _. checked outcome)
-      (λ _. job_used outcome)
-    where
-      graded_kind : (h : Health) (c : BoardRow) → (graded_board h c).kind ≡ c.kind
-      graded_kind h c = by_cases (λ (d : BoardRow). d.kind ≡ c.kind) (same_health c.health Health.Good || same_health c.health Health.Unknown)
-          (record c { health = h }) c (λ _. refl) (λ _. refl)
-
-      checked : (o : Outcome) → (after_check o F.clock b).kind ≡ b.kind
-      checked Outcome.Complete = graded_kind Health.Good (record b { jobs_since = 0; last_check = F.clock })
-      checked Outcome.Incomplete = graded_kind Health.Bad b
-      checked Outcome.Infra = graded_kind Health.Bad b
-      checked Outcome.Canceled = refl
-
-      job_used : (o : Outcome) → (after_job o b).kind ≡ b.kind
-      job_used o = by_cases (λ (d : BoardRow). d.kind ≡ b.kind) (same_outcome o Outcome.Infra)
-          (graded_board Health.Unknown (record b { jobs_since = min (b.jobs_since + 1) most_jobs_since }))
-          (record b { jobs_since = min (b.jobs_since + 1) most_jobs_since })
-          (λ _. graded_kind Health.Unknown (record b { jobs_since = min (b.jobs_since + 1) most_jobs_since })) (λ _. refl)
+          (λ _. graded Health.Unknown (record b { jobs_since = min (b.jobs_since + 1) most_jobs_since })) (λ _. refl)
 
   alike_over : (k m : JobRow) → (k.number ≡ j.number → k ≡ j) → (m.number ≡ j.number → m ≡ j) → Alike k m
       → Alike (cond (k.number == j.number) (over k) k) (cond (m.number == j.number) (over m) m)
@@ -142,8 +116,8 @@ module _ (F : Farm) (n : ℕ) (j : JobRow) (named : Outcome) (there : job_of F n
         jobs = all_true F.jobs;
         same = λ m. record { number = refl; group = refl; owner = refl; priority = refl; checking = refl };
         row = λ m so _ is. job_row_in F m JobState.Finished (Some outcome) m.board is.board (λ _. refl, λ _. refl) (λ e. absurd (false≢true e)) (λ e. cc) is;
-        board_name = name_after;
-        board_kind = kind_after;
+        board_name = λ b. ap (λ (d : Description). d.name) (description_after b);
+        board_kind = λ b. ap (λ (d : Description). d.kind) (description_after b);
         board_row = λ b so is. idle_row F b (after b) (used_after b is) is;
         none = λ m so p is. hold_nothing (Holder.Job m.number) m.board;
         left = λ m b so p is. left_off (Holder.Job m.number) m.board (freed_board (after b)) refl refl;

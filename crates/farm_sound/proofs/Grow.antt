@@ -39,10 +39,8 @@ module _ (F G : Farm) (grows : Grows F G) where
   -- what a row says of the others stays
   pub IsBoardRow-grows : (r : BoardRow) → IsBoardRow F r → IsBoardRow G r
   IsBoardRow-grows r is = record {
-    name = is.name;
+    words = is.words;
     kind = grows.types r.kind is.kind;
-    tags = is.tags;
-    no_name_tag = is.no_name_tag;
     since = is.since;
     checked = omega (arith, is.checked, grows.clock);
     retired = is.retired;

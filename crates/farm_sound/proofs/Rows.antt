@@ -72,10 +72,8 @@ res_row_in F r s d b low there waits holds is = record {
 pub board_row_in : (F : Farm) (b : BoardRow) (h : Holder) (s : State) → (b.health ≡ Health.Retired → h ≡ Holder.Nobody) → IsBoardRow F b
     → IsBoardRow F (record b { holder = h; state = s })
 board_row_in F b h s retired is = record {
-  name = is.name;
+  words = is.words;
   kind = is.kind;
-  tags = is.tags;
-  no_name_tag = is.no_name_tag;
   since = is.since;
   checked = is.checked;
   retired = retired;

@@ -36,14 +36,6 @@ running_from JobState.Canceling is = absurd (false≢true is)
 running_from JobState.Finished is = absurd (false≢true is)
 running_from JobState.Scheduling is = absurd (false≢true is)
 
-pub submitted_from : (s : JobState) → same_job_state s JobState.Submitted ≡ true → s ≡ JobState.Submitted
-submitted_from JobState.Submitted is = refl
-submitted_from JobState.Scheduled is = absurd (false≢true is)
-submitted_from JobState.Running is = absurd (false≢true is)
-submitted_from JobState.Canceling is = absurd (false≢true is)
-submitted_from JobState.Finished is = absurd (false≢true is)
-submitted_from JobState.Scheduling is = absurd (false≢true is)
-
 pub scheduled_from : (s : JobState) → same_job_state s JobState.Scheduled ≡ true → s ≡ JobState.Scheduled
 scheduled_from JobState.Scheduled is = refl
 scheduled_from JobState.Submitted is = absurd (false≢true is)

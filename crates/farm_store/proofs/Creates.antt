@@ -1,5 +1,5 @@
 -- The tables are made.
-use Rattle.std.proofs.Common.{◌≡◌, ◌⊎◌, inl, inr, ℕ, List, [], ◌∷◌, Bool, true, false, Ok, Err, Result, is_ok, refl, sym, ap, subst, ◌∙◌, IsTrue}
+use Rattle.std.proofs.Common.{◌≡◌, ◌⊎◌, inl, inr, ℕ, List, [], ◌∷◌, true, false, Ok, Err, Result, is_ok, refl, sym, ap, subst, ◌∙◌}
 use Rattle.sqlite.specs.Order.{Row}
 use Rattle.sqlite.specs.Table.{Table}
 use Rattle.sqlite.specs.Tree.{Trees}
@@ -95,9 +95,6 @@ schema_5 = created schema_4 kept_table
 pub makes_kept : (old new : State) → old.now.schema ≡ schema_4 → HasRun MAKE_KEPT.now old new → Makes old new schema_4 kept_table
 unfolding understood everything
 makes_kept old new has ran = makes old new MAKE_KEPT.now schema_4 kept_table refl refl (refl, refl) refl refl has ran
-
-abbrev pub schema_6 : Schema
-schema_6 = created schema_5 meta_table
 
 pub makes_meta : (old new : State) → old.now.schema ≡ schema_5 → HasRun MAKE_META.now old new → Makes old new schema_5 meta_table
 unfolding understood everything

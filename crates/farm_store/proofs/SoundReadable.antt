@@ -32,7 +32,7 @@ want_kind w want = let both = and_parts (option_map_or (is_word longest_name) w.
 
 named_board : (F : Farm) → AllByRecursion (IsBoardRow F) F.boards → (board : Option (List ℕ)) → IsBoardOf F board → IfSome board IsName
 named_board F boards None known = tt
-named_board F boards (Some name) known = found_name (λ r. r.name) F.boards (AllByRecursion-weaker (λ r is. is.name) F.boards boards) name known
+named_board F boards (Some name) known = found_name (λ r. r.name) F.boards (AllByRecursion-weaker (λ r is. is.words.name) F.boards boards) name known
 
 pub sound_is_readable : (F : Farm) → IsSound F → IsReadable F
 sound_is_readable F sound =
@@ -40,7 +40,7 @@ sound_is_readable F sound =
     let names : AllByRecursion IsReadableType F.types = AllByRecursion-weaker (λ r is. is.name) F.types steady.types in
     record {
       types = names;
-      boards = AllByRecursion-weaker (λ r is. record { name = is.name; kind = found_name (λ t. t.name) F.types names r.kind is.kind; tags = is.tags }) F.boards steady.boards;
+      boards = AllByRecursion-weaker (λ r is. record { name = is.words.name; kind = found_name (λ t. t.name) F.types names r.kind is.kind; tags = is.words.tags }) F.boards steady.boards;
       jobs = AllByRecursion-weaker (λ r is. let want = want_kind r.want is.want in
           record { owner = is.owner; priority = is.priority; kind = want.0; tags = want.1; role = is.role; board = named_board F steady.boards r.board is.board; body = is.text }) F.jobs steady.jobs;
       reservations = AllByRecursion-weaker (λ r is. record { owner = is.owner; priority = is.priority; kind = is.kind; tags = (want_kind r.want is.want).1; board = named_board F steady.boards r.board is.board }) F.reservations steady.reservations;

@@ -64,8 +64,8 @@ fn counts(farm: &Farm) -> (u64, u64, u64) {
 /// Where there is no room for a check a pass is accepted all the same.
 #[test]
 fn farm_full_of_jobs(rt: HostRuntime) -> Result<(), Fail> {
-    let mut farm = full_farm(rt.alloc())?;
     let pass = call(rt.alloc(), 1000, "dispatcher", "POST /pass", "")?;
+    let mut farm = full_farm(rt.alloc())?;
     let reply = reply_to(&mut farm, &pass);
     assert_eq!(rt; reply, Some(Reply(0, 0, 0)));
     assert_eq!(rt; counts(&farm), (3, 100_000, 1));
@@ -94,8 +94,8 @@ fn end_of(farm: &mut Farm, call: &Call) -> End {
 /// Where memory is refused for a change, the farm has failed, and says so from then on.
 #[test]
 fn refused_memory(rt: HostRuntime) -> Result<(), Fail> {
-    let mut farm = Farm::empty(rt.alloc());
     let call = call(rt.alloc(), 1, "admin", "POST /types", "{\"name\":\"bbb\"}")?;
+    let mut farm = Farm::empty(rt.alloc());
     let end = end_of(&mut farm, &call);
     assert_eq!(rt; farm.is_failed(), end == End::Refused);
     if farm.is_failed() {

@@ -44,9 +44,10 @@ fn boards(alloc: Global) -> Result<Vec<BoardRow>, Fail>
 fn first_job(alloc: Global) -> Result<JobRow, Fail>
     ensures { IfOk result IsSmallJob }
 {
+    let text = String::from_str(alloc, "job_name = \"grüße 🔌\"")?;
     let mut row = job(alloc, 1, 1, Priority::of(0)?, JobState::Submitted)?;
     row.want.kind = None;
-    row.body = Body::of(String::from_str(alloc, "job_name = \"grüße 🔌\"")?);
+    row.body = Body::of(text);
     Ok(row)
 }
 
@@ -54,12 +55,15 @@ fn first_job(alloc: Global) -> Result<JobRow, Fail>
 fn second_job(alloc: Global) -> Result<JobRow, Fail>
     ensures { IfOk result IsSmallJob }
 {
+    let tags = tags(alloc, "usb")?;
+    let role = name(alloc, "client")?;
+    let board = name(alloc, "b2")?;
     let mut row = job(alloc, 4, 2, Priority::of(100)?, JobState::Canceling)?;
     row.checking = true;
-    row.want.tags = tags(alloc, "usb")?;
-    row.role = Some(name(alloc, "client")?);
+    row.want.tags = tags;
+    row.role = Some(role);
     row.outcome = Some(Outcome::Infra);
-    row.board = Some(name(alloc, "b2")?);
+    row.board = Some(board);
     Ok(row)
 }
 

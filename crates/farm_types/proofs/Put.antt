@@ -159,21 +159,6 @@ module _ {R : Type 0} (cmp : R → R → Ordering) (total : IsTotalOrder cmp) (r
       by rest Greater is false here_is true there_is = rw (here_is, there_is)
       by rest Greater is here here_is false there_is = rw there_is rest
 
-  -- what holds of the row, and of each old row with another key, holds of each new one
-  pub AllByRecursion-put_others : (P : R → Type 0) → P row → (rows : List R) → IsStrictlySortedBy cmp rows → AllByRecursion (λ r. (cmp row r ≡ Equal → ⊥) → P r) rows → AllByRecursion P (put cmp rows row)
-  unfolding IsStrictlySortedBy
-  AllByRecursion-put_others P here [] sorted all = (here, tt)
-  AllByRecursion-put_others P here (r ∷ rows) sorted all = by (AllByRecursion-put_others P here rows sorted.1 all.1) (cmp row r) refl
-    where
-      above : (ys : List R) → AllByRecursion (λ y. cmp row y ≡ Less) ys → AllByRecursion (λ r. (cmp row r ≡ Equal → ⊥) → P r) ys → AllByRecursion P ys
-      above [] less each = tt
-      above (y ∷ ys) less each = (each.0 (λ tie. let l = less.0 in cc), above ys less.1 each.1)
-
-      by : AllByRecursion P (put cmp rows row) → (o : Ordering) → cmp row r ≡ o → AllByRecursion P (match_ordering o (row ∷ r ∷ rows) (row ∷ rows) (r ∷ put cmp rows row))
-      by rest Less is = (here, (all.0 (λ tie. cc), above rows (AllByRecursion-weaker (λ y less. total.trans row r y is less) rows sorted.0) all.1))
-      by rest Equal is = (here, above rows (AllByRecursion-weaker (λ y less. total.congr row r y is ∙ less) rows sorted.0) all.1)
-      by rest Greater is = (all.0 (λ tie. cc), rest)
-
 -- what holds of each row holds of the one that is found
 pub found_has : {R : Type 0} (P : R → Type 0) (test : R → Bool) (b : R) → (rows : List R) → AllByRecursion P rows → find test rows ≡ Some b → P b
 found_has P test b [] all found = cc

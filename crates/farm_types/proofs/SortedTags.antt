@@ -1,5 +1,5 @@
 -- Tags that rise are sorted, and what a put keeps of them.
-use Rattle.std.proofs.Common.{◌≡◌, ◌∙◌, ℕ, ◌+◌, ◌<◌, ◌≤◌, ◌==◌, ◌&&◌, Bool, true, false, cond, List, [], ◌∷◌, ◌++◌, length, take, get_or, sym, ap, refl, arith, Ok, Err}
+use Rattle.std.proofs.Common.{◌≡◌, ◌∙◌, ℕ, ◌+◌, ◌<◌, ◌≤◌, ◌==◌, ◌&&◌, Bool, true, false, cond, List, [], ◌∷◌, length, take, get_or, sym, ap, refl, arith, Ok, Err}
 use Rattle.std.specs.Prelude.{nat_le, nat_lt}
 use Rattle.std.specs.List.{list_all, AllByRecursion, slice_split}
 use Rattle.std.specs.List.Sorted.{IsStrictlySortedBy}
@@ -61,12 +61,6 @@ tags_from xs small all sorted = rw (few (length xs) small, all_tags xs all) (ris
 -- one more tag is put
 pub put_all-more : (xs : List (List ℕ)) (at : ℕ) (x : List ℕ) → at < length xs → get_or xs at x ≡ x → put text_cmp (put_all text_cmp [] (take at xs)) x ≡ put_all text_cmp [] (take (at + 1) xs)
 put_all-more xs at x lt is = rw (take_more xs at x lt, is) (sym (fold-append (put text_cmp) [] (take at xs) (x ∷ [])))
-
-pub list_all-more : (xs : List (List ℕ)) (x : List ℕ) → list_all is_tag xs ≡ true → is_tag x ≡ true → list_all is_tag (xs ++ x ∷ []) ≡ true
-list_all-more [] x all is = rw is
-list_all-more (y ∷ xs) x all is =
-    let both = and_parts (is_tag y) (list_all is_tag xs) all in
-    rw both.0 (list_all-more xs x both.1 is)
 
 pub parts_of_none : (text : List ℕ) → (length text == 0) ≡ true → tag_parts text ≡ []
 parts_of_none [] none = refl

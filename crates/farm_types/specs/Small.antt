@@ -1,5 +1,5 @@
 -- The numbers that a store can keep.
-use Rattle.std.specs.Prelude.{◌≤◌, ℕ}
+use Rattle.std.specs.Prelude.{◌≤◌, ℕ, List, [], ◌∷◌}
 use Rattle.std.specs.List.{AllByRecursion}
 use Rattle.farm_types.specs.Limits.{largest_stored}
 use Rattle.farm_types.specs.declared.calls.Changes.{Changes}
@@ -29,10 +29,13 @@ held_by (Holder.Res n) = n
 abbrev pub IsSmallType : TypeRow → Type 0
 IsSmallType r = IsSmall (every_of r.check)
 
+-- the numbers of a board, but its holder's
+abbrev pub board_numbers : BoardRow → List ℕ
+board_numbers r = r.jobs_since ∷ r.last_check ∷ []
+
 pub record IsSmallBoard (r : BoardRow) : Type 0 where
   pub held_by : IsSmall (held_by r.holder)
-  pub jobs_since : IsSmall r.jobs_since
-  pub last_check : IsSmall r.last_check
+  pub numbers : AllByRecursion IsSmall (board_numbers r)
 
 pub record IsSmallJob (r : JobRow) : Type 0 where
   pub number : IsSmall r.number

@@ -114,11 +114,23 @@ pub record IsTypeRow (r : TypeRow) : Type 0 where
   pub name : IsName r.name
   pub check : IsTrue (is_frequency r.check)
 
+-- what an admin says of a board; no job, reservation or pass changes it
+pub record Description : Type 0 where
+  pub name : List ℕ
+  pub kind : List ℕ
+  pub tags : List (List ℕ)
+
+abbrev pub description_of : BoardRow → Description
+description_of b = record { name = b.name; kind = b.kind; tags = b.tags }
+
+pub record IsDescription (d : Description) : Type 0 where
+  pub name : IsName d.name
+  pub tags : IsTags d.tags
+  pub no_name_tag : IsTrue (has_no_name_tag d.tags)
+
 pub record IsBoardRow (F : Farm) (r : BoardRow) : Type 0 where
-  pub name : IsName r.name
+  pub words : IsDescription (description_of r)
   pub kind : IsSome (type_of F r.kind)
-  pub tags : IsTags r.tags
-  pub no_name_tag : IsTrue (has_no_name_tag r.tags)
   pub since : r.jobs_since ≤ most_jobs_since
   pub checked : r.last_check ≤ F.clock
   pub retired : r.health ≡ Health.Retired → r.holder ≡ Holder.Nobody

@@ -4,11 +4,12 @@ use Rattle.farm_types.specs.Farm.{job_of}
 use Rattle.farm_types.specs.declared.rows.JobRow.{JobRow}
 use Rattle.farm_core.specs.Drafted.{Drafted, without_claim}
 use Rattle.farm_core.proofs.JobLemmas.{canceled}
+use Rattle.farm_core.proofs.Tabled.{seen}
 use Rattle.farm_core.proofs.draft.Draft.cancel.Goals as goal
 
 pub returns : goal.returns
 returns c =
-    let found = ap (λ (D : Drafted). job_of D.farm c.args.number) (sym c.self.view_is) ∙ sym c.in-Some.ensures.found in
+    let found = ap (λ (D : Drafted). job_of D.farm c.args.number) (sym (seen c.deref.ensures c.self.view_is)) ∙ sym c.in-Some.ensures.found in
     let ended = ap (λ (D : Drafted). D.farm) c.in_ok-draft.ensures in
     let cleared = ap (λ (D : Drafted). D.farm) c.collects_no_more-draft.ensures in
     let made = ap (λ (D : Drafted). D.farm) c.take_claim.ensures ∙ ap (λ (D : Drafted). D.farm) c.in_ok-draft-2.ensures in

@@ -9,13 +9,14 @@ use Rattle.farm_types.specs.declared.rows.Holder.{Holder}
 use Rattle.farm_types.specs.declared.rows.State.{State}
 use Rattle.farm_core.specs.Plain.{plain_farm}
 use Rattle.farm_core.specs.Drafted.{Drafted, at_farm}
+use Rattle.farm_core.proofs.Tabled.{seen}
 use Rattle.farm_core.proofs.draft.Draft.check_board.Goals as goal
 
 pub returns : goal.returns
 returns c = λ b is.
     let D : Drafted = c.args.self in
-    let T = c.self.inside.tables in
-    let here : plain_farm T ≡ D.farm = ap (λ (D : Drafted). D.farm) c.self.view_is in
+    let T = c.deref-tables.result.now in
+    let here : plain_farm T ≡ D.farm = ap (λ (D : Drafted). D.farm) (seen c.deref-tables.ensures c.self.view_is) in
     let next : T.next ≡ D.farm.next = ap (λ (F : Farm). F.next) here in
     let low : c.args.at < length T.boards.items = subst (λ (F : Farm). c.args.at < length F.boards) (sym here) c.requires in
     let same : c.index-board.result.now ≡ b =

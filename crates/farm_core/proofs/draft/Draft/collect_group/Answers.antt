@@ -7,6 +7,7 @@ use Rattle.farm_core.specs.Plain.{plain_farm}
 use Rattle.farm_pick.specs.Queued.{Lists, idle_boards}
 use Rattle.farm_core.proofs.Collected.{takes_begin, takes_end, takes_on}
 use Rattle.farm_core.proofs.Serving.{numbers_of, numbers_small, small_at}
+use Rattle.farm_core.proofs.Tabled.{ordered, seen}
 use Rattle.farm_core.proofs.draft.Draft.collect_group.Goals as goal
 
 pub loop-at-init : goal.loop-at-init
@@ -16,7 +17,7 @@ pub collect_member-requires-clause-small : goal.collect_member-requires-clause-s
 collect_member-requires-clause-small c =
     small_at c.as_slice-members.result.now c.loop-at.at
     (subst (AllByRecursion IsSmall) (sym c.as_slice-members.ensures.value)
-    (numbers_small (plain_farm c.self.inside.tables) c.args.group c.in_ok-numbers.numbers.items (c.in_ok-numbers.ensures ∙ ap numbers_of c.near-near.ensures) c.self.invariant.orderly))
+    (numbers_small (plain_farm c.deref-tables.result.now) c.args.group c.in_ok-numbers.numbers.items (c.in_ok-numbers.ensures ∙ ap numbers_of c.near-near.ensures) (ordered c.deref-tables.ensures c.self.invariant.orderly)))
     (omega arith)
 
 pub collect_member-requires-clause-free : goal.collect_member-requires-clause-free
@@ -25,14 +26,14 @@ collect_member-requires-clause-free c = ap (λ (q : Lists). q.boards) c.loop-at.
 pub loop-at-preserved : goal.loop-at-preserved
 loop-at-preserved c =
     let are : c.as_slice-members.result.now ≡ numbers_of (members c.args.self.farm c.args.group) =
-    c.as_slice-members.ensures.value ∙ c.in_ok-numbers.ensures ∙ ap numbers_of c.near-near.ensures ∙ ap (λ (D : Drafted). numbers_of (members D.farm c.args.group)) c.self.view_is in
+    c.as_slice-members.ensures.value ∙ c.in_ok-numbers.ensures ∙ ap numbers_of c.near-near.ensures ∙ ap (λ (D : Drafted). numbers_of (members D.farm c.args.group)) (seen c.deref-tables.ensures c.self.view_is) in
     takes_on c.args.self c.loop-at.draft c.args.group c.loop-at.at c.loop-at.invariant c.as_slice-members.result.now are
     (omega arith) c.in_ok-draft.draft c.in_ok-draft.ensures
 
 pub returns : goal.returns
 returns c =
     let are : c.as_slice-members.result.now ≡ numbers_of (members c.args.self.farm c.args.group) =
-    c.as_slice-members.ensures.value ∙ c.in_ok-numbers.ensures ∙ ap numbers_of c.near-near.ensures ∙ ap (λ (D : Drafted). numbers_of (members D.farm c.args.group)) c.self.view_is in
+    c.as_slice-members.ensures.value ∙ c.in_ok-numbers.ensures ∙ ap numbers_of c.near-near.ensures ∙ ap (λ (D : Drafted). numbers_of (members D.farm c.args.group)) (seen c.deref-tables.ensures c.self.view_is) in
     let D : Drafted = c.loop-at.draft in
     let takes = c.loop-at.invariant in
     let farm = takes_end c.args.self D c.args.group c.loop-at.at takes c.as_slice-members.result.now are (omega arith) in

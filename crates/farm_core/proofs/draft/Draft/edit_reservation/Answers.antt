@@ -13,7 +13,7 @@ use Rattle.farm_core.proofs.draft.Draft.edit_reservation.Goals as goal
 
 pub change_rows-requires-clause-start : goal.change_rows-requires-clause-start
 change_rows-requires-clause-start c =
-    let R = c.self.inside.tables.reservations.items in
+    let R = c.deref_mut-tables.result.now.reservations.items in
     let low : c.res_place_of-start.result ≤ length R = rw (← c.deref.ensures.value) c.res_place_of-start.ensures.within in
     let high : c.res_place_of-end.result ≤ length R = rw (← c.deref-2.ensures.value) c.res_place_of-end.ensures.within in
     let first : IsPlaceOf (λ (r : ResRow). r.number) R c.args.number c.res_place_of-start.result = rw (← c.deref.ensures.value) c.res_place_of-start.ensures.place in
@@ -23,14 +23,14 @@ change_rows-requires-clause-start c =
 -- the rows that changed are those behind the old log, and their leases are noted
 noted : (c : goal.In_ok-note_leases) → AreNoted c.note_leases.new.leases c.change_rows.new.rows.items
 noted c =
-    let R = c.self.inside.tables.reservations.items in
-    let behind = logged_behind c.len-before.result c.self.inside.changes.reservations.items c.deref-3.result.now (map (res_changed c.args.edit) (filter (res_passes c.args.edit) R))
-    (search rules) (c.deref-3.ensures.value ∙ c.in_ok-change_rows.ensures.log) in
-    subst (AreNoted c.note_leases.new.leases) (sym c.in_ok-change_rows.ensures.rows)
-    (noted_changed c.self.inside.tables.leases c.note_leases.new.leases c.in_ok-note_leases.ensures.grows (res_passes c.args.edit) (res_changed c.args.edit) R c.self.invariant.noted
+    let R = c.self.inside.tables.value.reservations.items in
+    let behind = logged_behind c.len-before.result c.self.inside.changes.value.reservations.items c.deref-3.result.now (map (res_changed c.args.edit) (filter (res_passes c.args.edit) R))
+    (search rules) (rw (← c.deref_mut-tables.ensures.value, ← c.deref_mut-changes.ensures.value) (c.deref-3.ensures.value ∙ c.in_ok-change_rows.ensures.log)) in
+    subst (AreNoted c.note_leases.new.leases) (sym (rw (← c.deref_mut-tables.ensures.value) c.in_ok-change_rows.ensures.rows))
+    (noted_changed c.self.inside.tables.value.leases c.note_leases.new.leases (rw (← c.deref_mut-tables.ensures.value) c.in_ok-note_leases.ensures.grows) (res_passes c.args.edit) (res_changed c.args.edit) R c.self.invariant.noted
     (subst (AreNoted c.note_leases.new.leases) behind c.in_ok-note_leases.ensures.noted))
 
 pub invariant_of-self : goal.invariant_of-self
 invariant_of-self c =
-    whole_reservations (plain_farm c.self.inside.tables) (res_passes c.args.edit) (res_changed c.args.edit) (keeps_res c.args.edit) c.requires.small c.self.invariant.orderly
-    c.change_rows.new.rows.items c.in_ok-change_rows.ensures.rows c.change_rows.new.log c.in_ok-change_rows.ensures.log c.self.invariant.tracked (noted c)
+    rw (c.deref_mut-tables.ensures.value, c.deref_mut-changes.ensures.value) (whole_reservations (plain_farm c.self.inside.tables.value) (res_passes c.args.edit) (res_changed c.args.edit) (keeps_res c.args.edit) c.requires.small c.self.invariant.orderly
+    c.change_rows.new.rows.items (rw (← c.deref_mut-tables.ensures.value) c.in_ok-change_rows.ensures.rows) c.change_rows.new.log (rw (← c.deref_mut-tables.ensures.value, ← c.deref_mut-changes.ensures.value) c.in_ok-change_rows.ensures.log) c.self.invariant.tracked (noted c))

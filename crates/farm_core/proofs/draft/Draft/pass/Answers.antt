@@ -12,6 +12,7 @@ use Rattle.farm_core.specs.Following.{free_of, without_all}
 use Rattle.farm_core.proofs.Free.{prepared_types}
 use Rattle.farm_core.proofs.Sound.{small_collector}
 use Rattle.farm_core.proofs.Whole.{is_expired, is_prepared, prepared, prepared_nobody, prepared_queue, prepared_sound, served_is}
+use Rattle.farm_core.proofs.Tabled.{seen}
 use Rattle.farm_core.proofs.draft.Draft.pass.Goals as goal
 
 pub follow_boards-requires-clause-ordered : goal.follow_boards-requires-clause-ordered
@@ -44,7 +45,7 @@ serve-requires-clause-nobody c =
 
 pub serve-requires-clause-small : goal.serve-requires-clause-small
 serve-requires-clause-small c =
-    subst IsSmall (ap (λ (D : Drafted). D.farm.collector) (sym c.self.view_is)) (small_collector c.args.self.farm c.requires.sound)
+    subst IsSmall (ap (λ (D : Drafted). D.farm.collector) (sym (seen c.deref.ensures c.self.view_is))) (small_collector c.args.self.farm c.requires.sound)
 
 pub serve-requires-clause-fits : goal.serve-requires-clause-fits
 serve-requires-clause-fits c =
@@ -64,7 +65,7 @@ returns-clause-farm c =
     let ended = ap (λ (D : Drafted). D.farm) c.in_ok-draft-2.ensures.left in
     let checked = ap (λ (D : Drafted). D.farm) c.in_ok-draft-3.ensures.farm in
     let followed = ap (λ (D : Drafted). D.farm) c.in_ok-draft-4.ensures in
-    let former = ap (λ (D : Drafted). D.farm.collector) c.self.view_is in
+    let former = ap (λ (D : Drafted). D.farm.collector) (seen c.deref.ensures c.self.view_is) in
     let start = ap (λ (D : Drafted). D.start) c.in_ok-draft-5.ensures.farm ∙ ap (λ (D : Drafted). D.start) c.in_ok-draft-4.ensures ∙ ap (λ (D : Drafted). D.start) c.in_ok-draft-3.ensures.farm ∙ ap (λ (D : Drafted). D.start) c.in_ok-draft-2.ensures.left
     ∙ ap (λ (D : Drafted). D.start) c.in_ok-draft.ensures in
     let served = (λ i. serve_all (followed i) (former i) (followed i).clock) ∙ served_is F c.in_ok-draft.draft.farm c.in_ok-draft-2.draft.farm c.in_ok-draft-3.draft.farm given ended checked F.collector in
@@ -79,7 +80,7 @@ returns-clause-reply c =
     let ended = ap (λ (D : Drafted). D.farm) c.in_ok-draft-2.ensures.left in
     let farm = ap (λ (D : Drafted). D.farm) c.in_ok-draft-3.ensures.farm in
     let followed = ap (λ (D : Drafted). D.farm) c.in_ok-draft-4.ensures in
-    let former = ap (λ (D : Drafted). D.farm.collector) c.self.view_is in
+    let former = ap (λ (D : Drafted). D.farm.collector) (seen c.deref.ensures c.self.view_is) in
     let expired : c.in_ok-draft-2.draft.farm ≡ expire (giving_back F) F.clock = is_expired F c.in_ok-draft.draft.farm c.in_ok-draft-2.draft.farm c.in_ok-draft-3.draft.farm given ended farm in
     let over : c.in_ok-draft-2.ended ≡ length (filter (is_dead F.clock) F.reservations) =
     c.in_ok-draft-2.ensures.count ∙ ap (λ (G : Farm). length (filter (is_dead G.clock) G.reservations)) given in

@@ -5,5 +5,5 @@ use Rattle.farm_core.proofs.draft.Draft.put_type.Goals as goal
 
 pub invariant_of-self : goal.invariant_of-self
 invariant_of-self c =
-    let logged = copy_logged c.self.inside.changes.types.items c.push.new.self.items c.args.row _ c.in_ok-push.ensures.items c.in_ok-copy.ensures in
-    whole_type (plain_farm c.self.inside.tables) c.args.row c.requires c.upsert.new.rows.items c.push.new.self c.self.invariant logged c.in_ok-upsert.ensures.rows c.in_ok-upsert.ensures.sorted
+    let logged = copy_logged c.self.inside.changes.value.types.items c.push.new.self.items c.args.row _ (rw (← c.deref_mut.ensures.value) c.in_ok-push.ensures.items) c.in_ok-copy.ensures in
+    rw (c.deref_mut.ensures.value, c.deref_mut-2.ensures.value) (whole_type (plain_farm c.self.inside.tables.value) c.args.row c.requires c.upsert.new.rows.items c.push.new.self c.self.invariant logged (rw (← c.deref_mut-2.ensures.value) c.in_ok-upsert.ensures.rows) c.in_ok-upsert.ensures.sorted)

@@ -11,22 +11,23 @@ use Rattle.farm_types.specs.declared.rows.JobState.{JobState}
 use Rattle.farm_core.specs.Serving.{give_named}
 use Rattle.farm_core.proofs.Given.{queues_left}
 use Rattle.farm_core.proofs.Serving.{group_served, met, names_of, numbers_of, numbers_small, wants_of}
+use Rattle.farm_core.proofs.Tabled.{ordered, seen}
 use Rattle.farm_core.proofs.draft.Draft.serve_group.Goals as goal
 
 pub give_jobs-requires : goal.give_jobs-requires
 give_jobs-requires c =
-    rw c.deref.ensures.value (numbers_small (plain_farm c.self.inside.tables) c.args.group _ (c.in_ok-numbers-in-Some.ensures ∙ ap numbers_of c.near-near.ensures) c.self.invariant.orderly)
+    rw c.deref.ensures.value (numbers_small (plain_farm c.deref-tables.result.now) c.args.group _ (c.in_ok-numbers-in-Some.ensures ∙ ap numbers_of c.near-near.ensures) (ordered c.deref-tables.ensures c.self.invariant.orderly))
 
 pub returns-in_ok-draft-in-Some : goal.returns-in_ok-draft-in-Some
 returns-in_ok-draft-in-Some c = λ d of_group same asks.
     let F : Farm = c.args.self.farm in
     let E : Drafted = c.in_ok-draft-in-Some.draft in
     let G : Drafted = c.take_given.result in
-    let here : plain_farm c.self.inside.tables ≡ F = ap (λ (D : Drafted). D.farm) c.self.view_is in
+    let here : plain_farm c.deref-tables.result.now ≡ F = ap (λ (D : Drafted). D.farm) (seen c.deref-tables.ensures c.self.view_is) in
     let stayed = ap (λ (D : Drafted). D.queues) c.in_ok-draft-in-Some.ensures in
     let names = c.in-Some.names.items in
     let numbers = c.in_ok-numbers-in-Some.numbers.items in
-    let picked : Some names ≡ option_map names_of (least (plain_farm c.self.inside.tables).boards (is_free (plain_farm c.self.inside.tables).types) (wants_of (members (plain_farm c.self.inside.tables) c.args.group))) =
+    let picked : Some names ≡ option_map names_of (least (plain_farm c.deref-tables.result.now).boards (is_free (plain_farm c.deref-tables.result.now).types) (wants_of (members (plain_farm c.deref-tables.result.now) c.args.group))) =
     let h = c.in_ok-pick_for_group.ensures in rw c.in-Some.is at h in
     let picked_here = subst (λ (G : Farm). Some names ≡ option_map names_of (least G.boards (is_free G.types) (wants_of (members G c.args.group)))) here picked in
     let made : G.farm ≡ fold (give_named JobState.Scheduled) F (zip numbers names) =

@@ -8,6 +8,7 @@ use Rattle.farm_core.specs.Serving.{give_first}
 use Rattle.farm_core.proofs.Given.{queues_left}
 use Rattle.farm_core.proofs.Serving.{Picks, asked, met, res_served}
 use Rattle.farm_types.specs.Farm.{res_of}
+use Rattle.farm_core.proofs.Tabled.{seen}
 use Rattle.farm_core.proofs.draft.Draft.serve_reservation.Goals as goal
 
 pub returns-in_ok-draft-in-Some : goal.returns-in_ok-draft-in-Some
@@ -16,8 +17,8 @@ returns-in_ok-draft-in-Some c = λ d of_res same asks.
     let G : Drafted = c.take_given.result in
     let stayed = ap (λ (D : Drafted). D.queues) c.in_ok-draft-in-Some.ensures in
     let names = c.in-Some.names.items in
-    let picked : Picks (plain_farm c.self.inside.tables) c.args.number (Some names) = let h = c.in_ok-pick_for_reservation.ensures in rw c.in-Some.is at h in
-    let picked_here : Picks F c.args.number (Some names) = subst (λ (G : Farm). Picks G c.args.number (Some names)) (ap (λ (D : Drafted). D.farm) c.self.view_is) picked in
+    let picked : Picks (plain_farm c.deref-tables.result.now) c.args.number (Some names) = let h = c.in_ok-pick_for_reservation.ensures in rw c.in-Some.is at h in
+    let picked_here : Picks F c.args.number (Some names) = subst (λ (G : Farm). Picks G c.args.number (Some names)) (ap (λ (D : Drafted). D.farm) (seen c.deref-tables.ensures c.self.view_is)) picked in
     let it = asked F d asks in
     let made : G.farm ≡ give_first F c.args.number names =
     ap (λ (D : Drafted). D.farm) c.take_given.ensures ∙ ap (λ (D : Drafted). D.farm) c.in_ok-draft-in-Some.ensures ∙ ap (give_first F c.args.number) c.deref.ensures.value in met (

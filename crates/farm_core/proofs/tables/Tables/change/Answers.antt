@@ -21,11 +21,11 @@ use Rattle.farm_core.proofs.tables.Tables.change.Goals as goal
 taken : {T : Tables} (self : Tables) (call : Call) (clock : ℕ) → T ≡ record self { clock = clock } → clock ≡ moment (plain_farm self) call → plain_farm T ≡ farm_at_call (plain_farm self) call
 taken self call clock is at = ap plain_farm is ∙ (λ i. record (plain_farm self) { clock = at i })
 
-pub of-draft-requires-clause-noted : goal.of-draft-requires-clause-noted
-of-draft-requires-clause-noted c = rw c.replace.ensures.value c.requires.noted
+pub of-requires-clause-noted : goal.of-requires-clause-noted
+of-requires-clause-noted c = rw c.replace.ensures.value c.requires.noted
 
-pub of-draft-requires-clause-orderly : goal.of-draft-requires-clause-orderly
-of-draft-requires-clause-orderly c =
+pub of-requires-clause-orderly : goal.of-requires-clause-orderly
+of-requires-clause-orderly c =
     let o = IsOrderly-sound (plain_farm c.args.self.now) c.requires.sound in
     rw c.replace.ensures.value (record {
       types = o.types;
@@ -42,28 +42,28 @@ of-draft-requires-clause-orderly c =
 
 pub act-requires-clause-sound : goal.act-requires-clause-sound
 act-requires-clause-sound c =
-    let started = ap (λ (D : Drafted). D.farm) c.of-draft.ensures ∙ taken c.args.self.now c.args.call.now c.max-self.result c.replace.ensures.value c.max-self.ensures in
+    let started = ap (λ (D : Drafted). D.farm) c.in_ok-draft.ensures ∙ taken c.args.self.now c.args.call.now c.max-self.result c.replace.ensures.value c.max-self.ensures in
     subst IsSound (sym started) (IsSound-moved_to (plain_farm c.args.self.now) c.args.call.now c.requires.accepted c.requires.sound)
 
 pub act-requires-clause-fits : goal.act-requires-clause-fits
 act-requires-clause-fits c =
-    let started = ap (λ (D : Drafted). D.farm) c.of-draft.ensures ∙ taken c.args.self.now c.args.call.now c.max-self.result c.replace.ensures.value c.max-self.ensures in
-    ap (λ (D : Drafted). D.queues) c.of-draft.ensures ∙ ap (λ (t : Tables). t.queues) c.replace.ensures.value ∙ c.requires.fits ∙ ap lists_of (sym started)
+    let started = ap (λ (D : Drafted). D.farm) c.in_ok-draft.ensures ∙ taken c.args.self.now c.args.call.now c.max-self.result c.replace.ensures.value c.max-self.ensures in
+    ap (λ (D : Drafted). D.queues) c.in_ok-draft.ensures ∙ ap (λ (t : Tables). t.queues) c.replace.ensures.value ∙ c.requires.fits ∙ ap lists_of (sym started)
 
 pub act-requires-clause-follow : goal.act-requires-clause-follow
 act-requires-clause-follow c =
-    let started = ap (λ (D : Drafted). D.farm) c.of-draft.ensures ∙ taken c.args.self.now c.args.call.now c.max-self.result c.replace.ensures.value c.max-self.ensures in
+    let started = ap (λ (D : Drafted). D.farm) c.in_ok-draft.ensures ∙ taken c.args.self.now c.args.call.now c.max-self.result c.replace.ensures.value c.max-self.ensures in
     subst (λ (F : Farm). FollowsIn F c.args.call.now.caller c.args.call.now.cmd) (sym started) (follows_in (plain_farm c.args.self.now) c.args.call.now c.requires.sound c.requires.accepted)
 
 pub returns-clause-queues : goal.returns-clause-queues
 returns-clause-queues c =
     let k = c.args.call.now in
-    let kept = c.into_parts-tables.ensures.farm ∙ ap (λ (D : Drafted). D.farm) c.in_ok-draft-2.ensures in
+    let kept = c.into_parts-tables.ensures.farm ∙ ap (λ (D : Drafted). D.farm) c.in_ok-draft-3.ensures in
     c.into_parts-tables.ensures.queues
-    ∙ ap (λ (D : Drafted). D.queues) c.in_ok-draft-2.ensures
-    ∙ ap (λ (D : Drafted). D.queues) c.in_ok-draft.ensures.farm
-    ∙ ap (λ (D : Drafted). lists_of D.farm) (sym c.in_ok-draft.ensures.farm)
-    ∙ sym (kept_lists c.in_ok-draft.draft.farm k c.in_ok-draft.reply)
+    ∙ ap (λ (D : Drafted). D.queues) c.in_ok-draft-3.ensures
+    ∙ ap (λ (D : Drafted). D.queues) c.in_ok-draft-2.ensures.farm
+    ∙ ap (λ (D : Drafted). lists_of D.farm) (sym c.in_ok-draft-2.ensures.farm)
+    ∙ sym (kept_lists c.in_ok-draft-2.draft.farm k c.in_ok-draft-2.reply)
     ∙ ap lists_of (sym kept)
 
 pub returns-clause-noted : goal.returns-clause-noted
@@ -74,15 +74,15 @@ act-requires-clause-small c = IsSmallCmd-accepted (plain_farm c.args.self.now) c
 
 pub act-requires-clause-clock : goal.act-requires-clause-clock
 act-requires-clause-clock c =
-    let started = ap (λ (D : Drafted). D.farm) c.of-draft.ensures ∙ taken c.args.self.now c.args.call.now c.max-self.result c.replace.ensures.value c.max-self.ensures in
+    let started = ap (λ (D : Drafted). D.farm) c.in_ok-draft.ensures ∙ taken c.args.self.now c.args.call.now c.max-self.result c.replace.ensures.value c.max-self.ensures in
     subst (λ (F : Farm). F.clock ≤ last_moment) (sym started) (in_time (plain_farm c.args.self.now) c.args.call.now c.requires.accepted c.requires.sound)
 
 pub keep-requires : goal.keep-requires
 keep-requires c =
     let k = c.args.call.now in
-    let started = ap (λ (D : Drafted). D.farm) c.of-draft.ensures ∙ taken c.args.self.now k c.max-self.result c.replace.ensures.value c.max-self.ensures in
+    let started = ap (λ (D : Drafted). D.farm) c.in_ok-draft.ensures ∙ taken c.args.self.now k c.max-self.result c.replace.ensures.value c.max-self.ensures in
     let acted = acted_call (plain_farm c.args.self.now) k c.requires.accepted c.requires.sound in
-    let same = c.in_ok-draft.ensures.reply ∙ ap (λ (F : Farm). (act F k.caller k.cmd).reply) started in
+    let same = c.in_ok-draft-2.ensures.reply ∙ ap (λ (F : Farm). (act F k.caller k.cmd).reply) started in
     rw same (omega (arith, acted.first), omega (arith, acted.second), omega (arith, acted.third))
 
 pub returns-clause-farm : goal.returns-clause-farm
@@ -90,16 +90,16 @@ unfolding change
 returns-clause-farm c =
     let k = c.args.call.now in
     let F : Farm = plain_farm c.args.self.now in
-    let started = ap (λ (D : Drafted). D.farm) c.of-draft.ensures ∙ taken c.args.self.now k c.max-self.result c.replace.ensures.value c.max-self.ensures in
-    let reply = c.in_ok-draft.ensures.reply ∙ ap (λ (F : Farm). (act F k.caller k.cmd).reply) started in
-    let acts = ap (λ (D : Drafted). D.farm) c.in_ok-draft.ensures.farm ∙ ap (λ (F : Farm). (act F k.caller k.cmd).farm) started in
+    let started = ap (λ (D : Drafted). D.farm) c.in_ok-draft.ensures ∙ taken c.args.self.now k c.max-self.result c.replace.ensures.value c.max-self.ensures in
+    let reply = c.in_ok-draft-2.ensures.reply ∙ ap (λ (F : Farm). (act F k.caller k.cmd).reply) started in
+    let acts = ap (λ (D : Drafted). D.farm) c.in_ok-draft-2.ensures.farm ∙ ap (λ (F : Farm). (act F k.caller k.cmd).farm) started in
     let kept : plain_farm c.into_parts-tables.result.0 ≡ keep k (act (farm_at_call F k) k.caller k.cmd).reply (act (farm_at_call F k) k.caller k.cmd).farm =
-    c.into_parts-tables.ensures.farm ∙ ap (λ (D : Drafted). D.farm) c.in_ok-draft-2.ensures ∙ (λ i. keep k (reply i) (acts i)) in
+    c.into_parts-tables.ensures.farm ∙ ap (λ (D : Drafted). D.farm) c.in_ok-draft-3.ensures ∙ (λ i. keep k (reply i) (acts i)) in
     λ i. record (kept i) { count = F.count + 1 }
 
 pub returns-clause-reply : goal.returns-clause-reply
 unfolding change
 returns-clause-reply c =
     let k = c.args.call.now in
-    let started = ap (λ (D : Drafted). D.farm) c.of-draft.ensures ∙ taken c.args.self.now k c.max-self.result c.replace.ensures.value c.max-self.ensures in
-    c.in_ok-draft.ensures.reply ∙ ap (λ (F : Farm). (act F k.caller k.cmd).reply) started
+    let started = ap (λ (D : Drafted). D.farm) c.in_ok-draft.ensures ∙ taken c.args.self.now k c.max-self.result c.replace.ensures.value c.max-self.ensures in
+    c.in_ok-draft-2.ensures.reply ∙ ap (λ (F : Farm). (act F k.caller k.cmd).reply) started
