@@ -68,13 +68,22 @@ if [ "$status" = 0 ]; then
     trying $long &
     trying $short
     wait
+    wrong=
     for script in $short $long; do
         cat "$folder/$script.said"
         case $(cat "$folder/$script.status") in
             0) passed=$((passed + 1)) ;;
             77) ;; # it wasn't tried, as it said
-            *) failed=$((failed + 1)) status=1 ;;
+            *)
+                wrong="$wrong $script"
+                failed=$((failed + 1)) status=1
+                ;;
         esac
+    done
+    # once more, where the end of the output stands: what each said that failed
+    for script in $wrong; do
+        echo "failed with status $(cat "$folder/$script.status"): tests/$script, which said last:"
+        tail -n 5 "$folder/$script.said"
     done
 fi
 python3 tests/costs.py "$folder/costs"

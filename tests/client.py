@@ -9,6 +9,7 @@ import base64
 import json
 import os
 import pty
+import re
 import select
 import signal
 import socket
@@ -200,6 +201,31 @@ def reservations(farm, folder):
     return "a board is reserved, waited for, acquired, released and given back, interrupted too"
 
 
+def signal_that_is_dropped(farm, folder):
+    """Python drops what is raised while it ends an object."""
+    del farm, folder
+    code = """\
+import os, signal
+from farm_tools import signals
+class Ends:
+    def __del__(self):
+        os.kill(os.getpid(), signal.SIGHUP)
+        os.getpid()
+signals.catch_signals()
+Ends()
+try:
+    signals.check()
+except signals.Interrupted as it:
+    print(it.status)
+"""
+    ran = subprocess.run(
+        [sys.executable, "-c", code], cwd=TOOLS, capture_output=True, text=True, check=False
+    )
+    demand("what Python tells", True, "Exception ignored in" in ran.stderr)
+    demand("what is raised again", (0, "129\n"), (ran.returncode, ran.stdout))
+    return "a signal that comes while Python ends an object interrupts a wait too"
+
+
 class Refreshed:
     """A reservation that waits in a farm of its own, while the other rows run."""
 
@@ -228,7 +254,8 @@ def on_a_terminal(farm, folder):
     ran = subprocess.Popen(words, stdin=its, stdout=its, stderr=its, env=around)
     os.close(its)
     said = b""
-    while b"in the queue (1 s)" not in said:
+    # (a second may be passed over where the machine stands still)
+    while not re.search(rb"in the queue \([1-9][0-9]* s\)", said):
         demand("progress within 20 s", True, bool(select.select([ours], [], [], 20)[0]))
         said += os.read(ours, 4096)
     passes(farm)
@@ -494,6 +521,7 @@ ROWS = [
     jobs,
     reservations,
     on_a_terminal,
+    signal_that_is_dropped,
     with_a_board,
     desk_that_goes_away,
     lost_answers,

@@ -290,6 +290,8 @@ def killed_dispatchers(place):
         "no job holds a board",
         lambda: all(it["holder"] == "none" for it in lab.farm.look("/boards")["boards"]),
     )
+    # The last one may have come after all was done: it is told to end once it has run a job.
+    demand("a job of the last", "Complete", lab.finished(lab.farm.submit("true")))
     lab.closes(dispatcher)
     return f"over {kills} killed dispatchers, {kills // 5} killed desks, each of 28 groups ran once"
 
@@ -408,6 +410,31 @@ def states_to_come(place):
     return "a group that collects is left alone; so is a state that isn't known, which is told once"
 
 
+def stop_that_is_dropped(place):
+    """Python drops what is raised while it ends an object."""
+    code = """\
+import os, signal
+from farm_tools.dispatch import Stopped, Stops
+class Ends:
+    def __del__(self):
+        os.kill(os.getpid(), signal.SIGTERM)
+        os.getpid()
+stops = Stops()
+Ends()
+try:
+    stops.check()
+except Stopped:
+    print("stopped")
+"""
+    ran = subprocess.run(
+        [sys.executable, "-c", code], cwd=TOOLS, capture_output=True, text=True, check=False
+    )
+    demand("what Python tells", True, "Exception ignored in" in ran.stderr)
+    demand("what is raised again", (0, "stopped\n"), (ran.returncode, ran.stdout))
+    del place
+    return "a signal that comes while Python ends an object stops the dispatcher too"
+
+
 def full(answer):
     return answer[0], answer[1]["code"]
 
@@ -451,6 +478,7 @@ ROWS = [
     others_jobs,
     earlier_farm,
     states_to_come,
+    stop_that_is_dropped,
     many_runners,
     own_ends,
     no_room_for_replies,

@@ -4,7 +4,7 @@ import json
 import os
 import sys
 
-from farm_tools import calls, holding, settings, tables, waiting
+from farm_tools import calls, holding, settings, signals, tables, waiting
 
 ENDED, REFUSED, FAULT = 1, 3, 4
 PATIENCE = 15
@@ -19,7 +19,7 @@ back; 126 and 127 where the command can't be run or found."""
 
 def main(words=None) -> int:
     options = options_of(sys.argv[1:] if words is None else words)
-    holding.catch_signals()
+    signals.catch_signals()
     fault_status = holding.OF_ITSELF if options.does is holding.run_with_board else FAULT
     try:
         desk = calls.Desk(settings.read_settings("desk", options), PATIENCE)
@@ -35,7 +35,7 @@ def main(words=None) -> int:
         return fault_status
     except (settings.BadSettings, OSError) as fault:
         return told(fault_status, str(fault))
-    except holding.Interrupted as it:
+    except signals.Interrupted as it:
         return it.status
 
 
@@ -272,7 +272,7 @@ def reserve_board(desk, options) -> int:
         reservation.ask()
         print_number(options, {"number": reservation.number})
         return await_board(reservation, options)
-    except holding.Interrupted as it:
+    except signals.Interrupted as it:
         reservation.give_back()
         return it.status
 

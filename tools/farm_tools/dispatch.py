@@ -37,21 +37,38 @@ class Stopped(BaseException):
     """SIGTERM or SIGINT came."""
 
 
+class Stops:
+    """SIGTERM and SIGINT, which raise Stopped where they come. Python drops what is raised while it
+    ends an object, so `check` raises it again."""
+
+    def __init__(self):
+        self.came = False
+        signal.signal(signal.SIGTERM, self._stop)
+        signal.signal(signal.SIGINT, self._stop)
+
+    def _stop(self, *_) -> None:
+        self.came = True
+        raise Stopped
+
+    def check(self) -> None:
+        if self.came:
+            raise Stopped
+
+
 def main(words=None) -> int:
     options = options_of(words)
-    signal.signal(signal.SIGTERM, stop)
-    signal.signal(signal.SIGINT, stop)
-    for command in (options.command, options.check):
-        if not shutil.which(command[0]):
-            return end(FAULT, f"{command[0]}: no such command")
     try:
+        stops = Stops()
+        for command in (options.command, options.check):
+            if not shutil.which(command[0]):
+                return end(FAULT, f"{command[0]}: no such command")
         desk = calls.Desk(settings.read_settings("dispatch", options, "dispatcher"), patience=0)
         place = os.path.realpath(options.folder)
         os.makedirs(place, mode=0o750, exist_ok=True)
         lock = folders.take_lock(os.path.join(place, folders.LOCK))
         if lock is None:
             return end(FAULT, f"{place} is in use by another farm-dispatch")
-        return serve(Dispatcher(desk, place, options), options.every, Wakes(place))
+        return serve(Dispatcher(desk, place, options), options.every, Wakes(place), stops)
     except Stopped:
         return 0
     except (settings.BadSettings, OSError) as fault:
@@ -93,16 +110,12 @@ def seconds(text: str) -> float:
     return number
 
 
-def stop(*_) -> None:
-    raise Stopped
-
-
 def end(status: int, text: str) -> int:
     print(f"farm-dispatch: {text}", file=sys.stderr, flush=True)
     return status
 
 
-def serve(dispatcher: Dispatcher, every: float, wakes) -> int:
+def serve(dispatcher: Dispatcher, every: float, wakes, stops: Stops) -> int:
     """Passes and looks after the jobs until a signal comes, or the desk doesn't take the caller."""
     due = cleaned = trouble = None
     while True:
@@ -129,6 +142,7 @@ def serve(dispatcher: Dispatcher, every: float, wakes) -> int:
             end(0, trouble or "it goes on")
         if passes:
             due = time.monotonic() + every
+        stops.check()
         wakes.wait(due)
 
 

@@ -7,31 +7,10 @@ import sys
 import time
 
 from farm_tools import calls, waiting
+from farm_tools.signals import SIGNALS, Interrupted, check
 
-SIGNALS = (signal.SIGINT, signal.SIGTERM, signal.SIGHUP)
 OF_ITSELF, NOT_RUN, NOT_FOUND = 125, 126, 127
 GIVES_UP = 60
-
-
-class Interrupted(BaseException):
-    """A signal came that ends the tool."""
-
-    def __init__(self, number: int):
-        super().__init__(number)
-        self.status = 128 + number
-
-
-def catch_signals() -> None:
-    """Lets a signal that ends the tool be raised as Interrupted, once."""
-    for number in SIGNALS:
-        if signal.getsignal(number) != signal.SIG_IGN:
-            signal.signal(number, interrupt)
-
-
-def interrupt(number: int, _frame) -> None:
-    for each in SIGNALS:
-        signal.signal(each, signal.SIG_IGN)
-    raise Interrupted(number)
 
 
 class Reservation:
@@ -114,6 +93,7 @@ def ran_with(reservation, options) -> int:
         reservation.ask()
         board = waiting.wait_for_board(reservation.desk, reservation.number, options.every)
         reservation.acquire()
+        check()
         return run(options.words, board, reservation.number)
     except (calls.Refused, calls.NoAnswer, waiting.Gone) as fault:
         print(f"desk: {fault}", file=sys.stderr)

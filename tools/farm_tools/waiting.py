@@ -2,7 +2,7 @@
 import sys
 import time
 
-from farm_tools import calls
+from farm_tools import calls, signals
 
 # A reservation that isn't refreshed lives for sixty seconds.
 REFRESH = 20
@@ -81,6 +81,7 @@ def wait_for_end(desk, number: int, every: float) -> list:
                 )
             except calls.NoAnswer as fault:
                 progress.show(f"no answer from the desk: {fault}")
+            signals.check()
             time.sleep(every)
     finally:
         progress.end()
@@ -116,6 +117,7 @@ def wait_for_board(desk, number: int, every: float) -> dict:
                 if refusal.code == calls.EXPIRED:
                     raise Gone(f"reservation {number} has expired") from refusal
                 raise
+            signals.check()
             time.sleep(every)
     finally:
         progress.end()

@@ -7,7 +7,6 @@ use Rattle.farm_types.specs.Pass.{freed_board, is_job_so, is_res_so, change_jobs
 use Rattle.farm_types.specs.Change.{graded_board, after_job, after_check}
 use Rattle.farm_types.specs.Small.{IsSmallBoard}
 use Rattle.farm_types.specs.declared.rows.Health.{Health}
-use Rattle.farm_types.specs.declared.rows.Holder.{Holder}
 use Rattle.farm_types.specs.declared.rows.Outcome.{Outcome}
 use Rattle.farm_types.specs.declared.rows.JobRow.{JobRow}
 use Rattle.farm_types.specs.declared.rows.ResRow.{ResRow}
@@ -15,7 +14,7 @@ use Rattle.farm_types.specs.declared.rows.BoardRow.{BoardRow}
 use Rattle.farm_core.specs.declared.job_edit.JobEdit.{JobEdit}
 use Rattle.farm_core.specs.declared.res_edit.ResEdit.{ResEdit}
 use Rattle.farm_core.specs.declared.held.Becomes.{Becomes}
-use Rattle.farm_core.specs.Edits.{IfAfterCheck, job_changed, res_changed, board_after, is_job_in, is_res_in}
+use Rattle.farm_core.specs.Edits.{IfAfterCheck, job_changed, res_changed, board_after}
 use Rattle.farm_core.proofs.Tabled.{KeepsJob}
 
 keeps_number : (e : JobEdit) (j : JobRow) → (job_changed e j).number ≡ j.number
@@ -74,17 +73,6 @@ keeps_board Becomes.Idle b = refl
 keeps_board (Becomes.State state) b = refl
 keeps_board (Becomes.AfterJob outcome) b = job_by (λ x. x.name ≡ b.name) outcome b (λ h. refl)
 keeps_board (Becomes.AfterCheck outcome t) b = check_by (λ x. x.name ≡ b.name) outcome t b (λ h. refl) (λ h. refl)
-
--- the words of the machine
-pub of_jobs : (F : Farm) (test : JobRow → Bool) (h : Holder) → is_job_in F.jobs test h ≡ is_job_so F test h
-of_jobs F test Holder.Nobody = refl
-of_jobs F test (Holder.Job n) = refl
-of_jobs F test (Holder.Res n) = refl
-
-pub of_reservations : (F : Farm) (test : ResRow → Bool) (h : Holder) → is_res_in F.reservations test h ≡ is_res_so F test h
-of_reservations F test Holder.Nobody = refl
-of_reservations F test (Holder.Job n) = refl
-of_reservations F test (Holder.Res n) = refl
 
 -- a change that changes nothing
 same_rows : {R : Type 0} (test : R → Bool) (rows : List R) → rows ≡ change_where test (λ r. r) rows

@@ -30,6 +30,17 @@ use Rattle.farm_core.specs.Serving.{IsSkipped, IsMissed, IsNext, Reaches}
 use Rattle.farm_core.proofs.Passing.{asks_claim}
 use Rattle.farm_core.proofs.Skipping.{wants_asked}
 
+-- the first claim that passes a test is reached with none before it
+pub first_reached : (F : Farm) (test : Queued → Bool) (xs : List Queued)
+    → Reaches F (map (λ x. x.claim) (filter test xs)) (option_map (λ x. x.claim) (find test xs))
+first_reached F test [] = tt
+first_reached F test (x ∷ xs) = by (test x) (first_reached F test xs)
+  where
+    by : (v : Bool) → Reaches F (map (λ x. x.claim) (filter test xs)) (option_map (λ x. x.claim) (find test xs))
+        → Reaches F (map (λ x. x.claim) (cond v (x ∷ filter test xs) (filter test xs))) (option_map (λ x. x.claim) (cond v (Some x) (find test xs)))
+    by true rest = ([], map (λ x. x.claim) (filter test xs), refl, tt)
+    by false rest = rest
+
 -- ---- claims as they are shown
 
 -- those of the queues that pass a test

@@ -16,8 +16,7 @@ use Rattle.std.proofs.lemmas.Map.Keys.{Less-from_sorted}
 use Rattle.farm_types.specs.declared.rows.JobRow.{JobRow}
 use Rattle.farm_core.specs.declared.job_edit.JobEdit.{JobEdit}
 use Rattle.farm_types.specs.declared.rows.ResRow.{ResRow}
-use Rattle.farm_core.specs.declared.res_edit.ResEdit.{ResEdit}
-use Rattle.farm_core.specs.Edits.{job_passes, first_of, res_passes}
+use Rattle.farm_core.specs.Edits.{job_passes, first_of}
 use Rattle.farm_core.specs.Orderly.{IsNear, IsPlaceOf}
 
 same_or_less : (j k : ℕ) → j ≤ k → (j ≡ k) ⊎ (j < k)

@@ -72,8 +72,7 @@ impl Draft {
             }) self) }
     {
         let tables = &mut *self.tables;
-        let rows = tables.jobs.rows();
-        let start = place_of(rows, edit.first());
+        let start = tables.jobs.place_of(edit.first());
         let end = tables.jobs.place_near(start, edit.first() + GROUP_REACH);
         let none = JobTable::new(*tables.types.allocator());
         let former = replace(&mut tables.jobs, none);

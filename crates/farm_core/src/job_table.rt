@@ -283,6 +283,21 @@ impl JobTable {
         place_of(&self.rows, number)
     }
 
+    /// How many jobs have a smaller number. Jobs and reservations draw their numbers from one
+    /// counter, so while no reservation has drawn one since the first job a job's number tells its
+    /// place; else it costs a binary search.
+    pub fn place_of(&self, number: u64) -> usize
+        requires { IsStrictlySortedBy job_cmp self.now }
+        ensures within { result ≤ length self.now }
+        ensures place { IsPlaceOf (λ (r : JobRow). r.number) self.now number result }
+    {
+        let guess = match self.rows.first() {
+            None => 0,
+            Some(row) => number.saturating_sub(row.number) as usize,
+        };
+        self.place_near(guess, number)
+    }
+
     /// Whether the members of two groups want the same, member for member, where they stand at the
     /// same of the places from one place on each. No row is looked at. A no costs a search and
     /// nothing else, so contracts say what a yes means.

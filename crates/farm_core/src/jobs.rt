@@ -17,7 +17,6 @@ ghost use Rattle.farm_core.specs.Plain.{plain_farm};
 ghost use Rattle.farm_core.specs.Orderly.{IsOrderly, IsPlaceOf};
 
 use crate::draft::Draft;
-use crate::edits::place_of;
 use crate::held::Becomes;
 use crate::job_edit::JobEdit;
 use crate::refusal::is_admin;
@@ -97,7 +96,7 @@ impl Tables {
         requires small { IsSmall group }
         ensures { filter (λ j. j.group == group) result.now ≡ members (plain_farm self.now) group }
     {
-        let start = place_of(self.jobs.rows(), group);
+        let start = self.jobs.place_of(group);
         self.near_from(group, start)
     }
 

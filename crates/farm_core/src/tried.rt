@@ -17,7 +17,7 @@ ghost use Rattle.farm_core.specs.Orderly.{IsOrderly, IsPlaceOf};
 ghost use Rattle.farm_core.specs.Serving.{AreUnmet, IsLike, IsMissed, IsSkipped};
 ghost use Rattle.farm_core.specs.Serving.{IsNext, Reaches, member_wants, wants_of};
 
-use crate::edits::{GUESS_REACH, place_of, res_place_of};
+use crate::edits::{GUESS_REACH, res_place_of};
 use crate::same::{same_members, same_want};
 use crate::tables::Tables;
 use crate::unmet::{Known, Unmet};
@@ -64,12 +64,12 @@ pub struct Guess {
 }
 
 impl Tables {
-    /// Where the first row of a claim stands in its table, by binary search.
+    /// Where the first row of a claim stands in its table.
     pub fn place_of_claim(&self, kind: ClaimKind, number: u64) -> usize
         requires { IsOrderly (plain_farm self.now) }
     {
         match kind {
-            ClaimKind::Group => place_of(self.jobs.rows(), number),
+            ClaimKind::Group => self.jobs.place_of(number),
             ClaimKind::Reservation => res_place_of(&self.reservations, number),
         }
     }
@@ -212,9 +212,10 @@ impl Tables {
     /// The first claim of the open queues after a priority and a number, if they are given, that
     /// isn't passed over.
     ///
-    /// It takes memory for one place in each queue. With K queues, C claims in open ones and J jobs
-    /// it costs O(K log C + log J) to begin, and then a comparison a queue and one for each of the
-    /// eight that were found unmet for each claim that is passed over.
+    /// With K queues, C claims in open ones and J jobs it costs O(K log C) where none was found
+    /// unmet, and takes no memory. Else it takes memory for one place in each queue, and costs
+    /// O(K log C + log J) to begin, and then a comparison a queue and one for each of the eight that
+    /// were found unmet for each claim that is passed over.
     fn next_open(
         &self,
         unmet: &Unmet,
@@ -226,6 +227,9 @@ impl Tables {
             (claims_after (λ k. false || is_open self.now.queues.boards k) (last_spot last)
             self.now.queues.claims) (option_copied claim)) }
     {
+        if unmet.is_empty() {
+            return Ok(self.queues.next(last, false));
+        }
         let mut guess = Guess {
             job: 0,
             reservation: 0,
@@ -261,8 +265,8 @@ impl Tables {
     /// group of two members or more of any queue, or a claim of an open queue that doesn't want the
     /// same as one that was found unmet; else the latter alone.
     ///
-    /// It costs what a walk over the open queues does, and a look at the first claim of two boards
-    /// or more, in O(log C).
+    /// It costs what `next_open` does, and a look at the first claim of two boards or more, in
+    /// O(log C).
     pub fn next_claim(
         &self,
         unmet: &Unmet,

@@ -20,12 +20,16 @@ pub struct IdleRow {
     pub queue: usize,
 }
 
-/// The place of the row of a board, or the place at which such a one is to be inserted.
+/// The place of the row of a board, or the place at which such a one is to be inserted. The first
+/// row is looked at before a binary search: claims mostly get the first of the free boards.
 fn row_at(rows: &[IdleRow], name: &Name) -> Result<usize, usize>
     requires { IsStrictlySortedBy idle_cmp rows.now }
     ensures { IsPlace idle_cmp (λ r. r.name ≡ name.now) rows.now
         (find (λ r. bytes_eq r.name name.now) rows.now) result }
 {
+    if !rows.is_empty() && rows[0].name.is(name) {
+        return Ok(0);
+    }
     rows.binary_search_by(|row| row.name.order(name))
 }
 

@@ -1,12 +1,29 @@
-use Rattle.std.proofs.Common.{◌≡◌, rules}
+use Rattle.std.proofs.Common.{◌≡◌, ◌∙◌, ◌<◌, List, Ok, get_or, length, subst, sym, rules, true, ℕ}
 use Rattle.std.proofs.lemmas.Fn.{always_returns_same}
 use Rattle.std.specs.Cmp.Lexicographic.{nat_list_cmp_total}
 use Rattle.std.specs.Str.{bytes_eq}
+use Rattle.std.specs.declared.cmp.Ordering.TheVariants.{Equal}
+use Rattle.std.proofs.lemmas.Cmp.{tied_itself}
+use Rattle.std.proofs.lemmas.List.{get_or_default}
+use Rattle.std.proofs.lemmas.Slice.Eq.{bytes_eq-Decides}
 use Rattle.farm_types.specs.Words.{text_cmp}
 use Rattle.farm_types.proofs.Searched.{same_names}
 use Rattle.farm_sound.proofs.Placed.{placed}
 use Rattle.farm_pick.specs.declared.idle.IdleRow.{IdleRow}
 use Rattle.farm_pick.proofs.idle.row_at.Goals as goal
+
+same_text : (a b : List ℕ) → bytes_eq a b ≡ true → text_cmp a b ≡ Equal
+same_text a b is = subst (λ x. text_cmp a x ≡ Equal) ((bytes_eq-Decides a b).0 is) (tied_itself nat_list_cmp_total a)
+
+pub returns-then-is : goal.returns-then-is
+returns-then-is c =
+    placed (λ (r : IdleRow). r.name) text_cmp nat_list_cmp_total bytes_eq same_names c.args.name.now (λ r. r.name ≡ c.args.name.now) (λ r is. is)
+    c.args.rows.now c.requires (Ok 0) some
+    (λ d. subst (λ (r : IdleRow). text_cmp r.name c.args.name.now ≡ Equal) (get_or_default c.args.rows.now 0 c.index-rows-0.result d some)
+    (same_text (get_or c.args.rows.now 0 c.index-rows-0.result).name c.args.name.now (sym c.is.ensures ∙ c.if-is.true)))
+  where
+    some : 0 < length c.args.rows.now
+    some = search rules
 
 pub returns : goal.returns
 returns c =

@@ -14,8 +14,8 @@ use Rattle.farm_core.proofs.draft.Draft.edit_jobs.Goals as goal
 pub change-requires-clause-start : goal.change-requires-clause-start
 change-requires-clause-start c =
     places_rise (λ (r : JobRow). r.number) 4 c.deref_mut-tables.result.now.jobs (first_of c.args.edit) c.place_of-start.result c.place_near-end.result
-    (rw (← c.rows-rows.ensures) c.place_of-start.ensures.within) c.place_near-end.ensures.within
-    (rw (← c.rows-rows.ensures, ← c.first.ensures) c.place_of-start.ensures.place) (rw (← c.first-2.ensures) c.place_near-end.ensures.place)
+    c.place_of-start.ensures.within c.place_near-end.ensures.within
+    (rw (← c.first.ensures) c.place_of-start.ensures.place) (rw (← c.first-2.ensures) c.place_near-end.ensures.place)
 
 pub change-requires-clause-end : goal.change-requires-clause-end
 change-requires-clause-end c = rw c.replace-former.ensures.value c.place_near-end.ensures.within
@@ -24,7 +24,7 @@ pub change-requires-clause-before : goal.change-requires-clause-before
 change-requires-clause-before c =
     let orderly : IsOrderly (plain_farm c.deref_mut-tables.result.now) = rw c.deref_mut-tables.ensures.value c.self.invariant.orderly in
     rw c.replace-former.ensures.value (none_before c.deref_mut-tables.result.now.jobs c.args.edit orderly.near c.place_of-start.result
-    (rw (← c.rows-rows.ensures) c.place_of-start.ensures.within) (rw (← c.rows-rows.ensures, ← c.first.ensures) c.place_of-start.ensures.place))
+    c.place_of-start.ensures.within (rw (← c.first.ensures) c.place_of-start.ensures.place))
 
 pub change-requires-clause-behind : goal.change-requires-clause-behind
 change-requires-clause-behind c =
