@@ -8,7 +8,7 @@ use crate::spot::Spot;
 use crate::waiting;
 use farm_types::claims::Claim;
 use farm_types::words::Name;
-use std::collections::BTreeMap;
+use std::collections::{BTreeMap, VecDeque};
 use std::marker::Model;
 
 /// Lends the first claim of each queue that comes after a spot, the reservations' queue first; of
@@ -18,7 +18,7 @@ use std::marker::Model;
 pub struct Heads<'a> {
     kinds: &'a [Name],
     claims: &'a BTreeMap<Spot, Claim>,
-    idle: &'a [IdleRow],
+    idle: &'a VecDeque<IdleRow>,
     /// The queue that is looked at next.
     queue: usize,
     /// The spot after which claims are lent, whatever its queue.
@@ -33,9 +33,10 @@ impl<'a> Model for Heads<'a> {
 
     ghost Value = { List Claim };
 
-    ghost view = { λ h. heads_from h.kinds.now h.claims.now.entries h.idle.now h.all h.last h.queue };
+    ghost view = { λ h. heads_from h.kinds.now h.claims.now.entries h.idle.now.items h.all h.last
+        h.queue };
 
-    ghost invariant = { λ h. AreHeads h.kinds.now h.claims.now.entries h.idle.now };
+    ghost invariant = { λ h. AreHeads h.kinds.now h.claims.now.entries h.idle.now.items };
 }
 
 impl<'a> Heads<'a> {
@@ -43,12 +44,12 @@ impl<'a> Heads<'a> {
     pub(crate) fn new(
         kinds: &'a [Name],
         claims: &'a BTreeMap<Spot, Claim>,
-        idle: &'a [IdleRow],
+        idle: &'a VecDeque<IdleRow>,
         last: Spot,
         all: bool,
     ) -> Heads<'a>
-        requires { AreHeads kinds.now claims.now.entries idle.now }
-        ensures { result ≡ heads_from kinds.now claims.now.entries idle.now all last 0 }
+        requires { AreHeads kinds.now claims.now.entries idle.now.items }
+        ensures { result ≡ heads_from kinds.now claims.now.entries idle.now.items all last 0 }
     {
         Heads {
             kinds,

@@ -10,6 +10,7 @@ ghost use Rattle.farm_pick.specs.Kept.{idle_cmp};
 
 use farm_types::words::Name;
 use std::alloc::AllocError;
+use std::collections::VecDeque;
 
 /// A free board, and the queue of its type.
 #[derive(Debug, Drop)]
@@ -20,22 +21,27 @@ pub struct IdleRow {
     pub queue: usize,
 }
 
+/// How many of the first rows are looked at one by one before a binary search.
+const NEARBY: usize = 8;
+
 /// The place of the row of a board, or the place at which such a one is to be inserted. The first
-/// row is looked at before a binary search: claims mostly get the first of the free boards.
-fn row_at(rows: &[IdleRow], name: &Name) -> Result<usize, usize>
-    requires { IsStrictlySortedBy idle_cmp rows.now }
-    ensures { IsPlace idle_cmp (λ r. r.name ≡ name.now) rows.now
-        (find (λ r. bytes_eq r.name name.now) rows.now) result }
+/// few rows are looked at before a binary search: claims mostly get one of the first free boards.
+fn row_at(rows: &VecDeque<IdleRow>, name: &Name) -> Result<usize, usize>
+    requires { IsStrictlySortedBy idle_cmp rows.now.items }
+    ensures { IsPlace idle_cmp (λ r. r.name ≡ name.now) rows.now.items
+        (find (λ r. bytes_eq r.name name.now) rows.now.items) result }
 {
-    if !rows.is_empty() && rows[0].name.is(name) {
-        return Ok(0);
+    for at in 0..rows.len().min(NEARBY) {
+        if rows[at].name.is(name) {
+            return Ok(at);
+        }
     }
     rows.binary_search_by(|row| row.name.order(name))
 }
 
 /// Puts a row in the place of the one of its board, or adds it in name order. A refused growth
-/// changes nothing.
-pub fn put_row(rows: &mut Vec<IdleRow>, row: IdleRow) -> Result<(), AllocError>
+/// changes nothing. To add one moves the rows before it or those behind it, whichever are fewer.
+pub fn put_row(rows: &mut VecDeque<IdleRow>, row: IdleRow) -> Result<(), AllocError>
     requires { IsStrictlySortedBy idle_cmp rows.old.items }
     ensures rows { OnOk result (rows.new.items ≡ put idle_cmp rows.old.items row) }
     ensures err { OnErr result (rows.new.items ≡ rows.old.items) }
@@ -49,8 +55,9 @@ pub fn put_row(rows: &mut Vec<IdleRow>, row: IdleRow) -> Result<(), AllocError>
     }
 }
 
-/// Takes the row of a board, if there is one.
-pub fn take_row(rows: &mut Vec<IdleRow>, name: &Name)
+/// Takes the row of a board, if there is one. That moves the rows before it or those behind it,
+/// whichever are fewer: a pass takes rows near the front, with few before them.
+pub fn take_row(rows: &mut VecDeque<IdleRow>, name: &Name)
     requires { IsStrictlySortedBy idle_cmp rows.old.items }
     ensures { rows.new.items ≡ filter (λ r. not (bytes_eq r.name name.now)) rows.old.items }
 {
@@ -63,8 +70,8 @@ pub fn take_row(rows: &mut Vec<IdleRow>, name: &Name)
 }
 
 /// Whether a board of the queue's type is free; for the reservations' queue any board.
-pub fn is_open(rows: &[IdleRow], queue: usize) -> bool
-    ensures { result ≡ queue_open rows.now queue }
+pub fn is_open(rows: &VecDeque<IdleRow>, queue: usize) -> bool
+    ensures { result ≡ queue_open rows.now.items queue }
 {
     rows.iter().any(|row| queue == 0 || row.queue == queue)
 }

@@ -18,6 +18,7 @@ use crate::{choose, fit, kind};
 use farm_sound::seek;
 use farm_types::rows::{BoardRow, TypeRow, Want};
 use farm_types::words::Name;
+use std::collections::VecDeque;
 
 /// How many boards are looked at one by one before a binary search.
 const NEARBY: usize = 8;
@@ -80,7 +81,7 @@ fn fitting_place(
 /// none that is held stands behind one that is free: served claims take the first boards that fit.
 fn shortlist(
     kinds: &[Name],
-    rows: &[IdleRow],
+    rows: &VecDeque<IdleRow>,
     boards: &[BoardRow],
     types: &[TypeRow],
     want: &Want,
@@ -88,19 +89,19 @@ fn shortlist(
 ) -> Picked
     requires few { limit ≤ most_wants }
     requires ordered { IsStrictlySortedBy board_cmp boards.now }
-    requires idle { AreIdle kinds.now rows.now }
-    requires free { map (shown_idle kinds.now) rows.now ≡ map idle_board
+    requires idle { AreIdle kinds.now rows.now.items }
+    requires free { map (shown_idle kinds.now) rows.now.items ≡ map idle_board
         (filter (is_free types.now) boards.now) }
     ensures { IsShortlist (candidate_at boards.now (is_free types.now) want.now) limit result }
 {
     let queue = kind::asked_queue(kinds, &want.kind);
     let mut found = Picked::new();
     let mut behind = boards.len().saturating_sub(rows.len());
-    for row in rows {
+    for at in 0..rows.len() {
         if found.len() >= limit {
             break;
         }
-        match fitting_place(row, queue, boards, want, &mut behind) {
+        match fitting_place(&rows[at], queue, boards, want, &mut behind) {
             Some(place) => found = found.with(place),
             None => {}
         }
@@ -112,15 +113,15 @@ fn shortlist(
 /// for boards that serve and that nobody holds; the rows are those of these boards.
 pub fn least_of(
     kinds: &[Name],
-    rows: &[IdleRow],
+    rows: &VecDeque<IdleRow>,
     boards: &[BoardRow],
     types: &[TypeRow],
     wants: &[&Want],
 ) -> Option<Picked>
     requires ordered { IsStrictlySortedBy board_cmp boards.now }
     requires few { length wants.now ≤ most_wants }
-    requires idle { AreIdle kinds.now rows.now }
-    requires free { map (shown_idle kinds.now) rows.now ≡ map idle_board
+    requires idle { AreIdle kinds.now rows.now.items }
+    requires free { map (shown_idle kinds.now) rows.now.items ≡ map idle_board
         (filter (is_free types.now) boards.now) }
     ensures least { option_map (boards_at boards.now) result ≡ least boards.now (is_free types.now)
         (map (λ w. w.now) wants.now) }

@@ -27,7 +27,7 @@ use farm_types::rows::{BoardRow, TypeRow, Want};
 use farm_types::wants::Wants;
 use farm_types::words::{Name, Priority};
 use std::alloc::{AllocError, Global};
-use std::collections::{BTreeMap, BTreeSet};
+use std::collections::{BTreeMap, BTreeSet, VecDeque};
 use std::marker::Model;
 
 /// The claims that wait and the free boards, so kept that a pass finds the next claim that may be
@@ -52,8 +52,9 @@ pub struct Queues {
     places: BTreeMap<u64, Place>,
     /// The spots of the claims of two boards or more.
     several: BTreeSet<Rank>,
-    /// The free boards in name order, each with the queue of its type.
-    idle: Vec<IdleRow>,
+    /// The free boards in name order, each with the queue of its type. A pass gives claims the
+    /// first that fit, and a deque takes a board near the front without a move of all behind it.
+    idle: VecDeque<IdleRow>,
 }
 
 impl Model for Queues {
@@ -84,7 +85,7 @@ impl Queues {
             claims: BTreeMap::new(alloc),
             places: BTreeMap::new(alloc),
             several: BTreeSet::new(alloc),
-            idle: Vec::new(alloc),
+            idle: VecDeque::new(alloc),
         }
     }
 
@@ -135,7 +136,8 @@ impl Queues {
     /// Puts a free board of a type, in the place of one of its name if there is one. A refused
     /// growth changes nothing.
     ///
-    /// With B free boards it costs a binary search, and a move of those behind it.
+    /// With B free boards it costs a look at the first few, then a binary search, and a move of
+    /// those before it or of those behind it, whichever are fewer.
     pub fn put_board(&mut self, name: Name, kind: &Name) -> Result<(), AllocError>
         ensures ok { OnOk result (self.new ≡ record self.old {
           boards = put named_cmp self.old.boards (record { name = name; kind = kind.now });
@@ -148,7 +150,9 @@ impl Queues {
 
     /// Takes a free board; of a name that isn't there it changes nothing.
     ///
-    /// With B free boards it costs a binary search, and a move of those behind it.
+    /// With B free boards it costs a look at the first few and, where it is none of them, a binary
+    /// search, and a move of those before it or of those behind it, whichever are fewer: a pass
+    /// takes one of the first, and few stand before it.
     pub fn take_board(&mut self, name: &Name)
         ensures { self.new
             ≡ record self.old {

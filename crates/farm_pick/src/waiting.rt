@@ -17,7 +17,7 @@ use farm_types::claims::Claim;
 use farm_types::words::Name;
 use std::alloc::{AllocError, Global};
 use std::cmp::Ordering;
-use std::collections::BTreeMap;
+use std::collections::{BTreeMap, VecDeque};
 use std::ops::Bound;
 
 /// Puts a claim at its spot, and notes where its number stands. A refused growth changes nothing.
@@ -116,8 +116,8 @@ pub fn earlier<'a>(first: Option<&'a Claim>, second: Option<&'a Claim>) -> Optio
 }
 
 /// Whether the queue is looked at.
-pub fn is_seen(rows: &[IdleRow], queue: usize, all: bool) -> bool
-    ensures { result ≡ (all || queue_open rows.now queue) }
+pub fn is_seen(rows: &VecDeque<IdleRow>, queue: usize, all: bool) -> bool
+    ensures { result ≡ (all || queue_open rows.now.items queue) }
 {
     all || idle::is_open(rows, queue)
 }
@@ -127,13 +127,13 @@ pub fn is_seen(rows: &[IdleRow], queue: usize, all: bool) -> bool
 pub fn seen_head<'a>(
     kinds: &[Name],
     claims: &'a BTreeMap<Spot, Claim>,
-    rows: &[IdleRow],
+    rows: &VecDeque<IdleRow>,
     last: Spot,
     all: bool,
 ) -> Option<&'a Claim>
-    requires well { AreHeads kinds.now claims.now.entries rows.now }
+    requires well { AreHeads kinds.now claims.now.entries rows.now.items }
     requires queue { last.queue ≤ length kinds.now }
-    ensures { option_copied result ≡ head_in kinds.now claims.now.entries rows.now all last }
+    ensures { option_copied result ≡ head_in kinds.now claims.now.entries rows.now.items all last }
 {
     if is_seen(rows, last.queue, all) {
         head(claims, last)
@@ -147,12 +147,12 @@ pub fn seen_head<'a>(
 pub fn first<'a>(
     kinds: &[Name],
     claims: &'a BTreeMap<Spot, Claim>,
-    rows: &[IdleRow],
+    rows: &VecDeque<IdleRow>,
     last: Spot,
     all: bool,
 ) -> Option<&'a Claim>
     requires { AllByRecursion (IsKeyed kinds.now) claims.now.entries }
-    ensures { IsFirst claims.now.entries (λ q. all || queue_open rows.now q)
+    ensures { IsFirst claims.now.entries (λ q. all || queue_open rows.now.items q)
         (length kinds.now + 1) last (option_copied result) }
 {
     let mut best = None;

@@ -12,8 +12,8 @@ use crate::waiting;
 use farm_types::claims::Claim;
 use farm_types::words::Name;
 use std::alloc::{AllocError, Global};
-use std::collections::BTreeMap;
 use std::collections::btree_map::Range;
+use std::collections::{BTreeMap, VecDeque};
 use std::marker::Model;
 use std::ops::Bound;
 
@@ -54,11 +54,11 @@ fn cursor_after<'a>(claims: &'a BTreeMap<Spot, Claim>, last: Spot) -> Option<Cur
 /// for.
 fn seen_cursor<'a>(
     claims: &'a BTreeMap<Spot, Claim>,
-    rows: &[IdleRow],
+    rows: &VecDeque<IdleRow>,
     last: Spot,
     all: bool,
 ) -> Option<Cursor<'a>>
-    ensures { IsCursor claims.now.entries (λ q. all || queue_open rows.now q) last result }
+    ensures { IsCursor claims.now.entries (λ q. all || queue_open rows.now.items q) last result }
 {
     if waiting::is_seen(rows, last.queue, all) {
         cursor_after(claims, last)
@@ -72,12 +72,12 @@ fn cursors_after<'a>(
     alloc: Global,
     kinds: &[Name],
     claims: &'a BTreeMap<Spot, Claim>,
-    rows: &[IdleRow],
+    rows: &VecDeque<IdleRow>,
     last: Spot,
     all: bool,
 ) -> Result<Vec<Option<Cursor<'a>>>, AllocError>
     ensures { IfOk result (λ cursors. AreCursors claims.now.entries
-        (λ q. all || queue_open rows.now q) last (length kinds.now + 1) cursors.items) }
+        (λ q. all || queue_open rows.now.items q) last (length kinds.now + 1) cursors.items) }
 {
     let mut cursors = Vec::with_capacity(alloc, kinds.len() + 1)?;
     for queue in 0..kinds.len() + 1 {
@@ -131,7 +131,7 @@ fn first_of(cursors: &[Option<Cursor<'_>>]) -> Option<usize>
 pub struct Walk<'a> {
     kinds: &'a [Name],
     claims: &'a BTreeMap<Spot, Claim>,
-    idle: &'a [IdleRow],
+    idle: &'a VecDeque<IdleRow>,
     all: bool,
     /// The spot after which claims are lent, whatever its queue.
     last: Spot,
@@ -146,9 +146,9 @@ impl<'a> Model for Walk<'a> {
 
     ghost Value = { List Claim };
 
-    ghost view = { λ w. walk_from w.kinds.now w.claims.now.entries w.idle.now w.all w.last };
+    ghost view = { λ w. walk_from w.kinds.now w.claims.now.entries w.idle.now.items w.all w.last };
 
-    ghost invariant = { λ w. IsWalk w.kinds.now w.claims.now.entries w.idle.now w.all w.last
+    ghost invariant = { λ w. IsWalk w.kinds.now w.claims.now.entries w.idle.now.items w.all w.last
         w.cursors.items };
 }
 
@@ -158,13 +158,13 @@ impl<'a> Walk<'a> {
         alloc: Global,
         kinds: &'a [Name],
         claims: &'a BTreeMap<Spot, Claim>,
-        idle: &'a [IdleRow],
+        idle: &'a VecDeque<IdleRow>,
         last: Spot,
         all: bool,
     ) -> Result<Walk<'a>, AllocError>
-        requires { AreHeads kinds.now claims.now.entries idle.now }
+        requires { AreHeads kinds.now claims.now.entries idle.now.items }
         ensures { IfOk result
-            (λ walk. walk ≡ walk_from kinds.now claims.now.entries idle.now all last) }
+            (λ walk. walk ≡ walk_from kinds.now claims.now.entries idle.now.items all last) }
     {
         Ok(Walk {
             kinds,

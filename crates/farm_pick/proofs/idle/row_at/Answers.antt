@@ -1,7 +1,9 @@
-use Rattle.std.proofs.Common.{◌≡◌, ◌∙◌, ◌<◌, List, Ok, get_or, length, subst, sym, rules, true, ℕ}
+use Rattle.std.proofs.Common.{◌≡◌, ◌∙◌, ◌<◌, List, Ok, ap, get_or, length, subst, sym, rules, true, ℕ}
 use Rattle.std.proofs.lemmas.Fn.{always_returns_same}
 use Rattle.std.specs.Cmp.Lexicographic.{nat_list_cmp_total}
+use Rattle.std.specs.List.Sorted.{IsSearchInRange}
 use Rattle.std.specs.Str.{bytes_eq}
+use Rattle.std.specs.VecDeque.{deque_len}
 use Rattle.std.specs.declared.cmp.Ordering.TheVariants.{Equal}
 use Rattle.std.proofs.lemmas.Cmp.{tied_itself}
 use Rattle.std.proofs.lemmas.List.{get_or_default}
@@ -18,15 +20,19 @@ same_text a b is = subst (λ x. text_cmp a x ≡ Equal) ((bytes_eq-Decides a b).
 pub returns-then-is : goal.returns-then-is
 returns-then-is c =
     placed (λ (r : IdleRow). r.name) text_cmp nat_list_cmp_total bytes_eq same_names c.args.name.now (λ r. r.name ≡ c.args.name.now) (λ r is. is)
-    c.args.rows.now c.requires (Ok 0) some
-    (λ d. subst (λ (r : IdleRow). text_cmp r.name c.args.name.now ≡ Equal) (get_or_default c.args.rows.now 0 c.index-rows-0.result d some)
-    (same_text (get_or c.args.rows.now 0 c.index-rows-0.result).name c.args.name.now (sym c.is.ensures ∙ c.if-is.true)))
+    c.args.rows.now.items c.requires (Ok c.loop-at.at) some
+    (λ d. subst (λ (r : IdleRow). text_cmp r.name c.args.name.now ≡ Equal) (get_or_default c.args.rows.now.items c.loop-at.at c.index.result.now d some)
+    (same_text (get_or c.args.rows.now.items c.loop-at.at c.index.result.now).name c.args.name.now
+    (ap (λ (r : IdleRow). bytes_eq r.name c.args.name.now) (sym c.index.ensures) ∙ sym c.is.ensures ∙ c.if-is.true)))
   where
-    some : 0 < length c.args.rows.now
+    some : c.loop-at.at < length c.args.rows.now.items
     some = search rules
 
 pub returns : goal.returns
 returns c =
     placed (λ (r : IdleRow). r.name) text_cmp nat_list_cmp_total bytes_eq same_names c.args.name.now (λ r. r.name ≡ c.args.name.now) (λ r is. is)
-    c.args.rows.now c.requires c.binary_search_by.result c.binary_search_by.ensures.bound
+    c.args.rows.now.items c.requires c.binary_search_by.result (subst (IsSearchInRange c.binary_search_by.result) len c.binary_search_by.ensures.bound)
     (c.binary_search_by.ensures.position (λ r. text_cmp r.name c.args.name.now) (always_returns_same _ _ _ (λ a r f' called. search rules)))
+  where
+    len : deque_len c.args.rows.now ≡ length c.args.rows.now.items
+    len = search rules

@@ -6,6 +6,6 @@ use Rattle.farm_pick.proofs.walk.cursors_after.Goals as goal
 
 pub loop-queue-preserved : goal.loop-queue-preserved
 loop-queue-preserved c =
-    subst (AreCursors c.args.claims.now.entries (λ q. c.args.all || queue_open c.args.rows.now q) c.args.last (c.loop-queue.queue + 1)) (sym c.in_ok-push.ensures.items)
-    (cursor_more c.args.claims.now.entries (λ q. c.args.all || queue_open c.args.rows.now q) c.args.last c.loop-queue.queue c.loop-queue.cursors.items c.seen_cursor-cursor.result
+    subst (AreCursors c.args.claims.now.entries (λ q. c.args.all || queue_open c.args.rows.now.items q) c.args.last (c.loop-queue.queue + 1)) (sym c.in_ok-push.ensures.items)
+    (cursor_more c.args.claims.now.entries (λ q. c.args.all || queue_open c.args.rows.now.items q) c.args.last c.loop-queue.queue c.loop-queue.cursors.items c.seen_cursor-cursor.result
     c.loop-queue.invariant c.seen_cursor-cursor.ensures)

@@ -1,4 +1,4 @@
-use Rattle.std.proofs.Common.{◌∙◌, ◌||◌, ap}
+use Rattle.std.proofs.Common.{◌∙◌, ◌||◌, ap, refl}
 use Rattle.farm_pick.specs.Queued.{Lists, is_open}
 use Rattle.farm_pick.specs.Heads.{last_spot}
 use Rattle.farm_pick.specs.Walked.{walk_from, claims_after}
@@ -8,10 +8,10 @@ use Rattle.farm_pick.proofs.queues.Queues.walk.Goals as goal
 pub new-requires : goal.new-requires
 new-requires c =
     heads_well c.self.inside.kinds.items c.self.inside.claims.entries c.self.inside.places.entries c.self.inside.idle.items c.self.invariant.well
-    c.deref.result.now c.deref.ensures.value c.deref-2.result.now c.deref-2.ensures.value
+    c.deref.result.now c.deref.ensures.value c.self.inside.idle.items refl
 
 pub returns : goal.returns
 returns c =
     c.in_ok-walk.ensures
-    ∙ (λ i. walk_from (c.deref.ensures.value i) c.self.inside.claims.entries (c.deref-2.ensures.value i) c.args.all (c.last_spot-last.ensures i))
+    ∙ (λ i. walk_from (c.deref.ensures.value i) c.self.inside.claims.entries c.self.inside.idle.items c.args.all (c.last_spot-last.ensures i))
     ∙ ap (λ (l : Lists). claims_after (λ k. c.args.all || is_open l.boards k) (last_spot c.args.after) l.claims) c.self.view_is
