@@ -163,6 +163,13 @@ impl Queues {
         idle::take_row(&mut self.idle, name);
     }
 
+    /// How many boards are free.
+    pub fn free_count(&self) -> usize
+        ensures { result ≡ length self.now.boards }
+    {
+        self.idle.len()
+    }
+
     /// All claims in the order `before`, each with a copy of its owner's name. With C claims and K
     /// types it costs O(C log K): the queues, each in its order, are merged.
     pub fn claims(&self) -> Result<Vec<Claim>, AllocError>
