@@ -23,6 +23,7 @@ pub mod Given
 pub mod Leasing
 pub mod Skipping
 pub mod Next
+pub mod Foreseen
 pub mod Trying
 pub mod OneTried
 pub mod Commanded

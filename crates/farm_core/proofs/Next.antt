@@ -26,25 +26,16 @@ use Rattle.farm_pick.proofs.Closed.{closed_is_unmet}
 use Rattle.farm_pick.proofs.Later.{after_itself, among_later, less_from, not_back}
 use Rattle.farm_pick.proofs.Merging.{found_among, some_want}
 use Rattle.farm_pick.proofs.Ordered.{tied_same}
-use Rattle.farm_core.specs.Serving.{IsSkipped, IsMissed, IsNext, Reaches}
+use Rattle.farm_core.specs.Ahead.{ComesNext, IsReached, claim_of, coming_of, earlier_coming}
+use Rattle.farm_core.specs.Serving.{IsSkipped, IsMissed, IsNext}
+use Rattle.farm_core.specs.declared.ahead.Coming.{Coming}
 use Rattle.farm_core.proofs.Passing.{asks_claim}
-use Rattle.farm_core.proofs.Skipping.{wants_asked}
-
--- the first claim that passes a test is reached with none before it
-pub first_reached : (F : Farm) (test : Queued → Bool) (xs : List Queued)
-    → Reaches F (map (λ x. x.claim) (filter test xs)) (option_map (λ x. x.claim) (find test xs))
-first_reached F test [] = tt
-first_reached F test (x ∷ xs) = by (test x) (first_reached F test xs)
-  where
-    by : (v : Bool) → Reaches F (map (λ x. x.claim) (filter test xs)) (option_map (λ x. x.claim) (find test xs))
-        → Reaches F (map (λ x. x.claim) (cond v (x ∷ filter test xs) (filter test xs))) (option_map (λ x. x.claim) (cond v (Some x) (find test xs)))
-    by true rest = ([], map (λ x. x.claim) (filter test xs), refl, tt)
-    by false rest = rest
+use Rattle.farm_core.proofs.Skipping.{among_filter, wants_asked}
 
 -- ---- claims as they are shown
 
 -- those of the queues that pass a test
-map_passing : (test : Queued → Bool) (cs : List Claimed)
+pub map_passing : (test : Queued → Bool) (cs : List Claimed)
     → map (λ (x : Queued). x.claim) (filter test (map queued_of cs)) ≡ map shown_claim (filter (λ d. test (queued_of d)) cs)
 map_passing test [] = refl
 map_passing test (c ∷ cs) = by (test (queued_of c)) (map_passing test cs)
@@ -78,33 +69,6 @@ shown_none (Some c) is = cc
 
 -- ---- lists in order
 
--- the claims before one that is shown at a place stand before that place
-split : (P : Claim → Type 0) (xs : List Claimed) → IsStrictlySortedBy claim_cmp xs → (passed rest : List Claim) (c : Claim) → map shown_claim xs ≡ passed ++ c ∷ rest
-    → AllByRecursion P passed
-    → (d : Claimed) × IsAmong d xs × (shown_claim d ≡ c) × ((e : Claimed) → IsAmong e xs → is_lt (shown_cmp (shown_claim e) c) ≡ true → P (shown_claim e))
-unfolding IsStrictlySortedBy
-split P [] sorted [] rest c is all = cc
-split P [] sorted (m ∷ passed) rest c is all = cc
-split P (x ∷ xs) sorted [] rest c is all = let same : shown_claim x ≡ c = cc in (x, inl refl, same, λ e at less. absurd (none e at (ap (λ k. is_lt (shown_cmp (shown_claim e) k)) same ∙ less)))
-  where
-    none : (e : Claimed) → IsAmong e (x ∷ xs) → is_lt (claim_cmp e x) ≡ true → ⊥
-    none e (inl same) less = true≢false (sym less ∙ ap (λ d. is_lt (claim_cmp d x)) same ∙ after_itself x)
-    none e (inr at) less = true≢false (sym less ∙ not_back x e (among_has (λ y. claim_cmp x y ≡ Less) e xs sorted.0 at))
-split P (x ∷ xs) sorted (m ∷ passed) rest c is all =
-    let head : shown_claim x ≡ m = cc in
-    let tail : map shown_claim xs ≡ passed ++ c ∷ rest = cc in
-    let more = split P xs sorted.1 passed rest c tail all.1 in
-    (more.0, inr more.1, more.2, λ e at less. by e at (subst P (sym head) all.0) (λ at. more.3 e at less))
-  where
-    by : (e : Claimed) → IsAmong e (x ∷ xs) → P (shown_claim x) → (IsAmong e xs → P (shown_claim e)) → P (shown_claim e)
-    by e (inl same) here there = subst (λ d. P (shown_claim d)) (sym same) here
-    by e (inr at) here there = there at
-
-all_shown : (P : Claim → Type 0) (xs : List Claimed) → AllByRecursion P (map shown_claim xs) → (e : Claimed) → IsAmong e xs → P (shown_claim e)
-all_shown P [] all e at = absurd at
-all_shown P (x ∷ xs) all e (inl same) = subst (λ d. P (shown_claim d)) (sym same) all.0
-all_shown P (x ∷ xs) all e (inr at) = all_shown P xs all.1 e at
-
 -- the claims before the one that is found fail the test
 found_first : (test : Claimed → Bool) (c : Claimed) (xs : List Claimed) → IsStrictlySortedBy claim_cmp xs → find test xs ≡ Some c
     → (e : Claimed) → IsAmong e xs → is_lt (claim_cmp e c) ≡ true → test e ≡ false
@@ -129,16 +93,7 @@ found_nowhere test (x ∷ xs) found e at = by (test x) refl found at (λ here th
     by false is here (inl same) more = ap test same ∙ is
     by false is here (inr there) more = more here there
 
-among_filter : (test : Claimed → Bool) (d : Claimed) (xs : List Claimed) → IsAmong d (filter test xs) → IsAmong d xs × (test d ≡ true)
-among_filter test d [] at = absurd at
-among_filter test d (x ∷ xs) at = by (test x) refl at (λ more. among_filter test d xs more)
-  where
-    by : (v : Bool) → test x ≡ v → IsAmong d (cond v (x ∷ filter test xs) (filter test xs)) → (IsAmong d (filter test xs) → IsAmong d xs × (test d ≡ true)) → IsAmong d (x ∷ xs) × (test d ≡ true)
-    by true is (inl same) more = (inl same, ap test same ∙ is)
-    by true is (inr at) more = let two = more at in (inr two.0, two.1)
-    by false is at more = let two = more at in (inr two.0, two.1)
-
-filter_sorted : (test : Claimed → Bool) (xs : List Claimed) → IsStrictlySortedBy claim_cmp xs → IsStrictlySortedBy claim_cmp (filter test xs)
+pub filter_sorted : (test : Claimed → Bool) (xs : List Claimed) → IsStrictlySortedBy claim_cmp xs → IsStrictlySortedBy claim_cmp (filter test xs)
 unfolding IsStrictlySortedBy
 filter_sorted test [] sorted = tt
 filter_sorted test (x ∷ xs) sorted = by (test x) (filter_sorted test xs sorted.1)
@@ -174,25 +129,6 @@ module _ (F : Farm) (sound : IsSound F) (place : Option (ℕ × ℕ)) where
     pub stands : Stands o
     pub before : (e : Claimed) → IsAmong e (queue F) → is_behind e ≡ true → test e ≡ true → IsBefore e o → P (shown_claim e)
 
-  pub first_open : (o : Option Claim) → Reaches F (claims_after (λ k. false || is_open (idle_boards F) k) (last_spot place) (map queued_of (queue F))) o → First opens (IsSkipped F) o
-  first_open o reaches = by o (subst (λ cs. Reaches F cs o) (map_passing (λ x. is_later (last_spot place) x.claim && is_open (idle_boards F) x.kind) (queue F)) reaches)
-    where
-      test : Claimed → Bool
-      test d = is_behind d && opens d
-
-      by : (o : Option Claim) → Reaches F (map shown_claim (filter test (queue F))) o → First opens (IsSkipped F) o
-      by None all = record {
-        stands = tt;
-        before = λ e at behind lent _. all_shown (IsSkipped F) (filter test (queue F)) all e (among_later test e (queue F) at (λ i. behind i && lent i));
-      }
-      by (Some c) reaches =
-          let it = split (IsSkipped F) (filter test (queue F)) (filter_sorted test (queue F) (queue_sorted F)) reaches.0 reaches.1 c reaches.2 reaches.3 in
-          let here = among_filter test it.0 (queue F) it.1 in
-          record {
-            stands = (it.0, here.0, it.2, ap (is_later (last_spot place)) (sym it.2) ∙ (both (is_behind it.0) (opens it.0) here.1).0);
-            before = λ e at behind lent less. it.3 e (among_later test e (queue F) at (λ i. behind i && lent i)) less;
-          }
-
   pub first_several : (o : Option Claim)
       → o ≡ option_map (λ (x : Queued). x.claim) (find (λ x. is_later (last_spot place) x.claim && nat_le 2 x.claim.boards) (map queued_of (queue F)))
       → First (λ d. nat_le 2 (length d.wants)) (λ c. ⊥) o
@@ -222,28 +158,34 @@ module _ (F : Farm) (sound : IsSound F) (place : Option (ℕ × ℕ)) where
                 (found_first test it.0 (queue F) (queue_sorted F) it.1 e at (ap (λ k. is_lt (shown_cmp (shown_claim e) k)) it.2 ∙ less));
           }
 
-  -- one that is passed over, or whose queue is closed, isn't met
-  missed : (o : Option Claim) → First opens (IsSkipped F) o → (e : Claimed) → IsAmong e (queue F) → is_behind e ≡ true → IsBefore e o → IsMissed F (shown_claim e).kind e.number
-  missed o first e at behind less = by (opens e) refl
+  abbrev pub every : Claimed → Bool
+  every d = true
+
+  abbrev pub IsMissedThere : Claim → Type 0
+  IsMissedThere c = IsMissed F c.kind c.number
+
+  -- no free boards meet those that go before
+  missed : (o : Option Claim) → First every IsMissedThere o → (e : Claimed) → IsAmong e (queue F) → is_behind e ≡ true → IsBefore e o → IsMissed F (shown_claim e).kind e.number
+  missed o first e at behind less = first.before e at behind refl less
+
+  -- where it is closed no free boards meet a claim
+  pub closed_missed : (e : Claimed) → IsAmong e (queue F) → opens e ≡ false → IsMissed F (shown_claim e).kind e.number
+  closed_missed e at closed =
+      ap (least F.boards (is_free F.types)) (sym (wants_asked F e (asks_claim F e claim)))
+      ∙ closed_is_unmet F sound.steady.boards_sorted e (some_want F e claim) closed
     where
       claim : IsClaim F e
       claim = among_has (IsClaim F) e (queue F) (queue_claims F sound.steady) at
 
-      by : (v : Bool) → opens e ≡ v → IsMissed F (shown_claim e).kind e.number
-      by true lent = (first.before e at behind lent less).0
-      by false closed =
-          ap (least F.boards (is_free F.types)) (sym (wants_asked F e (asks_claim F e claim)))
-          ∙ closed_is_unmet F sound.steady.boards_sorted e (some_want F e claim) closed
-
   -- where a group collects
-  pub next_alone : (F.collector ≡ 0 → ⊥) → (o : Option Claim) → First opens (IsSkipped F) o → IsNext F place o
+  pub next_alone : (F.collector ≡ 0 → ⊥) → (o : Option Claim) → First every IsMissedThere o → IsNext F place o
   next_alone one None first = λ d at behind. (missed None first d at behind tt, λ none. absurd (one none))
   next_alone one (Some c) first =
       let it = first.stands in
       (it.0, it.1, it.2, it.3, λ e at behind less. (missed (Some c) first e at behind less, λ none. absurd (one none)))
 
   -- and where nobody does
-  module _ (lent several : Option Claim) (first : First opens (IsSkipped F) lent) (other : First (λ d. nat_le 2 (length d.wants)) (λ c. ⊥) several) where
+  module _ (lent several : Option Claim) (first : First every IsMissedThere lent) (other : First (λ d. nat_le 2 (length d.wants)) (λ c. ⊥) several) where
     idle : (e : Claimed) → IsAmong e (queue F) → is_behind e ≡ true → IsBefore e lent → IsBefore e several → IsSkipped F (shown_claim e)
     idle e at behind less less' = (missed lent first e at behind less, λ _. few_boards (length e.wants) (by (nat_le 2 (length e.wants)) refl))
       where
@@ -304,27 +246,63 @@ module _ (F : Farm) (sound : IsSound F) (place : Option (ℕ × ℕ)) where
                   idle e at behind less (shown e one.0 two.0 ((before_both one.0 two.0 one.1 two.1 e).1 (compared false is)) a b one.2 two.2 less),
             )
 
--- ---- claims that are passed over
+-- ---- what the queues lend
 
--- what the queues lend after a place, all of it
+-- what they lend after a place, all of it
 abbrev pub lent_after : Lists → Option (ℕ × ℕ) → List Claim
 lent_after queues place = claims_after (λ k. false || is_open queues.boards k) (last_spot place) queues.claims
 
--- one more is passed over
-pub skipped_more : (F : Farm) (passed : List Claim) (c : Claim) → AllByRecursion (IsSkipped F) passed → IsSkipped F c → AllByRecursion (IsSkipped F) (passed ++ (c ∷ []))
-skipped_more F [] c all new = (new, tt)
-skipped_more F (m ∷ passed) c all new = (all.0, skipped_more F passed c all.1 new)
+-- the claim that was reached
+lent_of : (F : Farm) (place : Option (ℕ × ℕ)) (o : Option Coming) → IsReached F place o → Option Claim
+lent_of F place None reached = None
+lent_of F place (Some x) reached = Some (shown_claim reached.0.0)
+
+lent_is : (F : Farm) (place : Option (ℕ × ℕ)) (o : Option Coming) (reached : IsReached F place o) → option_map coming_of (lent_of F place o reached) ≡ o
+unfolding lent_of
+lent_is F place None reached = refl
+lent_is F place (Some x) reached = ap Some reached.0.2
+
+lent_first : (F : Farm) (sound : IsSound F) (place : Option (ℕ × ℕ)) (o : Option Coming) (reached : IsReached F place o)
+    → First F sound place (every F sound place) (IsMissedThere F sound place) (lent_of F place o reached)
+unfolding lent_of
+lent_first F sound place None reached = record { stands = tt; before = λ e at behind _ less. reached e at behind }
+lent_first F sound place (Some x) reached =
+    let is : coming_of (shown_claim reached.0.0) ≡ x = reached.0.2 in
+    record {
+      stands = (reached.0.0, reached.0.1, refl, ap (λ y. is_later (last_spot place) (claim_of [] y)) is ∙ reached.1);
+      before = λ e at behind _ less. reached.2 e at behind (sym (ap (λ y. is_lt (shown_cmp (shown_claim e) (claim_of [] y))) is) ∙ less);
+    }
+
+-- the first of two, but for the owner
+earlier_same : (a b : Option Claim) → option_map coming_of (earlier_of a b) ≡ earlier_coming (option_map coming_of a) (option_map coming_of b)
+earlier_same None b = refl
+earlier_same (Some a) None = refl
+earlier_same (Some a) (Some b) = by (is_lt (shown_cmp b a))
+  where
+    by : (v : Bool) → option_map coming_of (cond v (Some b) (Some a)) ≡ cond v (Some (coming_of b)) (Some (coming_of a))
+    by true = refl
+    by false = refl
+
+comes_next : (F : Farm) (place : Option (ℕ × ℕ)) (o : Option Claim) → IsNext F place o → ComesNext F place (option_map coming_of o)
+comes_next F place None next = next
+comes_next F place (Some c) next = (c.owner, next)
 
 -- the queues are those of the farm
-pub next_lent : (F : Farm) (sound : IsSound F) (place : Option (ℕ × ℕ)) (queues : Lists) → queues ≡ lists_of F → (lent : Option Claim)
-    → Reaches F (lent_after queues place) lent → IsNext F place (if F.collector == 0 then earlier_of lent (lent_several queues place) else lent)
-next_lent F sound place queues fits lent reaches = by (F.collector == 0) refl
+pub next_lent : (F : Farm) (sound : IsSound F) (place : Option (ℕ × ℕ)) (queues : Lists) → queues ≡ lists_of F → (o : Option Coming) → IsReached F place o
+    → ComesNext F place (if F.collector == 0 then earlier_coming o (option_map coming_of (lent_several queues place)) else o)
+next_lent F sound place queues fits o reached = by (F.collector == 0) refl
   where
-    first : First F sound place (opens F sound place) (IsSkipped F) lent
-    first = first_open F sound place lent (subst (λ (l : Lists). Reaches F (lent_after l place) lent) fits reaches)
+    first : First F sound place (every F sound place) (IsMissedThere F sound place) (lent_of F place o reached)
+    first = lent_first F sound place o reached
 
-    by : (v : Bool) → (F.collector == 0) ≡ v → IsNext F place (cond v (earlier_of lent (lent_several queues place)) lent)
+    by : (v : Bool) → (F.collector == 0) ≡ v → ComesNext F place (cond v (earlier_coming o (option_map coming_of (lent_several queues place))) o)
     by true nobody =
-        next_of_both F sound place lent (lent_several queues place) first
-        (first_several F sound place (lent_several queues place) (ap (λ (l : Lists). lent_several l place) fits))
-    by false one = next_alone F sound place (λ none. true≢false (sym (itself 0) ∙ ap (λ n. n == 0) (sym none) ∙ one)) lent first
+        let next : IsNext F place (earlier_of (lent_of F place o reached) (lent_several queues place)) = next_of_both F sound place (lent_of F place o reached) (lent_several queues place) first
+        (first_several F sound place (lent_several queues place) (ap (λ (l : Lists). lent_several l place) fits)) in
+        subst (ComesNext F place)
+        (earlier_same (lent_of F place o reached) (lent_several queues place) ∙ ap (λ p. earlier_coming p (option_map coming_of (lent_several queues place))) (lent_is F place o reached))
+        (comes_next F place (earlier_of (lent_of F place o reached) (lent_several queues place)) next)
+    by false one =
+        subst (ComesNext F place) (lent_is F place o reached)
+        (comes_next F place (lent_of F place o reached)
+        (next_alone F sound place (λ none. true≢false (sym (itself 0) ∙ ap (λ n. n == 0) (sym none) ∙ one)) (lent_of F place o reached) first))

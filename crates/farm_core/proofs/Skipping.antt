@@ -24,7 +24,7 @@ use Rattle.farm_pick.proofs.Later.{among_later}
 use Rattle.farm_pick.proofs.Merging.{unmet_stays}
 use Rattle.farm_core.specs.Drafted.{Drafted}
 use Rattle.farm_core.specs.declared.unmet.Known.{Known}
-use Rattle.farm_core.specs.Serving.{AreUnmet, Asks, IfUnmet, IsLike, IsUnmet, Serves, count_after, member_wants, want_at, want_in, wants_of}
+use Rattle.farm_core.specs.Serving.{AreUnmet, Asks, IfUnmet, IsLike, IsMissed, IsUnmet, Serves, count_after, member_wants, want_at, want_in, wants_of}
 use Rattle.farm_core.proofs.Passing.{asks_claim}
 
 -- ---- equal lists
@@ -112,6 +112,17 @@ like_unmet F places wants i d sound all low like =
     ap (least F.boards (is_free F.types)) like.2
     ∙ wants_unmet F like.0.kind like.0.number sound (unmet_at F places i d (Some like.0) all low like.1)
 
+-- ---- those that pass
+
+pub among_filter : (test : Claimed → Bool) (d : Claimed) (xs : List Claimed) → IsAmong d (filter test xs) → IsAmong d xs × (test d ≡ true)
+among_filter test d [] at = absurd at
+among_filter test d (x ∷ xs) at = by (test x) refl at (λ more. among_filter test d xs more)
+  where
+    by : (v : Bool) → test x ≡ v → IsAmong d (cond v (x ∷ filter test xs) (filter test xs)) → (IsAmong d (filter test xs) → IsAmong d xs × (test d ≡ true)) → IsAmong d (x ∷ xs) × (test d ≡ true)
+    by true is (inl same) more = (inl same, ap test same ∙ is)
+    by true is (inr at) more = let two = more at in (inr two.0, two.1)
+    by false is at more = let two = more at in (inr two.0, two.1)
+
 -- ---- what is unmet stays so
 
 pub one_of : (a b : Claimed) (xs : List Claimed) → EachTwo (λ (c d : Claimed). c.number ≡ d.number → ⊥) xs → IsAmong a xs → IsAmong b xs → a.number ≡ b.number → a ≡ b
@@ -145,6 +156,30 @@ module _ (F G : Farm) (c : Claimed) (served : Bool) (sound : IsSound F) (at : Is
           let two = giving_follows F c bs F.clock sound (omega arith) at is in
           subst (IsAmong d) (sym two.0) (among_later (λ (e : Claimed). not (e.number == c.number)) d (queue F) here (other bs is (d.number == c.number) refl))
 
+  -- a claim of another number stays in the queue, and none comes into it
+  pub still_there : (d : Claimed) → IsAmong d (queue F) → (d.number ≡ c.number → ⊥) → IsAmong d (queue G)
+  still_there d here differs =
+      subst (λ (H : Farm). IsAmong d (queue H)) (ap (λ (s : Served). s.farm) (serves 0)) (by (least F.boards (is_free F.types) c.wants) refl)
+    where
+      other : (v : Bool) → (d.number == c.number) ≡ v → not (d.number == c.number) ≡ true
+      other true same = absurd (differs (same_number d.number c.number same))
+      other false differ = ap not differ
+
+      by : (o : Option (List BoardRow)) → least F.boards (is_free F.types) c.wants ≡ o → IsAmong d (queue (come o))
+      by None is = subst (IsAmong d) (sym (collecting_follows F sound c at)) here
+      by (Some bs) is =
+          let two = giving_follows F c bs F.clock sound (omega arith) at is in
+          subst (IsAmong d) (sym two.0) (among_later (λ (e : Claimed). not (e.number == c.number)) d (queue F) here (other (d.number == c.number) refl))
+
+  pub was_there : (d : Claimed) → IsAmong d (queue G) → IsAmong d (queue F)
+  was_there d there = by (least F.boards (is_free F.types) c.wants) refl (subst (λ (H : Farm). IsAmong d (queue H)) (sym (ap (λ (s : Served). s.farm) (serves 0))) there)
+    where
+      by : (o : Option (List BoardRow)) → least F.boards (is_free F.types) c.wants ≡ o → IsAmong d (queue (come o)) → IsAmong d (queue F)
+      by None is there = subst (IsAmong d) (collecting_follows F sound c at) there
+      by (Some bs) is there =
+          let two = giving_follows F c bs F.clock sound (omega arith) at is in
+          (among_filter (λ (e : Claimed). not (e.number == c.number)) d (queue F) (subst (IsAmong d) two.0 there)).0
+
   unmet_on : (kind : ClaimKind) (number : ℕ) → IsUnmet F kind number → IsUnmet G kind number
   unmet_on kind number u = record {
     claimed = u.claimed;
@@ -154,6 +189,16 @@ module _ (F G : Farm) (c : Claimed) (served : Bool) (sound : IsSound F) (at : Is
     unmet = subst (λ (s : Served). least s.farm.boards (is_free s.farm.types) u.claimed.wants ≡ None) (serves 0)
         (unmet_stays F.clock (record { farm = F; claims = 0 }) c u.claimed.wants sound (omega arith) at u.unmet);
   }
+
+  pub missed_on : IsSound G → (e : Claimed) → IsAmong e (queue F) → IsMissed F (shown_claim e).kind e.number → IsMissed G (shown_claim e).kind e.number
+  missed_on sound' e here missed =
+      wants_unmet G (shown_claim e).kind e.number sound' (unmet_on (shown_claim e).kind e.number (record {
+        claimed = e;
+        among = here;
+        of_kind = refl;
+        numbered = refl;
+        unmet = ap (least F.boards (is_free F.types)) (wants_asked F e (asks_claim F e (among_has (IsClaim F) e (queue F) (queue_claims F sound.steady) here))) ∙ missed;
+      }))
 
   pub all_on : (places : List (Option Known)) → AreUnmet F places → AreUnmet G places
   all_on [] all = tt

@@ -1,9 +1,9 @@
 -- The claims that may change the farm are tried one after the other, and lead to the end of the pass.
-use Rattle.std.proofs.Common.{◌≡◌, ◌∙◌, ◌==◌, ◌||◌, ◌&&◌, ◌+◌, ◌<◌, ◌≤◌, ℕ, List, [], ◌∷◌, length, map, filter, nat_le, Bool, true, false, cond, not, Option, Some, None, inl, inr, refl, sym, ap, subst, arith, Bor}
+use Rattle.std.proofs.Common.{◌≡◌, ◌∙◌, ◌==◌, ◌||◌, ◌&&◌, ◌+◌, ◌<◌, ◌≤◌, ℕ, List, [], ◌∷◌, length, map, filter, nat_le, Bool, true, false, cond, not, Option, Some, None, inl, inr, refl, sym, ap, subst, arith}
 use mathlib.Core.Bool.{true≢false}
 use Rattle.std.specs.List.{AllByRecursion, find, fold, list_all, list_any}
 use Rattle.std.specs.List.Sorted.{IsStrictlySortedBy}
-use Rattle.std.specs.Option.{option_copied, option_map_or}
+use Rattle.std.specs.Option.{option_map_or}
 use Rattle.std.specs.Ordering.{is_lt, match_ordering}
 use Rattle.std.specs.Str.{bytes_eq}
 use Rattle.std.specs.declared.cmp.Ordering.{Ordering}
@@ -44,9 +44,12 @@ use Rattle.farm_pick.proofs.Later.{after_itself, later, later_none}
 use Rattle.farm_pick.proofs.Merging.{Begins, Goes, IsTrying, Skips, begins_with, begins_without, found_among, none_by, one_group, passed_by, serve_but, some_want, tried_by, unserved}
 use Rattle.farm_core.specs.Following.{without_board, without_boards}
 use Rattle.farm_core.specs.Drafted.{Drafted}
+use Rattle.farm_core.specs.Ahead.{ComesNext, Foresees}
+use Rattle.farm_core.specs.declared.ahead.Coming.{Coming}
 use Rattle.farm_core.specs.Serving.{Begins as FirstServed, IsSkipped, IsNext, Serves, boards_for, count_after, queues_given}
 use Rattle.farm_core.proofs.Given.{all_pass, taken_more}
 use Rattle.farm_core.proofs.Passing.{asks_claim, small_claim}
+use Rattle.farm_core.proofs.Foreseen.{foreseen_on, foreseen_past}
 use Rattle.farm_core.proofs.Next.{found_nowhere}
 use Rattle.farm_core.proofs.Serving.{names_of, shown_group}
 use Rattle.farm_core.proofs.Skipping.{one_of, wants_asked}
@@ -335,15 +338,11 @@ module _ (F : Farm) (former : ℕ) (G : Farm) (queues : Lists) (count : ℕ) (pl
 -- ---- a turn of the program
 
 -- the claim that comes next, in the draft
-pub next_here : (V D : Drafted) → V ≡ D → (place : Option (ℕ × ℕ)) (o : Option (Bor Claim)) (claim : Bor Claim) → o ≡ Some claim
-    → IsNext V.farm place (option_copied o) → IsNext D.farm place (Some claim.now)
-next_here V D view place o claim is next =
-    subst (λ o. IsNext D.farm place (option_copied o)) is (subst (λ (E : Drafted). IsNext E.farm place (option_copied o)) view next)
+pub next_here : (V D : Drafted) → V ≡ D → (place : Option (ℕ × ℕ)) (o : Option Coming) (x : Coming) → o ≡ Some x → ComesNext V.farm place o → ComesNext D.farm place (Some x)
+next_here V D view place o x is next = subst (ComesNext D.farm place) is (subst (λ (E : Drafted). ComesNext E.farm place o) view next)
 
-pub none_here : (V D : Drafted) → V ≡ D → (place : Option (ℕ × ℕ)) (o : Option (Bor Claim)) → o ≡ None
-    → IsNext V.farm place (option_copied o) → IsNext D.farm place None
-none_here V D view place o is next =
-    subst (λ o. IsNext D.farm place (option_copied o)) is (subst (λ (E : Drafted). IsNext E.farm place (option_copied o)) view next)
+pub none_here : (V D : Drafted) → V ≡ D → (place : Option (ℕ × ℕ)) (o : Option Coming) → o ≡ None → ComesNext V.farm place o → IsNext D.farm place None
+none_here V D view place o is next = subst (ComesNext D.farm place) is (subst (λ (E : Drafted). ComesNext E.farm place o) view next)
 
 abbrev pub place_after : Claim → Option (ℕ × ℕ)
 place_after claim = Some (claim.priority, claim.number)
@@ -371,6 +370,9 @@ module _ (F : Farm) (former : ℕ) (D : Drafted) (count : ℕ) (place : Option (
 
     pub passed_less : left D.queues (place_after claim) < left D.queues place
     passed_less = goes_less F former D.farm D.queues count place trying claim next D.farm D.queues count own_went (omega arith) refl trying.fits
+
+  pub passed_ahead : (xs : List Coming) → Foresees D.farm place xs → Foresees D.farm (place_after claim) xs
+  passed_ahead xs foresees = foreseen_past D.farm place xs claim foresees next.3
 
   -- another is tried
   module _ (other : (c : Claimed) → (shown_claim c).kind ≡ claim.kind → c.number ≡ claim.number → is_group former c ≡ false)
@@ -400,6 +402,12 @@ module _ (F : Farm) (former : ℕ) (D : Drafted) (count : ℕ) (place : Option (
 
     pub tried_start : E.start ≡ D.start
     tried_start = serves.1
+
+    -- the claims that were looked at ahead stand in the queue as they did
+    pub tried_ahead : (xs : List Coming) → Foresees D.farm place xs → Foresees E.farm (place_after claim) xs
+    tried_ahead xs foresees = subst (λ (k : Claim). Foresees E.farm (place_after k) xs) next.2
+        (foreseen_on D.farm E.farm next.0 served trying.on.sound next.1 serves.0 (tried_on served refl).on.sound place xs foresees
+        (ap (is_later (last_spot place)) next.2 ∙ next.3))
 
     pub tried_less : left E.queues (place_after claim) < left D.queues place
     tried_less = goes_less F former D.farm D.queues count place trying claim next E.farm E.queues (count_after count served) went (high served) clock fits

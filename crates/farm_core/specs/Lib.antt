@@ -10,5 +10,6 @@ pub mod Edits
 pub mod Collecting
 pub mod Calls
 pub mod Serving
+pub mod Ahead
 pub mod Shown
 pub mod Answers

@@ -94,13 +94,6 @@ IsLike F wants known =
 abbrev pub IsSkipped : Farm → Claim → Type 0
 IsSkipped F c = IsMissed F c.kind c.number × (F.collector ≡ 0 → c.boards ≤ 1)
 
--- of some claims one is reached behind such ones, or all are such
-abbrev pub Reaches : Farm → List Claim → Option Claim → Type 0
-Reaches F claims None = AllByRecursion (IsSkipped F) claims
-Reaches F claims (Some c) =
-    (passed rest : List Claim) × (claims ≡ passed ++ c ∷ rest)
-    × AllByRecursion (IsSkipped F) passed
-
 -- the claim is the next of the queue after a place, but for such ones; or all after it are such
 abbrev pub IsNext : Farm → Option (ℕ × ℕ) → Option Claim → Type 0
 IsNext F last None = (d : Claimed) → IsAmong d (queue F)

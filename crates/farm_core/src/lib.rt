@@ -2,9 +2,10 @@
 //!
 //! Read `specs/` in the order Plain, Shown, Answers, which say what callers see; then Replies, how
 //! kept replies are kept, and Marks, what stands beside each job; then Calls, Orderly, Leases,
-//! Tracks, Drafted, Following, Edits, Serving, which say what a command keeps on its way.
+//! Tracks, Drafted, Following, Edits, Serving, Ahead, which say what a command keeps on its way.
 #![tactic(auto)]
 
+mod ahead;
 mod boards;
 mod change;
 mod checks;

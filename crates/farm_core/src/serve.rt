@@ -31,6 +31,7 @@ use farm_types::claims::{Claim, ClaimKind};
 use farm_types::rows::{JobRow, JobState, Want};
 use farm_types::words::{Name, Priority};
 use std::alloc::{AllocError, Global};
+use std::collections::VecDeque;
 
 /// The numbers of a group's members among some rows.
 pub fn numbers_in(alloc: Global, rows: &[JobRow], group: u64) -> Result<Vec<u64>, AllocError>
@@ -305,8 +306,9 @@ impl Draft {
     {
         let mut unmet = Unmet::none();
         let (mut draft, mut count) = self.serve_former(&mut unmet, former)?;
+        let mut ahead = VecDeque::new(*draft.tables.boards.allocator());
         let mut last = None;
-        while let Some(claim) = draft.tables.next_claim(&unmet, last)? {
+        while let Some(claim) = draft.tables.next_claim(&mut ahead, &unmet, last)? {
             let (kind, number, boards) = (claim.kind, claim.number, claim.boards);
             last = Some((claim.priority, number));
             if !is_of_group(kind, number, former) {

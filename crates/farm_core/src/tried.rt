@@ -1,50 +1,36 @@
 //! Which claim a pass tries next: claims that want the same as one that was found unmet are passed
 //! over.
-ghost use Rattle.std.specs.Prelude.{◌≡◌, ◌≤◌, ◌==◌, ◌||◌, ◌∷◌, [], true, false, length, IfOk};
-ghost use Rattle.std.specs.Prelude.{if◌then◌else◌, option_map};
-ghost use Rattle.std.specs.Option.{option_copied};
+ghost use Rattle.std.specs.Prelude.{◌≡◌, ◌≤◌, ◌==◌, ◌∷◌, [], true, length, None, Some, OnOk};
+ghost use Rattle.std.specs.Prelude.{if◌then◌else◌, option_map, IfNone, IfOk, IfSome};
+ghost use Rattle.std.specs.List.{AllByRecursion};
 ghost use Rattle.farm_types.specs.Limits.{most_wants};
 ghost use Rattle.farm_types.specs.Farm.{Farm, members, res_of};
 ghost use Rattle.farm_types.specs.Sound.{IsSound};
 ghost use Rattle.farm_types.specs.declared.claims.ClaimKind.{ClaimKind};
 ghost use Rattle.farm_types.specs.declared.rows.JobRow.{JobRow};
-ghost use Rattle.farm_pick.specs.Heads.{earlier_of, last_spot};
+ghost use Rattle.farm_pick.specs.Heads.{is_later, last_spot};
 ghost use Rattle.farm_pick.specs.Merged.{lent_several};
-ghost use Rattle.farm_pick.specs.Queued.{is_open, lists_of};
-ghost use Rattle.farm_pick.specs.Walked.{claims_after};
+ghost use Rattle.farm_pick.specs.Queued.{lists_of};
 ghost use Rattle.farm_core.specs.Plain.{plain_farm};
 ghost use Rattle.farm_core.specs.Orderly.{IsOrderly, IsPlaceOf};
-ghost use Rattle.farm_core.specs.Serving.{AreUnmet, IsLike, IsMissed, IsSkipped};
-ghost use Rattle.farm_core.specs.Serving.{IsNext, Reaches, member_wants, wants_of};
+ghost use Rattle.farm_core.specs.Ahead.{ComesNext, Foresees, IsReached};
+ghost use Rattle.farm_core.specs.Ahead.{claim_of, coming_of, earlier_coming};
+ghost use Rattle.farm_core.specs.Serving.{AreUnmet, IsLike, IsMissed, member_wants, wants_of};
 
+use crate::ahead::{self, Coming};
 use crate::edits::{GUESS_REACH, res_place_of};
 use crate::same::{same_members, same_want};
 use crate::tables::Tables;
 use crate::unmet::{Known, Unmet};
-use farm_pick::before;
 use farm_sound::seek;
-use farm_types::claims::{Claim, ClaimKind};
+use farm_types::claims::ClaimKind;
 use farm_types::rows::{JobRow, ResRow, Want};
 use farm_types::words::Priority;
 use std::alloc::AllocError;
+use std::collections::VecDeque;
 
-/// Of two claims the one that goes first.
-fn earlier<'a>(first: Option<&'a Claim>, second: Option<&'a Claim>) -> Option<&'a Claim>
-    ensures { option_copied result ≡ earlier_of (option_copied first.entry)
-        (option_copied second.entry) }
-{
-    match (first, second) {
-        (None, second) => second,
-        (first, None) => first,
-        (Some(first), Some(second)) => {
-            if before(second, first) {
-                Some(second)
-            } else {
-                Some(first)
-            }
-        }
-    }
-}
+/// How many claims are looked at ahead of the one that is tried.
+const AHEAD: usize = 16;
 
 /// An equal priority and number.
 fn copied(last: &Option<(Priority, u64)>) -> Option<(Priority, u64)>
@@ -61,6 +47,16 @@ fn copied(last: &Option<(Priority, u64)>) -> Option<(Priority, u64)>
 pub struct Guess {
     job: usize,
     reservation: usize,
+}
+
+impl Guess {
+    /// Nothing was looked at yet.
+    fn none() -> Guess {
+        Guess {
+            job: 0,
+            reservation: 0,
+        }
+    }
 }
 
 impl Tables {
@@ -174,7 +170,7 @@ impl Tables {
     /// they are near it costs a comparison for each of the eight that is looked at, else with J
     /// jobs and R reservations O(log (J + R)) besides. Of jobs the marks are compared first, so
     /// where they tell no row and no text of them is read, and where none was found unmet nothing is.
-    fn is_unmet(&self, unmet: &Unmet, claim: &Claim, guess: &mut Guess) -> bool
+    fn is_unmet(&self, unmet: &Unmet, claim: &Coming, guess: &mut Guess) -> bool
         requires sound { IsSound (plain_farm self.now) }
         requires known { AreUnmet (plain_farm self.now) unmet.now }
         ensures { result ≡ true → IsMissed (plain_farm self.now) claim.now.kind claim.now.number }
@@ -199,64 +195,106 @@ impl Tables {
         }
     }
 
-    /// Whether a claim is passed over, since to serve it would change nothing: it wants the same as
-    /// one that was found unmet, and it waits for one board or a group collects already.
-    fn is_skipped(&self, unmet: &Unmet, claim: &Claim, guess: &mut Guess) -> bool
+    /// Looks at the claims of the open queues after a priority and a number, if they are given, and
+    /// notes the first few that aren't known to be unmet.
+    ///
+    /// With K queues, C claims in open ones and J jobs it costs O(K log C + log J) to begin, and
+    /// then a comparison a queue, and one for each of the eight that were found unmet, for each
+    /// claim.
+    fn look_ahead(
+        &self,
+        ahead: &mut VecDeque<Coming>,
+        unmet: &Unmet,
+        last: Option<(Priority, u64)>,
+    ) -> Result<(), AllocError>
+        requires sound { IsSound (plain_farm self.now) }
+        requires fits { self.now.queues ≡ lists_of (plain_farm self.now) }
+        requires known { AreUnmet (plain_farm self.now) unmet.now }
+        requires none { ahead.old.items ≡ [] }
+        ensures foreseen { OnOk result (Foresees (plain_farm self.now) last ahead.new.items) }
+        ensures after { OnOk result (AllByRecursion (λ x. is_later (last_spot last) (claim_of [] x)
+            ≡ true) ahead.new.items) }
+        ensures none { OnOk result (ahead.new.items ≡ []
+            → IsReached (plain_farm self.now) last None) }
+    {
+        let mut guess = Guess::none();
+        for claim in self.queues.walk(last, false)? {
+            let claim = Coming::of(claim);
+            if !self.is_unmet(unmet, &claim, &mut guess) {
+                ahead.push_back(claim)?;
+                if ahead.len() >= AHEAD {
+                    return Ok(());
+                }
+            }
+        }
+        Ok(())
+    }
+
+    /// Of the claims that were looked at ahead the first that comes after a priority and a number,
+    /// if they are given, and isn't known to be unmet; those before it are forgotten.
+    fn first_ahead(
+        &self,
+        ahead: &mut VecDeque<Coming>,
+        unmet: &Unmet,
+        last: &Option<(Priority, u64)>,
+    ) -> Option<Coming>
         requires sound { IsSound (plain_farm self.now) }
         requires known { AreUnmet (plain_farm self.now) unmet.now }
-        ensures { result ≡ true → IsSkipped (plain_farm self.now) claim.now }
+        requires foreseen { Foresees (plain_farm self.now) last.now ahead.old.items }
+        ensures foreseen { Foresees (plain_farm self.now) last.now ahead.new.items }
+        ensures reached { IfSome result
+            (λ claim. IsReached (plain_farm self.now) last.now (Some claim)) }
+        ensures none { IfNone result (ahead.new.items ≡ []) }
     {
-        (self.collector != 0 || claim.boards < 2) && self.is_unmet(unmet, claim, guess)
+        let mut guess = Guess::none();
+        while let Some(claim) = ahead.front() {
+            if claim.is_after(last) && !self.is_unmet(unmet, claim, &mut guess) {
+                return Some(claim.again());
+            }
+            let _passed = ahead.pop_front();
+        }
+        None
     }
 
     /// The first claim of the open queues after a priority and a number, if they are given, that
-    /// isn't passed over.
-    ///
-    /// With K queues, C claims in open ones and J jobs it costs O(K log C) where none was found
-    /// unmet, and takes no memory. Else it takes memory for one place in each queue, and costs
-    /// O(K log C + log J) to begin, and then a comparison a queue and one for each of the eight that
-    /// were found unmet for each claim that is passed over.
+    /// isn't known to be unmet: one that was looked at ahead, else the first of those that are
+    /// looked at then.
     fn next_open(
         &self,
+        ahead: &mut VecDeque<Coming>,
         unmet: &Unmet,
         last: Option<(Priority, u64)>,
-    ) -> Result<Option<&Claim>, AllocError>
+    ) -> Result<Option<Coming>, AllocError>
         requires sound { IsSound (plain_farm self.now) }
+        requires fits { self.now.queues ≡ lists_of (plain_farm self.now) }
         requires known { AreUnmet (plain_farm self.now) unmet.now }
-        ensures { IfOk result (λ claim. Reaches (plain_farm self.now)
-            (claims_after (λ k. false || is_open self.now.queues.boards k) (last_spot last)
-            self.now.queues.claims) (option_copied claim)) }
+        requires foreseen { Foresees (plain_farm self.now) last ahead.old.items }
+        ensures foreseen { OnOk result (Foresees (plain_farm self.now) last ahead.new.items) }
+        ensures reached { IfOk result (λ claim. IsReached (plain_farm self.now) last claim) }
     {
-        if unmet.is_empty() {
-            return Ok(self.queues.next(last, false));
+        if let Some(claim) = self.first_ahead(ahead, unmet, &last) {
+            return Ok(Some(claim));
         }
-        let mut guess = Guess {
-            job: 0,
-            reservation: 0,
-        };
-        for claim in self.queues.walk(last, false)? {
-            if !self.is_skipped(unmet, claim, &mut guess) {
-                return Ok(Some(claim));
-            }
+        self.look_ahead(ahead, unmet, last)?;
+        match ahead.front() {
+            None => Ok(None),
+            Some(claim) => Ok(Some(claim.again())),
         }
-        Ok(None)
     }
 
     /// Of a claim, if there is one, and the first one of two boards or more after a priority and a
     /// number the one that goes first; where a group collects already, that claim.
-    fn or_several<'a>(
-        &'a self,
-        claim: Option<&'a Claim>,
-        last: Option<(Priority, u64)>,
-    ) -> Option<&'a Claim>
-        ensures { option_copied result ≡ (if self.now.collector == 0
-            then earlier_of (option_copied claim.entry) (lent_several self.now.queues last)
-            else option_copied claim.entry) }
+    fn or_several(&self, claim: Option<Coming>, last: Option<(Priority, u64)>) -> Option<Coming>
+        ensures { result ≡ (if self.now.collector == 0
+            then earlier_coming claim (option_map coming_of (lent_several self.now.queues last))
+            else claim) }
     {
-        if self.collector == 0 {
-            earlier(claim, self.queues.next_several(last))
-        } else {
-            claim
+        if self.collector != 0 {
+            return claim;
+        }
+        match self.queues.next_several(last) {
+            None => claim,
+            Some(several) => ahead::earlier(claim, Some(Coming::of(several))),
         }
     }
 
@@ -265,19 +303,23 @@ impl Tables {
     /// group of two members or more of any queue, or a claim of an open queue that doesn't want the
     /// same as one that was found unmet; else the latter alone.
     ///
-    /// It costs what `next_open` does, and a look at the first claim of two boards or more, in
+    /// Claims of open queues are looked at a few at a time, so that a search of the queues is due
+    /// once for these few. Besides it costs a look at the first claim of two boards or more, in
     /// O(log C).
     pub fn next_claim(
         &self,
+        ahead: &mut VecDeque<Coming>,
         unmet: &Unmet,
         last: Option<(Priority, u64)>,
-    ) -> Result<Option<&Claim>, AllocError>
+    ) -> Result<Option<Coming>, AllocError>
         requires sound { IsSound (plain_farm self.now) }
         requires fits { self.now.queues ≡ lists_of (plain_farm self.now) }
         requires known { AreUnmet (plain_farm self.now) unmet.now }
-        ensures { IfOk result (λ claim. IsNext (plain_farm self.now) last (option_copied claim)) }
+        requires foreseen { Foresees (plain_farm self.now) last ahead.old.items }
+        ensures foreseen { OnOk result (Foresees (plain_farm self.now) last ahead.new.items) }
+        ensures next { IfOk result (λ claim. ComesNext (plain_farm self.now) last claim) }
     {
-        let open = self.next_open(unmet, copied(&last))?;
-        Ok(self.or_several(open, copied(&last)))
+        let open = self.next_open(ahead, unmet, copied(&last))?;
+        Ok(self.or_several(open, last))
     }
 }
