@@ -8,7 +8,7 @@ use Rattle.std.specs.Ordering.{is_lt}
 use Rattle.std.specs.declared.cmp.Ordering.{Ordering}
 use Rattle.std.specs.declared.cmp.Ordering.TheVariants.{Less, Equal, Greater}
 use Rattle.farm_types.specs.Farm.{Farm}
-use Rattle.farm_types.specs.Pass.{Served, serve}
+use Rattle.farm_types.specs.Pass.{serve}
 use Rattle.farm_types.specs.Pick.{IsAmong, Claimed, claim_cmp, queue, shown_claim, shown_cmp}
 use Rattle.farm_types.specs.Sound.{IsSound}
 use Rattle.farm_types.specs.declared.claims.Claim.{Claim}

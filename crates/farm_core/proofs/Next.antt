@@ -1,8 +1,8 @@
 -- The next claim that is tried: of the open queues and, while nobody collects, of those of two boards or more.
-use Rattle.std.proofs.Common.{◌≡◌, ◌∙◌, ◌==◌, ◌||◌, ◌&&◌, ◌++◌, ◌≤◌, ℕ, List, [], ◌∷◌, map, filter, length, nat_le, Bool, true, false, cond, Option, Some, None, inl, inr, refl, sym, ap, subst, arith}
+use Rattle.std.proofs.Common.{◌≡◌, ◌∙◌, ◌==◌, ◌||◌, ◌&&◌, ◌≤◌, ℕ, List, [], ◌∷◌, map, filter, length, nat_le, Bool, true, false, cond, Option, Some, None, inl, inr, refl, sym, ap, subst, arith}
 use mathlib.Core.Bool.{true≢false}
 use Rattle.std.specs.Prelude.{if◌then◌else◌}
-use Rattle.std.specs.List.{AllByRecursion, find}
+use Rattle.std.specs.List.{find}
 use Rattle.std.specs.List.Sorted.{IsStrictlySortedBy}
 use Rattle.std.specs.Option.{option_map}
 use Rattle.std.specs.Ordering.{is_lt, ordering_reverse}
@@ -23,14 +23,14 @@ use Rattle.farm_pick.specs.Queued.{Lists, Queued, idle_boards, is_open, lists_of
 use Rattle.farm_pick.specs.Merged.{lent_several}
 use Rattle.farm_pick.specs.Walked.{claims_after}
 use Rattle.farm_pick.proofs.Closed.{closed_is_unmet}
-use Rattle.farm_pick.proofs.Later.{after_itself, among_later, less_from, not_back}
+use Rattle.farm_pick.proofs.Later.{after_itself, less_from, not_back}
 use Rattle.farm_pick.proofs.Merging.{found_among, some_want}
 use Rattle.farm_pick.proofs.Ordered.{tied_same}
 use Rattle.farm_core.specs.Ahead.{ComesNext, IsReached, claim_of, coming_of, earlier_coming}
 use Rattle.farm_core.specs.Serving.{IsSkipped, IsMissed, IsNext}
 use Rattle.farm_core.specs.declared.ahead.Coming.{Coming}
 use Rattle.farm_core.proofs.Passing.{asks_claim}
-use Rattle.farm_core.proofs.Skipping.{among_filter, wants_asked}
+use Rattle.farm_core.proofs.Skipping.{wants_asked}
 
 -- ---- claims as they are shown
 

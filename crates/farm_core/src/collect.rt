@@ -109,7 +109,7 @@ impl Draft {
     {
         let tables = &*self.tables;
         let near = tables.near(group);
-        let numbers = numbers_in(*tables.boards.allocator(), near, group)?;
+        let numbers = numbers_in(near, group);
         let members = numbers.as_slice();
         let mut draft = self;
         for at in 0..members.len() {

@@ -94,7 +94,9 @@ impl Tables {
     pub fn near(&self, group: u64) -> &[JobRow]
         requires orderly { IsOrderly (plain_farm self.now) }
         requires small { IsSmall group }
-        ensures { filter (λ j. j.group == group) result.now ≡ members (plain_farm self.now) group }
+        ensures members { filter (λ j. j.group == group) result.now
+            ≡ members (plain_farm self.now) group }
+        ensures few { length result.now ≤ most_wants }
     {
         let start = self.jobs.place_of(group);
         self.near_from(group, start)

@@ -1,6 +1,6 @@
 //! Claims are served: each is given the least list of free boards that meets it.
 ghost use Rattle.std.specs.Prelude.{◌≡◌, ◌≤◌, ◌==◌, ◌∷◌, [], ℕ, true, false, None, Some, map};
-ghost use Rattle.std.specs.Prelude.{◌&&◌, ◌||◌, length, nat_le};
+ghost use Rattle.std.specs.Prelude.{◌&&◌, ◌||◌, length, nat_le, take};
 ghost use Rattle.std.specs.Prelude.{OnOk, IfOk, option_map};
 ghost use Rattle.std.specs.List.{filter, find, list_all};
 ghost use Rattle.std.specs.Option.{option_copied};
@@ -26,22 +26,27 @@ ghost use Rattle.farm_core.specs.Tracks.{Tracks};
 use crate::draft::Draft;
 use crate::tables::Tables;
 use crate::unmet::{Known, Unmet};
+use arrayvec::ArrayVec;
 use farm_types::calls::Changes;
-use farm_types::claims::{Claim, ClaimKind};
+use farm_types::claims::ClaimKind;
+use farm_types::limits::MOST_WANTS;
 use farm_types::rows::{JobRow, JobState, Want};
 use farm_types::words::{Name, Priority};
-use std::alloc::{AllocError, Global};
+use std::alloc::AllocError;
 use std::collections::VecDeque;
 
-/// The numbers of a group's members among some rows.
-pub fn numbers_in(alloc: Global, rows: &[JobRow], group: u64) -> Result<Vec<u64>, AllocError>
-    ensures { IfOk result (λ numbers. numbers.items ≡ map (λ j. j.number)
-        (filter (λ j. j.group == group) rows.now)) }
+/// The numbers of a group's members among a few rows.
+pub fn numbers_in(rows: &[JobRow], group: u64) -> ArrayVec<u64, MOST_WANTS>
+    requires { length rows.now ≤ most_wants }
+    ensures { result.items ≡ map (λ j. j.number) (filter (λ j. j.group == group) rows.now) }
 {
-    rows.iter()
-        .filter(|row| row.group == group)
-        .map(|row| row.number)
-        .collect(alloc)
+    let mut numbers = ArrayVec::new();
+    for row in rows {
+        if row.group == group {
+            numbers.push(row.number);
+        }
+    }
+    numbers
 }
 
 /// Whether a group's members all wait for boards, among some rows.
@@ -61,18 +66,23 @@ fn count_in(rows: &[JobRow], group: u64) -> u64
     rows.iter().filter(|row| row.group == group).count() as u64
 }
 
-/// What a group's members want, among some rows.
-fn wants_in<'a>(alloc: Global, rows: &'a [JobRow], group: u64) -> Result<Vec<&'a Want>, AllocError>
-    ensures { IfOk result (λ wants. map (λ w. w.now) wants.items ≡ map (λ j. j.want)
-        (filter (λ j. j.group == group) rows.now)) }
+/// What a group's members want, among a few rows, and how many these are; behind them another want
+/// fills the places.
+fn wants_in<'a>(rows: &'a [JobRow], group: u64, other: &'a Want) -> ([&'a Want; MOST_WANTS], usize)
+    requires { length rows.now ≤ most_wants }
+    ensures few { result.1 ≤ most_wants }
+    ensures wants { map (λ w. w.now) (take result.1 result.0) ≡ map (λ j. j.want)
+        (filter (λ j. j.group == group) rows.now) }
 {
-    let mut wants = Vec::new(alloc);
+    let mut wants = [other; MOST_WANTS];
+    let mut count = 0;
     for row in rows {
         if row.group == group {
-            wants.push(&row.want)?;
+            wants[count] = &row.want;
+            count += 1;
         }
     }
-    Ok(wants)
+    (wants, count)
 }
 
 /// Whether a claim, told by its kind and its number, is that of a group.
@@ -119,14 +129,18 @@ impl Tables {
     fn pick_for_group(&self, near: &[JobRow], group: u64) -> Result<Option<Vec<Name>>, AllocError>
         requires orderly { IsOrderly (plain_farm self.now) }
         requires near { filter (λ j. j.group == group) near.now ≡ members (plain_farm self.now) group }
+        requires few { length near.now ≤ most_wants }
         requires free { self.now.queues.boards ≡ idle_boards (plain_farm self.now) }
         ensures { IfOk result (λ picked. option_map (λ names. names.items) picked
             ≡ option_map (map (λ (b : BoardRow). b.name))
             (least (plain_farm self.now).boards (is_free (plain_farm self.now).types)
             (map (λ m. m.want) (members (plain_farm self.now) group)))) }
     {
-        let wants = wants_in(*self.boards.allocator(), near, group)?;
-        self.pick(&wants)
+        let Some(first) = near.first() else {
+            return self.pick(&[]);
+        };
+        let (wants, count) = wants_in(near, group, &first.want);
+        self.pick(&wants[..count])
     }
 
     /// The names of the boards for a reservation: one, or none where there is no such reservation.
@@ -173,7 +187,7 @@ impl Draft {
         match tables.pick_for_group(near, group)? {
             None => Ok((self, false)),
             Some(names) => {
-                let numbers = numbers_in(*tables.boards.allocator(), near, group)?;
+                let numbers = numbers_in(near, group);
                 let draft = self.give_jobs(&numbers, &names)?;
                 Ok((draft.take_given(group, &names), true))
             }

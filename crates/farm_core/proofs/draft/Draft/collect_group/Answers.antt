@@ -17,7 +17,7 @@ pub collect_member-requires-clause-small : goal.collect_member-requires-clause-s
 collect_member-requires-clause-small c =
     small_at c.as_slice-members.result.now c.loop-at.at
     (subst (AllByRecursion IsSmall) (sym c.as_slice-members.ensures.value)
-    (numbers_small (plain_farm c.deref-tables.result.now) c.args.group c.in_ok-numbers.numbers.items (c.in_ok-numbers.ensures ∙ ap numbers_of c.near-near.ensures) (ordered c.deref-tables.ensures c.self.invariant.orderly)))
+    (numbers_small (plain_farm c.deref-tables.result.now) c.args.group c.numbers_in-numbers.result.items (c.numbers_in-numbers.ensures ∙ ap numbers_of c.near-near.ensures.members) (ordered c.deref-tables.ensures c.self.invariant.orderly)))
     (omega arith)
 
 pub collect_member-requires-clause-free : goal.collect_member-requires-clause-free
@@ -26,14 +26,14 @@ collect_member-requires-clause-free c = ap (λ (q : Lists). q.boards) c.loop-at.
 pub loop-at-preserved : goal.loop-at-preserved
 loop-at-preserved c =
     let are : c.as_slice-members.result.now ≡ numbers_of (members c.args.self.farm c.args.group) =
-    c.as_slice-members.ensures.value ∙ c.in_ok-numbers.ensures ∙ ap numbers_of c.near-near.ensures ∙ ap (λ (D : Drafted). numbers_of (members D.farm c.args.group)) (seen c.deref-tables.ensures c.self.view_is) in
+    c.as_slice-members.ensures.value ∙ c.numbers_in-numbers.ensures ∙ ap numbers_of c.near-near.ensures.members ∙ ap (λ (D : Drafted). numbers_of (members D.farm c.args.group)) (seen c.deref-tables.ensures c.self.view_is) in
     takes_on c.args.self c.loop-at.draft c.args.group c.loop-at.at c.loop-at.invariant c.as_slice-members.result.now are
     (omega arith) c.in_ok-draft.draft c.in_ok-draft.ensures
 
 pub returns : goal.returns
 returns c =
     let are : c.as_slice-members.result.now ≡ numbers_of (members c.args.self.farm c.args.group) =
-    c.as_slice-members.ensures.value ∙ c.in_ok-numbers.ensures ∙ ap numbers_of c.near-near.ensures ∙ ap (λ (D : Drafted). numbers_of (members D.farm c.args.group)) (seen c.deref-tables.ensures c.self.view_is) in
+    c.as_slice-members.ensures.value ∙ c.numbers_in-numbers.ensures ∙ ap numbers_of c.near-near.ensures.members ∙ ap (λ (D : Drafted). numbers_of (members D.farm c.args.group)) (seen c.deref-tables.ensures c.self.view_is) in
     let D : Drafted = c.loop-at.draft in
     let takes = c.loop-at.invariant in
     let farm = takes_end c.args.self D c.args.group c.loop-at.at takes c.as_slice-members.result.now are (omega arith) in

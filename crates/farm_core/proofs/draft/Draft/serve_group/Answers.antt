@@ -16,7 +16,7 @@ use Rattle.farm_core.proofs.draft.Draft.serve_group.Goals as goal
 
 pub give_jobs-requires : goal.give_jobs-requires
 give_jobs-requires c =
-    rw c.deref.ensures.value (numbers_small (plain_farm c.deref-tables.result.now) c.args.group _ (c.in_ok-numbers-in-Some.ensures ∙ ap numbers_of c.near-near.ensures) (ordered c.deref-tables.ensures c.self.invariant.orderly))
+    rw c.deref.ensures.0 (numbers_small (plain_farm c.deref-tables.result.now) c.args.group _ (c.numbers_in-numbers.ensures ∙ ap numbers_of c.near-near.ensures.members) (ordered c.deref-tables.ensures c.self.invariant.orderly))
 
 pub returns-in_ok-draft-in-Some : goal.returns-in_ok-draft-in-Some
 returns-in_ok-draft-in-Some c = λ d of_group same asks.
@@ -26,15 +26,15 @@ returns-in_ok-draft-in-Some c = λ d of_group same asks.
     let here : plain_farm c.deref-tables.result.now ≡ F = ap (λ (D : Drafted). D.farm) (seen c.deref-tables.ensures c.self.view_is) in
     let stayed = ap (λ (D : Drafted). D.queues) c.in_ok-draft-in-Some.ensures in
     let names = c.in-Some.names.items in
-    let numbers = c.in_ok-numbers-in-Some.numbers.items in
+    let numbers = c.numbers_in-numbers.result.items in
     let picked : Some names ≡ option_map names_of (least (plain_farm c.deref-tables.result.now).boards (is_free (plain_farm c.deref-tables.result.now).types) (wants_of (members (plain_farm c.deref-tables.result.now) c.args.group))) =
     let h = c.in_ok-pick_for_group.ensures in rw c.in-Some.is at h in
     let picked_here = subst (λ (G : Farm). Some names ≡ option_map names_of (least G.boards (is_free G.types) (wants_of (members G c.args.group)))) here picked in
     let made : G.farm ≡ fold (give_named JobState.Scheduled) F (zip numbers names) =
     ap (λ (D : Drafted). D.farm) c.take_given.ensures ∙ ap (λ (D : Drafted). D.farm) c.in_ok-draft-in-Some.ensures
-    ∙ (λ i. fold (give_named JobState.Scheduled) F (zip (c.deref.ensures.value i) (c.deref-in-Some.ensures.value i))) in met (
+    ∙ (λ i. fold (give_named JobState.Scheduled) F (zip (c.deref.ensures.0 i) (c.deref-in-Some.ensures.value i))) in met (
       λ n. group_served F G.farm c.args.group d n names numbers of_group same asks picked_here
-          (c.in_ok-numbers-in-Some.ensures ∙ ap numbers_of c.near-near.ensures ∙ ap (λ (G : Farm). numbers_of (members G c.args.group)) here)
+          (c.numbers_in-numbers.ensures ∙ ap numbers_of c.near-near.ensures.members ∙ ap (λ (G : Farm). numbers_of (members G c.args.group)) here)
           made,
       ap (λ (D : Drafted). D.start) c.take_given.ensures ∙ ap (λ (D : Drafted). D.start) c.in_ok-draft-in-Some.ensures,
       ap (λ (D : Drafted). D.queues) c.take_given.ensures
