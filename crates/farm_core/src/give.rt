@@ -29,11 +29,21 @@ use farm_types::rows::{BoardRow, Holder, JobState};
 use farm_types::words::Name;
 use std::alloc::AllocError;
 
-/// From where to where the board of a name stands, by binary search: one place, or none.
-fn window_of(boards: &[BoardRow], name: &Name) -> (usize, usize)
+/// How many boards are looked at one by one before a binary search.
+const NEARBY: usize = 8;
+
+/// From where to where the board of a name stands, one place or none: it is one of the few from a
+/// guess on, or else looked for by binary search.
+fn window_of(boards: &[BoardRow], guess: usize, name: &Name) -> (usize, usize)
     requires { IsStrictlySortedBy board_cmp boards.now }
     ensures { IsWindow (λ b. bytes_eq b.name name.now) boards.now result.0 result.1 }
 {
+    let end = guess.saturating_add(NEARBY).min(boards.len());
+    for at in guess..end {
+        if boards[at].name.is(name) {
+            return (at, at + 1);
+        }
+    }
     match seek::board_at(boards, name) {
         Ok(at) => (at, at + 1),
         Err(_) => (0, 0),
@@ -41,7 +51,9 @@ fn window_of(boards: &[BoardRow], name: &Name) -> (usize, usize)
 }
 
 impl Draft {
-    /// The board of that name is reserved for a holder. With B boards it costs O(log B).
+    /// The board of that name is reserved for a holder. It is looked for where the first free board
+    /// stands if none that is held stands behind one that is free: claims get the first boards that
+    /// fit. With B boards it costs O(log B) at most.
     pub fn hold_board(mut self, name: &Name, holder: Holder) -> Result<Draft, AllocError>
         requires { IsSmall (held_by holder) }
         ensures { IfOk result
@@ -52,7 +64,11 @@ impl Draft {
             }) self) }
     {
         let tables = &mut *self.tables;
-        let (start, end) = window_of(&tables.boards, name);
+        let guess = tables
+            .boards
+            .len()
+            .saturating_sub(tables.queues.free_count());
+        let (start, end) = window_of(&tables.boards, guess, name);
         let hold = Hold { name, holder };
         change_rows(
             &mut tables.boards,
