@@ -92,6 +92,17 @@ impl Draft {
         self
     }
 
+    /// Makes room among the changed rows for the boards that are free and as many jobs: in a pass
+    /// no more are given, so the rows that have changed aren't moved as they become more.
+    pub fn with_room(mut self) -> Result<Draft, AllocError>
+        ensures { IfOk result (λ d. d ≡ self) }
+    {
+        let free = self.tables.queues.free_count();
+        self.changes.boards.reserve(free)?;
+        self.changes.jobs.reserve(free)?;
+        Ok(self)
+    }
+
     /// Puts a claim into the queue of a type, or of the reservations.
     pub fn put_claim(mut self, claim: Claim, kind: &Option<Name>) -> Result<Draft, AllocError>
         requires { IsFresh claim.number self.queues.claims }

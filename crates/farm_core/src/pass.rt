@@ -47,7 +47,7 @@ impl Draft {
         let draft = self.give_back()?;
         let (draft, ended) = draft.expire()?;
         let (draft, checked) = draft.checks()?;
-        let draft = draft.follow_boards()?;
+        let draft = draft.follow_boards()?.with_room()?;
         let (draft, served) = draft.serve(former)?;
         Ok((draft, Reply(checked, ended, served)))
     }

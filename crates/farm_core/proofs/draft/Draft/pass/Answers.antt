@@ -33,13 +33,13 @@ follow_boards-requires-clause-free c =
 -- the claims are served in a sound farm, where nobody collects
 pub serve-requires-clause-sound : goal.serve-requires-clause-sound
 serve-requires-clause-sound c =
-    let here = ap (λ (D : Drafted). D.farm) c.in_ok-draft-4.ensures
+    let here = ap (λ (D : Drafted). D.farm) (c.in_ok-draft-4.ensures ∙ c.in_ok-follow_boards.ensures)
     ∙ is_prepared c.args.self.farm c.in_ok-draft.draft.farm c.in_ok-draft-2.draft.farm c.in_ok-draft-3.draft.farm (ap (λ (D : Drafted). D.farm) c.in_ok-draft.ensures) (ap (λ (D : Drafted). D.farm) c.in_ok-draft-2.ensures.left) (ap (λ (D : Drafted). D.farm) c.in_ok-draft-3.ensures.farm) in
     subst IsSound (sym here) (prepared_sound c.args.self.farm c.requires.sound)
 
 pub serve-requires-clause-nobody : goal.serve-requires-clause-nobody
 serve-requires-clause-nobody c =
-    let here = ap (λ (D : Drafted). D.farm) c.in_ok-draft-4.ensures
+    let here = ap (λ (D : Drafted). D.farm) (c.in_ok-draft-4.ensures ∙ c.in_ok-follow_boards.ensures)
     ∙ is_prepared c.args.self.farm c.in_ok-draft.draft.farm c.in_ok-draft-2.draft.farm c.in_ok-draft-3.draft.farm (ap (λ (D : Drafted). D.farm) c.in_ok-draft.ensures) (ap (λ (D : Drafted). D.farm) c.in_ok-draft-2.ensures.left) (ap (λ (D : Drafted). D.farm) c.in_ok-draft-3.ensures.farm) in
     ap (λ (G : Farm). G.collector) here ∙ prepared_nobody c.args.self.farm
 
@@ -51,11 +51,11 @@ pub serve-requires-clause-fits : goal.serve-requires-clause-fits
 serve-requires-clause-fits c =
     let F : Farm = c.args.self.farm in
     let farm = is_prepared F c.in_ok-draft.draft.farm c.in_ok-draft-2.draft.farm c.in_ok-draft-3.draft.farm (ap (λ (D : Drafted). D.farm) c.in_ok-draft.ensures) (ap (λ (D : Drafted). D.farm) c.in_ok-draft-2.ensures.left) (ap (λ (D : Drafted). D.farm) c.in_ok-draft-3.ensures.farm) in
-    let here = ap (λ (D : Drafted). D.farm) c.in_ok-draft-4.ensures ∙ farm in
-    let claims = ap (λ (D : Drafted). D.queues.claims) c.in_ok-draft-4.ensures ∙ ap (λ (D : Drafted). D.queues.claims) c.in_ok-draft-3.ensures.farm ∙ ap (λ (D : Drafted). D.queues.claims) c.in_ok-draft-2.ensures.left
+    let here = ap (λ (D : Drafted). D.farm) (c.in_ok-draft-4.ensures ∙ c.in_ok-follow_boards.ensures) ∙ farm in
+    let claims = ap (λ (D : Drafted). D.queues.claims) (c.in_ok-draft-4.ensures ∙ c.in_ok-follow_boards.ensures) ∙ ap (λ (D : Drafted). D.queues.claims) c.in_ok-draft-3.ensures.farm ∙ ap (λ (D : Drafted). D.queues.claims) c.in_ok-draft-2.ensures.left
     ∙ ap (λ (D : Drafted). without_all (filter (is_dead D.farm.clock) D.farm.reservations) D.queues.claims) c.in_ok-draft.ensures
     ∙ ap (λ (q : Lists). without_all (filter (is_dead F.clock) F.reservations) q.claims) c.requires.fits ∙ prepared_queue F c.requires.sound in
-    let boards = ap (λ (D : Drafted). D.queues.boards) c.in_ok-draft-4.ensures ∙ ap idle_boards farm in
+    let boards = ap (λ (D : Drafted). D.queues.boards) (c.in_ok-draft-4.ensures ∙ c.in_ok-follow_boards.ensures) ∙ ap idle_boards farm in
     (λ i. record { claims = claims i; boards = boards i }) ∙ ap lists_of (sym here)
 
 pub returns-clause-farm : goal.returns-clause-farm
@@ -64,9 +64,9 @@ returns-clause-farm c =
     let given = ap (λ (D : Drafted). D.farm) c.in_ok-draft.ensures in
     let ended = ap (λ (D : Drafted). D.farm) c.in_ok-draft-2.ensures.left in
     let checked = ap (λ (D : Drafted). D.farm) c.in_ok-draft-3.ensures.farm in
-    let followed = ap (λ (D : Drafted). D.farm) c.in_ok-draft-4.ensures in
+    let followed = ap (λ (D : Drafted). D.farm) (c.in_ok-draft-4.ensures ∙ c.in_ok-follow_boards.ensures) in
     let former = ap (λ (D : Drafted). D.farm.collector) (seen c.deref.ensures c.self.view_is) in
-    let start = ap (λ (D : Drafted). D.start) c.in_ok-draft-5.ensures.farm ∙ ap (λ (D : Drafted). D.start) c.in_ok-draft-4.ensures ∙ ap (λ (D : Drafted). D.start) c.in_ok-draft-3.ensures.farm ∙ ap (λ (D : Drafted). D.start) c.in_ok-draft-2.ensures.left
+    let start = ap (λ (D : Drafted). D.start) c.in_ok-draft-5.ensures.farm ∙ ap (λ (D : Drafted). D.start) (c.in_ok-draft-4.ensures ∙ c.in_ok-follow_boards.ensures) ∙ ap (λ (D : Drafted). D.start) c.in_ok-draft-3.ensures.farm ∙ ap (λ (D : Drafted). D.start) c.in_ok-draft-2.ensures.left
     ∙ ap (λ (D : Drafted). D.start) c.in_ok-draft.ensures in
     let served = (λ i. serve_all (followed i) (former i) (followed i).clock) ∙ served_is F c.in_ok-draft.draft.farm c.in_ok-draft-2.draft.farm c.in_ok-draft-3.draft.farm given ended checked F.collector in
     let farm = ap (λ (D : Drafted). D.farm) c.in_ok-draft-5.ensures.farm ∙ ap (λ (s : Served). s.farm) served in
@@ -79,7 +79,7 @@ returns-clause-reply c =
     let given = ap (λ (D : Drafted). D.farm) c.in_ok-draft.ensures in
     let ended = ap (λ (D : Drafted). D.farm) c.in_ok-draft-2.ensures.left in
     let farm = ap (λ (D : Drafted). D.farm) c.in_ok-draft-3.ensures.farm in
-    let followed = ap (λ (D : Drafted). D.farm) c.in_ok-draft-4.ensures in
+    let followed = ap (λ (D : Drafted). D.farm) (c.in_ok-draft-4.ensures ∙ c.in_ok-follow_boards.ensures) in
     let former = ap (λ (D : Drafted). D.farm.collector) (seen c.deref.ensures c.self.view_is) in
     let expired : c.in_ok-draft-2.draft.farm ≡ expire (giving_back F) F.clock = is_expired F c.in_ok-draft.draft.farm c.in_ok-draft-2.draft.farm c.in_ok-draft-3.draft.farm given ended farm in
     let over : c.in_ok-draft-2.ended ≡ length (filter (is_dead F.clock) F.reservations) =
