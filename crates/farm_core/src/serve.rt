@@ -305,7 +305,8 @@ impl Draft {
     /// A single claim whose queue has no free board isn't looked at, and one that wants the same as
     /// one of the last eight that were found unmet is passed over, unless it may collect. With K
     /// queues, C claims in open ones, J jobs and F free boards it costs O(K) for each of the C
-    /// claims, and O(K log C + log J + F) more for each for which boards are searched.
+    /// claims, O(K log C) more for each few that are looked at ahead, and O(log C + log J + F) for
+    /// each for which boards are searched.
     pub fn serve(self, former: u64) -> Result<(Draft, u64), AllocError>
         requires sound { IsSound self.farm }
         requires nobody { self.farm.collector ≡ 0 }

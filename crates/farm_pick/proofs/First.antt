@@ -1,17 +1,17 @@
 -- The first claim of several queues.
-use Rattle.std.proofs.Common.{◌≡◌, ◌∙◌, ◌<◌, ◌≤◌, ◌+◌, ◌⊎◌, ℕ, zero, suc, List, [], ◌∷◌, Bool, true, false, cond, Option, Some, None, IsSome, is_some, inl, inr, refl, sym, ap, subst, arith}
+use Rattle.std.proofs.Common.{◌≡◌, ◌∙◌, ◌<◌, ◌≤◌, ◌+◌, ◌⊎◌, ℕ, zero, suc, List, [], ◌∷◌, Bool, true, false, cond, Option, Some, None, inl, inr, refl, sym, ap, arith}
 use mathlib.Core.Bool.{true≢false}
 use Rattle.std.specs.Cmp.{IsTotalOrder, back_total, nat_cmp_total, on_total, then_total}
 use Rattle.std.specs.List.{AllByRecursion}
 use Rattle.std.specs.Map.{lookup}
-use Rattle.std.specs.Ordering.{is_eq, is_gt, is_lt, nat_cmp, ordering_then, ordering_reverse}
+use Rattle.std.specs.Ordering.{is_eq, is_gt, nat_cmp, ordering_then, ordering_reverse}
 use Rattle.std.specs.declared.cmp.Ordering.{Ordering}
-use Rattle.std.specs.declared.cmp.Ordering.TheVariants.{Equal, Greater, Less}
+use Rattle.std.specs.declared.cmp.Ordering.TheVariants.{Less}
 use Rattle.std.proofs.lemmas.Cmp.{tied_itself}
 use Rattle.farm_types.specs.Pick.{IsAmong, shown_cmp}
 use Rattle.farm_types.specs.declared.claims.Claim.{Claim}
 use Rattle.farm_pick.specs.Kept.{spot_cmp, claim_at, IsKeyed}
-use Rattle.farm_pick.specs.Heads.{IsHead, IsFirst, rank_cmp, earlier_of}
+use Rattle.farm_pick.specs.Heads.{IsHead, IsFirst, rank_cmp}
 use Rattle.farm_pick.specs.declared.spot.Spot.{Spot}
 use Rattle.farm_pick.proofs.Keeping.{tied}
 
@@ -67,30 +67,10 @@ below n q low = by (nat_lt_or n q)
     by (inl a) = inl a
     by (inr a) = inr (omega arith)
 
-none_some : {X : Type 0} (o : Option X) → o ≡ None → IsSome o → ⊥
-none_some o is some = true≢false (sym some ∙ ap is_some is)
-
 flip : (s t : Spot) (o : Ordering) → rank_cmp s t ≡ o → rank_cmp t s ≡ ordering_reverse o
 flip s t o is = rank_total.antisymm t s ∙ ap ordering_reverse is
 
 module _ (kinds : List (List ℕ)) (es : List (Spot × Claim)) (keyed : AllByRecursion (IsKeyed kinds) es) (test : ℕ → Bool) (last : Spot) (n : ℕ) where
-  pub none_yet : IsFirst es test 0 last None
-  none_yet = λ t low is after. absurd (omega arith)
-
-  -- a closed queue more
-  pub first_stays : (o : Option Claim) → test n ≡ false → IsFirst es test n last o → IsFirst es test (n + 1) last o
-  first_stays None closed f = λ t low is after. by t is after (below n t.queue low)
-    where
-      by : (t : Spot) → test t.queue ≡ true → rank_cmp last t ≡ Less → (t.queue < n) ⊎ (t.queue ≡ n) → claim_at es t ≡ None
-      by t is after (inl lower) = f t lower is after
-      by t is after (inr same) = absurd (true≢false (sym is ∙ ap test same ∙ closed))
-  first_stays (Some c) closed f =
-      (f.0, (let low = f.1 in omega arith), f.2, f.3, f.4, λ t low is after some less. by t is after some less (below n t.queue low))
-    where
-      by : (t : Spot) → test t.queue ≡ true → rank_cmp last t ≡ Less → IsSome (claim_at es t) → rank_cmp t f.0 ≡ Less → (t.queue < n) ⊎ (t.queue ≡ n) → ⊥
-      by t is after some less (inl lower) = f.5 t lower is after some less
-      by t is after some less (inr same) = true≢false (sym is ∙ ap test same ∙ closed)
-
   abbrev here : Spot
   here = record { queue = n; priority = last.priority; number = last.number }
 
@@ -100,69 +80,6 @@ module _ (kinds : List (List ℕ)) (es : List (Spot × Claim)) (keyed : AllByRec
 
   least_here : (s t : Spot) → s.queue ≡ n → t.queue ≡ n → is_gt (spot_cmp s t) ≡ false → rank_cmp t s ≡ Less → ⊥
   least_here s t one other least less = true≢false (sym (ap is_gt (same_queue s t (one ∙ sym other) ∙ flip t s Less less)) ∙ least)
-
-  module _ (open_here : test n ≡ true) where
-    at_test : (s : Spot) → s.queue ≡ n → test s.queue ≡ true
-    at_test s same = ap test same ∙ open_here
-
-    pub first_more : (o h : Option Claim) → IsFirst es test n last o → IsHead es here h → IsFirst es test (n + 1) last (earlier_of o h)
-    first_more None None f g = λ t low is after. by t is after (below n t.queue low)
-      where
-        by : (t : Spot) → test t.queue ≡ true → rank_cmp last t ≡ Less → (t.queue < n) ⊎ (t.queue ≡ n) → claim_at es t ≡ None
-        by t is after (inl lower) = f t lower is after
-        by t is after (inr same) = g t same (comes_here t same after)
-    first_more None (Some b) f g =
-        (g.0, (let e = g.1 in omega (arith, e)), at_test g.0 g.1, sym (same_queue here g.0 (sym g.1)) ∙ g.2, g.3, λ t low is after some less. by t is after some less (below n t.queue low))
-      where
-        by : (t : Spot) → test t.queue ≡ true → rank_cmp last t ≡ Less → IsSome (claim_at es t) → rank_cmp t g.0 ≡ Less → (t.queue < n) ⊎ (t.queue ≡ n) → ⊥
-        by t is after some less (inl lower) = none_some (claim_at es t) (f t lower is after) some
-        by t is after some less (inr same) = least_here g.0 t g.1 same (g.4 t same (comes_here t same after) some) less
-    first_more (Some a) None f g =
-        (f.0, (let low = f.1 in omega arith), f.2, f.3, f.4, λ t low is after some less. by t is after some less (below n t.queue low))
-      where
-        by : (t : Spot) → test t.queue ≡ true → rank_cmp last t ≡ Less → IsSome (claim_at es t) → rank_cmp t f.0 ≡ Less → (t.queue < n) ⊎ (t.queue ≡ n) → ⊥
-        by t is after some less (inl lower) = f.5 t lower is after some less
-        by t is after some less (inr same) = none_some (claim_at es t) (g t same (comes_here t same after)) some
-    first_more (Some a) (Some b) f g = choose (rank_cmp g.0 f.0) refl
-      where
-        ranks : shown_cmp b a ≡ rank_cmp g.0 f.0
-        ranks = shown_rank g.0 f.0 b a (ranked_at kinds es g.0 b keyed g.3) (ranked_at kinds es f.0 a keyed f.4)
-
-        chosen : (o : Ordering) → rank_cmp g.0 f.0 ≡ o → cond (is_lt (shown_cmp b a)) (Some b) (Some a) ≡ cond (is_lt o) (Some b) (Some a)
-        chosen o is = ap (λ v. cond (is_lt v) (Some b) (Some a)) (ranks ∙ is)
-
-        -- t is before the claim that is chosen, which isn't after the other
-        no_less : (s t : Spot) → ((rank_cmp t f.0 ≡ Less) × (rank_cmp t g.0 ≡ Less)) → test t.queue ≡ true → rank_cmp last t ≡ Less → IsSome (claim_at es t)
-            → (t.queue < n) ⊎ (t.queue ≡ n) → ⊥
-        no_less s t two is after some (inl lower) = f.5 t lower is after some two.0
-        no_less s t two is after some (inr same) = least_here g.0 t g.1 same (g.4 t same (comes_here t same after) some) two.1
-
-        with_b : rank_cmp g.0 f.0 ≡ Less → IsFirst es test (n + 1) last (Some b)
-        with_b is = (
-          g.0,
-          (let e = g.1 in omega (arith, e)),
-          at_test g.0 g.1,
-          sym (same_queue here g.0 (sym g.1)) ∙ g.2,
-          g.3,
-          λ t low yet after some less. no_less g.0 t (rank_total.trans t g.0 f.0 less is, less) yet after some (below n t.queue low),
-        )
-
-        with_a : ((t : Spot) → rank_cmp t f.0 ≡ Less → rank_cmp t g.0 ≡ Less) → IsFirst es test (n + 1) last (Some a)
-        with_a both_less = (
-          f.0,
-          (let low = f.1 in omega arith),
-          f.2,
-          f.3,
-          f.4,
-          λ t low yet after some less. no_less f.0 t (less, both_less t less) yet after some (below n t.queue low),
-        )
-
-        choose : (o : Ordering) → rank_cmp g.0 f.0 ≡ o → IsFirst es test (n + 1) last (cond (is_lt (shown_cmp b a)) (Some b) (Some a))
-        choose Less is = subst (IsFirst es test (n + 1) last) (sym (chosen Less is)) (with_b is)
-        choose Equal is = subst (IsFirst es test (n + 1) last) (sym (chosen Equal is))
-            (with_a (λ t less. flip g.0 t Greater (rank_total.congr g.0 f.0 t is ∙ flip t f.0 Less less)))
-        choose Greater is = subst (IsFirst es test (n + 1) last) (sym (chosen Greater is))
-            (with_a (λ t less. rank_total.trans t f.0 g.0 less (flip g.0 f.0 Greater is)))
 
   -- the head of one queue, where no other passes
   module _ (m : ℕ) (low : n < m) (alone : (q : ℕ) → test q ≡ true → q ≡ n) where

@@ -1,5 +1,5 @@
 -- The first claim of the queues, as callers see it.
-use Rattle.std.proofs.Common.{◌≡◌, ◌∙◌, ◌&&◌, ◌||◌, ◌≤◌, ◌+◌, ℕ, List, [], ◌∷◌, length, map, Bool, true, false, cond, Option, Some, None, IsSome, is_some, inl, inr, refl, sym, ap, subst, arith}
+use Rattle.std.proofs.Common.{◌≡◌, ◌∙◌, ◌&&◌, ◌≤◌, ◌+◌, ℕ, List, [], ◌∷◌, length, map, Bool, true, false, cond, Option, Some, None, IsSome, is_some, inl, inr, refl, sym, ap, subst, arith}
 use mathlib.Core.Bool.{true≢false, false≢true}
 use Rattle.std.specs.Cmp.{IsTotalOrder}
 use Rattle.std.specs.List.{AllByRecursion, find}
@@ -16,11 +16,10 @@ use Rattle.farm_types.specs.declared.claims.Claim.{Claim}
 use Rattle.farm_types.proofs.Put.{put_sorted}
 use Rattle.farm_sound.proofs.Lists.{among_has}
 use Rattle.farm_sound.proofs.Tests.{both}
-use Rattle.farm_pick.specs.Queued.{Lists, Queued, is_open}
+use Rattle.farm_pick.specs.Queued.{Queued}
 use Rattle.farm_pick.specs.declared.idle.IdleRow.{IdleRow}
-use Rattle.farm_pick.proofs.Apart.{same_open}
-use Rattle.farm_pick.specs.Kept.{spot_cmp, queued_cmp, kind_at, shown_entry, shown_claims, claim_at, IsKeyed, IsWell, shown_idle}
-use Rattle.farm_pick.specs.Heads.{IsFirst, is_later, queue_open, rank_cmp, rank_of_claim}
+use Rattle.farm_pick.specs.Kept.{spot_cmp, queued_cmp, kind_at, shown_entry, shown_claims, claim_at, IsKeyed, IsWell}
+use Rattle.farm_pick.specs.Heads.{IsFirst, is_later, rank_cmp, rank_of_claim}
 use Rattle.farm_pick.specs.declared.spot.Spot.{Spot}
 use Rattle.farm_pick.specs.declared.spot.Place.{Place}
 use Rattle.farm_pick.proofs.Entries.{all_put, all_among}
@@ -150,20 +149,6 @@ module _ (kinds : List (List ℕ)) (es : List (Spot × Claim)) (keyed : AllByRec
           first.5 d.0.0 (let low = key.queue in omega arith) t.1 t.0 (IsSome-at d.0 d.1)
           (sym (shown_rank d.0.0 first.0 d.0.1 e.0.1 (record { number = key.number; priority = key.priority }) ranked)
           ∙ ap (λ (y : Queued). queued_cmp y (shown_entry kinds e.0)) d.2 ∙ less)
-
--- what a call of `first` finds, as callers see it
-pub first_seen : (kinds : List (List ℕ)) (es : List (Spot × Claim)) (ps : List (ℕ × Place)) (rows : List IdleRow) → IsWell kinds es ps rows → (all : Bool) (seen : Lists)
-    → record { claims = shown_claims kinds es; boards = map (shown_idle kinds) rows } ≡ seen → (r last : Spot) → r ≡ last → (ks : List (List ℕ)) → ks ≡ kinds
-    → (rs : List IdleRow) → rs ≡ rows → (o : Option Claim) → IsFirst es (λ q. all || queue_open rs q) (length ks + 1) r o
-    → o ≡ option_map (λ (x : Queued). x.claim) (find (λ x. is_later last x.claim && (all || is_open seen.boards x.kind)) seen.claims)
-first_seen kinds es ps rows well all seen view r last is ks kinds_are rs rows_are o first =
-    let here : IsFirst es (λ q. all || queue_open rows q) (length kinds + 1) last o =
-    subst (λ l. IsFirst es (λ q. all || queue_open rows q) (length kinds + 1) l o) is
-    (subst (λ k. IsFirst es (λ q. all || queue_open rows q) (length k + 1) r o) kinds_are
-    (subst (λ xs. IsFirst es (λ q. all || queue_open xs q) (length ks + 1) r o) rows_are first)) in
-    first_shown kinds es well.queues.keyed well.queues.apart last (λ q. all || queue_open rows q) (λ k. all || is_open (map (shown_idle kinds) rows) k)
-    (λ q low. ap (λ v. all || v) (same_open kinds well.free.apart rows well.free.each q low)) o here
-    ∙ ap (λ (l : Lists). option_map (λ (x : Queued). x.claim) (find (λ x. is_later last x.claim && (all || is_open l.boards x.kind)) l.claims)) view
 
 pub well_new : (ks : List (List ℕ)) (es : List (Spot × Claim)) (ps : List (ℕ × Place)) (rows : List IdleRow) → ks ≡ [] → es ≡ [] → ps ≡ [] → rows ≡ [] → IsWell ks es ps rows
 unfolding IsStrictlySortedBy

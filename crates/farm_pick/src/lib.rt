@@ -39,5 +39,4 @@ pub use picked::Picked;
 pub use queue::queue_of;
 pub use queues::Queues;
 pub use search::{least, least_of};
-pub use waiting::earlier;
 pub use walk::Walk;

@@ -207,22 +207,6 @@ impl Queues {
         Ok(walk)
     }
 
-    /// The first claim that comes after a priority and a number, if they are given, in the order
-    /// `before`; without `all` only of queues that are open: of what `heads` lends the one that
-    /// goes first. The claim tried last is given by its priority and number, since it may have been
-    /// taken since. It takes no memory.
-    ///
-    /// It looks at the head of each open queue: with C claims and K types it costs O(K log C), by
-    /// look-ups in the map of 60 to 90 ns each at 1,000 claims.
-    pub fn next(&self, after: Option<(Priority, u64)>, all: bool) -> Option<&Claim>
-        ensures { option_copied result ≡ option_map (λ x. x.claim)
-            (find (λ x. is_later (last_spot after) x.claim
-            && (all || is_open self.now.boards x.kind)) self.now.claims) }
-    {
-        let last = spot::last_spot(after);
-        waiting::first(&self.kinds, &self.claims, &self.idle, last, all)
-    }
-
     /// The first claim of two boards or more that comes after a priority and a number, if they are
     /// given, in the order `before`; of all queues, open or not: while no group collects, a group
     /// of a closed queue may begin to. It takes no memory.

@@ -1,17 +1,16 @@
 //! The claims of all queues in one ordered map, one queue behind the other.
-ghost use Rattle.std.specs.Prelude.{◌≡◌, ◌≤◌, ◌+◌, ◌||◌, ℕ, length, cond, Some, None, OnOk, OnErr};
+ghost use Rattle.std.specs.Prelude.{◌≡◌, ◌≤◌, ◌||◌, ℕ, length, cond, Some, None, OnOk, OnErr};
 ghost use Rattle.std.specs.Prelude.{IfOk, MatchOption};
-ghost use Rattle.std.specs.List.{AllByRecursion};
 ghost use Rattle.std.specs.List.Sorted.{IsPermutation, IsSortedBy};
 ghost use Rattle.std.specs.BTreeMap.{insert_entry, values};
 ghost use Rattle.std.specs.Option.{option_copied};
 ghost use Rattle.std.specs.Ordering.{is_eq, is_lt, nat_cmp};
 ghost use Rattle.farm_types.specs.Pick.{shown_cmp};
-ghost use Rattle.farm_pick.specs.Heads.{AreHeads, IsHead, IsFirst, earlier_of, head_in, queue_open};
-ghost use Rattle.farm_pick.specs.Kept.{spot_cmp, claim_at, place_at, IsKeyed, TakesOrStays};
+ghost use Rattle.farm_pick.specs.Heads.{AreHeads, IsHead, head_in, queue_open};
+ghost use Rattle.farm_pick.specs.Kept.{spot_cmp, claim_at, place_at, TakesOrStays};
 
 use crate::idle::{self, IdleRow};
-use crate::order::{before, queue_order};
+use crate::order::queue_order;
 use crate::spot::{Place, Spot};
 use farm_types::claims::Claim;
 use farm_types::words::Name;
@@ -97,24 +96,6 @@ pub fn head(claims: &BTreeMap<Spot, Claim>, last: Spot) -> Option<&Claim>
     }
 }
 
-/// Of two claims the one that goes first; of one alone this one.
-pub fn earlier<'a>(first: Option<&'a Claim>, second: Option<&'a Claim>) -> Option<&'a Claim>
-    ensures { option_copied result ≡ earlier_of (option_copied first.entry)
-        (option_copied second.entry) }
-{
-    match (first, second) {
-        (None, second) => second,
-        (first, None) => first,
-        (Some(first), Some(second)) => {
-            if before(second, first) {
-                Some(second)
-            } else {
-                Some(first)
-            }
-        }
-    }
-}
-
 /// Whether the queue is looked at.
 pub fn is_seen(rows: &VecDeque<IdleRow>, queue: usize, all: bool) -> bool
     ensures { result ≡ (all || queue_open rows.now.items queue) }
@@ -140,28 +121,6 @@ pub fn seen_head<'a>(
     } else {
         None
     }
-}
-
-/// The first claim of the open queues, or of all, that comes after a spot: of the heads of these
-/// queues the one that goes first.
-pub fn first<'a>(
-    kinds: &[Name],
-    claims: &'a BTreeMap<Spot, Claim>,
-    rows: &VecDeque<IdleRow>,
-    last: Spot,
-    all: bool,
-) -> Option<&'a Claim>
-    requires { AllByRecursion (IsKeyed kinds.now) claims.now.entries }
-    ensures { IsFirst claims.now.entries (λ q. all || queue_open rows.now.items q)
-        (length kinds.now + 1) last (option_copied result) }
-{
-    let mut best = None;
-    for queue in 0..kinds.len() + 1 {
-        if is_seen(rows, queue, all) {
-            best = earlier(best, head(claims, Spot { queue, ..last }));
-        }
-    }
-    best
 }
 
 /// An equal claim.
