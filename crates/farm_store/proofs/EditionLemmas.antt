@@ -5,14 +5,13 @@ use Rattle.farm_types.specs.Farm.{Farm}
 use Rattle.farm_types.specs.declared.rows.JobRow.{JobRow}
 use Rattle.farm_types.specs.declared.rows.MetaRow.{MetaRow}
 use Rattle.farm_types.proofs.Put.{AllByRecursion-weaker}
-use Rattle.farm_store.specs.Columns.{IsOfSchema, Tables, tells, rows_of, first_rows_of, type_columns, board_columns, res_columns, kept_columns, numbers_of}
+use Rattle.farm_store.specs.Columns.{IsOfSchema, Tables, tells, rows_of, first_rows_of, type_columns, board_columns, res_columns, kept_columns, numbers_of, second_schema}
 use Rattle.farm_store.specs.Editions.{IsCollectorIn, IsReadableIn, IsReadableJobIn, IsStateIn, job_columns_in, meta_rows_in, other_edition, rows_in, schema_of, told_as}
 use Rattle.farm_store.specs.Readable.{IsReadable, IsReadableJob}
 use Rattle.farm_store.specs.Reading.{TellsNoVersion}
 use Rattle.farm_store.specs.declared.edition.Edition.{Edition}
 use Rattle.farm_store.specs.declared.fault.StoreFault.{StoreFault}
 use Rattle.farm_store.specs.declared.fault.StoreFault.TheVariants.{BadStore, Store}
-use Rattle.farm_store.specs.declared.schema.TheConstants.{SCHEMA}
 
 pub no_version : (e : Edition) (fault : StoreFault) → TellsNoVersion fault → fault ≢ told_as e
 no_version Edition.First fault none = none.0
@@ -134,12 +133,12 @@ not_other Edition.First F is = let e = is in cc
 not_other Edition.Second F is = let e = is in cc
 
 -- the same of the two by name
-pub rows_are_new : (F : Farm) → IsOfSchema SCHEMA (rows_of F)
+pub rows_are_new : (F : Farm) → IsOfSchema second_schema (rows_of F)
 rows_are_new F = tells_own Edition.Second F
 
-pub first_rows_are_old : (F : Farm) → IsOfSchema SCHEMA (first_rows_of F) → ⊥
+pub first_rows_are_old : (F : Farm) → IsOfSchema second_schema (first_rows_of F) → ⊥
 first_rows_are_old F = not_other Edition.First F
 
 -- no farm's tables of one edition are a farm's of the other
 pub editions_apart : (F G : Farm) → rows_of F ≢ first_rows_of G
-editions_apart F G same = first_rows_are_old G (subst (IsOfSchema SCHEMA) same (rows_are_new F))
+editions_apart F G same = first_rows_are_old G (subst (IsOfSchema second_schema) same (rows_are_new F))

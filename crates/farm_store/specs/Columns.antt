@@ -25,7 +25,6 @@ use Rattle.farm_types.specs.declared.rows.JobState.{JobState}
 use Rattle.farm_types.specs.declared.rows.ResRow.{ResRow}
 use Rattle.farm_types.specs.declared.rows.KeptRow.{KeptRow}
 use Rattle.farm_types.specs.declared.rows.MetaRow.{MetaRow}
-use Rattle.farm_store.specs.declared.schema.TheConstants.{FIRST_SCHEMA, SCHEMA}
 
 -- a column of a table whose rows stand for such things, and what it holds of one
 pub record Field (R : Type 0) : Type 0 where
@@ -134,9 +133,16 @@ abbrev pub number_rows : MetaRow → List Row
 number_rows m = meta_row (codes "clock") m.clock ∷ meta_row (codes "collector") m.collector
     ∷ meta_row (codes "count") m.count ∷ meta_row (codes "next") m.next ∷ []
 
+-- the version that the tables tell, in the first edition and in this one
+abbrev pub first_schema : ℕ
+first_schema = 1
+
+abbrev pub second_schema : ℕ
+second_schema = 2
+
 -- with the version of the tables, whose name comes last, all rows of their table
 abbrev pub meta_rows : MetaRow → List Row
-meta_rows m = number_rows m ++ meta_row (codes "schema") SCHEMA ∷ []
+meta_rows m = number_rows m ++ meta_row (codes "schema") second_schema ∷ []
 
 abbrev pub numbers_of : Farm → MetaRow
 numbers_of F = record {
@@ -181,7 +187,7 @@ first_job_columns = values_of (job_fields_by first_state_code)
 
 abbrev pub first_meta_rows : MetaRow → List Row
 first_meta_rows m = meta_row (codes "clock") m.clock ∷ meta_row (codes "count") m.count
-    ∷ meta_row (codes "next") m.next ∷ meta_row (codes "schema") FIRST_SCHEMA ∷ []
+    ∷ meta_row (codes "next") m.next ∷ meta_row (codes "schema") first_schema ∷ []
 
 unfoldable pub first_rows_of : Farm → Tables
 first_rows_of F = record {

@@ -6,13 +6,13 @@ use Rattle.farm_types.specs.Farm.{Farm}
 use Rattle.farm_types.specs.declared.rows.JobRow.{JobRow}
 use Rattle.farm_types.specs.declared.rows.JobState.{JobState}
 use Rattle.farm_types.specs.declared.rows.MetaRow.{MetaRow}
-use Rattle.farm_store.specs.Columns.{Tables, first_meta_rows, first_rows_of, first_state_code}
-use Rattle.farm_store.specs.Columns.{job_fields_by, meta_rows, rows_of, values_of}
+use Rattle.farm_store.specs.Columns.{Tables, first_meta_rows, first_rows_of, first_schema}
+use Rattle.farm_store.specs.Columns.{first_state_code, job_fields_by, meta_rows, rows_of}
+use Rattle.farm_store.specs.Columns.{second_schema, values_of}
 use Rattle.farm_store.specs.Readable.{IsReadable, IsReadableFirst, IsReadableJob}
 use Rattle.farm_store.specs.declared.edition.Edition.{Edition}
 use Rattle.farm_store.specs.declared.fault.StoreFault.{StoreFault}
 use Rattle.farm_store.specs.declared.fault.StoreFault.TheVariants.{NewSchema, OldSchema}
-use Rattle.farm_store.specs.declared.schema.TheConstants.{FIRST_SCHEMA, SCHEMA}
 
 abbrev pub other_edition : Edition → Edition
 other_edition Edition.First = Edition.Second
@@ -20,8 +20,8 @@ other_edition Edition.Second = Edition.First
 
 -- the version that its tables tell
 abbrev pub schema_of : Edition → ℕ
-schema_of Edition.First = FIRST_SCHEMA
-schema_of Edition.Second = SCHEMA
+schema_of Edition.First = first_schema
+schema_of Edition.Second = second_schema
 
 -- how its tables are refused where those of the other edition are wanted
 abbrev pub told_as : Edition → StoreFault

@@ -1,3 +1,4 @@
+pub mod Agreed
 pub mod Columns
 pub mod Editions
 pub mod Edits

@@ -3,12 +3,18 @@ ghost use Rattle.std.specs.Prelude.{◌≡◌, ◌≢◌};
 ghost use Rattle.sqlite.specs.Held.{state};
 ghost use Rattle.sqlite.specs.State.{IsLive, Opens};
 ghost use Rattle.farm_types.specs.Farm.{Farm};
+ghost use Rattle.farm_store.specs.Agreed.{SchemasAgree};
 ghost use Rattle.farm_store.specs.Columns.{Tables, first_rows_of, rows_of};
 ghost use Rattle.farm_store.specs.Holds.{Holds, Stands};
 ghost use Rattle.farm_store.specs.Readable.{IsReadable, IsReadableFirst};
 ghost use Rattle.farm_types.specs.Sound.{IsSound};
 
 use sqlite::{Alter, Connection};
+
+/// The versions of the tables that the code writes and tests are those of the definitions.
+pub fn schemas_agree()
+    ensures { SchemasAgree }
+{}
 
 /// A connection that was just opened on the farm's tables stands for them: they have the farm's
 /// schema, nothing is uncommitted, and a stop now leaves them alone.

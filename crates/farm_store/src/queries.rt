@@ -6,7 +6,8 @@ ghost use Rattle.std.specs.Prelude.{◌≡◌, ◌≢◌, ◌⊎◌, false, Err,
 ghost use Rattle.sqlite.specs.Held.{state};
 ghost use Rattle.sqlite.specs.State.{HasCleanDisk};
 ghost use Rattle.farm_types.specs.Farm.{Farm, farm_of};
-ghost use Rattle.farm_store.specs.Columns.{IsOfSchema, Tables, first_rows_of, rows_of};
+ghost use Rattle.farm_store.specs.Columns.{IsOfSchema, Tables, first_rows_of, first_schema, rows_of};
+ghost use Rattle.farm_store.specs.Columns.{second_schema};
 ghost use Rattle.farm_store.specs.Editions.{IsCollectorIn, meta_rows_in, told_as};
 ghost use Rattle.farm_store.specs.Edits.{GoesOn};
 ghost use Rattle.farm_store.specs.Holds.{IsInside, KeepsDoubt, Stands, LeavesNoMore};
@@ -19,7 +20,6 @@ use crate::edition::Edition;
 use crate::fault::StoreFault;
 use crate::meta::read_numbers;
 use crate::queries::rows::read;
-use crate::schema::{FIRST_SCHEMA, SCHEMA};
 use crate::tables::is_farm_schema;
 use farm_types::calls::Rows;
 use farm_types::rows::{BoardRow, JobRow, KeptRow, MetaRow, ResRow, TypeRow};
@@ -175,13 +175,13 @@ pub fn load<S: Alter>(alloc: Global, conn: &mut Connection<S>) -> Result<Rows, S
     ensures bad { HasCleanDisk (state S.Store conn.new) → result ≡ Err StoreFault.BadStore
         → (F : Farm) → IsReadable F → ¬ Stands (state S.Store conn.old) (rows_of F) }
     ensures old { HasCleanDisk (state S.Store conn.new) → result ≡ Err StoreFault.OldSchema
-        → (T : Tables) → Stands (state S.Store conn.old) T → IsOfSchema FIRST_SCHEMA T }
+        → (T : Tables) → Stands (state S.Store conn.old) T → IsOfSchema first_schema T }
     ensures known { HasCleanDisk (state S.Store conn.new) → (T : Tables)
-        → Stands (state S.Store conn.old) T → IsOfSchema FIRST_SCHEMA T
+        → Stands (state S.Store conn.old) T → IsOfSchema first_schema T
         → (result ≡ Err StoreFault.OldSchema) ⊎ (result ≡ Err StoreFault.Store) }
     ensures other { HasCleanDisk (state S.Store conn.new) → (T : Tables)
-        → Stands (state S.Store conn.old) T → ¬ IsOfSchema FIRST_SCHEMA T
-        → ¬ IsOfSchema SCHEMA T
+        → Stands (state S.Store conn.old) T → ¬ IsOfSchema first_schema T
+        → ¬ IsOfSchema second_schema T
         → (result ≡ Err StoreFault.BadStore) ⊎ (result ≡ Err StoreFault.Store) }
     ensures never { result ≢ Err StoreFault.NewSchema }
 {
@@ -219,13 +219,13 @@ pub fn load_first<S: Alter>(alloc: Global, conn: &mut Connection<S>) -> Result<R
     ensures bad { HasCleanDisk (state S.Store conn.new) → result ≡ Err StoreFault.BadStore
         → (F : Farm) → IsReadableFirst F → ¬ Stands (state S.Store conn.old) (first_rows_of F) }
     ensures newer { HasCleanDisk (state S.Store conn.new) → result ≡ Err StoreFault.NewSchema
-        → (T : Tables) → Stands (state S.Store conn.old) T → IsOfSchema SCHEMA T }
+        → (T : Tables) → Stands (state S.Store conn.old) T → IsOfSchema second_schema T }
     ensures known { HasCleanDisk (state S.Store conn.new) → (T : Tables)
-        → Stands (state S.Store conn.old) T → IsOfSchema SCHEMA T
+        → Stands (state S.Store conn.old) T → IsOfSchema second_schema T
         → (result ≡ Err StoreFault.NewSchema) ⊎ (result ≡ Err StoreFault.Store) }
     ensures other { HasCleanDisk (state S.Store conn.new) → (T : Tables)
-        → Stands (state S.Store conn.old) T → ¬ IsOfSchema SCHEMA T
-        → ¬ IsOfSchema FIRST_SCHEMA T
+        → Stands (state S.Store conn.old) T → ¬ IsOfSchema second_schema T
+        → ¬ IsOfSchema first_schema T
         → (result ≡ Err StoreFault.BadStore) ⊎ (result ≡ Err StoreFault.Store) }
     ensures never { result ≢ Err StoreFault.OldSchema }
 {

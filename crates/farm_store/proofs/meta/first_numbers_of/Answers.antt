@@ -1,7 +1,6 @@
 use Rattle.std.proofs.Common.{◌≡◌, ◌<◌, codes, length, refl, sym, subst, ◌∙◌, arith, rules}
-use Rattle.farm_store.specs.Columns.{first_meta_rows}
 use Rattle.farm_store.specs.Places.{of_meta}
-use Rattle.farm_store.specs.declared.schema.TheConstants.{FIRST_SCHEMA}
+use Rattle.farm_store.specs.Columns.{first_meta_rows, first_schema}
 use Rattle.farm_store.specs.Stored.{IsWide}
 use Rattle.farm_store.proofs.NumberRows.{four_rows, refuses_number}
 use Rattle.farm_store.proofs.ReadRows.{all_at}
@@ -16,7 +15,7 @@ returns-then-branch-eq-FIRST_SCHEMA-clause-read c = λ wide.
     let count = c.in_ok-count.ensures.read (subst (IsWide of_meta.width) (sym c.count-item.is) (item 1 (omega arith) c.count-item.result)) in
     let next = c.in_ok-next.ensures.read (subst (IsWide of_meta.width) (sym c.next-item.is) (item 2 (omega arith) c.next-item.result)) in
     let schema = c.in_ok-number_of.ensures.read (subst (IsWide of_meta.width) (sym c.schema-item.is) (item 3 (omega arith) c.schema-item.result)) in
-    let version : c.in_ok-number_of.field-0 ≡ FIRST_SCHEMA = search rules in (
+    let version : c.in_ok-number_of.field-0 ≡ first_schema = search rules in (
       refl,
       four_rows rows c.clock-item.result c.count-item.result c.next-item.result c.schema-item.result len c.clock-item.is c.count-item.is c.next-item.is c.schema-item.is
           ∙ rw (clock.1, count.1, next.1, schema.1, version),
@@ -37,5 +36,5 @@ returns-in_err-next-clause-read c = λ wide.
 pub returns-in_err-number_of-clause-read : goal.returns-in_err-number_of-clause-read
 returns-in_err-number_of-clause-read c = λ wide.
     let rows = c.args.rows.now in
-    refuses_number (λ m. m.collector ≡ 0) first_meta_rows c.from_residual-in_err-number_of.result rows 3 c.schema-item.result (codes "schema") (λ m. FIRST_SCHEMA) c.in_err-number_of.field-0.0 c.from_residual-in_err-number_of.ensures.1 c.schema-item.is (λ m. refl)
+    refuses_number (λ m. m.collector ≡ 0) first_meta_rows c.from_residual-in_err-number_of.result rows 3 c.schema-item.result (codes "schema") (λ m. first_schema) c.in_err-number_of.field-0.0 c.from_residual-in_err-number_of.ensures.1 c.schema-item.is (λ m. refl)
     (c.in_err-number_of.ensures.read (subst (IsWide of_meta.width) (sym c.schema-item.is) (all_at (IsWide of_meta.width) rows 3 c.schema-item.result wide (omega arith))))

@@ -1,8 +1,7 @@
 use Rattle.std.proofs.Common.{◌≡◌, ◌<◌, [], ◌∷◌, codes, length, refl, sym, ap, subst, ◌∙◌, arith, rules}
 use Rattle.std.specs.Prelude.{⊤}
-use Rattle.farm_store.specs.Columns.{meta_rows}
 use Rattle.farm_store.specs.Places.{of_meta}
-use Rattle.farm_store.specs.declared.schema.TheConstants.{SCHEMA}
+use Rattle.farm_store.specs.Columns.{meta_rows, second_schema}
 use Rattle.farm_store.specs.Stored.{IsWide}
 use Rattle.farm_store.proofs.NumberRows.{five_rows, refuses_number}
 use Rattle.farm_store.proofs.ReadRows.{all_at}
@@ -18,7 +17,7 @@ returns-then-branch-eq-SCHEMA-clause-read c = λ wide.
     let count = c.in_ok-count.ensures.read (subst (IsWide of_meta.width) (sym c.count-item.is) (item 2 (omega arith) c.count-item.result)) in
     let next = c.in_ok-next.ensures.read (subst (IsWide of_meta.width) (sym c.next-item.is) (item 3 (omega arith) c.next-item.result)) in
     let schema = c.in_ok-number_of.ensures.read (subst (IsWide of_meta.width) (sym c.schema-item.is) (item 4 (omega arith) c.schema-item.result)) in
-    let version : c.in_ok-number_of.field-0 ≡ SCHEMA = search rules in (
+    let version : c.in_ok-number_of.field-0 ≡ second_schema = search rules in (
       tt,
       five_rows rows c.clock-item.result c.collector-item.result c.count-item.result c.next-item.result c.schema-item.result len c.clock-item.is c.collector-item.is c.count-item.is c.next-item.is c.schema-item.is
           ∙ rw (clock.1, collector.1, count.1, next.1, schema.1, version),
@@ -45,5 +44,5 @@ returns-in_err-next-clause-read c = λ wide.
 pub returns-in_err-number_of-clause-read : goal.returns-in_err-number_of-clause-read
 returns-in_err-number_of-clause-read c = λ wide.
     let rows = c.args.rows.now in
-    refuses_number (λ _. ⊤) meta_rows c.from_residual-in_err-number_of.result rows 4 c.schema-item.result (codes "schema") (λ m. SCHEMA) c.in_err-number_of.field-0.0 c.from_residual-in_err-number_of.ensures.1 c.schema-item.is (λ m. refl)
+    refuses_number (λ _. ⊤) meta_rows c.from_residual-in_err-number_of.result rows 4 c.schema-item.result (codes "schema") (λ m. second_schema) c.in_err-number_of.field-0.0 c.from_residual-in_err-number_of.ensures.1 c.schema-item.is (λ m. refl)
     (c.in_err-number_of.ensures.read (subst (IsWide of_meta.width) (sym c.schema-item.is) (all_at (IsWide of_meta.width) rows 4 c.schema-item.result wide (omega arith))))
