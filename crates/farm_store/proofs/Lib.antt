@@ -19,6 +19,7 @@ pub mod Loads
 pub mod ColumnsFrom
 pub mod Selects
 pub mod RowSelects
+pub mod Versions
 pub mod TagsRead
 pub mod ReadRows
 pub mod NumberRows

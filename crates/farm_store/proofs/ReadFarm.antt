@@ -1,6 +1,7 @@
 -- The tables of a farm, read.
-use Rattle.std.proofs.Common.{refl, ◌≡◌, ◌≢◌, ◌⊎◌, List, inl, inr, Result, Ok, Err, IfOk, IsErrAnd, IsTrue, map, sym, ap, ◌∙◌}
+use Rattle.std.proofs.Common.{refl, ◌≡◌, ◌≢◌, ◌⊎◌, List, inl, inr, Result, Ok, Err, IfErr, IfOk, IsErrAnd, IsTrue, map, sym, ap, ◌∙◌}
 use Rattle.std.specs.List.{AllByRecursion, list_any}
+use Rattle.sqlite.specs.Effect.{Database}
 use Rattle.sqlite.specs.Order.{Row}
 use Rattle.farm_types.specs.Farm.{Farm, farm_of}
 use Rattle.farm_types.specs.declared.calls.Rows.{Rows}
@@ -8,11 +9,12 @@ use Rattle.farm_types.specs.declared.rows.MetaRow.{MetaRow}
 use Rattle.farm_store.specs.Columns.{IsOfSchema, Tables, tells, type_columns, board_columns, res_columns, kept_columns}
 use Rattle.farm_store.specs.Editions.{IsCollectorIn, IsReadableIn, IsReadableJobIn, job_columns_in, meta_rows_in, other_edition, rows_in, schema_of, told_as}
 use Rattle.farm_store.specs.Readable.{IsReadableType, IsReadableBoard, IsReadableRes, IsReadableKept}
-use Rattle.farm_store.specs.Reading.{LooksAtSchema, ReadsAs, ReadsFarm, ReadsNumbers, TellsNoVersion}
+use Rattle.farm_store.specs.Reading.{LooksAtSchema, LooksFirst, ReadsAs, ReadsFarm, ReadsNumbers, TellsNoVersion}
+use Rattle.farm_store.specs.Versions.{ShowsNumbers}
 use Rattle.farm_store.specs.declared.edition.Edition.{Edition}
 use Rattle.farm_store.specs.declared.fault.StoreFault.{StoreFault}
 use Rattle.farm_store.specs.declared.fault.StoreFault.TheVariants.{BadStore, Store}
-use Rattle.farm_store.proofs.EditionLemmas.{is_in, no_version, not_bad, numbers_are_own, numbers_tell, states_of, whole_in, words_of}
+use Rattle.farm_store.proofs.EditionLemmas.{is_in, never_told, no_version, not_bad, not_store, numbers_are_own, numbers_tell, states_of, whole_in, words_of}
 
 -- a table that was refused refuses them all
 pub refuses_farm : (e : Edition) (r : Result Rows StoreFault) (T : Tables) (fault : StoreFault) → IsErrAnd r (λ f. f ≡ fault) → (fault ≡ told_as (other_edition e) → IsOfSchema (schema_of (other_edition e)) T)
@@ -94,6 +96,67 @@ looks_again {A} {B} e r s T fault was told first = record {
   other = λ is none. one BadStore Store (first.other is none);
 }
   where
+    one : (f g : StoreFault) → (r ≡ Err f) ⊎ (r ≡ Err g) → (s ≡ Err f) ⊎ (s ≡ Err g)
+    one f g (inl is) = inl (same_fault r s fault f was told is)
+    one f g (inr is) = inr (same_fault r s fault g was told is)
+
+-- ---- the version, whatever else stands there
+
+-- a store that failed told nothing
+pub failed_first : {A : Type 0} (e : Edition) (r : Result A StoreFault) (db : Database) → IsErrAnd r (λ f. f ≡ Store) → LooksFirst e r db
+failed_first e (Ok a) db is = absurd is
+failed_first e (Err f) db is = record {
+  told = λ told. absurd (not_store (other_edition e) (let same : f ≡ told_as (other_edition e) = cc in sym is ∙ same));
+  known = λ _. inr (ap Err is);
+  neither = λ _ _. inr (ap Err is);
+}
+
+-- the rows that were shown are refused as what they are
+pub refused_first : {A : Type 0} (e : Edition) (r : Result A StoreFault) (db : Database) (rows : List Row) (fault : StoreFault) → IsErrAnd r (λ f. f ≡ fault) → ShowsNumbers db rows → IsVersionFault e fault rows → LooksFirst e r db
+refused_first e (Ok a) db rows fault is shows found = absurd is
+refused_first e (Err f) db rows fault is shows (inl (told, other)) = record {
+  told = λ _. (rows, shows, other);
+  known = λ _. inl (ap Err (is ∙ told));
+  neither = λ none. absurd (none (rows, shows, other));
+}
+refused_first e (Err f) db rows fault is shows (inr (bad, not_other, none)) = record {
+  told = λ told. absurd (not_bad (other_edition e) (let same : f ≡ told_as (other_edition e) = cc in sym bad ∙ sym is ∙ same));
+  known = λ tells. absurd (not_other (tells rows shows));
+  neither = λ _ _. inl (ap Err (is ∙ bad));
+}
+
+-- rows of this version are refused as nothing yet
+pub known_first : {A : Type 0} (e : Edition) (a : A) (db : Database) (rows : List Row) → ShowsNumbers db rows → ¬ IsTrue (list_any (tells (schema_of (other_edition e))) rows) → IsTrue (list_any (tells (schema_of e)) rows) → LooksFirst e (Ok a) db
+known_first e a db rows shows not_other own = record {
+  told = λ told. absurd (let x = told in cc);
+  known = λ all. absurd (not_other (all rows shows));
+  neither = λ _ none. absurd (none (rows, shows, own));
+}
+
+-- and by what is read of them later no version is told
+pub read_on : {A B : Type 0} (e : Edition) (a : A) (r : Result B StoreFault) (db : Database) → LooksFirst e (Ok a) db → IfErr r TellsNoVersion → LooksFirst e r db
+read_on {A} {B} e a r db first none = record {
+  told = λ told. absurd (never_told (other_edition e) r none told);
+  known = λ all. absurd (by (Ok a) refl (told_as (other_edition e)) Store (first.known all));
+  neither = λ not_other not_own. absurd (by (Ok a) refl BadStore Store (first.neither not_other not_own));
+}
+  where
+    by : (x : Result A StoreFault) → x ≡ Ok a → (f g : StoreFault) → (x ≡ Err f) ⊎ (x ≡ Err g) → ⊥
+    by x ok f g (inl is) = let e = sym ok ∙ is in cc
+    by x ok f g (inr is) = let e = sym ok ∙ is in cc
+
+-- a fault is handed on
+pub first_again : {A B : Type 0} (e : Edition) (r : Result A StoreFault) (s : Result B StoreFault) (db : Database) (fault : StoreFault) → r ≡ Err fault → IsErrAnd s (λ f. f ≡ fault) → LooksFirst e r db → LooksFirst e s db
+first_again {A} {B} e r s db fault was told first = record {
+  told = λ is. first.told (back s told is);
+  known = λ all. one (told_as (other_edition e)) Store (first.known all);
+  neither = λ not_other not_own. one BadStore Store (first.neither not_other not_own);
+}
+  where
+    back : {f : StoreFault} (t : Result B StoreFault) → IsErrAnd t (λ g. g ≡ fault) → t ≡ Err f → r ≡ Err f
+    back (Ok b) told is = absurd told
+    back {f} (Err g) told is = let same : g ≡ f = cc in was ∙ ap Err (sym told ∙ same)
+
     one : (f g : StoreFault) → (r ≡ Err f) ⊎ (r ≡ Err g) → (s ≡ Err f) ⊎ (s ≡ Err g)
     one f g (inl is) = inl (same_fault r s fault f was told is)
     one f g (inr is) = inr (same_fault r s fault g was told is)

@@ -12,3 +12,4 @@ pub mod Replaces
 pub mod Schema
 pub mod Stored
 pub mod Texts
+pub mod Versions

@@ -2,6 +2,7 @@
 use Rattle.std.specs.Prelude.{◌≡◌, ◌≢◌, ◌⊎◌, IsTrue, ℕ, suc, List, [], ◌∷◌, Result, Err}
 use Rattle.std.specs.Prelude.{MatchResult, map, ⊤}
 use Rattle.std.specs.List.{AllByRecursion}
+use Rattle.sqlite.specs.Effect.{Database}
 use Rattle.sqlite.specs.Order.{Row}
 use Rattle.sqlite.specs.State.{State}
 use Rattle.sqlite_value.specs.Order.{column}
@@ -12,6 +13,7 @@ use Rattle.farm_store.specs.Columns.{IsOfSchema, Tables}
 use Rattle.farm_store.specs.Editions.{IsCollectorIn, IsReadableIn, meta_rows_in, other_edition}
 use Rattle.farm_store.specs.Editions.{rows_in, schema_of, told_as}
 use Rattle.farm_store.specs.Holds.{ShowsTables}
+use Rattle.farm_store.specs.Versions.{MayTell, Tells}
 use Rattle.farm_store.specs.declared.edition.Edition.{Edition}
 use Rattle.farm_store.specs.declared.fault.StoreFault.{StoreFault}
 use Rattle.farm_store.specs.declared.fault.StoreFault.TheVariants.{BadStore, NewSchema, OldSchema}
@@ -59,6 +61,19 @@ pub record LooksAtSchema {A : Type 0} (edition : Edition) (result : Result A Sto
       → (result ≡ Err (told_as (other_edition edition))) ⊎ (result ≡ Err Store)
   pub other : ¬ IsOfSchema (schema_of (other_edition edition)) T
       → ¬ IsOfSchema (schema_of edition) T
+      → (result ≡ Err BadStore) ⊎ (result ≡ Err Store)
+
+-- the version is looked at before anything else, whatever stands there beside the numbers: the store
+-- is refused as the other edition's only where its `meta` may tell that version, and it is where
+-- `meta` tells it; where it tells neither the store is bad. Or the store failed
+pub record LooksFirst {A : Type 0} (edition : Edition) (result : Result A StoreFault)
+    (db : Database) : Type 0 where
+  pub told : result ≡ Err (told_as (other_edition edition))
+      → MayTell (schema_of (other_edition edition)) db
+  pub known : Tells (schema_of (other_edition edition)) db
+      → (result ≡ Err (told_as (other_edition edition))) ⊎ (result ≡ Err Store)
+  pub neither : ¬ MayTell (schema_of (other_edition edition)) db
+      → ¬ MayTell (schema_of edition) db
       → (result ≡ Err BadStore) ⊎ (result ≡ Err Store)
 
 -- the numbers read are those of the tables; they are refused as the other edition's only where the

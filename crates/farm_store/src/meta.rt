@@ -13,10 +13,11 @@ ghost use Rattle.farm_store.specs.Editions.{told_as};
 ghost use Rattle.farm_store.specs.Edits.{ChangesTables, GoesOn, StaysOpen};
 ghost use Rattle.farm_store.specs.Holds.{IsInside};
 ghost use Rattle.farm_store.specs.Places.{of_meta, put_at};
-ghost use Rattle.farm_store.specs.Reading.{CommitShows, LooksAtSchema, ReadsAs, ReadsNumbers};
-ghost use Rattle.farm_store.specs.Reading.{TellsNoVersion};
+ghost use Rattle.farm_store.specs.Reading.{CommitShows, LooksAtSchema, LooksFirst, ReadsAs};
+ghost use Rattle.farm_store.specs.Reading.{ReadsNumbers, TellsNoVersion};
 ghost use Rattle.farm_store.specs.Schema.{meta_table};
 ghost use Rattle.farm_store.specs.Stored.{IsWide};
+ghost use Rattle.farm_store.specs.Versions.{ShowsNumbers};
 
 use crate::edition::Edition;
 use crate::fault::StoreFault;
@@ -215,6 +216,8 @@ fn meta_rows<S: Alter>(tx: &mut Transaction<'_, S>) -> Result<Vec<Row>, Error>
         × IsInside (state S.Store tx.new.conn.now) T) }
     ensures opened { HasCleanDisk (state S.Store tx.new.conn.now)
         → OnOk result (IsTrue (state S.Store tx.old.conn.now).is_open) }
+    ensures shown { HasCleanDisk (state S.Store tx.new.conn.now)
+        → IfOk result (λ rows. ShowsNumbers (state S.Store tx.old.conn.now).now rows.items) }
     ensures kept { HasCleanDisk (state S.Store tx.new.conn.now) → (T : Tables)
         → IsInside (state S.Store tx.old.conn.now) T
         → CommitShows (state S.Store tx.old.conn.now) T
@@ -235,6 +238,8 @@ pub(crate) fn read_numbers<S: Alter>(
         → ReadsNumbers edition result T }
     ensures schema { HasCleanDisk (state S.Store tx.new.conn.now) → (T : Tables)
         → IsInside (state S.Store tx.old.conn.now) T → LooksAtSchema edition result T }
+    ensures looked { HasCleanDisk (state S.Store tx.new.conn.now)
+        → LooksFirst edition result (state S.Store tx.old.conn.now).now }
     ensures collector { IfOk result (λ m. IsCollectorIn edition m.collector) }
     ensures fault { result ≢ Err (told_as edition) }
     ensures inside { HasCleanDisk (state S.Store tx.new.conn.now)

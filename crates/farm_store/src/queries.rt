@@ -12,9 +12,10 @@ ghost use Rattle.farm_store.specs.Editions.{IsCollectorIn, meta_rows_in, told_as
 ghost use Rattle.farm_store.specs.Edits.{GoesOn};
 ghost use Rattle.farm_store.specs.Holds.{IsInside, KeepsDoubt, Stands, LeavesNoMore};
 ghost use Rattle.farm_store.specs.Readable.{IsReadable, IsReadableFirst};
-ghost use Rattle.farm_store.specs.Reading.{CommitShows, LooksAtSchema, ReadsFarm};
+ghost use Rattle.farm_store.specs.Reading.{CommitShows, LooksAtSchema, LooksFirst, ReadsFarm};
 ghost use Rattle.farm_store.specs.Reading.{TellsNoVersion};
 ghost use Rattle.farm_store.specs.Schema.{farm_schema};
+ghost use Rattle.farm_store.specs.Versions.{MayTell, Tells};
 
 use crate::edition::Edition;
 use crate::fault::StoreFault;
@@ -70,6 +71,8 @@ fn read_all<S: Alter>(
         → IsInside (state S.Store tx.old.conn.now) T → ReadsFarm edition result T }
     ensures schema { HasCleanDisk (state S.Store tx.new.conn.now) → (T : Tables)
         → IsInside (state S.Store tx.old.conn.now) T → LooksAtSchema edition result T }
+    ensures looked { HasCleanDisk (state S.Store tx.new.conn.now)
+        → LooksFirst edition result (state S.Store tx.old.conn.now).now }
     ensures collector { IfOk result (λ rows. IsCollectorIn edition rows.meta.collector) }
     ensures fault { result ≢ Err (told_as edition) }
     ensures opened { HasCleanDisk (state S.Store tx.new.conn.now)
@@ -100,6 +103,8 @@ fn read_any<S: Alter>(
         → Stands (state S.Store conn.old) T → ReadsFarm edition result T }
     ensures schema { HasCleanDisk (state S.Store conn.new) → (T : Tables)
         → Stands (state S.Store conn.old) T → LooksAtSchema edition result T }
+    ensures looked { HasCleanDisk (state S.Store conn.new)
+        → LooksFirst edition result (state S.Store conn.old).now }
     ensures opened { HasCleanDisk (state S.Store conn.new)
         → OnOk result (IsTrue (state S.Store conn.old).is_open) }
     ensures collector { IfOk result (λ rows. IsCollectorIn edition rows.meta.collector) }
@@ -129,6 +134,8 @@ fn read_edition<S: Alter>(
         → Stands (state S.Store conn.old) T → ReadsFarm edition result T }
     ensures schema { HasCleanDisk (state S.Store conn.new) → (T : Tables)
         → Stands (state S.Store conn.old) T → LooksAtSchema edition result T }
+    ensures looked { HasCleanDisk (state S.Store conn.new)
+        → LooksFirst edition result (state S.Store conn.old).now }
     ensures collector { IfOk result (λ rows. IsCollectorIn edition rows.meta.collector) }
     ensures fault { result ≢ Err (told_as edition) }
 {
@@ -146,8 +153,8 @@ fn read_edition<S: Alter>(
 }
 
 /// Reads the rows of all tables, in order of their keys, in one transaction that is rolled back.
-/// The version is looked at before anything else: tables of the first edition are refused as old,
-/// whatever else stands there, and those of an unknown one, or of none, as bad.
+/// The version that `meta` tells is looked at before anything else, whatever else the store has:
+/// tables of the first edition are refused as old, and those of an unknown one, or of none, as bad.
 ///
 /// Refused as bad too where a column can't be read: where it is of another kind, a name or a key is
 /// no word, tags are in no canonical text, a code stands for nothing, a number is below 0; where
@@ -183,15 +190,24 @@ pub fn load<S: Alter>(alloc: Global, conn: &mut Connection<S>) -> Result<Rows, S
         → Stands (state S.Store conn.old) T → ¬ IsOfSchema first_schema T
         → ¬ IsOfSchema second_schema T
         → (result ≡ Err StoreFault.BadStore) ⊎ (result ≡ Err StoreFault.Store) }
+    ensures told { HasCleanDisk (state S.Store conn.new) → result ≡ Err StoreFault.OldSchema
+        → MayTell first_schema (state S.Store conn.old).now }
+    ensures tells { HasCleanDisk (state S.Store conn.new)
+        → Tells first_schema (state S.Store conn.old).now
+        → (result ≡ Err StoreFault.OldSchema) ⊎ (result ≡ Err StoreFault.Store) }
+    ensures neither { HasCleanDisk (state S.Store conn.new)
+        → ¬ MayTell first_schema (state S.Store conn.old).now
+        → ¬ MayTell second_schema (state S.Store conn.old).now
+        → (result ≡ Err StoreFault.BadStore) ⊎ (result ≡ Err StoreFault.Store) }
     ensures never { result ≢ Err StoreFault.NewSchema }
 {
     read_edition(alloc, conn, Edition::Second)
 }
 
 /// Reads the rows of all tables of the first edition, as `load` reads those of this one: in one
-/// transaction that is rolled back, each row once. The version is looked at before anything else:
-/// tables of this edition are refused as new, whatever else stands there, and those of an unknown
-/// one, or of none, as bad.
+/// transaction that is rolled back, each row once. The version that `meta` tells is looked at before
+/// anything else, whatever else the store has: tables of this edition are refused as new, and those
+/// of an unknown one, or of none, as bad.
 ///
 /// Refused as bad too where `load` would refuse a column or a table of its own, where a job's state
 /// has a number that the first edition lacked, and where the farm's numbers are not exactly its
@@ -226,6 +242,15 @@ pub fn load_first<S: Alter>(alloc: Global, conn: &mut Connection<S>) -> Result<R
     ensures other { HasCleanDisk (state S.Store conn.new) → (T : Tables)
         → Stands (state S.Store conn.old) T → ¬ IsOfSchema second_schema T
         → ¬ IsOfSchema first_schema T
+        → (result ≡ Err StoreFault.BadStore) ⊎ (result ≡ Err StoreFault.Store) }
+    ensures told { HasCleanDisk (state S.Store conn.new) → result ≡ Err StoreFault.NewSchema
+        → MayTell second_schema (state S.Store conn.old).now }
+    ensures tells { HasCleanDisk (state S.Store conn.new)
+        → Tells second_schema (state S.Store conn.old).now
+        → (result ≡ Err StoreFault.NewSchema) ⊎ (result ≡ Err StoreFault.Store) }
+    ensures neither { HasCleanDisk (state S.Store conn.new)
+        → ¬ MayTell second_schema (state S.Store conn.old).now
+        → ¬ MayTell first_schema (state S.Store conn.old).now
         → (result ≡ Err StoreFault.BadStore) ⊎ (result ≡ Err StoreFault.Store) }
     ensures never { result ≢ Err StoreFault.OldSchema }
 {

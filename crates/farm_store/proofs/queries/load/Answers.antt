@@ -31,3 +31,12 @@ returns-clause-known g c clean T at = (c.read_edition.ensures.schema clean T at)
 
 pub returns-clause-other : goal.returns-clause-other
 returns-clause-other g c clean T at = (c.read_edition.ensures.schema clean T at).other
+
+pub returns-clause-told : goal.returns-clause-told
+returns-clause-told g c clean = (c.read_edition.ensures.looked clean).told
+
+pub returns-clause-tells : goal.returns-clause-tells
+returns-clause-tells g c clean = (c.read_edition.ensures.looked clean).known
+
+pub returns-clause-neither : goal.returns-clause-neither
+returns-clause-neither g c clean = (c.read_edition.ensures.looked clean).neither

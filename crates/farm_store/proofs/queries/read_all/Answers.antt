@@ -4,7 +4,7 @@ use Rattle.farm_store.specs.Columns.{numbers_of}
 use Rattle.farm_store.proofs.EditionLemmas.{collector_in, meta_in, never_handed, never_told}
 use Rattle.farm_store.proofs.GoingOn.{was_clean}
 use Rattle.farm_store.proofs.ReadRows.{on_ok}
-use Rattle.farm_store.proofs.ReadFarm.{looks, looks_again, refuses_farm}
+use Rattle.farm_store.proofs.ReadFarm.{first_again, looks, looks_again, read_on, refuses_farm}
 use Rattle.farm_store.proofs.queries.read_all.Goals as goal
 
 pub returns-in_err-meta-clause-read : goal.returns-in_err-meta-clause-read
@@ -44,3 +44,12 @@ returns-in_err-meta-clause-fault g c =
 
 pub returns-clause-fault : goal.returns-clause-fault
 returns-clause-fault g c = never_told c.args.edition c.read_tables.result c.read_tables.ensures.fault
+
+pub returns-in_err-meta-clause-looked : goal.returns-in_err-meta-clause-looked
+returns-in_err-meta-clause-looked g c clean =
+    first_again c.args.edition c.read_numbers.result c.from_residual.result (state g.S.Store c.args.tx.now.conn.now).now c.in_err-meta.field-0.0 c.in_err-meta.was c.from_residual.ensures.1 (c.read_numbers.ensures.looked clean)
+
+pub returns-clause-looked : goal.returns-clause-looked
+returns-clause-looked g c clean =
+    let early = was_clean c.read_tables.ensures.goes_on clean in
+    read_on c.args.edition c.in_ok-meta.meta c.read_tables.result (state g.S.Store c.args.tx.now.conn.now).now (c.in_ok-meta.ensures.looked early) c.read_tables.ensures.fault

@@ -3,6 +3,7 @@ use Rattle.std.proofs.lemmas.Result.{on_ok_weaker}
 use Rattle.sqlite.specs.Held.{state}
 use Rattle.sqlite.specs.State.{HasCleanDisk}
 use Rattle.farm_store.specs.Holds.{Stands}
+use Rattle.farm_store.specs.Reading.{LooksFirst}
 use Rattle.farm_store.proofs.Commits.{begun, begun_commit, left_before, rolled_back}
 use Rattle.farm_store.proofs.queries.read_any.Goals as goal
 
@@ -39,3 +40,10 @@ returns-clause-opened g c clean =
     on_ok_weaker c.read_all-rows.result
     (λ was_open. subst (λ h. IsTrue (state g.S.Store h).is_open) {y = record c.args.conn.now { in_transaction = true }} c.transaction-tx.ensures.begun was_open)
     (c.read_all-rows.ensures.opened early)
+
+pub returns-clause-looked : goal.returns-clause-looked
+returns-clause-looked g c clean =
+    let late : HasCleanDisk (state g.S.Store c.rollback.new.self.0) = search rules in
+    let early : HasCleanDisk (state g.S.Store c.read_all-rows.new.tx.conn.now) = omega (arith, c.rollback.ensures.survives.clean) in
+    subst (λ h. LooksFirst c.args.edition c.read_all-rows.result (state g.S.Store h).now) {y = record c.args.conn.now { in_transaction = true }} c.transaction-tx.ensures.begun
+    (c.read_all-rows.ensures.looked early)
