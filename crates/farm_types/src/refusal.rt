@@ -161,6 +161,11 @@ impl Refusal {
 }
 
 impl fmt::Display for Refusal {
+    ghost use Rattle.std.specs.Prelude.{Some};
+    ghost use Rattle.farm_types.specs.Refusals.{text_of};
+
+    ghost output = { λ refusal. Some (text_of refusal.code) };
+
     fn fmt<W: fmt::Write>(&self, f: &mut fmt::Formatter<W>) -> fmt::Result {
         f.write_str(self.text())
     }
