@@ -122,10 +122,9 @@ class Page:
 
     def press(self, key, code, number):
         """Presses a key of the keyboard."""
+        named = {"key": key, "code": code, "windowsVirtualKeyCode": number}
         for kind in ("rawKeyDown", "keyUp"):
-            self.do(
-                "Input.dispatchKeyEvent", type=kind, key=key, code=code, windowsVirtualKeyCode=number
-            )
+            self.do("Input.dispatchKeyEvent", type=kind, **named)
 
     def draw(self, file):
         """Writes what is seen of the page into a file."""

@@ -3,10 +3,10 @@
 bin/farm
 
 The site is the example's, with its addresses and files put into a temporary folder. Each row prints
-a line and says what it saw: TLS, names and passwords, the status page, foreign pages' commands, many
-viewers, clients that ask without end, long jobs, a desk that is away. Ends with status 1 at the
-first thing that isn't as it should be, and with 77 where nginx, openssl or curl isn't there; where
-Chromium isn't, the row that wants it says so. Takes about a minute.
+a line and says what it saw: TLS, names and passwords, the status page, foreign pages' commands,
+many viewers, clients that ask without end, long jobs, a desk that is away. Ends with status 1 at
+the first thing that isn't as it should be, and with 77 where nginx, openssl or curl isn't there;
+where Chromium isn't, the row that wants it says so. Takes about a minute.
 """
 import base64
 import http.client
@@ -299,7 +299,7 @@ class Foreign(http.server.BaseHTTPRequestHandler):
 <input name='{{"tags":["rack=3"],"x":"' value='"}}'></form>
 <script>
 const sent = fetch("{server}/reservations",
-  {{method: "POST", mode: "no-cors", credentials: "include", body: '{{"tags":["rack=4"]}}'}});
+  {{method: "POST", mode: "no-cors", credentials: "include", body: '{{"tags":["rack=3"]}}'}});
 </script>""".encode()
         self.send_response(200)
         self.send_header("content-type", "text/html")
@@ -318,16 +318,18 @@ def foreign_page(farm, door):
     login = f"ann:{urllib.parse.quote(WORDS['ann'])}@"
     browser = Browser(door.folder, "--ignore-certificate-errors")
     own = browser.open(door.server.replace("https://", f"https://{login}"))
-    wait_until("the page", lambda: "as of" in own.ask("document.getElementById('said').textContent"))
+    said = "document.getElementById('said').textContent"
+    wait_until("the page", lambda: "as of" in own.ask(said))
     for place in foreign_places(door):
         foreign = browser.open(place)
         demand("its script's answer", "opaque", foreign.ask("sent.then(it => it.type)"))
         foreign.ask("document.forms[0].submit()")
         wait_until("it is sent", lambda: foreign.ask("location.href").startswith(door.server))
-        said = wait_until("an answer", lambda: foreign.ask("document.body && document.body.innerText"))
+        text = "document.body && document.body.innerText"
+        told = wait_until("an answer", lambda: foreign.ask(text))
         found = farm.look("/reservations")["reservations"][before:]
         demand(f"what a page of {place} reserved", [], [(it["owner"], it["tags"]) for it in found])
-        demand("what it is told", FORBIDDEN, json.loads(said))
+        demand("what it is told", FORBIDDEN, json.loads(told))
         foreign.close()
     own.go(door.server)
     tell = "fetch('reservations', {method: 'POST', body: '{\"tags\":[]}'}).then(it => it.status)"
@@ -335,7 +337,7 @@ def foreign_page(farm, door):
     number = farm.look("/reservations")["reservations"][-1]["number"]
     farm.tell("ann", f"/reservations/{number}/cancel")
     browser.end()
-    return "in a browser that keeps ann's login a foreign page reserves nothing, and the site's own may"
+    return "in a browser that keeps ann's login a foreign page reserves nothing, the site's own does"
 
 
 def foreign_places(door):
@@ -407,12 +409,9 @@ def shared_answers(farm, door):
         farm.tell("ann", f"/reservations/{number}/cancel")
     farm.kill()
     time.sleep(1.1)
-    begun = time.time()
     demand("no desk", 502, refused(door, *SHARED, "/boards")[0])
     farm.start()
     demand("a desk again", 200, refused(door, *SHARED, "/boards")[0])
-    if int(begun) == int(time.time()):
-        return "a fault isn't kept, even for a second, nor a command, and each viewer has to log in"
     return "a fault isn't kept, nor a command, and each viewer has to log in"
 
 
@@ -448,20 +447,21 @@ def flood(farm, folder):
     """A door that takes less, so that few requests are a flood."""
     room_of_door = os.path.join(folder, "flood")
     os.mkdir(room_of_door)
-    door = Door(farm, room_of_door, [("rate=100r/s", "rate=1r/s"), ("burst=1000 delay=100", "burst=5 delay=4")])
+    less = [("rate=100r/s", "rate=1r/s"), ("burst=1000 delay=100", "burst=5 delay=4")]
+    door = Door(farm, room_of_door, less)
     said = [refused(door, "/status") for _ in range(4)]
     demand("some", [200] * 4, [it[0] for it in said])
     told = (429, "application/json", {"code": 429, "text": "Too Many Requests"})
+    answers = []
     asking = [
-        subprocess.Popen(
-            ["curl", "-s", "--cacert", door.certificate, "-u", f"ann:{WORDS['ann']}", "-w", "\n%{http_code} %{content_type}", f"{door.server}/status"],
-            stdout=subprocess.PIPE,
-        )
-        for _ in range(12)
+        threading.Thread(target=lambda: answers.append(refused(door, "/status"))) for _ in range(12)
     ]
-    answers = [parsed(it.communicate()[0]) for it in asking]
-    demand("refused ones", {told[0]}, {it[0] for it in answers} - {200})
-    demand("how a refusal is told", True, told in answers)
+    for it in asking:
+        it.start()
+    for it in asking:
+        it.join()
+    demand("refused ones", [told], [it for it in answers if it[0] != 200][:1])
+    demand("how each is told", {200, 429}, {it[0] for it in answers})
     door.process.kill()
     return "a client that asks without end is refused with 429, told in JSON"
 
@@ -496,7 +496,7 @@ if __name__ == "__main__":
         sys.exit(77)
     with tempfile.TemporaryDirectory() as room:
         os.chmod(room, 0o755)
-        served = Farm(sys.argv[1], room, [("b1", "bbb", [])])
+        served = Farm(sys.argv[1], room, [("b1", "bbb", ["rack=3"])])
         proxy = Door(served, room)
         for row in ROWS:
             print(f"proxy: {row(served, proxy)}", flush=True)
