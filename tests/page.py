@@ -127,6 +127,11 @@ def names(shown, table="boards"):
     return [row[0] for row in shown[table]]
 
 
+def starts(shown):
+    """The numbers and states of the reservations."""
+    return [row[:2] for row in shown["reservations"]]
+
+
 def tell_at(farm, moment, user, path, body=b""):
     """Gives a command at a moment of its own, while the farm isn't served."""
     head = f"POST {path} HTTP/1.1\r\nx-user: {user}\r\ncontent-length: {len(body)}\r\n\r\n"
@@ -235,7 +240,9 @@ def asks_seldom(lab):
     until(opened, "a new one", lambda it: "5" in names(it, "reservations"))
     demand("asked for reservations", 1, lab.asked("/reservations"))
     lab.farm.tell("dispatcher", "/pass")
-    until(opened, "it is allocated", lambda it: it["reservations"][-1][1] == "allocated")
+    given = until(opened, "it is allocated", lambda it: ["5", "allocated"] in starts(it))
+    held = [["2", "acquired"], ["5", "allocated"], ["3", "waiting"]]
+    demand("those that hold a board come first", held, starts(given))
     demand("asked for the new lease", 2, lab.asked("/reservations"))
     for number in (2, 3, 5):
         lab.farm.tell("admin", f"/reservations/{number}/cancel")
@@ -278,30 +285,30 @@ def leases_run_on(room, browser):
     """No pass comes: the farm's clock stands still where the reservations were made."""
     lab = Lab(room, browser, [])
     lab.farm.kill()
-    for seconds, owner in ((70, "ann"), (50, "bob")):
-        if seconds == 70:
-            tell_at(lab.farm, time.time() - 80, "admin", "/types", b'{"name":"bbb"}')
-            tell_at(lab.farm, time.time() - 80, "admin", "/boards", b'{"name":"b1","type":"bbb"}')
+    tell_at(lab.farm, time.time() - 80, "admin", "/types", b'{"name":"bbb"}')
+    tell_at(lab.farm, time.time() - 80, "admin", "/boards", b'{"name":"b1","type":"bbb"}')
+    for seconds, owner in ((70, "ann"), (45, "bob"), (45, "eve")):
         tell_at(lab.farm, time.time() - seconds, owner, "/reservations", b'{"tags":[]}')
     lab.farm.start()
     opened = lab.open()
-    first, second = (it[2] for it in seen(opened)["reservations"])
-    demand("a lease that is over", "over: waits for the next pass", first)
-    demand("one that runs", True, bool(re.fullmatch(r"\d+ s", second)))
+    over, *others = (it[2] for it in seen(opened)["reservations"])
+    demand("a lease that is over", "over: waits for the next pass", over)
+    demand("those that run", [True] * 2, [bool(re.fullmatch(r"\d+ s", it)) for it in others])
+    lab.farm.tell("eve", "/reservations/3/refresh")
     times = set()
 
     def is_over(shown):
         times.add(shown["reservations"][1][2])
-        return shown["reservations"][1][2] == first
+        return over in times
 
-    until(opened, "the second is over too", is_over)
-    demand("it was counted by the second", True, {"2 s", "1 s"} <= times)
-    demand("it was asked for once more", 2, lab.asked("/reservations"))
-    # One that was refreshed isn't over, though what the page knew of it is.
-    lab.farm.tell("admin", "/pass")
+    shown = until(opened, "the second is over too", is_over)
+    demand("it was counted between two looks", True, len(times) > 3)
+    left = re.fullmatch(r"(\d+) s", shown["reservations"][2][2])
+    demand("one that was refreshed", True, bool(left) and int(left.group(1)) > 15)
+    demand("how often it asked for reservations", 2, lab.asked("/reservations"))
     opened.close()
     lab.end()
-    return "a lease runs on by the second while no pass comes, and is over then"
+    return "a lease runs on by the second while no pass comes, and is over unless it was refreshed"
 
 
 def clock_that_stands(room, browser):
@@ -311,7 +318,7 @@ def clock_that_stands(room, browser):
     tell_at(lab.farm, time.time() - 45, "dispatcher", "/pass")
     lab.farm.start()
     said = re.fullmatch(r"no pass for (\d+) s: is farm-dispatch running\?", lab.look()["warned"])
-    demand("an old pass", True, bool(said) and 44 <= int(said.group(1)) <= 60)
+    demand("an old pass", True, bool(said) and 45 <= int(said.group(1)) <= 90)
     opened = lab.open()
     until(opened, "the warning", lambda it: it["warned"])
     lab.farm.tell("dispatcher", "/pass")
