@@ -3,22 +3,32 @@
 bin/farm
 
 The site is the example's, with its addresses and files put into a temporary folder. Each row prints
-a line and says what it saw: TLS, names and passwords, the status page, long jobs, a desk that is
-away. Ends with status 1 at the first thing that isn't as it should be, and with 77 where nginx or
-openssl isn't there. Takes about 25 seconds, most of it for the desk that is away.
+a line and says what it saw: TLS, names and passwords, the status page, foreign pages' commands,
+many viewers, clients that ask without end, long jobs, a desk that is away. Ends with status 1 at
+the first thing that isn't as it should be, and with 77 where nginx, openssl or curl isn't there;
+where Chromium isn't, the row that wants it says so. Takes about a minute.
 """
+import base64
+import http.client
+import http.server
 import json
 import os
 import shutil
+import ssl
 import subprocess
 import sys
 import tempfile
+import threading
 import time
+import urllib.parse
 
+from browser import CHROMIUM, Browser
 from served import STARTED, TOOLS, TOP, Farm, Tool, demand, environment, free_port, wait_until
 
 NGINX = shutil.which("nginx") or shutil.which("nginx", path="/usr/sbin:/sbin")
 WORDS = {"ann": "open sesame", "dispatcher": "pass on"}
+FORBIDDEN = {"code": 403, "text": "Forbidden"}
+SHARED = ("-H", "cache-control: max-age=1")
 AROUND = """\
 user root;
 worker_processes 1;
@@ -26,7 +36,8 @@ error_log {folder}/error.log;
 pid {folder}/nginx.pid;
 events {{}}
 http {{
-    access_log off;
+    log_format asked '$msec $status $request_method $request_uri $upstream_addr';
+    access_log {folder}/asked.log asked;
     client_body_temp_path {folder}/body;
     proxy_temp_path {folder}/proxy;
     fastcgi_temp_path {folder}/fastcgi;
@@ -40,7 +51,8 @@ http {{
 class Door:
     """The example's proxy before a served farm."""
 
-    def __init__(self, farm, folder):
+    def __init__(self, farm, folder, changes=()):
+        """`changes` are texts of the site, each with what stands in its place here."""
         self.folder, self.port = folder, free_port()
         self.server = f"https://localhost:{self.port}"
         self.certificate = os.path.join(folder, "farm.pem")
@@ -51,7 +63,8 @@ class Door:
             lines.append(f"{name}:{sum_of_word}\n")
             write(folder, name, f"{word}\n", 0o600)
         write(folder, "farm.htpasswd", "".join(lines), 0o644)
-        write(folder, "nginx.conf", AROUND.format(folder=folder, site=self.site(farm)), 0o644)
+        site = self.site(farm, changes)
+        write(folder, "nginx.conf", AROUND.format(folder=folder, site=site), 0o644)
         words = [
             NGINX,
             "-p",
@@ -80,7 +93,7 @@ class Door:
             self.certificate,
         )
 
-    def site(self, farm):
+    def site(self, farm, changes):
         """The example's site in this folder."""
         with open(os.path.join(TOP, "examples", "nginx.conf"), encoding="utf-8") as text:
             site = text.read()
@@ -91,10 +104,25 @@ class Door:
             ("/etc/ssl/private/farm.key", f"{self.folder}/farm.key"),
             ("/etc/nginx/farm.htpasswd", f"{self.folder}/farm.htpasswd"),
             ("/usr/local/lib/farm-tools", TOOLS),
+            ("/var/cache/farm-views", f"{self.folder}/views"),
+            *changes,
         ]:
             demand(f"{old} in the example", True, old in site)
             site = site.replace(old, new)
         return site
+
+    def asked_of_desk(self, since):
+        """What was asked of the desk since a moment: a list of methods and paths."""
+        with open(f"{self.folder}/asked.log", encoding="utf-8") as lines:
+            rows = [line.split() for line in lines]
+        return [f"{row[2]} {row[3]}" for row in rows if float(row[0]) >= since and row[4] != "-"]
+
+    def connection(self, user="ann"):
+        """A connection, and the fields that a user's requests have."""
+        word = base64.b64encode(f"{user}:{WORDS[user]}".encode()).decode()
+        trusted = ssl.create_default_context(cafile=self.certificate)
+        line = http.client.HTTPSConnection("localhost", self.port, timeout=30, context=trusted)
+        return line, {"authorization": f"Basic {word}"}
 
 
 def openssl(*words):
@@ -197,7 +225,11 @@ def refused(door, *words, user="ann"):
         words = ["-u", f"{user}:{WORDS[user]}", *words]
     head = ["curl", "-s", "--cacert", door.certificate, *words[:-1]]
     ran = subprocess.run([*head, door.server + words[-1]], capture_output=True, check=False)
-    body, _, end = ran.stdout.rpartition(b"\n")
+    return parsed(ran.stdout)
+
+
+def parsed(output):
+    body, _, end = output.rpartition(b"\n")
     status, _, kind = end.decode().partition(" ")
     return int(status), kind, json.loads(body)
 
@@ -220,6 +252,220 @@ def own_refusals(farm, door):
     return "what nginx refuses is told in JSON, with its status for the code"
 
 
+def foreign_commands(farm, door):
+    """What a browser sends for a foreign page, and what it sends for the site's own."""
+    here, before = door.server, len(farm.look("/reservations")["reservations"])
+    body = ("-d", '{"tags":[]}')
+    for fields in [
+        ["Sec-Fetch-Site: cross-site"],
+        ["Sec-Fetch-Site: same-site"],
+        ["Origin: null"],
+        ["Origin: https://evil.example"],
+        [f"Origin: http://localhost:{door.port}"],
+        ["Origin: https://localhost"],
+        [f"Origin: https://localhost:{door.port}0"],
+        [f"Origin: {here}.evil.example"],
+        [f"Origin: https://evil.example {here}"],
+        ["Sec-Fetch-Site: same-origin", "Origin: https://evil.example"],
+        ["Sec-Fetch-Site: cross-site", f"Origin: {here}"],
+    ]:
+        words = [word for it in fields for word in ("-H", it)]
+        said = refused(door, *words, *body, "/reservations")
+        demand(f"with {fields}", (403, "application/json", FORBIDDEN), said)
+        said = refused(door, *words, "-X", "DELETE", "/reservations")
+        demand(f"DELETE with {fields}", (403, "application/json", FORBIDDEN), said)
+        demand(f"a look with {fields}", 200, refused(door, *words, "/queue")[0])
+        demand(f"no password, {fields}", 403, refused(door, *words, *body, "/jobs", user="")[0])
+    demand("reservations", before, len(farm.look("/reservations")["reservations"]))
+    for fields in [
+        [],
+        ["Sec-Fetch-Site: none"],
+        ["Sec-Fetch-Site: same-origin", f"Origin: {here}"],
+    ]:
+        words = [word for it in fields for word in ("-H", it)]
+        status, _, said = refused(door, *words, *body, "/reservations")
+        demand(f"with {fields}", 200, status)
+        farm.tell("ann", f"/reservations/{said['number']}/cancel")
+    return "a command that a foreign page sends is refused, whatever its login"
+
+
+class Foreign(http.server.BaseHTTPRequestHandler):
+    """A page of another site, which sends a command to the farm as a form and by its script."""
+
+    def do_GET(self):
+        server = self.server.desk
+        body = f"""<!DOCTYPE html>
+<form method="post" enctype="text/plain" action="{server}/reservations">
+<input name='{{"tags":["rack=3"],"x":"' value='"}}'></form>
+<script>
+const sent = fetch("{server}/reservations",
+  {{method: "POST", mode: "no-cors", credentials: "include", body: '{{"tags":["rack=3"]}}'}});
+</script>""".encode()
+        self.send_response(200)
+        self.send_header("content-type", "text/html")
+        self.send_header("content-length", str(len(body)))
+        self.end_headers()
+        self.wfile.write(body)
+
+    def log_message(self, *_):
+        pass
+
+
+def foreign_page(farm, door):
+    if CHROMIUM is None:
+        return "a foreign page in a browser: not tried, since Chromium isn't there"
+    before = len(farm.look("/reservations")["reservations"])
+    login = f"ann:{urllib.parse.quote(WORDS['ann'])}@"
+    browser = Browser(door.folder, "--ignore-certificate-errors")
+    own = browser.open(door.server.replace("https://", f"https://{login}"))
+    said = "document.getElementById('said').textContent"
+    wait_until("the page", lambda: "as of" in own.ask(said))
+    for place in foreign_places(door):
+        foreign = browser.open(place)
+        demand("its script's answer", "opaque", foreign.ask("sent.then(it => it.type)"))
+        foreign.ask("document.forms[0].submit()")
+        wait_until("it is sent", lambda: foreign.ask("location.href").startswith(door.server))
+        text = "document.body && document.body.innerText"
+        told = wait_until("an answer", lambda: foreign.ask(text))
+        found = farm.look("/reservations")["reservations"][before:]
+        demand(f"what a page of {place} reserved", [], [(it["owner"], it["tags"]) for it in found])
+        demand("what it is told", FORBIDDEN, json.loads(told))
+        foreign.close()
+    own.go(door.server)
+    tell = "fetch('reservations', {method: 'POST', body: '{\"tags\":[]}'}).then(it => it.status)"
+    demand("a command of the site's own page", 200, own.ask(tell))
+    number = farm.look("/reservations")["reservations"][-1]["number"]
+    farm.tell("ann", f"/reservations/{number}/cancel")
+    browser.end()
+    return "in a browser that keeps ann's login a foreign page reserves nothing, the site's own does"
+
+
+def foreign_places(door):
+    """The same foreign page at another site, and at another port of this one."""
+    trusted = ssl.create_default_context(ssl.Purpose.CLIENT_AUTH)
+    trusted.load_cert_chain(door.certificate, f"{door.folder}/farm.key")
+    for scheme, host in (("http", "127.0.0.1"), ("https", "localhost")):
+        site = http.server.ThreadingHTTPServer(("127.0.0.1", 0), Foreign)
+        if scheme == "https":
+            site.socket = trusted.wrap_socket(site.socket, server_side=True)
+        site.desk = door.server
+        threading.Thread(target=site.serve_forever, daemon=True).start()
+        yield f"{scheme}://{host}:{site.server_address[1]}/"
+        site.shutdown()
+
+
+def look_on(door, path, until, answers):
+    """Asks for a path without a pause, as a page does, until a moment, and notes the answers."""
+    line, fields = door.connection()
+    while time.time() < until:
+        line.request("GET", path, headers={**fields, "cache-control": "max-age=1"})
+        answer = line.getresponse()
+        answers.append((answer.status, answer.read()))
+    line.close()
+
+
+def many_viewers(farm, door):
+    number = int(desk(door, "reserve")[1])
+    begun, seconds, answers = time.time(), 5, []
+    viewers = [
+        threading.Thread(target=look_on, args=(door, path, begun + seconds, answers))
+        for path in ["/reservations"] * 10 + ["/boards?again"] * 3 + ["/boards"] * 3
+    ]
+    for it in viewers:
+        it.start()
+    fresh = []
+    while time.time() < begun + seconds - 1:
+        farm.tell("ann", f"/reservations/{number}/cancel")
+        number = farm.tell("ann", "/reservations", {"tags": []})["number"]
+        said = refused(door, "/reservations")[2]
+        fresh.append(said["reservations"][-1]["number"] == number)
+    own = len(fresh)
+    for it in viewers:
+        it.join()
+    asked = door.asked_of_desk(begun)
+    demand("their answers", {200}, {status for status, _ in answers})
+    demand("many answers", True, len(answers) > 16 * seconds)
+    looks = asked.count("GET /reservations") - own
+    demand("looks at the reservations, one a second", True, seconds - 1 <= looks <= seconds + 2)
+    looks = sum(it.startswith("GET /boards") for it in asked)
+    demand("looks at the boards, one a second", True, seconds - 1 <= looks <= seconds + 2)
+    demand("a tool among them gets no older answer", (True, {True}), (own > 3, set(fresh)))
+    farm.tell("ann", f"/reservations/{number}/cancel")
+    return "ten viewers cost the desk one look a second, and a tool gets the desk's own answer"
+
+
+def shared_answers(farm, door):
+    demand("a shared answer", 200, refused(door, *SHARED, "/boards")[0])
+    demand("no password", 401, refused(door, *SHARED, "/boards", user="")[0])
+    demand("another path", 404, refused(door, *SHARED, "/%62oards")[0])
+    line, fields = door.connection()
+    line.request("HEAD", "/boards", headers={**fields, "cache-control": "max-age=1"})
+    demand("another method", 405, line.getresponse().status)
+    line.close()
+    body = ("-d", '{"tags":[]}')
+    numbers = {refused(door, *SHARED, *body, "/reservations")[2]["number"] for _ in range(3)}
+    demand("each command is done", 3, len(numbers))
+    for number in numbers:
+        farm.tell("ann", f"/reservations/{number}/cancel")
+    farm.kill()
+    time.sleep(1.1)
+    demand("no desk", 502, refused(door, *SHARED, "/boards")[0])
+    farm.start()
+    demand("a desk again", 200, refused(door, *SHARED, "/boards")[0])
+    return "a fault isn't kept, nor a command, and each viewer has to log in"
+
+
+def steady_clients(farm, door):
+    """As a dispatcher of many boards or a script asks: one request after another, or many users
+    behind one address."""
+    del farm
+    statuses = []
+
+    def ask_on(times):
+        line, fields = door.connection("dispatcher")
+        for _ in range(times):
+            line.request("GET", "/status", headers=fields)
+            answer = line.getresponse()
+            answer.read()
+            statuses.append(answer.status)
+        line.close()
+
+    threads = [threading.Thread(target=ask_on, args=(6,)) for _ in range(100)]
+    for it in threads:
+        it.start()
+    for it in threads:
+        it.join()
+    demand("the answers to 100 clients of one address", {200}, set(statuses))
+    begun = time.time()
+    ask_on(300)
+    demand("those to 300 requests in a row", {200}, set(statuses))
+    demand("they take a few seconds at most", True, time.time() - begun < 15)
+    return "a hundred clients of one address, and hundreds of requests in a row, are all answered"
+
+
+def flood(farm, folder):
+    """A door that takes less, so that few requests are a flood."""
+    room_of_door = os.path.join(folder, "flood")
+    os.mkdir(room_of_door)
+    less = [("rate=100r/s", "rate=1r/s"), ("burst=1000 delay=100", "burst=5 delay=4")]
+    door = Door(farm, room_of_door, less)
+    said = [refused(door, "/status") for _ in range(4)]
+    demand("some", [200] * 4, [it[0] for it in said])
+    told = (429, "application/json", {"code": 429, "text": "Too Many Requests"})
+    answers = []
+    asking = [
+        threading.Thread(target=lambda: answers.append(refused(door, "/status"))) for _ in range(12)
+    ]
+    for it in asking:
+        it.start()
+    for it in asking:
+        it.join()
+    demand("refused ones", [told], [it for it in answers if it[0] != 200][:1])
+    demand("how each is told", {200, 429}, {it[0] for it in answers})
+    door.process.kill()
+    return "a client that asks without end is refused with 429, told in JSON"
+
+
 def desk_that_is_away(farm, door):
     farm.kill()
     demand(
@@ -236,6 +482,11 @@ ROWS = [
     long_jobs,
     dispatcher,
     own_refusals,
+    foreign_commands,
+    foreign_page,
+    many_viewers,
+    shared_answers,
+    steady_clients,
     desk_that_is_away,
 ]
 
@@ -245,9 +496,10 @@ if __name__ == "__main__":
         sys.exit(77)
     with tempfile.TemporaryDirectory() as room:
         os.chmod(room, 0o755)
-        served = Farm(sys.argv[1], room, [("b1", "bbb", [])])
+        served = Farm(sys.argv[1], room, [("b1", "bbb", ["rack=3"])])
         proxy = Door(served, room)
         for row in ROWS:
             print(f"proxy: {row(served, proxy)}", flush=True)
+        print(f"proxy: {flood(served, room)}", flush=True)
         proxy.process.kill()
         served.kill()
