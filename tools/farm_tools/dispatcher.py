@@ -9,7 +9,7 @@ import shutil
 import subprocess
 import sys
 import time
-from typing import Optional
+from typing import Dict, Optional, Set
 
 from farm_tools import calls, folders, limits
 from farm_tools.starts import Starts
@@ -32,10 +32,10 @@ class Dispatcher:
         os.makedirs(self.jobs, mode=0o750, exist_ok=True)
         names = [it for it in os.listdir(self.jobs) if it.isdigit()]
         self.open = {int(it) for it in names if not self._has(int(it), folders.FINISHED)}
-        self.runners = {}
-        self.running = {}
-        self.others = set()
-        self.told = set()
+        self.runners: Dict[int, subprocess.Popen] = {}
+        self.running: Dict[int, int] = {}
+        self.others: Set[int] = set()
+        self.told: Set[str] = set()
 
     def round(self, passes: bool) -> None:
         """Takes up what there is to do, after a pass where one is due, and again after each pass
@@ -207,7 +207,8 @@ class Dispatcher:
         ended = ended or self._how_it_ended(number)
         if ended is not None and ended.startswith(folders.NOT_STARTED):
             self._not_started(number, ended.partition(": ")[2])
-            folders.take_back(self._folder(number))
+            if not folders.take_back(self._folder(number)):
+                return False
             ended = None
         if ended is None and not self._has(number, folders.BEGAN):
             return self._not_begun(number, members, canceled)

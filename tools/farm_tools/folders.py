@@ -100,15 +100,21 @@ def begin_of(folder: str) -> Optional[Tuple[float, float]]:
         return None
 
 
-def take_back(folder: str) -> None:
+def take_back(folder: str) -> bool:
     """Takes back that the job began, since its command couldn't be started: it may be begun again.
-    Cut off in the middle, it is to be done again, as `ended` still says so."""
-    for name in (BEGAN, ENDED):
-        try:
-            os.unlink(os.path.join(folder, name))
-        except FileNotFoundError:
-            pass
-        sync_folder(folder)
+    Returns False where the process that tried it lives still. Cut off in the middle it is to be
+    done again, as `ended` says."""
+    lock = take_lock(os.path.join(folder, LOCK))
+    if lock is None:
+        return False
+    try:
+        for name in (BEGAN, ENDED):
+            if os.path.exists(os.path.join(folder, name)):
+                os.unlink(os.path.join(folder, name))
+                sync_folder(folder)
+    finally:
+        os.close(lock)
+    return True
 
 
 def is_locked(folder: str) -> bool:

@@ -13,7 +13,7 @@ import subprocess
 import sys
 import time
 
-from farm_tools import folders, limits
+from farm_tools import commands, folders, limits
 
 LOOKS = 0.5
 LOG_OPENED = os.O_WRONLY | os.O_APPEND | os.O_CREAT | os.O_CLOEXEC
@@ -81,6 +81,9 @@ def ran(folder: str, grace: float, limit: limits.Limit, command, lock: int) -> s
 def started(folder: str, command, lock: int) -> subprocess.Popen:
     """The command's process, once it runs. Its children have the folder's lock too. Where this
     raises OSError nothing runs."""
+    fault = commands.fault_of(command)
+    if fault:
+        raise OSError(fault)
     log = os.open(os.path.join(folder, folders.LOG), LOG_OPENED, 0o666)
     try:
         return subprocess.Popen(
