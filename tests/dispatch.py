@@ -10,6 +10,7 @@ isn't as it should be, and with 77 where the machine lacks what it wants. Takes 
 import argparse
 import contextlib
 import errno
+import functools
 import io
 import json
 import os
@@ -34,6 +35,7 @@ status=$?
 echo "end $FARM_JOB" >> "$RUNS"
 exit $status
 """
+AT_IT = "while true; do sleep 0.1; done"
 BOARDS = [(f"b{place}", "bbb", ["serial"]) for place in range(1, 7)]
 
 
@@ -49,6 +51,9 @@ class Lab:
         with open(self.command, "w", encoding="utf-8") as script:
             script.write(COMMAND)
         os.chmod(self.command, 0o755)
+        # a name of its own, so that no other test's processes are taken for this one's
+        self.sleep = os.path.join(self.folder, "sleep")
+        os.symlink(shutil.which("sleep"), self.sleep)
 
     def dispatch(self, *words, command=None, every="0.3", **more):
         """A dispatcher that runs, with more in its environment."""
@@ -79,6 +84,10 @@ class Lab:
         """What a job runs that ends once it is let."""
         return f"while ! test -e {self.folder}/{name}; do sleep 0.05; done"
 
+    def sleeps(self, seconds):
+        """What a job runs that sleeps for so long, in no shell."""
+        return f"exec {self.sleep} {seconds}"
+
     def let(self, name):
         with open(os.path.join(self.folder, name), "w", encoding="utf-8"):
             pass
@@ -105,14 +114,15 @@ def read_words(process):
         return ""
 
 
-def processes_of(words):
-    """The processes that run these words."""
+def processes_of(lab, seconds):
+    """The processes of a lab that sleep for so many seconds."""
+    words = f"{lab.sleep}\0{seconds}\0"
     return [it for it in os.listdir("/proc") if it.isdigit() and words in read_words(it)]
 
 
-def running(words):
-    """The processes that run these words, once there is one: a job's begin is noted before its command starts."""
-    return wait_until(f"{words!r} runs", lambda: processes_of(words))
+def running(lab, seconds):
+    """The same, once there is one: a job's begin is noted before its command starts."""
+    return wait_until(f"sleep {seconds} runs", lambda: processes_of(lab, seconds))
 
 
 def end_commands(place):
@@ -214,18 +224,18 @@ def health_checks(place):
 
 def cancels(place):
     lab = Lab(place)
-    quiet = lab.farm.submit("exec sleep 100")
-    stubborn = lab.farm.submit("trap : TERM; setsid sleep 101 & while true; do sleep 0.1; done")
+    quiet = lab.farm.submit(lab.sleeps(100))
+    stubborn = lab.farm.submit(f"trap : TERM; setsid {lab.sleep} 101 & {AT_IT}")
     dispatcher = lab.dispatch("--grace", "1")
-    for number, words in ((quiet, "sleep\x00100\x00"), (stubborn, "sleep\x00101\x00")):
+    for number, seconds in ((quiet, 100), (stubborn, 101)):
         lab.begun(number)
-        running(words)
+        running(lab, seconds)
         lab.farm.tell("ann", f"/jobs/{number}/cancel")
     demand("the one that ends", "Canceled", lab.finished(quiet))
     demand("how it ended", "status 143", read(lab.file(quiet, "ended")).strip())
     demand("the one that doesn't", "Canceled", lab.finished(stubborn))
     demand("how it ended", "signal 9", read(lab.file(stubborn, "ended")).strip())
-    demand("what it left", [], processes_of("sleep\x00101\x00"))
+    demand("what it left", [], processes_of(lab, 101))
     lab.closes(dispatcher)
     return "a canceled job's command gets SIGTERM, then SIGKILL, and what it left behind is killed"
 
@@ -233,13 +243,13 @@ def cancels(place):
 def lost_processes(place):
     lab = Lab(place)
     alone, both, gone = (
-        lab.farm.submit(it) for it in (lab.until("open"), "exec sleep 100", "exec sleep 102")
+        lab.farm.submit(it) for it in (lab.until("open"), lab.sleeps(100), lab.sleeps(102))
     )
     dispatcher = lab.dispatch()
     for number in (alone, both, gone):
         lab.begun(number)
     os.kill(lab.runner(alone), signal.SIGKILL)
-    group_of_both = running("sleep\x00100\x00")
+    group_of_both = running(lab, 100)
     os.kill(lab.runner(both), signal.SIGKILL)
     for process in group_of_both:
         os.killpg(os.getpgid(int(process)), signal.SIGKILL)
@@ -293,7 +303,7 @@ def others_jobs(place):
     theirs = lab.farm.submit("true")
     lab.farm.tell("admin", "/pass")
     lab.farm.tell("admin", f"/jobs/{theirs}/start")
-    ours = lab.farm.submit("exec sleep 103")
+    ours = lab.farm.submit(lab.sleeps(103))
     dispatcher = lab.dispatch()
     lab.begun(ours)
     process = lab.runner(ours)
@@ -584,6 +594,33 @@ def not_started_and_told_otherwise(place):
     return "one that couldn't be started is canceled, or begun once, also after killed dispatchers"
 
 
+def mended_and_broken(place):
+    """Dispatchers that are killed at random moments, while their command is broken and mended."""
+    lab = Lab(place)
+    seed = random.randrange(10**6)
+    dice = random.Random(seed)
+    numbers = [lab.farm.submit(f"sleep 0.{dice.randrange(3)}") for _ in range(24)]
+    texts = [COMMAND, COMMAND, "no line that names an interpreter\n", "#!/nonexistent/sh\n"]
+    words, kills = ["--retry", "0.2"], 0
+    dispatcher = lab.dispatch(*words, every="0.1")
+    until = time.monotonic() + 12
+    while time.monotonic() < until and lab.farm.look("/queue")["queue"]:
+        replace(lab.command, dice.choice(texts))
+        time.sleep(dice.uniform(0.05, 0.6))
+        if dice.random() < 0.5:
+            dispatcher.kill()
+            kills += 1
+            dispatcher = lab.dispatch(*words, every="0.1")
+    replace(lab.command, COMMAND)
+    for number in numbers:
+        demand(f"job {number} (seed {seed})", "Complete", lab.finished(number, 30))
+        demand(f"how often job {number} was begun (seed {seed})", 1, lab.begins(number))
+    demand("boards that aren't Good", [], [it[0] for it in BOARDS if not is_good(lab, it[0])])
+    demand("a job of the last", "Complete", lab.finished(lab.farm.submit("true")))
+    lab.closes(dispatcher)
+    return f"over {kills} killed dispatchers and a command that is often broken, each job ran once"
+
+
 class DeskOfThree:
     """A desk with three jobs that wait for their start, which it notes."""
 
@@ -660,32 +697,47 @@ def tried(dispatcher):
 # ---- time limits
 
 
+def needs_toml(row):
+    """A row that isn't tried where this Python reads no TOML."""
+    sys.path.insert(0, TOOLS)
+    from farm_tools import limits
+
+    @functools.wraps(row)
+    def tried_row(place):
+        if limits.tomllib is None:
+            return f"{row.__name__} isn't tried, since this Python has neither tomllib nor tomli"
+        return row(place)
+
+    return tried_row
+
+
+@needs_toml
 def time_limits(place):
     lab = Lab(place, [(f"b{it}", "bbb", []) for it in range(1, 11)])
-    stubborn = "trap : TERM; setsid sleep 201 & while true; do sleep 0.1; done"
-    polite = 'trap "exit 0" TERM; while true; do sleep 0.1; done'
+    stubborn = f"trap : TERM; setsid {lab.sleep} 201 & {AT_IT}"
+    polite = f'trap "exit 0" TERM; {AT_IT}'
     over = "farm-dispatch: the time limit of 3 seconds is over: SIGTERM\n"
     by_default = "time limit of 4 seconds (the default), status 143"
     # What each runs, its limit, how it ends, and what its log has.
     rows = [
-        ("exec sleep 202", 'job = "3 seconds"', "time limit of 3 seconds, status 143", over),
+        (lab.sleeps(202), 'job = "3 seconds"', "time limit of 3 seconds, status 143", over),
         (stubborn, "job = { seconds = 3 }", "time limit of 3 seconds, signal 9", ": SIGKILL\n"),
         (polite, "job.seconds = 3", "time limit of 3 seconds, status 0", over),
-        ("exec sleep 203", "", by_default, "of 4 seconds (the default) is over: SIGTERM\n"),
-        ("exec sleep 204", 'job = "3 days"', "time limit of 5 seconds, status 143", "is 3 days: "),
-        ("exec sleep 205", 'job = "soon"', by_default, "timeouts.job can't be read: 'soon'"),
+        (lab.sleeps(203), "", by_default, "of 4 seconds (the default) is over: SIGTERM\n"),
+        (lab.sleeps(204), 'job = "3 days"', "time limit of 5 seconds, status 143", "is 3 days: "),
+        (lab.sleeps(205), 'job = "soon"', by_default, "timeouts.job can't be read: 'soon'"),
     ]
     numbers = [submitted(lab, run, limit) for run, limit, _, _ in rows]
     quick = submitted(lab, "sleep 0.2", 'job = "5 seconds"')
-    two = b"""job_name = 'two'
-run = 'exec sleep 206'
+    two = f"""job_name = 'two'
+run = 'exec {lab.sleep} 206'
 [roles.a]
 device_type = 'bbb'
 count = 2
 [timeouts]
-job = { minutes = 0, seconds = 3 }
+job = {{ minutes = 0, seconds = 3 }}
 """
-    first = lab.farm.tell("ann", "/jobs", two)["number"]
+    first = lab.farm.tell("ann", "/jobs", two.encode())["number"]
     dispatcher = lab.dispatch("--grace", "1", "--limit", "4", DISPATCH_MOST="5 seconds")
     rows.append(("", "", "time limit of 3 seconds, status 143", over))
     for number, (_, _, ended, line) in zip([*numbers, first], rows):
@@ -695,7 +747,7 @@ job = { minutes = 0, seconds = 3 }
     demand("the group's second member", "Incomplete", lab.finished(first + 1))
     demand("one that ends in time", "Complete", lab.finished(quick))
     demand("its log", "", read(lab.file(quick, "log")))
-    demand("what the stubborn one left", [], processes_of("sleep\x00201\x00"))
+    demand("what the stubborn one left", [], processes_of(lab, 201))
     lab.closes(dispatcher)
     return "a time limit ends a job by SIGTERM, SIGKILL after the grace; it is Incomplete, as told"
 
@@ -712,7 +764,7 @@ def limits_of_checks(place):
     settings_file = os.path.join(lab.folder, "desk.ini")
     with open(settings_file, "w", encoding="utf-8") as file:
         file.write("[dispatch]\nlimit = 3 seconds\n")
-    dispatcher = lab.dispatch("--check", "sleep 207", "--config", settings_file)
+    dispatcher = lab.dispatch("--check", f"{lab.sleep} 207", "--config", settings_file)
     demand("the check", "Incomplete", lab.finished(check_of(lab, "c1")))
     demand("its board", "Bad", lab.farm.board("c1")["health"])
     lab.closes(dispatcher)
@@ -724,10 +776,11 @@ def check_of(lab, name):
     return int(wait_until(f"{name} is held", lambda: lab.farm.board(name)["holder"][len("job ") :]))
 
 
+@needs_toml
 def limits_over_restarts(place):
     lab = Lab(place)
-    number = submitted(lab, "exec sleep 208", 'job = "5 seconds"')
-    orphan = submitted(lab, "exec sleep 209", 'job = "1 minute"')
+    number = submitted(lab, lab.sleeps(208), 'job = "5 seconds"')
+    orphan = submitted(lab, lab.sleeps(209), 'job = "1 minute"')
     dispatcher = lab.dispatch("--grace", "1")
     lab.begun(number)
     begun = time.monotonic()
@@ -737,7 +790,7 @@ def limits_over_restarts(place):
     demand("the one that ran over a restart", "Incomplete", lab.finished(number))
     took = time.monotonic() - begun
     demand(f"that its limit began with the job ({took:.1f} s)", True, 4 < took < 8.5)
-    running("sleep\x00209\x00")
+    running(lab, 209)
     dispatcher.kill()
     os.kill(lab.runner(orphan), signal.SIGKILL)
     began, limit = read(lab.file(orphan, "began")).split()
@@ -747,11 +800,12 @@ def limits_over_restarts(place):
     dispatcher = lab.dispatch("--grace", "1")
     demand("one that nothing looked after", "Incomplete", lab.finished(orphan))
     demand("its log", True, "time limit of 1 minute is long over" in read(lab.file(orphan, "log")))
-    demand("its process", [], processes_of("sleep\x00209\x00"))
+    demand("its process", [], processes_of(lab, 209))
     lab.closes(dispatcher)
     return "a limit is measured from the job's begin, over dispatchers and runners that are killed"
 
 
+@needs_toml
 def times(place):
     sys.path.insert(0, TOOLS)
     from farm_tools import limits
@@ -975,6 +1029,7 @@ ROWS = [
     unstartable_scripts,
     ways_not_to_start,
     not_started_and_told_otherwise,
+    mended_and_broken,
     no_process_left,
     times,
     time_limits,

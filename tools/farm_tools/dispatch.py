@@ -24,7 +24,7 @@ MORE = {
     "limit": ("TIME", "1 hour", "a job's time limit, where its text names none"),
     "most": ("TIME", "1 day", "the longest time limit that a job is granted"),
     "retry": ("TIME", "30 seconds", "until a command that couldn't be started is tried again"),
-    "clock": ("WORD", "synchronized", "or any: ask the desk, whatever the time service says"),
+    "clock": ("WORD", "synchronized", "any: ask the desk also before this machine's clock is set"),
 }
 ABOUT = """\
 Calls the desk's pass every few seconds, and at once after a job has ended;
@@ -77,9 +77,8 @@ def main(words=None) -> int:
     dispatcher = None
     try:
         stops = Stops()
-        more = settings.values_of("dispatch", options)
-        use(options, more)
         desk = calls.Desk(settings.read_settings("dispatch", options, "dispatcher"), patience=0)
+        use(options, settings.values_of("dispatch", options))
         place = os.path.realpath(options.folder)
         os.makedirs(place, mode=0o750, exist_ok=True)
         lock = folders.take_lock(os.path.join(place, folders.LOCK))

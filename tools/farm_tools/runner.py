@@ -120,10 +120,11 @@ def wait_for(child: int, folder: str, grace: float, limit: limits.Limit, ended: 
     is its own until all that it left is killed."""
     over = time.monotonic() + limit.seconds
     told, late, killed = None, False, False
-    while os.waitid(os.P_PID, child, os.WEXITED | os.WNOHANG | os.WNOWAIT) is None:
+    while True:
         if select.select([ended], [], [], LOOKS)[0]:
             os.read(ended, 4096)
-            continue
+        if os.waitid(os.P_PID, child, os.WEXITED | os.WNOHANG | os.WNOWAIT) is not None:
+            return late
         now = time.monotonic()
         canceled = os.path.exists(os.path.join(folder, folders.CANCEL))
         if told is None and (canceled or now >= over):
@@ -136,7 +137,6 @@ def wait_for(child: int, folder: str, grace: float, limit: limits.Limit, ended: 
                 killed = True
                 folders.note(folder, f"it goes on {limits.words_of(grace)} after SIGTERM: SIGKILL")
             send(child, signal.SIGKILL)
-    return late
 
 
 def note_once(folder: str, text: str) -> None:
