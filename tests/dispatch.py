@@ -5,7 +5,7 @@ Each row serves a farm in a new file, prints a line and says what it saw: how ea
 told, groups, health checks, cancels, lost processes, and dispatchers and a desk that are killed
 (kill -9) at random moments, over which each group has to run exactly once; commands that can't be
 started, time limits, misspelt settings and wrong clocks. Ends with status 1 at the first thing that
-isn't as it should be, and with 77 where the machine lacks what it wants. Takes two minutes.
+isn't as it should be, and with 77 where the machine lacks what it wants. Takes three minutes.
 """
 import argparse
 import contextlib
