@@ -671,10 +671,12 @@ def no_process_left(place):
         demand("what it asks", ["/pass", ("start", 1, None)], asked)
         demand("which ones are tried, one after another", [1, 2, 3], tries)
         time.sleep(1.1)
-        until = time.monotonic() + 20
-        while desk.states != dict.fromkeys((1, 2, 3), "Finished") and time.monotonic() < until:
+        faults, until = [], time.monotonic() + 20
+        while "Running" in desk.states.values() and time.monotonic() < until:
             dispatcher.round(True)
+            faults += [dispatcher.starts.fault] if "Finished" in desk.states.values() else []
             time.sleep(0.1)
+    demand("what stands in the way once one has started", {""}, set(faults))
     ends = [it for it in desk.given if it[0] == "finish"]
     demand("how they end", [("finish", it, "Complete") for it in (1, 2, 3)], sorted(ends))
     return "without a process for it nothing is finished; one group after another is tried again"
@@ -744,6 +746,7 @@ job = {{ minutes = 0, seconds = 3 }}
         demand(f"the result of {number}", "Incomplete", lab.finished(number))
         demand(f"how {number} ended", ended, read(lab.file(number, "ended")).strip())
         demand(f"the log of {number}", True, line in read(lab.file(number, "log")))
+        demand(f"that its runner ended {number}", False, os.path.exists(lab.file(number, "late")))
     demand("the group's second member", "Incomplete", lab.finished(first + 1))
     demand("one that ends in time", "Complete", lab.finished(quick))
     demand("its log", "", read(lab.file(quick, "log")))
