@@ -590,6 +590,13 @@ def not_started_and_told_otherwise(place):
         demand(f"job {number}, once it is mended", "Complete", lab.finished(number))
         demand("how often it was begun", 1, lab.begins(number))
     demand("how often the canceled one was", 0, lab.begins(numbers[0]))
+    replace(lab.command, "no line that names an interpreter\n")
+    alone = lab.farm.submit("true")
+    wait_until(f"{alone} is told", lambda: f"job {alone} wasn't st" in dispatcher.output())
+    lab.farm.tell("ann", f"/jobs/{alone}/cancel")
+    demand("one that waits alone, and is canceled", "Canceled", lab.finished(alone))
+    replace(lab.command, COMMAND)
+    demand("a job after it", "Complete", lab.finished(lab.farm.submit("true")))
     lab.closes(dispatcher)
     return "one that couldn't be started is canceled, or begun once, also after killed dispatchers"
 
