@@ -6,7 +6,7 @@ import shlex
 import signal
 import sys
 import time
-from typing import Dict, Optional
+from typing import Dict, List, Optional
 
 from farm_tools import calls, folders, limits, settings
 from farm_tools.clocks import UNSYNCHRONIZED, Clocks
@@ -126,12 +126,12 @@ def options_of(words):
     return options
 
 
-def from_anywhere(words):
+def from_anywhere(words: List[str]) -> List[str]:
     """A command that is the same in a job's folder: a path begins at the root."""
     return [os.path.abspath(words[0]) if "/" in words[0] else words[0], *words[1:]]
 
 
-def use(options, more: Dict[str, Optional[str]]) -> None:
+def use(options: argparse.Namespace, more: Dict[str, Optional[str]]) -> None:
     """Puts the settings that options, environment or files may have into the options."""
     for name in ("limit", "most", "retry"):
         text = more[name] or MORE[name][1]

@@ -3,7 +3,7 @@ dispatcher's default, and never longer than the dispatcher's most."""
 import dataclasses
 import math
 import re
-from typing import Optional, Tuple
+from typing import List, Optional, Tuple
 
 try:
     import tomllib
@@ -35,7 +35,7 @@ class Limit:
         return words_of(self.seconds) + (" (the default)" if self.is_default else "")
 
 
-def time_of(said) -> float:
+def time_of(said: object) -> float:
     """The seconds of a time: a table of days, hours, minutes and seconds, as LAVA has it, or these
     as a text, `1 hour 30 minutes`."""
     if isinstance(said, dict):
@@ -49,7 +49,7 @@ def time_of(said) -> float:
     return seconds
 
 
-def _number_of(unit: str, count) -> float:
+def _number_of(unit: object, count: object) -> float:
     if unit not in UNITS:
         raise BadTime(f"{unit!r} is none of {', '.join(UNITS)}")
     if isinstance(count, bool) or not isinstance(count, (int, float)):
@@ -59,14 +59,15 @@ def _number_of(unit: str, count) -> float:
     return count
 
 
-def _parts_of(text: str):
+def _parts_of(text: str) -> List[Tuple[str, str]]:
     """The numbers and units of a text that is such pairs alone."""
-    place, found = 0, []
+    place = 0
+    found: List[Tuple[str, str]] = []
     while place < len(text):
         part = PART.match(text, place)
         if part is None:
             raise BadTime(f"{text!r} isn't like '1 hour 30 minutes'")
-        found.append(part.groups())
+        found.append((part[1], part[2]))
         place = part.end()
     return found
 

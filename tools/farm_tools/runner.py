@@ -12,6 +12,7 @@ import signal
 import subprocess
 import sys
 import time
+from typing import Sequence
 
 from farm_tools import commands, folders, limits
 
@@ -56,7 +57,9 @@ def lock_of(folder: str):
     return None
 
 
-def ran(folder: str, grace: float, limit: limits.Limit, command, lock: int) -> str:
+def ran(
+    folder: str, grace: float, limit: limits.Limit, command: Sequence[str], lock: int
+) -> str:
     """Runs the command. Returns `status N` or `signal N`, behind `time limit of TIME, ` where that
     ended it, or `not started: ..`."""
     try:
@@ -78,7 +81,7 @@ def ran(folder: str, grace: float, limit: limits.Limit, command, lock: int) -> s
     return f"{folders.TIME_LIMIT} of {limit.words()}, {how}" if late else how
 
 
-def started(folder: str, command, lock: int) -> subprocess.Popen:
+def started(folder: str, command: Sequence[str], lock: int) -> subprocess.Popen:
     """The command's process, once it runs. Its children have the folder's lock too. Where this
     raises OSError nothing runs."""
     fault = commands.fault_of(command)

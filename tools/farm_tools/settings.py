@@ -9,7 +9,7 @@ import os
 import re
 import stat
 import urllib.parse
-from typing import Dict, Optional, Sequence
+from typing import Callable, Dict, Optional, Sequence
 
 SYSTEM_FILE = "/etc/farm/desk.ini"
 SERVER = "http://127.0.0.1:8080"
@@ -82,7 +82,9 @@ def read_settings(section: str, options, user=None) -> Settings:
     return Settings(server, asks, password, ca_file, _seconds(found["timeout"] or "30"))
 
 
-def _environment_of(section: str, words: Sequence[str], bad_words) -> Dict[str, str]:
+def _environment_of(
+    section: str, words: Sequence[str], bad_words: Callable[[str], None]
+) -> Dict[str, str]:
     """The settings in the environment."""
     head = f"{section.upper()}_"
     known = [word.upper() for word in (*words, "config")]
@@ -95,7 +97,9 @@ def _environment_of(section: str, words: Sequence[str], bad_words) -> Dict[str, 
     return found
 
 
-def _files_read(section: str, named: Optional[str], bad_words) -> Dict[str, str]:
+def _files_read(
+    section: str, named: Optional[str], bad_words: Callable[[str], None]
+) -> Dict[str, str]:
     """The section of the named file, or of the user's file over the system's."""
     own = os.environ.get("XDG_CONFIG_HOME") or os.path.expanduser("~/.config")
     files = [named] if named else [SYSTEM_FILE, os.path.join(own, "farm", "desk.ini")]
@@ -112,7 +116,9 @@ def _files_read(section: str, named: Optional[str], bad_words) -> Dict[str, str]
     return found
 
 
-def _section_of(file: str, read, section: str, bad_words) -> Dict[str, str]:
+def _section_of(
+    file: str, read: configparser.ConfigParser, section: str, bad_words: Callable[[str], None]
+) -> Dict[str, str]:
     """The settings of one file's section."""
     for name in read.sections():
         if name not in SECTIONS:
