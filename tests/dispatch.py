@@ -3,15 +3,19 @@
 
 Each row serves a farm in a new file, prints a line and says what it saw: how each way to end is
 told, groups, health checks, cancels, lost processes, and dispatchers and a desk that are killed
-(kill -9) at random moments, over which each group has to run exactly once. Ends with status 1 at
-the first thing that isn't as it should be, and with 77 where the machine lacks what it wants. Takes
-less than a minute.
+(kill -9) at random moments, over which each group has to run exactly once; commands that can't be
+started, time limits, misspelt settings and wrong clocks. Ends with status 1 at the first thing that
+isn't as it should be, and with 77 where the machine lacks what it wants. Takes three minutes.
 """
+import argparse
 import contextlib
+import errno
+import functools
 import io
 import json
 import os
 import random
+import shutil
 import signal
 import sqlite3
 import subprocess
@@ -19,7 +23,7 @@ import sys
 import tempfile
 import time
 
-from served import TOOLS, Farm, Tool, demand, free_port, read, wait_until
+from served import TOOLS, TOP, Farm, Tool, demand, free_port, read, wait_until
 
 # Runs the line `run = '..'` of a job's text, and notes that it began and ended.
 COMMAND = """#!/bin/sh
@@ -31,6 +35,7 @@ status=$?
 echo "end $FARM_JOB" >> "$RUNS"
 exit $status
 """
+AT_IT = "while true; do sleep 0.1; done"
 BOARDS = [(f"b{place}", "bbb", ["serial"]) for place in range(1, 7)]
 
 
@@ -46,13 +51,17 @@ class Lab:
         with open(self.command, "w", encoding="utf-8") as script:
             script.write(COMMAND)
         os.chmod(self.command, 0o755)
+        # a name of its own, so that no other test's processes are taken for this one's
+        self.sleep = os.path.join(self.folder, "sleep")
+        os.symlink(shutil.which("sleep"), self.sleep)
 
-    def dispatch(self, *words, command=None, every="0.3"):
-        """A dispatcher that runs."""
+    def dispatch(self, *words, command=None, every="0.3", **more):
+        """A dispatcher that runs, with more in its environment."""
         head = [
             "farm-dispatch", "--server", self.farm.server, "--folder", self.place, "--every", every
         ]
-        return Tool([*head, *words, command or self.command], self.folder, RUNS=self.runs)
+        words = [*head, *words, command or self.command]
+        return Tool(words, self.folder, **{"RUNS": self.runs, **more})
 
     def finished(self, number, limit=40):
         """The result of a job, once it is Finished."""
@@ -74,6 +83,10 @@ class Lab:
     def until(self, name):
         """What a job runs that ends once it is let."""
         return f"while ! test -e {self.folder}/{name}; do sleep 0.05; done"
+
+    def sleeps(self, seconds):
+        """What a job runs that sleeps for so long, in no shell."""
+        return f"exec {self.sleep} {seconds}"
 
     def let(self, name):
         with open(os.path.join(self.folder, name), "w", encoding="utf-8"):
@@ -101,14 +114,15 @@ def read_words(process):
         return ""
 
 
-def processes_of(words):
-    """The processes that run these words."""
+def processes_of(lab, seconds):
+    """The processes of a lab that sleep for so many seconds."""
+    words = f"{lab.sleep}\0{seconds}\0"
     return [it for it in os.listdir("/proc") if it.isdigit() and words in read_words(it)]
 
 
-def running(words):
-    """The processes that run these words, once there is one: a job's begin is noted before its command starts."""
-    return wait_until(f"{words!r} runs", lambda: processes_of(words))
+def running(lab, seconds):
+    """The same, once there is one: a job's begin is noted before its command starts."""
+    return wait_until(f"sleep {seconds} runs", lambda: processes_of(lab, seconds))
 
 
 def end_commands(place):
@@ -158,18 +172,6 @@ def ways_to_end(place):
     demand("a board's row", (name, ["serial"], number), (row["name"], row["tags"], row["job"]))
     lab.closes(dispatcher)
     return "0 is Complete, 3 Incomplete, 75 and a signal Infra; text, boards and log are there"
-
-
-def command_that_is_not_there(place):
-    lab = Lab(place)
-    with open(lab.command, "w", encoding="utf-8") as script:
-        script.write("#!/nonexistent/interpreter\n")
-    number = lab.farm.submit("true")
-    dispatcher = lab.dispatch()
-    demand("the result", "Infra", lab.finished(number))
-    demand("a command that isn't there", 4, lab.dispatch(command="/nonexistent/command").ends())
-    lab.closes(dispatcher)
-    return "a command that can't be started is Infra, and one that isn't there isn't taken"
 
 
 def passes_after_a_finish(place):
@@ -222,18 +224,18 @@ def health_checks(place):
 
 def cancels(place):
     lab = Lab(place)
-    quiet = lab.farm.submit("exec sleep 100")
-    stubborn = lab.farm.submit("trap : TERM; setsid sleep 101 & while true; do sleep 0.1; done")
+    quiet = lab.farm.submit(lab.sleeps(100))
+    stubborn = lab.farm.submit(f"trap : TERM; setsid {lab.sleep} 101 & {AT_IT}")
     dispatcher = lab.dispatch("--grace", "1")
-    for number, words in ((quiet, "sleep\x00100\x00"), (stubborn, "sleep\x00101\x00")):
+    for number, seconds in ((quiet, 100), (stubborn, 101)):
         lab.begun(number)
-        running(words)
+        running(lab, seconds)
         lab.farm.tell("ann", f"/jobs/{number}/cancel")
     demand("the one that ends", "Canceled", lab.finished(quiet))
     demand("how it ended", "status 143", read(lab.file(quiet, "ended")).strip())
     demand("the one that doesn't", "Canceled", lab.finished(stubborn))
     demand("how it ended", "signal 9", read(lab.file(stubborn, "ended")).strip())
-    demand("what it left", [], processes_of("sleep\x00101\x00"))
+    demand("what it left", [], processes_of(lab, 101))
     lab.closes(dispatcher)
     return "a canceled job's command gets SIGTERM, then SIGKILL, and what it left behind is killed"
 
@@ -241,13 +243,13 @@ def cancels(place):
 def lost_processes(place):
     lab = Lab(place)
     alone, both, gone = (
-        lab.farm.submit(it) for it in (lab.until("open"), "exec sleep 100", "exec sleep 102")
+        lab.farm.submit(it) for it in (lab.until("open"), lab.sleeps(100), lab.sleeps(102))
     )
     dispatcher = lab.dispatch()
     for number in (alone, both, gone):
         lab.begun(number)
     os.kill(lab.runner(alone), signal.SIGKILL)
-    group_of_both = running("sleep\x00100\x00")
+    group_of_both = running(lab, 100)
     os.kill(lab.runner(both), signal.SIGKILL)
     for process in group_of_both:
         os.killpg(os.getpgid(int(process)), signal.SIGKILL)
@@ -301,7 +303,7 @@ def others_jobs(place):
     theirs = lab.farm.submit("true")
     lab.farm.tell("admin", "/pass")
     lab.farm.tell("admin", f"/jobs/{theirs}/start")
-    ours = lab.farm.submit("exec sleep 103")
+    ours = lab.farm.submit(lab.sleeps(103))
     dispatcher = lab.dispatch()
     lab.begun(ours)
     process = lab.runner(ours)
@@ -360,7 +362,8 @@ def many_runners(place):
         folder = os.path.join(tempfile.mkdtemp(dir=place), "jobs", "1")
         os.makedirs(folder)
         words = [
-            sys.executable, "-m", "farm_tools.runner", folder, "1", "sh", "-c", "echo ran >> runs"
+            sys.executable, "-m", "farm_tools.runner", folder, "1", "60", "60",
+            "sh", "-c", "echo ran >> runs",
         ]
         runners = [subprocess.Popen(words, cwd=TOOLS) for _ in range(6)]
         demand("how they end", [0] * 6, [it.wait(timeout=60) for it in runners])
@@ -372,6 +375,11 @@ def many_runners(place):
         demand("how often the command ran", "ran\n", read(os.path.join(folder, "runs")))
         demand("how it ended", "status 0\n", read(os.path.join(folder, "ended")))
     return "of six processes that are to run one job, and one that comes later, one runs it"
+
+
+OPTIONS = argparse.Namespace(
+    command=["true"], check=["true"], grace=1, infra=75, keep=1, limit=60, most=60, retry=1
+)
 
 
 class DeskToCome:
@@ -401,7 +409,7 @@ def states_to_come(place):
 
     said = io.StringIO()
     with contextlib.redirect_stdout(said):
-        dispatcher = Dispatcher(DeskToCome(), tempfile.mkdtemp(dir=place), None)
+        dispatcher = Dispatcher(DeskToCome(), tempfile.mkdtemp(dir=place), OPTIONS)
         for _ in range(3):
             dispatcher.round(True)
     told = "job 3 is Reviewing, which is left to the desk\n"
@@ -467,9 +475,555 @@ def own_ends(place):
     return "4 for a second one on a folder, 3 for a stranger, 2 for bad words, 0 for a signal"
 
 
+# ---- commands that can't be started
+
+
+def unstartable_scripts(place):
+    """The fault that was seen: boards were condemned while both scripts weren't executable."""
+    lab = Lab(place)
+    check = with_checks(lab)
+    words = ["--check", check, "--retry", "1"]
+    dispatcher = lab.dispatch(*words)
+    demand("a job before", "Complete", lab.finished(lab.farm.submit("true")))
+    os.chmod(check, 0o644)
+    os.chmod(lab.command, 0o644)
+    for name in ("c1", "c2"):
+        lab.farm.tell("admin", f"/boards/{name}/health", {"health": "Unknown"})
+    jobs = [lab.farm.submit("true") for _ in range(6)]
+    wait_until("it tells it", lambda: "not executable" in dispatcher.errors())
+    count = lab.farm.look("/status")["count"]
+    time.sleep(3)
+    demand("passes while it stands", count, lab.farm.look("/status")["count"])
+    demand("jobs that are Finished", [], [it for it in jobs if lab.farm.job(it)["result"]])
+    healths = {it["name"]: it["health"] for it in lab.farm.look("/boards")["boards"]}
+    wanted = {**{it[0]: "Good" for it in BOARDS}, "c1": "Unknown", "c2": "Unknown"}
+    demand("the boards' health", wanted, healths)
+    demand("how often it is told", 1, dispatcher.errors().count("not executable"))
+    dispatcher.send(signal.SIGTERM)
+    demand("its status while it stands", 5, dispatcher.ends())
+    dispatcher = lab.dispatch(*words)
+    time.sleep(1)
+    demand("passes of the next", count, lab.farm.look("/status")["count"])
+    os.chmod(check, 0o755)
+    os.chmod(lab.command, 0o755)
+    for number in jobs:
+        demand(f"job {number}, once they are mended", "Complete", lab.finished(number))
+        demand("how often it was begun", 1, lab.begins(number))
+    for name in ("c1", "c2"):
+        wait_until(f"{name} is Good", lambda: is_good(lab, name))
+    demand("that it goes on", True, "it goes on" in dispatcher.errors())
+    lab.closes(dispatcher)
+    return "scripts that aren't executable finish no job and condemn no board; it is told, status 5"
+
+
+def with_checks(lab):
+    """Adds two boards whose health a script checks. Returns the script."""
+    lab.farm.tell("admin", "/types", {"name": "checked", "check": "jobs", "every": 20})
+    for name in ("c1", "c2"):
+        lab.farm.tell("admin", "/boards", {"name": name, "type": "checked"})
+    check = os.path.join(lab.folder, "check")
+    replace(check, "#!/bin/sh\ntrue\n")
+    return check
+
+
+def ways_not_to_start(place):
+    """Each way in which a script can't be started: what it is made, and what is told."""
+    lab = Lab(place)
+    dispatcher = lab.dispatch("--retry", "1")
+    ways = [
+        (None, "no such command"),
+        ("#!/nonexistent/interpreter\n", "its interpreter '/nonexistent/interpreter'"),
+        ("#!/bin/sh\r\n", "its interpreter '/bin/sh\\r'"),
+        ("#!/usr/bin/env nonexistent-command\n", "its interpreter 'nonexistent-command'"),
+        ("no line that names an interpreter\n", "Exec format error"),
+    ]
+    for text, wanted in ways:
+        os.unlink(lab.command)
+        if text is not None:
+            replace(lab.command, text)
+        number = lab.farm.submit("true")
+        wait_until(f"{wanted!r} is told", lambda: wanted in dispatcher.errors())
+        time.sleep(1.5)
+        demand(f"the job's result ({wanted})", "", lab.farm.job(number)["result"])
+        demand("boards that aren't Good", [], [it[0] for it in BOARDS if not is_good(lab, it[0])])
+        replace(lab.command, COMMAND)
+        demand(f"the job, once it is mended ({wanted})", "Complete", lab.finished(number))
+        demand("how often it was begun", 1, lab.begins(number))
+    lab.closes(dispatcher)
+    return "missing, of a missing interpreter, of none: nothing is finished until it is mended"
+
+
+def is_good(lab, name):
+    return lab.farm.board(name)["health"] == "Good"
+
+
+def replace(file, text):
+    """Puts an executable file in another's place at once."""
+    with open(f"{file}.new", "w", encoding="utf-8") as script:
+        script.write(text)
+    os.chmod(f"{file}.new", 0o755)
+    os.replace(f"{file}.new", file)
+
+
+def not_started_and_told_otherwise(place):
+    """What becomes of jobs that run for the desk, and whose command couldn't be started: they are
+    canceled, or a dispatcher is killed while it takes back their begin."""
+    lab = Lab(place)
+    replace(lab.command, "no line that names an interpreter\n")
+    numbers = [lab.farm.submit("true") for _ in range(3)]
+    dispatcher = lab.dispatch("--retry", "1")
+    for number in numbers:
+        wait_until(f"{number} is told", lambda: f"job {number} wasn't st" in dispatcher.output())
+    lab.farm.tell("ann", f"/jobs/{numbers[0]}/cancel")
+    demand("one that is canceled", "Canceled", lab.finished(numbers[0]))
+    demand("its board", True, is_good(lab, lab.farm.job(numbers[0])["board"]))
+    demand("the others", ["Running"] * 2, [lab.farm.job(it)["state"] for it in numbers[1:]])
+    dispatcher.kill()
+    wait_until("no runner is left", lambda: not any(map(lab.runner, numbers)))
+    for number, names in ((numbers[1], ["began", "ended"]), (numbers[2], ["ended"])):
+        for name in names:
+            with open(lab.file(number, name), "w", encoding="utf-8") as file:
+                file.write("not started: as a dispatcher that was killed leaves it\n")
+    replace(lab.command, COMMAND)
+    dispatcher = lab.dispatch("--retry", "1")
+    for number in numbers[1:]:
+        demand(f"job {number}, once it is mended", "Complete", lab.finished(number))
+        demand("how often it was begun", 1, lab.begins(number))
+    demand("how often the canceled one was", 0, lab.begins(numbers[0]))
+    replace(lab.command, "no line that names an interpreter\n")
+    alone = lab.farm.submit("true")
+    wait_until(f"{alone} is told", lambda: f"job {alone} wasn't st" in dispatcher.output())
+    lab.farm.tell("ann", f"/jobs/{alone}/cancel")
+    demand("one that waits alone, and is canceled", "Canceled", lab.finished(alone))
+    replace(lab.command, COMMAND)
+    demand("a job after it", "Complete", lab.finished(lab.farm.submit("true")))
+    lab.closes(dispatcher)
+    return "one that couldn't be started is canceled, or begun once, also after killed dispatchers"
+
+
+def mended_and_broken(place):
+    """Dispatchers that are killed at random moments, while their command is broken and mended."""
+    lab = Lab(place)
+    seed = random.randrange(10**6)
+    dice = random.Random(seed)
+    numbers = [lab.farm.submit(f"sleep 0.{dice.randrange(3)}") for _ in range(24)]
+    texts = [COMMAND, COMMAND, "no line that names an interpreter\n", "#!/nonexistent/sh\n"]
+    words, kills = ["--retry", "0.2"], 0
+    dispatcher = lab.dispatch(*words, every="0.1")
+    until = time.monotonic() + 12
+    while time.monotonic() < until and lab.farm.look("/queue")["queue"]:
+        replace(lab.command, dice.choice(texts))
+        time.sleep(dice.uniform(0.05, 0.6))
+        if dice.random() < 0.5:
+            dispatcher.kill()
+            kills += 1
+            dispatcher = lab.dispatch(*words, every="0.1")
+    replace(lab.command, COMMAND)
+    for number in numbers:
+        demand(f"job {number} (seed {seed})", "Complete", lab.finished(number, 30))
+        demand(f"how often job {number} was begun (seed {seed})", 1, lab.begins(number))
+    demand("boards that aren't Good", [], [it[0] for it in BOARDS if not is_good(lab, it[0])])
+    demand("a job of the last", "Complete", lab.finished(lab.farm.submit("true")))
+    lab.closes(dispatcher)
+    return f"over {kills} killed dispatchers and a command that is often broken, each job ran once"
+
+
+class DeskOfThree:
+    """A desk with three jobs that wait for their start, which it notes."""
+
+    def __init__(self):
+        self.given = []
+        self.states = {1: "Scheduled", 2: "Scheduled", 3: "Scheduled"}
+
+    def look(self, path):
+        if path == "/boards":
+            held = {it for it, state in self.states.items() if state != "Finished"}
+            return {"boards": [
+                {"name": f"b{it}", "type": "bbb", "holder": f"job {it}"} for it in sorted(held)
+            ]}
+        number = int(path.rpartition("/")[2])
+        return {"number": number, "group": number, "state": self.states[number], "kind": "check",
+                "board": f"b{number}", "type": "bbb", "role": "", "text": "", "owner": "admin",
+                "priority": 50}
+
+    def tell(self, path, body=None, key=None):
+        number, _, what = path.removeprefix("/jobs/").partition("/")
+        self.given.append((what, int(number), (body or {}).get("outcome")))
+        self.states[int(number)] = "Running" if what == "start" else "Finished"
+
+    def nudge(self, path):
+        self.given.append(path)
+
+
+def no_process_left(place):
+    """A dispatcher that can't make a process, and a runner that doesn't come up."""
+    sys.path.insert(0, TOOLS)
+    from farm_tools import dispatcher as module
+
+    desk = DeskOfThree()
+    started = module.subprocess.Popen
+    with contextlib.redirect_stdout(io.StringIO()):  # (what becomes of jobs)
+        dispatcher = module.Dispatcher(desk, tempfile.mkdtemp(dir=place), OPTIONS)
+        module.subprocess.Popen = no_process
+        try:
+            dispatcher.round(True)
+            told = dispatcher.starts.fault
+            dispatcher.round(True)
+            asked = list(desk.given)
+            module.subprocess.Popen = lambda words, **more: started(["false"])
+            tries = [tried(dispatcher) for _ in range(3)]
+        finally:
+            module.subprocess.Popen = started
+        demand("what it tells", True, "Resource temporarily unavailable" in told)
+        demand("what it asks", ["/pass", ("start", 1, None)], asked)
+        demand("which ones are tried, one after another", [1, 2, 3], tries)
+        time.sleep(1.1)
+        faults, until = [], time.monotonic() + 20
+        while "Running" in desk.states.values() and time.monotonic() < until:
+            dispatcher.round(True)
+            faults += [dispatcher.starts.fault] if "Finished" in desk.states.values() else []
+            time.sleep(0.1)
+    demand("what stands in the way once one has started", {""}, set(faults))
+    ends = [it for it in desk.given if it[0] == "finish"]
+    demand("how they end", [("finish", it, "Complete") for it in (1, 2, 3)], sorted(ends))
+    return "without a process for it nothing is finished; one group after another is tried again"
+
+
+def no_process(words, **more):
+    raise BlockingIOError(errno.EAGAIN, os.strerror(errno.EAGAIN))
+
+
+def tried(dispatcher):
+    """Which group a dispatcher tries after its wait, with a runner that ends with status 1."""
+    time.sleep(1.1)
+    dispatcher.round(True)
+    time.sleep(0.3)
+    number = dispatcher.starts.tried
+    dispatcher.round(True)
+    return number
+
+
+# ---- time limits
+
+
+def needs_toml(row):
+    """A row that isn't tried where this Python reads no TOML."""
+    sys.path.insert(0, TOOLS)
+    from farm_tools import limits
+
+    @functools.wraps(row)
+    def tried_row(place):
+        if limits.tomllib is None:
+            return f"{row.__name__} isn't tried, since this Python has neither tomllib nor tomli"
+        return row(place)
+
+    return tried_row
+
+
+@needs_toml
+def time_limits(place):
+    lab = Lab(place, [(f"b{it}", "bbb", []) for it in range(1, 11)])
+    stubborn = f"trap : TERM; setsid {lab.sleep} 201 & {AT_IT}"
+    polite = f'trap "exit 0" TERM; {AT_IT}'
+    over = "farm-dispatch: the time limit of 3 seconds is over: SIGTERM\n"
+    by_default = "time limit of 4 seconds (the default), status 143"
+    # What each runs, its limit, how it ends, and what its log has.
+    rows = [
+        (lab.sleeps(202), 'job = "3 seconds"', "time limit of 3 seconds, status 143", over),
+        (stubborn, "job = { seconds = 3 }", "time limit of 3 seconds, signal 9", ": SIGKILL\n"),
+        (polite, "job.seconds = 3", "time limit of 3 seconds, status 0", over),
+        (lab.sleeps(203), "", by_default, "of 4 seconds (the default) is over: SIGTERM\n"),
+        (lab.sleeps(204), 'job = "3 days"', "time limit of 5 seconds, status 143", "is 3 days: "),
+        (lab.sleeps(205), 'job = "soon"', by_default, "timeouts.job can't be read: 'soon'"),
+    ]
+    numbers = [submitted(lab, run, limit) for run, limit, _, _ in rows]
+    quick = submitted(lab, "sleep 0.2", 'job = "5 seconds"')
+    two = f"""job_name = 'two'
+run = 'exec {lab.sleep} 206'
+[roles.a]
+device_type = 'bbb'
+count = 2
+[timeouts]
+job = {{ minutes = 0, seconds = 3 }}
+"""
+    first = lab.farm.tell("ann", "/jobs", two.encode())["number"]
+    dispatcher = lab.dispatch("--grace", "1", "--limit", "4", DISPATCH_MOST="5 seconds")
+    rows.append(("", "", "time limit of 3 seconds, status 143", over))
+    for number, (_, _, ended, line) in zip([*numbers, first], rows):
+        demand(f"the result of {number}", "Incomplete", lab.finished(number))
+        demand(f"how {number} ended", ended, read(lab.file(number, "ended")).strip())
+        demand(f"the log of {number}", True, line in read(lab.file(number, "log")))
+        demand(f"that its runner ended {number}", False, os.path.exists(lab.file(number, "late")))
+    demand("the group's second member", "Incomplete", lab.finished(first + 1))
+    demand("one that ends in time", "Complete", lab.finished(quick))
+    demand("its log", "", read(lab.file(quick, "log")))
+    demand("what the stubborn one left", [], processes_of(lab, 201))
+    lab.closes(dispatcher)
+    return "a time limit ends a job by SIGTERM, SIGKILL after the grace; it is Incomplete, as told"
+
+
+def submitted(lab, run, timeout):
+    return lab.farm.submit(run, more=f"[timeouts]\n{timeout}\n" if timeout else "")
+
+
+def limits_of_checks(place):
+    lab = Lab(place)
+    lab.farm.tell("admin", "/types", {"name": "checked", "check": "jobs", "every": 20})
+    lab.farm.tell("admin", "/boards", {"name": "c1", "type": "checked"})
+    lab.farm.tell("admin", "/boards/c1/health", {"health": "Unknown"})
+    settings_file = os.path.join(lab.folder, "desk.ini")
+    with open(settings_file, "w", encoding="utf-8") as file:
+        file.write("[dispatch]\nlimit = 3 seconds\n")
+    dispatcher = lab.dispatch("--check", f"{lab.sleep} 207", "--config", settings_file)
+    demand("the check", "Incomplete", lab.finished(check_of(lab, "c1")))
+    demand("its board", "Bad", lab.farm.board("c1")["health"])
+    lab.closes(dispatcher)
+    return "a health check that hangs is ended by the default, and its board is Bad"
+
+
+def check_of(lab, name):
+    """The number of the job that holds a board."""
+    return int(wait_until(f"{name} is held", lambda: lab.farm.board(name)["holder"][len("job ") :]))
+
+
+@needs_toml
+def limits_over_restarts(place):
+    lab = Lab(place)
+    number = submitted(lab, lab.sleeps(208), 'job = "5 seconds"')
+    orphan = submitted(lab, lab.sleeps(209), 'job = "1 minute"')
+    dispatcher = lab.dispatch("--grace", "1")
+    lab.begun(number)
+    begun = time.monotonic()
+    time.sleep(4)
+    dispatcher.kill()
+    dispatcher = lab.dispatch("--grace", "1")
+    demand("the one that ran over a restart", "Incomplete", lab.finished(number))
+    took = time.monotonic() - begun
+    demand(f"that its limit began with the job ({took:.1f} s)", True, 4 < took < 8.5)
+    running(lab, 209)
+    dispatcher.kill()
+    os.kill(lab.runner(orphan), signal.SIGKILL)
+    began, limit = read(lab.file(orphan, "began")).split()
+    demand("the limit that is noted", 60.0, float(limit))
+    with open(lab.file(orphan, "began"), "w", encoding="utf-8") as file:
+        file.write(f"{float(began) - 72} {limit}\n")
+    dispatcher = lab.dispatch("--grace", "1")
+    demand("one that nothing looked after", "Incomplete", lab.finished(orphan))
+    demand("its log", True, "time limit of 1 minute is long over" in read(lab.file(orphan, "log")))
+    demand("its process", [], processes_of(lab, 209))
+    lab.closes(dispatcher)
+    return "a limit is measured from the job's begin, over dispatchers and runners that are killed"
+
+
+@needs_toml
+def times(place):
+    sys.path.insert(0, TOOLS)
+    from farm_tools import limits
+
+    right = [
+        ("15 minutes", 900), ("1 minute", 60), ("90 seconds", 90), ("1 hour 30 minutes", 5400),
+        ("1 hour, 30 minutes", 5400), ("2 days", 172800), ("1.5 hours", 5400),
+        ({"minutes": 15}, 900), ({"days": 1, "hours": 2, "minutes": 3, "seconds": 4}, 93784),
+    ]
+    for said, seconds in right:
+        demand(f"the time {said!r}", seconds, limits.time_of(said))
+    wrong = [
+        "", "soon", "15", "15 min", "minutes", "-1 minutes", "0 minutes", "15 minutes or so", 15,
+        True, {}, [], {"minutes": "15"}, {"minute": 15}, {"minutes": True}, {"minutes": -1},
+        {"seconds": 0}, {"seconds": float("nan")},
+    ]
+    for said in wrong:
+        try:
+            demand(f"the time {said!r}", "no time", limits.time_of(said))
+        except limits.BadTime:
+            pass
+    texts = [
+        ("", 3600, ""), ("job_name = 'x'", 3600, ""), ("[timeouts]\njob = '1 minute'", 60, ""),
+        ("[timeouts.job]\nminutes = 2", 120, ""), ("[timeouts]\naction = 3", 3600, "no 'job'"),
+        ("timeouts = 3", 3600, "no table"), ("[timeouts]\njob = 900", 3600, "900 has no unit"),
+        ("[timeouts]\njob = '2 days'", 86400, "2 days: the limit is 1 day"),
+        ("x = " + "[" * 60000, 3600, "can't be read"), ("= no TOML", 3600, "can't be read"),
+    ]
+    for text, seconds, remark in texts:
+        limit = limits.limit_of(text, 3600, 86400)
+        demand(f"the limit of {text[:40]!r}", seconds, limit.seconds)
+        demand(f"the remarks of {text[:40]!r}", bool(remark), len(limit.remarks) == 1)
+        demand(f"what they say of {text[:40]!r}", True, remark in "".join(limit.remarks))
+    words = {90061: "1 day 1 hour", 3600: "1 hour", 61: "1 minute 1 second", 0.5: "0.5 seconds"}
+    for seconds, told in words.items():
+        demand(f"{seconds} in words", told, limits.words_of(seconds))
+    del place
+    return "times are read as LAVA writes them and as texts, and what is none is told"
+
+
+# ---- settings and clocks
+
+
+def misspelt_settings(place):
+    folder = tempfile.mkdtemp(dir=place)
+    file = os.path.join(folder, "desk.ini")
+    runs = [
+        ("[dispatch]\nserber = x\n", {}, "serber in [dispatch] is no setting: is server meant?"),
+        ("[dispach]\nserver = x\n", {}, "[dispach] is no section: is [dispatch] meant?"),
+        ("[dispatch]\npassword-file = x\n", {}, "is password_file meant?"),
+        ("[desk]\nserver = x\n", {"DISPATCH_SEVER": "x"},
+         "DISPATCH_SEVER in the environment is no setting: is DISPATCH_SERVER meant?"),
+        ("", {"DISPATCH_QQ": ""}, "there are DISPATCH_SERVER, DISPATCH_USER"),
+    ]
+    for text, around, wanted in runs:
+        with open(file, "w", encoding="utf-8") as settings_file:
+            settings_file.write(text)
+        own = tempfile.mkdtemp(dir=place)
+        tool = Tool(["farm-dispatch", "--folder", own, "--config", file, "true"], own, **around)
+        demand(f"the status after {wanted}", 2, tool.ends())
+        demand(f"what is told: {wanted}", True, wanted in tool.errors())
+    with open(file, "w", encoding="utf-8") as settings_file:
+        settings_file.write("[desk]\nusr = ann\n[dispatch]\nserver = http://127.0.0.1:1\n")
+    for words, around, wanted in (
+        (["desk", "--config", file, "boards"], {}, "usr in [desk] is no setting: is user meant?"),
+        (["desk", "boards"], {"DESK_USR": "ann"}, "is DESK_USER meant?"),
+    ):
+        own = tempfile.mkdtemp(dir=place)
+        tool = Tool(words, own, **around)
+        demand(f"the status of {words}", 2, tool.ends())
+        demand(f"what it tells: {wanted}", True, wanted in tool.errors())
+    for name, text in (("limit", "soon"), ("most", "0"), ("retry", "1 min"), ("clock", "maybe")):
+        own = tempfile.mkdtemp(dir=place)
+        tool = Tool(["farm-dispatch", "--folder", own, f"--{name}", text, "true"], own)
+        demand(f"the status of --{name} {text}", 4, tool.ends())
+        demand(f"what is told of --{name}", True, f"{name}: '{text}'" in tool.errors())
+    return "a setting that there isn't is told with what it may mean, and the status is 2"
+
+
+def first_line(place):
+    lab = Lab(place)
+    dispatcher = lab.dispatch(every="0.5")
+    wait_until("it tells how often it passes", lambda: dispatcher.output())
+    told = f"passes every 0.5 s at {lab.farm.server}, jobs in {os.path.realpath(lab.place)}"
+    demand("its first line", told, dispatcher.output().split("\n")[0])
+    lab.closes(dispatcher)
+    return "its first line tells how often it passes, where, and where the jobs are"
+
+
+def farm_ahead(place):
+    """One import with a moment three days ahead."""
+    lab = Lab(place)
+    lab.farm.kill()
+    lab_file = os.path.join(lab.folder, "lab.toml")
+    with open(lab_file, "w", encoding="utf-8") as file:
+        file.write("[types.ddd]\n")
+    at = str(int(time.time()) + 3 * 86400 + 60)
+    words = [lab.farm.program, "import", "--db", lab.farm.db, "--at", at, lab_file]
+    subprocess.run(words, check=True, stdout=subprocess.DEVNULL)
+    lab.farm.start()
+    dispatcher = lab.dispatch()
+    told = "the farm's clock is 3 days ahead of this machine's: leases won't end until then"
+    wait_until("it is told", lambda: told in dispatcher.errors())
+    demand("a job", "Complete", lab.finished(lab.farm.submit("true")))
+    demand("how often it is told", 1, dispatcher.errors().count("ahead of this machine's"))
+    lab.closes(dispatcher)
+    sys.path.insert(0, TOOLS)
+    from farm_tools.clocks import Clocks
+
+    clocks = Clocks(DeskAhead(), lab.folder, False)
+    said = [warned(clocks, minutes) for minutes in (0, 2, 59, 61, 63, 119, 122)]
+    demand("when it is told", [True, False, False, True, False, False, True], said)
+    DeskAhead.ahead = 5
+    demand("a clock that is a little ahead", False, warned(clocks, 200))
+    return "a farm's clock that is ahead is told once, and again after an hour"
+
+
+class DeskAhead:
+    ahead = 86400 + 30
+
+    def look(self, path):
+        demand("what is looked at", "/status", path)
+        return {"clock": int(time.time()) + DeskAhead.ahead}
+
+
+def warned(clocks, minutes):
+    """Whether a warning comes so many minutes after the beginning."""
+    from farm_tools import clocks as module
+
+    real, begin = module.time, time.monotonic()
+    module.time = argparse.Namespace(monotonic=lambda: begin + 60 * minutes, time=time.time)
+    try:
+        return "1 day ahead" in clocks.warning()
+    finally:
+        module.time = real
+
+
+def clock_not_set(place):
+    """A machine whose time service runs and hasn't set the clock, as `timedatectl` says."""
+    lab = Lab(place)
+    said = os.path.join(lab.folder, "said")
+    replace(os.path.join(lab.folder, "timedatectl"), f"#!/bin/sh\ncat {said}\n")
+    own = {"PATH": f"{lab.folder}:{os.environ['PATH']}"}
+    tell(said, "NTP=yes\nNTPSynchronized=no\n")
+    number = lab.farm.submit("true")
+    count = lab.farm.look("/status")["count"]
+    dispatcher = lab.dispatch(**own)
+    wait_until("it is told", lambda: "hasn't set the clock yet" in dispatcher.errors())
+    time.sleep(1)
+    demand("what was asked of the desk", count, lab.farm.look("/status")["count"])
+    tell(said, "NTP=yes\nNTPSynchronized=yes\n")
+    demand("a job, once it is set", "Complete", lab.finished(number))
+    tell(said, "NTP=yes\nNTPSynchronized=no\n")
+    demand("one after its servers were lost", "Complete", lab.finished(lab.farm.submit("true")))
+    dispatcher.send(signal.SIGTERM)
+    demand("its status", 0, dispatcher.ends())
+    dispatcher = lab.dispatch(**own)
+    demand("one of the next dispatcher", "Complete", lab.finished(lab.farm.submit("true")))
+    dispatcher.send(signal.SIGTERM)
+    dispatcher.ends()
+    for words, answer in (
+        (["--clock", "any"], "NTP=yes\nNTPSynchronized=no\n"),
+        ([], "NTP=no\nNTPSynchronized=no\n"),
+        ([], "Failed to connect to bus\n"),
+    ):
+        tell(said, answer)
+        forget(os.path.join(lab.place, "synchronized"))
+        dispatcher = lab.dispatch(*words, **own)
+        demand(f"a job with {answer!r}", "Complete", lab.finished(lab.farm.submit("true")))
+        dispatcher.send(signal.SIGTERM)
+        demand("its status", 0, dispatcher.ends())
+    lab.farm.kill()
+    return "nothing is asked before the clock is set, where that can be told; --clock any asks"
+
+
+def tell(file, text):
+    with open(file, "w", encoding="utf-8") as opened:
+        opened.write(text)
+
+
+def forget(file):
+    if os.path.exists(file):
+        os.unlink(file)
+
+
+def unit(place):
+    """What systemd says of the unit, which then names programs that are there."""
+    with open(os.path.join(TOP, "examples", "farm-dispatch.service"), encoding="utf-8") as file:
+        text = file.read()
+    lines = [it for it in text.split("\n") if it and not it.startswith("#")]
+    wanted = ["StartLimitIntervalSec=0", "KillMode=process", "OOMPolicy=continue",
+              "Restart=always", "RestartPreventExitStatus=2 3"]
+    demand("lines that the unit lacks", [], [it for it in wanted if it not in lines])
+    if not shutil.which("systemd-analyze"):
+        return "the unit never gives up, but at 2 and 3; systemd isn't there to read it"
+    folder = tempfile.mkdtemp(dir=place)
+    for name in ("farm", "farm-dispatch"):
+        with open(os.path.join(TOP, "examples", f"{name}.service"), encoding="utf-8") as file:
+            tell(os.path.join(folder, f"{name}.service"),
+                 file.read().replace("/usr/local/bin/", "/bin/true "))
+    words = ["systemd-analyze", "verify", os.path.join(folder, "farm-dispatch.service")]
+    ran = subprocess.run(words, capture_output=True, text=True, check=False)
+    demand("what systemd says of the unit", (0, ""), (ran.returncode, ran.stderr))
+    return "systemd finds no fault with the unit, which never gives up, but at 2 and 3"
+
+
 ROWS = [
     ways_to_end,
-    command_that_is_not_there,
     passes_after_a_finish,
     group,
     health_checks,
@@ -481,6 +1035,20 @@ ROWS = [
     stop_that_is_dropped,
     many_runners,
     own_ends,
+    first_line,
+    unstartable_scripts,
+    ways_not_to_start,
+    not_started_and_told_otherwise,
+    mended_and_broken,
+    no_process_left,
+    times,
+    time_limits,
+    limits_of_checks,
+    limits_over_restarts,
+    misspelt_settings,
+    farm_ahead,
+    clock_not_set,
+    unit,
     no_room_for_replies,
     killed_dispatchers,
 ]

@@ -135,11 +135,11 @@ class Farm:
             it for it in self.look("/reservations")["reservations"] if it["number"] == number
         )
 
-    def submit(self, run, kind="bbb", user="ann"):
-        """Submits a job of one board whose text has a line that the tests' command runs."""
-        return self.tell(
-            user, "/jobs", f"job_name = 'test'\ndevice_type = '{kind}'\nrun = '{run}'\n".encode()
-        )["number"]
+    def submit(self, run, kind="bbb", user="ann", more=""):
+        """Submits a job of one board whose text has a line that the tests' command runs, and what
+        is to stand behind it."""
+        text = f"job_name = 'test'\ndevice_type = '{kind}'\nrun = '{run}'\n{more}"
+        return self.tell(user, "/jobs", text.encode())["number"]
 
 
 class Tool:

@@ -3,23 +3,40 @@ import argparse
 import os
 import selectors
 import shlex
-import shutil
 import signal
 import sys
 import time
+from typing import Dict, List, Optional
 
-from farm_tools import calls, folders, settings
+from farm_tools import calls, folders, limits, settings
+from farm_tools.clocks import UNSYNCHRONIZED, Clocks
 from farm_tools.dispatcher import Dispatcher
 
 HOUR = 3600
-REFUSED, FAULT = 3, 4
+REFUSED, FAULT, NOT_STARTED = 3, 4, 5
+STANDS = (
+    "a command can't be started ({}): until it can, nothing is started, no pass made, and no job "
+    "finished by it"
+)
+NO_TOML = "timeouts of jobs aren't read: this Python has neither tomllib nor tomli (python3-tomli)"
+# What options, environment and files may set: its value's word, its default, and what it is.
+MORE = {
+    "limit": ("TIME", "1 hour", "a job's time limit, where its text names none"),
+    "most": ("TIME", "1 day", "the longest time limit that a job is granted"),
+    "retry": ("TIME", "30 seconds", "until a command that couldn't be started is tried again"),
+    "clock": ("WORD", "synchronized", "any: ask the desk also before this machine's clock is set"),
+}
 ABOUT = """\
 Calls the desk's pass every few seconds, and at once after a job has ended;
 starts each job and health check that got its boards, runs COMMAND for it, one
 process a group, and tells the desk how it ended: Complete for status 0, Infra
-for 75 (--infra), for a signal and for a command that can't be started,
-Incomplete for any other status. The command of a canceled job is sent SIGTERM,
-and SIGKILL after the grace.
+for 75 (--infra) and for a signal, Incomplete for any other status and where the
+job's time limit ended it. A command that is to end, since its job was canceled
+or its time limit is over, is sent SIGTERM, and SIGKILL after the grace.
+
+The time limit is the job's, [timeouts] job = "1 hour 30 minutes", or as LAVA
+has it, job = { hours = 1, minutes = 30 }. While a command can't be started
+nothing is started, no pass made and no job finished by it; it is tried again.
 
 The command runs in a folder of its own, DIR/jobs/NUMBER, with the job's text in
 job.toml, its boards in boards ('NAME TYPE ROLE NUMBER' a line) and boards.json,
@@ -28,9 +45,9 @@ check), FARM_OWNER, FARM_PRIORITY, FARM_BOARD (the first), FARM_BOARDS,
 FARM_TYPES, FARM_ROLES, FARM_JOB_FILE, FARM_BOARDS_FILE and FARM_FOLDER."""
 STATUSES = """\
 exit status: 0 ended by SIGTERM or SIGINT (commands go on, and the next
-farm-dispatch on DIR takes them up); 2 bad words; 3 the desk refuses the user as
-its dispatcher; 4 bad settings, no such command, or DIR can't be used or is in
-use"""
+farm-dispatch on DIR takes them up); 2 bad words, or a setting that there isn't;
+3 the desk refuses the user as its dispatcher; 4 bad settings, or DIR can't be
+used or is in use; 5 ended by a signal while a command couldn't be started"""
 
 
 class Stopped(BaseException):
@@ -57,20 +74,24 @@ class Stops:
 
 def main(words=None) -> int:
     options = options_of(words)
+    dispatcher = None
     try:
         stops = Stops()
-        for command in (options.command, options.check):
-            if not shutil.which(command[0]):
-                return end(FAULT, f"{command[0]}: no such command")
         desk = calls.Desk(settings.read_settings("dispatch", options, "dispatcher"), patience=0)
+        use(options, settings.values_of("dispatch", options))
         place = os.path.realpath(options.folder)
         os.makedirs(place, mode=0o750, exist_ok=True)
         lock = folders.take_lock(os.path.join(place, folders.LOCK))
         if lock is None:
             return end(FAULT, f"{place} is in use by another farm-dispatch")
-        return serve(Dispatcher(desk, place, options), options.every, Wakes(place), stops)
+        dispatcher = Dispatcher(desk, place, options)
+        clocks = Clocks(desk, place, options.clock == "synchronized")
+        print(f"passes every {options.every:g} s at {desk.server}, jobs in {place}", flush=True)
+        if limits.tomllib is None:
+            end(0, NO_TOML)
+        return serve(dispatcher, clocks, Wakes(place), stops)
     except Stopped:
-        return 0
+        return NOT_STARTED if dispatcher and dispatcher.starts.fault else 0
     except (settings.BadSettings, OSError) as fault:
         return end(FAULT, str(fault))
 
@@ -89,18 +110,41 @@ def options_of(words):
 
     option("--folder", "DIR", "/var/lib/farm-dispatch", str, "where jobs have their folders")
     option("--every", "SECONDS", 5, seconds, "between two passes")
-    option("--grace", "SECONDS", 30, seconds, "to end in, once canceled")
+    option("--grace", "SECONDS", 30, seconds, "to end in, once told to")
     option("--infra", "STATUS", 75, int, "exit status for a fault of the lab")
     option("--keep", "DAYS", 30, seconds, "to keep the folders of jobs that ended")
+    for name, (metavar, default, about) in MORE.items():
+        parser.add_argument(f"--{name}", metavar=metavar, help=f"{about} ({default})")
     about = "the command for health checks, in quotes (COMMAND)"
     parser.add_argument("--check", metavar="WORDS", type=shlex.split, help=about)
     settings.add_options(parser)
     parser.add_argument("command", metavar="COMMAND", help="what to run for a job")
     parser.add_argument("arguments", metavar="ARGUMENT", nargs=argparse.REMAINDER)
     options = parser.parse_args(words)
-    options.command = [options.command, *options.arguments]
-    options.check = options.check or options.command
+    options.command = from_anywhere([options.command, *options.arguments])
+    options.check = from_anywhere(options.check) if options.check else options.command
     return options
+
+
+def from_anywhere(words: List[str]) -> List[str]:
+    """A command that is the same in a job's folder: a path begins at the root."""
+    return [os.path.abspath(words[0]) if "/" in words[0] else words[0], *words[1:]]
+
+
+def use(options: argparse.Namespace, more: Dict[str, Optional[str]]) -> None:
+    """Puts the settings that options, environment or files may have into the options."""
+    for name in ("limit", "most", "retry"):
+        text = more[name] or MORE[name][1]
+        try:
+            setattr(options, name, time_of(text))
+        except ValueError as fault:
+            raise settings.BadSettings(
+                f"{name}: {text!r} is no time, as '90 minutes' is one"
+            ) from fault
+    options.limit = min(options.limit, options.most)
+    options.clock = more["clock"] or MORE["clock"][1]
+    if options.clock not in ("synchronized", "any"):
+        raise settings.BadSettings(f"clock: {options.clock!r} is neither synchronized nor any")
 
 
 def seconds(text: str) -> float:
@@ -110,23 +154,32 @@ def seconds(text: str) -> float:
     return number
 
 
+def time_of(text: str) -> float:
+    """A time in seconds: a number of them, or `1 hour 30 minutes`."""
+    try:
+        return seconds(text)
+    except ValueError:
+        return limits.time_of(text)
+
+
 def end(status: int, text: str) -> int:
     print(f"farm-dispatch: {text}", file=sys.stderr, flush=True)
     return status
 
 
-def serve(dispatcher: Dispatcher, every: float, wakes, stops: Stops) -> int:
+def serve(dispatcher: Dispatcher, clocks: Clocks, wakes, stops: Stops) -> int:
     """Passes and looks after the jobs until a signal comes, or the desk doesn't take the caller."""
-    due = cleaned = trouble = None
+    due = cleaned = None
+    trouble = ""
     while True:
         now = time.monotonic()
         passes = due is None or now >= due
-        before, trouble = trouble, None
+        before, trouble = trouble, ""
         try:
             if cleaned is None or now >= cleaned + HOUR:
                 cleaned = now
                 dispatcher.remove_old()
-            dispatcher.round(passes)
+            trouble = one_round(dispatcher, clocks, passes)
         except calls.Refused as refusal:
             if refusal.status in (401, 403):
                 return end(
@@ -141,9 +194,20 @@ def serve(dispatcher: Dispatcher, every: float, wakes, stops: Stops) -> int:
         if trouble != before:
             end(0, trouble or "it goes on")
         if passes:
-            due = time.monotonic() + every
+            due = time.monotonic() + dispatcher.options.every
         stops.check()
         wakes.wait(due)
+
+
+def one_round(dispatcher: Dispatcher, clocks: Clocks, passes: bool) -> str:
+    """A round of the dispatcher, where this machine's clock is set. Returns what is in its way."""
+    if not clocks.is_machine_set():
+        return UNSYNCHRONIZED
+    dispatcher.round(passes)
+    warning = clocks.warning()
+    if warning:
+        end(0, warning)
+    return STANDS.format(dispatcher.starts.fault) if dispatcher.starts.fault else ""
 
 
 class Wakes:

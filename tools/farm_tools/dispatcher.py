@@ -9,8 +9,10 @@ import shutil
 import subprocess
 import sys
 import time
+from typing import Dict, Optional, Set
 
-from farm_tools import calls, folders
+from farm_tools import calls, folders, limits
+from farm_tools.starts import Starts
 
 ROOT = os.path.dirname(os.path.dirname(os.path.abspath(__file__)))
 DAY = 86400
@@ -21,25 +23,29 @@ class Dispatcher:
     """The dispatcher of one desk, over a folder of its own."""
 
     def __init__(self, desk, place: str, options):
-        """`options` has `command`, `check`, `grace`, `infra` and `keep`."""
+        """`options` has `command`, `check`, `grace`, `infra`, `keep`, `limit`, `most` and
+        `retry`."""
         self.desk = desk
         self.jobs = os.path.join(place, "jobs")
         self.options = options
+        self.starts = Starts((options.command, options.check), options.retry)
         os.makedirs(self.jobs, mode=0o750, exist_ok=True)
         names = [it for it in os.listdir(self.jobs) if it.isdigit()]
         self.open = {int(it) for it in names if not self._has(int(it), folders.FINISHED)}
-        self.runners = {}
-        self.running = {}
-        self.others = set()
-        self.told = set()
+        self.runners: Dict[int, subprocess.Popen] = {}
+        self.running: Dict[int, int] = {}
+        self.others: Set[int] = set()
+        self.told: Set[str] = set()
 
     def round(self, passes: bool) -> None:
         """Takes up what there is to do, after a pass where one is due, and again after each pass
-        that the end of a job asks for."""
-        if passes:
+        that the end of a job asks for. There is no pass while no command can be started."""
+        self.starts.look()
+        if passes and not self.starts.fault:
             self.desk.nudge("/pass")
-        while self._take_up():
+        while self._take_up() and not self.starts.fault:
             self.desk.nudge("/pass")
+        self.starts.end_round()
 
     def _take_up(self) -> bool:
         """Does what each group that holds boards asks for. Returns whether a group was finished."""
@@ -48,7 +54,8 @@ class Dispatcher:
         ]
         groups = self._groups(sorted(int(it["holder"].split()[1]) for it in boards))
         self.running = {}
-        self.runners = {key: it for key, it in self.runners.items() if it.poll() is None}
+        self.runners = {key: it for key, it in self.runners.items() if it.poll() != 0}
+        self.starts.settle(self._has_started)
         finished = False
         for number, members in groups.items():
             try:
@@ -91,6 +98,8 @@ class Dispatcher:
     def _begin(self, number: int, members, boards) -> None:
         """Starts a group. Its folder is there before the desk is told, so that whoever finds it
         running finds the folder."""
+        if not self.starts.may_start(number):
+            return
         self._prepare(number, members, boards)
         if self._is_started(number):
             self._launch(number, members)
@@ -146,16 +155,20 @@ class Dispatcher:
             "-m",
             "farm_tools.runner",
             self._folder(number),
-            str(self.options.grace),
+            *(str(it) for it in (self.options.grace, self.options.limit, self.options.most)),
             *command,
         ]
-        self.runners[number] = subprocess.Popen(
-            words,
-            cwd=ROOT,
-            env=self._environment(number, members),
-            stdin=subprocess.DEVNULL,
-            start_new_session=True,
-        )
+        try:
+            self.runners[number] = subprocess.Popen(
+                words,
+                cwd=ROOT,
+                env=self._environment(number, members),
+                stdin=subprocess.DEVNULL,
+                start_new_session=True,
+            )
+        except (OSError, subprocess.SubprocessError) as fault:
+            self._not_started(number, str(fault))
+            return
         boards = " ".join(it["board"] for it in members)
         self._tell(f"job {number} of {first['owner']} starts on {boards}")
 
@@ -189,14 +202,25 @@ class Dispatcher:
         ended = self._how_it_ended(number)
         if ended is None and self._lives(number):
             self.running.update({it["number"]: number for it in members})
+            self._end_late(number)
             return False
         ended = ended or self._how_it_ended(number)
+        if ended is not None and ended.startswith(folders.NOT_STARTED):
+            self._not_started(number, ended.partition(": ")[2])
+            if not folders.take_back(self._folder(number)):
+                return False
+            ended = None
         if ended is None and not self._has(number, folders.BEGAN):
             return self._not_begun(number, members, canceled)
-        return self._finish(number, members, ended or "lost")
+        return self._finish(number, members, ended or self._how_it_was_lost(number))
 
     def _not_begun(self, number: int, members, canceled: bool) -> bool:
         """A group that was started, and whose command wasn't begun."""
+        runner = self.runners.pop(number, None)
+        if runner is not None and runner.poll():
+            self._not_started(number, f"its runner ended with status {runner.returncode}")
+        if not canceled and not self.starts.may_start(number):
+            return False
         if not self._is_started(number):
             self._drop(number)
             self._leave(number)
@@ -207,6 +231,18 @@ class Dispatcher:
             )
         self._launch(number, [self.desk.look(f"/jobs/{it['number']}") for it in members])
         return False
+
+    def _not_started(self, number: int, why: str) -> None:
+        """Notes that a group's command couldn't be started. It is tried again, and the group isn't
+        finished by it."""
+        self._tell_once(f"job {number} wasn't started: {why}")
+        self.starts.fail(why)
+
+    def _has_started(self, number: int) -> Optional[bool]:
+        """Whether a group's command runs, or ran; None where it never will."""
+        if self._has(number, folders.STARTED):
+            return True
+        return False if number in self.open else None
 
     def _without_folder(self, number: int, members) -> bool:
         """A group that runs and has no folder: somebody else's, or its folder was removed."""
@@ -228,9 +264,30 @@ class Dispatcher:
             return True
         return folders.is_locked(self._folder(number))
 
-    def _how_it_ended(self, number: int):
+    def _end_late(self, number: int) -> None:
+        """Kills what runs for a group whose time limit was over long ago. The process that runs it
+        would have ended it, so that was lost."""
+        begin = folders.begin_of(self._folder(number))
+        if begin is None or begin[1] <= 0:
+            return
+        began, limit = begin
+        if time.monotonic() < began + limit + self.options.grace + KILLS_AFTER:
+            return
+        if not self._has(number, folders.LATE):
+            text = f"{folders.TIME_LIMIT} of {limits.words_of(limit)}"
+            folders.note(self._folder(number), f"the {text} is long over: SIGKILL")
+            folders.write_synced(self._file(number, folders.LATE), f"{text}, killed")
+        folders.kill_processes_of(self._folder(number))
+
+    def _how_it_was_lost(self, number: int) -> str:
+        return self._text_of(number, folders.LATE) or "lost"
+
+    def _how_it_ended(self, number: int) -> Optional[str]:
+        return self._text_of(number, folders.ENDED)
+
+    def _text_of(self, number: int, name: str) -> Optional[str]:
         try:
-            with open(self._file(number, folders.ENDED), encoding="utf-8") as file:
+            with open(self._file(number, name), encoding="utf-8") as file:
                 return file.read().strip()
         except FileNotFoundError:
             return None
@@ -263,6 +320,8 @@ class Dispatcher:
     def _outcome_of(self, ended: str) -> str:
         if ended == "status 0":
             return "Complete"
+        if ended.startswith(folders.TIME_LIMIT):
+            return "Incomplete"
         if ended.startswith("status ") and ended != f"status {self.options.infra}":
             return "Incomplete"
         return "Infra"
@@ -293,12 +352,18 @@ class Dispatcher:
     def _mark_finished(self, number: int, how: str) -> None:
         if os.path.isdir(self._folder(number)):
             folders.write_synced(self._file(number, folders.FINISHED), f"{how}\n")
-        self.open.discard(number)
+        self._forget(number)
 
     def _drop(self, number: int) -> None:
         """Removes the folder of a group whose command wasn't begun."""
         shutil.rmtree(self._folder(number), ignore_errors=True)
+        self._forget(number)
+
+    def _forget(self, number: int) -> None:
         self.open.discard(number)
+        runner = self.runners.get(number)
+        if runner is not None and runner.poll() is not None:
+            del self.runners[number]
 
     def remove_old(self) -> None:
         """Removes the folders of jobs that were finished longer ago than they are kept."""

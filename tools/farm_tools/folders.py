@@ -3,8 +3,11 @@ happened.
 
     job.toml      the job's text             boards.json   the boards as JSON
     boards        the boards, a line each    log           what its command said
-    began         it was begun, once for all: nobody begins it again
+    began         it was begun, once for all: nobody begins it again; when, by the machine's clock
+                  that nobody sets, and its time limit, in seconds
+    started       its command runs, or ran
     cancel        it shall end
+    late          it was killed for its time limit
     ended         how it ended
     finished      the desk knows how it ended
     unkeyed       the desk had no room to keep the reply to its start
@@ -14,10 +17,14 @@ happened.
 import fcntl
 import os
 import signal
+import time
+from typing import Optional, Tuple
 
-BEGAN, ENDED, CANCEL, FINISHED, UNKEYED = "began", "ended", "cancel", "finished", "unkeyed"
+BEGAN, STARTED, ENDED, FINISHED = "began", "started", "ended", "finished"
+CANCEL, LATE, UNKEYED = "cancel", "late", "unkeyed"
 LOCK, LOG, TEXT, BOARDS = "lock", "log", "job.toml", "boards"
 COOKIE = "FARM_FOLDER"
+NOT_STARTED, TIME_LIMIT = "not started", "time limit"  # how `ended` begins then
 
 
 def sync_folder(folder: str) -> None:
@@ -39,6 +46,20 @@ def write_synced(file: str, text: str) -> None:
     sync_folder(os.path.dirname(file))
 
 
+def line_of(text: str) -> bytes:
+    """A line that the dispatcher adds to a job's log."""
+    return f"farm-dispatch: {text}\n".encode(errors="replace")
+
+
+def note(folder: str, text: str) -> None:
+    """Adds a line to a job's log, where there is room for it."""
+    try:
+        with open(os.path.join(folder, LOG), "ab") as log:
+            log.write(line_of(text))
+    except OSError:
+        pass
+
+
 def take_lock(file: str):
     """The open file, locked until its last copy is closed, or None where another has the lock."""
     opened = os.open(file, os.O_RDWR | os.O_CREAT | os.O_CLOEXEC, 0o640)
@@ -50,15 +71,49 @@ def take_lock(file: str):
     return opened
 
 
-def claim(folder: str) -> bool:
-    """Notes that the job begins. False where that was noted before: of all that ask, one alone is
-    told True."""
+def claim(folder: str, limit: float = 0) -> bool:
+    """Notes that the job begins, and its time limit. False where that was noted before: of all that
+    ask, one alone is told True."""
     file = os.path.join(folder, BEGAN)
     try:
-        os.close(os.open(file, os.O_WRONLY | os.O_CREAT | os.O_EXCL, 0o640))
+        opened = os.open(file, os.O_WRONLY | os.O_CREAT | os.O_EXCL, 0o640)
     except FileExistsError:
         return False
+    try:
+        os.write(opened, f"{time.monotonic()} {limit}\n".encode())
+    except OSError:
+        pass  # that it begins is noted, and the process that runs the job knows its limit
+    finally:
+        os.close(opened)
     sync_folder(folder)
+    return True
+
+
+def begin_of(folder: str) -> Optional[Tuple[float, float]]:
+    """When the job began, as time.monotonic() of this boot tells it, and its time limit. None where
+    that isn't noted."""
+    try:
+        with open(os.path.join(folder, BEGAN), encoding="utf-8") as file:
+            began, limit = file.read().split()
+        return float(began), float(limit)
+    except (OSError, ValueError):
+        return None
+
+
+def take_back(folder: str) -> bool:
+    """Takes back that the job began, since its command couldn't be started: it may be begun again.
+    Returns False where the process that tried it lives still. Cut off in the middle it is to be
+    done again, as `ended` says."""
+    lock = take_lock(os.path.join(folder, LOCK))
+    if lock is None:
+        return False
+    try:
+        for name in (BEGAN, ENDED):
+            if os.path.exists(os.path.join(folder, name)):
+                os.unlink(os.path.join(folder, name))
+                sync_folder(folder)
+    finally:
+        os.close(lock)
     return True
 
 

@@ -2,17 +2,21 @@
 ~/.netrc."""
 import configparser
 import dataclasses
+import difflib
 import getpass
 import netrc
 import os
 import re
 import stat
 import urllib.parse
+from typing import Callable, Dict, Optional, Sequence
 
 SYSTEM_FILE = "/etc/farm/desk.ini"
 SERVER = "http://127.0.0.1:8080"
 LOOPBACK = ("127.0.0.1", "localhost", "::1")
 WORDS = ("server", "user", "password_file", "ca_file", "timeout")
+# The sections of a file, each with its settings.
+SECTIONS = {"desk": WORDS, "dispatch": (*WORDS, "limit", "most", "retry", "clock")}
 
 
 class BadSettings(Exception):
@@ -44,18 +48,26 @@ def add_options(parser) -> None:
     parser.add_argument(
         "--timeout", metavar="SECONDS", help="how long a network call may wait (30)"
     )
+    parser.set_defaults(bad_words=parser.error)
+
+
+def values_of(section: str, options) -> Dict[str, Optional[str]]:
+    """What is said for each setting of a section: options go before the environment
+    (SECTION_SERVER), and files last. A setting that there isn't ends the tool as a misspelt option
+    does, with status 2."""
+    words = SECTIONS[section]
+    around = _environment_of(section, words, options.bad_words)
+    named = options.config or around.get("config")
+    files = _files_read(section, named, options.bad_words)
+    return {word: getattr(options, word) or around.get(word) or files.get(word) for word in words}
 
 
 def read_settings(section: str, options, user=None) -> Settings:
-    """The settings of a tool: options go before the environment (SECTION_SERVER), and files last.
+    """The settings of a tool's calls.
 
     `user` is who asks where nothing names one; without it, the name in ~/.netrc or of the login.
     """
-    files = _files_read(section, options.config or os.environ.get(f"{section.upper()}_CONFIG"))
-    found = {}
-    for word in WORDS:
-        around = os.environ.get(f"{section.upper()}_{word.upper()}")
-        found[word] = getattr(options, word) or around or files.get(word)
+    found = values_of(section, options)
     server = found["server"] or SERVER
     address = _address(server)
     login, password = _password_of(found["password_file"], address.hostname)
@@ -70,18 +82,63 @@ def read_settings(section: str, options, user=None) -> Settings:
     return Settings(server, asks, password, ca_file, _seconds(found["timeout"] or "30"))
 
 
-def _files_read(section: str, named) -> dict:
+def _environment_of(
+    section: str, words: Sequence[str], bad_words: Callable[[str], None]
+) -> Dict[str, str]:
+    """The settings in the environment."""
+    head = f"{section.upper()}_"
+    known = [word.upper() for word in (*words, "config")]
+    found = {}
+    for name in sorted(it for it in os.environ if it.startswith(head)):
+        word = name[len(head) :]
+        if word not in known:
+            bad_words(f"{name} in the environment is no setting: {_meant(word, known, head)}")
+        found[word.lower()] = os.environ[name]
+    return found
+
+
+def _files_read(
+    section: str, named: Optional[str], bad_words: Callable[[str], None]
+) -> Dict[str, str]:
     """The section of the named file, or of the user's file over the system's."""
     own = os.environ.get("XDG_CONFIG_HOME") or os.path.expanduser("~/.config")
     files = [named] if named else [SYSTEM_FILE, os.path.join(own, "farm", "desk.ini")]
-    read = configparser.ConfigParser(interpolation=None)
-    try:
-        done = read.read(files, encoding="utf-8")
-    except (configparser.Error, OSError, UnicodeDecodeError) as fault:
-        raise BadSettings(f"settings: {' '.join(str(fault).split())}") from fault
-    if named and not done:
-        raise BadSettings(f"{named} can't be read")
-    return dict(read[section]) if read.has_section(section) else {}
+    found: Dict[str, str] = {}
+    for file in files:
+        read = configparser.ConfigParser(interpolation=None)
+        try:
+            done = read.read(file, encoding="utf-8")
+        except (configparser.Error, OSError, UnicodeDecodeError) as fault:
+            raise BadSettings(f"settings: {' '.join(str(fault).split())}") from fault
+        if named and not done:
+            raise BadSettings(f"{named} can't be read")
+        found.update(_section_of(file, read, section, bad_words))
+    return found
+
+
+def _section_of(
+    file: str, read: configparser.ConfigParser, section: str, bad_words: Callable[[str], None]
+) -> Dict[str, str]:
+    """The settings of one file's section."""
+    for name in read.sections():
+        if name not in SECTIONS:
+            known = [f"[{it}]" for it in SECTIONS]
+            bad_words(f"{file}: [{name}] is no section: {_meant(f'[{name}]', known)}")
+    found = dict(read[section]) if read.has_section(section) else {}
+    for word in found:
+        if word not in SECTIONS[section]:
+            bad_words(
+                f"{file}: {word} in [{section}] is no setting: {_meant(word, SECTIONS[section])}"
+            )
+    return found
+
+
+def _meant(word: str, known: Sequence[str], head: str = "") -> str:
+    """What a misspelt word may mean. `head` stands before each in what is told."""
+    near = difflib.get_close_matches(word, known, 1)
+    if near:
+        return f"is {head}{near[0]} meant?"
+    return f"there are {', '.join(head + it for it in known)}"
 
 
 def _address(server: str):

@@ -1,0 +1,122 @@
+"""How long a job may run: `[timeouts] job` of its text, written as LAVA writes it, or the
+dispatcher's default, and never longer than the dispatcher's most."""
+import dataclasses
+import math
+import re
+from typing import List, Optional, Tuple
+
+try:
+    import tomllib
+except ImportError:  # Python before 3.11
+    try:
+        import tomli as tomllib
+    except ImportError:
+        tomllib = None
+
+UNITS = {"days": 86400, "hours": 3600, "minutes": 60, "seconds": 1}
+PART = re.compile(r"([0-9]+(?:\.[0-9]+)?) *(day|hour|minute|second)s?(?: *,? *|$)")
+LONGEST = 1e9
+
+
+class BadTime(ValueError):
+    """A text or a table that is no time."""
+
+
+@dataclasses.dataclass(frozen=True)
+class Limit:
+    """For how many seconds a job may run, whether that is the default, and what its log is told of
+    it."""
+
+    seconds: float
+    is_default: bool = False
+    remarks: Tuple[str, ...] = ()
+
+    def words(self) -> str:
+        return words_of(self.seconds) + (" (the default)" if self.is_default else "")
+
+
+def time_of(said: object) -> float:
+    """The seconds of a time: a table of days, hours, minutes and seconds, as LAVA has it, or these
+    as a text, `1 hour 30 minutes`."""
+    if isinstance(said, dict):
+        seconds = sum(_number_of(unit, count) * UNITS[unit] for unit, count in said.items())
+    elif isinstance(said, str):
+        seconds = sum(float(count) * UNITS[f"{unit}s"] for count, unit in _parts_of(said))
+    else:
+        raise BadTime(f"{said!r} has no unit")
+    if not 0 < seconds <= LONGEST:
+        raise BadTime(f"{said!r} is no time")
+    return seconds
+
+
+def _number_of(unit: object, count: object) -> float:
+    if unit not in UNITS:
+        raise BadTime(f"{unit!r} is none of {', '.join(UNITS)}")
+    if isinstance(count, bool) or not isinstance(count, (int, float)):
+        raise BadTime(f"{count!r} is no number of {unit}")
+    if not (math.isfinite(count) and 0 <= count <= LONGEST):
+        raise BadTime(f"{count!r} is no number of {unit}")
+    return count
+
+
+def _parts_of(text: str) -> List[Tuple[str, str]]:
+    """The numbers and units of a text that is such pairs alone."""
+    place = 0
+    found: List[Tuple[str, str]] = []
+    while place < len(text):
+        part = PART.match(text, place)
+        if part is None:
+            raise BadTime(f"{text!r} isn't like '1 hour 30 minutes'")
+        found.append((part[1], part[2]))
+        place = part.end()
+    return found
+
+
+def words_of(seconds: float) -> str:
+    """A time in words, in its two largest units: `1 hour 30 minutes`."""
+    left, parts = int(seconds), []
+    for unit, length in UNITS.items():
+        count, left = divmod(left, length)
+        parts.append(f"{count:,} {unit if count != 1 else unit[:-1]}" if count else "")
+    first = next((place for place, it in enumerate(parts) if it), None)
+    if first is None:
+        return f"{seconds:g} seconds"
+    return " ".join(it for it in parts[first : first + 2] if it)
+
+
+def limit_of(text: str, default: float, most: float) -> Limit:
+    """A job's limit by its text, of which a health check has none."""
+    try:
+        asked = _asked(text)
+    except BadTime as fault:
+        told = f"{fault}: the time limit is {words_of(default)}, the default"
+        return Limit(default, True, (told,))
+    if asked is None:
+        return Limit(default, True)
+    if asked > most:
+        told = f"timeouts.job is {words_of(asked)}: the limit is {words_of(most)}, the most here"
+        return Limit(most, False, (told,))
+    return Limit(asked)
+
+
+def _asked(text: str) -> Optional[float]:
+    """The seconds that a job's text names, or None where it names none."""
+    if not text.strip():
+        return None
+    if tomllib is None:
+        raise BadTime("timeouts aren't read, since this Python has neither tomllib nor tomli")
+    try:
+        table = tomllib.loads(text)
+    except (ValueError, RecursionError) as fault:
+        raise BadTime(f"the job's text can't be read for its timeouts ({fault})") from fault
+    if "timeouts" not in table:
+        return None
+    timeouts = table["timeouts"]
+    if not isinstance(timeouts, dict):
+        raise BadTime("timeouts is no table")
+    if "job" not in timeouts:
+        raise BadTime("timeouts has no 'job'")
+    try:
+        return time_of(timeouts["job"])
+    except BadTime as fault:
+        raise BadTime(f"timeouts.job can't be read: {fault}") from fault
