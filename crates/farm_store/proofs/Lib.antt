@@ -20,6 +20,7 @@ pub mod ColumnsFrom
 pub mod Selects
 pub mod RowSelects
 pub mod Versions
+pub mod TablesTell
 pub mod TagsRead
 pub mod ReadRows
 pub mod NumberRows

@@ -1,8 +1,8 @@
 -- The version that the query of the numbers tells.
 use Rattle.std.proofs.Common.{refl, ◌≡◌, ◌+◌, ℕ, Bool, true, false, if◌then◌else◌, List, [], Option, Some, None, Ok, Err, is_ok, sym, ap, subst, ◌∙◌}
 use Rattle.sqlite.specs.Clock.{timed as with_time}
-use Rattle.sqlite.specs.Effect.{Database, Reads}
-use Rattle.sqlite.specs.Listing.{understood, reads_listing, misses_table, if_select, listing_schema, IsSourceOf}
+use Rattle.sqlite.specs.Effect.{Reads}
+use Rattle.sqlite.specs.Listing.{understood, reads_listing, if_select, listing_schema, IsSourceOf}
 use Rattle.sqlite.specs.Order.{Row}
 use Rattle.sqlite.specs.Schema.{Schema}
 use Rattle.sqlite.specs.State.{State, Shown, ShowsRows}

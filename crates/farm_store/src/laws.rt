@@ -1,12 +1,14 @@
 //! Laws over the tables.
-ghost use Rattle.std.specs.Prelude.{◌≡◌, ◌≢◌};
+ghost use Rattle.std.specs.Prelude.{◌≡◌, ◌≢◌, ℕ};
+ghost use Rattle.sqlite.specs.Effect.{Database};
 ghost use Rattle.sqlite.specs.Held.{state};
 ghost use Rattle.sqlite.specs.State.{IsLive, Opens};
 ghost use Rattle.farm_types.specs.Farm.{Farm};
 ghost use Rattle.farm_store.specs.Agreed.{SchemasAgree};
-ghost use Rattle.farm_store.specs.Columns.{Tables, first_rows_of, rows_of};
-ghost use Rattle.farm_store.specs.Holds.{Holds, Stands};
+ghost use Rattle.farm_store.specs.Columns.{IsOfSchema, Tables, first_rows_of, rows_of};
+ghost use Rattle.farm_store.specs.Holds.{Holds, ShowsTables, Stands};
 ghost use Rattle.farm_store.specs.Readable.{IsReadable, IsReadableFirst};
+ghost use Rattle.farm_store.specs.Versions.{MayTell, Tells};
 ghost use Rattle.farm_types.specs.Sound.{IsSound};
 
 use sqlite::{Alter, Connection};
@@ -14,6 +16,14 @@ use sqlite::{Alter, Connection};
 /// The versions of the tables that the code writes and tests are those of the definitions.
 pub fn schemas_agree()
     ensures { SchemasAgree }
+{}
+
+/// Where the farm's six tables stand, what `meta` tells is what its rows tell.
+pub fn tables_tell()
+    ensures may { (db : Database) (T : Tables) → ShowsTables db T → (version : ℕ)
+        → MayTell version db → IsOfSchema version T }
+    ensures tells { (db : Database) (T : Tables) → ShowsTables db T → (version : ℕ)
+        → IsOfSchema version T → Tells version db }
 {}
 
 /// A connection that was just opened on the farm's tables stands for them: they have the farm's
