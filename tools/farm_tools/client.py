@@ -4,7 +4,19 @@ import json
 import os
 import sys
 
-from farm_tools import calls, holding, settings, signals, tables, waiting
+from farm_tools import (
+    admin,
+    calls,
+    clock,
+    holding,
+    interrupts,
+    job_file,
+    settings,
+    tables,
+    waiting,
+    wants,
+)
+from farm_tools.version import VERSION
 
 ENDED, REFUSED, FAULT = 1, 3, 4
 PATIENCE = 15
@@ -19,11 +31,24 @@ back; 126 and 127 where the command can't be run or found."""
 
 def main(words=None) -> int:
     options = options_of(sys.argv[1:] if words is None else words)
-    signals.catch_signals()
+    interrupts.catch_signals()
+    try:
+        return status_of(options)
+    except interrupts.Interrupted as it:
+        return it.status
+
+
+def status_of(options) -> int:
+    """Does what the options ask for. Returns the exit status."""
     fault_status = holding.OF_ITSELF if options.does is holding.run_with_board else FAULT
     try:
-        desk = calls.Desk(settings.read_settings("desk", options), PATIENCE)
-        return options.does(desk, options)
+        desk = calls.Desk(settings.read_settings("desk", options, options.asks_as), PATIENCE)
+        desk.tell_trouble = Trouble(desk).tell
+        options.clock = clock.Clock(desk)
+        status = options.does(desk, options)
+        if not options.clock.has_looked:
+            options.clock.look()
+        return status
     except calls.Refused as refusal:
         return told(REFUSED, f"refused: {refusal}")
     except waiting.Gone as end:
@@ -35,8 +60,19 @@ def main(words=None) -> int:
         return fault_status
     except (settings.BadSettings, OSError) as fault:
         return told(fault_status, str(fault))
-    except signals.Interrupted as it:
-        return it.status
+
+
+class Trouble:
+    """Tells once that the desk gives no answer and is asked again."""
+
+    def __init__(self, desk):
+        self.server = desk.server
+        self.is_told = False
+
+    def tell(self, trouble: str) -> None:
+        if not self.is_told:
+            self.is_told = True
+            told(FAULT, f"waiting for the desk at {self.server}: {trouble}")
 
 
 def told(status: int, text: str) -> int:
@@ -73,6 +109,8 @@ def parser_of():
     )
     settings.add_options(parser)
     parser.add_argument("--json", action="store_true", help="print what the desk answers")
+    parser.add_argument("--version", action="version", version=f"desk {VERSION}")
+    parser.set_defaults(asks_as=None)
     also = argparse.ArgumentParser(add_help=False)
     also.add_argument(
         "--json", action="store_true", default=argparse.SUPPRESS, help="print what the desk answers"
@@ -87,6 +125,7 @@ def parser_of():
     add_views(command)
     add_jobs(command)
     add_reservations(command)
+    admin.add_commands(command)
     return parser
 
 
@@ -189,17 +228,23 @@ def print_json(said) -> None:
 
 
 def show_boards(desk, options) -> int:
-    wanted = set(options.tags)
-    rows = [
-        it for it in desk.look("/boards")["boards"] if wanted <= {*it["tags"], f"name={it['name']}"}
-    ]
+    want = wants.Want("", tuple(options.tags))
+    rows = [it for it in desk.look("/boards")["boards"] if wants.fits(it, want)]
     return show(options, {"boards": rows}, rows, tables.BOARDS)
 
 
 def show_queue(desk, options) -> int:
     said = desk.look("/queue")
-    rows = [{**it, "place": place} for place, it in enumerate(said["queue"], 1)]
-    return show(options, said, rows, tables.QUEUE)
+    if options.json:
+        print_json(said)
+        return 0
+    notes = wants.notes_of(desk, said["queue"])
+    rows = [
+        {**it, "place": place, "note": notes.get(it["number"], "")} for place, it in enumerate(
+            said["queue"], 1
+        )
+    ]
+    return show(options, said, rows, tables.QUEUE + (tables.NOTE if any(notes.values()) else []))
 
 
 def show_reservations(desk, options) -> int:
@@ -212,11 +257,20 @@ def show_reservations(desk, options) -> int:
 
 
 def show_jobs(desk, options) -> int:
-    rows = [desk.look(f"/jobs/{it}") for it in options.numbers]
+    """Shows the jobs that are there; those that aren't are told."""
+    rows, status = [], 0
+    for number in options.numbers:
+        try:
+            rows.append(desk.look(f"/jobs/{number}"))
+        except calls.Refused as refusal:
+            if refusal.code != calls.NO_JOB:
+                raise
+            status = told(REFUSED, f"job {number}: refused: {refusal}")
     if options.text:
         sys.stdout.write("".join(it["text"] for it in rows))
-        return 0
-    return show(options, {"jobs": rows}, rows, tables.JOBS)
+    elif rows:
+        show(options, {"jobs": rows}, rows, tables.JOBS)
+    return status
 
 
 # ---- jobs
@@ -228,13 +282,27 @@ def submit_job(desk, options) -> int:
     else:
         with open(options.file, "rb") as file:
             text = file.read()
-    said = desk.tell("/jobs", text, calls.fresh_key())
+    if options.wait:
+        options.clock.look()
+    try:
+        said = desk.tell("/jobs", text, calls.fresh_key())
+    except calls.Refused as refusal:
+        fault = job_file.fault_of(text) if refusal.code in calls.BAD_JOB_FILE else None
+        raise refusal.about(fault) if fault else refusal
+    options.clock.note_own()
     print_number(options, said)
     return await_end(desk, options, said["number"]) if options.wait else 0
 
 
 def cancel_job(desk, options) -> int:
-    said = desk.tell(f"/jobs/{options.number}/cancel", key=calls.fresh_key())
+    try:
+        said = desk.tell(f"/jobs/{options.number}/cancel", key=calls.fresh_key())
+    except calls.Refused as refusal:
+        if refusal.code != calls.WRONG_JOB_STATE:
+            raise
+        job = desk.look(f"/jobs/{options.number}")
+        how = f" ({job['result']})" if job["result"] else ""
+        raise refusal.about(f"job {options.number} is {job['state']}{how}")
     if options.json:
         print_json(said)
     return 0
@@ -250,7 +318,10 @@ def print_number(options, said: dict) -> None:
 def await_end(desk, options, job: int) -> int:
     """Waits for a job's end, and prints how it ended. The status says whether all members are
     Complete."""
-    members = waiting.wait_for_end(desk, job, options.every)
+    try:
+        members = waiting.wait_for_end(desk, job, options)
+    except interrupts.Interrupted as it:
+        return told(it.status, f"job {job} goes on; desk cancel {job} ends it")
     if options.json:
         print_json({"jobs": members})
     else:
@@ -269,17 +340,21 @@ def reserve_board(desk, options) -> int:
         print_number(options, {"number": reservation.number})
         return 0
     try:
+        options.clock.look()
         reservation.ask()
+        options.clock.note_own()
         print_number(options, {"number": reservation.number})
         return await_board(reservation, options)
-    except signals.Interrupted as it:
+    except interrupts.Interrupted as it:
         reservation.give_back()
         return it.status
 
 
 def await_board(reservation, options) -> int:
     """Waits for a reservation's board, acquires it where that is asked for, and prints it."""
-    board = waiting.wait_for_board(reservation.desk, reservation.number, options.every)
+    board = waiting.wait_for_board(
+        reservation.desk, reservation.number, reservation.tags, options
+    )
     if options.acquire:
         reservation.acquire()
     if options.json:
@@ -291,6 +366,7 @@ def await_board(reservation, options) -> int:
 
 def wait_for(desk, options) -> int:
     """Waits for a job's end or a reservation's board: both draw their numbers from one counter."""
+    options.clock.look()
     try:
         desk.look(f"/jobs/{options.number}")
     except calls.Refused as refusal:
@@ -299,7 +375,8 @@ def wait_for(desk, options) -> int:
     else:
         return await_end(desk, options, options.number)
     desk.nudge(f"/reservations/{options.number}/refresh")
-    reservation = holding.Reservation(desk, [], None)
+    options.clock.note_own()
+    reservation = holding.Reservation(desk, None, None)
     reservation.number = options.number
     options.acquire = False
     return await_board(reservation, options)
@@ -309,9 +386,15 @@ def change_reservation(desk, options) -> int:
     """Acquires, releases, refreshes or cancels. A refresh that is done twice does no harm, and has
     no key."""
     path = f"/reservations/{options.number}/{options.action}"
-    said = desk.nudge(path) if options.action == "refresh" else desk.tell(
-        path, key=calls.fresh_key()
-    )
+    try:
+        said = desk.nudge(path) if options.action == "refresh" else desk.tell(
+            path, key=calls.fresh_key()
+        )
+    except calls.Refused as refusal:
+        if refusal.code != calls.WRONG_RESERVATION_STATE:
+            raise
+        state = waiting.row_of(desk, options.number)["state"]
+        raise refusal.about(f"reservation {options.number} is {state}")
     if options.json:
         print_json(said)
     elif options.action == "acquire":
