@@ -1,11 +1,11 @@
 #!/usr/bin/env python3
 """Lets the client desk use a served farm: python3 tests/client.py bin/farm
 
-Each row prints a line and says what it saw: views, groups, jobs, reservations, `with`, keys over lost
-answers, settings, passwords and exit statuses; those of client_told.py, what the client tells of clocks,
-waits and refusals; those of client_admin.py, an admin's commands, imports, completion. Ends with status 1
-at the first thing that isn't as it should be, and with 77 where the machine lacks what it wants. Takes
-about two minutes.
+Each row prints a line and says what it saw: views, groups, jobs, reservations, `with`, keys over
+lost answers, settings, passwords and exit statuses; those of client_told.py, what the client tells
+of clocks, waits and refusals; those of client_admin.py, an admin's commands, imports, completion.
+Ends with status 1 at the first thing that isn't as it should be, and with 77 where the machine
+lacks what it wants. Takes about two minutes.
 """
 import base64
 import json

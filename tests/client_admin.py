@@ -125,14 +125,18 @@ def imports(farm, folder):
     return "a lab file is imported over HTTP as by the program, and each keeps what the other added"
 
 
+def refuses(lab, folder, wanted, *lines, user=""):
+    """Demands that a lab file of these lines is refused in these words."""
+    file = write(folder, "refused.toml", "".join(f"{it}\n" for it in lines))
+    demand(lines, (3, "", f"desk: {file}: {wanted}\n"), desk(lab, "import", file, user=user))
+
+
 def refused_imports(farm, folder):
     lab = farm_of_its_own(farm, folder)
     lab.tell("admin", "/types", {"name": "rpi"})
-    file = os.path.join(folder, "refused.toml")
 
-    def tells(wanted, *lines, user=""):
-        write(folder, "refused.toml", "".join(f"{it}\n" for it in lines))
-        demand(lines, (3, "", f"desk: {file}: {wanted}\n"), desk(lab, "import", file, user=user))
+    def tells(*words, **more):
+        refuses(lab, folder, *words, **more)
 
     tells(
         "line 6: board b1: 10 no such type; before it: accepted 1, kept 0",
@@ -157,6 +161,17 @@ def refused_imports(farm, folder):
         "[types.ccc]",
         user="ann",
     )
+    demand("what was added", ["bbb", "rpi"], names_of_types(lab))
+    lab.kill()
+    return "an import that is refused names the line of the file"
+
+
+def names_of_types(lab):
+    return [it["name"] for it in lab.look("/types")["types"]]
+
+
+def bad_lab_files(farm, folder):
+    lab = farm_of_its_own(farm, folder)
     for board, why in (
         (['type = "bbb"', 'tags = ["a b"]'], "'a b' isn't a tag: a key, or key=value"),
         (
@@ -167,16 +182,19 @@ def refused_imports(farm, folder):
         (["type = 3"], "type isn't a text"),
     ):
         wanted = f"bad lab file: line 2: board b1: {why}"
-        tells(wanted, "[types.ddd]", "[boards.b1]", *board)
-    hours = "bad lab file: line 1: type x:"
-    tells(f"{hours} there is no every", "[types.x]", 'check = "hours"')
-    tells(f"{hours} every is 0, and is 1 to 10,000", "[types.x]", "every = 0", 'check = "jobs"')
-    tells("bad lab file: types isn't a table", "types = 1")
-    demand("nothing was added", ["bbb", "rpi"], [it["name"] for it in lab.look("/types")["types"]])
+        refuses(lab, folder, wanted, "[types.ddd]", "[boards.b1]", *board)
+    for check, why in (
+        (['check = "hours"'], "there is no every"),
+        (["every = 0", 'check = "jobs"'], "every is 0, and is 1 to 10,000"),
+        (['check = "days"'], "check is none of none, hours and jobs"),
+    ):
+        refuses(lab, folder, f"bad lab file: line 1: type x: {why}", "[types.x]", *check)
+    refuses(lab, folder, "bad lab file: types isn't a table", "types = 1")
+    demand("nothing was added", [], names_of_types(lab))
     demand("no TOML", 3, desk(lab, "import", "-", given="x", user="")[0])
     demand("no file", 4, desk(lab, "import", "/nonexistent", user="")[0])
     lab.kill()
-    return "an import that is refused names the line of the file, and a bad file adds nothing"
+    return "a lab file with a fault is told by its line, and adds nothing"
 
 
 def readers(farm, folder):
@@ -205,8 +223,8 @@ def readers(farm, folder):
 def lines_of_a_file(farm, folder):
     del farm, folder
     text = "x = 1\n[a.b]\nc = [\n1,\n]\n[a]\nd.e = 3\n\nf = '''\n\n'''\n"
-    for path, line in ((["x"], 1), (["a", "b"], 2), (["a", "b", "c"], 3), (["a", "d", "e"], 7), (["a", "f"], 9)):
-        demand(path, line, toml_text.line_of(text, path))
+    for path, line in (("x", 1), ("a.b", 2), ("a.b.c", 3), ("a.d.e", 7), ("a.f", 9)):
+        demand(path, line, toml_text.line_of(text, path.split(".")))
     return "what stands in a TOML file is found by its line"
 
 
@@ -265,6 +283,7 @@ ROWS = [
     admin_commands,
     imports,
     refused_imports,
+    bad_lab_files,
     readers,
     lines_of_a_file,
     version,

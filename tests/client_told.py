@@ -96,7 +96,8 @@ def clock_ahead(farm, folder):
     tell_at(lab, time.time() + 30, "dispatcher", "/pass")
     prints(lab, '{"queue":[]}\n', "--json", "queue")
     tell_at(lab, time.time() + 3 * 86400 + 600, "dispatcher", "/pass")
-    told = "desk: the farm's clock is 3 days ahead of this machine's: leases won't end until then\n"
+    ahead = "the farm's clock is 3 days ahead of this machine's"
+    told = f"desk: {ahead}: leases won't end until then\n"
     demand("a view", (0, '{"queue":[]}\n', told), desk(lab, "--json", "queue"))
     demand("a command", (0, "1\n", told), desk(lab, "reserve"))
     tool = waiting_tool(lab, folder, "wait", "1", "--every", "0.1")
@@ -265,7 +266,8 @@ def waits_for_ever(farm, folder):
     file = write(folder, "pair.toml", GROUP)
     tool = waiting_tool(farm, folder, "submit", file, "--wait", "--every", "0.1")
     group = int(wait_until("its number", lambda: tool.output().strip()))
-    lack = "of 2 boards (bbb) only 1 can come: b2 is in Maintenance"
+    out = "b2 is in Maintenance"
+    lack = f"of 2 boards (bbb) only 1 can come: {out}"
     told = f"job {group} is Submitted, place 1 of 1 in the queue: {lack}\n"
     wait_until("why it waits", lambda: told in tool.errors())
     passes(farm)
@@ -276,7 +278,7 @@ def waits_for_ever(farm, folder):
     demand("the queue", f"""\
 PLACE NUMBER KIND        PRIORITY BOARDS OWNER NOTE
     1 {group:6} group             50      2 ann   collects boards; {lack}
-    2 {numbers[0]:6} reservation       50      1 ann   no board with name=b2 can come: b2 is in Maintenance
+    2 {numbers[0]:6} reservation       50      1 ann   no board with name=b2 can come: {out}
     3 {numbers[1]:6} reservation        0      1 ann
 """, desk(farm, "queue")[1])
     for number in numbers:
@@ -287,7 +289,7 @@ PLACE NUMBER KIND        PRIORITY BOARDS OWNER NOTE
     tool.send(signal.SIGINT)
     tool.ends()
     prints(farm, "", "cancel", str(group))
-    return "claims that no boards can come for are marked in the queue, and while one waits for them"
+    return "claims that no boards can come for are marked in the queue and in waits"
 
 
 # ---- refusals

@@ -1,16 +1,15 @@
-"""What an admin tells the desk: types, boards, their tags and health, and a lab file of all that."""
+"""What an admin tells the desk: types, boards, their tags and health, and a lab file."""
 import argparse
-import json
 import sys
 
-from farm_tools import calls, lab_import
+from farm_tools import calls, lab_import, views
 
 REFUSED = 3
 HEALTHS = ("Good", "Bad", "Unknown", "Maintenance", "Retired")
 
 
 def add_commands(command) -> None:
-    """Adds the words of these commands; each asks as the admin where nothing names another."""
+    """Adds these commands, each of which asks as the admin where nothing names another."""
     health = command("health", set_health, "set the health of boards")
     health.add_argument("boards", metavar="BOARD", nargs="+", help="a board's name")
     health.add_argument("health", metavar="HEALTH", type=health_called, help=", ".join(HEALTHS))
@@ -77,5 +76,5 @@ def give(desk, options, path: str, body: dict) -> int:
     """Gives one command under a fresh key."""
     said = desk.tell(path, body, calls.fresh_key())
     if options.json:
-        print(json.dumps(said, separators=(",", ":")), flush=True)
+        views.print_json(said)
     return 0

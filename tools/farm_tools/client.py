@@ -1,6 +1,5 @@
 """desk: the desk of a board farm, from a terminal or a script."""
 import argparse
-import json
 import os
 import sys
 
@@ -12,9 +11,8 @@ from farm_tools import (
     interrupts,
     job_file,
     settings,
-    tables,
+    views,
     waiting,
-    wants,
 )
 from farm_tools.version import VERSION
 
@@ -33,7 +31,9 @@ def main(words=None) -> int:
     options = options_of(sys.argv[1:] if words is None else words)
     interrupts.catch_signals()
     try:
-        return status_of(options)
+        status = status_of(options)
+        interrupts.ignore_signals()  # nothing is left to be interrupted
+        return status
     except interrupts.Interrupted as it:
         return it.status
 
@@ -46,7 +46,7 @@ def status_of(options) -> int:
         desk.tell_trouble = Trouble(desk).tell
         options.clock = clock.Clock(desk)
         status = options.does(desk, options)
-        if not options.clock.has_looked:
+        if status == 0 and not options.clock.has_looked:
             options.clock.look()
         return status
     except calls.Refused as refusal:
@@ -130,16 +130,22 @@ def parser_of():
 
 
 def add_views(command) -> None:
-    boards = command("boards", show_boards, "show the boards, or those that have all of these tags")
+    boards = command(
+        "boards", views.show_boards, "show the boards, or those that have all of these tags"
+    )
     boards.add_argument("tags", metavar="TAG", nargs="*", help="a tag of the board, or name=BOARD")
-    command("queue", show_queue, "show what waits for boards, in the order in which it is served")
-    rows = command("reservations", show_reservations, "show the reservations that haven't ended")
+    command(
+        "queue", views.show_queue, "show what waits for boards, in the order in which it is served"
+    )
+    rows = command(
+        "reservations", views.show_reservations, "show the reservations that haven't ended"
+    )
     rows.add_argument("--all", action="store_true", help="those that have ended too")
     rows.add_argument("--mine", action="store_true", help="those of the user alone")
 
 
 def add_jobs(command) -> None:
-    jobs = command("jobs", show_jobs, "show jobs")
+    jobs = command("jobs", views.show_jobs, "show jobs")
     jobs.add_argument("--text", action="store_true", help="print the text that was submitted")
     jobs.add_argument("numbers", metavar="N", nargs="+", type=number, help="a job's number")
     submit = command("submit", submit_job, "submit a job file, and print the job's number")
@@ -211,68 +217,6 @@ def seconds(text: str) -> float:
     return given
 
 
-# ---- views
-
-
-def show(options, said: dict, rows, columns) -> int:
-    """Prints what the desk answered, or its rows as lines."""
-    if options.json:
-        print_json(said)
-    else:
-        print("\n".join(tables.lines_of(rows, columns)))
-    return 0
-
-
-def print_json(said) -> None:
-    print(json.dumps(said, ensure_ascii=False, separators=(",", ":")), flush=True)
-
-
-def show_boards(desk, options) -> int:
-    want = wants.Want("", tuple(options.tags))
-    rows = [it for it in desk.look("/boards")["boards"] if wants.fits(it, want)]
-    return show(options, {"boards": rows}, rows, tables.BOARDS)
-
-
-def show_queue(desk, options) -> int:
-    said = desk.look("/queue")
-    if options.json:
-        print_json(said)
-        return 0
-    notes = wants.notes_of(desk, said["queue"])
-    rows = [
-        {**it, "place": place, "note": notes.get(it["number"], "")} for place, it in enumerate(
-            said["queue"], 1
-        )
-    ]
-    return show(options, said, rows, tables.QUEUE + (tables.NOTE if any(notes.values()) else []))
-
-
-def show_reservations(desk, options) -> int:
-    rows = desk.look("/reservations")["reservations"]
-    if not options.all:
-        rows = [it for it in rows if it["state"] not in tables.ENDED]
-    if options.mine:
-        rows = [it for it in rows if it["owner"] == desk.user]
-    return show(options, {"reservations": rows}, rows, tables.RESERVATIONS)
-
-
-def show_jobs(desk, options) -> int:
-    """Shows the jobs that are there; those that aren't are told."""
-    rows, status = [], 0
-    for number in options.numbers:
-        try:
-            rows.append(desk.look(f"/jobs/{number}"))
-        except calls.Refused as refusal:
-            if refusal.code != calls.NO_JOB:
-                raise
-            status = told(REFUSED, f"job {number}: refused: {refusal}")
-    if options.text:
-        sys.stdout.write("".join(it["text"] for it in rows))
-    elif rows:
-        show(options, {"jobs": rows}, rows, tables.JOBS)
-    return status
-
-
 # ---- jobs
 
 
@@ -304,13 +248,13 @@ def cancel_job(desk, options) -> int:
         how = f" ({job['result']})" if job["result"] else ""
         raise refusal.about(f"job {options.number} is {job['state']}{how}")
     if options.json:
-        print_json(said)
+        views.print_json(said)
     return 0
 
 
 def print_number(options, said: dict) -> None:
     if options.json:
-        print_json(said)
+        views.print_json(said)
     else:
         print(said["number"], flush=True)
 
@@ -323,7 +267,7 @@ def await_end(desk, options, job: int) -> int:
     except interrupts.Interrupted as it:
         return told(it.status, f"job {job} goes on; desk cancel {job} ends it")
     if options.json:
-        print_json({"jobs": members})
+        views.print_json({"jobs": members})
     else:
         for it in members:
             print(f"{it['number']} {it['result']} {it['board'] or '-'}")
@@ -358,7 +302,7 @@ def await_board(reservation, options) -> int:
     if options.acquire:
         reservation.acquire()
     if options.json:
-        print_json({"board": board["name"], "number": reservation.number})
+        views.print_json({"board": board["name"], "number": reservation.number})
     else:
         print(board["name"], flush=True)
     return 0
@@ -396,7 +340,7 @@ def change_reservation(desk, options) -> int:
         state = waiting.row_of(desk, options.number)["state"]
         raise refusal.about(f"reservation {options.number} is {state}")
     if options.json:
-        print_json(said)
+        views.print_json(said)
     elif options.action == "acquire":
         board = waiting.board_of(desk, options.number)
         print(board["name"] if board else "-")

@@ -74,7 +74,8 @@ def ahead(status: dict) -> str:
     seconds = status["clock"] - time.time()
     if seconds <= AHEAD:
         return ""
-    return f"the farm's clock is {span(seconds)} ahead of this machine's: leases won't end until then"
+    how = f"{span(seconds)} ahead of this machine's"
+    return f"the farm's clock is {how}: leases won't end until then"
 
 
 def span(seconds: float) -> str:

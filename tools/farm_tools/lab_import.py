@@ -2,7 +2,7 @@
 import sys
 from typing import List, NamedTuple
 
-from farm_tools import calls, toml_text, words
+from farm_tools import calls, toml_text, views, words
 from farm_tools.words import BadFile
 
 CHECKS = ("none", "hours", "jobs")
@@ -26,8 +26,8 @@ class Addition(NamedTuple):
 
 
 def additions_of(text: str) -> List[Addition]:
-    """The commands of a lab file in the order of `farm import`: the types in the byte order of their
-    names, then the boards in theirs. The first fault is raised as BadFile."""
+    """The commands of a lab file in the order of `farm import`: the types in the byte order of
+    their names, then the boards in theirs. The first fault is raised as BadFile."""
     try:
         tree = toml_text.tree_of(text)
     except toml_text.NotToml as fault:
@@ -92,7 +92,7 @@ def import_lab(desk, options) -> int:
         else:
             accepted += 1
     if options.json:
-        print(f'{{"accepted":{accepted},"kept":{kept}}}')
+        views.print_json({"accepted": accepted, "kept": kept})
     else:
         print(f"accepted {accepted}, kept {kept}")
     return 0

@@ -169,7 +169,7 @@ def wait_for_board(desk, number: int, tags: Optional[list], options) -> dict:
         progress.show(f"reservation {number} is {state}")
         return None
 
-    return wait.until_there(look, options.every)
+    return wait.until_there(look, min(options.every, REFRESH))
 
 
 def row_of(desk, number: int) -> dict:

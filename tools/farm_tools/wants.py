@@ -1,5 +1,6 @@
 """What claims want, which boards fit, and why they don't get them."""
 import itertools
+import time
 from typing import Dict, List, NamedTuple, Set, Tuple
 
 # The healths of boards that nobody gets, as they are told.
@@ -126,8 +127,9 @@ def checked_types(desk) -> Set[str]:
 
 # ---- the queue
 
-# Of so many claims from the head of the queue on it is asked what they want, a call a job.
-MOST_ASKED = 50
+# Of so many claims from the head of the queue on, and for so many seconds, it is asked what they
+# want, a call a job; of the group that collects in any case.
+MOST_ASKED, LONGEST_ASKED = 50, 3.0
 
 
 def notes_of(desk, queue: List[dict]) -> Dict[int, str]:
@@ -140,10 +142,11 @@ def notes_of(desk, queue: List[dict]) -> Dict[int, str]:
     reservations = {}
     if any(it["kind"] == "reservation" for it in queue[:MOST_ASKED]):
         reservations = {it["number"]: it for it in desk.look("/reservations")["reservations"]}
+    until = time.monotonic() + LONGEST_ASKED
     notes = {}
     for place, claim in enumerate(queue):
         collects = claim["kind"] == "group" and claim["number"] == collector
-        if place >= MOST_ASKED and not collects:
+        if not collects and (place >= MOST_ASKED or time.monotonic() > until):
             continue
         lack = lab.lack(wants_of(desk, claim, reservations))
         notes[claim["number"]] = "; ".join(
