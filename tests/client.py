@@ -199,7 +199,7 @@ class Refreshed:
     def __init__(self, program, folder):
         self.farm = Farm(program, tempfile.mkdtemp(dir=folder), BOARDS[:1])
         self.farm.tell("admin", "/boards/b1/health", {"health": "Maintenance"})
-        self.tool = waiting_tool(self.farm, folder, "reserve", "--wait", "--every", "0.5")
+        self.tool = waiting_tool(self.farm, folder, "reserve", "--wait", "--every", "60")
         self.number = int(wait_until("its number", lambda: self.tool.output().strip()))
         self.first = self.farm.reservation(self.number)["deadline"]
 
@@ -207,12 +207,12 @@ class Refreshed:
         wait_until(
             "a refresh", lambda: self.farm.reservation(self.number)["deadline"] > self.first, 30
         )
-        told = re.compile(r"^desk: no pass for 3\d s: is farm-dispatch running\?$", re.MULTILINE)
+        told = re.compile(r"^desk: no pass for [34]\d s: is farm-dispatch running\?$", re.MULTILINE)
         wait_until("a warning", lambda: told.search(self.tool.errors()))
         self.tool.send(signal.SIGTERM)
         demand("its status", 143, self.tool.ends())
         self.farm.kill()
-        return "a reservation that waits is refreshed, and says that no pass comes"
+        return "a reservation that waits is refreshed in time, and says that no pass comes"
 
 
 def on_a_terminal(farm, folder):

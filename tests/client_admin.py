@@ -39,13 +39,23 @@ TEXTS = [
     "=1",
     "a",
     "a=",
-    "a={b=1,}",
+    "a={,}",
     'a="x\ny"',
     "a=[1,2",
     'a="\x01"',
     "[a",
     "[]",
     "a=truex",
+]
+# what TOML 1.1 has beyond 1.0, and what it comes to
+NEWER = [
+    ("a={b=1,}", {"a": {"b": 1}}),
+    ("a = {\n  b = 1, # one\n  c = [\n],\n}\n", {"a": {"b": 1, "c": []}}),
+    ('a="\\x62\\e"', {"a": "b\x1b"}),
+    ("a=10:30\nb=2026-11-26 10:30Z", {"a": ("10:30",), "b": ("2026-11-26 10:30Z",)}),
+    ("a=2026-02-30T10:30Z", None),
+    ("a=24:00", None),
+    ('a="\\ud800"', None),
 ]
 
 
@@ -91,23 +101,25 @@ def admin_commands(farm, folder):
     return "an admin adds types and boards, and sets tags and health, by the client"
 
 
+def import_by_program(lab, file):
+    """What `farm import` prints, over a farm that isn't served meanwhile."""
+    lab.kill()
+    words = [lab.program, "import", "--db", lab.db, "--at", str(int(time.time())), file]
+    ran = subprocess.run(words, capture_output=True, text=True, check=False)
+    lab.start()
+    return ran.stdout
+
+
 def imports(farm, folder):
     """Over HTTP and by the program, one after the other, either first."""
     first, second = (farm_of_its_own(farm, folder) for _ in range(2))
 
-    def by_program(lab):
-        lab.kill()
-        words = [lab.program, "import", "--db", lab.db, "--at", str(int(time.time())), EXAMPLE]
-        ran = subprocess.run(words, capture_output=True, text=True, check=False)
-        lab.start()
-        return ran.stdout
-
     demand("over HTTP", (0, "accepted 15, kept 0\n", ""), desk(first, "import", EXAMPLE, user=""))
     demand("again", (0, "accepted 0, kept 15\n", ""), desk(first, "import", EXAMPLE, user=""))
-    demand("by the program", "accepted 15, kept 0\n", by_program(second))
+    demand("by the program", "accepted 15, kept 0\n", import_by_program(second, EXAMPLE))
     for view in ("/types", "/boards"):
         demand(view, second.look(view), first.look(view))
-    demand("by the program, after HTTP", "accepted 0, kept 15\n", by_program(first))
+    demand("by the program, after HTTP", "accepted 0, kept 15\n", import_by_program(first, EXAMPLE))
     demand(
         "over HTTP, after the program",
         (0, '{"accepted":0,"kept":15}\n', ""),
@@ -220,6 +232,24 @@ def readers(farm, folder):
     return f"the small reader of TOML reads {len(texts)} texts as Python's own does"
 
 
+def newer_toml(farm, folder):
+    """A lab file in the words of TOML 1.1, which the program takes."""
+    for text, wanted in NEWER:
+        try:
+            found = toml_text.tree_of(text)
+        except toml_text.NotToml:
+            found = None
+        demand(text, wanted, found)
+    lab = farm_of_its_own(farm, folder)
+    text = 'types.bbb = {\n  check = "hours",\n  every = 3,\n}\nboards.b1 = {type = "\\x62bb",}\n'
+    told = "accepted 2, kept 0\n"
+    demand("over HTTP", (0, told, ""), desk(lab, "import", "-", given=text, user=""))
+    told = "accepted 0, kept 2\n"
+    demand("by the program", told, import_by_program(lab, write(folder, "newer.toml", text)))
+    lab.kill()
+    return "a lab file of TOML 1.1 is read as the program reads it"
+
+
 def lines_of_a_file(farm, folder):
     del farm, folder
     text = "x = 1\n[a.b]\nc = [\n1,\n]\n[a]\nd.e = 3\n\nf = '''\n\n'''\n"
@@ -285,6 +315,7 @@ ROWS = [
     refused_imports,
     bad_lab_files,
     readers,
+    newer_toml,
     lines_of_a_file,
     version,
     completion,

@@ -142,28 +142,47 @@ def signals_give_back(farm, folder):
 
 def keys_of_a_terminal(farm, folder):
     del folder
-    words = [sys.executable, DESK, "with", "hdmi", "--every", "0.1", "--"]
+    words = ["with", "hdmi", "--every", "0.1", "--"]
     words += ["sh", "-c", "ulimit -c 0; echo begun; exec sleep 30"]
-    around = environment(DESK_SERVER=farm.server, DESK_USER="ann")
     for key, status in ((b"\x1c", 131), (b"\x03", 130), (None, 129)):
-        process, line = pty.fork()
-        if not process:
-            os.execve(sys.executable, words, around)
-        said = b""
-        while b"begun" not in said:
-            demand("progress within 20 s", True, bool(select.select([line], [], [], 20)[0]))
-            said += os.read(line, 4096)
-            if b"in the queue" in said and farm.board("b1")["holder"] == "none":
-                passes(farm)
-        if key:
-            os.write(line, key)
-        else:
-            os.close(line)
+        process, line = at_a_terminal(farm, *words)
+        read_until(line, b"in the queue")
+        passes(farm)
+        read_until(line, b"begun")
+        press(line, key)
         demand(f"the status after {key}", status, status_of(process))
         demand("given back", "none", farm.board("b1")["holder"])
-        if key:
-            os.close(line)
+    for words in (["with", "hdmi", "--", "true"], ["reserve", "hdmi", "--wait"]):
+        process, line = at_a_terminal(farm, *words)
+        read_until(line, b"in the queue")
+        press(line, None)
+        demand("the status of one that waits", 129, status_of(process))
+        demand("the queue", [], farm.look("/queue")["queue"])
     return "Ctrl-\\ and Ctrl-C at a terminal, and the terminal's end, give the board back"
+
+
+def at_a_terminal(farm, *words):
+    """A client at a terminal of its own: its process, and the terminal's other end."""
+    around = environment(DESK_SERVER=farm.server, DESK_USER="ann")
+    process, line = pty.fork()
+    if not process:
+        os.execve(sys.executable, [sys.executable, DESK, *words], around)
+    return process, line
+
+
+def read_until(line, wanted):
+    said = b""
+    while wanted not in said:
+        demand(f"{wanted} within 20 s", True, bool(select.select([line], [], [], 20)[0]))
+        said += os.read(line, 4096)
+
+
+def press(line, key):
+    """Presses a key of a terminal; None ends the terminal."""
+    if key:
+        os.write(line, key)
+    else:
+        os.close(line)
 
 
 def status_of(process):

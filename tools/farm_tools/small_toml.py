@@ -1,5 +1,7 @@
-"""A small reader of TOML 1.0, for Pythons that have none (before 3.11). Moments are given as
-Moment, since no file of these tools has one that counts."""
+"""A small reader of TOML 1.1: for Pythons that have none (before 3.11), and for what 1.1 has beyond
+TOML 1.0, which the later ones read. Moments are given as Moment, since no file of the desk's has
+one that counts."""
+import datetime
 import re
 from typing import List, NamedTuple
 
@@ -12,9 +14,11 @@ LONG_BASIC = re.compile(r'"""\n?((?:[^\\]|\\.)*?"{0,2})"""(?!")', re.DOTALL)
 BASIC = re.compile(r'"((?:[^"\\\n]|\\.)*)"')
 LONG_LITERAL = re.compile(r"'''\n?(.*?'{0,2})'''(?!')", re.DOTALL)
 LITERAL = re.compile(r"'([^'\n]*)'")
-ESCAPE = re.compile(r"\\(?:u([0-9A-Fa-f]{4})|U([0-9A-Fa-f]{8})|([ \t]*\n\s*)|(.))", re.DOTALL)
-ESCAPED = {"b": "\b", "t": "\t", "n": "\n", "f": "\f", "r": "\r", '"': '"', "\\": "\\"}
-TIME = r"\d\d:\d\d:\d\d(?:\.\d+)?"
+ESCAPE = re.compile(
+    r"\\(?:(?:x([0-9A-Fa-f]{2})|u([0-9A-Fa-f]{4})|U([0-9A-Fa-f]{8}))|([ \t]*\n\s*)|(.))", re.DOTALL
+)
+ESCAPED = {"e": "\x1b", "b": "\b", "t": "\t", "n": "\n", "f": "\f", "r": "\r", '"': '"', "\\": "\\"}
+TIME = r"(?:[01]\d|2[0-3]):[0-5]\d(?::[0-5]\d(?:\.\d+)?)?"
 MOMENT = re.compile(
     rf"\d{{4}}-\d\d-\d\d(?:[Tt ]{TIME}(?:[Zz]|[+-]\d\d:\d\d)?)?(?![\d:])|{TIME}"
 )
@@ -124,7 +128,8 @@ class Reader:
         for key in keys[:-1]:
             table = self.inner(table, key)
         found = table.setdefault(keys[-1], {})
-        if not isinstance(found, dict) or id(found) in self.headed | self.dotted | self.closed:
+        known = (self.headed, self.dotted, self.closed)
+        if not isinstance(found, dict) or any(id(found) in it for it in known):
             raise self.fault(f"{'.'.join(keys)} is there already")
         self.headed.add(id(found))
         return found
@@ -176,7 +181,7 @@ class Reader:
     def number(self):
         moment = self.take(MOMENT)
         if moment:
-            return Moment(moment.group())
+            return self.moment(moment.group())
         based = self.take(BASED)
         if based:
             return int(based.group().replace("_", ""), 0)
@@ -185,6 +190,14 @@ class Reader:
             raise self.fault("a value is missing")
         digits = found.group().replace("_", "")
         return int(digits) if re.fullmatch(r"[+-]?\d+", digits) else float(digits)
+
+    def moment(self, text: str) -> Moment:
+        try:
+            if text[4] == "-":
+                datetime.date(int(text[:4]), int(text[5:7]), int(text[8:10]))
+        except ValueError as fault:
+            raise self.fault(f"{text} is no moment") from fault
+        return Moment(text)
 
     def array(self) -> list:
         found: list = []
@@ -201,12 +214,15 @@ class Reader:
 
     def inline_table(self) -> dict:
         found: dict = {}
-        self.take(SPACE)
-        while not self.passed("}"):
-            if found:
-                self.demand(",")
+        while True:
+            self.take(BLANK)
+            if self.passed("}"):
+                break
             self.pair(found)
-            self.take(SPACE)
+            self.take(BLANK)
+            if not self.passed(","):
+                self.demand("}")
+                break
         self.close(found)
         return found
 
@@ -218,13 +234,18 @@ class Reader:
 
     def unescaped(self, text: str) -> str:
         def meaning(found) -> str:
-            code = found.group(1) or found.group(2)
+            code = found.group(1) or found.group(2) or found.group(3)
             if code:
-                return chr(int(code, 16))
-            if found.group(3) is not None:
+                return self.character(int(code, 16))
+            if found.group(4) is not None:
                 return ""
-            if found.group(4) not in ESCAPED:
-                raise self.fault(f"there is no \\{found.group(4)}")
-            return ESCAPED[found.group(4)]
+            if found.group(5) not in ESCAPED:
+                raise self.fault(f"there is no \\{found.group(5)}")
+            return ESCAPED[found.group(5)]
 
         return ESCAPE.sub(meaning, text)
+
+    def character(self, code: int) -> str:
+        if 0xD800 <= code < 0xE000 or code > 0x10FFFF:
+            raise self.fault(f"there is no character {code:#x}")
+        return chr(code)

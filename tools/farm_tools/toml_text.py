@@ -1,11 +1,17 @@
-"""TOML texts: Python's own reader reads them, and before Python 3.11 a small one of these tools."""
+"""TOML texts, read by Python's own reader where there is one, which reads TOML 1.0; what it doesn't
+read, by the small one of these tools, so that 1.1 is read as the desk reads it."""
 import bisect
 from typing import Sequence
 
+from farm_tools import small_toml
+
+READERS = [small_toml.loads]
 try:
     import tomllib
 except ImportError:
-    from farm_tools import small_toml as tomllib
+    pass  # before Python 3.11
+else:
+    READERS.insert(0, tomllib.loads)
 
 
 class NotToml(Exception):
@@ -13,11 +19,14 @@ class NotToml(Exception):
 
 
 def tree_of(text: str) -> dict:
-    """The tables of a text."""
-    try:
-        return tomllib.loads(text)
-    except (ValueError, RecursionError) as fault:
-        raise NotToml(f"no TOML: {fault}") from fault
+    """The tables of a text. What it lacks is told by the first reader."""
+    faults = []
+    for read in READERS:
+        try:
+            return read(text)
+        except (ValueError, RecursionError) as fault:
+            faults.append(fault)
+    raise NotToml(f"no TOML: {faults[0]}")
 
 
 def line_of(text: str, path: Sequence[str]) -> int:
