@@ -231,7 +231,7 @@ def on_a_terminal(farm, folder):
     demand("its status", 0, ran.wait(timeout=20))
     said += os.read(ours, 4096)
     os.close(ours)
-    demand("the last line", True, said.endswith(b"\r\x1b[Kb1\r\n"))
+    demand("the last line", True, said.endswith(b"\r\x1b[Jb1\r\n"))
     number = int(said.split(b"\r\n")[0])
     farm.tell("ann", f"/reservations/{number}/cancel")
     return "on a terminal a line tells the place in the queue, and is cleared"

@@ -1,11 +1,14 @@
 """Rows of tests/client.py: what the client tells of clocks, waits, states and its own words."""
+import fcntl
 import os
 import pty
 import re
 import select
 import signal
+import struct
 import sys
 import tempfile
+import termios
 import time
 
 from desks import (
@@ -161,11 +164,12 @@ def keys_of_a_terminal(farm, folder):
     return "Ctrl-\\ and Ctrl-C at a terminal, and the terminal's end, give the board back"
 
 
-def at_a_terminal(farm, *words):
+def at_a_terminal(farm, *words, width=0):
     """A client at a terminal of its own: its process, and the terminal's other end."""
     around = environment(DESK_SERVER=farm.server, DESK_USER="ann")
     process, line = pty.fork()
     if not process:
+        fcntl.ioctl(0, termios.TIOCSWINSZ, struct.pack("HHHH", 24, width, 0, 0))
         os.execve(sys.executable, [sys.executable, DESK, *words], around)
     return process, line
 
@@ -246,6 +250,21 @@ def why_it_waits(farm, folder):
     gets_a_board(farm, tool)
     farm.tell("admin", "/boards/b2/health", {"health": "Good"})
     return "a reservation that waits says which boards fit, and why none of them comes"
+
+
+def narrow_terminal(farm, folder):
+    """What is told is longer than the terminal's lines."""
+    del folder
+    farm.tell("admin", "/boards/b2/health", {"health": "Maintenance"})
+    process, line = at_a_terminal(farm, "reserve", "name=b2", "--wait", "--every", "0.2", width=40)
+    # reservation N is waiting, place 1 of 1 in the queue: 1 board fits, in Maintenance; none can
+    # come (0 s): more than 80 letters, up to 120
+    read_until(line, b"none can come (0 s)")
+    read_until(line, b"\r\x1b[2A\x1b[J")
+    press(line, b"\x03")
+    demand("its status", 130, status_of(process))
+    farm.tell("admin", "/boards/b2/health", {"health": "Good"})
+    return "what goes over several lines of a terminal is erased whole"
 
 
 def reasons_of(tool):
@@ -431,6 +450,7 @@ ROWS = [
     early_interrupt,
     job_goes_on,
     why_it_waits,
+    narrow_terminal,
     unchecked_board,
     waits_for_ever,
     job_files,

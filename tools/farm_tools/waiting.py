@@ -1,4 +1,5 @@
 """Waiting: for the end of a job, or for a reservation's board."""
+import os
 import sys
 import time
 from typing import Dict, List, Optional
@@ -8,6 +9,7 @@ from farm_tools import calls, interrupts, wants
 # A reservation that isn't refreshed lives for sixty seconds.
 REFRESH = 20
 NOT_FOUND = 404
+WIDTH = 80
 
 
 class Gone(Exception):
@@ -15,37 +17,49 @@ class Gone(Exception):
 
 
 class Progress:
-    """What a wait has come to, on standard error: one line that changes on a terminal, elsewhere a
+    """What a wait has come to, on standard error: a text that changes on a terminal, elsewhere a
     line a change."""
 
     def __init__(self):
         self.terminal = sys.stderr.isatty()
         self.begun = time.monotonic()
         self.shown = None
+        self.rows = 0
 
     def show(self, text: str) -> None:
         if self.terminal:
             waited = int(time.monotonic() - self.begun)
-            print(f"\r\033[K{text} ({waited} s)", end="", file=sys.stderr, flush=True)
+            line = f"{text} ({waited} s)"
+            print(self._erased() + line, end="", file=sys.stderr, flush=True)
+            self.rows = -(-len(line) // columns())
         elif text != self.shown:
             print(text, file=sys.stderr, flush=True)
         self.shown = text
 
     def tell(self, text: str) -> None:
         """Tells what stays, on a line of its own."""
-        self.clear()
-        print(f"desk: {text}", file=sys.stderr, flush=True)
-
-    def clear(self) -> None:
-        """Clears the line of a terminal."""
-        if self.terminal and self.shown is not None:
-            print("\r\033[K", end="", file=sys.stderr, flush=True)
+        print(f"{self._erased()}desk: {text}", file=sys.stderr, flush=True)
 
     def end(self) -> None:
+        """Clears what a terminal shows."""
         try:
-            self.clear()
+            print(self._erased(), end="", file=sys.stderr, flush=True)
         except OSError:
             pass  # the terminal is gone
+
+    def _erased(self) -> str:
+        """What erases the rows that a terminal shows of it."""
+        rows, self.rows = self.rows, 0
+        up = f"\033[{rows - 1}A" if rows > 1 else ""
+        return f"\r{up}\033[J" if rows else ""
+
+
+def columns() -> int:
+    """How wide the terminal of standard error is."""
+    try:
+        return os.get_terminal_size(sys.stderr.fileno()).columns or WIDTH
+    except OSError:
+        return WIDTH
 
 
 class Wait:

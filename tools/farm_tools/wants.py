@@ -1,7 +1,7 @@
 """What claims want, which boards fit, and why they don't get them."""
 import itertools
 import time
-from typing import Dict, List, NamedTuple, Set, Tuple
+from typing import Callable, Dict, List, NamedTuple, Set, Tuple
 
 # The healths of boards that nobody gets, as they are told.
 OUT = {"Retired": "Retired", "Bad": "Bad", "Maintenance": "in Maintenance"}
@@ -31,6 +31,13 @@ def fits(board: dict, want: Want) -> bool:
 
 def described(want: Want) -> str:
     return " ".join([want.kind or "board", *(["with"] if want.tags else []), *want.tags])
+
+
+def listed(boards: List[dict], text_of: Callable[[dict], str]) -> str:
+    """A text of each of the first few boards, and how many more there are."""
+    texts = [text_of(it) for it in boards[:MOST_NAMED]]
+    more = [f"{len(boards) - MOST_NAMED} more"] if len(boards) > MOST_NAMED else []
+    return ", ".join(texts + more)
 
 
 class Lab:
@@ -83,9 +90,7 @@ class Lab:
 
     def holders(self, boards: List[dict]) -> str:
         """Those who hold these boards, with the owners of the first few."""
-        named = [f"{it['holder']} of {self.owner(it['holder'])}" for it in boards[:MOST_NAMED]]
-        more = [f"{len(boards) - MOST_NAMED} more"] if len(boards) > MOST_NAMED else []
-        return ", ".join(named + more)
+        return listed(boards, lambda it: f"{it['holder']} of {self.owner(it['holder'])}")
 
     def owner(self, holder: str) -> str:
         """Whose a holder is: `job 3` or `reservation 4`."""
@@ -113,7 +118,7 @@ class Lab:
 
 def lacking(some: Tuple[Want, ...], able: int, out: List[dict]) -> str:
     """That no boards can come for wants, or too few, and which are out of use."""
-    why = ", ".join(f"{it['name']} is {OUT[it['health']]}" for it in out) or "no other board fits"
+    why = listed(out, lambda it: f"{it['name']} is {OUT[it['health']]}") or "no other board fits"
     if len(some) == 1:
         return f"no {described(some[0])} can come: {why}"
     wanted = "; ".join(dict.fromkeys(described(it) for it in some))
