@@ -331,6 +331,7 @@ def lost_answers(farm, folder):
         if place == 2:
             client.sendall(answer)
         client.close()
+    door.close()
     demand("its status", 0, tool.ends())
     demand("keys", 1, len(keys))
     demand("reservations", before + 1, len(farm.look("/reservations")["reservations"]))

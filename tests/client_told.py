@@ -175,10 +175,12 @@ def at_a_terminal(farm, *words, width=0):
 
 
 def read_until(line, wanted):
-    said = b""
+    """Reads what a client writes on its terminal until this is among it."""
+    said, until = b"", time.monotonic() + 40
     while wanted not in said:
-        demand(f"{wanted} within 20 s", True, bool(select.select([line], [], [], 20)[0]))
-        said += os.read(line, 4096)
+        demand(f"{wanted} within 40 s", True, time.monotonic() < until)
+        if select.select([line], [], [], 1)[0]:
+            said += os.read(line, 4096)
 
 
 def press(line, key):

@@ -2,16 +2,16 @@
 from typing import Optional
 
 from farm_tools import toml_text, words
+from farm_tools.lab_file import HIGHEST_PRIORITY, LONGEST_JOB_FILE, MOST_WANTS
 from farm_tools.words import BadFile
 
 PRIORITIES = ("low", "medium", "high")
-MOST_BOARDS = 4
 
 
 def fault_of(data: bytes) -> Optional[str]:
     """The first rule that a job file breaks, in the desk's order, or None where none is found."""
-    if len(data) > words.LONGEST_JOB_FILE:
-        return f"it has more than {words.LONGEST_JOB_FILE:,} bytes"
+    if len(data) > LONGEST_JOB_FILE:
+        return f"it has more than {LONGEST_JOB_FILE:,} bytes"
     try:
         read(toml_text.tree_of(data.decode()))
     except UnicodeDecodeError as fault:
@@ -46,11 +46,12 @@ def read_priority(value) -> None:
     if isinstance(value, str):
         good = value in PRIORITIES
     elif isinstance(value, (int, float)) and not isinstance(value, bool):
-        good = isinstance(value, int) and 0 <= value <= 100
+        good = isinstance(value, int) and 0 <= value <= HIGHEST_PRIORITY
     else:
         raise BadFile("priority is neither a whole number nor a text")
     if not good:
-        raise BadFile(f"priority {value!r} is none of low, medium, high and 0 to 100")
+        named = ", ".join(PRIORITIES)
+        raise BadFile(f"priority {value!r} is none of {named} and 0 to {HIGHEST_PRIORITY}")
 
 
 def read_roles(roles: dict) -> None:
@@ -60,8 +61,8 @@ def read_roles(roles: dict) -> None:
             boards += read_role(name, role)
         except BadFile as fault:
             raise BadFile(f"role {name}: {fault}") from fault
-    if not 1 <= boards <= MOST_BOARDS:
-        raise BadFile(f"its roles want {boards} boards, and 1 to {MOST_BOARDS} are given")
+    if not 1 <= boards <= MOST_WANTS:
+        raise BadFile(f"its roles want {boards} boards, and 1 to {MOST_WANTS} are given")
 
 
 def read_role(name: str, role) -> int:
@@ -70,7 +71,7 @@ def read_role(name: str, role) -> int:
     words.table_of(role, "it")
     words.name_of(role.get("device_type"), "device_type")
     count = words.whole_of(role.get("count"), "count")
-    if not 1 <= count <= MOST_BOARDS:
-        raise BadFile(f"count is {count}, and is 1 to {MOST_BOARDS}")
+    if not 1 <= count <= MOST_WANTS:
+        raise BadFile(f"count is {count}, and is 1 to {MOST_WANTS}")
     words.tags_of(role.get("tags"))
     return count

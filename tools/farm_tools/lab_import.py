@@ -3,10 +3,10 @@ import sys
 from typing import List, NamedTuple
 
 from farm_tools import calls, toml_text, views, words
+from farm_tools.lab_file import LONGEST_EVERY, LONGEST_LAB_FILE
 from farm_tools.words import BadFile
 
 CHECKS = ("none", "hours", "jobs")
-LONGEST_EVERY = 10000
 TYPE_EXISTS, BOARD_EXISTS = 11, 13
 REFUSED = 3
 
@@ -72,8 +72,8 @@ def import_lab(desk, options) -> int:
     exit status."""
     data = sys.stdin.buffer.read() if options.file == "-" else read_file(options.file)
     try:
-        if len(data) > words.LONGEST_LAB_FILE:
-            raise BadFile(f"it has more than {words.LONGEST_LAB_FILE:,} bytes")
+        if len(data) > LONGEST_LAB_FILE:
+            raise BadFile(f"it has more than {LONGEST_LAB_FILE:,} bytes")
         text = data.decode()
         additions = additions_of(text)
     except (BadFile, UnicodeDecodeError) as fault:

@@ -142,7 +142,7 @@ def notes_of(desk, queue: List[dict]) -> Dict[int, str]:
     and those that wait for boards of which none can come."""
     if not queue:
         return {}
-    collector = desk.look("/status")["collector"]
+    collector = desk.look("/status").get("collector", 0)  # a desk of the first edition has none
     lab = Lab(desk, set(), {})
     reservations = {}
     if any(it["kind"] == "reservation" for it in queue[:MOST_ASKED]):

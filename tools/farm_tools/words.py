@@ -2,10 +2,11 @@
 import re
 from typing import Optional
 
-NAME = re.compile("[A-Za-z0-9_.-]{1,48}")
-TAG = re.compile("[A-Za-z0-9_.-]{1,32}(=[A-Za-z0-9_.-]{1,64})?")
-MOST_TAGS = 16
-LONGEST_JOB_FILE, LONGEST_LAB_FILE = 65536, 1048576
+from farm_tools.lab_file import MOST_TAGS, NAME, TAG_KEY, TAG_VALUE
+
+LETTER = "[A-Za-z0-9_.-]"
+NAMES = re.compile(f"{LETTER}{{1,{NAME}}}")
+TAGS = re.compile(f"{LETTER}{{1,{TAG_KEY}}}(={LETTER}{{1,{TAG_VALUE}}})?")
 
 
 class BadFile(Exception):
@@ -23,8 +24,9 @@ def name_of(value, what: str) -> str:
         raise BadFile(f"there is no {what}")
     if not isinstance(value, str):
         raise BadFile(f"{what} isn't a text")
-    if not NAME.fullmatch(value):
-        raise BadFile(f"{what} {value!r} isn't a name of 1 to 48 letters, digits, '-', '_', '.'")
+    if not NAMES.fullmatch(value):
+        letters = "letters, digits, '-', '_', '.'"
+        raise BadFile(f"{what} {value!r} isn't a name of 1 to {NAME} {letters}")
     return value
 
 
@@ -45,6 +47,6 @@ def tags_of(value: Optional[list]) -> list:
     if len(value) > MOST_TAGS:
         raise BadFile(f"there are {len(value)} tags, and {MOST_TAGS} at most are taken")
     for it in value:
-        if not TAG.fullmatch(it):
+        if not TAGS.fullmatch(it):
             raise BadFile(f"{it!r} isn't a tag: a key, or key=value")
     return value
