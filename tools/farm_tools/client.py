@@ -21,10 +21,10 @@ PATIENCE = 15
 ABOUT = "Asks the desk of a board farm, and tells it what its user wants."
 STATUSES = """\
 exit status: 0 done; 1 the job that was waited for didn't end Complete, or the
-reservation ended before it had a board; 2 bad words; 3 refused by the desk;
-4 no answer, or bad settings; 128 and the number of a signal. Of 'with': the
-command's; 125 where it couldn't be run with a board, or the board not given
-back; 126 and 127 where the command can't be run or found."""
+reservation ended before it had a board; 2 bad words; 3 refused by the desk, or
+a bad lab file; 4 no answer, or bad settings; 128 and the number of a signal. Of
+'with': the command's; 125 where it couldn't be run with a board, or the board
+not given back; 126 and 127 where the command can't be run or found."""
 
 
 def main(words=None) -> int:
