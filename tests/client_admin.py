@@ -11,7 +11,7 @@ from desks import DESK, desk, farm_of_its_own, prints, write
 from served import TOOLS, TOP, demand, environment
 
 sys.path.insert(0, TOOLS)
-from farm_tools import small_toml, toml_text  # noqa: E402
+from farm_tools import lab_import, small_toml, toml_text  # noqa: E402
 
 EXAMPLE = os.path.join(TOP, "examples", "lab.toml")
 TEXTS = [
@@ -59,6 +59,18 @@ NEWER = [
 ]
 
 
+BAD_WORDS = [
+    ["health", "r1"],
+    ["health", "r1", "Fine"],
+    ["tags", "r1"],
+    ["tags", "r1", "usb", "--none"],
+    ["add-type", "x", "--check", "hours"],
+    ["add-type", "x", "--every", "3"],
+    ["add-type", "x", "--check", "days", "--every", "3"],
+    ["add-type", "x", "--check", "jobs", "--every", "0"],
+]
+
+
 def admin_commands(farm, folder):
     lab = farm_of_its_own(farm, folder)
 
@@ -87,15 +99,7 @@ def admin_commands(farm, folder):
     demand("their health", ["Good", "Good"], [lab.board(it)["health"] for it in ("r1", "r2")])
     does((0, "", ""), "health", "r2", "Maintenance")
     demand("its health", "Maintenance", lab.board("r2")["health"])
-    for words in (
-        ["health", "r1"],
-        ["health", "r1", "Fine"],
-        ["tags", "r1"],
-        ["tags", "r1", "usb", "--none"],
-        ["add-type", "x", "--check", "hours"],
-        ["add-type", "x", "--every", "3"],
-        ["add-type", "x", "--check", "days", "--every", "3"],
-    ):
+    for words in BAD_WORDS:
         demand(f"desk {words}", 2, desk(lab, *words, user="")[0])
     lab.kill()
     return "an admin adds types and boards, and sets tags and health, by the client"
@@ -229,6 +233,15 @@ def readers(farm, folder):
 
     for text in texts:
         demand(text, read(tomllib, text), read(small_toml, text))
+    with open(EXAMPLE, encoding="utf-8") as file:
+        text = file.read()
+    wanted, both = lab_import.additions_of(text), toml_text.READERS
+    toml_text.READERS = [small_toml.loads]
+    try:
+        demand("a lab file without Python's own", wanted, lab_import.additions_of(text))
+        demand("a line without Python's own", 9, toml_text.line_of(text, ["types", "rpi4b"]))
+    finally:
+        toml_text.READERS = both
     return f"the small reader of TOML reads {len(texts)} texts as Python's own does"
 
 

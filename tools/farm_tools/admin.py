@@ -3,6 +3,7 @@ import argparse
 import sys
 
 from farm_tools import calls, lab_import, views
+from farm_tools.lab_file import LONGEST_EVERY
 
 REFUSED = 3
 HEALTHS = ("Good", "Bad", "Unknown", "Maintenance", "Retired")
@@ -20,7 +21,7 @@ def add_commands(command) -> None:
     kind = command("add-type", add_type, "add a type of boards")
     kind.add_argument("name", metavar="NAME", help="the type's name")
     kind.add_argument("--check", choices=lab_import.CHECKS, help="how its boards are checked")
-    kind.add_argument("--every", metavar="N", type=int, help="each so many hours or jobs")
+    kind.add_argument("--every", metavar="N", type=frequency, help="each so many hours or jobs")
     board = command("add-board", add_board, "add a board, which is in Maintenance at first")
     board.add_argument("name", metavar="NAME", help="the board's name")
     board.add_argument("type", metavar="TYPE", help="its type")
@@ -37,6 +38,12 @@ def health_called(text: str) -> str:
         if health.lower() == text.lower():
             return health
     raise argparse.ArgumentTypeError(f"{text} is none of {', '.join(HEALTHS)}")
+
+
+def frequency(text: str) -> int:
+    if not (text.isascii() and text.isdigit() and 1 <= int(text) <= LONGEST_EVERY):
+        raise argparse.ArgumentTypeError(f"{text} is no number from 1 to {LONGEST_EVERY:,}")
+    return int(text)
 
 
 def set_health(desk, options) -> int:

@@ -13,7 +13,10 @@ LONGEST_LOOK = 5.0
 
 
 def tell(text: str) -> None:
-    print(f"desk: {text}", file=sys.stderr, flush=True)
+    try:
+        print(f"desk: {text}", file=sys.stderr, flush=True)
+    except OSError:
+        pass  # nobody is there to be told
 
 
 class Clock:
