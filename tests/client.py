@@ -274,6 +274,7 @@ def with_a_board(farm, folder):
     demand("one that can't tell its place", 125, ran.returncode)
     demand("the queue", [], farm.look("/queue")["queue"])
     demand("no such command", 127, desk(farm, "with", "hdmi", "--", "/nonexistent/command")[0])
+    passes(farm)  # so that none is missed
     demand(
         "no such boards",
         (125, "", "desk: 22 no such boards\n"),
@@ -445,6 +446,7 @@ def statuses(farm, folder):
         (3, "", "desk: job 999: refused: 20 no such job\n"),
         desk(farm, "jobs", "999"),
     )
+    passes(farm)
     demand(
         "a reservation that isn't there",
         (3, "", "desk: refused: 30 no such reservation\n"),
