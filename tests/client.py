@@ -215,6 +215,27 @@ class Refreshed:
         return "a reservation that waits is refreshed in time, and says that no pass comes"
 
 
+class Unserved:
+    """Two reservations that wait in a farm of their own without passes, while the other rows run:
+    each moves the desk's clock for the other."""
+
+    def __init__(self, program, folder):
+        self.farm = Farm(program, tempfile.mkdtemp(dir=folder), BOARDS[:1])
+        words = ["reserve", "--wait", "--every", "1"]
+        self.tools = [waiting_tool(self.farm, folder, *words)]
+        time.sleep(5)
+        self.tools += [waiting_tool(self.farm, folder, *words)]
+
+    def demand(self):
+        told = re.compile(r"^desk: no pass for \d+ s: is farm-dispatch running\?$", re.MULTILINE)
+        for tool in self.tools:
+            wait_until("a warning", lambda it=tool: told.search(it.errors()), 60)
+            tool.send(signal.SIGTERM)
+            demand("its status", 143, tool.ends())
+        self.farm.kill()
+        return "two that wait for a free board both say that no pass comes"
+
+
 def on_a_terminal(farm, folder):
     del folder
     ours, its = pty.openpty()
@@ -507,9 +528,10 @@ if __name__ == "__main__":
         print("client: not tried, since there is no 127.0.0.1")
         sys.exit(77)
     with tempfile.TemporaryDirectory() as room:
-        refreshed = Refreshed(sys.argv[1], room)
+        others = [Refreshed(sys.argv[1], room), Unserved(sys.argv[1], room)]
         served = Farm(sys.argv[1], room, BOARDS)
         for row in ROWS:
             print(f"client: {row(served, room)}", flush=True)
-        print(f"client: {refreshed.demand()}", flush=True)
+        for each in others:
+            print(f"client: {each.demand()}", flush=True)
         served.kill()

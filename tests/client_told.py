@@ -89,9 +89,15 @@ def clock_of_passes(farm, folder):
             watch.look(told.append)
             it.now += 10
         demand("passes", [], told)
+        for place in range(7):
+            watch.note_met(place > 0)
+            it.accept()
+            watch.look(told.append)
+            it.now += 10
+        demand("boards that nobody gives", ["no pass for 40 s: is farm-dispatch running?"], told)
     finally:
         time.time, time.monotonic = real
-    return "the client's own refreshes aren't taken for passes"
+    return "neither its own refreshes nor, while a free board fits, others' are taken for passes"
 
 
 def clock_ahead(farm, folder):

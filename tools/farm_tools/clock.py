@@ -23,7 +23,8 @@ class Clock:
     """Looks at a desk's clock while a command is done, and tells each trouble once.
 
     Each accepted command moves the clock, so the client's own are noted, and what is left are
-    passes and what others do."""
+    passes and what others do. A claim that free boards meet is given them by the next pass, so no
+    pass comes while it waits."""
 
     def __init__(self, desk):
         self.desk = desk.of_patience(0)
@@ -32,6 +33,7 @@ class Clock:
         self.own = 0
         self.others: Optional[int] = None
         self.moved = 0.0
+        self.met: Optional[float] = None
         self.due = 0.0
 
     @property
@@ -41,6 +43,13 @@ class Clock:
     def note_own(self) -> None:
         """Notes that the client gave a command that was accepted."""
         self.own += 1
+
+    def note_met(self, is_met: bool) -> None:
+        """Notes whether a claim that waits is met by free boards."""
+        if not is_met:
+            self.met = None
+        elif self.met is None:
+            self.met = time.monotonic()
 
     def look(self, teller: Callable[[str], None] = tell) -> None:
         """Looks, where it is time to, and tells what it sees; a desk that gives no answer tells
@@ -65,11 +74,12 @@ class Clock:
         elif others != self.others:
             self.moved = time.monotonic()
         self.others = others
-        quiet = time.monotonic() - self.moved
+        since = self.moved if self.met is None else min(self.moved, self.met)
+        quiet = time.monotonic() - since
         if quiet <= QUIET:
             return ""
-        since = f"for {span(quiet)}" if status["clock"] else "yet"
-        return f"no pass {since}: is farm-dispatch running?"
+        long = f"for {span(quiet)}" if status["clock"] else "yet"
+        return f"no pass {long}: is farm-dispatch running?"
 
 
 def ahead(status: dict) -> str:

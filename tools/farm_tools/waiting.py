@@ -84,7 +84,9 @@ class Wait:
         """Why these wants wait, behind a colon, or nothing."""
         if self.checked is None:
             self.checked = wants.checked_types(self.desk)
-        why = wants.Lab(self.desk, self.checked, self.owners).reason(wanted)
+        lab = wants.Lab(self.desk, self.checked, self.owners)
+        self.clock.note_met(lab.is_met(wanted))
+        why = lab.reason(wanted)
         return f": {why}" if why else ""
 
     def until_there(self, look, every: float):

@@ -1,7 +1,7 @@
 """What claims want, which boards fit, and why they don't get them."""
 import itertools
 import time
-from typing import Callable, Dict, List, NamedTuple, Set, Tuple
+from typing import Callable, Dict, List, NamedTuple, Optional, Set, Tuple
 
 # The healths of boards that nobody gets, as they are told.
 OUT = {"Retired": "Retired", "Bad": "Bad", "Maintenance": "in Maintenance"}
@@ -103,17 +103,30 @@ class Lab:
                     self.owners[f"reservation {row['number']}"] = row["owner"]
         return self.owners.get(holder, "nobody")
 
+    def is_met(self, wants: List[Want]) -> bool:
+        """Whether free boards meet these wants."""
+        return short_of(wants, [it for it in self.boards if not self.state(it)]) is None
+
     def lack(self, wants: List[Want]) -> str:
         """Which of these wants can't be met by boards that aren't Retired, Bad or in Maintenance,
-        or nothing where such boards meet them all: so they do where each few wants are fitted by as
-        many boards (Hall's theorem)."""
-        for size in range(1, len(wants) + 1):
-            for some in itertools.combinations(wants, size):
-                fitting = [it for it in self.boards if any(fits(it, want) for want in some)]
-                out = [it for it in fitting if it["health"] in OUT]
-                if len(fitting) - len(out) < size:
-                    return lacking(some, len(fitting) - len(out), out)
-        return ""
+        or nothing where such boards meet them all."""
+        able = [it for it in self.boards if it["health"] not in OUT]
+        short = short_of(wants, able)
+        if short is None:
+            return ""
+        fitting = [it for it in self.boards if any(fits(it, want) for want in short)]
+        out = [it for it in fitting if it["health"] in OUT]
+        return lacking(short, len(fitting) - len(out), out)
+
+
+def short_of(wants: List[Want], boards: List[dict]) -> Optional[Tuple[Want, ...]]:
+    """Some of these wants, as few as can be, that fewer of these boards fit than they are, or None
+    where there are none such: then all are met, each by a board of its own (Hall's theorem)."""
+    for size in range(1, len(wants) + 1):
+        for some in itertools.combinations(wants, size):
+            if sum(any(fits(it, want) for want in some) for it in boards) < size:
+                return some
+    return None
 
 
 def lacking(some: Tuple[Want, ...], able: int, out: List[dict]) -> str:
