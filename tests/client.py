@@ -1,9 +1,11 @@
 #!/usr/bin/env python3
 """Lets the client desk use a served farm: python3 tests/client.py bin/farm
 
-Each row prints a line and says what it saw: views, groups, jobs, reservations, `with`, keys over lost
-answers, settings, passwords and exit statuses. Ends with status 1 at the first thing that isn't as
-it should be, and with 77 where the machine lacks what it wants. Takes less than a minute.
+Each row prints a line and says what it saw: views, groups, jobs, reservations, `with`, keys over
+lost answers, settings, passwords and exit statuses; those of client_told.py, what the client tells
+of clocks, waits and refusals; those of client_admin.py, an admin's commands, imports, completion.
+Ends with status 1 at the first thing that isn't as it should be, and with 77 where the machine
+lacks what it wants. Takes about two minutes.
 """
 import base64
 import json
@@ -18,45 +20,10 @@ import sys
 import tempfile
 import time
 
+import client_admin
+import client_told
+from desks import BOARDS, DESK, GROUP, JOB, desk, passes, prints, waiting_tool, write
 from served import TOOLS, Farm, Tool, demand, environment, free_port, wait_until
-
-DESK = os.path.join(TOOLS, "desk")
-BOARDS = [("b1", "bbb", ["hdmi", "serial"]), ("b2", "bbb", ["serial"]), ("c1", "ccc", [])]
-JOB = "job_name = 'one'\ndevice_type = 'bbb'\n"
-GROUP = "job_name = 'two'\n[roles.a]\ndevice_type = 'bbb'\ncount = 2\n"
-
-
-def desk(farm, *words, given="", user="ann", **more):
-    """What the client comes to: its status, output and errors."""
-    ran = subprocess.run(
-        [sys.executable, DESK, *words],
-        input=given,
-        capture_output=True,
-        text=True,
-        timeout=60,
-        check=False,
-        env=environment(DESK_SERVER=farm.server, DESK_USER=user, **more),
-    )
-    return ran.returncode, ran.stdout, ran.stderr
-
-
-def prints(farm, wanted, *words, **more):
-    demand(f"desk {' '.join(words)}", (0, wanted, ""), desk(farm, *words, **more))
-
-
-def passes(farm):
-    farm.tell("dispatcher", "/pass")
-
-
-def waiting_tool(farm, folder, *words, **more):
-    """A client that goes on."""
-    return Tool(
-        ["desk", *words],
-        tempfile.mkdtemp(dir=folder),
-        DESK_SERVER=farm.server,
-        DESK_USER="ann",
-        **more,
-    )
 
 
 def views(farm, folder):
@@ -180,7 +147,7 @@ def reservations(farm, folder):
     prints(farm, "b1\n", "acquire", str(number))
     demand(
         "acquire twice",
-        (3, "", "desk: refused: 32 wrong reservation state\n"),
+        (3, "", f"desk: refused: 32 wrong reservation state: reservation {number} is acquired\n"),
         desk(farm, "acquire", str(number)),
     )
     prints(farm, f'{{"number":{number}}}\n', "cancel-reservation", str(number), "--json")
@@ -206,16 +173,16 @@ def signal_that_is_dropped(farm, folder):
     del farm, folder
     code = """\
 import os, signal
-from farm_tools import signals
+from farm_tools import interrupts
 class Ends:
     def __del__(self):
         os.kill(os.getpid(), signal.SIGHUP)
         os.getpid()
-signals.catch_signals()
+interrupts.catch_signals()
 Ends()
 try:
-    signals.check()
-except signals.Interrupted as it:
+    interrupts.check()
+except interrupts.Interrupted as it:
     print(it.status)
 """
     ran = subprocess.run(
@@ -232,7 +199,7 @@ class Refreshed:
     def __init__(self, program, folder):
         self.farm = Farm(program, tempfile.mkdtemp(dir=folder), BOARDS[:1])
         self.farm.tell("admin", "/boards/b1/health", {"health": "Maintenance"})
-        self.tool = waiting_tool(self.farm, folder, "reserve", "--wait", "--every", "0.5")
+        self.tool = waiting_tool(self.farm, folder, "reserve", "--wait", "--every", "60")
         self.number = int(wait_until("its number", lambda: self.tool.output().strip()))
         self.first = self.farm.reservation(self.number)["deadline"]
 
@@ -240,10 +207,33 @@ class Refreshed:
         wait_until(
             "a refresh", lambda: self.farm.reservation(self.number)["deadline"] > self.first, 30
         )
+        told = re.compile(r"^desk: no pass for [34]\d s: is farm-dispatch running\?$", re.MULTILINE)
+        wait_until("a warning", lambda: told.search(self.tool.errors()))
         self.tool.send(signal.SIGTERM)
         demand("its status", 143, self.tool.ends())
         self.farm.kill()
-        return "a reservation that waits is refreshed"
+        return "a reservation that waits is refreshed in time, and says that no pass comes"
+
+
+class Unserved:
+    """Two reservations that wait in a farm of their own without passes, while the other rows run:
+    each moves the desk's clock for the other."""
+
+    def __init__(self, program, folder):
+        self.farm = Farm(program, tempfile.mkdtemp(dir=folder), BOARDS[:1])
+        words = ["reserve", "--wait", "--every", "1"]
+        self.tools = [waiting_tool(self.farm, folder, *words)]
+        time.sleep(5)
+        self.tools += [waiting_tool(self.farm, folder, *words)]
+
+    def demand(self):
+        told = re.compile(r"^desk: no pass for \d+ s: is farm-dispatch running\?$", re.MULTILINE)
+        for tool in self.tools:
+            wait_until("a warning", lambda it=tool: told.search(it.errors()), 60)
+            tool.send(signal.SIGTERM)
+            demand("its status", 143, tool.ends())
+        self.farm.kill()
+        return "two that wait for a free board both say that no pass comes"
 
 
 def on_a_terminal(farm, folder):
@@ -262,7 +252,7 @@ def on_a_terminal(farm, folder):
     demand("its status", 0, ran.wait(timeout=20))
     said += os.read(ours, 4096)
     os.close(ours)
-    demand("the last line", True, said.endswith(b"\r\x1b[Kb1\r\n"))
+    demand("the last line", True, said.endswith(b"\r\x1b[Jb1\r\n"))
     number = int(said.split(b"\r\n")[0])
     farm.tell("ann", f"/reservations/{number}/cancel")
     return "on a terminal a line tells the place in the queue, and is cleared"
@@ -305,6 +295,7 @@ def with_a_board(farm, folder):
     demand("one that can't tell its place", 125, ran.returncode)
     demand("the queue", [], farm.look("/queue")["queue"])
     demand("no such command", 127, desk(farm, "with", "hdmi", "--", "/nonexistent/command")[0])
+    passes(farm)  # so that none is missed
     demand(
         "no such boards",
         (125, "", "desk: 22 no such boards\n"),
@@ -362,6 +353,7 @@ def lost_answers(farm, folder):
         if place == 2:
             client.sendall(answer)
         client.close()
+    door.close()
     demand("its status", 0, tool.ends())
     demand("keys", 1, len(keys))
     demand("reservations", before + 1, len(farm.look("/reservations")["reservations"]))
@@ -434,14 +426,6 @@ def settings(farm, folder):
     return "server, user and password come from options, the environment, a file and netrc"
 
 
-def write(folder, name, text, mode):
-    file = os.path.join(folder, name)
-    with open(file, "w", encoding="utf-8") as opened:
-        opened.write(text)
-    os.chmod(file, mode)
-    return file
-
-
 def owner(farm, around, *words):
     """Who a reservation belongs to that is made so."""
     words = [sys.executable, DESK, *words, "--server", farm.server, "reserve"]
@@ -463,14 +447,16 @@ def authorization(around):
     client.sendall(b"HTTP/1.1 401 Unauthorized\r\ncontent-length: 4\r\n\r\nhtml")
     client.close()
     _, errors = ran.communicate(timeout=20)
-    demand(
-        "a door that doesn't open",
-        (3, b"desk: refused: 401 Unauthorized\n"),
-        (ran.returncode, errors),
-    )
     given = [
         it.split()[-1] for it in sent.split(b"\r\n") if it.lower().startswith(b"authorization:")
     ]
+    user = re.search(rb"\r\nx-user: (.*)\r\n", sent).group(1)
+    told = b"asked as %s, %s a password" % (user, b"with" if given else b"without")
+    demand(
+        "a door that doesn't open",
+        (3, b"desk: refused: 401 Unauthorized: " + told + b"\n"),
+        (ran.returncode, errors),
+    )
     return base64.b64decode(given[0]).decode() if given else None
 
 
@@ -478,9 +464,10 @@ def statuses(farm, folder):
     del folder
     demand(
         "a job that isn't there",
-        (3, "", "desk: refused: 20 no such job\n"),
+        (3, "", "desk: job 999: refused: 20 no such job\n"),
         desk(farm, "jobs", "999"),
     )
+    passes(farm)
     demand(
         "a reservation that isn't there",
         (3, "", "desk: refused: 30 no such reservation\n"),
@@ -488,8 +475,8 @@ def statuses(farm, folder):
     )
     demand(
         "a bad job file",
-        (3, "", "desk: refused: 70 bad job file\n"),
-        desk(farm, "submit", "-", given="x"),
+        3,
+        desk(farm, "submit", "-", given="x")[0],
     )
     demand("a job file that isn't there", 4, desk(farm, "submit", "/nonexistent")[0])
     demand(
@@ -510,7 +497,7 @@ def statuses(farm, folder):
     begun = time.monotonic()
     gone = desk(farm, "--server", f"http://127.0.0.1:{free_port()}", "queue")
     demand("no desk", 4, gone[0])
-    demand("one line is told", 1, gone[2].count("\n"))
+    demand("two lines are told", 2, gone[2].count("\n"))
     demand("how long it tried", True, 10 < time.monotonic() - begun < 40)
     return "status 3 for a refusal, 4 where no answer comes, 2 for bad words, each with a line"
 
@@ -527,18 +514,24 @@ ROWS = [
     lost_answers,
     settings,
     statuses,
+    *client_told.ROWS,
+    *client_admin.ROWS,
 ]
 
 if __name__ == "__main__":
+    # (a shell lets what it runs in the background ignore these)
+    for each in (signal.SIGINT, signal.SIGQUIT):
+        signal.signal(each, signal.SIG_DFL)
     try:
         free_port()
     except OSError:
         print("client: not tried, since there is no 127.0.0.1")
         sys.exit(77)
     with tempfile.TemporaryDirectory() as room:
-        refreshed = Refreshed(sys.argv[1], room)
+        others = [Refreshed(sys.argv[1], room), Unserved(sys.argv[1], room)]
         served = Farm(sys.argv[1], room, BOARDS)
         for row in ROWS:
             print(f"client: {row(served, room)}", flush=True)
-        print(f"client: {refreshed.demand()}", flush=True)
+        for each in others:
+            print(f"client: {each.demand()}", flush=True)
         served.kill()

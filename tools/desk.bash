@@ -1,49 +1,104 @@
 # Completion of desk's words in bash: source it, or put it as desk into
 # /usr/share/bash-completion/completions.
 
-# The tags and names of all boards, which the desk is asked for.
+# What the desk shows, asked with the options that say how to reach it.
+_desk_ask() {
+    timeout 3 desk "${reach[@]}" --json "$@" 2> /dev/null | tr ',{}[]' '\n'
+}
+
+# The tags and names of all boards.
 _desk_tags() {
-    timeout 3 desk --json boards 2> /dev/null | tr ',{}[]' '\n' |
-        sed -n 's/^"\([^":]*\)"$/\1/p; s/^"name":"\(.*\)"$/name=\1/p' | sort -u
+    _desk_ask boards | sed -n 's/^"\([^":]*\)"$/\1/p; s/^"name":"\(.*\)"$/name=\1/p' | sort -u
+}
+
+# The names of all boards, and those of their types.
+_desk_boards() {
+    _desk_ask boards | sed -n 's/^"name":"\(.*\)"$/\1/p'
+}
+_desk_types() {
+    _desk_ask boards | sed -n 's/^"type":"\(.*\)"$/\1/p' | sort -u
 }
 
 # The numbers of the user's reservations that haven't ended.
 _desk_reservations() {
-    timeout 3 desk --json reservations --mine 2> /dev/null | tr ',{}[]' '\n' |
-        sed -n 's/^"number":\(.*\)$/\1/p'
+    _desk_ask reservations --mine | sed -n 's/^"number":\(.*\)$/\1/p'
+}
+
+# The command that runs with a board, which begins at that word.
+_desk_inner() {
+    if declare -F _command_offset > /dev/null; then
+        _command_offset "$1"
+    elif [ "$1" = "$COMP_CWORD" ]; then
+        mapfile -t COMPREPLY < <(compgen -c -- "$word")
+    else
+        mapfile -t COMPREPLY < <(compgen -f -- "$word")
+    fi
 }
 
 _desk() {
-    local line=${COMP_LINE:0:COMP_POINT} word command= each words
+    local line=${COMP_LINE:0:COMP_POINT} word command= before= each place words reach=()
     word=${line##*[[:space:]]}
-    local views="boards queue jobs reservations"
-    local commands="$views submit cancel reserve wait acquire release refresh"
-    commands="$commands cancel-reservation with"
-    for each in ${line% *}; do
-        case " $commands " in *" $each "*) command=$each && break ;; esac
+    local reservations="wait acquire release refresh cancel-reservation"
+    local commands="boards queue jobs reservations submit cancel reserve with $reservations"
+    commands="$commands health tags add-type add-board import"
+    for each in ${line%"$word"}; do
+        case $before in
+            --server | --user | --password-file | --ca-file | --timeout | --config)
+                reach+=("$before" "$each")
+                before=
+                continue
+                ;;
+        esac
+        case " $commands " in *" $each "*) : "${command:=$each}" ;; esac
+        before=$each
     done
-    case $command:$word in
-        :-*) words="--config --server --user --password-file --ca-file --timeout --json --help" ;;
-        :*) words=$commands ;;
-        jobs:-*) words="--text --json --help" ;;
-        reservations:-*) words="--all --mine --json --help" ;;
-        submit:-*) words="--wait --every --json --help" ;;
-        reserve:-*) words="--wait --acquire --priority --every --json --help" ;;
-        wait:-*) words="--every --json --help" ;;
-        with:-*) words="--priority --every --json --help --" ;;
-        *:-*) words="--json --help" ;;
-        boards:* | reserve:* | with:*) words=$(_desk_tags) ;;
-        wait:* | acquire:* | release:* | refresh:* | cancel-reservation:*)
-            words=$(_desk_reservations)
-            ;;
-        submit:*)
+    COMPREPLY=()
+    if [ "$command" = with ]; then
+        for ((place = 1; place < COMP_CWORD; place++)); do
+            if [ "${COMP_WORDS[place]}" = -- ]; then
+                _desk_inner $((place + 1))
+                return
+            fi
+        done
+    fi
+    case $command:$before:$word in
+        *:--priority:*) words="low medium high" ;;
+        *:--server:*) words="http://127.0.0.1:8080 https://" ;;
+        *:--check:*) words="none hours jobs" ;;
+        *:--user:* | *:--timeout:* | *:--every:*) words= ;;
+        *:--config:* | *:--password-file:* | *:--ca-file:* | submit:*:[!-]* | submit:*: | import:*)
             mapfile -t COMPREPLY < <(compgen -f -- "$word")
             return
             ;;
-        *) words= ;;
+        :*:-*)
+            words="--config --server --user --password-file --ca-file --timeout --json --version"
+            words="$words --help"
+            ;;
+        :*) words=$commands ;;
+        jobs:*:-*) words="--text --json --help" ;;
+        reservations:*:-*) words="--all --mine --json --help" ;;
+        submit:*:-*) words="--wait --every --json --help" ;;
+        reserve:*:-*) words="--wait --acquire --priority --every --json --help" ;;
+        wait:*:-*) words="--every --json --help" ;;
+        with:*:-*) words="--priority --every --json --help --" ;;
+        add-type:*:-*) words="--check --every --json --help" ;;
+        tags:*:-*) words="--none --json --help" ;;
+        *:-*) words="--json --help" ;;
+        boards:* | reserve:* | with:*) words=$(_desk_tags) ;;
+        health:*) words="$(_desk_boards) Good Bad Unknown Maintenance Retired" ;;
+        tags:tags:*) words=$(_desk_boards) ;;
+        tags:*) words=$(_desk_tags | grep -v ^name=) ;;
+        add-board:add-board:*) words= ;;
+        add-board:*) words="$(_desk_types) $(_desk_tags | grep -v ^name=)" ;;
+        *)
+            case " $reservations " in
+                *" $command "*) words=$(_desk_reservations) ;;
+                *) words= ;;
+            esac
+            ;;
     esac
     mapfile -t COMPREPLY < <(compgen -W "$words" -- "$word")
-    # A word breaks at `=` for bash, so only what stands behind it is given.
-    case $word in *=*) COMPREPLY=("${COMPREPLY[@]#"${word%=*}="}") ;; esac
+    # A word breaks at `=` and `:` for bash, so only what stands behind the last is given.
+    case $word in *[=:]*) COMPREPLY=("${COMPREPLY[@]#"${word%[=:]*}"?}") ;; esac
 }
 complete -F _desk desk

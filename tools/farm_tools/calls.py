@@ -8,9 +8,12 @@ import ssl
 import time
 import urllib.parse
 
+NOT_LET_IN = 401
+FORBIDDEN = 3
 FULL = 4
 NO_JOB = 20
 WRONG_JOB_STATE = 21
+BAD_JOB_FILE = (5, 6, 7, 23, 70)
 EXPIRED = 31
 WRONG_RESERVATION_STATE = 32
 
@@ -29,6 +32,11 @@ class Refused(Exception):
         super().__init__(f"{code} {text}" if code else f"{status} {text}")
         self.status = status
         self.code = code
+
+    def about(self, what: str) -> "Refused":
+        """This refusal, and what it is about."""
+        self.args = (f"{self}: {what}",)
+        return self
 
 
 class NoAnswer(Exception):
@@ -54,6 +62,8 @@ class Desk:
         self.front = address.path.rstrip("/")
         self.timeout = settings.timeout
         self.patience = patience
+        # what is told, once, where a call gets no answer at first and is sent again
+        self.tell_trouble = lambda trouble: None
         self.context = None
         if address.scheme == "https":
             self.context = ssl.create_default_context(cafile=settings.ca_file)
@@ -67,6 +77,11 @@ class Desk:
         other = copy.copy(self)
         other.patience = seconds
         return other
+
+    def asked_as(self) -> str:
+        """Who asks, as the desk or the proxy in front of it sees it."""
+        word = "with" if "authorization" in self.fields else "without"
+        return f"asked as {self.user}, {word} a password"
 
     def look(self, path: str) -> dict:
         """What a view shows."""
@@ -90,7 +105,7 @@ class Desk:
             try:
                 status, reason, said = self._exchange(method, path, body, {**self.fields, **fields})
                 if status not in UNKNOWN:
-                    return _meaning(status, reason, said)
+                    return self._meaning(status, reason, said)
                 trouble = f"{status} {reason}"
             except ssl.SSLError as fault:
                 raise NoAnswer(str(fault)) from fault
@@ -98,8 +113,27 @@ class Desk:
                 trouble = str(fault) or type(fault).__name__
             if not again or time.monotonic() + wait > until:
                 raise NoAnswer(trouble)
+            self.tell_trouble(trouble)
             time.sleep(wait)
             wait = min(2 * wait, LONGEST_WAIT)
+
+    def _meaning(self, status: int, reason: str, said: bytes) -> dict:
+        """What an answer says, where it isn't a refusal."""
+        try:
+            told = json.loads(said)
+        except ValueError:
+            told = None
+        if status == 200 and isinstance(told, dict):
+            return told
+        if 200 <= status < 300:
+            raise NoAnswer("the answer isn't a desk's")
+        told = told if isinstance(told, dict) else {}
+        refusal = Refused(status, told.get("code", 0), told.get("text", reason))
+        if status == NOT_LET_IN:
+            refusal.about(self.asked_as())
+        elif refusal.code == FORBIDDEN:
+            refusal.about(f"asked as {self.user}")
+        raise refusal
 
     def _exchange(self, method, path, body, fields):
         """One request and its answer: status, reason and body."""
@@ -124,18 +158,3 @@ def _bytes_of(body):
     if body is None or isinstance(body, bytes):
         return body
     return json.dumps(body).encode()
-
-
-def _meaning(status: int, reason: str, said: bytes) -> dict:
-    """What an answer says, where it isn't a refusal."""
-    try:
-        told = json.loads(said)
-    except ValueError:
-        told = None
-    if not isinstance(told, dict):
-        if 200 <= status < 300:
-            raise NoAnswer("the answer isn't a desk's")
-        raise Refused(status, 0, reason)
-    if status != 200:
-        raise Refused(status, told.get("code", 0), told.get("text", reason))
-    return told

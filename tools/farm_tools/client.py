@@ -1,29 +1,54 @@
 """desk: the desk of a board farm, from a terminal or a script."""
 import argparse
-import json
 import os
 import sys
 
-from farm_tools import calls, holding, settings, signals, tables, waiting
+from farm_tools import (
+    admin,
+    calls,
+    clock,
+    holding,
+    interrupts,
+    job_file,
+    settings,
+    views,
+    waiting,
+)
+from farm_tools.version import VERSION
 
 ENDED, REFUSED, FAULT = 1, 3, 4
 PATIENCE = 15
 ABOUT = "Asks the desk of a board farm, and tells it what its user wants."
 STATUSES = """\
 exit status: 0 done; 1 the job that was waited for didn't end Complete, or the
-reservation ended before it had a board; 2 bad words; 3 refused by the desk;
-4 no answer, or bad settings; 128 and the number of a signal. Of 'with': the
-command's; 125 where it couldn't be run with a board, or the board not given
-back; 126 and 127 where the command can't be run or found."""
+reservation ended before it had a board; 2 bad words; 3 refused by the desk, or
+a bad lab file; 4 no answer, or bad settings; 128 and the number of a signal. Of
+'with': the command's; 125 where it couldn't be run with a board, or the board
+not given back; 126 and 127 where the command can't be run or found."""
 
 
 def main(words=None) -> int:
     options = options_of(sys.argv[1:] if words is None else words)
-    signals.catch_signals()
+    interrupts.catch_signals()
+    try:
+        status = status_of(options)
+        interrupts.ignore_signals()  # nothing is left to be interrupted
+        return status
+    except interrupts.Interrupted as it:
+        return it.status
+
+
+def status_of(options) -> int:
+    """Does what the options ask for. Returns the exit status."""
     fault_status = holding.OF_ITSELF if options.does is holding.run_with_board else FAULT
     try:
-        desk = calls.Desk(settings.read_settings("desk", options), PATIENCE)
-        return options.does(desk, options)
+        desk = calls.Desk(settings.read_settings("desk", options, options.asks_as), PATIENCE)
+        desk.tell_trouble = Trouble(desk).tell
+        options.clock = clock.Clock(desk)
+        status = options.does(desk, options)
+        if status == 0 and not options.clock.has_looked:
+            options.clock.look()
+        return status
     except calls.Refused as refusal:
         return told(REFUSED, f"refused: {refusal}")
     except waiting.Gone as end:
@@ -35,8 +60,19 @@ def main(words=None) -> int:
         return fault_status
     except (settings.BadSettings, OSError) as fault:
         return told(fault_status, str(fault))
-    except signals.Interrupted as it:
-        return it.status
+
+
+class Trouble:
+    """Tells once that the desk gives no answer and is asked again."""
+
+    def __init__(self, desk):
+        self.server = desk.server
+        self.is_told = False
+
+    def tell(self, trouble: str) -> None:
+        if not self.is_told:
+            self.is_told = True
+            told(FAULT, f"waiting for the desk at {self.server}: {trouble}")
 
 
 def told(status: int, text: str) -> int:
@@ -73,6 +109,8 @@ def parser_of():
     )
     settings.add_options(parser)
     parser.add_argument("--json", action="store_true", help="print what the desk answers")
+    parser.add_argument("--version", action="version", version=f"desk {VERSION}")
+    parser.set_defaults(asks_as=None)
     also = argparse.ArgumentParser(add_help=False)
     also.add_argument(
         "--json", action="store_true", default=argparse.SUPPRESS, help="print what the desk answers"
@@ -87,20 +125,27 @@ def parser_of():
     add_views(command)
     add_jobs(command)
     add_reservations(command)
+    admin.add_commands(command)
     return parser
 
 
 def add_views(command) -> None:
-    boards = command("boards", show_boards, "show the boards, or those that have all of these tags")
+    boards = command(
+        "boards", views.show_boards, "show the boards, or those that have all of these tags"
+    )
     boards.add_argument("tags", metavar="TAG", nargs="*", help="a tag of the board, or name=BOARD")
-    command("queue", show_queue, "show what waits for boards, in the order in which it is served")
-    rows = command("reservations", show_reservations, "show the reservations that haven't ended")
+    command(
+        "queue", views.show_queue, "show what waits for boards, in the order in which it is served"
+    )
+    rows = command(
+        "reservations", views.show_reservations, "show the reservations that haven't ended"
+    )
     rows.add_argument("--all", action="store_true", help="those that have ended too")
     rows.add_argument("--mine", action="store_true", help="those of the user alone")
 
 
 def add_jobs(command) -> None:
-    jobs = command("jobs", show_jobs, "show jobs")
+    jobs = command("jobs", views.show_jobs, "show jobs")
     jobs.add_argument("--text", action="store_true", help="print the text that was submitted")
     jobs.add_argument("numbers", metavar="N", nargs="+", type=number, help="a job's number")
     submit = command("submit", submit_job, "submit a job file, and print the job's number")
@@ -172,53 +217,6 @@ def seconds(text: str) -> float:
     return given
 
 
-# ---- views
-
-
-def show(options, said: dict, rows, columns) -> int:
-    """Prints what the desk answered, or its rows as lines."""
-    if options.json:
-        print_json(said)
-    else:
-        print("\n".join(tables.lines_of(rows, columns)))
-    return 0
-
-
-def print_json(said) -> None:
-    print(json.dumps(said, ensure_ascii=False, separators=(",", ":")), flush=True)
-
-
-def show_boards(desk, options) -> int:
-    wanted = set(options.tags)
-    rows = [
-        it for it in desk.look("/boards")["boards"] if wanted <= {*it["tags"], f"name={it['name']}"}
-    ]
-    return show(options, {"boards": rows}, rows, tables.BOARDS)
-
-
-def show_queue(desk, options) -> int:
-    said = desk.look("/queue")
-    rows = [{**it, "place": place} for place, it in enumerate(said["queue"], 1)]
-    return show(options, said, rows, tables.QUEUE)
-
-
-def show_reservations(desk, options) -> int:
-    rows = desk.look("/reservations")["reservations"]
-    if not options.all:
-        rows = [it for it in rows if it["state"] not in tables.ENDED]
-    if options.mine:
-        rows = [it for it in rows if it["owner"] == desk.user]
-    return show(options, {"reservations": rows}, rows, tables.RESERVATIONS)
-
-
-def show_jobs(desk, options) -> int:
-    rows = [desk.look(f"/jobs/{it}") for it in options.numbers]
-    if options.text:
-        sys.stdout.write("".join(it["text"] for it in rows))
-        return 0
-    return show(options, {"jobs": rows}, rows, tables.JOBS)
-
-
 # ---- jobs
 
 
@@ -228,21 +226,35 @@ def submit_job(desk, options) -> int:
     else:
         with open(options.file, "rb") as file:
             text = file.read()
-    said = desk.tell("/jobs", text, calls.fresh_key())
+    if options.wait:
+        options.clock.look()
+    try:
+        said = desk.tell("/jobs", text, calls.fresh_key())
+    except calls.Refused as refusal:
+        fault = job_file.fault_of(text) if refusal.code in calls.BAD_JOB_FILE else None
+        raise refusal.about(fault) if fault else refusal
+    options.clock.note_own()
     print_number(options, said)
     return await_end(desk, options, said["number"]) if options.wait else 0
 
 
 def cancel_job(desk, options) -> int:
-    said = desk.tell(f"/jobs/{options.number}/cancel", key=calls.fresh_key())
+    try:
+        said = desk.tell(f"/jobs/{options.number}/cancel", key=calls.fresh_key())
+    except calls.Refused as refusal:
+        if refusal.code != calls.WRONG_JOB_STATE:
+            raise
+        job = desk.look(f"/jobs/{options.number}")
+        how = f" ({job['result']})" if job["result"] else ""
+        raise refusal.about(f"job {options.number} is {job['state']}{how}")
     if options.json:
-        print_json(said)
+        views.print_json(said)
     return 0
 
 
 def print_number(options, said: dict) -> None:
     if options.json:
-        print_json(said)
+        views.print_json(said)
     else:
         print(said["number"], flush=True)
 
@@ -250,9 +262,12 @@ def print_number(options, said: dict) -> None:
 def await_end(desk, options, job: int) -> int:
     """Waits for a job's end, and prints how it ended. The status says whether all members are
     Complete."""
-    members = waiting.wait_for_end(desk, job, options.every)
+    try:
+        members = waiting.wait_for_end(desk, job, options)
+    except interrupts.Interrupted as it:
+        return told(it.status, f"job {job} goes on; desk cancel {job} ends it")
     if options.json:
-        print_json({"jobs": members})
+        views.print_json({"jobs": members})
     else:
         for it in members:
             print(f"{it['number']} {it['result']} {it['board'] or '-'}")
@@ -269,21 +284,25 @@ def reserve_board(desk, options) -> int:
         print_number(options, {"number": reservation.number})
         return 0
     try:
+        options.clock.look()
         reservation.ask()
+        options.clock.note_own()
         print_number(options, {"number": reservation.number})
         return await_board(reservation, options)
-    except signals.Interrupted as it:
+    except interrupts.Interrupted as it:
         reservation.give_back()
         return it.status
 
 
 def await_board(reservation, options) -> int:
     """Waits for a reservation's board, acquires it where that is asked for, and prints it."""
-    board = waiting.wait_for_board(reservation.desk, reservation.number, options.every)
+    board = waiting.wait_for_board(
+        reservation.desk, reservation.number, reservation.tags, options
+    )
     if options.acquire:
         reservation.acquire()
     if options.json:
-        print_json({"board": board["name"], "number": reservation.number})
+        views.print_json({"board": board["name"], "number": reservation.number})
     else:
         print(board["name"], flush=True)
     return 0
@@ -291,6 +310,7 @@ def await_board(reservation, options) -> int:
 
 def wait_for(desk, options) -> int:
     """Waits for a job's end or a reservation's board: both draw their numbers from one counter."""
+    options.clock.look()
     try:
         desk.look(f"/jobs/{options.number}")
     except calls.Refused as refusal:
@@ -299,7 +319,8 @@ def wait_for(desk, options) -> int:
     else:
         return await_end(desk, options, options.number)
     desk.nudge(f"/reservations/{options.number}/refresh")
-    reservation = holding.Reservation(desk, [], None)
+    options.clock.note_own()
+    reservation = holding.Reservation(desk, None, None)
     reservation.number = options.number
     options.acquire = False
     return await_board(reservation, options)
@@ -309,11 +330,17 @@ def change_reservation(desk, options) -> int:
     """Acquires, releases, refreshes or cancels. A refresh that is done twice does no harm, and has
     no key."""
     path = f"/reservations/{options.number}/{options.action}"
-    said = desk.nudge(path) if options.action == "refresh" else desk.tell(
-        path, key=calls.fresh_key()
-    )
+    try:
+        said = desk.nudge(path) if options.action == "refresh" else desk.tell(
+            path, key=calls.fresh_key()
+        )
+    except calls.Refused as refusal:
+        if refusal.code != calls.WRONG_RESERVATION_STATE:
+            raise
+        state = waiting.row_of(desk, options.number)["state"]
+        raise refusal.about(f"reservation {options.number} is {state}")
     if options.json:
-        print_json(said)
+        views.print_json(said)
     elif options.action == "acquire":
         board = waiting.board_of(desk, options.number)
         print(board["name"] if board else "-")

@@ -7,10 +7,12 @@ import sys
 import time
 
 from farm_tools import calls, waiting
-from farm_tools.signals import SIGNALS, Interrupted, check
+from farm_tools.interrupts import SIGNALS, Interrupted, check
 
 OF_ITSELF, NOT_RUN, NOT_FOUND = 125, 126, 127
 GIVES_UP = 60
+# Signals that keys of a terminal stand for, and the code of those that the system sends.
+KEYS, SI_KERNEL = (signal.SIGINT, signal.SIGQUIT), 0x80
 
 
 class Reservation:
@@ -18,6 +20,7 @@ class Reservation:
 
     def __init__(self, desk, tags, priority):
         self.desk = desk
+        self.tags = tags
         self.body = {"tags": tags} if priority is None else {"tags": tags, "priority": priority}
         self.key = calls.fresh_key()
         self.number = None
@@ -66,9 +69,10 @@ class Reservation:
 def run_with_board(desk, options) -> int:
     """Reserves, waits, acquires, runs the command, and gives back whatever happens. Returns the
     exit status."""
-    if not shutil.which(options.words[0]):
-        print(f"desk: {options.words[0]}: no such command", file=sys.stderr)
-        return NOT_FOUND
+    status, fault = fault_of(options.words[0])
+    if status:
+        print(f"desk: {options.words[0]}: {fault}", file=sys.stderr)
+        return status
     reservation = Reservation(desk, options.tags, options.priority)
     try:
         status = ran_with(reservation, options)
@@ -79,6 +83,7 @@ def run_with_board(desk, options) -> int:
         status, asked = it.status, True
     except Exception:
         # Whatever it was, the board isn't kept.
+        signal.pthread_sigmask(signal.SIG_BLOCK, SIGNALS)
         if reservation.number is not None:
             reservation.give_back()
         raise
@@ -87,11 +92,24 @@ def run_with_board(desk, options) -> int:
     return status
 
 
+def fault_of(command: str):
+    """Why a command can't be run: a shell's status and its reason, 0 where it can."""
+    if shutil.which(command):
+        return 0, ""
+    if shutil.which(command, mode=os.F_OK) or (os.sep in command and os.path.isdir(command)):
+        return NOT_RUN, "it can't be run"
+    return NOT_FOUND, "no such command"
+
+
 def ran_with(reservation, options) -> int:
     """The exit status of the command that ran with a reservation's board, or that of a fault."""
     try:
+        options.clock.look()
         reservation.ask()
-        board = waiting.wait_for_board(reservation.desk, reservation.number, options.every)
+        options.clock.note_own()
+        board = waiting.wait_for_board(
+            reservation.desk, reservation.number, reservation.tags, options
+        )
         reservation.acquire()
         check()
         return run(options.words, board, reservation.number)
@@ -104,8 +122,9 @@ def run(words, board: dict, number: int) -> int:
     """Runs a command, and hands signals on to it. Returns its exit status, 128 and the number for a
     signal.
 
-    Signals are blocked from here on: the terminal sends its own to the command too, and those of
-    other processes are handed on.
+    Signals are blocked from here on. A terminal sends what its keys stand for to the command too;
+    all others are handed on, the terminal's hangup among them, which comes to its session's leader
+    alone.
     """
     environment = {
         **os.environ,
@@ -127,6 +146,7 @@ def run(words, board: dict, number: int) -> int:
         return NOT_RUN
     while child.poll() is None:
         came = signal.sigwaitinfo((*SIGNALS, signal.SIGCHLD))
-        if came.si_signo != signal.SIGCHLD and came.si_pid > 0:
+        of_a_key = came.si_signo in KEYS and came.si_code == SI_KERNEL
+        if came.si_signo != signal.SIGCHLD and not of_a_key:
             child.send_signal(came.si_signo)
     return child.returncode if child.returncode >= 0 else 128 - child.returncode

@@ -18,6 +18,8 @@ QUEUE = [
     ("BOARDS", lambda it: it["boards"]),
     ("OWNER", lambda it: it["owner"]),
 ]
+# where a claim of the queue has one
+NOTE = [("NOTE", lambda it: it["note"])]
 JOBS = [
     ("NUMBER", lambda it: it["number"]),
     ("GROUP", lambda it: it["group"]),

@@ -1,12 +1,15 @@
 """Waiting: for the end of a job, or for a reservation's board."""
+import os
 import sys
 import time
+from typing import Dict, List, Optional
 
-from farm_tools import calls, signals
+from farm_tools import calls, interrupts, wants
 
 # A reservation that isn't refreshed lives for sixty seconds.
 REFRESH = 20
 NOT_FOUND = 404
+WIDTH = 80
 
 
 class Gone(Exception):
@@ -14,35 +17,95 @@ class Gone(Exception):
 
 
 class Progress:
-    """What a wait has come to, on standard error: one line that changes on a terminal, elsewhere a
+    """What a wait has come to, on standard error: a text that changes on a terminal, elsewhere a
     line a change."""
 
     def __init__(self):
         self.terminal = sys.stderr.isatty()
         self.begun = time.monotonic()
         self.shown = None
+        self.rows = 0
 
     def show(self, text: str) -> None:
         if self.terminal:
             waited = int(time.monotonic() - self.begun)
-            print(f"\r\033[K{text} ({waited} s)", end="", file=sys.stderr, flush=True)
+            line = f"{text} ({waited} s)"
+            print(self._erased() + line, end="", file=sys.stderr, flush=True)
+            self.rows = -(-len(line) // columns())
         elif text != self.shown:
             print(text, file=sys.stderr, flush=True)
         self.shown = text
 
+    def tell(self, text: str) -> None:
+        """Tells what stays, on a line of its own."""
+        print(f"{self._erased()}desk: {text}", file=sys.stderr, flush=True)
+
     def end(self) -> None:
-        """Clears the line of a terminal."""
-        if self.terminal and self.shown is not None:
-            print("\r\033[K", end="", file=sys.stderr, flush=True)
+        """Clears what a terminal shows."""
+        try:
+            print(self._erased(), end="", file=sys.stderr, flush=True)
+        except OSError:
+            pass  # the terminal is gone
+
+    def _erased(self) -> str:
+        """What erases the rows that a terminal shows of it."""
+        rows, self.rows = self.rows, 0
+        up = f"\033[{rows - 1}A" if rows > 1 else ""
+        return f"\r{up}\033[J" if rows else ""
 
 
-def place_of(desk, kind: str, number: int):
-    """Where a claim stands, as `place 2 of 5 in the queue`, or None where it isn't in the queue."""
-    queue = desk.look("/queue")["queue"]
-    for place, claim in enumerate(queue, 1):
-        if (claim["kind"], claim["number"]) == (kind, number):
-            return f"place {place} of {len(queue)} in the queue"
-    return None
+def columns() -> int:
+    """How wide the terminal of standard error is."""
+    try:
+        return os.get_terminal_size(sys.stderr.fileno()).columns or WIDTH
+    except OSError:
+        return WIDTH
+
+
+class Wait:
+    """What a wait asks the desk, look after look."""
+
+    def __init__(self, desk, clock):
+        self.desk = desk.of_patience(0)
+        self.clock = clock
+        self.checked = None
+        self.owners: Dict[str, str] = {}
+
+    def place(self, kind: str, number: int) -> Optional[str]:
+        """Where a claim stands, as `place 2 of 5 in the queue`, or None where it isn't in the
+        queue."""
+        queue = self.desk.look("/queue")["queue"]
+        for place, claim in enumerate(queue, 1):
+            if (claim["kind"], claim["number"]) == (kind, number):
+                return f"place {place} of {len(queue)} in the queue"
+        return None
+
+    def reason(self, wanted: List[wants.Want]) -> str:
+        """Why these wants wait, behind a colon, or nothing."""
+        if self.checked is None:
+            self.checked = wants.checked_types(self.desk)
+        lab = wants.Lab(self.desk, self.checked, self.owners)
+        self.clock.note_met(lab.is_met(wanted))
+        why = lab.reason(wanted)
+        return f": {why}" if why else ""
+
+    def until_there(self, look, every: float):
+        """What `look` finds, which is asked again and again until it finds something. It is given
+        what shows progress."""
+        progress = Progress()
+        try:
+            while True:
+                try:
+                    found = look(progress)
+                    if found:
+                        return found
+                    self.clock.look(progress.tell)
+                except calls.NoAnswer as fault:
+                    progress.show(f"no answer from the desk: {fault}")
+                interrupts.check()
+                time.sleep(every)
+        finally:
+            progress.end()
 
 
 def members_of(desk, number: int) -> list:
@@ -62,29 +125,29 @@ def members_of(desk, number: int) -> list:
         members.append(view)
 
 
-def wait_for_end(desk, number: int, every: float) -> list:
+def wait_for_end(desk, number: int, options) -> list:
     """Waits until all members of a job's group are Finished. Returns their views."""
-    desk = desk.of_patience(0)
-    progress = Progress()
-    try:
-        while True:
-            try:
-                members = members_of(desk, number)
-                waits = [it for it in members if it["state"] != "Finished"]
-                if not waits:
-                    return members
-                place = place_of(
-                    desk, "group", waits[0]["group"]
-                ) if waits[0]["state"] in ("Submitted", "Scheduling") else None
-                progress.show(
-                    f"job {number} is {waits[0]['state']}" + (f", {place}" if place else "")
-                )
-            except calls.NoAnswer as fault:
-                progress.show(f"no answer from the desk: {fault}")
-            signals.check()
-            time.sleep(every)
-    finally:
-        progress.end()
+    wait = Wait(desk, options.clock)
+
+    def look(progress):
+        members = members_of(wait.desk, number)
+        waits = [it for it in members if it["state"] != "Finished"]
+        if waits:
+            progress.show(f"job {number} is {state_and_place(wait, waits)}")
+        return members if not waits else None
+
+    return wait.until_there(look, options.every)
+
+
+def state_and_place(wait: Wait, members: list) -> str:
+    """The state of the first of these members, where its group stands, and why it waits."""
+    state = members[0]["state"]
+    if state not in ("Submitted", "Scheduling"):
+        return state
+    place = wait.place("group", members[0]["group"])
+    if not place:
+        return state
+    return f"{state}, {place}{wait.reason([wants.want_of_job(it) for it in members])}"
 
 
 def board_of(desk, number: int):
@@ -93,41 +156,51 @@ def board_of(desk, number: int):
     return next((it for it in boards if it["holder"] == f"reservation {number}"), None)
 
 
-def wait_for_board(desk, number: int, every: float) -> dict:
-    """Waits until a reservation has a board, and refreshes it meanwhile. Returns the board's
-    view."""
-    desk = desk.of_patience(0)
-    progress = Progress()
+def wait_for_board(desk, number: int, tags: Optional[list], options) -> dict:
+    """Waits until a reservation has a board, and refreshes it meanwhile. Returns the board's view.
+
+    `tags` are those that it asks for, where they are known."""
+    wait = Wait(desk, options.clock)
     refreshed = time.monotonic()
-    try:
-        while True:
-            try:
-                if time.monotonic() - refreshed >= REFRESH:
-                    desk.nudge(f"/reservations/{number}/refresh")
-                    refreshed = time.monotonic()
-                place = place_of(desk, "reservation", number)
-                board = None if place else board_of(desk, number)
-                if board:
-                    return board
-                state = "waiting" if place else state_of(desk, number)
-                progress.show(f"reservation {number} is {state}" + (f", {place}" if place else ""))
-            except calls.NoAnswer as fault:
-                progress.show(f"no answer from the desk: {fault}")
-            except calls.Refused as refusal:
-                if refusal.code == calls.EXPIRED:
-                    raise Gone(f"reservation {number} has expired") from refusal
-                raise
-            signals.check()
-            time.sleep(every)
-    finally:
-        progress.end()
+    want = None if tags is None else wants.Want("", tuple(tags))
+
+    def look(progress):
+        nonlocal refreshed, want
+        try:
+            if time.monotonic() - refreshed >= REFRESH:
+                wait.desk.nudge(f"/reservations/{number}/refresh")
+                wait.clock.note_own()
+                refreshed = time.monotonic()
+        except calls.Refused as refusal:
+            if refusal.code == calls.EXPIRED:
+                raise Gone(f"reservation {number} has expired") from refusal
+            raise
+        place = wait.place("reservation", number)
+        board = None if place else board_of(wait.desk, number)
+        if board:
+            return board
+        if place and want is None:
+            want = wants.want_of_reservation(row_of(wait.desk, number))
+        state = f"waiting, {place}{wait.reason([want])}" if place else state_of(wait.desk, number)
+        progress.show(f"reservation {number} is {state}")
+        return None
+
+    return wait.until_there(look, min(options.every, REFRESH))
+
+
+def row_of(desk, number: int) -> dict:
+    """The view of a reservation."""
+    rows = desk.look("/reservations")["reservations"]
+    row = next((it for it in rows if it["number"] == number), None)
+    if row is None:
+        raise Gone(f"reservation {number} is unknown")
+    return row
 
 
 def state_of(desk, number: int) -> str:
     """The state of a reservation that has neither a place in the queue nor a board, where it hasn't
     ended."""
-    rows = desk.look("/reservations")["reservations"]
-    state = next((it["state"] for it in rows if it["number"] == number), "unknown")
-    if state in ("expired", "canceled", "unknown"):
+    state = row_of(desk, number)["state"]
+    if state in ("expired", "canceled"):
         raise Gone(f"reservation {number} is {state}")
     return state

@@ -1,0 +1,87 @@
+"""What an admin tells the desk: types, boards, their tags and health, and a lab file."""
+import argparse
+import sys
+
+from farm_tools import calls, lab_import, views
+from farm_tools.lab_file import LONGEST_EVERY
+
+REFUSED = 3
+HEALTHS = ("Good", "Bad", "Unknown", "Maintenance", "Retired")
+
+
+def add_commands(command) -> None:
+    """Adds these commands, each of which asks as the admin where nothing names another."""
+    health = command("health", set_health, "set the health of boards")
+    health.add_argument("boards", metavar="BOARD", nargs="+", help="a board's name")
+    health.add_argument("health", metavar="HEALTH", type=health_called, help=", ".join(HEALTHS))
+    tags = command("tags", set_tags, "give a board these tags in the place of those it has")
+    tags.add_argument("board", metavar="BOARD", help="the board's name")
+    tags.add_argument("tags", metavar="TAG", nargs="*", help="a tag of the board")
+    tags.add_argument("--none", action="store_true", help="it has no tags from now on")
+    kind = command("add-type", add_type, "add a type of boards")
+    kind.add_argument("name", metavar="NAME", help="the type's name")
+    kind.add_argument("--check", choices=lab_import.CHECKS, help="how its boards are checked")
+    kind.add_argument("--every", metavar="N", type=frequency, help="each so many hours or jobs")
+    board = command("add-board", add_board, "add a board, which is in Maintenance at first")
+    board.add_argument("name", metavar="NAME", help="the board's name")
+    board.add_argument("type", metavar="TYPE", help="its type")
+    board.add_argument("tags", metavar="TAG", nargs="*", help="a tag of the board")
+    lab = command("import", lab_import.import_lab, "add the types and boards of a lab file")
+    lab.add_argument("file", metavar="FILE", help="the lab file, - for the input")
+    for each in (health, tags, kind, board, lab):
+        each.set_defaults(asks_as="admin", parser=each)
+
+
+def health_called(text: str) -> str:
+    """A health, in letters of any case."""
+    for health in HEALTHS:
+        if health.lower() == text.lower():
+            return health
+    raise argparse.ArgumentTypeError(f"{text} is none of {', '.join(HEALTHS)}")
+
+
+def frequency(text: str) -> int:
+    if not (text.isascii() and text.isdigit() and 1 <= int(text) <= LONGEST_EVERY):
+        raise argparse.ArgumentTypeError(f"{text} is no number from 1 to {LONGEST_EVERY:,}")
+    return int(text)
+
+
+def set_health(desk, options) -> int:
+    """Sets the health of one board after another; one that is refused keeps none of the others."""
+    status = 0
+    for board in options.boards:
+        try:
+            give(desk, options, f"/boards/{board}/health", {"health": options.health})
+        except calls.Refused as refusal:
+            if refusal.status == calls.NOT_LET_IN or refusal.code == calls.FORBIDDEN:
+                raise
+            print(f"desk: board {board}: refused: {refusal}", file=sys.stderr, flush=True)
+            status = REFUSED
+    return status
+
+
+def set_tags(desk, options) -> int:
+    if bool(options.tags) == options.none:
+        options.parser.error("give its tags, or --none")
+    return give(desk, options, f"/boards/{options.board}/tags", {"tags": options.tags})
+
+
+def add_type(desk, options) -> int:
+    has_check = options.check not in (None, "none")
+    if has_check != (options.every is not None):
+        options.parser.error("--check and --every belong together")
+    body = {"check": options.check, "every": options.every} if has_check else {}
+    return give(desk, options, "/types", {"name": options.name, **body})
+
+
+def add_board(desk, options) -> int:
+    body = {"name": options.name, "type": options.type, "tags": options.tags}
+    return give(desk, options, "/boards", body)
+
+
+def give(desk, options, path: str, body: dict) -> int:
+    """Gives one command under a fresh key."""
+    said = desk.tell(path, body, calls.fresh_key())
+    if options.json:
+        views.print_json(said)
+    return 0

@@ -1,0 +1,77 @@
+"""Which rule a job file breaks that the desk refused without a word on it."""
+from typing import Optional
+
+from farm_tools import toml_text, words
+from farm_tools.lab_file import HIGHEST_PRIORITY, LONGEST_JOB_FILE, MOST_WANTS
+from farm_tools.words import BadFile
+
+PRIORITIES = ("low", "medium", "high")
+
+
+def fault_of(data: bytes) -> Optional[str]:
+    """The first rule that a job file breaks, in the desk's order, or None where none is found."""
+    if len(data) > LONGEST_JOB_FILE:
+        return f"it has more than {LONGEST_JOB_FILE:,} bytes"
+    try:
+        read(toml_text.tree_of(data.decode()))
+    except UnicodeDecodeError as fault:
+        return f"it isn't UTF-8 at byte {fault.start}"
+    except (BadFile, toml_text.NotToml) as fault:
+        return str(fault)
+    return None
+
+
+def read(tree: dict) -> None:
+    """Goes through a job file's keys."""
+    title = tree.get("job_name")
+    if title is None or title == "":
+        raise BadFile("there is no job_name, or it is empty")
+    if not isinstance(title, str):
+        raise BadFile("job_name isn't a text")
+    read_priority(tree.get("priority", "medium"))
+    if "device_type" in tree and "roles" in tree:
+        raise BadFile("it has both device_type and roles")
+    if "device_type" in tree:
+        words.name_of(tree["device_type"], "device_type")
+        words.tags_of(tree.get("tags"))
+    elif "roles" in tree:
+        if "tags" in tree:
+            raise BadFile("tags stand beside roles, and belong into each role")
+        read_roles(words.table_of(tree["roles"], "roles"))
+    else:
+        raise BadFile("it has neither device_type nor roles")
+
+
+def read_priority(value) -> None:
+    if isinstance(value, str):
+        good = value in PRIORITIES
+    elif isinstance(value, (int, float)) and not isinstance(value, bool):
+        good = isinstance(value, int) and 0 <= value <= HIGHEST_PRIORITY
+    else:
+        raise BadFile("priority is neither a whole number nor a text")
+    if not good:
+        named = ", ".join(PRIORITIES)
+        raise BadFile(f"priority {value!r} is none of {named} and 0 to {HIGHEST_PRIORITY}")
+
+
+def read_roles(roles: dict) -> None:
+    boards = 0
+    for name, role in sorted(roles.items(), key=lambda it: it[0].encode()):
+        try:
+            boards += read_role(name, role)
+        except BadFile as fault:
+            raise BadFile(f"role {name}: {fault}") from fault
+    if not 1 <= boards <= MOST_WANTS:
+        raise BadFile(f"its roles want {boards} boards, and 1 to {MOST_WANTS} are given")
+
+
+def read_role(name: str, role) -> int:
+    """Goes through a role's keys. Returns how many boards it wants."""
+    words.name_of(name, "the role's name")
+    words.table_of(role, "it")
+    words.name_of(role.get("device_type"), "device_type")
+    count = words.whole_of(role.get("count"), "count")
+    if not 1 <= count <= MOST_WANTS:
+        raise BadFile(f"count is {count}, and is 1 to {MOST_WANTS}")
+    words.tags_of(role.get("tags"))
+    return count

@@ -1,0 +1,124 @@
+"""A lab file's types and boards, added over HTTP as `farm import` adds them."""
+import sys
+from typing import List, NamedTuple
+
+from farm_tools import calls, toml_text, views, words
+from farm_tools.lab_file import LONGEST_EVERY, LONGEST_LAB_FILE
+from farm_tools.words import BadFile
+
+CHECKS = ("none", "hours", "jobs")
+TYPE_EXISTS, BOARD_EXISTS = 11, 13
+REFUSED = 3
+
+
+class Addition(NamedTuple):
+    """A command that adds a type or a board; `section` is the table of the file that it is in."""
+
+    section: str
+    name: str
+    body: dict
+
+    def told(self) -> str:
+        return f"{self.section[:-1]} {self.name}"
+
+    def key(self) -> str:
+        return f"{self.section[:-1]}.{self.name}"
+
+
+def additions_of(text: str) -> List[Addition]:
+    """The commands of a lab file in the order of `farm import`: the types in the byte order of
+    their names, then the boards in theirs. The first fault is raised as BadFile."""
+    try:
+        tree = toml_text.tree_of(text)
+    except toml_text.NotToml as fault:
+        raise BadFile(str(fault)) from fault
+    found = []
+    for section, body_of in (("types", type_of), ("boards", board_of)):
+        rows = words.table_of(tree.get(section, {}), section)
+        for name in sorted(rows, key=str.encode):
+            try:
+                words.name_of(name, "its name")
+                row = words.table_of(rows[name], "it")
+                found.append(Addition(section, name, {"name": name, **body_of(row)}))
+            except BadFile as fault:
+                line = toml_text.line_of(text, (section, name))
+                raise BadFile(f"line {line}: {section[:-1]} {name}: {fault}") from fault
+    return found
+
+
+def type_of(row: dict) -> dict:
+    check = row.get("check", "none")
+    if check not in CHECKS:
+        raise BadFile("check is none of none, hours and jobs")
+    if check == "none":
+        return {}
+    every = words.whole_of(row.get("every"), "every")
+    if not 1 <= every <= LONGEST_EVERY:
+        raise BadFile(f"every is {every}, and is 1 to {LONGEST_EVERY:,}")
+    return {"check": check, "every": every}
+
+
+def board_of(row: dict) -> dict:
+    kind = words.name_of(row.get("type"), "type")
+    tags = words.tags_of(row.get("tags"))
+    for tag in tags:
+        if tag.split("=")[0] == "name":
+            raise BadFile(f"tag {tag} isn't a board's own: its name is its tag of this key")
+    return {"type": kind, "tags": tags}
+
+
+def import_lab(desk, options) -> int:
+    """Adds what a lab file lists and no earlier import added, up to the first refusal. Returns the
+    exit status."""
+    data = sys.stdin.buffer.read() if options.file == "-" else read_file(options.file)
+    try:
+        if len(data) > LONGEST_LAB_FILE:
+            raise BadFile(f"it has more than {LONGEST_LAB_FILE:,} bytes")
+        text = data.decode()
+        additions = additions_of(text)
+    except (BadFile, UnicodeDecodeError) as fault:
+        return told(options.file, f"bad lab file: {fault}")
+    accepted = kept = 0
+    there = names_at(desk)
+    for each in additions:
+        try:
+            desk.tell(f"/{each.section}", each.body, each.key())
+        except calls.Refused as refusal:
+            line = toml_text.line_of(text, (each.section, each.name))
+            before = f"before it: accepted {accepted}, kept {kept}"
+            return told(options.file, f"line {line}: {each.told()}: {why(refusal)}; {before}")
+        if (each.section, each.name) in there:
+            kept += 1
+        else:
+            accepted += 1
+    if options.json:
+        views.print_json({"accepted": accepted, "kept": kept})
+    else:
+        print(f"accepted {accepted}, kept {kept}")
+    return 0
+
+
+def told(file: str, text: str) -> int:
+    print(f"desk: {file}: {text}", file=sys.stderr, flush=True)
+    return REFUSED
+
+
+def read_file(file: str) -> bytes:
+    with open(file, "rb") as opened:
+        return opened.read()
+
+
+def names_at(desk) -> set:
+    """The types and boards that are there. One of these can't be added again, so an answer of 200
+    for it is a kept reply; nothing is ever removed, so one for another name is a new row."""
+    return {
+        (section, row["name"]) for section in ("types", "boards") for row in desk.look(
+            f"/{section}"
+        )[section]
+    }
+
+
+def why(refusal: calls.Refused) -> str:
+    if refusal.code in (TYPE_EXISTS, BOARD_EXISTS):
+        return f"{refusal}, and no import added it"
+    return str(refusal)

@@ -1,0 +1,251 @@
+"""A small reader of TOML 1.1: for Pythons that have none (before 3.11), and for what 1.1 has beyond
+TOML 1.0, which the later ones read. Moments are given as Moment, since no file of the desk's has
+one that counts."""
+import datetime
+import re
+from typing import List, NamedTuple
+
+CONTROL = re.compile("[\0-\b\v-\x1f\x7f]")
+BLANK = re.compile(r"(?:[ \t\n]|#[^\n]*)*")
+SPACE = re.compile(r"[ \t]*")
+LINE_END = re.compile(r"[ \t]*(?:#[^\n]*)?(?:\n|\Z)")
+BARE = re.compile(r"[A-Za-z0-9_-]+")
+LONG_BASIC = re.compile(r'"""\n?((?:[^\\]|\\.)*?"{0,2})"""(?!")', re.DOTALL)
+BASIC = re.compile(r'"((?:[^"\\\n]|\\.)*)"')
+LONG_LITERAL = re.compile(r"'''\n?(.*?'{0,2})'''(?!')", re.DOTALL)
+LITERAL = re.compile(r"'([^'\n]*)'")
+ESCAPE = re.compile(
+    r"\\(?:(?:x([0-9A-Fa-f]{2})|u([0-9A-Fa-f]{4})|U([0-9A-Fa-f]{8}))|([ \t]*\n\s*)|(.))", re.DOTALL
+)
+ESCAPED = {"e": "\x1b", "b": "\b", "t": "\t", "n": "\n", "f": "\f", "r": "\r", '"': '"', "\\": "\\"}
+TIME = r"(?:[01]\d|2[0-3]):[0-5]\d(?::[0-5]\d(?:\.\d+)?)?"
+MOMENT = re.compile(
+    rf"\d{{4}}-\d\d-\d\d(?:[Tt ]{TIME}(?:[Zz]|[+-]\d\d:\d\d)?)?(?![\d:])|{TIME}"
+)
+BASED = re.compile(r"0x[0-9A-Fa-f](?:_?[0-9A-Fa-f])*|0o[0-7](?:_?[0-7])*|0b[01](?:_?[01])*")
+DIGITS = r"\d(?:_?\d)*"
+NUMBER = re.compile(
+    rf"[+-]?(?:inf|nan|(?:0|[1-9](?:_?\d)*)(\.{DIGITS})?([eE][+-]?{DIGITS})?)(?![\w.])"
+)
+
+
+class Moment(NamedTuple):
+    """A date, a time, or both, as they are written."""
+
+    text: str
+
+
+def loads(text: str) -> dict:
+    """The tables of a text. Raises ValueError where it isn't TOML."""
+    return Reader(text).document()
+
+
+class Reader:
+    """Reads a text from its beginning on."""
+
+    def __init__(self, text: str):
+        self.text = text.replace("\r\n", "\n")
+        self.at = 0
+        self.headed = set()  # tables that a line of their own named
+        self.dotted = set()  # tables that a key with dots made
+        self.closed = set()  # tables and arrays that stand as values
+
+    def fault(self, what: str) -> ValueError:
+        return ValueError(f"{what} (at line {self.text.count(chr(10), 0, self.at) + 1})")
+
+    def take(self, pattern):
+        """The match of a pattern that stands here, which is passed over, or None."""
+        found = pattern.match(self.text, self.at)
+        if found:
+            self.at = found.end()
+        return found
+
+    def passed(self, word: str) -> bool:
+        if not self.text.startswith(word, self.at):
+            return False
+        self.at += len(word)
+        return True
+
+    def demand(self, word: str) -> None:
+        self.take(SPACE)
+        if not self.passed(word):
+            raise self.fault(f"{word!r} is missing")
+
+    # ---- lines
+
+    def document(self) -> dict:
+        control = CONTROL.search(self.text)
+        if control:
+            self.at = control.start()
+            raise self.fault("a byte stands there that no text has")
+        root: dict = {}
+        table = root
+        while True:
+            self.take(BLANK)
+            if self.at == len(self.text):
+                return root
+            if self.passed("[["):
+                keys = self.keys()
+                self.demand("]]")
+                table = self.added_to_array(root, keys)
+            elif self.passed("["):
+                keys = self.keys()
+                self.demand("]")
+                table = self.headed_table(root, keys)
+            else:
+                self.pair(table)
+            if not self.take(LINE_END):
+                raise self.fault("something stands behind the end of a line")
+
+    def keys(self) -> List[str]:
+        found = []
+        while True:
+            self.take(SPACE)
+            bare = self.take(BARE)
+            found.append(bare.group() if bare else self.quoted_key())
+            self.take(SPACE)
+            if not self.passed("."):
+                return found
+
+    def quoted_key(self) -> str:
+        for pattern, read in ((BASIC, self.unescaped), (LITERAL, str)):
+            key = self.take(pattern)
+            if key:
+                return read(key.group(1))
+        raise self.fault("a key is missing")
+
+    def inner(self, table: dict, key: str) -> dict:
+        """The table under a key, the last of an array of tables; a new one where none is."""
+        found = table.setdefault(key, {})
+        if isinstance(found, list) and found and id(found) not in self.closed:
+            found = found[-1]
+        if not isinstance(found, dict) or id(found) in self.closed:
+            raise self.fault(f"{key} is a value already")
+        return found
+
+    def headed_table(self, root: dict, keys: List[str]) -> dict:
+        table = root
+        for key in keys[:-1]:
+            table = self.inner(table, key)
+        found = table.setdefault(keys[-1], {})
+        known = (self.headed, self.dotted, self.closed)
+        if not isinstance(found, dict) or any(id(found) in it for it in known):
+            raise self.fault(f"{'.'.join(keys)} is there already")
+        self.headed.add(id(found))
+        return found
+
+    def added_to_array(self, root: dict, keys: List[str]) -> dict:
+        table = root
+        for key in keys[:-1]:
+            table = self.inner(table, key)
+        found = table.setdefault(keys[-1], [])
+        if not isinstance(found, list) or id(found) in self.closed:
+            raise self.fault(f"{'.'.join(keys)} is no array of tables")
+        found.append({})
+        return found[-1]
+
+    def pair(self, table: dict) -> None:
+        keys = self.keys()
+        self.demand("=")
+        for key in keys[:-1]:
+            table = self.inner(table, key)
+            if id(table) in self.headed:
+                raise self.fault(f"{key} has a line of its own")
+            self.dotted.add(id(table))
+        if keys[-1] in table:
+            raise self.fault(f"{keys[-1]} is there already")
+        table[keys[-1]] = self.value()
+
+    # ---- values
+
+    def value(self):
+        self.take(SPACE)
+        for pattern, read in (
+            (LONG_BASIC, self.unescaped),
+            (BASIC, self.unescaped),
+            (LONG_LITERAL, str),
+            (LITERAL, str),
+        ):
+            found = self.take(pattern)
+            if found:
+                return read(found.group(1))
+        if self.passed("["):
+            return self.array()
+        if self.passed("{"):
+            return self.inline_table()
+        for word, value in (("true", True), ("false", False)):
+            if self.passed(word):
+                return value
+        return self.number()
+
+    def number(self):
+        moment = self.take(MOMENT)
+        if moment:
+            return self.moment(moment.group())
+        based = self.take(BASED)
+        if based:
+            return int(based.group().replace("_", ""), 0)
+        found = self.take(NUMBER)
+        if not found:
+            raise self.fault("a value is missing")
+        digits = found.group().replace("_", "")
+        return int(digits) if re.fullmatch(r"[+-]?\d+", digits) else float(digits)
+
+    def moment(self, text: str) -> Moment:
+        try:
+            if text[4] == "-":
+                datetime.date(int(text[:4]), int(text[5:7]), int(text[8:10]))
+        except ValueError as fault:
+            raise self.fault(f"{text} is no moment") from fault
+        return Moment(text)
+
+    def array(self) -> list:
+        found: list = []
+        self.closed.add(id(found))
+        while True:
+            self.take(BLANK)
+            if self.passed("]"):
+                return found
+            found.append(self.value())
+            self.take(BLANK)
+            if not self.passed(","):
+                self.demand("]")
+                return found
+
+    def inline_table(self) -> dict:
+        found: dict = {}
+        while True:
+            self.take(BLANK)
+            if self.passed("}"):
+                break
+            self.pair(found)
+            self.take(BLANK)
+            if not self.passed(","):
+                self.demand("}")
+                break
+        self.close(found)
+        return found
+
+    def close(self, table: dict) -> None:
+        self.closed.add(id(table))
+        for it in table.values():
+            if isinstance(it, dict):
+                self.close(it)
+
+    def unescaped(self, text: str) -> str:
+        def meaning(found) -> str:
+            code = found.group(1) or found.group(2) or found.group(3)
+            if code:
+                return self.character(int(code, 16))
+            if found.group(4) is not None:
+                return ""
+            if found.group(5) not in ESCAPED:
+                raise self.fault(f"there is no \\{found.group(5)}")
+            return ESCAPED[found.group(5)]
+
+        return ESCAPE.sub(meaning, text)
+
+    def character(self, code: int) -> str:
+        if 0xD800 <= code < 0xE000 or code > 0x10FFFF:
+            raise self.fault(f"there is no character {code:#x}")
+        return chr(code)

@@ -1,0 +1,3 @@
+"""The version of the tools: that of the package they come with, in packaging/changelog."""
+
+VERSION = "2.0"

@@ -1,0 +1,67 @@
+"""The desk's views, as lines of text or as JSON."""
+import json
+import sys
+
+from farm_tools import calls, tables, wants
+
+REFUSED = 3
+
+
+def show(options, said: dict, rows, columns) -> int:
+    """Prints what the desk answered, or its rows as lines."""
+    if options.json:
+        print_json(said)
+    else:
+        print("\n".join(tables.lines_of(rows, columns)))
+    return 0
+
+
+def print_json(said) -> None:
+    print(json.dumps(said, ensure_ascii=False, separators=(",", ":")), flush=True)
+
+
+def show_boards(desk, options) -> int:
+    want = wants.Want("", tuple(options.tags))
+    rows = [it for it in desk.look("/boards")["boards"] if wants.fits(it, want)]
+    return show(options, {"boards": rows}, rows, tables.BOARDS)
+
+
+def show_queue(desk, options) -> int:
+    said = desk.look("/queue")
+    if options.json:
+        print_json(said)
+        return 0
+    notes = wants.notes_of(desk, said["queue"])
+    rows = [
+        {**it, "place": place, "note": notes.get(it["number"], "")} for place, it in enumerate(
+            said["queue"], 1
+        )
+    ]
+    return show(options, said, rows, tables.QUEUE + (tables.NOTE if any(notes.values()) else []))
+
+
+def show_reservations(desk, options) -> int:
+    rows = desk.look("/reservations")["reservations"]
+    if not options.all:
+        rows = [it for it in rows if it["state"] not in tables.ENDED]
+    if options.mine:
+        rows = [it for it in rows if it["owner"] == desk.user]
+    return show(options, {"reservations": rows}, rows, tables.RESERVATIONS)
+
+
+def show_jobs(desk, options) -> int:
+    """Shows the jobs that are there; those that aren't are told."""
+    rows, status = [], 0
+    for number in options.numbers:
+        try:
+            rows.append(desk.look(f"/jobs/{number}"))
+        except calls.Refused as refusal:
+            if refusal.code != calls.NO_JOB:
+                raise
+            print(f"desk: job {number}: refused: {refusal}", file=sys.stderr, flush=True)
+            status = REFUSED
+    if options.text:
+        sys.stdout.write("".join(it["text"] for it in rows))
+    elif rows:
+        show(options, {"jobs": rows}, rows, tables.JOBS)
+    return status
