@@ -169,10 +169,10 @@ def names_and_passwords(farm, door):
     demand("a reservation", (0, "1\n", ""), desk(door, "reserve"))
     demand("whose it is", "ann", farm.reservation(1)["owner"])
     demand("its end", (0, "", ""), desk(door, "cancel-reservation", "1"))
-    refused = (3, "", "desk: refused: 401 Unauthorized\n")
+    refused = "desk: refused: 401 Unauthorized: asked as ann, {} a password\n"
     other = {"DESK_PASSWORD_FILE": os.path.join(door.folder, "dispatcher")}
-    demand("another's password", refused, desk(door, "queue", **other))
-    demand("no password", refused, desk(door, "queue", DESK_PASSWORD_FILE=""))
+    demand("another's password", (3, "", refused.format("with")), desk(door, "queue", **other))
+    demand("no password", (3, "", refused.format("without")), desk(door, "queue", DESK_PASSWORD_FILE=""))
     begun = time.monotonic()
     status, _, errors = desk(door, "queue", DESK_CA_FILE="")
     demand("a certificate that nobody knows", (4, 1), (status, errors.count("\n")))
@@ -468,9 +468,9 @@ def flood(farm, folder):
 
 def desk_that_is_away(farm, door):
     farm.kill()
-    demand(
-        "no desk", (4, "", "desk: no answer from the desk: 502 Bad Gateway\n"), desk(door, "queue")
-    )
+    said = f"desk: waiting for the desk at {door.server}: 502 Bad Gateway\n"
+    said += "desk: no answer from the desk: 502 Bad Gateway\n"
+    demand("no desk", (4, "", said), desk(door, "queue"))
     farm.start()
     demand("a desk again", 0, desk(door, "queue")[0])
     return "where the desk is away the client asks again, and then ends with status 4"
