@@ -3,4 +3,5 @@ pub mod Request
 pub mod Heads
 pub mod Requests
 pub mod Counts
+pub mod Turns
 pub mod Faults

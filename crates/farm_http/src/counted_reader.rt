@@ -1,11 +1,13 @@
 //! A reader that counts its calls. No contract over a reader can say that it failed, so its count
 //! says it; only `CountedReader::read` calls the reader, and only it counts.
-ghost use Rattle.std.specs.Prelude.{◌≡◌, ◌+◌, ◌^◌, ◌<◌, false};
+ghost use Rattle.std.specs.Prelude.{◌≡◌, ◌+◌, ◌^◌, ◌<◌, false, IsOk};
 ghost use Rattle.std.specs.Io.{ReadsAtMost};
 ghost use Rattle.std.specs.Io.KnownBytes.{ReadConsumes};
+ghost use Rattle.farm_http.specs.Turns.{IsOneMore};
 
+use crate::input::Input;
 use std::io;
-use std::io::{ErrorKind, Read};
+use std::io::ErrorKind;
 
 /// A lent reader, how often it was called for one request, and whether it failed.
 #[derive(Drop)]
@@ -15,7 +17,7 @@ pub struct CountedReader<'a, R> {
     failed: bool,
 }
 
-impl<'a, R: Read> CountedReader<'a, R> {
+impl<'a, R: Input> CountedReader<'a, R> {
     ghost use Rattle.farm_http.specs.Counts.{nothing_read, reader_of, reading_of, IsSameReader, TellsFailure};
 
     /// A reader that was not called yet.
@@ -55,9 +57,13 @@ impl<'a, R: Read> CountedReader<'a, R> {
             (R.remaining (reader_of self.new)) result buf.new }
         ensures counted { (reading_of self.new).calls ≡ (reading_of self.old).calls + 1 }
         ensures failed { TellsFailure result (reading_of self.new).failed }
+
+        // It is one call by the reader's own count too, and a reader that never fails gives bytes.
+        ensures once { IsOneMore (R.turns (reader_of self.old)) (R.turns (reader_of self.new)) }
+        ensures sure { R.never_fails → IsOk result }
     {
         self.calls += 1;
-        let result = self.reader.read(buf);
+        let result = self.reader.read_once(buf);
         if let Err(error) = &result {
             self.failed = error.kind() != ErrorKind::Interrupted;
         }

@@ -1,10 +1,11 @@
 //! A writer that counts its calls. No contract over a writer can say that it failed, so its count
 //! says it; only `CountedWriter::write` calls the writer, and only it counts.
 ghost use Rattle.std.specs.Prelude.{◌≡◌, ◌+◌, ◌^◌, ◌<◌, ◌≤◌, true, false, length, take, IfOk, OnOk};
-ghost use Rattle.std.specs.Prelude.{OnErr};
+ghost use Rattle.std.specs.Prelude.{Ok, OnErr};
 ghost use Rattle.std.specs.Io.KnownBytes.{Appends, Keeps};
+ghost use Rattle.farm_http.specs.Turns.{IsOneMore};
 
-use std::io::Write;
+use crate::output::Output;
 
 /// A lent writer, how often it was called for one answer, and whether it failed.
 #[derive(Drop)]
@@ -18,7 +19,7 @@ pub struct CountedWriter<'a, W> {
 #[derive(Clone, Copy, Debug, PartialEq, Eq)]
 pub struct NotTaken;
 
-impl<'a, W: Write> CountedWriter<'a, W> {
+impl<'a, W: Output> CountedWriter<'a, W> {
     ghost use Rattle.farm_http.specs.Counts.{nothing_written, writer_of, writing_of, IsSameWriter};
 
     /// A writer that was not called yet.
@@ -63,9 +64,14 @@ impl<'a, W: Write> CountedWriter<'a, W> {
         ensures counted { (writing_of self.new).calls ≡ (writing_of self.old).calls + 1 }
         ensures alive { OnOk result ((writing_of self.new).failed ≡ false) }
         ensures failed { OnErr result ((writing_of self.new).failed ≡ true) }
+
+        // It is one call by the writer's own count too, and a writer with room takes all.
+        ensures once { IsOneMore (W.turns (writer_of self.old)) (W.turns (writer_of self.new)) }
+        ensures sure { W.has_room (writer_of self.old) (length bytes.now)
+            → result ≡ Ok (length bytes.now) }
     {
         self.calls += 1;
-        match self.writer.write(bytes) {
+        match self.writer.write_once(bytes) {
             Ok(count) if count > 0 => Ok(count),
             _ => {
                 self.failed = true;

@@ -1,5 +1,6 @@
-//! Laws over what is taken of an input.
-ghost use Rattle.std.specs.Prelude.{◌≡◌, ℕ, ◌≤◌, ◌++◌, List, Result, length};
+//! Laws over what is taken of an input and written to an output.
+ghost use Rattle.std.specs.Prelude.{◌≡◌, ℕ, ◌+◌, ◌≤◌, ◌++◌, List, IsOk, Result, Some, length};
+ghost use Rattle.std.specs.Prelude.{vec_capacity};
 ghost use Rattle.httparse.specs.Grammar.{RequestHead, ReadsRequest, print_request};
 ghost use Rattle.farm_types.specs.Limits.{longest_head, most_fields};
 ghost use Rattle.farm_http.specs.declared.fault.WireFault.{WireFault};
@@ -7,7 +8,13 @@ ghost use Rattle.farm_http.specs.declared.taken.Taken.{Taken};
 ghost use Rattle.farm_http.specs.Heads.{HasNoHead};
 ghost use Rattle.farm_http.specs.Counts.{Reading, IsSpent};
 ghost use Rattle.farm_http.specs.Requests.{IsRequest};
-ghost use Rattle.farm_http.specs.Faults.{Gives, IsTaken};
+ghost use Rattle.farm_http.specs.Faults.{Gives, IsTaken, TakesFrom};
+
+use crate::fault::WireFault;
+use crate::request::read_request;
+use crate::taken::Taken;
+use crate::write::write_whole;
+use std::alloc::Global;
 
 /// Where a head stands at the front of the input, nothing is refused for want of a head.
 pub fn head_is_found()
@@ -26,3 +33,20 @@ pub fn request_is_taken()
         → Gives (request ++ rest) used (IsSpent count) taken
         → IsTaken request head (IsSpent count) taken }
 {}
+
+/// Reads a request of bytes in memory as `read_request` does. They never fail, so the fault is never
+/// Read: it is a refusal of these bytes, or want of memory before the first.
+pub fn read_from_memory(alloc: Global, input: &mut &[u8]) -> Result<Taken, WireFault>
+    ensures { TakesFrom input.old.now (Some input.new.now) ⊥ result }
+{
+    read_request(alloc, input)
+}
+
+/// Writes bytes behind those of a vector as `write_whole` does. Where they fit its capacity, all of
+/// them are written.
+pub fn write_to_memory(held: &mut Vec<u8>, bytes: &[u8]) -> Result<(), WireFault>
+    ensures { length held.old.items + length bytes.now ≤ vec_capacity held.old
+        → IsOk result × (held.new.items ≡ held.old.items ++ bytes.now) }
+{
+    write_whole(held, bytes)
+}

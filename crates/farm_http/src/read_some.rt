@@ -1,20 +1,21 @@
 //! One read of some bytes.
 ghost use Rattle.std.specs.Prelude.{◌≡◌, ◌+◌, ◌<◌, ◌≤◌, ◌⊎◌, true, false, length, take, IfOk, OnOk};
-ghost use Rattle.std.specs.Prelude.{OnErr};
+ghost use Rattle.std.specs.Prelude.{IsOk, OnErr};
 ghost use Rattle.std.specs.Io.KnownBytes.{Consumes, IsAtEnd, Keeps};
 ghost use Rattle.farm_types.specs.Limits.{most_reads};
 ghost use Rattle.farm_http.specs.Counts.{reader_of, reading_of, IsSameReader, IsSpent};
 
 use crate::counted_reader::CountedReader;
+use crate::input::Input;
 use farm_types::limits::MOST_READS;
-use std::io::{ErrorKind, Read};
+use std::io::ErrorKind;
 
 /// No byte came: the reader failed, or the calls ran out.
 #[derive(Clone, Copy, Debug, PartialEq, Eq)]
 pub struct NoBytes;
 
 /// Reads some bytes, none only at the end of the input. An interrupted read is tried again.
-pub(crate) fn read_some<R: Read>(
+pub(crate) fn read_some<R: Input>(
     reader: &mut CountedReader<'_, R>,
     buf: &mut [u8],
 ) -> Result<usize, NoBytes>
@@ -32,6 +33,11 @@ pub(crate) fn read_some<R: Read>(
         (R.remaining (reader_of reader.new))) }
     ensures spent { OnErr result (IsSpent (reading_of reader.new)) }
     ensures turns { (reading_of reader.new).calls ≤ most_reads }
+
+    // Of a reader that never fails one call gives them, where one is left.
+    ensures sure { R.never_fails → (reading_of reader.old).calls < most_reads → IsOk result }
+    ensures once { R.never_fails
+        → (reading_of reader.new).calls ≤ (reading_of reader.old).calls + 1 }
 {
     while reader.calls() < MOST_READS {
         match reader.read(buf) {

@@ -1,5 +1,5 @@
 //! Reading one request.
-ghost use Rattle.std.specs.Prelude.{◌≡◌, ℕ, ◌+◌, ◌-◌, ◌<◌, ◌≤◌, ◌∷◌, length, [], take, is_some};
+ghost use Rattle.std.specs.Prelude.{◌≡◌, ◌≢◌, ℕ, ◌+◌, ◌-◌, ◌<◌, ◌≤◌, ◌∷◌, length, [], take, is_some};
 ghost use Rattle.std.specs.Prelude.{vec_capacity, false, ⊤, List, IsTrue, IfOk, IfErr, IfSome};
 ghost use Rattle.std.specs.Prelude.{OnOk, OnErr, IsErrOf};
 ghost use Rattle.std.specs.Io.KnownBytes.{Consumes, IsAtEnd, Keeps};
@@ -14,6 +14,7 @@ ghost use Rattle.farm_http.specs.Requests.{IsRequest};
 use crate::counted_reader::CountedReader;
 use crate::fault::WireFault;
 use crate::fields::declared_among;
+use crate::input::Input;
 use crate::read_some::read_some;
 use crate::taken::Taken;
 use farm_types::limits::{LONGEST_BODY, LONGEST_HEAD, MOST_FIELDS, MOST_READS};
@@ -21,7 +22,6 @@ use farm_types::refusal::{BAD_REQUEST, Refusal, TOO_LARGE};
 use httparse::Status;
 use httparse::spans::{EMPTY_HEADER_SPAN, HeaderSpan, RequestSpans, parse_request};
 use std::alloc::Global;
-use std::io::Read;
 
 /// Reads one request, and leaves the bytes behind it unread.
 ///
@@ -35,7 +35,7 @@ use std::io::Read;
 /// bytes times its lines. From memory a head of three lines and a short body take 8 microseconds, a
 /// head of 8,192 bytes in 64 lines 0.15 ms, and 8,192 empty lines, the dearest that can come, 35
 /// ms.
-pub fn read_request<R: Read>(alloc: Global, reader: &mut R) -> Result<Taken, WireFault>
+pub fn read_request<R: Input>(alloc: Global, reader: &mut R) -> Result<Taken, WireFault>
     ensures taken { IfOk result
         (λ taken. Consumes (R.remaining reader.old) (R.remaining reader.new) taken.bytes.items) }
     ensures fault { IfErr result (FailsAfter (R.remaining reader.old) (R.remaining reader.new) ⊤) }
@@ -43,13 +43,16 @@ pub fn read_request<R: Read>(alloc: Global, reader: &mut R) -> Result<Taken, Wir
     // Of a reader that tells its bytes, its end is the end of the input.
     ensures known { IfSome (R.remaining reader.old)
         (λ input. TakesFrom input (R.remaining reader.new) ⊤ result) }
+
+    // One that never fails, as bytes in memory, is never blamed.
+    ensures sure { R.never_fails → IfErr result (λ e. e ≢ WireFault.Read) }
 {
     read_request_counted(alloc, &mut CountedReader::new(reader))
 }
 
 /// Reads one request as `read_request` does, and counts how often the reader was called and whether
 /// it failed.
-pub fn read_request_counted<R: Read>(
+pub fn read_request_counted<R: Input>(
     alloc: Global,
     reader: &mut CountedReader<'_, R>,
 ) -> Result<Taken, WireFault>
@@ -69,12 +72,15 @@ pub fn read_request_counted<R: Read>(
     ensures known { IfSome (R.remaining (reader_of reader.old))
         (λ input. TakesFrom input (R.remaining (reader_of reader.new))
         (IsSpent (reading_of reader.new)) result) }
+
+    // One that never fails, as bytes in memory, is never blamed.
+    ensures sure { R.never_fails → IfErr result (λ e. e ≢ WireFault.Read) }
 {
     take_request(alloc, reader)
 }
 
 /// The same, as it is said of any reader.
-fn take_request<R: Read>(
+fn take_request<R: Input>(
     alloc: Global,
     reader: &mut CountedReader<'_, R>,
 ) -> Result<Taken, WireFault>
@@ -89,6 +95,7 @@ fn take_request<R: Read>(
         (IsSpent (reading_of reader.new))) }
     ensures failed { IsTrue (reading_of reader.new).failed → IsErrOf result WireFault.Read }
     ensures turns { (reading_of reader.new).calls ≤ most_reads }
+    ensures sure { R.never_fails → IfErr result (λ e. e ≢ WireFault.Read) }
 {
     let Ok(mut bytes) = Vec::with_capacity(alloc, LONGEST_HEAD + LONGEST_BODY) else {
         return Err(WireFault::NoMemory);
@@ -105,7 +112,7 @@ fn take_request<R: Read>(
 
 /// Reads a request into bytes that have room for it, and gives the length of its head and where the
 /// head's parts are. Only as many bytes are cleared as the body has.
-fn fill<R: Read>(
+fn fill<R: Input>(
     reader: &mut CountedReader<'_, R>,
     bytes: &mut Vec<u8>,
     headers: &mut [HeaderSpan],
@@ -126,6 +133,7 @@ fn fill<R: Read>(
         (IsSpent (reading_of reader.new))) }
     ensures failed { IsTrue (reading_of reader.new).failed → IsErrOf result WireFault.Read }
     ensures turns { (reading_of reader.new).calls ≤ most_reads }
+    ensures sure { R.never_fails → IfErr result (λ e. e ≢ WireFault.Read) }
 {
     let spans = read_head(reader, bytes, headers)?;
     let head = bytes.len();
@@ -138,7 +146,7 @@ fn fill<R: Read>(
 }
 
 /// Reads a head into bytes that have room for it, and gives where its parts are.
-fn read_head<R: Read>(
+fn read_head<R: Input>(
     reader: &mut CountedReader<'_, R>,
     bytes: &mut Vec<u8>,
     headers: &mut [HeaderSpan],
@@ -161,6 +169,8 @@ fn read_head<R: Read>(
         (IsSpent (reading_of reader.new)) e) }
     ensures failed { IsTrue (reading_of reader.new).failed → IsErrOf result WireFault.Read }
     ensures turns { (reading_of reader.new).calls ≤ most_reads }
+    ensures sure { R.never_fails → IfErr result (λ e. e ≢ WireFault.Read) }
+    ensures quick { R.never_fails → (reading_of reader.new).calls ≤ longest_head }
 {
     while bytes.len() < LONGEST_HEAD {
         let byte = read_byte(reader)?;
@@ -173,7 +183,7 @@ fn read_head<R: Read>(
 }
 
 /// Reads one byte.
-fn read_byte<R: Read>(reader: &mut CountedReader<'_, R>) -> Result<u8, WireFault>
+fn read_byte<R: Input>(reader: &mut CountedReader<'_, R>) -> Result<u8, WireFault>
     requires turns { (reading_of reader.old).calls ≤ most_reads }
     requires alive { (reading_of reader.old).failed ≡ false }
     ensures same { IsSameReader reader.old reader.new }
@@ -188,6 +198,10 @@ fn read_byte<R: Read>(reader: &mut CountedReader<'_, R>) -> Result<u8, WireFault
         (IsSpent (reading_of reader.new))) }
     ensures failed { IsTrue (reading_of reader.new).failed → IsErrOf result WireFault.Read }
     ensures turns { (reading_of reader.new).calls ≤ most_reads }
+    ensures sure { R.never_fails → (reading_of reader.old).calls < most_reads
+        → IfErr result (λ e. e ≢ WireFault.Read) }
+    ensures once { R.never_fails
+        → (reading_of reader.new).calls ≤ (reading_of reader.old).calls + 1 }
 {
     let mut byte = [0u8; 1];
     if read_some(reader, &mut byte)? == 0 {
@@ -228,7 +242,7 @@ fn length_after(head: &[u8], headers: &[HeaderSpan], spans: RequestSpans) -> Res
 }
 
 /// Reads a body of a known length.
-fn read_body<R: Read>(reader: &mut CountedReader<'_, R>, body: &mut [u8]) -> Result<(), WireFault>
+fn read_body<R: Input>(reader: &mut CountedReader<'_, R>, body: &mut [u8]) -> Result<(), WireFault>
     requires turns { (reading_of reader.old).calls ≤ most_reads }
     requires alive { (reading_of reader.old).failed ≡ false }
     ensures same { IsSameReader reader.old reader.new }
@@ -240,6 +254,8 @@ fn read_body<R: Read>(reader: &mut CountedReader<'_, R>, body: &mut [u8]) -> Res
         (IsSpent (reading_of reader.new)) e) }
     ensures failed { IsTrue (reading_of reader.new).failed → IsErrOf result WireFault.Read }
     ensures turns { (reading_of reader.new).calls ≤ most_reads }
+    ensures sure { R.never_fails → (reading_of reader.old).calls + length body.old ≤ most_reads
+        → IfErr result (λ e. e ≢ WireFault.Read) }
 {
     let mut at = 0usize;
     while at < body.len() {

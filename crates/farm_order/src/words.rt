@@ -7,7 +7,7 @@ ghost use Rattle.farm_order.specs.App.{AddsShape, at_rule, bare_app, db_rule, fa
 ghost use Rattle.farm_order.specs.App.{import_app, init_app, max_rule, memory_rule, migrate_app};
 ghost use Rattle.farm_order.specs.App.{offset_rule, once_app};
 ghost use Rattle.farm_order.specs.App.{port_rule, positional_rule, report_app, serve_app};
-ghost use Rattle.farm_order.specs.Faults.{IsFaultAmong};
+ghost use Rattle.farm_order.specs.Faults.{IsFaultAmong, open_text};
 ghost use Rattle.farm_order.specs.Orders.{IsInBounds, form_of, has_flag, import_in, init_in};
 ghost use Rattle.farm_order.specs.Orders.{leaves_choice, migrate_in, number_of, once_in, order_in};
 ghost use Rattle.farm_order.specs.Orders.{database_form, database_in, port_in, report_in};
@@ -49,11 +49,12 @@ pub fn order_of(alloc: Global, words: &[String]) -> Result<Order, OrderFault>
 }
 
 /// What is wrong with words that `clap` takes and that name no order.
-fn open_choice(matches: &ArgMatches<'_>) -> &'static str {
-    if matches.subcommand_name() == Some("once") {
-        NO_PLACE
-    } else {
-        NO_REPORT
+fn open_choice(matches: &ArgMatches<'_>) -> &'static str
+    ensures { result.now ≡ open_text (subcommand_rows_of matches.now) }
+{
+    match matches.subcommand() {
+        Some((name, _)) if name == "once" => NO_PLACE,
+        _ => NO_REPORT,
     }
 }
 

@@ -2,7 +2,7 @@
 use Rattle.std.proofs.Common.{ℕ, zero, suc, ◌<◌, ◌≡◌, Bool, true, false, List, [], ◌∷◌, length, slice_index_or, arith, refl, subst}
 use Rattle.std.specs.List.{AllByRecursion, Any}
 use Rattle.farm_core.specs.Shown.{Shown}
-use Rattle.farm_report.specs.declared.moment.TheConstants.{LAST_SECOND}
+use Rattle.farm_report.specs.Moments.{last_second}
 use Rattle.farm_types.specs.Sound.{IsBoardRow, IsResRow, IsSound}
 use Rattle.farm_types.specs.declared.rows.BoardRow.{BoardRow}
 use Rattle.farm_types.specs.declared.rows.ResRow.{ResRow}
@@ -12,7 +12,7 @@ row_at P [] i x all inside at = absurd (omega arith)
 row_at P (r ∷ rs) zero x all inside at = subst P at all.0
 row_at P (r ∷ rs) (suc i) x all inside at = row_at P rs i x all.1 (omega arith) at
 
-pub late_board : (s : Shown) → (s.failed ≡ false → IsSound s.farm) → Any (λ (row : BoardRow). LAST_SECOND < row.last_check) s.farm.boards → s.failed ≡ true
+pub late_board : (s : Shown) → (s.failed ≡ false → IsSound s.farm) → Any (λ (row : BoardRow). last_second < row.last_check) s.farm.boards → s.failed ≡ true
 late_board s sound late = go s.failed refl
   where
     go : (b : Bool) → s.failed ≡ b → s.failed ≡ true
@@ -25,7 +25,7 @@ late_board s sound late = go s.failed refl
         let after : 253402207200 < late.1.last_check = late.4 in
         absurd (omega arith)
 
-pub late_reservation : (s : Shown) → (s.failed ≡ false → IsSound s.farm) → Any (λ (row : ResRow). LAST_SECOND < row.deadline) s.farm.reservations → s.failed ≡ true
+pub late_reservation : (s : Shown) → (s.failed ≡ false → IsSound s.farm) → Any (λ (row : ResRow). last_second < row.deadline) s.farm.reservations → s.failed ≡ true
 late_reservation s sound late = go s.failed refl
   where
     go : (b : Bool) → s.failed ≡ b → s.failed ≡ true

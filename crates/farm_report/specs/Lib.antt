@@ -1,3 +1,4 @@
 pub mod Columns
 pub mod Moments
 pub mod Lines
+pub mod Agreed

@@ -7,6 +7,10 @@ use Rattle.jiff.specs.Words.{civil_seconds, date_text, time_text}
 abbrev pub most_minutes : ℕ
 most_minutes = 840
 
+-- the last second that the calendar has at every offset, shortly before the year 10000
+abbrev pub last_second : ℕ
+last_second = 253402207200
+
 -- `2023-11-14 22:13:20`, in whole seconds
 abbrev pub civil_text : DateTime → List ℕ
 civil_text civil = date_text civil.date ++ 32 ∷ time_text (Some 0) civil.time

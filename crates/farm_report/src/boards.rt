@@ -2,8 +2,8 @@
 ghost use Rattle.std.specs.Prelude.{◌≡◌, ◌<◌, Err, IfOk, true, string_bytes};
 ghost use Rattle.std.specs.List.{Any};
 ghost use Rattle.farm_report.specs.Lines.{AreLines, IsBoardLine};
+ghost use Rattle.farm_report.specs.Moments.{last_second};
 ghost use Rattle.farm_report.specs.declared.fault.ReportFault.TheVariants.{BadMoment};
-ghost use Rattle.farm_report.specs.declared.moment.TheConstants.{LAST_SECOND};
 
 use crate::columns::{left, push_line};
 use crate::fault::ReportFault;
@@ -28,7 +28,7 @@ pub fn boards_text(alloc: Global, farm: &Farm, zone: Offset) -> Result<String, R
 fn board_lines(alloc: Global, rows: &[BoardRow], zone: Offset) -> Result<String, ReportFault>
     ensures lines { IfOk result (λ text.
         AreLines (IsBoardLine zone.seconds) rows.now (string_bytes text)) }
-    ensures fault { result ≡ Err BadMoment → Any (λ row. LAST_SECOND < row.last_check) rows.now }
+    ensures fault { result ≡ Err BadMoment → Any (λ row. last_second < row.last_check) rows.now }
 {
     let mut text = String::new(alloc);
     for row in rows {
@@ -40,7 +40,7 @@ fn board_lines(alloc: Global, rows: &[BoardRow], zone: Offset) -> Result<String,
 
 fn board_line(alloc: Global, row: &BoardRow, zone: Offset) -> Result<String, ReportFault>
     ensures line { IfOk result (λ line. IsBoardLine zone.seconds row.now (string_bytes line)) }
-    ensures fault { result ≡ Err BadMoment → LAST_SECOND < row.now.last_check }
+    ensures fault { result ≡ Err BadMoment → last_second < row.now.last_check }
 {
     let health = left(alloc, row.health.word(), 11)?;
     let state = left(alloc, row.state.word(), 8)?;

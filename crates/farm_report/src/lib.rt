@@ -4,13 +4,15 @@
 //! filled up with spaces to its width. Moments show as the civil date and time at a fixed offset
 //! from UTC, which the caller hands in.
 //!
-//! Read `specs/` in the order Columns, Moments, Lines.
+//! Read `specs/` in the order Columns, Moments, Lines; Agreed has
+//! the code's numbers beside theirs.
 #![tactic(auto)]
 
 pub mod boards;
 pub mod claims;
 mod columns;
 pub mod fault;
+pub mod laws;
 pub mod moment;
 pub mod reservations;
 

@@ -2,9 +2,8 @@
 ghost use Rattle.std.specs.Prelude.{◌≡◌, ◌↔◌, ◌<◌, ◌*ℤ◌, neg_ℤ, pos, Err, IfOk, IfSome, IsSome};
 ghost use Rattle.std.specs.Prelude.{string_bytes};
 ghost use Rattle.jiff.specs.Words.{IsBetween};
-ghost use Rattle.farm_report.specs.Moments.{ShowsCheck, ShowsMoment, most_minutes};
+ghost use Rattle.farm_report.specs.Moments.{ShowsCheck, ShowsMoment, last_second, most_minutes};
 ghost use Rattle.farm_report.specs.declared.fault.ReportFault.TheVariants.{BadMoment};
-ghost use Rattle.farm_report.specs.declared.moment.TheConstants.{LAST_SECOND};
 
 use crate::fault::ReportFault;
 use jiff::Timestamp;
@@ -33,7 +32,7 @@ pub fn zone_of(minutes: i64) -> Option<Offset>
 /// The civil date and time of a moment at an offset, as `2023-11-14 22:13:20`.
 pub(crate) fn moment_text(alloc: Global, moment: u64, zone: Offset) -> Result<String, ReportFault>
     ensures text { IfOk result (λ text. ShowsMoment zone.seconds moment (string_bytes text)) }
-    ensures fault { result ≡ Err BadMoment → LAST_SECOND < moment }
+    ensures fault { result ≡ Err BadMoment → last_second < moment }
 {
     if moment > LAST_SECOND {
         return Err(ReportFault::BadMoment);
@@ -49,7 +48,7 @@ pub(crate) fn moment_text(alloc: Global, moment: u64, zone: Offset) -> Result<St
 /// The moment of a board's last check, or `never`.
 pub(crate) fn check_text(alloc: Global, moment: u64, zone: Offset) -> Result<String, ReportFault>
     ensures text { IfOk result (λ text. ShowsCheck zone.seconds moment (string_bytes text)) }
-    ensures fault { result ≡ Err BadMoment → LAST_SECOND < moment }
+    ensures fault { result ≡ Err BadMoment → last_second < moment }
 {
     if moment == 0 {
         return Ok(String::from_str(alloc, "never")?);

@@ -2,8 +2,8 @@
 ghost use Rattle.std.specs.Prelude.{◌≡◌, ◌<◌, ◌∷◌, [], Err, IfOk, string_bytes, true, unwrap_or};
 ghost use Rattle.std.specs.List.{Any};
 ghost use Rattle.farm_report.specs.Lines.{AreLines, IsReservationLine};
+ghost use Rattle.farm_report.specs.Moments.{last_second};
 ghost use Rattle.farm_report.specs.declared.fault.ReportFault.TheVariants.{BadMoment};
-ghost use Rattle.farm_report.specs.declared.moment.TheConstants.{LAST_SECOND};
 
 use crate::columns::{left, push_line, right};
 use crate::fault::ReportFault;
@@ -28,7 +28,7 @@ pub fn reservations_text(alloc: Global, farm: &Farm, zone: Offset) -> Result<Str
 fn reservation_lines(alloc: Global, rows: &[ResRow], zone: Offset) -> Result<String, ReportFault>
     ensures lines { IfOk result (λ text.
         AreLines (IsReservationLine zone.seconds) rows.now (string_bytes text)) }
-    ensures fault { result ≡ Err BadMoment → Any (λ row. LAST_SECOND < row.deadline) rows.now }
+    ensures fault { result ≡ Err BadMoment → Any (λ row. last_second < row.deadline) rows.now }
 {
     let mut text = String::new(alloc);
     for row in rows {
@@ -41,7 +41,7 @@ fn reservation_lines(alloc: Global, rows: &[ResRow], zone: Offset) -> Result<Str
 fn reservation_line(alloc: Global, row: &ResRow, zone: Offset) -> Result<String, ReportFault>
     ensures line { IfOk result (λ line. IsReservationLine zone.seconds row.now
         (string_bytes line)) }
-    ensures fault { result ≡ Err BadMoment → LAST_SECOND < row.now.deadline }
+    ensures fault { result ≡ Err BadMoment → last_second < row.now.deadline }
 {
     let number = right(alloc, row.number, 9)?;
     let state = left(alloc, row.state.word(), 9)?;

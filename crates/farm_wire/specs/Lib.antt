@@ -11,3 +11,4 @@ pub mod Plain
 pub mod Joins
 pub mod Parts
 pub mod Replies
+pub mod Agreed

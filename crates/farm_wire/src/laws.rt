@@ -1,4 +1,4 @@
-//! Laws of the paths, and of the keys of answers.
+//! Laws of the paths, of the statuses and of the keys of answers.
 ghost use Rattle.std.specs.Prelude.{◌≡◌, ℕ, ◌<◌, ◌∷◌, ◌++◌, List, codes, false, Some, None};
 ghost use Rattle.matchit.specs.Seek.{has_slash};
 ghost use Rattle.farm_types.specs.declared.claims.Claim.{Claim};
@@ -8,6 +8,7 @@ ghost use Rattle.farm_types.specs.declared.rows.JobRow.{JobRow};
 ghost use Rattle.farm_types.specs.declared.rows.Reply.{Reply};
 ghost use Rattle.farm_types.specs.declared.rows.ResRow.{ResRow};
 ghost use Rattle.farm_types.specs.declared.rows.TypeRow.{TypeRow};
+ghost use Rattle.farm_wire.specs.Agreed.{StatusesAgree};
 ghost use Rattle.farm_wire.specs.Keys.{KeysRise};
 ghost use Rattle.farm_wire.specs.Parameters.{parameter};
 ghost use Rattle.farm_wire.specs.Routes.{LeadsTo, route_at};
@@ -16,6 +17,11 @@ ghost use Rattle.farm_wire.specs.Shown.{status_data, refusal_data, reply_data};
 ghost use Rattle.farm_wire.specs.declared.route.CommandKind.{CommandKind};
 ghost use Rattle.farm_wire.specs.declared.route.Route.{Route};
 ghost use Rattle.farm_wire.specs.declared.route.ViewKind.{ViewKind};
+
+/// The statuses that the code gives are those of the definitions.
+pub fn statuses_agree()
+    ensures { StatusesAgree }
+{}
 
 /// Where each path with a parameter leads, whatever the parameter.
 pub fn paths_with_a_parameter()

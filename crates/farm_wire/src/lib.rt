@@ -5,7 +5,7 @@
 //! public names stand here again, so that a server needs this crate alone.
 //!
 //! Read `specs/` in the order Reading, Routes, Sender, Fields, Parameters, Commands, Asked; then
-//! Shown, Keys, Plain, Joins, Parts, Replies.
+//! Shown, Keys, Plain, Joins, Parts, Replies, Agreed.
 #![tactic(auto)]
 
 pub mod allowed;
@@ -40,6 +40,8 @@ pub mod type_shown;
 pub use farm_http::counted_reader::CountedReader;
 pub use farm_http::counted_writer::CountedWriter;
 pub use farm_http::fault::WireFault;
+pub use farm_http::input::Input;
+pub use farm_http::output::Output;
 pub use farm_http::request::{read_request, read_request_counted};
 pub use farm_http::taken::Taken;
 pub use farm_http::write::{write_whole, write_whole_counted};

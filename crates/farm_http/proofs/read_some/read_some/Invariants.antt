@@ -11,6 +11,7 @@ invariant-loop-reader g l = record {
   alive : (reading_of l.reader).failed ≡ false;
   same : IsSameReader l.fn.reader l.reader;
   kept : Keeps (g.R.Read.remaining (reader_of l.fn.reader)) (g.R.Read.remaining (reader_of l.reader));
+  sure : g.R.Input.never_fails → (reading_of l.reader).calls ≡ (reading_of l.fn.reader).calls;
 }
 
 abbrev pub decreases-loop-reader : goal.decreases-loop-reader

@@ -1,5 +1,5 @@
 -- The bytes so far came from the reader.
-use Rattle.std.proofs.Common.{◌≡◌, ◌-◌, ◌≤◌, false, length, take}
+use Rattle.std.proofs.Common.{◌≡◌, ◌+◌, ◌-◌, ◌≤◌, false, length, take}
 use Rattle.std.specs.Io.KnownBytes.{Consumes}
 use Rattle.farm_types.specs.Limits.{most_reads}
 use Rattle.farm_http.specs.Counts.{reader_of, reading_of, IsSameReader}
@@ -12,6 +12,7 @@ invariant-loop-at g l = record {
   turns : (reading_of l.reader).calls ≤ most_reads;
   alive : (reading_of l.reader).failed ≡ false;
   taken : Consumes (g.R.Read.remaining (reader_of l.fn.reader)) (g.R.Read.remaining (reader_of l.reader)) (take l.at l.body);
+  sure : g.R.Input.never_fails → (reading_of l.reader).calls ≤ (reading_of l.fn.reader).calls + l.at;
 }
 
 abbrev pub decreases-loop-at : goal.decreases-loop-at

@@ -56,4 +56,5 @@ loop-reader-preserved g c =
       room = omega arith;
       taken = read_more _ _ _ old all c.in_ok-byte.byte is c.loop-reader.invariant.taken c.in_ok-byte.ensures.byte;
       open_lines = subst (λ l. IsOpenBelow (length l) l) c.as_slice.ensures.value lines;
+      sure = λ never. omega (arith, long, c.loop-reader.invariant.sure never, c.read_byte.ensures.once never);
     }

@@ -17,6 +17,7 @@ invariant-loop-reader g l = record {
   room : length l.headers ≡ most_fields;
   taken : Consumes (g.R.Read.remaining (reader_of l.fn.reader)) (g.R.Read.remaining (reader_of l.reader)) l.bytes.items;
   open_lines : IsOpenBelow (length l.bytes.items) l.bytes.items;
+  sure : g.R.Input.never_fails → (reading_of l.reader).calls ≤ length l.bytes.items;
 }
 
 abbrev pub decreases-loop-reader : goal.decreases-loop-reader

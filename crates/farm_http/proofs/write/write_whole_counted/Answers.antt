@@ -1,8 +1,10 @@
 -- A write adds to the front that was written.
-use Rattle.std.proofs.Common.{◌≡◌, ◌-◌, ◌≤◌, length, take, drop, arith, rules}
+use Rattle.std.proofs.Common.{◌≡◌, ◌-◌, ◌≤◌, length, take, drop, arith, rules, refl, Ok, inr}
 use Rattle.std.proofs.KnownBytes.{Appends-trans}
 use Rattle.std.proofs.Math.Seq.{take-add}
 use Rattle.std.proofs.lemmas.List.{take-take, length-take, length-drop}
+use Rattle.farm_http.specs.Counts.{writer_of}
+use Rattle.farm_http.proofs.Room.{takes_all, took}
 use Rattle.farm_http.proofs.write.write_whole_counted.Goals as goal
 
 pub loop-done-preserved : goal.loop-done-preserved
@@ -20,4 +22,9 @@ loop-done-preserved g c =
       calls = omega (arith, c.in_ok-done.ensures.within.0, c.write.ensures.counted);
       alive = search rules;
       written = rw (take-add done count bytes) all;
+      first = λ zero. absurd (omega (arith, zero, c.in_ok-done.ensures.within.0));
+      sure = λ room.
+          let taken = takes_all g.W.Output.has_room (writer_of c.args.writer.now) (writer_of c.loop-done.writer) (length bytes) done _ (Ok count) c.loop-done.invariant.first size c.in_ok-done.ensures.sure (c.loop-done.invariant.sure room) (omega arith) room in
+          let whole : count ≡ length bytes = took count (length bytes) (Ok count) refl taken.1 in
+          inr (omega (arith, whole, taken.0));
     }

@@ -2,6 +2,7 @@ use Rattle.std.proofs.Common.{None, Some, ◌≡◌, ◌∙◌, ap, inl, inr, ma
 use Rattle.clap.specs.Words.{App, app_of, kind_of, subcommand_rows_of, takes}
 use Rattle.clap.specs.declared.error.kind.ErrorKind.TheVariants.{OutOfMemory}
 use Rattle.farm_order.specs.App.{farm_app}
+use Rattle.farm_order.specs.Faults.{open_text}
 use Rattle.farm_order.specs.Orders.{form_of, order_in}
 use Rattle.farm_order.proofs.Outcomes.{memory_fault, named_bounds, parse_fault, parse_faultless, parse_named, unnamed}
 use Rattle.farm_order.proofs.words.order_of.Goals as goal
@@ -28,10 +29,15 @@ pub returns-in-Ok-clause-fault : goal.returns-in-Ok-clause-fault
 returns-in-Ok-clause-fault c =
     let is : app_of c.in_ok-farm_command.field-0 ≡ farm_app = search rules in
     let none : order_in (subcommand_rows_of c.in-Ok.matches) ≡ None = search rules in
+    let text : string_bytes c.in_ok-from_str-in-None.field-0 ≡ c.open_choice.result.now = search rules in
     inr (
       parse_faultless (app_of c.in_ok-farm_command.field-0) (map string_bytes c.args.words.now) is c.in-Ok.ensures.kinds,
-      unnamed (app_of c.in_ok-farm_command.field-0) (map string_bytes c.args.words.now) c.in-Ok.matches is
-          c.in-Ok.ensures.matches c.in-Ok.ensures.kinds none,
+      record {
+        open_choice =
+            unnamed (app_of c.in_ok-farm_command.field-0) (map string_bytes c.args.words.now) c.in-Ok.matches is
+            c.in-Ok.ensures.matches c.in-Ok.ensures.kinds none;
+        told = text ∙ c.open_choice.ensures ∙ ap open_text (parse_named (app_of c.in_ok-farm_command.field-0) (map string_bytes c.args.words.now) c.in-Ok.matches is c.in-Ok.ensures.matches);
+      },
     )
 
 pub returns-in-Ok-clause-taken : goal.returns-in-Ok-clause-taken

@@ -1,0 +1,7 @@
+//! Laws over moments.
+ghost use Rattle.farm_report.specs.Agreed.{MomentsAgree};
+
+/// The numbers of moments that the code tests are those of the definitions.
+pub fn moments_agree()
+    ensures { MomentsAgree }
+{}
