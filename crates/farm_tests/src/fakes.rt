@@ -1,4 +1,8 @@
 //! Readers and writers that give and take little, or fail.
+ghost use Rattle.std.specs.Prelude.{Some};
+
+use farm_http::input::Input;
+use farm_http::output::Output;
 use std::alloc::Global;
 use std::io;
 use std::io::{Error, ErrorKind, Read, Write};
@@ -23,6 +27,15 @@ impl<R: Read> Read for Tally<R> {
     }
 }
 
+impl<R: Read> Input for Tally<R> {
+    ghost turns = { λ tally. Some tally.calls };
+
+    fn read_once(&mut self, buf: &mut [u8]) -> io::Result<usize> {
+        self.calls = self.calls.saturating_add(1);
+        self.of.read(buf)
+    }
+}
+
 impl<W: Write> Write for Tally<W> {
     fn write(&mut self, buf: &[u8]) -> io::Result<usize> {
         self.calls = self.calls.saturating_add(1);
@@ -31,6 +44,15 @@ impl<W: Write> Write for Tally<W> {
 
     fn flush(&mut self) -> io::Result<()> {
         self.of.flush()
+    }
+}
+
+impl<W: Write> Output for Tally<W> {
+    ghost turns = { λ tally. Some tally.calls };
+
+    fn write_once(&mut self, bytes: &[u8]) -> io::Result<usize> {
+        self.calls = self.calls.saturating_add(1);
+        self.of.write(bytes)
     }
 }
 
@@ -94,6 +116,12 @@ impl Read for Slow<'_> {
     }
 }
 
+impl Input for Slow<'_> {
+    fn read_once(&mut self, buf: &mut [u8]) -> io::Result<usize> {
+        self.read(buf)
+    }
+}
+
 /// Each call is interrupted.
 #[derive(Drop)]
 pub struct Interrupted;
@@ -101,6 +129,12 @@ pub struct Interrupted;
 impl Read for Interrupted {
     fn read(&mut self, _buf: &mut [u8]) -> io::Result<usize> {
         Err(Error::from(ErrorKind::Interrupted))
+    }
+}
+
+impl Input for Interrupted {
+    fn read_once(&mut self, buf: &mut [u8]) -> io::Result<usize> {
+        self.read(buf)
     }
 }
 
@@ -118,6 +152,12 @@ impl Read for Endless<'_> {
         }
         self.given = self.given.saturating_add(buf.len());
         Ok(buf.len())
+    }
+}
+
+impl Input for Endless<'_> {
+    fn read_once(&mut self, buf: &mut [u8]) -> io::Result<usize> {
+        self.read(buf)
     }
 }
 
@@ -167,5 +207,11 @@ impl Write for Narrow {
 
     fn flush(&mut self) -> io::Result<()> {
         Ok(())
+    }
+}
+
+impl Output for Narrow {
+    fn write_once(&mut self, bytes: &[u8]) -> io::Result<usize> {
+        self.write(bytes)
     }
 }

@@ -3,6 +3,7 @@ use crate::fakes::{Interrupted, Slow, Tally};
 use crate::sent::FIRST_TYPE;
 use farm_http::counted_reader::CountedReader;
 use farm_http::fault::WireFault;
+use farm_http::input::Input;
 use farm_http::request::{read_request, read_request_counted};
 use farm_http::taken::Taken;
 use farm_types::limits::{LONGEST_BODY, LONGEST_HEAD};
@@ -13,7 +14,7 @@ use std::process::Abort;
 use std::test::Fail;
 
 /// What a reader gives.
-pub(crate) fn read<R: Read>(alloc: Global, reader: &mut R) -> Result<Taken, WireFault> {
+pub(crate) fn read<R: Input>(alloc: Global, reader: &mut R) -> Result<Taken, WireFault> {
     read_request(alloc, reader)
 }
 
