@@ -35,6 +35,13 @@ impl Input for &[u8] {
     }
 }
 
+/// Any reader may be lent: of it no more is known than `Read` says.
+impl<R: Read> Input for &mut R {
+    fn read_once(&mut self, buf: &mut [u8]) -> io::Result<usize> {
+        self.read(buf)
+    }
+}
+
 impl<R: Read, A: Allocator> Input for BufReader<R, A> {
     fn read_once(&mut self, buf: &mut [u8]) -> io::Result<usize> {
         self.read(buf)

@@ -35,6 +35,13 @@ impl Output for Vec<u8> {
     }
 }
 
+/// Any writer may be lent: of it no more is known than `Write` says.
+impl<W: Write> Output for &mut W {
+    fn write_once(&mut self, bytes: &[u8]) -> io::Result<usize> {
+        self.write(bytes)
+    }
+}
+
 impl Output for Stdout {
     fn write_once(&mut self, bytes: &[u8]) -> io::Result<usize> {
         self.write(bytes)

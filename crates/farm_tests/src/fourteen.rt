@@ -156,7 +156,7 @@ fn run<S: Alter + Drop>(
     calls: &[Call],
 ) -> Result<(), Fail> {
     let mut keeper = made(alloc, conn).ok_or("no farm")?;
-    let end = keeper.run(alloc, calls);
+    let end = keeper.run(calls);
     expect_kept(rt, &keeper, &end)
 }
 
