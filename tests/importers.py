@@ -10,6 +10,7 @@ import os
 import subprocess
 import sys
 import tempfile
+import time
 
 from served import TOOLS, Farm, demand, environment, free_port
 
@@ -168,6 +169,12 @@ FOLDER/tags: tags of gone aren't carried over: there is no such device
 
 # What a farm's boards come to.
 LAB_OF_DESK = """\
+# The types and boards of SERVER, for the farm that comes after it:
+#     farm init --db NEW
+#     farm import --db NEW --at "$(date +%s)" THIS
+# and, when that is served:
+#     farm-from-desk --set-health THIS
+
 [types.bbb]
 
 [types.rpi]
@@ -188,6 +195,37 @@ health = "Maintenance"
 type = "rpi"
 tags = []
 health = "Unknown"
+"""
+# The lab's own file, of which the desk has b1 with other tags and rpi with another check.
+OWN_LAB = """\
+# ours
+[types.bbb]
+check = "none"
+
+[types."rpi"]
+check = "hours"
+every = 24
+[boards.b1]
+type = "bbb"
+tags = ["rack=1"]
+[boards]
+b2 = { type = "bbb" }
+"r.1" = { type = "bbb" }
+[boards.other]
+type = "rpi"
+"""
+REMARKS = {
+    "[types.rpi]": """OWN:5 has check = "hours", every = 24""",
+    "[boards.b1]": """OWN:8 has type = "bbb", tags = ["rack=1"]""",
+    '[boards."r.1"]': """OWN has type = "bbb", tags = []""",
+}
+NOTES_OF_OWN_LAB = """\
+OWN:8: board b1: it has type = "bbb", tags = ["rack=1"], and the desk type = "bbb", \
+tags = ["hdmi", "rack=1"]: an import changes nothing
+OWN: board r.1: it has type = "bbb", tags = [], and the desk type = "rpi", tags = []: \
+an import changes nothing
+OWN:5: type rpi: it has check = "hours", every = 24, and the desk check = "jobs", every = 20: \
+an import changes nothing
 """
 NOTES_OF_DESK = """\
 board b1: reservation 1, which has it, isn't carried over
@@ -311,7 +349,8 @@ def labgrid(folder):
         demand(f"places {text!r}", (4, "", 1), (status, output, errors.count("\n")))
     for text, what in NO_PLACES:
         wrong = write(folder, "wrong.yaml", text)
-        told = f"farm-from-labgrid: {wrong} isn't it: {what}; the coordinator's file is places.yaml\n"
+        told = f"{wrong} isn't it: {what}; the coordinator's file is places.yaml"
+        told = notes("farm-from-labgrid", told)
         demand(f"no places {text!r}", (4, "", told), run("farm-from-labgrid", wrong))
     demand("places that aren't there", 4, run("farm-from-labgrid", "/nonexistent")[0])
     demand("no places at all", 2, run("farm-from-labgrid")[0])
@@ -337,13 +376,16 @@ def desk(folder):
     lab = os.path.join(folder, "lab.toml")
     words = ["farm-from-desk", "--server", farm.server]
     told = notes(words[0], NOTES_OF_DESK)
-    demand("its output", (1, LAB_OF_DESK, told), run(*words))
+    wanted = LAB_OF_DESK.replace("SERVER", farm.server)
+    demand("its output", (1, wanted, told), run(*words))
     demand("to a file", (1, "", told), run(*words, "--output", lab))
+    own_lab(folder, words, wanted)
     farm.kill()
     next_folder = tempfile.mkdtemp(dir=folder)
     demand("its import", "accepted 5, kept 0\n", imported(next_folder, lab))
     farm.db = os.path.join(next_folder, "farm.db")
     farm.start()
+    demand("a farm of which nothing is lost", (0, 0), refused(run(*words)))
     words += ["--set-health", lab]
     for _ in range(2):
         demand("health", (0, "b1 Good\nr.1 Unknown\n", ""), run(*words))
@@ -353,6 +395,61 @@ def desk(folder):
     demand("without health", (4, 1), refused(run(*words[:-1], write(folder, "lab", LAB_OF_PLACES))))
     farm.kill()
     return "boards of a desk become boards of the next, with their tags and health"
+
+
+def own_lab(folder, words, wanted):
+    """The lab's own file beside a desk: the written file and the errors name its lines."""
+    own = write(folder, "own.toml", OWN_LAB)
+    words = [*words, "--lab", own]
+    if sys.version_info < (3, 11):
+        told = "farm-from-desk: --lab wants Python 3.11, which reads TOML\n"
+        demand("without tomllib", (4, "", told), run(*words))
+        return
+    for header, remark in REMARKS.items():
+        remark = f"# {remark.replace('OWN', own)}: its import leaves what stands here"
+        wanted = wanted.replace(f"\n{header}\n", f"\n{remark}\n{header}\n")
+    told = notes(words[0], NOTES_OF_DESK + NOTES_OF_OWN_LAB.replace("OWN", own))
+    demand("beside the lab's own file", (1, wanted, told), run(*words))
+    for text in ("[types", "[boards.b1]\ntags = []\n", "types = 3\n"):
+        wrong = write(folder, "wrong.toml", text)
+        demand(f"beside {text!r}", (4, 1), refused(run(*words[:-1], wrong)))
+
+
+def ahead(folder):
+    """A farm whose clock ran ahead: nothing in it ends, and the next one is made of its boards."""
+    own = write(folder, "own.toml", '[types.bbb]\n[boards.b1]\ntype = "bbb"\n')
+    farm = Farm(FARM, folder, [])
+    farm.kill()
+    moment = 10 * int(time.time())
+    words = [FARM, "import", "--db", farm.db, "--at", str(moment), own]
+    subprocess.run(words, check=True, capture_output=True)
+    farm.start()
+    farm.tell("admin", "/boards/b1/health", {"health": "Good"})
+    farm.tell("ann", "/reservations", {"tags": []})
+    farm.tell("dispatcher", "/pass")
+    demand("its lease", moment + 60, farm.reservation(1)["deadline"])
+    lab = os.path.join(folder, "next.toml")
+    words = ["farm-from-desk", "--server", farm.server, "--output", lab]
+    days = (farm.look("/status")["clock"] - int(time.time())) // 86400
+    told = f"the farm's clock is {days} days ahead of this machine's: begin the next farm\n"
+    told += "board b1: reservation 1, which has it, isn't carried over\n"
+    demand("its next file", (1, "", notes(words[0], told)), run(*words))
+    farm.kill()
+    next_folder = tempfile.mkdtemp(dir=folder)
+    before = int(time.time())
+    farm = Farm(FARM, next_folder, [])
+    farm.kill()
+    words = [FARM, "import", "--db", farm.db, "--at", str(before), lab]
+    said = subprocess.run(words, check=True, capture_output=True, text=True).stdout
+    demand("its import", "accepted 2, kept 0\n", said)
+    farm.start()
+    words = ["farm-from-desk", "--server", farm.server, "--set-health", lab]
+    demand("health", (0, "b1 Good\n", ""), run(*words))
+    farm.tell("ann", "/reservations", {"tags": []})
+    left = farm.reservation(1)["deadline"] - before
+    demand("a lease of the next farm", True, 60 <= left <= 120)
+    farm.kill()
+    return "a farm whose clock ran ahead is told of, and its boards begin the next one"
 
 
 def refused(ran):
@@ -370,7 +467,7 @@ def has_loopback():
 if __name__ == "__main__":
     FARM = os.path.realpath(sys.argv[1])
     with tempfile.TemporaryDirectory() as room:
-        for row in (lava, lava_whole, limits, *([desk] if has_loopback() else [])):
+        for row in (lava, lava_whole, limits, *([desk, ahead] if has_loopback() else [])):
             print(f"importers: {row(tempfile.mkdtemp(dir=room))}", flush=True)
         try:
             import yaml  # noqa: F401
