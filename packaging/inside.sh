@@ -4,7 +4,7 @@ export DEBIAN_FRONTEND=noninteractive LC_ALL=C
 home=/var/lib/farm
 lab=/usr/share/doc/fizgruk-desk/examples/lab.toml
 log=/tmp/apt.log
-cd /tmp/packages
+cd /srv/packages
 fail() {
     echo "package: $*"
     exit 1
@@ -54,14 +54,27 @@ install ./fizgruk-desk_*.deb ./fizgruk-farm_*.deb
 unit farm enabled active 'the first installation'
 unit farm-dispatch enabled active 'the first installation'
 systemctl stop farm
-[ "$(sudo -u farm farm import --db "$home/lab.db" --at "$(date +%s)" /dev/stdin < "$lab")" = 'accepted 15, kept 0' ] ||
-    fail "the first import"
+cp "$lab" /root/lab.toml
+said=$(runuser -u farm -- farm import --db $home/lab.db --at "$(date +%s)" /dev/stdin < /root/lab.toml)
+[ "$said" = 'accepted 15, kept 0' ] || fail "the first import: $said"
+rm /root/lab.toml
 systemctl start farm
 served
 curl -sS -H 'x-user: admin' -d '{"health":"Good"}' http://127.0.0.1:8080/boards/qemu-01/health > /dev/null
 desk --user ann reserve virtual --acquire > /tmp/board 2> /dev/null || fail "the first reservation"
 [ "$(tail -n 1 /tmp/board)" = qemu-01 ] || fail "the first reservation gives $(cat /tmp/board)"
 echo "package: the first import and the first reservation, $((($(date +%s%N) - began) / 1000000000)) s after the installation began"
+
+# ---- a start that is refused is tried again until it isn't
+systemctl stop farm
+as_farm timeout 25 farm serve --db $home/lab.db --port 8081 --max 1000 > /tmp/other &
+until grep -q listening /tmp/other; do sleep 0.1; done
+systemctl start farm || :
+sleep 20
+! curl -sS http://127.0.0.1:8080/status > /tmp/status 2>&1 || fail "two programs serve one farm"
+wait
+served
+echo "package: the unit tries again while another program has the farm"
 
 # ---- an upgrade copies the farm and begins again; what an admin disabled stays so
 upgrade
@@ -86,9 +99,9 @@ echo "package: an upgrade copies the farm, and leaves disabled what an admin dis
 
 # ---- a farm of the first edition is made this edition's, by an upgrade and where a package was removed before
 for file in lab.db lab.db-wal; do
-    gunzip -c "/tmp/first_edition/$file.gz" > "/tmp/$file"
+    gunzip -c "/srv/first_edition/$file.gz" > "/tmp/$file"
 done
-sed -n '/^report queue$/,/^report reservations$/p' /tmp/first_edition/shown.txt | sed '1d; $d' > /tmp/queue
+sed -n '/^report queue$/,/^report reservations$/p' /srv/first_edition/shown.txt | sed '1d; $d' > /tmp/queue
 # Puts the first edition's farm in the place of the farm that is there; nothing else then changes it.
 old_farm() {
     systemctl disable -q --now farm-dispatch farm 2> /dev/null || :

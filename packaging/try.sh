@@ -21,13 +21,13 @@ else
     debootstrap --variant=minbase bookworm "$root" > "$room/log"
 fi
 chmod 755 "$room"
-mkdir "$root/tmp/packages"
-cp "$packages"/fizgruk*.deb "$root/tmp/packages"
-cp "$old" "$root/tmp/old.deb"
-cp -r "$here/inside.sh" "$here/../tests/first_edition" "$root/tmp"
+mkdir "$root/srv/packages"
+cp "$packages"/fizgruk*.deb "$root/srv/packages"
+cp "$old" "$root/srv/old.deb"
+cp -r "$here/inside.sh" "$here/../tests/first_edition" "$root/srv"
 cp /etc/resolv.conf "$root/etc/resolv.conf"
 chroot "$root" sh -c 'apt-get update -qq && DEBIAN_FRONTEND=noninteractive apt-get install -qq -y --no-install-recommends \
-    systemd systemd-sysv lintian curl sudo adduser python3' > "$room/log" 2>&1 || { tail -n 5 "$room/log"; exit 1; }
+    systemd systemd-sysv lintian curl adduser python3' > "$room/log" 2>&1 || { tail -n 5 "$room/log"; exit 1; }
 
 # ---- its systemd, in namespaces of its own
 unshare --mount --pid --fork --uts --ipc --cgroup --propagation private sh -c '
@@ -48,6 +48,7 @@ unshare --mount --pid --fork --uts --ipc --cgroup --propagation private sh -c '
         mount --bind "/dev/$name" "$1/dev/$name"
     done
     mkdir "$1/dev/shm" "$1/dev/pts"
+    ln -s pts/ptmx "$1/dev/ptmx"
     hostname clean
     cd "$1"
     pivot_root . mnt
@@ -61,4 +62,4 @@ until booted=$(pgrep -P "$outside") && inside=$(nsenter -t "$booted" -a systemct
     [ "$tries" -lt 300 ] || { echo "package: the clean Debian doesn't boot"; exit 1; }
     sleep 0.1
 done
-nsenter -t "$booted" -a env -i HOME=/root PATH=/usr/sbin:/usr/bin:/sbin:/bin sh /tmp/inside.sh
+nsenter -t "$booted" -a env -i HOME=/root PATH=/usr/sbin:/usr/bin:/sbin:/bin sh /srv/inside.sh

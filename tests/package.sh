@@ -44,11 +44,19 @@ for name in fizgruk-desk fizgruk-farm; do
 done
 field fizgruk-farm Depends | grep -q 'fizgruk-desk (>= .*python3' || fail "what fizgruk-farm depends on"
 
+architecture=$(dpkg --print-architecture)
+for name in $(grep -o 'bin/fizgruk[^ ]*[.]deb' docs/USING.md | sed "s,bin/,,; s,amd64,$architecture," | sort -u); do
+    [ -e "$folder/$name" ] || fail "docs/USING.md names $name"
+done
+
 # ---- its units: enabled at the first installation alone, by what keeps an admin's choice
 for unit in farm farm-dispatch; do
     grep -q "was-enabled '$unit.service'" "$folder/fizgruk-farm/postinst" || fail "$unit isn't enabled"
 done
 ! grep 'systemctl.* enable\|systemctl.* disable' "$folder"/fizgruk-farm/p* || fail "it enables what an admin disabled"
+for line in StartLimitIntervalSec=0 Restart=on-failure LimitNOFILE=2048; do
+    grep -qx "$line" "$tree/lib/systemd/system/farm.service" || fail "farm.service doesn't say $line"
+done
 if grep -rn /usr/local "$tree/lib" "$tree/etc"; then fail "names of an installation by hand"; fi
 if command -v systemd-analyze > /dev/null; then
     for unit in farm farm-dispatch; do
