@@ -67,6 +67,7 @@ echo "package: the first import and the first reservation, $((($(date +%s%N) - b
 
 # ---- a start that is refused is tried again until it isn't
 systemctl stop farm
+: > /tmp/other
 as_farm timeout 25 farm serve --db $home/lab.db --port 8081 --max 1000 > /tmp/other &
 until grep -q listening /tmp/other; do sleep 0.1; done
 systemctl start farm || :

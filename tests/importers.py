@@ -7,6 +7,7 @@ the program import it. Ends with status 1 at the first thing that isn't as it sh
 where PyYAML isn't there, after the rows that do without it. Takes a few seconds.
 """
 import os
+import shutil
 import subprocess
 import sys
 import tempfile
@@ -265,6 +266,11 @@ def imported(folder, lab):
     """What the program prints where it imports a lab file into a new farm."""
     file = os.path.join(folder, "farm.db")
     subprocess.run([FARM, "init", "--db", file], check=True, capture_output=True)
+    return import_of(file, lab)
+
+
+def import_of(file, lab):
+    """What the program prints where it imports a lab file into a farm."""
     words = [FARM, "import", "--db", file, "--at", "1700000000", lab]
     ran = subprocess.run(words, capture_output=True, text=True, check=False)
     return ran.stdout + ran.stderr
@@ -379,11 +385,15 @@ def desk(folder):
     wanted = LAB_OF_DESK.replace("SERVER", farm.server)
     demand("its output", (1, wanted, told), run(*words))
     demand("to a file", (1, "", told), run(*words, "--output", lab))
-    own_lab(folder, words, wanted)
+    own = own_lab(folder, words, wanted)
     farm.kill()
+    demand("what was added by hand", "farm: 11 type exists at 1\n", import_of(farm.db, own))
     next_folder = tempfile.mkdtemp(dir=folder)
     demand("its import", "accepted 5, kept 0\n", imported(next_folder, lab))
     farm.db = os.path.join(next_folder, "farm.db")
+    shutil.copytree(next_folder, f"{next_folder}-copy")
+    said = import_of(os.path.join(f"{next_folder}-copy", "farm.db"), own)
+    demand("the lab's own file after it", "accepted 1, kept 5\n", said)
     farm.start()
     demand("a farm of which nothing is lost", (0, 0), refused(run(*words)))
     words += ["--set-health", lab]
@@ -404,7 +414,7 @@ def own_lab(folder, words, wanted):
     if sys.version_info < (3, 11):
         told = "farm-from-desk: --lab wants Python 3.11, which reads TOML\n"
         demand("without tomllib", (4, "", told), run(*words))
-        return
+        return own
     for header, remark in REMARKS.items():
         remark = f"# {remark.replace('OWN', own)}: its import leaves what stands here"
         wanted = wanted.replace(f"\n{header}\n", f"\n{remark}\n{header}\n")
@@ -413,6 +423,7 @@ def own_lab(folder, words, wanted):
     for text in ("[types", "[boards.b1]\ntags = []\n", "types = 3\n"):
         wrong = write(folder, "wrong.toml", text)
         demand(f"beside {text!r}", (4, 1), refused(run(*words[:-1], wrong)))
+    return own
 
 
 def ahead(folder):
