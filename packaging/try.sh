@@ -12,6 +12,7 @@ old=$(realpath "$2")
 room=$(mktemp -d)
 booted=
 trap '[ -z "$booted" ] || kill -KILL "$booted"; rm -rf "$room"' EXIT
+trap 'exit 1' HUP INT TERM
 root=$room/debian
 if [ -n "${3:-}" ]; then
     cp -a "$3" "$root"
