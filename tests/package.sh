@@ -54,6 +54,10 @@ for unit in farm farm-dispatch; do
     grep -q "was-enabled '$unit.service'" "$folder/fizgruk-farm/postinst" || fail "$unit isn't enabled"
 done
 ! grep 'systemctl.* enable\|systemctl.* disable' "$folder"/fizgruk-farm/p* || fail "it enables what an admin disabled"
+# (2.0 kept no note of what was disabled: it is made by the one of the two that comes first)
+for name in fizgruk fizgruk-farm; do
+    grep -q 'deb-systemd-helper update-state' "$folder/$name/preinst" || fail "$name forgets what was disabled in 2.0"
+done
 for line in StartLimitIntervalSec=0 Restart=on-failure LimitNOFILE=2048; do
     grep -qx "$line" "$tree/lib/systemd/system/farm.service" || fail "farm.service doesn't say $line"
 done
@@ -67,7 +71,7 @@ if command -v systemd-analyze > /dev/null; then
 fi
 
 # ---- programs and documents
-for name in farm desk farm-dispatch farm-from-desk farm-from-labgrid farm-from-lava; do
+for name in farm $(cd tools && ls -d desk farm-*); do
     "$tree/usr/bin/$name" --help > "$folder/help" || fail "$name --help"
     grep -qi "^usage: $name" "$folder/help" || fail "$name --help prints '$(cat "$folder/help")'"
 done
