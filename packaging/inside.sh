@@ -98,6 +98,14 @@ upgrade
 unit farm-dispatch enabled active 'an upgrade of an enabled unit'
 echo "package: an upgrade copies the farm, and leaves disabled what an admin disabled"
 
+# ---- the next farm, by the commands of USING.md
+desk --user ann cancel-reservation 1
+sed -n '/^## When a farm is full/,/^## What/s/^    //p' /usr/share/doc/fizgruk-farm/USING.md > /tmp/next.sh
+(cd /root && sh -eu /tmp/next.sh && rm next.toml) > "$log" 2>&1 || fail "the next farm: $(cat "$log")"
+grep -q '^accepted 15, kept 0$' "$log" && grep -qx 'qemu-01 Good' "$log" || fail "the next farm: $(cat "$log")"
+curl -sS http://127.0.0.1:8080/status | grep -q '"next":1,' || fail "the next farm isn't new"
+echo "package: the next farm begins as USING.md says"
+
 # ---- a farm of the first edition is made this edition's, by an upgrade and where a package was removed before
 for file in lab.db lab.db-wal; do
     gunzip -c "/srv/first_edition/$file.gz" > "/tmp/$file"
@@ -106,7 +114,7 @@ sed -n '/^report queue$/,/^report reservations$/p' /srv/first_edition/shown.txt 
 # Puts the first edition's farm in the place of the farm that is there; nothing else then changes it.
 old_farm() {
     systemctl disable -q --now farm-dispatch farm 2> /dev/null || :
-    rm -rf $home/lab.db* $home/before-*
+    rm -rf $home/lab.db* $home/before-* $home/old-*
     for file in lab.db lab.db-wal; do
         as_farm sh -c "umask 077; cat > $home/$file" < "/tmp/$file"
     done

@@ -355,7 +355,7 @@ def labgrid(folder):
         demand(f"places {text!r}", (4, "", 1), (status, output, errors.count("\n")))
     for text, what in NO_PLACES:
         wrong = write(folder, "wrong.yaml", text)
-        told = f"{wrong} isn't it: {what}; the coordinator's file is places.yaml"
+        told = f"{wrong} is no file of places: {what}; the coordinator's is places.yaml"
         told = notes("farm-from-labgrid", told)
         demand(f"no places {text!r}", (4, "", told), run("farm-from-labgrid", wrong))
     demand("places that aren't there", 4, run("farm-from-labgrid", "/nonexistent")[0])

@@ -42,7 +42,7 @@ for name in fizgruk-desk fizgruk-farm; do
     [ "$(field $name Breaks)$(field $name Replaces)" = 'fizgruk (<< 2.0-1~)fizgruk (<< 2.0-1~)' ] ||
         fail "$name doesn't take the files of 2.0"
 done
-field fizgruk-farm Depends | grep -q 'fizgruk-desk (>= .*python3' || fail "what fizgruk-farm depends on"
+field fizgruk-farm Depends | grep -q 'fizgruk-desk (= .*python3' || fail "what fizgruk-farm depends on"
 
 architecture=$(dpkg --print-architecture)
 for name in $(grep -o 'bin/fizgruk[^ ]*[.]deb' docs/USING.md | sed "s,bin/,,; s,amd64,$architecture," | sort -u); do

@@ -32,9 +32,7 @@ def options_of(words: Optional[Sequence[str]]) -> argparse.Namespace:
     parser.add_argument(
         "--type-tag", metavar="KEY", default="board", help="the tag that names the type (board)"
     )
-    parser.add_argument(
-        "--type", metavar="NAME", help="the type of places without it (place)"
-    )
+    parser.add_argument("--type", metavar="NAME", help="the type of places without it (place)")
     return parser.parse_args(words)
 
 
@@ -62,8 +60,8 @@ def places_of(file: str) -> Dict[str, Dict[str, Any]]:
         raise lab_file.Unreadable(f"{file} has no places by their names")
     strange = [name for name, place in places.items() if not is_place(place)]
     if strange:
-        what = "the coordinator's file is places.yaml"
-        raise lab_file.Unreadable(f"{file} isn't it: {kind_of(places, strange)}; {what}")
+        what = f"{kind_of(places, strange)}; the coordinator's is places.yaml"
+        raise lab_file.Unreadable(f"{file} is no file of places: {what}")
     return places
 
 
