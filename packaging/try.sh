@@ -10,8 +10,8 @@ here=$(dirname "$(realpath "$0")")
 packages=$(realpath "$1")
 old=$(realpath "$2")
 room=$(mktemp -d)
-booted=
-trap '[ -z "$booted" ] || kill -KILL "$booted"; rm -rf "$room"' EXIT
+outside=
+trap '[ -z "$outside" ] || kill -KILL $(pgrep -P "$outside") || :; rm -rf "$room"' EXIT
 trap 'exit 1' HUP INT TERM
 root=$room/debian
 if [ -n "${3:-}" ]; then
