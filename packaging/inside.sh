@@ -155,6 +155,10 @@ does apt-get purge -y fizgruk-desk
 stands | diff /tmp/before - || fail "purging leaves more than the farm"
 install ./fizgruk-desk_*.deb ./fizgruk-farm_*.deb
 unit farm-dispatch enabled active 'an installation after purging'
+does dpkg --remove fizgruk-farm
+does script -qec 'echo yes | DEBIAN_FRONTEND=teletype dpkg --purge fizgruk-farm' /dev/null
+grep -q 'Remove the board farm' "$log" && ! [ -e $home ] || fail "purging doesn't ask: $(cat "$log")"
+install ./fizgruk-desk_*.deb ./fizgruk-farm_*.deb
 echo 'fizgruk-farm fizgruk-farm/remove-farm boolean true' | debconf-set-selections
 does apt-get purge -y fizgruk-farm fizgruk-desk
 stands | diff /tmp/before - || fail "purging with the farm leaves files"
