@@ -2,7 +2,7 @@
 # make bin    proves and builds the program, and leaves it at bin/farm
 # make test   every proof, named wrong body, test and program, from nothing (rt ci), then the scripts of tests/
 # make wrong  the further wrong bodies of wrong/, many to a check, over what make test or make bin proved
-# make deb    a Debian package of bin/farm and the tools, in bin/
+# make deb    the Debian packages of bin/farm and the tools, in bin/
 # make bench  times bin/farm beside its peers, alone on the machine: half an hour
 .PHONY: run bin test wrong deb bench
 

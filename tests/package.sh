@@ -1,7 +1,8 @@
 #!/bin/sh
-# Builds the Debian package of a built program and looks into it: sh tests/package.sh bin/farm
-# Each tool that it has says its help, each file's sum is right, and each man page of docs/ is in it.
-# Ends with status 77 where dpkg-deb isn't there. packaging/try.sh installs it in a clean Debian.
+# Builds the Debian packages of a built program and looks into them: sh tests/package.sh bin/farm
+# What each has and does at its installation, that its tools say their help, each file's sum, each man page of
+# docs/, each document that is named, and what lintian says where that is there.
+# Ends with status 77 where they can't be built. packaging/try.sh installs them in a clean Debian.
 set -eu
 program=$(realpath "$1")
 cd "$(dirname "$0")/.."
@@ -12,22 +13,90 @@ fail() {
     exit 1
 }
 status=0
-said=$(sh packaging/build.sh "$program" "$folder") || status=$?
-[ "$status" = 0 ] || { echo "$said"; exit "$status"; }
-dpkg-deb -R "$said" "$folder/tree"
-(cd "$folder/tree" && md5sum --quiet -c DEBIAN/md5sums) || fail "its sums"
-for script in preinst postinst prerm postrm; do
-    sh -n "$folder/tree/DEBIAN/$script" || fail "$script is no script"
+built=$(sh packaging/build.sh "$program" "$folder") || status=$?
+[ "$status" = 0 ] || { echo "$built"; exit "$status"; }
+tree=$folder/tree
+for deb in $built; do
+    dpkg-deb -x "$deb" "$tree"
+    name=$(dpkg-deb -f "$deb" Package)
+    dpkg-deb -e "$deb" "$folder/$name"
+    (cd "$tree" && md5sum --quiet -c "$folder/$name/md5sums") || fail "the sums of $name"
+    dpkg-deb --fsys-tarfile "$deb" | tar -t > "$folder/$name/files"
+    for script in preinst postinst prerm postrm; do
+        [ ! -e "$folder/$name/$script" ] || sh -n "$folder/$name/$script" || fail "$name's $script is no script"
+    done
 done
-for name in farm desk farm-dispatch farm-from-desk farm-from-labgrid farm-from-lava; do
-    "$folder/tree/usr/bin/$name" --help > "$folder/help" || fail "$name --help"
+[ "$(echo "$built" | wc -l)" = 3 ] || fail "it builds $built"
+
+# ---- what each package has and needs
+field() { dpkg-deb -f "$folder"/"$1"_*.deb "$2"; }
+[ "$(field fizgruk-desk Architecture)" = all ] || fail "the client's architecture"
+! grep -E '^./(lib|etc|usr/bin/farm)' "$folder/fizgruk-desk/files" || fail "the client's package has more than the client"
+! grep -l 'systemctl\|deb-systemd\|adduser' "$folder"/fizgruk-desk/*inst || fail "the client's package starts something"
+for file in lib/systemd/system/farm.service lib/systemd/system/farm-dispatch.service usr/bin/farm usr/bin/farm-dispatch \
+    usr/share/fizgruk/page/farm.html etc/nginx/sites-available/farm etc/farm/run-job etc/farm/check-board; do
+    grep -qx "./$file" "$folder/fizgruk-farm/files" || fail "fizgruk-farm has no $file"
+done
+for name in fizgruk-desk fizgruk-farm; do
+    field fizgruk Depends | grep -q "$name (>= " || fail "2.0 isn't upgraded to $name"
+    [ "$(field $name Breaks)$(field $name Replaces)" = 'fizgruk (<< 2.0-1~)fizgruk (<< 2.0-1~)' ] ||
+        fail "$name doesn't take the files of 2.0"
+done
+field fizgruk-farm Depends | grep -q 'fizgruk-desk (= .*python3' || fail "what fizgruk-farm depends on"
+
+architecture=$(dpkg --print-architecture)
+for name in $(grep -o 'bin/fizgruk[^ ]*[.]deb' docs/USING.md | sed "s,bin/,,; s,amd64,$architecture," | sort -u); do
+    [ -e "$folder/$name" ] || fail "docs/USING.md names $name"
+done
+
+# ---- its units: enabled at the first installation alone, by what keeps an admin's choice
+for unit in farm farm-dispatch; do
+    grep -q "was-enabled '$unit.service'" "$folder/fizgruk-farm/postinst" || fail "$unit isn't enabled"
+done
+! grep 'systemctl.* enable\|systemctl.* disable' "$folder"/fizgruk-farm/p* || fail "it enables what an admin disabled"
+# (2.0 kept no note of what was disabled: it is made by the one of the two that comes first)
+for name in fizgruk fizgruk-farm; do
+    grep -q 'deb-systemd-helper update-state' "$folder/$name/preinst" || fail "$name forgets what was disabled in 2.0"
+done
+for line in StartLimitIntervalSec=0 Restart=on-failure LimitNOFILE=2048; do
+    grep -qx "$line" "$tree/lib/systemd/system/farm.service" || fail "farm.service doesn't say $line"
+done
+if grep -rn /usr/local "$tree/lib" "$tree/etc"; then fail "names of an installation by hand"; fi
+if command -v systemd-analyze > /dev/null; then
+    for unit in farm farm-dispatch; do
+        sed "s,/usr/bin/,$tree/usr/bin/,; s,/etc/farm,$tree/etc/farm,g" "$tree/lib/systemd/system/$unit.service" > "$folder/$unit.service"
+    done
+    systemd-analyze --man=no verify "$folder/farm.service" "$folder/farm-dispatch.service" > "$folder/said" 2>&1 || :
+    ! grep "$folder.*service:" "$folder/said" || fail "its units"
+fi
+
+# ---- programs and documents
+for name in farm $(cd tools && ls -d desk farm-*); do
+    "$tree/usr/bin/$name" --help > "$folder/help" || fail "$name --help"
     grep -qi "^usage: $name" "$folder/help" || fail "$name --help prints '$(cat "$folder/help")'"
 done
-said=$("$folder/tree/usr/bin/farm" --version)
-[ "$said" = "farm $(sed -n 's/^Version: //p' "$folder/tree/DEBIAN/control")" ] || fail "farm --version printed '$said'"
+said=$("$tree/usr/bin/farm" --version)
+version=$(field fizgruk-farm Version)
+[ "$said" = "farm ${version%-*}" ] || fail "farm --version printed '$said'"
+docs=/usr/share/doc/fizgruk-desk
 for page in docs/*.[18]; do
-    gunzip -c "$folder/tree/usr/share/man/man${page##*.}/$(basename "$page").gz" | cmp -s - "$page" ||
-        fail "$page isn't in it"
+    sed "s,docs/\([A-Z]*[.]md\),$docs/\1,g" "$page" > "$folder/page"
+    gunzip -c "$tree/usr/share/man/man${page##*.}/$(basename "$page").gz" | cmp -s - "$folder/page" || fail "$page isn't in it"
 done
-if grep -rn /usr/local "$folder/tree/lib" "$folder/tree/etc"; then fail "names of an installation by hand"; fi
-echo "package: it has the program, the tools, units, the site, man pages, and sums that are right"
+mkdir "$folder/pages"
+for page in "$tree"/usr/share/man/man?/*.gz; do
+    gunzip -c "$page" > "$folder/pages/$(basename "$page" .gz)"
+done
+for page in "$tree$docs"/*.md "$folder"/pages/* "$tree"/etc/farm/* "$tree/etc/nginx/sites-available/farm" "$tree"/lib/systemd/system/*; do
+    named=$(sed 's,[a-z/]*[A-Z]*[.]md of the source,,g' "$page" | grep -Eo '[a-z/-]*[A-Z]+[.]md|docs/[a-z.-]+[0-9]|docs/[a-z]+[.]png' | sort -u)
+    for name in $named; do
+        name=$(basename "$name")
+        [ -e "$tree$docs/$name" ] || [ -e "$tree/usr/share/man/man${name##*.}/$name.gz" ] ||
+            fail "$(basename "$page") names $name, which isn't in it"
+    done
+done
+if command -v lintian > /dev/null; then
+    # shellcheck disable=SC2086
+    lintian --allow-root --fail-on error,warning $built > "$folder/said" 2>&1 || fail "lintian says $(cat "$folder/said")"
+fi
+echo "package: client and server apart, units that an admin may disable, the tools, man pages and each document that is named"

@@ -1,27 +1,42 @@
 """farm-from-desk: a lab file from a desk's boards, for the farm that comes after it."""
+import argparse
 import re
 import sys
+import time
+from typing import Any, Dict, List, NamedTuple, Optional, Sequence, Tuple
 
 from farm_tools import calls, lab_file, settings
 
 PROGRAM = "farm-from-desk"
 ABOUT = """\
 Writes a lab file of a desk's types and boards, with their checks, tags and
-health. 'farm import' takes types, boards and tags from it; --set-health FILE
-then gives each board of the file its health at the new desk, as the admin."""
+health, to begin the next farm with. 'farm import' takes types, boards and tags
+from it; --set-health FILE then gives each board of the file its health at the
+new desk, as the admin. --lab FILE names the lines of the lab's own file that
+say something else than the desk has: an import of that file changes none of
+it."""
+HEAD = """\
+The types and boards of {server}, for the farm that comes after it:
+    farm init --db NEW
+    farm import --db NEW --at "$(date +%s)" THIS
+and, when that is served:
+    farm-from-desk --set-health THIS"""
 PATIENCE = 15
 REFUSED = 3
 # A farm's boards begin so.
 FIRST_HEALTH = "Maintenance"
+# How many seconds the desk's clock may be ahead of this machine's and nothing is said.
+AHEAD = 60
 
 
-def main(words=None) -> int:
+def main(words: Optional[Sequence[str]] = None) -> int:
     options = options_of(words)
     try:
         desk = calls.Desk(settings.read_settings("desk", options, "admin"), PATIENCE)
         if options.set_health is not None:
             return set_health(desk, options.set_health)
-        return lab_file.status_of(PROGRAM, lambda _: lab_of(desk), options)
+        warn_of_clock(desk)
+        return lab_file.status_of(PROGRAM, lambda it: lab_of(desk, it.lab), options)
     except calls.Refused as refusal:
         return told(REFUSED, f"refused: {refusal}")
     except calls.NoAnswer as fault:
@@ -35,9 +50,12 @@ def told(status: int, text: str) -> int:
     return status
 
 
-def options_of(words):
+def options_of(words: Optional[Sequence[str]]) -> argparse.Namespace:
     parser = lab_file.parser_of(PROGRAM, ABOUT)
-    parser.epilog += "; 3 the desk refuses"
+    parser.epilog = f"{parser.epilog}; 3 the desk refuses"
+    parser.add_argument(
+        "--lab", metavar="FILE", help="the lab's own file, to be compared with the desk"
+    )
     parser.add_argument("--set-health", metavar="FILE", help="give boards the health of a lab file")
     settings.add_options(parser)
     return parser.parse_args(words)
@@ -46,28 +64,113 @@ def options_of(words):
 # ---- writing
 
 
-def lab_of(desk) -> lab_file.LabFile:
-    """The lab of a desk; what waits or is held is told."""
+def lab_of(desk: calls.Desk, own_file: Optional[str]) -> lab_file.LabFile:
+    """The lab of a desk; what waits or is held is told, and where the lab's own file differs."""
     lab = lab_file.LabFile()
+    lab.head = HEAD.format(server=desk.server).splitlines()
     for row in desk.look("/types")["types"]:
         lab.add_type("types", row["name"], row["check"], row["every"])
     for row in desk.look("/boards")["boards"]:
         where = f"board {row['name']}"
         if row["health"] == "Retired":
-            lab.note(where, "it isn't carried over: it is Retired")
+            lab.note_usual(where, "it isn't carried over: it is Retired")
             continue
         lab.add_board(where, row["name"], row["type"], row["tags"], row["health"])
         if row["holder"] != "none":
             lab.note(where, f"{row['holder']}, which has it, isn't carried over")
     for row in desk.look("/queue")["queue"]:
         lab.note("queue", f"{row['kind']} {row['number']} of {row['owner']} isn't carried over")
+    if own_file is not None:
+        compare(lab, own_file)
     return lab
+
+
+def warn_of_clock(desk: calls.Desk) -> None:
+    """Says where the farm's clock is ahead of this machine's: a farm's clock never falls back."""
+    ahead = desk.look("/status")["clock"] - int(time.time())
+    if ahead > AHEAD:
+        told(0, f"the farm's clock is {span(ahead)} ahead of this machine's: begin the next farm")
+
+
+def span(seconds: int) -> str:
+    """A span of time in its largest whole unit."""
+    for unit, name in [(86400, "days"), (3600, "hours"), (60, "minutes")]:
+        if seconds >= 2 * unit:
+            return f"{seconds // unit} {name}"
+    return f"{seconds} seconds"
+
+
+# ---- the lab's own file
+
+
+class Entry(NamedTuple):
+    """What a lab file says of a type or a board, in the file's words."""
+
+    words: str
+    line: Optional[int]
+
+
+def compare(lab: lab_file.LabFile, file: str) -> None:
+    """Remarks and notes each type and board of which the lab's own file says something else. Its
+    import changes none of them: the next farm keeps the reply to each name that is there."""
+    own = entries_of(file)
+    here = {("types", name): type_words(*it) for name, it in lab.types.items()}
+    here.update({("boards", name): board_words(it[0], it[1]) for name, it in lab.boards.items()})
+    for key in sorted(here.keys() & own.keys()):
+        entry = own[key]
+        if entry.words != here[key]:
+            where = file if entry.line is None else f"{file}:{entry.line}"
+            lab.remarks[key] = f"{where} has {entry.words}: its import leaves what stands here"
+            what = f"it has {entry.words}, and the desk {here[key]}: an import changes nothing"
+            lab.note(where, f"{key[0][:-1]} {key[1]}: {what}")
+
+
+def type_words(check: str, every: int) -> str:
+    return f'check = "{check}"' + (f", every = {every}" if check != "none" else "")
+
+
+def board_words(kind: str, tags: Sequence[str]) -> str:
+    listed = ", ".join(f'"{it}"' for it in sorted(set(tags)))
+    return f'type = "{kind}", tags = [{listed}]'
+
+
+def entries_of(file: str) -> Dict[Tuple[str, str], Entry]:
+    """The types and boards of a lab file."""
+    try:
+        import tomllib
+    except ImportError as fault:
+        raise lab_file.Unreadable("--lab wants Python 3.11, which reads TOML") from fault
+    with open(file, encoding="utf-8") as opened:
+        text = opened.read()
+    try:
+        tables = tomllib.loads(text)
+        types, boards = tables.get("types", {}), tables.get("boards", {})
+        words = {("types", name): type_words_of(row) for name, row in types.items()}
+        words.update({("boards", name): board_words_of(row) for name, row in boards.items()})
+    except (tomllib.TOMLDecodeError, AttributeError, KeyError, TypeError) as fault:
+        raise lab_file.Unreadable(f"{file} is no lab file: {fault}") from fault
+    lines = text.splitlines()
+    return {key: Entry(said, line_of(lines, *key)) for key, said in words.items()}
+
+
+def type_words_of(row: Dict[str, Any]) -> str:
+    return type_words(row.get("check", "none"), row.get("every", 0))
+
+
+def board_words_of(row: Dict[str, Any]) -> str:
+    return board_words(row["type"], row.get("tags", []))
+
+
+def line_of(lines: List[str], kind: str, name: str) -> Optional[int]:
+    """The line on which a type or board begins, counted from 1, where it has a line of its own."""
+    header = re.compile(rf"""\s*\[\s*{kind}\s*\.\s*["']?{re.escape(name)}["']?\s*\]""")
+    return next((at for at, line in enumerate(lines, 1) if header.match(line)), None)
 
 
 # ---- giving health
 
 
-def set_health(desk, file: str) -> int:
+def set_health(desk: calls.Desk, file: str) -> int:
     """Gives each board of a lab file its health, under a key of its own. Returns the exit
     status."""
     with open(file, encoding="utf-8") as text:
@@ -79,9 +182,10 @@ def set_health(desk, file: str) -> int:
     return lab_file.CARRIED
 
 
-def healths_of(text: str) -> dict:
+def healths_of(text: str) -> Dict[str, str]:
     """The health of each board of a lab file that has one, in the lines that LabFile writes."""
-    healths, board = {}, None
+    healths: Dict[str, str] = {}
+    board = None
     for line in text.splitlines():
         section = re.fullmatch(r'\s*\[(?:boards\."?([A-Za-z0-9_.-]+?)"?|.*)\]\s*(#.*)?', line)
         health = re.fullmatch(r'\s*health\s*=\s*"(\w+)"\s*(#.*)?', line)

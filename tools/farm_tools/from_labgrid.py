@@ -1,4 +1,8 @@
 """farm-from-labgrid: a lab file from the places that labgrid's coordinator keeps."""
+import argparse
+import re
+from typing import Any, Dict, List, Optional, Sequence
+
 from farm_tools import lab_file
 
 PROGRAM = "farm-from-labgrid"
@@ -11,26 +15,28 @@ KNOWN = (
     "name", "tags", "aliases", "comment", "matches", "acquired", "acquired_resources",
     "reservation", "allowed",
 )
+# When a place was made and changed, which each has.
+TIMES = ("created", "changed")
+# A word of each file that isn't the coordinator's.
+OF_AN_ENVIRONMENT = {"targets", "images", "tools", "options", "imports"}
 NOTHING = (None, "", "null", "Null", "NULL", "~", [], {})
 
 
-def main(words=None) -> int:
+def main(words: Optional[Sequence[str]] = None) -> int:
     return lab_file.status_of(PROGRAM, lab_of, options_of(words))
 
 
-def options_of(words):
+def options_of(words: Optional[Sequence[str]]) -> argparse.Namespace:
     parser = lab_file.parser_of(PROGRAM, ABOUT)
     parser.add_argument("places", metavar="PLACES", help="the coordinator's places.yaml")
     parser.add_argument(
         "--type-tag", metavar="KEY", default="board", help="the tag that names the type (board)"
     )
-    parser.add_argument(
-        "--type", metavar="NAME", default="place", help="the type of places without it (place)"
-    )
+    parser.add_argument("--type", metavar="NAME", help="the type of places without it (place)")
     return parser.parse_args(words)
 
 
-def lab_of(options) -> lab_file.LabFile:
+def lab_of(options: argparse.Namespace) -> lab_file.LabFile:
     """The lab of a coordinator's places."""
     lab = lab_file.LabFile()
     for name, place in places_of(options.places).items():
@@ -38,7 +44,7 @@ def lab_of(options) -> lab_file.LabFile:
     return lab
 
 
-def places_of(file: str) -> dict:
+def places_of(file: str) -> Dict[str, Dict[str, Any]]:
     """The places of a file by their names. All words in it are texts, as they are written."""
     try:
         import yaml
@@ -50,12 +56,39 @@ def places_of(file: str) -> dict:
     except (yaml.YAMLError, UnicodeDecodeError) as fault:
         raise lab_file.Unreadable(f"{file} isn't YAML: {' '.join(str(fault).split())}") from fault
     places = {} if places in NOTHING else places
-    if not isinstance(places, dict) or not all(isinstance(it, dict) for it in places.values()):
+    if not isinstance(places, dict):
         raise lab_file.Unreadable(f"{file} has no places by their names")
+    strange = [name for name, place in places.items() if not is_place(place)]
+    if strange:
+        what = f"{kind_of(places, strange)}; the coordinator's is places.yaml"
+        raise lab_file.Unreadable(f"{file} is no file of places: {what}")
     return places
 
 
-def carry(lab, name: str, place: dict, options) -> None:
+def is_place(place: Any) -> bool:
+    """Whether it has something that the coordinator writes of each place."""
+    return isinstance(place, dict) and not place.keys().isdisjoint({*KNOWN, *TIMES})
+
+
+def kind_of(file: Dict[str, Any], strange: List[str]) -> str:
+    """What a file looks like that has something which is no place."""
+    targets = file.get("targets")
+    if OF_AN_ENVIRONMENT >= file.keys() or (isinstance(targets, dict) and "targets" in strange):
+        return "it looks like an environment of labgrid's client (targets)"
+    for group in strange:
+        for name, resource in _members(file[group]):
+            if isinstance(resource, dict) and ("cls" in resource or re.match("[A-Z]", name)):
+                return f"it looks like an exporter's resources ({group}: {name})"
+    return f"'{strange[0]}' has nothing that a place has"
+
+
+def _members(group: Any) -> Sequence[Any]:
+    return list(group.items()) if isinstance(group, dict) else []
+
+
+def carry(
+    lab: lab_file.LabFile, name: str, place: Dict[str, Any], options: argparse.Namespace
+) -> None:
     """Makes a place a board, and notes what a board has no room for."""
     where = f"place {name}"
     tags = {} if place.get("tags") in NOTHING else place["tags"]
@@ -63,19 +96,21 @@ def carry(lab, name: str, place: dict, options) -> None:
         raise lab_file.Unreadable(f"{where}: its tags aren't words by their keys")
     kind = tags.get(options.type_tag)
     if not kind:
-        lab.note(where, f"it has no tag {options.type_tag}: its type is {options.type}")
-    kind = lab.add_type(where, kind or options.type)
+        note = lab.note if options.type is None else lab.note_usual
+        kind = options.type or "place"
+        note(where, f"it has no tag {options.type_tag}: its type is {kind}")
+    kind = lab.add_type(where, kind)
     lab.add_board(where, name, kind, [f"{key}={value}" for key, value in tags.items()])
     note_rest(lab, where, place)
 
 
-def note_rest(lab, where: str, place: dict) -> None:
+def note_rest(lab: lab_file.LabFile, where: str, place: Dict[str, Any]) -> None:
     for alias in _items(place.get("aliases")):
         lab.note(where, f"alias {alias} isn't carried over")
     if place.get("comment") not in NOTHING:
         lab.note(where, f"comment {' '.join(str(place['comment']).split())!r} isn't carried over")
     for match in _items(place.get("matches")):
-        lab.note(where, f"match {_match_text(match)} isn't carried over")
+        lab.note_usual(where, f"match {_match_text(match)} isn't carried over")
     for key in ("acquired", "reservation"):
         if place.get(key) not in NOTHING:
             lab.note(where, f"{key} {place[key]} isn't carried over: the board is nobody's")
@@ -83,14 +118,15 @@ def note_rest(lab, where: str, place: dict) -> None:
         lab.note(where, f"allowed {user} isn't carried over: a board is its holder's alone")
     for key in place:
         if key not in KNOWN and place[key] not in NOTHING:
-            lab.note(where, f"{key} {place[key]} isn't carried over")
+            note = lab.note_usual if key in TIMES else lab.note
+            note(where, f"{key} {place[key]} isn't carried over")
 
 
-def _items(value) -> list:
+def _items(value: Any) -> List[Any]:
     return value if isinstance(value, list) else []
 
 
-def _match_text(match) -> str:
+def _match_text(match: Any) -> str:
     """A match as labgrid prints it: exporter, group, class, and the resource's name."""
     if not isinstance(match, dict):
         return str(match)

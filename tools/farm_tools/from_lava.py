@@ -1,6 +1,8 @@
 """farm-from-lava: a lab file from the device dictionaries and device types of a LAVA server."""
+import argparse
 import os
 import re
+from typing import Dict, List, Optional, Sequence, Tuple
 
 from farm_tools import lab_file
 
@@ -17,11 +19,11 @@ PARTS = re.compile(r"{%-?\s*(\w+)\s*(.*?)\s*-?%}|{{.*?}}", re.DOTALL)
 COMMENT = re.compile(r"{#.*?#}", re.DOTALL)
 
 
-def main(words=None) -> int:
+def main(words: Optional[Sequence[str]] = None) -> int:
     return lab_file.status_of(PROGRAM, lab_of, options_of(words))
 
 
-def options_of(words):
+def options_of(words: Optional[Sequence[str]]) -> argparse.Namespace:
     parser = lab_file.parser_of(PROGRAM, ABOUT)
     parser.add_argument("folder", metavar="FOLDER", help="the server's dispatcher-config")
     parser.add_argument(
@@ -40,31 +42,42 @@ def hours(text: str) -> int:
     return number
 
 
-def lab_of(options) -> lab_file.LabFile:
+def lab_of(options: argparse.Namespace) -> lab_file.LabFile:
     """The lab of a server's folder."""
     lab = lab_file.LabFile()
     tags = tags_of(options.tags)
     devices = files_of(options.folder, "devices", SUFFIX)
     if devices is None:
         raise lab_file.Unreadable(f"{options.folder} has no folder devices")
-    types = {}
+    types: Dict[str, str] = {}
     for name in files_of(options.folder, "device-types", SUFFIX) or []:
         if not name.startswith("base"):
             where = f"device-types/{name}{SUFFIX}"
             types[name] = lab.add_type(where, name)
-            lab.note(where, "what it says isn't carried over, but for its name")
+            lab.note_usual(where, "what it says isn't carried over, but for its name")
     for name in devices:
-        carry(lab, options.folder, name, tags.pop(name, None), types)
+        carry(lab, options.folder, name, tags.pop(name, []), types)
     for name in files_of(options.folder, "health-checks", ".yaml") or []:
         carry_check(lab, name, types, options.hours)
-    for name in tags:
-        lab.note(options.tags, f"tags of {name} aren't carried over: there is no such device")
-    rest = "what stands in LAVA's database alone isn't carried over: owners, workers, permissions"
-    lab.note(options.folder, rest)
+    note_database(lab, options, tags)
     return lab
 
 
-def files_of(folder: str, part: str, suffix: str):
+def note_database(
+    lab: lab_file.LabFile, options: argparse.Namespace, left: Dict[str, List[str]]
+) -> None:
+    """Notes what stands in LAVA's database: tags that nobody gave or that are `left`, and what no
+    farm has."""
+    if options.tags is None:
+        rest = "tags, which stand in LAVA's database, aren't carried over: give --tags"
+        lab.note(options.folder, rest)
+    for name in left:
+        lab.note(options.tags, f"tags of {name} aren't carried over: there is no such device")
+    rest = "what stands in LAVA's database alone isn't carried over: owners, workers, permissions"
+    lab.note_usual(options.folder, rest)
+
+
+def files_of(folder: str, part: str, suffix: str) -> Optional[List[str]]:
     """The names of the files of a part, without their suffix, in order; None where there is no such
     folder."""
     try:
@@ -74,7 +87,9 @@ def files_of(folder: str, part: str, suffix: str):
     return sorted(it[: -len(suffix)] for it in names if it.endswith(suffix))
 
 
-def carry(lab, folder: str, name: str, tags, types: dict) -> None:
+def carry(
+    lab: lab_file.LabFile, folder: str, name: str, tags: List[str], types: Dict[str, str]
+) -> None:
     """Makes a device a board, and notes each setting of its dictionary."""
     where = f"devices/{name}{SUFFIX}"
     kind, notes = dictionary_of(os.path.join(folder, where))
@@ -83,19 +98,18 @@ def carry(lab, folder: str, name: str, tags, types: dict) -> None:
         return
     if kind not in types:
         types[kind] = lab.add_type(where, kind)
-    lab.add_board(where, name, types[kind], tags or [])
-    if tags is None:
-        lab.note(where, "its tags, which stand in LAVA's database, aren't carried over")
+    lab.add_board(where, name, types[kind], tags)
     for line, what in notes:
-        lab.note(f"{where}:{line}", f"{what} isn't carried over")
+        lab.note_usual(f"{where}:{line}", f"{what} isn't carried over")
 
 
-def dictionary_of(file: str):
+def dictionary_of(file: str) -> Tuple[Optional[str], List[Tuple[int, str]]]:
     """The type that a device dictionary extends, or None, and what else it says: line and text of
     each part."""
     with open(file, encoding="utf-8") as opened:
         text = COMMENT.sub(lambda it: "\n" * it.group().count("\n"), opened.read())
-    kind, notes = None, []
+    kind: Optional[str] = None
+    notes = []
     for part in PARTS.finditer(text):
         word, rest = part.group(1), part.group(2) or ""
         extended = re.fullmatch(
@@ -111,19 +125,19 @@ def dictionary_of(file: str):
     return kind, notes
 
 
-def carry_check(lab, name: str, types: dict, every: int) -> None:
+def carry_check(lab: lab_file.LabFile, name: str, types: Dict[str, str], every: int) -> None:
     where = f"health-checks/{name}.yaml"
     if name not in types:
         lab.note(where, "it isn't carried over: no device is of this type")
         return
     lab.check_type(types[name], every)
-    lab.note(where, "its job isn't carried over: see farm-dispatch --check")
-    lab.note(where, f"how often isn't carried over: it is every {every} hours")
+    lab.note_usual(where, "its job isn't carried over: see farm-dispatch --check")
+    lab.note_usual(where, f"how often isn't carried over: it is every {every} hours")
 
 
-def tags_of(file) -> dict:
+def tags_of(file: Optional[str]) -> Dict[str, List[str]]:
     """The tags of each device that a file of them names."""
-    tags = {}
+    tags: Dict[str, List[str]] = {}
     if file is not None:
         with open(file, encoding="utf-8") as lines:
             for line in lines:

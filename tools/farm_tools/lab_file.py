@@ -4,6 +4,7 @@ import argparse
 import os
 import re
 import sys
+from typing import Callable, Dict, Iterable, List, NamedTuple, Optional, Tuple
 
 NAME, TAG_KEY, TAG_VALUE = 48, 32, 64
 MOST_TAGS, MOST_TYPES, MOST_BOARDS, MOST_OF_A_TYPE = 16, 64, 256, 64
@@ -11,16 +12,23 @@ HIGHEST_PRIORITY, MOST_WANTS, LONGEST_EVERY = 100, 4, 10000
 LONGEST_JOB_FILE, LONGEST_LAB_FILE = 65536, 1048576
 CARRIED, NOT_CARRIED, FAULT = 0, 1, 4
 STATUSES = """\
-exit status: 0 all was carried over; 1 the lab file is written, and standard
-error says line by line what couldn't be carried over; 2 bad words; 4 what is
-read or written can't be, or isn't of its kind"""
+exit status: 0 nothing that matters was left out; 1 the lab file is written, and
+standard error says line by line what was left out; 2 bad words; 4 what is read
+or written can't be, or isn't of its kind"""
 
 
 class Unreadable(Exception):
     """What is to be read isn't of its kind."""
 
 
-def parser_of(program: str, about: str):
+class Note(NamedTuple):
+    """Something that couldn't be carried over, and whether every file of its kind has the like."""
+
+    text: str
+    usual: bool
+
+
+def parser_of(program: str, about: str) -> argparse.ArgumentParser:
     """The words that each program has which writes a lab file."""
     parser = argparse.ArgumentParser(
         prog=program,
@@ -29,13 +37,20 @@ def parser_of(program: str, about: str):
         formatter_class=argparse.RawDescriptionHelpFormatter,
     )
     parser.add_argument("--output", metavar="FILE", help="the lab file (the output)")
+    parser.add_argument(
+        "--verbose", action="store_true", help="tell also what is left out of every file"
+    )
     return parser
 
 
-def status_of(program: str, lab_of, options) -> int:
+def status_of(
+    program: str,
+    lab_of: Callable[[argparse.Namespace], "LabFile"],
+    options: argparse.Namespace,
+) -> int:
     """Writes the lab file that `lab_of` gives for the options. Returns the exit status."""
     try:
-        return write(program, lab_of(options), options.output)
+        return write(program, lab_of(options), options)
     except (Unreadable, OSError, UnicodeDecodeError) as fault:
         print(f"{program}: {fault}", file=sys.stderr)
         return FAULT
@@ -45,13 +60,20 @@ class LabFile:
     """Types and boards in the words that the desk takes. Whatever doesn't fit is noted, as `WHERE:
     WHAT`."""
 
-    def __init__(self):
-        self.types = {}
-        self.boards = {}
-        self.notes = []
+    def __init__(self) -> None:
+        self.types: Dict[str, Tuple[str, int]] = {}
+        self.boards: Dict[str, Tuple[str, List[str], Optional[str]]] = {}
+        self.notes: List[Note] = []
+        # Lines of comment: at the head of the file, and over a type or a board ("types", its name).
+        self.head: List[str] = []
+        self.remarks: Dict[Tuple[str, str], str] = {}
 
     def note(self, where: str, what: str) -> None:
-        self.notes.append(f"{where}: {what}")
+        self.notes.append(Note(f"{where}: {what}", False))
+
+    def note_usual(self, where: str, what: str) -> None:
+        """Notes what is left out of every file of its kind."""
+        self.notes.append(Note(f"{where}: {what}", True))
 
     def add_type(self, where: str, name: str, check: str = "none", every: int = 0) -> str:
         """Adds a type with its check, where it isn't there already. Returns its name in the lab
@@ -64,30 +86,42 @@ class LabFile:
         """Lets the boards of a type be checked every so many hours."""
         self.types[name] = ("hours", hours)
 
-    def add_board(self, where: str, name: str, kind: str, tags, health=None) -> None:
+    def add_board(
+        self,
+        where: str,
+        name: str,
+        kind: str,
+        tags: Iterable[str],
+        health: Optional[str] = None,
+    ) -> None:
         """Adds a board of a type that was added, with its tags as texts `key` or `key=value`, and
         its health, which `farm import` passes over."""
         word = self._word(where, "board", name, NAME)
         if word in self.boards:
             self.note(where, f"board {name} isn't carried over: there is a {word} already")
             return
-        kept = sorted({self._tag(where, it) for it in tags} - {None})
+        kept = sorted(it for it in {self._tag(where, it) for it in tags} if it is not None)
         for tag in kept[MOST_TAGS:]:
             self.note(where, f"tag {tag} isn't carried over: a board has {MOST_TAGS} tags at most")
         self.boards[word] = (kind, kept[:MOST_TAGS], health)
 
     def text(self) -> str:
         """The lab file."""
-        lines = []
+        lines = [f"# {it}" for it in self.head] + ([""] if self.head else [])
         for name, (check, every) in sorted(self.types.items()):
-            lines += [f"[types.{_key(name)}]"]
+            lines += [*self._remark("types", name), f"[types.{_key(name)}]"]
             lines += [f'check = "{check}"', f"every = {every}"] if check != "none" else []
             lines += [""]
         for name, (kind, tags, health) in sorted(self.boards.items()):
             listed = ", ".join(f'"{it}"' for it in tags)
-            lines += [f"[boards.{_key(name)}]", f'type = "{kind}"', f"tags = [{listed}]"]
+            lines += [*self._remark("boards", name), f"[boards.{_key(name)}]"]
+            lines += [f'type = "{kind}"', f"tags = [{listed}]"]
             lines += [f'health = "{health}"', ""] if health else [""]
         return "\n".join(lines)
+
+    def _remark(self, kind: str, name: str) -> List[str]:
+        remark = self.remarks.get((kind, name))
+        return [f"# {remark}"] if remark else []
 
     def note_limits(self) -> None:
         """Notes what a farm has no room for, where `farm import` will stop."""
@@ -111,7 +145,7 @@ class LabFile:
             self.note(where, f"{what} {text!r} isn't carried over as it is: it is {word}")
         return word
 
-    def _tag(self, where: str, text: str):
+    def _tag(self, where: str, text: str) -> Optional[str]:
         """A tag as the desk takes it, or None where it takes none such."""
         key, equals, value = text.partition("=")
         if key == "name":
@@ -131,17 +165,18 @@ def _key(name: str) -> str:
     return name if re.fullmatch("[A-Za-z0-9_-]+", name) else f'"{name}"'
 
 
-def write(program: str, lab: LabFile, output) -> int:
+def write(program: str, lab: LabFile, options: argparse.Namespace) -> int:
     """Writes a lab file to a file, or the output, and tells what wasn't carried over. Returns the
     exit status."""
     lab.note_limits()
-    if output is None:
+    if options.output is None:
         sys.stdout.write(lab.text())
         sys.stdout.flush()
     else:
-        with open(f"{output}.new", "w", encoding="utf-8") as file:
+        with open(f"{options.output}.new", "w", encoding="utf-8") as file:
             file.write(lab.text())
-        os.replace(f"{output}.new", output)
+        os.replace(f"{options.output}.new", options.output)
     for note in lab.notes:
-        print(f"{program}: {note}", file=sys.stderr)
-    return NOT_CARRIED if lab.notes else CARRIED
+        if options.verbose or not note.usual:
+            print(f"{program}: {note.text}", file=sys.stderr)
+    return CARRIED if all(note.usual for note in lab.notes) else NOT_CARRIED
