@@ -273,8 +273,8 @@ def lines_of_a_file(farm, folder):
 
 def version(farm, folder):
     del folder
-    with open(os.path.join(TOP, "packaging", "changelog"), encoding="utf-8") as text:
-        first = re.match(r"fizgruk \((.*?)\)", text.readline()).group(1)
+    with open(os.path.join(TOP, "packaging", "debian", "changelog"), encoding="utf-8") as text:
+        first = re.match(r"fizgruk \(([^-)]*)", text.readline()).group(1)
     prints(farm, f"desk {first}\n", "--version")
     return f"the client's version is the package's, {first}"
 
