@@ -63,6 +63,11 @@ one_more g old between new moments i now status low here all h =
       in_turn = together g all.talks (last ∷ []) old between new all.in_turn (new, h, refl);
     }
 
+-- the fault that ended it, if one did
+abbrev pub fault_in : {A : Type 0} → Result A DeskFault → DeskFault
+fault_in (Ok done) = DeskFault.NoMemory
+fault_in (Err fault) = fault
+
 pub stops_at : {S : Type 0} (g : Ghosts S) (old between new : Desk S) (moments : List ℕ) (i now : ℕ) (fault : DeskFault) → i < length moments → now ≡ get_or moments i 0
     → AnswersAll g old between (take i moments) → Converses g between new now (Err fault) → StopsAt g old new moments fault
 stops_at g old between new moments i now fault low here all h =

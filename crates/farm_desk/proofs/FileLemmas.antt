@@ -1,13 +1,12 @@
 -- From a store that was opened to the farm of its files.
-use Rattle.std.proofs.Common.{◌≡◌, List, [], ◌∷◌, refl, sym, ap, subst, ◌∙◌, arith}
-use Rattle.std.specs.List.{AllZip}
+use Rattle.std.proofs.Common.{◌≡◌, sym, ap, subst, ◌∙◌, arith}
 use Rattle.sqlite.specs.Effect.{Database}
 use Rattle.sqlite.specs.Files.{file_state, over_files}
 use Rattle.sqlite.specs.Held.{Held, state}
 use Rattle.sqlite.specs.Schema.{Schema}
 use Rattle.sqlite.specs.State.{HasCleanDisk, IsLive, Opens}
 use Rattle.sqlite.specs.Tree.{Trees}
-use Rattle.sqlite_catalog.specs.Listing.{AreListed, IsIndexRow, IsTableRow, IsViewRow}
+use Rattle.sqlite_catalog.specs.Listing.{AreListed}
 use Rattle.sqlite_disk.specs.declared.Disk.{Ghosts}
 use Rattle.sqlite_store.specs.declared.store.FileStore.{FileStore}
 use Rattle.sqlite_trees.specs.Objects.{catalog_tree}
@@ -15,24 +14,13 @@ use Rattle.sqlite_trees.specs.declared.store.Store as store
 use Rattle.sqlite_wal.specs.Recovery.{Image}
 use Rattle.farm_store.specs.Columns.{Tables, rows_of}
 use Rattle.farm_store.specs.Holds.{Holds, Stands}
-use Rattle.farm_store.specs.Schema.{no_schema}
+use Rattle.farm_store.specs.Schema.{farm_schema, no_schema}
 use Rattle.farm_types.specs.Farm.{Farm}
 use Rattle.farm_keep.specs.Headline.{Adopts, Denies}
 use Rattle.farm_keep.specs.Kept.{Kept, KeepsFarm}
 use Rattle.farm_keep.specs.declared.fault.KeepFault.{KeepFault}
-use Rattle.farm_desk.specs.InFiles.{DeniesFarm, DeniesTables, FindsFarm, FindsTables, HoldsTables, MakesFarm, MakesTables, OpensTables, ShowsFiles}
+use Rattle.farm_desk.specs.InFiles.{AreFarms, AreFree, DeniesFarm, DeniesTables, FindsFarm, FindsTables, HoldsTables, ListFarm, ListNothing, MakesFarm, MakesTables, OpensTables, ShowsFiles}
 use Rattle.farm_desk.specs.declared.fault.DeskFault.{DeskFault}
-
-zip_none : {A B : Type 0} (P : A → B → Type 0) (bs : List B) → AllZip P [] bs → bs ≡ []
-zip_none P [] all = refl
-zip_none P (b ∷ bs) all = absurd all
-
--- where no object is listed the schema is empty
-lists_none : (schema : Schema) → AreListed [] schema → schema ≡ no_schema
-lists_none schema it =
-    ap (λ ts. record schema { tables = ts }) (zip_none IsTableRow schema.tables it.tables)
-    ∙ ap (λ is. record schema { tables = []; indexes = is }) (zip_none (IsIndexRow schema.tables) schema.indexes it.indexes)
-    ∙ ap (λ vs. record no_schema { views = vs }) (zip_none IsViewRow schema.views it.views)
 
 -- ---- any store
 
@@ -51,6 +39,8 @@ finds_tables g conn k standing made = record {
   clean = made.clean;
   exact = λ clean F sound on. made.exact clean F sound (stands_on g conn (rows_of F) standing on);
   stands = λ F on clean. made.stands clean (rows_of F) (stands_on g conn (rows_of F) standing on);
+  ours = made.ours;
+  rows = λ clean T on. sym (made.rows clean T (stands_on g conn T standing on));
 }
 
 -- a store that gives none was opened on no such tables
@@ -81,6 +71,27 @@ opens_tables image conn T shows clean held =
       holds = subst (λ (t : Trees). Holds t T) (sym ((shows.found clean).holds held.trees held.database)) held.holds;
     }
 
+-- a connection that was just opened lists its schema
+lists_shown : {D : Type 0} {g : Ghosts D} (image : Image) (conn : Held (FileStore D g)) (schema : Schema) → ShowsFiles image conn
+    → HasCleanDisk (file_state conn) → (file_state conn).now.schema ≡ schema → AreListed ((file_state conn).committed.trees catalog_tree) schema
+lists_shown image conn schema shows clean is =
+    let open_now = shows.opened clean in
+    let same : (file_state conn).committed.schema ≡ schema = ap (λ (d : Database). d.schema) (sym open_now.0.clean) ∙ is in
+    subst (λ (s : Schema). AreListed ((file_state conn).committed.trees catalog_tree) s) same
+    (open_now.1 open_now.0.is_open).1.lists.listed
+
+-- the files of a connection on which a farm was found hold that farm
+are_farms : {D : Type 0} {g : Ghosts D} (image : Image) (conn : Held (FileStore D g)) (k : Kept (FileStore D g))
+    → FindsTables over_files conn k → ShowsFiles image conn → HasCleanDisk (file_state k.conn) → AreFarms image k.farm.farm
+are_farms image conn k made shows clean =
+    let early : HasCleanDisk (file_state conn) = omega (arith, made.clean) in
+    let listed = lists_shown image conn farm_schema shows early made.ours in
+    record {
+      found = ((file_state conn).committed.trees, (shows.found early).reads, listed);
+      ours = λ trees database. subst (λ (t : Trees). ListFarm t) ((shows.found early).holds trees database) listed;
+      rows = λ T held. made.rows clean T (opens_tables image conn T shows early held);
+    }
+
 -- a keeper that was adopted from a store that was opened has the farm of its files
 pub finds_farm : {D : Type 0} {g : Ghosts D} (image : Image) (conn : Held (FileStore D g)) (k : Kept (FileStore D g))
     → FindsTables over_files conn k → ShowsFiles image conn → FindsFarm image k
@@ -91,6 +102,7 @@ finds_farm image conn k made shows = record {
       let early : HasCleanDisk (file_state conn) = omega (arith, made.clean) in
       let on = opens_tables image conn (rows_of F) shows early held in
       record { farm = made.exact clean F sound on; stands = made.stands F on };
+  only = are_farms image conn k made shows;
 }
 
 -- files whose store gives none hold no such farm
@@ -109,21 +121,23 @@ denies_farm image conn DeskFault.Read clean denied shows = tt
 denies_farm image conn DeskFault.Write clean denied shows = tt
 denies_farm image conn (DeskFault.File fault) clean denied shows = tt
 
--- a keeper that was made in a store that was opened has the empty farm, and keeps it where the files held no table
+-- the files of a connection that showed no table were free
+are_free : {D : Type 0} {g : Ghosts D} (image : Image) (conn : Held (FileStore D g)) (k : Kept (FileStore D g))
+    → MakesTables over_files conn k → ShowsFiles image conn → HasCleanDisk (file_state k.conn) → AreFree image
+are_free image conn k made shows clean =
+    let early : HasCleanDisk (file_state conn) = omega (arith, made.clean) in
+    let listed = lists_shown image conn no_schema shows early made.bare in
+    record {
+      found = ((file_state conn).committed.trees, (shows.found early).reads, listed);
+      free = λ trees database. subst (λ (t : Trees). ListNothing t) ((shows.found early).holds trees database) listed;
+      tables = λ T held. made.free clean T (opens_tables image conn T shows early held);
+    }
+
+-- a keeper that was made in a store that was opened has the empty farm, and keeps it
 pub makes_farm : {D : Type 0} {g : Ghosts D} (image : Image) (conn : Held (FileStore D g)) (k : Kept (FileStore D g))
     → MakesTables over_files conn k → ShowsFiles image conn → MakesFarm image k
 makes_farm image conn k made shows = record {
   opened = made.opened;
-  farm = made.farm;
-  free = λ clean T held.
-      let early : HasCleanDisk (file_state conn) = omega (arith, made.clean) in
-      made.free clean T (opens_tables image conn T shows early held);
-  stands = λ nothing clean.
-      let early : HasCleanDisk (file_state conn) = omega (arith, made.clean) in
-      let open_now = shows.opened early in
-      let trees = (shows.found early).holds nothing.trees nothing.database in
-      let listed = (open_now.1 open_now.0.is_open).1.lists.listed in
-      let bare : (file_state conn).committed.trees catalog_tree ≡ [] = ap (λ (t : Trees). t catalog_tree) trees ∙ nothing.unlisted in
-      let schema = lists_none (file_state conn).committed.schema (subst (λ objects. AreListed objects (file_state conn).committed.schema) bare listed) in
-      subst (λ (F : Farm). KeepsFarm over_files k F) made.farm (made.keeps (ap (λ (d : Database). d.schema) open_now.0.clean ∙ schema)) clean;
+  has = record { farm = made.farm; stands = made.keeps };
+  only = are_free image conn k made shows;
 }

@@ -8,3 +8,6 @@ mod ConversationLemmas
 mod PrefixLemmas
 mod ServingLemmas
 mod VisitLemmas
+mod LineLemmas
+mod LabLemmas
+mod TaskLemmas

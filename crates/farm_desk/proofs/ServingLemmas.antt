@@ -126,24 +126,24 @@ response_serves g old new input rest now bytes end told opened passes (inl respo
 response_serves g old new input rest now bytes end told opened passes (inr short) = not_understood g old new end told opened passes short.fault short.rests
 
 -- a conversation, by its end
-pub conversation_serves : {S A : Type 0} (g : Ghosts S) (old new : Kept S) (input rest : Option (List ℕ)) (now : ℕ) (failed : _) (held holds : Option (List ℕ))
+pub conversation_serves : {S A : Type 0} (g : Ghosts S) (old new : Kept S) (input rest : Option (List ℕ)) (now : ℕ) (Room : ℕ → Type 0) (failed : _) (held holds : Option (List ℕ))
     (end : Result ℕ DeskFault) (told : Result A DeskFault)
     → old.is_open ≡ true → PassesOn end told
-    → (end ≢ Err DeskFault.Read → IsTold (IsResponse g old new input rest now) failed held holds end)
+    → (end ≢ Err DeskFault.Read → IsTold (IsResponse g old new input rest now) Room failed held holds end)
     → (end ≡ Err DeskFault.Read → new ≡ old)
     → ServesUntil g old new 1 told
-conversation_serves g old new input rest now failed held holds (Err DeskFault.Read) (Ok done) opened passes tells unread =
+conversation_serves g old new input rest now Room failed held holds (Err DeskFault.Read) (Ok done) opened passes tells unread =
     rests g old new 1 opened (unread refl)
-conversation_serves g old new input rest now failed held holds (Err DeskFault.Read) (Err fault) opened passes tells unread = absurd passes
-conversation_serves g old new input rest now failed held holds (Ok status) told opened passes tells unread =
+conversation_serves g old new input rest now Room failed held holds (Err DeskFault.Read) (Err fault) opened passes tells unread = absurd passes
+conversation_serves g old new input rest now Room failed held holds (Ok status) told opened passes tells unread =
     let t = tells (λ e. cc) in response_serves g old new input rest now t.bytes (Ok status) told opened passes t.response
-conversation_serves g old new input rest now failed held holds (Err DeskFault.NoMemory) told opened passes tells unread =
+conversation_serves g old new input rest now Room failed held holds (Err DeskFault.NoMemory) told opened passes tells unread =
     let t = tells (λ e. cc) in response_serves g old new input rest now t.bytes (Err DeskFault.NoMemory) told opened passes t.response
-conversation_serves g old new input rest now failed held holds (Err DeskFault.Write) told opened passes tells unread =
+conversation_serves g old new input rest now Room failed held holds (Err DeskFault.Write) told opened passes tells unread =
     let t = tells (λ e. cc) in response_serves g old new input rest now t.bytes (Err DeskFault.Write) told opened passes t.response
-conversation_serves g old new input rest now failed held holds (Err (DeskFault.Keep fault)) told opened passes tells unread =
+conversation_serves g old new input rest now Room failed held holds (Err (DeskFault.Keep fault)) told opened passes tells unread =
     let t = tells (λ e. cc) in response_serves g old new input rest now t.bytes (Err (DeskFault.Keep fault)) told opened passes t.response
-conversation_serves g old new input rest now failed held holds (Err (DeskFault.File fault)) told opened passes tells unread =
+conversation_serves g old new input rest now Room failed held holds (Err (DeskFault.File fault)) told opened passes tells unread =
     let t = tells (λ e. cc) in response_serves g old new input rest now t.bytes (Err (DeskFault.File fault)) told opened passes t.response
 
 -- ---- one connection after others

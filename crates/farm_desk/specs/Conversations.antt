@@ -1,5 +1,5 @@
 -- Conversations one after another over one keeper: what they ask, what they do, what they answer.
-use Rattle.std.specs.Prelude.{◌≡◌, ◌⊎◌, ℕ, true, false, IsOk, List, [], ◌∷◌, ◌++◌, map, Option}
+use Rattle.std.specs.Prelude.{◌≡◌, ◌≢◌, ◌⊎◌, ℕ, true, false, IsOk, List, [], ◌∷◌, ◌++◌, map, Option}
 use Rattle.std.specs.Prelude.{Some, Result, Ok, Err}
 use Rattle.std.specs.List.{AllByRecursion, flat_map}
 use Rattle.sqlite_trees.specs.declared.store.Store.{Ghosts}
@@ -18,7 +18,7 @@ use Rattle.farm_wire.specs.declared.answers.Out.{Out}
 use Rattle.farm_desk.specs.Heard.{Asks, Hears}
 use Rattle.farm_desk.specs.Answers.{Says, IsView, out_of_denial, out_of_answer}
 use Rattle.farm_desk.specs.Response.{IsResponse}
-use Rattle.farm_desk.specs.Ends.{IsAnswered, IsUnwritten, IsUnread, IsToldBy}
+use Rattle.farm_desk.specs.Ends.{IsAnswered, IsUnwritten, IsUnread, IsToldBy, IsTooLong}
 use Rattle.farm_desk.specs.Faults.{ended_order}
 use Rattle.farm_desk.specs.Imports.{Reaches}
 use Rattle.farm_desk.specs.declared.fault.DeskFault.{DeskFault}
@@ -41,16 +41,27 @@ pub record Converses {S : Type 0} (g : Ghosts S) (old new : Desk S) (now : ℕ)
       → IsUnwritten (IsResponse g old.keeper new.keeper old.input new.input now) old.output new.output
   pub unread : end ≡ Err DeskFault.Read → IsUnread old.keeper new.keeper old.output new.output
 
+-- with a reader that never fails a conversation doesn't end as unread, and with a writer that has
+-- room for the answer that is due it doesn't end as unwritten
+pub record IsHeardOut {S : Type 0} (g : Ghosts S) (old new : Desk S) (now : ℕ) (Sure : Type 0)
+    (Room : ℕ → Type 0) (end : Result ℕ DeskFault) : Type 0 where
+  pub heard : Sure → end ≢ Err DeskFault.Read
+  pub answered : end ≡ Err DeskFault.Write
+      → IsTooLong (IsResponse g old.keeper new.keeper old.input new.input now) Room
+
 -- one conversation at this moment, however it ends
-pub record ConversesOnce {S : Type 0} (g : Ghosts S) (old new : Desk S) (now : ℕ) : Type 0 where
+pub record ConversesOnce {S : Type 0} (g : Ghosts S) (old new : Desk S) (now : ℕ) (Sure : Type 0)
+    (Room : ℕ → Type 0) : Type 0 where
   pub end : Result ℕ DeskFault
   pub converses : Converses g old new now end
+  pub heard_out : IsHeardOut g old new now Sure Room end
 
 -- an order that is one conversation at this moment: it ends as the conversation does
-pub record AnswersOne {S : Type 0} (g : Ghosts S) (old new : Desk S) (now : ℕ)
-    (result : Result End DeskFault) : Type 0 where
+pub record AnswersOne {S : Type 0} (g : Ghosts S) (old new : Desk S) (now : ℕ) (Sure : Type 0)
+    (Room : ℕ → Type 0) (result : Result End DeskFault) : Type 0 where
   pub end : Result ℕ DeskFault
   pub converses : Converses g old new now end
+  pub heard_out : IsHeardOut g old new now Sure Room end
   pub ends : result ≡ ended_order end
 
 -- the moment of a conversation, and how it ends

@@ -1,5 +1,5 @@
 -- How a conversation ends.
-use Rattle.std.specs.Prelude.{◌≡◌, ℕ, Bool, true, false, List, Option, Result, Err}
+use Rattle.std.specs.Prelude.{◌≡◌, ℕ, Bool, true, false, List, length, Option, Result, Err}
 use Rattle.std.specs.Io.KnownBytes.{Appends, Keeps}
 use Rattle.farm_http.specs.Faults.{WritesPrefix}
 use Rattle.farm_keep.specs.Kept.{Kept}
@@ -20,17 +20,26 @@ pub record IsUnwritten (Response : List ℕ → Result ℕ DeskFault → Type 0)
   pub response : Response bytes end
   pub part : WritesPrefix held holds bytes
 
--- a writer gained all of the bytes, or where it failed a part of them
-abbrev pub Gains : Bool → Option (List ℕ) → Option (List ℕ) → List ℕ → Type 0
-Gains false held holds bytes = Appends held holds bytes
-Gains true held holds bytes = WritesPrefix held holds bytes
+-- a writer that has room for so many bytes gained all of the bytes, or where it failed a part of
+-- them, for want of room
+abbrev pub Gains : (ℕ → Type 0) → Bool → Option (List ℕ) → Option (List ℕ) → List ℕ → Type 0
+Gains Room false held holds bytes = Appends held holds bytes
+Gains Room true held holds bytes = WritesPrefix held holds bytes × (¬ Room (length bytes))
 
 -- the writer gained the answer that was due, or where it failed a part of it
-pub record IsTold (Response : List ℕ → Result ℕ DeskFault → Type 0) (failed : Bool)
-    (held holds : Option (List ℕ)) (end : Result ℕ DeskFault) : Type 0 where
+pub record IsTold (Response : List ℕ → Result ℕ DeskFault → Type 0) (Room : ℕ → Type 0)
+    (failed : Bool) (held holds : Option (List ℕ)) (end : Result ℕ DeskFault) : Type 0 where
   pub bytes : List ℕ
   pub response : Response bytes end
-  pub written : Gains failed held holds bytes
+  pub written : Gains Room failed held holds bytes
+
+-- the writer had no room for the answer that was due
+pub record IsTooLong (Response : List ℕ → Result ℕ DeskFault → Type 0) (Room : ℕ → Type 0)
+    : Type 0 where
+  pub bytes : List ℕ
+  pub end : Result ℕ DeskFault
+  pub response : Response bytes end
+  pub no_room : ¬ Room (length bytes)
 
 -- the reader gave no request: nothing is written, and the keeper stays as it was
 pub record IsUnread {S : Type 0} (old new : Kept S) (held holds : Option (List ℕ)) : Type 0 where

@@ -8,7 +8,8 @@ use Rattle.farm_wire.specs.Replies.{ok_status}
 use Rattle.farm_keep.specs.declared.fault.KeepFault.{KeepFault}
 use Rattle.farm_desk.specs.declared.fault.DeskFault.{DeskFault}
 use Rattle.farm_desk.specs.declared.orders.End.{End}
-use Rattle.farm_desk.specs.declared.program.TheConstants.{DONE, FAILED, NO_ROOM, REFUSED}
+
+-- ---- the numbers
 
 abbrev pub fault_number : DeskFault → ℕ
 fault_number DeskFault.NoMemory = no_memory
@@ -17,13 +18,35 @@ fault_number DeskFault.Write = write_fault
 fault_number (DeskFault.Keep fault) = fault_code fault
 fault_number (DeskFault.File fault) = code_of fault
 
+-- ---- the exit statuses
+
+-- the order was carried out
+abbrev pub done : ℕ
+done = 0
+
+-- the words give no order
+abbrev pub wrong_words : ℕ
+wrong_words = 2
+
+-- the request was refused, or the lab file
+abbrev pub refused : ℕ
+refused = 3
+
+-- the store, the input, the output or the listener failed
+abbrev pub failed : ℕ
+failed = 4
+
+-- there was no memory
+abbrev pub no_room : ℕ
+no_room = 5
+
 -- want of memory has a status of its own, and so has a file that is refused
 abbrev pub exit_status : DeskFault → ℕ
-exit_status DeskFault.NoMemory = NO_ROOM
-exit_status (DeskFault.Keep KeepFault.NoMemory) = NO_ROOM
-exit_status (DeskFault.File FileFault.NoMemory) = NO_ROOM
-exit_status (DeskFault.File fault) = REFUSED
-exit_status fault = FAILED
+exit_status DeskFault.NoMemory = no_room
+exit_status (DeskFault.Keep KeepFault.NoMemory) = no_room
+exit_status (DeskFault.File FileFault.NoMemory) = no_room
+exit_status (DeskFault.File fault) = refused
+exit_status fault = failed
 
 -- a request that was answered with this HTTP status
 abbrev pub end_of : ℕ → End
@@ -36,7 +59,7 @@ ended_order (Err fault) = Err fault
 
 -- the exit status of an order
 abbrev pub order_status : Result End DeskFault → ℕ
-order_status (Ok End.Done) = DONE
-order_status (Ok End.Refused) = REFUSED
-order_status (Ok (End.RefusedAt place refusal)) = REFUSED
+order_status (Ok End.Done) = done
+order_status (Ok End.Refused) = refused
+order_status (Ok (End.RefusedAt place refusal)) = refused
 order_status (Err fault) = exit_status fault

@@ -1,10 +1,11 @@
 -- Which farm stands in a file and the log beside it.
-use Rattle.std.specs.Prelude.{◌≡◌, ◌≤◌, ℕ, true, List, [], take, Result, IfErr, ⊤}
-use Rattle.sqlite.specs.Files.{HoldsDatabase, over_files, file_state, IsOpened}
+use Rattle.std.specs.Prelude.{◌≡◌, ◌≤◌, ℕ, true, List, take, Result, IfErr, ⊤}
+use Rattle.sqlite.specs.Files.{HoldsDatabase, over_files, file_state, AreFoundIn, IsOpened}
 use Rattle.sqlite.specs.Held.{Held, state}
 use Rattle.sqlite.specs.Start.{FindsIn}
 use Rattle.sqlite.specs.State.{HasCleanDisk, IsLive, Opens}
 use Rattle.sqlite.specs.Tree.{Trees}
+use Rattle.sqlite_catalog.specs.Listing.{AreListed}
 use Rattle.sqlite_disk.specs.declared.Disk.{Ghosts}
 use Rattle.sqlite_store.specs.declared.store.FileStore.{FileStore}
 use Rattle.sqlite_store.specs.FileStore as files
@@ -15,7 +16,7 @@ use Rattle.sqlite_wal.specs.Recovery.{Image}
 use Rattle.farm_store.specs.Columns.{IsOfSchema, Tables, rows_of}
 use Rattle.farm_store.specs.Holds.{Holds}
 use Rattle.farm_store.specs.declared.schema.TheConstants.{FIRST_SCHEMA}
-use Rattle.farm_store.specs.Schema.{no_schema}
+use Rattle.farm_store.specs.Schema.{farm_schema, no_schema}
 use Rattle.farm_types.specs.Farm.{Farm, empty_farm}
 use Rattle.farm_types.specs.Sound.{IsSound}
 use Rattle.farm_types.specs.Machine.{run}
@@ -39,12 +40,6 @@ pub record HoldsTables (image : Image) (T : Tables) : Type 0 where
 abbrev pub HoldsFarm : Image → Farm → Type 0
 HoldsFarm image F = HoldsTables image (rows_of F)
 
--- they hold a database without a table
-pub record HoldsNoTable (image : Image) : Type 0 where
-  pub trees : Trees
-  pub database : HoldsDatabase image trees
-  pub unlisted : trees catalog_tree ≡ []
-
 -- ---- the keeper over files that were opened
 
 -- an open keeper has this farm, and its store keeps it
@@ -52,22 +47,44 @@ pub record HasFarm {D : Type 0} {g : Ghosts D} (k : Kept (FileStore D g)) (F : F
   pub farm : k.farm.farm ≡ F
   pub stands : KeepsFarm over_files k F
 
--- where the files held a sound farm, an open keeper has that farm, and its store keeps it
+-- the trees list the farm's six tables, and no other table, column, index or view
+abbrev pub ListFarm : Trees → Type 0
+ListFarm trees = AreListed (trees catalog_tree) farm_schema
+
+-- the files are this farm's: what they recover to lists the farm's tables, so does whatever
+-- database they hold, and no other tables stand there than those of this farm
+pub record AreFarms (image : Image) (F : Farm) : Type 0 where
+  pub found : (trees : Trees) × AreFoundIn image trees × ListFarm trees
+  pub ours : (trees : Trees) → HoldsDatabase image trees → ListFarm trees
+  pub rows : (T : Tables) → HoldsTables image T → T ≡ rows_of F
+
+-- where the files held a sound farm, an open keeper has that farm, and its store keeps it; and the
+-- files held no other than the keeper's
 pub record FindsFarm {D : Type 0} {g : Ghosts D} (image : Image) (k : Kept (FileStore D g))
     : Type 0 where
   pub opened : k.is_open ≡ true
   pub sound : IsSound k.farm.farm
   pub finds : HasCleanDisk (file_state k.conn) → (F : Farm) → IsSound F → HoldsFarm image F
       → HasFarm k F
+  pub only : HasCleanDisk (file_state k.conn) → AreFarms image k.farm.farm
 
--- an open keeper has the empty farm, the files held no farm's tables, and where they held a
--- database without a table, its store keeps the empty farm
+-- the trees list no table, and no index or view
+abbrev pub ListNothing : Trees → Type 0
+ListNothing trees = AreListed (trees catalog_tree) no_schema
+
+-- the files were free: what they recover to lists no table, nor does whatever database they hold,
+-- and no farm's tables stand there
+pub record AreFree (image : Image) : Type 0 where
+  pub found : (trees : Trees) × AreFoundIn image trees × ListNothing trees
+  pub free : (trees : Trees) → HoldsDatabase image trees → ListNothing trees
+  pub tables : (T : Tables) → ¬ HoldsTables image T
+
+-- an open keeper has the empty farm, its store keeps that, and the files were free
 pub record MakesFarm {D : Type 0} {g : Ghosts D} (image : Image) (k : Kept (FileStore D g))
     : Type 0 where
   pub opened : k.is_open ≡ true
-  pub farm : k.farm.farm ≡ empty_farm
-  pub free : HasCleanDisk (file_state k.conn) → (T : Tables) → ¬ HoldsTables image T
-  pub stands : HoldsNoTable image → KeepsFarm over_files k empty_farm
+  pub has : HasFarm k empty_farm
+  pub only : HasCleanDisk (file_state k.conn) → AreFree image
 
 -- ---- why there is none
 
@@ -108,7 +125,8 @@ pub record OpensTables {S : Type 0} (g : store.Ghosts S) (conn : Held S) (T : Ta
   pub holds : Holds (state g conn).committed.trees T
 
 -- an open keeper was made from a connection: where that was just opened on the tables of a sound
--- farm, the keeper has that farm, and its store keeps it
+-- farm, the keeper has that farm, and its store keeps it; and the connection had the farm's six
+-- tables, with no other rows than the keeper's
 pub record FindsTables {S : Type 0} (g : store.Ghosts S) (conn : Held S) (k : Kept S) : Type 0 where
   pub opened : k.is_open ≡ true
   pub sound : IsSound k.farm.farm
@@ -116,15 +134,19 @@ pub record FindsTables {S : Type 0} (g : store.Ghosts S) (conn : Held S) (k : Ke
   pub exact : HasCleanDisk (state g k.conn) → (F : Farm) → IsSound F
       → OpensTables g conn (rows_of F) → k.farm.farm ≡ F
   pub stands : (F : Farm) → OpensTables g conn (rows_of F) → KeepsFarm g k F
+  pub ours : (state g conn).now.schema ≡ farm_schema
+  pub rows : HasCleanDisk (state g k.conn) → (T : Tables) → OpensTables g conn T
+      → T ≡ rows_of k.farm.farm
 
--- an open keeper has the empty farm; its connection was opened on no farm's tables, and where it
--- showed no table at all, its store keeps the empty farm
+-- an open keeper has the empty farm, and its store keeps that; its connection showed no table at
+-- all, and was opened on no farm's tables
 pub record MakesTables {S : Type 0} (g : store.Ghosts S) (conn : Held S) (k : Kept S) : Type 0 where
   pub opened : k.is_open ≡ true
   pub farm : k.farm.farm ≡ empty_farm
+  pub keeps : KeepsFarm g k empty_farm
   pub clean : doubt (state g conn).is_clean ≤ doubt (state g k.conn).is_clean
+  pub bare : (state g conn).now.schema ≡ no_schema
   pub free : HasCleanDisk (state g k.conn) → (T : Tables) → ¬ OpensTables g conn T
-  pub keeps : (state g conn).now.schema ≡ no_schema → Keeps g k
 
 -- why a connection gives no keeper
 abbrev pub DeniesTables : {S : Type 0} → store.Ghosts S → Held S → DeskFault → Type 0

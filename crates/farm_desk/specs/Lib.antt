@@ -14,3 +14,6 @@ pub mod Lines
 pub mod Clients
 pub mod Visits
 pub mod Known
+pub mod Agreed
+pub mod Tasks
+pub mod Program

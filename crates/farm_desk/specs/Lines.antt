@@ -4,6 +4,7 @@ use Rattle.std.specs.Prelude.{Result, Ok, Err}
 use Rattle.std.specs.Io.KnownBytes.{Appends, Keeps}
 use Rattle.farm_types.specs.Refusals.{text_of}
 use Rattle.farm_types.specs.declared.refusal.Refusal.{Refusal}
+use Rattle.farm_desk.specs.Faults.{fault_number}
 use Rattle.farm_desk.specs.declared.fault.DeskFault.{DeskFault}
 use Rattle.farm_desk.specs.declared.import.ImportEnd.{ImportEnd}
 use Rattle.farm_desk.specs.declared.orders.End.{End}
@@ -19,14 +20,28 @@ port_line port = (codes "listening " ++ decimal port) ++ 10 ∷ []
 
 -- a fault of this number
 abbrev pub fault_line : ℕ → List ℕ
-fault_line code = (codes "farm: " ++ (decimal code ++ (codes " " ++ text_of code))) ++ 10 ∷ []
+fault_line code =
+    codes "farm: " ++ (decimal code ++ (codes " " ++ (text_of code ++ 10 ∷ [])))
 
 -- a refusal of this number, at that place of a lab file
 abbrev pub refusal_line : ℕ → ℕ → List ℕ
 refusal_line code place =
-    (codes "farm: "
-    ++ (decimal code ++ (codes " " ++ (text_of code ++ (codes " at " ++ decimal place))))) ++ 10
-    ∷ []
+    codes "farm: "
+    ++ (decimal code
+    ++ (codes " " ++ (text_of code ++ (codes " at " ++ (decimal place ++ 10 ∷ [])))))
+
+-- what is told beside the output of an order that ended so
+abbrev pub told_of : Result End DeskFault → List ℕ
+told_of (Ok (End.RefusedAt place refusal)) = refusal_line refusal.code place
+told_of (Ok end) = []
+told_of (Err fault) = fault_line (fault_number fault)
+
+-- a writer gained a part of the bytes from their front on, perhaps all of them
+pub record GainsPart (held holds : Option (List ℕ)) (bytes : List ℕ) : Type 0 where
+  pub part : List ℕ
+  pub rest : List ℕ
+  pub bytes_are : bytes ≡ part ++ rest
+  pub gained : Appends held holds part
 
 -- an import that met a fault ends with it, and one that met a refusal with its place and the
 -- refusal: neither prints anything; any other prints its line, or the writer failed

@@ -1,8 +1,9 @@
 //! Clients that come one after another.
 ghost use Rattle.std.specs.Prelude.{◌≡◌, Option, MatchOption, IsSome};
-ghost use Rattle.farm_desk.specs.Clients.{Clientele, Comes, Goes, IsOver};
+ghost use Rattle.farm_desk.specs.Clients.{Clientele, Brings, Goes, IsOver};
 
-use std::io::{Read, Write};
+use farm_http::input::Input;
+use farm_http::output::Output;
 
 /// A client that came: the moment of its request, in seconds since 1970-01-01 00:00:00 UTC, what it
 /// is read by and what it is answered by.
@@ -15,9 +16,9 @@ pub struct Client<R, W> {
 
 /// Clients that come one after another.
 pub trait Clients {
-    type Reader: Read + Drop;
+    type Reader: Input + Drop;
 
-    type Writer: Write + Drop;
+    type Writer: Output + Drop;
 
     /// Those that are to come and those that went, where they are known.
     ghost clientele: { Self → Option Clientele };
@@ -29,11 +30,9 @@ pub trait Clients {
     fn next(&mut self) -> Option<Client<Self::Reader, Self::Writer>>
         ensures comes { MatchOption result ((clientele self.new ≡ clientele self.old)
             × IsOver (clientele self.old))
-            (λ client. Comes (clientele self.old) (clientele self.new) (record {
-              now = client.now;
-              input = Self.Reader.remaining client.reader;
-              output = Self.Writer.contents client.writer;
-            })) }
+            (λ client. Brings (clientele self.old) (clientele self.new) client.now
+            (Self.Reader.remaining client.reader) (Self.Writer.contents client.writer)
+            (Self.Writer.has_room client.writer)) }
         ensures has_one { IsSome result → has_one self.new };
 
     /// Takes leave of a client that came.

@@ -1,11 +1,12 @@
 //! One request, one answer.
-ghost use Rattle.std.specs.Prelude.{◌≡◌, ◌≢◌, ◌≤◌, ◌↔◌, false, Err, IfOk, IfErr, IsTrue};
+ghost use Rattle.std.specs.Prelude.{◌≡◌, ◌≢◌, ◌≤◌, ◌↔◌, false, Err, IsOk, IfOk, IfErr, IsTrue};
 ghost use Rattle.sqlite.specs.Held.{state};
 ghost use Rattle.sqlite_trees.specs.View.{doubt};
 ghost use Rattle.farm_http.specs.Counts.{nothing_read, nothing_written, reader_of, reading_of, writer_of};
 ghost use Rattle.farm_http.specs.Counts.{writing_of, IsSameReader, IsSameWriter, IsSpent};
 ghost use Rattle.farm_desk.specs.Response.{IsResponse};
 ghost use Rattle.farm_desk.specs.Ends.{IsAnswered, IsUnwritten, IsUnread, IsTold, IsToldBy};
+ghost use Rattle.farm_desk.specs.Ends.{IsTooLong};
 ghost use Rattle.farm_desk.specs.Made.{bytes_in};
 
 use crate::answer::response_to;
@@ -13,11 +14,12 @@ use crate::fault::DeskFault;
 use crate::hear::Unheard;
 use crate::response::Response;
 use crate::server::Server;
+use farm_http::input::Input;
+use farm_http::output::Output;
 use farm_keep::Keeper;
 use farm_wire::{CountedReader, CountedWriter, write_whole_counted};
 use sqlite::Alter;
 use std::alloc::Global;
-use std::io::{Read, Write};
 
 /// Reads one request, acts on the farm or looks at it, and writes one answer; gives the HTTP status
 /// that was written.
@@ -29,7 +31,7 @@ use std::io::{Read, Write};
 ///
 /// Costs what its parts cost: one read of the request, a router of seventeen paths, one command or
 /// view, and one write where the writer takes the answer whole. `serve_on` builds the router once.
-pub fn converse<R: Read, W: Write, S: Alter>(
+pub fn converse<R: Input, W: Output, S: Alter>(
     alloc: Global,
     keeper: &mut Keeper<S>,
     reader: &mut R,
@@ -51,6 +53,13 @@ pub fn converse<R: Read, W: Write, S: Alter>(
     // The reader gave no request.
     ensures unread { result ≡ Err DeskFault.Read → IsUnread keeper.old keeper.new
         (W.contents writer.old) (W.contents writer.new) }
+
+    // A reader that never fails, as bytes in memory, gives a request or bytes that are refused; a
+    // writer with room for the answer that is due, as a vector, takes it.
+    ensures heard { R.never_fails → result ≢ Err DeskFault.Read }
+    ensures taken { result ≡ Err DeskFault.Write → IsTooLong
+        (IsResponse S.Store keeper.old keeper.new (R.remaining reader.old)
+        (R.remaining reader.new) now) (W.has_room writer.old) }
     ensures clean { doubt (state S.Store keeper.old.conn).is_clean ≤ doubt
         (state S.Store keeper.new.conn).is_clean }
 {
@@ -61,7 +70,7 @@ pub fn converse<R: Read, W: Write, S: Alter>(
 
 /// Converses as `converse` does, and counts how often the reader and the writer were called
 /// and whether they failed.
-pub fn converse_counted<R: Read, W: Write, S: Alter>(
+pub fn converse_counted<R: Input, W: Output, S: Alter>(
     alloc: Global,
     keeper: &mut Keeper<S>,
     reader: &mut CountedReader<'_, R>,
@@ -89,6 +98,12 @@ pub fn converse_counted<R: Read, W: Write, S: Alter>(
     ensures unread { result ≡ Err DeskFault.Read → IsUnread keeper.old keeper.new
         (W.contents (writer_of writer.old)) (W.contents (writer_of writer.new)) }
 
+    // With a reader that never fails, and a writer with room, neither comes.
+    ensures heard { R.never_fails → result ≢ Err DeskFault.Read }
+    ensures taken { result ≡ Err DeskFault.Write → IsTooLong
+        (IsResponse S.Store keeper.old keeper.new (R.remaining (reader_of reader.old))
+        (R.remaining (reader_of reader.new)) now) (W.has_room (writer_of writer.old)) }
+
     // The faults Write and Read come only of a writer that failed, and of a reader that failed or
     // took all its turns.
     ensures failed { (result ≡ Err DeskFault.Write) ↔ IsTrue (writing_of writer.new).failed }
@@ -106,7 +121,7 @@ pub fn converse_counted<R: Read, W: Write, S: Alter>(
 impl Server {
     /// Converses as `converse_counted` does, and ends as the answer that was due ends it, also
     /// where that answer was lost: so a keeper's fault is known in each case.
-    pub(crate) fn converse<R: Read, W: Write, S: Alter>(
+    pub(crate) fn converse<R: Input, W: Output, S: Alter>(
         &self,
         keeper: &mut Keeper<S>,
         reader: &mut CountedReader<'_, R>,
@@ -121,7 +136,7 @@ impl Server {
         // The answer that is due was written, or where the writer failed a part of it.
         ensures told { result ≢ Err DeskFault.Read → IsTold
             (IsResponse S.Store keeper.old keeper.new (R.remaining (reader_of reader.old))
-            (R.remaining (reader_of reader.new)) now)
+            (R.remaining (reader_of reader.new)) now) (W.has_room (writer_of writer.old))
             (writing_of writer.new).failed (W.contents (writer_of writer.old))
             (W.contents (writer_of writer.new)) result }
 
@@ -130,6 +145,7 @@ impl Server {
             (W.contents (writer_of writer.old)) (W.contents (writer_of writer.new))
             × IsSpent (reading_of reader.new)
             × ((writing_of writer.new).failed ≡ false) }
+        ensures heard { R.never_fails → result ≢ Err DeskFault.Read }
         ensures clean { doubt (state S.Store keeper.old.conn).is_clean ≤ doubt
             (state S.Store keeper.new.conn).is_clean }
     {
@@ -140,7 +156,7 @@ impl Server {
     }
 
     /// The answer that is due, unless the reader gave no request.
-    fn response<R: Read, S: Alter>(
+    fn response<R: Input, S: Alter>(
         &self,
         keeper: &mut Keeper<S>,
         reader: &mut CountedReader<'_, R>,
@@ -153,6 +169,7 @@ impl Server {
             (bytes_in response.bytes) response.end) }
         ensures unread { IfErr result (λ fault. (fault ≡ DeskFault.Read)
             × IsSpent (reading_of reader.new) × (keeper.new ≡ keeper.old)) }
+        ensures sure { R.never_fails → IsOk result }
         ensures clean { doubt (state S.Store keeper.old.conn).is_clean ≤ doubt
             (state S.Store keeper.new.conn).is_clean }
     {

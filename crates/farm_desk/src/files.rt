@@ -1,7 +1,8 @@
 //! Farms in files.
-ghost use Rattle.std.specs.Prelude.{◌≡◌, false, IfOk, IfErr};
+ghost use Rattle.std.specs.Prelude.{◌≡◌, ◌⊎◌, ◌+◌, false, take, IfOk, IfErr, IfSome};
 ghost use Rattle.sqlite_wal.specs.Files.{image_at};
 ghost use Rattle.sqlite_wal.specs.Recovery.{Image};
+ghost use Rattle.farm_types.specs.Limits.{longest_lab_file};
 ghost use Rattle.farm_keep.specs.Headline.{IsAlwaysClean};
 ghost use Rattle.farm_desk.specs.InFiles.{ShowsFiles, FindsTables, FindsFarm, MakesTables};
 ghost use Rattle.farm_desk.specs.InFiles.{MakesFarm, DeniesTables, GivesReason, IsOpenFault};
@@ -120,7 +121,8 @@ fn adopt<S: Alter + Drop>(alloc: Global, conn: Connection<S>) -> Result<Keeper<S
     ensures fault { IfErr result IsOpenFault }
 {
     opened_stands(&conn);
-    Ok(Keeper::adopt(alloc, conn)?)
+    let keeper = Keeper::adopt(alloc, conn)?;
+    Ok(keeper)
 }
 
 /// A keeper of the empty farm over files that were just opened; its one call is of any store too.
@@ -142,22 +144,40 @@ fn make<S: Alter + Drop>(alloc: Global, conn: Connection<S>) -> Result<Keeper<S>
     ensures fault { IfErr result (λ fault. fault ≡ DeskFault.Keep KeepFault.Store) }
 {
     opened_stands(&conn);
-    Ok(Keeper::fresh(alloc, conn)?)
+    let keeper = Keeper::fresh(alloc, conn)?;
+    Ok(keeper)
 }
 
 /// The bytes of a lab file; of one that is too long so many that they show it.
-pub(crate) fn read_lab(rt: &HostRuntime, alloc: Global, path: &str) -> Result<Vec<u8>, DeskFault> {
-    read_start(rt, alloc, path).map_err(|error| match error.kind() {
-        ErrorKind::OutOfMemory => DeskFault::NoMemory,
-        _ => DeskFault::Read,
-    })
+pub(crate) fn read_lab(rt: &HostRuntime, alloc: Global, path: &str) -> Result<Vec<u8>, DeskFault>
+    ensures { IfErr result (λ fault. (fault ≡ DeskFault.NoMemory) ⊎ (fault ≡ DeskFault.Read)) }
+{
+    match File::open(rt, path) {
+        Ok(file) => read_lab_from(alloc, file),
+        Err(error) => Err(lab_fault(&error)),
+    }
 }
 
-/// The first bytes of a file, one more than a lab file may have.
-fn read_start(rt: &HostRuntime, alloc: Global, path: &str) -> io::Result<Vec<u8>> {
+/// The first bytes that a reader gives, one more than a lab file may have.
+fn read_lab_from<R: Read + Drop>(alloc: Global, reader: R) -> Result<Vec<u8>, DeskFault>
+    ensures bytes { IfOk result (λ bytes. IfSome (R.remaining reader) (λ input.
+        bytes.items ≡ take (longest_lab_file + 1) input)) }
+    ensures fault { IfErr result (λ fault. (fault ≡ DeskFault.NoMemory) ⊎ (fault ≡ DeskFault.Read)) }
+{
     let mut bytes = Vec::new(alloc);
-    File::open(rt, path)?
-        .take(LONGEST_LAB_FILE as u64 + 1)
-        .read_to_end(&mut bytes)?;
-    Ok(bytes)
+    let mut start = reader.take(LONGEST_LAB_FILE as u64 + 1);
+    match start.read_to_end(&mut bytes) {
+        Ok(_) => Ok(bytes),
+        Err(error) => Err(lab_fault(&error)),
+    }
+}
+
+/// What it is that no lab file could be read.
+fn lab_fault(error: &io::Error) -> DeskFault
+    ensures { (result ≡ DeskFault.NoMemory) ⊎ (result ≡ DeskFault.Read) }
+{
+    match error.kind() {
+        ErrorKind::OutOfMemory => DeskFault::NoMemory,
+        _ => DeskFault::Read,
+    }
 }

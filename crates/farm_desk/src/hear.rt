@@ -1,5 +1,5 @@
 //! Hearing a request: its bytes, and what they ask.
-ghost use Rattle.std.specs.Prelude.{◌≡◌};
+ghost use Rattle.std.specs.Prelude.{◌≡◌, ◌≢◌, Err};
 ghost use Rattle.farm_http.specs.Counts.{nothing_read, reader_of, reading_of, IsSameReader, IsSpent};
 ghost use Rattle.farm_http.specs.Request.{Request};
 ghost use Rattle.farm_http.specs.Requests.{Spells};
@@ -8,11 +8,11 @@ ghost use Rattle.farm_wire.specs.Reading.{Meets};
 ghost use Rattle.farm_desk.specs.Heard.{Gives};
 
 use crate::server::Server;
+use farm_http::input::Input;
 use farm_http::taken::Taken;
 use farm_wire::ask::Ask;
 use farm_wire::fault::AskFault;
 use farm_wire::{CountedReader, WireFault, read_request_counted};
-use std::io::Read;
 
 /// Why nothing is heard.
 #[derive(Clone, Copy, Debug, PartialEq, Eq)]
@@ -49,7 +49,7 @@ impl From<AskFault> for Unheard {
 
 impl Server {
     /// Reads one request and says what it asks at a moment.
-    pub(crate) fn hear<R: Read>(
+    pub(crate) fn hear<R: Input>(
         &self,
         reader: &mut CountedReader<'_, R>,
         now: u64,
@@ -59,6 +59,7 @@ impl Server {
         ensures gives { Gives (R.remaining (reader_of reader.old))
             (R.remaining (reader_of reader.new)) now
             (IsSpent (reading_of reader.new)) result }
+        ensures sure { R.never_fails → result ≢ Err Unheard.Read }
     {
         let taken = read_request_counted(self.alloc, reader)?;
         Ok(self.asked_of(&taken, now)?)

@@ -1,5 +1,6 @@
 //! Clients that are known beforehand.
 ghost use Rattle.std.specs.Prelude.{◌≡◌, ◌+◌, ◌<◌, IfOk, [], map, length, vec_capacity, Some};
+ghost use Rattle.std.specs.Vec.Iter.{into_iter_items};
 ghost use Rattle.farm_desk.specs.Known.{came_of, clientele_of};
 
 mod list;
@@ -8,11 +9,13 @@ use crate::clients::{Client, Clients};
 pub use list::KnownClients;
 use std::alloc::{AllocError, Global};
 
-/// What a client sends, and the moment of its request, in seconds since 1970-01-01 00:00:00 UTC.
+/// What a client sends, the moment of its request, in seconds since 1970-01-01 00:00:00 UTC, and
+/// what it is answered in: an answer that fits its capacity is written whole.
 #[derive(Debug, Drop)]
 pub struct Sent<'a> {
     pub now: u64,
     pub bytes: &'a [u8],
+    pub answer: Vec<u8>,
 }
 
 /// What a client sent beyond its request, and what it was answered.
@@ -24,18 +27,16 @@ pub struct Gone<'a> {
 
 impl<'a> KnownClients<'a> {
     /// Clients that come in this order, none of whom has gone.
-    pub fn new(alloc: Global, all: &'a [Sent<'a>]) -> Result<KnownClients<'a>, AllocError>
+    pub fn new(alloc: Global, all: Vec<Sent<'a>>) -> Result<KnownClients<'a>, AllocError>
         ensures { IfOk result (λ clients. clientele_of clients ≡ record {
-          coming = map came_of all.now;
+          coming = map came_of all.entry.items;
           gone = [];
         }) }
     {
         let gone = Vec::with_capacity(alloc, all.len())?;
         Ok(KnownClients {
-            all,
-            place: 0,
+            coming: all.into_iter(),
             gone,
-            alloc,
         })
     }
 
@@ -54,16 +55,15 @@ impl<'a> Clients for KnownClients<'a> {
 
     ghost clientele = { λ clients. Some (clientele_of clients) };
 
-    ghost has_one = { λ clients. length clients.all.now + length clients.gone.items < vec_capacity clients.gone
-        + clients.place };
+    ghost has_one = { λ clients. length (into_iter_items clients.coming) + length clients.gone.items
+        < vec_capacity clients.gone };
 
     fn next(&mut self) -> Option<Client<&'a [u8], Vec<u8>>> {
-        let first = self.all.get(self.place)?;
-        self.place += 1;
+        let sent = self.coming.next()?;
         Some(Client {
-            now: first.now,
-            reader: first.bytes,
-            writer: Vec::new(self.alloc),
+            now: sent.now,
+            reader: sent.bytes,
+            writer: sent.answer,
         })
     }
 

@@ -1,25 +1,34 @@
 //! Conversations one after another, and the laws over them.
-ghost use Rattle.std.specs.Prelude.{◌≤◌, ◌++◌, ◌↔◌, List, OnOk, IfErr};
+ghost use Rattle.std.specs.Prelude.{◌≡◌, ◌≢◌, ◌≤◌, ◌+◌, ◌++◌, ◌↔◌, List, length, Some, Err, IsOk};
+ghost use Rattle.std.specs.Prelude.{OnOk, IfErr, vec_capacity, ⊤};
 ghost use Rattle.sqlite.specs.Held.{state};
 ghost use Rattle.sqlite_trees.specs.View.{doubt};
+ghost use Rattle.farm_desk.specs.Agreed.{StatusesAgree};
 ghost use Rattle.farm_desk.specs.Conversations.{Desk, Talk, ConverseInTurn, ConverseApart, desk};
 ghost use Rattle.farm_desk.specs.Conversations.{AnswersAll, StopsAt, AnsweredActAsRun, IsToldAgain};
 ghost use Rattle.farm_desk.specs.Conversations.{OpenKeepsDone, ClosedKeepsPrefix};
+ghost use Rattle.farm_desk.specs.Ends.{IsAnswered, IsToldBy, IsTooLong};
 ghost use Rattle.farm_desk.specs.InFiles.{LeavesFiles};
+ghost use Rattle.farm_desk.specs.Known.{clientele_of};
+ghost use Rattle.farm_desk.specs.Response.{IsResponse};
 ghost use Rattle.farm_desk.specs.Upgrades.{LeavesEitherFile};
+ghost use Rattle.farm_desk.specs.Visits.{ServesInTurn};
 
 use crate::converse::converse;
 use crate::fault::DeskFault;
+use crate::known::KnownClients;
+use crate::serve::serve;
+use farm_http::input::Input;
+use farm_http::output::Output;
 use farm_keep::Keeper;
 use sqlite::{Alter, Connection, FileStore};
 use sqlite_disk::Disk;
 use std::alloc::Global;
-use std::io::{Read, Write};
 
 /// Converses once at each moment, one conversation after another over one reader and one writer,
 /// and stops at the first that isn't answered. The laws below say what that comes to. Costs what
 /// the conversations cost.
-pub fn converse_in_turn<R: Read, W: Write, S: Alter>(
+pub fn converse_in_turn<R: Input, W: Output, S: Alter>(
     alloc: Global,
     keeper: &mut Keeper<S>,
     reader: &mut R,
@@ -32,6 +41,7 @@ pub fn converse_in_turn<R: Read, W: Write, S: Alter>(
     ensures fault { IfErr result (λ fault. StopsAt S.Store
         (desk keeper.old (R.remaining reader.old) (W.contents writer.old))
         (desk keeper.new (R.remaining reader.new) (W.contents writer.new)) moments.now fault) }
+    ensures heard { R.never_fails → result ≢ Err DeskFault.Read }
     ensures clean { doubt (state S.Store keeper.old.conn).is_clean ≤ doubt
         (state S.Store keeper.new.conn).is_clean }
 {
@@ -41,6 +51,40 @@ pub fn converse_in_turn<R: Read, W: Write, S: Alter>(
         }
     }
     Ok(())
+}
+
+/// Converses over bytes in memory, which never fail, and a vector, which takes what fits its
+/// capacity: so an answer is written whole, or there is no room for the one that is due.
+pub fn converse_in_memory<S: Alter>(
+    alloc: Global,
+    keeper: &mut Keeper<S>,
+    reader: &mut &[u8],
+    writer: &mut Vec<u8>,
+    now: u64,
+) -> Result<u16, DeskFault>
+    ensures heard { result ≢ Err DeskFault.Read }
+    ensures answered { IsToldBy result → IsAnswered
+        (IsResponse S.Store keeper.old keeper.new (Some reader.old.now) (Some reader.new.now) now)
+        (Some writer.old.items) (Some writer.new.items) result }
+    ensures taken { result ≡ Err DeskFault.Write → IsTooLong
+        (IsResponse S.Store keeper.old keeper.new (Some reader.old.now) (Some reader.new.now) now)
+        (λ n. length writer.old.items + n ≤ vec_capacity writer.old) }
+{
+    converse(alloc, keeper, reader, writer, now)
+}
+
+/// Serves clients that are known beforehand: none of them ends as unheard, and none whose answer
+/// fits what it is answered in ends as unanswered.
+pub fn serve_in_memory<S: Alter>(
+    alloc: Global,
+    keeper: &mut Keeper<S>,
+    clients: &mut KnownClients<'_>,
+    max: u64,
+) -> Result<(), DeskFault>
+    ensures { ServesInTurn S.Store ⊤ (Some (clientele_of clients.old))
+        (Some (clientele_of clients.new)) keeper.old keeper.new max (IsOk result) }
+{
+    serve(alloc, keeper, clients, max)
 }
 
 /// Conversations over one list and then over another are the conversations over their joining.
@@ -89,3 +133,8 @@ pub fn upgraded_files_hold<D: Disk + Drop>(conn: Connection<FileStore<D>>) -> Fi
 {
     conn.into_store()
 }
+
+/// The exit statuses that the code gives are those of the definitions.
+pub fn statuses_agree()
+    ensures { StatusesAgree }
+{}

@@ -11,6 +11,7 @@
 
 mod accepted;
 mod answer;
+mod client_output;
 pub mod clients;
 pub mod converse;
 mod deadline_stream;
@@ -29,6 +30,8 @@ pub mod serve;
 mod server;
 pub mod upgrade;
 
+pub use farm_http::input::Input;
+pub use farm_http::output::Output;
 pub use farm_order::fault::OrderFault;
 pub use farm_order::order::{Database, Order, Report};
 pub use farm_order::words::order_of;

@@ -7,6 +7,8 @@ ghost use Rattle.farm_desk.specs.Conversations.{AnswersOne, desk};
 ghost use Rattle.farm_desk.specs.Imports.{IsImport};
 ghost use Rattle.farm_desk.specs.Lines.{counts_line, port_line, TellsImport};
 ghost use Rattle.farm_desk.specs.Reports.{Reports, seconds_ahead};
+ghost use Rattle.farm_desk.specs.Tasks.{DoesTask, ImportsFile, ServesIfHeard};
+ghost use Rattle.farm_keep.specs.Kept.{Kept};
 
 use crate::converse::converse;
 use crate::fault::DeskFault;
@@ -15,6 +17,8 @@ use crate::import::{ImportEnd, import};
 use crate::report::{report_text, zone_between};
 use crate::serve::serve_on;
 use crate::upgrade::migrate_farm;
+use farm_http::input::Input;
+use farm_http::output::Output;
 use farm_keep::{KeepFault, Keeper};
 use farm_order::order::{Database, Order, Report};
 use farm_types::refusal::Refusal;
@@ -23,7 +27,7 @@ use farm_wire::write_whole;
 use sqlite::{Alter, Connection, MemStore, Unknown};
 use std::alloc::Global;
 use std::fs;
-use std::io::{IsTerminal, Read, Write};
+use std::io::{IsTerminal, Write};
 use std::net::{Ipv4Addr, TcpListener};
 
 /// A file of so many bytes may take longer than two seconds to migrate.
@@ -43,7 +47,7 @@ pub enum End {
 /// Carries out an order. Faults are found in this order: those of the store, of the lab file or the
 /// listener, then of the input and the output. Files are opened with the reading of a crash that
 /// most disks keep, that a torn write leaves each byte old or new: so most commits sync once.
-pub fn carry_out<R: Read, W: Write>(
+pub fn carry_out<R: Input, W: Output>(
     rt: &HostRuntime,
     alloc: Global,
     order: Order,
@@ -89,29 +93,48 @@ enum Task {
 }
 
 /// Does what an order wants of a keeper's farm.
-fn on_farm<R: Read, W: Write, S: Alter + Drop>(
+fn on_farm<R: Input, W: Output, S: Alter + Drop>(
     rt: &HostRuntime,
     alloc: Global,
     mut keeper: Keeper<S>,
     task: Task,
     input: &mut R,
     output: &mut W,
-) -> Result<End, DeskFault> {
+) -> Result<End, DeskFault>
+    ensures { (left : Kept S) × DoesTask S.Store task
+        (desk keeper (R.remaining input.old) (W.contents output.old))
+        (desk left (R.remaining input.new) (W.contents output.new))
+        R.never_fails (W.has_room output.old) result }
+{
+    do_task(rt, alloc, &mut keeper, &task, input, output)
+}
+
+/// Does a task with a keeper's farm.
+fn do_task<R: Input, W: Output, S: Alter>(
+    rt: &HostRuntime,
+    alloc: Global,
+    keeper: &mut Keeper<S>,
+    task: &Task,
+    input: &mut R,
+    output: &mut W,
+) -> Result<End, DeskFault>
+    ensures { DoesTask S.Store task.now
+        (desk keeper.old (R.remaining input.old) (W.contents output.old))
+        (desk keeper.new (R.remaining input.new) (W.contents output.new))
+        R.never_fails (W.has_room output.old) result }
+{
     match task {
-        Task::Answer { at } => answer_one(alloc, &mut keeper, input, output, at),
-        Task::Import { at, lab } => {
-            let text = read_lab(rt, alloc, lab.as_str())?;
-            import_text(alloc, &mut keeper, text.as_slice(), at, output)
-        }
+        Task::Answer { at } => answer_one(alloc, keeper, input, output, *at),
+        Task::Import { at, lab } => import_file(rt, alloc, keeper, lab.as_str(), *at, output),
         Task::Report { east, west, which } => {
-            print_report(alloc, &keeper, (east, west), which, output)
+            print_report(alloc, keeper, (*east, *west), *which, output)
         }
-        Task::Serve { port, max } => serve(rt, alloc, &mut keeper, port, max, output),
+        Task::Serve { port, max } => serve(rt, alloc, keeper, *port, *max, output),
     }
 }
 
 /// Answers one request of a keeper's farm.
-fn answer_one<R: Read, W: Write, S: Alter>(
+fn answer_one<R: Input, W: Output, S: Alter>(
     alloc: Global,
     keeper: &mut Keeper<S>,
     input: &mut R,
@@ -119,7 +142,8 @@ fn answer_one<R: Read, W: Write, S: Alter>(
     at: u64,
 ) -> Result<End, DeskFault>
     ensures { AnswersOne S.Store (desk keeper.old (R.remaining input.old) (W.contents output.old))
-        (desk keeper.new (R.remaining input.new) (W.contents output.new)) at result }
+        (desk keeper.new (R.remaining input.new) (W.contents output.new)) at
+        R.never_fails (W.has_room output.old) result }
 {
     match converse(alloc, keeper, input, output, at)? {
         OK => Ok(End::Done),
@@ -140,7 +164,7 @@ fn memory_keeper(alloc: Global) -> Result<Keeper<MemStore>, DeskFault>
 }
 
 /// Makes the empty farm in a file.
-fn init<W: Write>(
+fn init<W: Output>(
     rt: &HostRuntime,
     alloc: Global,
     file: &str,
@@ -170,7 +194,7 @@ fn tell_size(rt: &HostRuntime, file: &str) {
 
 /// Brings the first edition's farm of a file to this one. The log is copied into the file then; it
 /// is as good where that fails.
-fn migrate<W: Write>(
+fn migrate<W: Output>(
     rt: &HostRuntime,
     alloc: Global,
     file: &str,
@@ -184,8 +208,26 @@ fn migrate<W: Write>(
     }
 }
 
+/// Adds what the lab file at a path lists to a keeper's farm, as far as it can be read.
+fn import_file<W: Output, S: Alter>(
+    rt: &HostRuntime,
+    alloc: Global,
+    keeper: &mut Keeper<S>,
+    lab: &str,
+    at: u64,
+    output: &mut W,
+) -> Result<End, DeskFault>
+    ensures { ImportsFile S.Store keeper.old keeper.new (W.contents output.old)
+        (W.contents output.new) at result }
+{
+    match read_lab(rt, alloc, lab) {
+        Ok(text) => import_text(alloc, keeper, text.as_slice(), at, output),
+        Err(fault) => Err(fault),
+    }
+}
+
 /// Adds what a lab file lists to a keeper's farm, and prints how much that was.
-fn import_text<W: Write, S: Alter>(
+fn import_text<W: Output, S: Alter>(
     alloc: Global,
     keeper: &mut Keeper<S>,
     text: &[u8],
@@ -206,7 +248,7 @@ fn import_text<W: Write, S: Alter>(
 }
 
 /// Prints how many commands were accepted, and how many had been before.
-fn print_counts<W: Write>(output: &mut W, accepted: usize, kept: usize) -> Result<End, DeskFault>
+fn print_counts<W: Output>(output: &mut W, accepted: usize, kept: usize) -> Result<End, DeskFault>
     ensures done { IfOk result (λ end. (end ≡ End.Done)
         × Appends (W.contents output.old) (W.contents output.new) (counts_line accepted kept)) }
     ensures fault { IfErr result (λ fault. fault ≡ DeskFault.Write) }
@@ -218,14 +260,17 @@ fn print_counts<W: Write>(output: &mut W, accepted: usize, kept: usize) -> Resul
 }
 
 /// Serves so many connections to a port of 127.0.0.1 from a keeper's farm.
-fn serve<W: Write, S: Alter>(
+fn serve<W: Output, S: Alter>(
     rt: &HostRuntime,
     alloc: Global,
     keeper: &mut Keeper<S>,
     port: u16,
     max: u64,
     output: &mut W,
-) -> Result<End, DeskFault> {
+) -> Result<End, DeskFault>
+    ensures { ServesIfHeard S.Store keeper.old keeper.new (W.contents output.old)
+        (W.contents output.new) port max result }
+{
     let Ok(listener) = TcpListener::bind(rt, (Ipv4Addr::LOCALHOST, port)) else {
         return Err(DeskFault::Read);
     };
@@ -235,9 +280,10 @@ fn serve<W: Write, S: Alter>(
 }
 
 /// Prints the port on which clients are heard from now on.
-fn print_port<W: Write>(output: &mut W, port: u16) -> Result<(), DeskFault>
-    ensures { OnOk result (Appends (W.contents output.old) (W.contents output.new)
+fn print_port<W: Output>(output: &mut W, port: u16) -> Result<(), DeskFault>
+    ensures told { OnOk result (Appends (W.contents output.old) (W.contents output.new)
         (port_line port)) }
+    ensures fault { IfErr result (λ fault. fault ≡ DeskFault.Write) }
 {
     match writeln!(output, "listening {port}") {
         Ok(()) => Ok(()),
@@ -246,7 +292,7 @@ fn print_port<W: Write>(output: &mut W, port: u16) -> Result<(), DeskFault>
 }
 
 /// Prints a report of a keeper's farm.
-fn print_report<W: Write, S: Alter>(
+fn print_report<W: Output, S: Alter>(
     alloc: Global,
     keeper: &Keeper<S>,
     zone: (u64, u64),

@@ -1,11 +1,16 @@
 //! The program: its words, its faults and its exit status.
-ghost use Rattle.std.specs.Prelude.{◌≡◌, OnOk};
-ghost use Rattle.std.specs.Io.KnownBytes.{Appends};
-ghost use Rattle.farm_desk.specs.Faults.{exit_status, order_status};
-ghost use Rattle.farm_desk.specs.Lines.{fault_line, refusal_line};
+ghost use Rattle.std.specs.Prelude.{◌≡◌, Ok, Result, map, string_bytes};
+ghost use Rattle.std.specs.Io.KnownBytes.{WriteAppends};
+ghost use Rattle.farm_order.specs.declared.order.Order.{Order as Ordered};
+ghost use Rattle.farm_order.specs.declared.fault.OrderFault.{OrderFault as Unordered};
+ghost use Rattle.farm_desk.specs.Faults.{exit_status, fault_number, order_status, wrong_words};
+ghost use Rattle.farm_desk.specs.Lines.{fault_line, refusal_line, told_of, GainsPart};
+ghost use Rattle.farm_desk.specs.Program.{EndsAsRead, EndsTold, EndsUnread, IsReadOf, ShowsHelp};
 
 use crate::fault::DeskFault;
 use crate::orders::{End, carry_out};
+use farm_http::input::Input;
+use farm_http::output::Output;
 use farm_jobfile::FileFault;
 use farm_keep::KeepFault;
 use farm_order::fault::OrderFault;
@@ -13,9 +18,10 @@ use farm_order::order::Order;
 use farm_order::words::order_of;
 use farm_types::refusal::Refusal;
 use farm_wire::write_whole;
+use itoa::Buffer;
 use std::alloc::Global;
 use std::io;
-use std::io::{Read, Write};
+use std::io::{IoSlice, Write};
 
 /// The order was carried out; a request was answered 200.
 pub const DONE: u8 = 0;
@@ -32,62 +38,132 @@ pub const NO_ROOM: u8 = 5;
 /// the text of refused words, the line of a fault, `farm: CODE TEXT`, and that of a lab file's
 /// refused command, `farm: CODE TEXT at N`, go to `errors`. The runtime is for the orders that open
 /// files, sockets and the clock.
-pub fn program<R: Read, W: Write, E: Write>(
+pub fn program<R: Input, W: Output, E: Output>(
     rt: &HostRuntime,
     alloc: Global,
     words: &[String],
     input: &mut R,
     output: &mut W,
     errors: &mut E,
-) -> u8 {
-    match order_of(alloc, words) {
+) -> u8
+    // The words are read as an order or as a fault, and it ends as that wants.
+    ensures { (read : Result Ordered Unordered) × IsReadOf (map string_bytes words.now) read
+        × EndsAsRead read (W.contents output.old) (W.contents output.new)
+        (E.contents errors.old) (E.contents errors.new) result }
+{
+    let read = order_of(alloc, words);
+    end_as_read(rt, alloc, read, input, output, errors)
+}
+
+/// Carries out the order that was read, or tells why there is none; gives the exit status.
+fn end_as_read<R: Input, W: Output, E: Output>(
+    rt: &HostRuntime,
+    alloc: Global,
+    read: Result<Order, OrderFault>,
+    input: &mut R,
+    output: &mut W,
+    errors: &mut E,
+) -> u8
+    ensures { EndsAsRead read (W.contents output.old) (W.contents output.new)
+        (E.contents errors.old) (E.contents errors.new) result }
+{
+    match read {
         Ok(order) => perform(rt, alloc, order, input, output, errors),
-        Err(OrderFault::Help(text)) => match write_whole(output, text.as_bytes()) {
-            Ok(()) => DONE,
-            Err(_) => tell(errors, DeskFault::Write),
-        },
-        Err(OrderFault::Words(text)) => {
-            let _ = write_whole(errors, text.as_bytes());
-            WRONG_WORDS
-        }
-        Err(OrderFault::NoMemory) => tell(errors, DeskFault::NoMemory),
+        Err(fault) => tell_unread(fault, output, errors),
     }
 }
 
+/// Tells why words gave no order, and gives the exit status.
+fn tell_unread<W: Output, E: Output>(fault: OrderFault, output: &mut W, errors: &mut E) -> u8
+    ensures { EndsUnread fault (W.contents output.old) (W.contents output.new)
+        (E.contents errors.old) (E.contents errors.new) result }
+{
+    match fault {
+        OrderFault::Help(text) => show_help(text.as_bytes(), output, errors),
+        OrderFault::Words(text) => refuse_words(text.as_bytes(), errors),
+        OrderFault::NoMemory => tell(errors, DeskFault::NoMemory),
+    }
+}
+
+/// Writes help to the output, and gives the exit status.
+fn show_help<W: Output, E: Output>(text: &[u8], output: &mut W, errors: &mut E) -> u8
+    ensures { ShowsHelp text.now (W.contents output.old) (W.contents output.new)
+        (E.contents errors.old) (E.contents errors.new) result }
+{
+    match write_whole(output, text) {
+        Ok(()) => DONE,
+        Err(_) => tell(errors, DeskFault::Write),
+    }
+}
+
+/// Tells what is wrong with the words, and gives the exit status.
+fn refuse_words<E: Output>(text: &[u8], errors: &mut E) -> u8
+    ensures status { result ≡ wrong_words }
+    ensures told { GainsPart (E.contents errors.old) (E.contents errors.new) text.now }
+{
+    let _ = write_whole(errors, text);
+    WRONG_WORDS
+}
+
 /// Carries out an order, and gives the exit status.
-pub fn perform<R: Read, W: Write, E: Write>(
+pub fn perform<R: Input, W: Output, E: Output>(
     rt: &HostRuntime,
     alloc: Global,
     order: Order,
     input: &mut R,
     output: &mut W,
     errors: &mut E,
-) -> u8 {
+) -> u8
+    // The status and what is told are those of one end.
+    ensures { EndsTold (E.contents errors.old) (E.contents errors.new) result }
+{
     let ended = carry_out(rt, alloc, order, input, output);
     status_of(errors, ended)
 }
 
 /// The exit status of an order that ended so; what no answer tells is told to `errors`.
 fn status_of<E: Write>(errors: &mut E, ended: Result<End, DeskFault>) -> u8
-    ensures { result ≡ order_status ended }
+    ensures status { result ≡ order_status ended }
+    ensures told { GainsPart (E.contents errors.old) (E.contents errors.new) (told_of ended) }
 {
     match ended {
-        Ok(End::Done) => DONE,
-        Ok(End::Refused) => REFUSED,
-        Ok(End::RefusedAt(place, refusal)) => {
-            let _ = write_refusal(errors, place, refusal);
-            REFUSED
-        }
+        Ok(end) => status_at(errors, end),
         Err(fault) => tell(errors, fault),
     }
 }
 
-/// Writes the line of a fault, and gives its exit status. It takes no memory; where the line can't
-/// be written, nobody can be told.
+/// The exit status of an order that met no fault; the refused command of a lab file is told.
+fn status_at<E: Write>(errors: &mut E, end: End) -> u8
+    ensures status { result ≡ order_status (Ok end) }
+    ensures told { GainsPart (E.contents errors.old) (E.contents errors.new) (told_of (Ok end)) }
+{
+    match end {
+        End::Done => DONE,
+        End::Refused => REFUSED,
+        End::RefusedAt(place, refusal) => {
+            let _ = write_refusal(errors, place, refusal);
+            REFUSED
+        }
+    }
+}
+
+/// Writes the line of a fault, and gives its exit status. It takes no memory. Where the writer takes
+/// a part of the line, or none of it, nobody can be told.
 pub fn tell<E: Write>(errors: &mut E, fault: DeskFault) -> u8
-    ensures { result ≡ exit_status fault }
+    ensures status { result ≡ exit_status fault }
+
+    // What is written is this fault's line, as far as the writer took it.
+    ensures told { GainsPart (E.contents errors.old) (E.contents errors.new)
+        (fault_line (fault_number fault)) }
 {
     let _ = write_fault(errors, fault.code());
+    status_after(fault)
+}
+
+/// The exit status after a fault.
+fn status_after(fault: DeskFault) -> u8
+    ensures { result ≡ exit_status fault }
+{
     match fault {
         DeskFault::NoMemory
         | DeskFault::Keep(KeepFault::NoMemory)
@@ -97,20 +173,34 @@ pub fn tell<E: Write>(errors: &mut E, fault: DeskFault) -> u8
     }
 }
 
-/// Writes the line of a fault of that number.
-fn write_fault<E: Write>(errors: &mut E, code: u16) -> io::Result<()>
-    ensures { OnOk result (Appends (E.contents errors.old) (E.contents errors.new)
-        (fault_line code)) }
+/// Writes the line of a fault of that number, or a part of it, and gives how many bytes were taken.
+fn write_fault<E: Write>(errors: &mut E, code: u16) -> io::Result<usize>
+    ensures { WriteAppends (E.contents errors.old) (E.contents errors.new) result
+        (fault_line code) }
 {
-    let text = Refusal { code }.text();
-    writeln!(errors, "farm: {code} {text}")
+    let mut number = Buffer::new();
+    errors.write_vectored(&[
+        IoSlice::new(b"farm: "),
+        IoSlice::new(number.format(code).as_bytes()),
+        IoSlice::new(b" "),
+        IoSlice::new(Refusal { code }.text().as_bytes()),
+        IoSlice::new(b"\n"),
+    ])
 }
 
-/// Writes the line of a lab file's refused command, whose place is counted from 1.
-fn write_refusal<E: Write>(errors: &mut E, place: usize, refusal: Refusal) -> io::Result<()>
-    ensures { OnOk result (Appends (E.contents errors.old) (E.contents errors.new)
-        (refusal_line refusal.code place)) }
+/// Writes the line of a lab file's refused command, whose place is counted from 1, or a part of it.
+fn write_refusal<E: Write>(errors: &mut E, place: usize, refusal: Refusal) -> io::Result<usize>
+    ensures { WriteAppends (E.contents errors.old) (E.contents errors.new) result
+        (refusal_line refusal.code place) }
 {
-    let (code, text) = (refusal.code, refusal.text());
-    writeln!(errors, "farm: {code} {text} at {place}")
+    let (mut number, mut place_text) = (Buffer::new(), Buffer::new());
+    errors.write_vectored(&[
+        IoSlice::new(b"farm: "),
+        IoSlice::new(number.format(refusal.code).as_bytes()),
+        IoSlice::new(b" "),
+        IoSlice::new(refusal.text().as_bytes()),
+        IoSlice::new(b" at "),
+        IoSlice::new(place_text.format(place).as_bytes()),
+        IoSlice::new(b"\n"),
+    ])
 }

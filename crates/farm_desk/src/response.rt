@@ -1,6 +1,6 @@
 //! The answer that is due.
 ghost use Rattle.std.specs.Prelude.{◌≡◌, ◌≢◌, Err};
-ghost use Rattle.farm_types.specs.declared.refusal.TheConstants.{NO_MEMORY as no_memory};
+ghost use Rattle.farm_types.specs.Refusals.{no_memory};
 ghost use Rattle.farm_keep.specs.Faults.{fault_code};
 ghost use Rattle.farm_wire.specs.Replies.{reply_bytes};
 ghost use Rattle.farm_desk.specs.Answers.{refusal, http_status};

@@ -10,11 +10,12 @@ use crate::accepted::Accepted;
 use crate::clients::{Client, Clients};
 use crate::fault::DeskFault;
 use crate::server::Server;
+use farm_http::input::Input;
+use farm_http::output::Output;
 use farm_keep::{KeepFault, Keeper};
 use farm_wire::{CountedReader, CountedWriter};
 use sqlite::Alter;
 use std::alloc::Global;
-use std::io::{Read, Write};
 use std::net::TcpListener;
 use std::time::Clock;
 
@@ -74,8 +75,9 @@ pub fn serve<S: Alter, K: Clients>(
     max: u64,
 ) -> Result<(), DeskFault>
     // The next clients, as far as they are known, were conversed with in their order, each at its
-    // moment, over what it sent and what it was written.
-    ensures visits { ServesInTurn S.Store (K.clientele clients.old) (K.clientele clients.new)
+    // moment, over what it sent and what it was written. Where readers never fail each is heard, and
+    // one whose writer has room for its answer gets it whole.
+    ensures visits { ServesInTurn S.Store K.Reader.never_fails (K.clientele clients.old) (K.clientele clients.new)
         keeper.old keeper.new max (IsOk result) }
 
     // What that makes of the farm and of its store is what `serve_on` says.
@@ -103,7 +105,7 @@ impl Server {
         clients: &mut K,
     ) -> Result<(), DeskFault>
         requires { keeper.old.is_open ≡ true }
-        ensures visits { ServesInTurn S.Store (K.clientele clients.old) (K.clientele clients.new)
+        ensures visits { ServesInTurn S.Store K.Reader.never_fails (K.clientele clients.old) (K.clientele clients.new)
             keeper.old keeper.new 1 (IsOk result) }
         ensures serves { ServesUntil S.Store keeper.old keeper.new 1 result }
         ensures clean { doubt (state S.Store keeper.old.conn).is_clean ≤ doubt
@@ -124,7 +126,7 @@ impl Server {
 
     /// Answers one request as `converse` does, and gives the keeper's fault where that closed it,
     /// also where the answer was lost.
-    fn serve_one<R: Read, W: Write, S: Alter>(
+    fn serve_one<R: Input, W: Output, S: Alter>(
         &self,
         keeper: &mut Keeper<S>,
         reader: &mut R,
@@ -134,7 +136,8 @@ impl Server {
         requires { keeper.old.is_open ≡ true }
         ensures converses { ConversesOnce S.Store
             (desk keeper.old (R.remaining reader.old) (W.contents writer.old))
-            (desk keeper.new (R.remaining reader.new) (W.contents writer.new)) now }
+            (desk keeper.new (R.remaining reader.new) (W.contents writer.new)) now
+            R.never_fails (W.has_room writer.old) }
         ensures serves { ServesUntil S.Store keeper.old keeper.new 1 result }
         ensures clean { doubt (state S.Store keeper.old.conn).is_clean ≤ doubt
             (state S.Store keeper.new.conn).is_clean }

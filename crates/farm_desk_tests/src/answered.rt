@@ -1,6 +1,7 @@
 //! Conversations over readers and writers that give and take little, or fail.
 use farm_desk::converse::converse_counted;
 use farm_desk::fault::DeskFault;
+use farm_desk::{Input, Output};
 use farm_keep::Keeper;
 use farm_tests::fakes::{Interrupted, Narrow, Slow, Tally};
 use farm_tests::sent::{FIRST_TYPE, request};
@@ -8,7 +9,6 @@ use farm_tests::stores::made;
 use farm_wire::{CountedReader, CountedWriter};
 use sqlite::{Alter, Connection};
 use std::alloc::{AllocError, Global};
-use std::io::{Read, Write};
 use std::process::Abort;
 use std::test::Fail;
 
@@ -33,7 +33,7 @@ fn code_of(end: Result<u16, DeskFault>) -> u16 {
 }
 
 /// One conversation, at moment 10. The reader and the writer count their calls too.
-fn talk<R: Read, W: Write, S: Alter>(
+fn talk<R: Input, W: Output, S: Alter>(
     rt: &impl Abort,
     alloc: Global,
     keeper: &mut Keeper<S>,
@@ -61,7 +61,7 @@ fn counts<S: Alter>(keeper: &Keeper<S>) -> Option<(u64, u64)> {
 }
 
 /// What the request of a reader is answered, and how the conversation ends.
-fn heard<R: Read, S: Alter>(
+fn heard<R: Input, S: Alter>(
     rt: &impl Abort,
     alloc: Global,
     keeper: &mut Keeper<S>,
@@ -73,7 +73,7 @@ fn heard<R: Read, S: Alter>(
 }
 
 /// The same by a writer that takes one byte a call and is interrupted after so many, so often.
-fn heard_in_part<R: Read, S: Alter>(
+fn heard_in_part<R: Input, S: Alter>(
     rt: &impl Abort,
     alloc: Global,
     keeper: &mut Keeper<S>,
@@ -86,7 +86,7 @@ fn heard_in_part<R: Read, S: Alter>(
 }
 
 /// The farm is asked by a reader that gives no request, and isn't changed.
-fn expect_unread<R: Read, S: Alter>(
+fn expect_unread<R: Input, S: Alter>(
     rt: &impl Abort,
     alloc: Global,
     keeper: &mut Keeper<S>,
@@ -192,7 +192,7 @@ fn largest_body_byte_by_byte(rt: HostRuntime) -> Result<(), Fail> {
 }
 
 /// Hears the next request, and demands that answer and status 200.
-fn expect<R: Read, S: Alter>(
+fn expect<R: Input, S: Alter>(
     rt: &impl Abort,
     alloc: Global,
     keeper: &mut Keeper<S>,

@@ -8,7 +8,7 @@ use farm_keep::Keeper;
 use farm_tests::sent::FIRST_TYPE;
 use farm_tests::stores::made;
 use sqlite::{Alter, Connection};
-use std::alloc::Global;
+use std::alloc::{AllocError, Global};
 use std::process::Abort;
 use std::test::Fail;
 
@@ -16,19 +16,27 @@ use std::test::Fail;
 const TYPE_AND_MORE: &[u8] =
     b"POST /types HTTP/1.1\r\nx-user: admin\r\ncontent-length: 14\r\n\r\n{\"name\":\"bbb\"}and more";
 
-/// Five clients, and when they come.
-fn five() -> [Sent<'static>; 5] {
-    [
-        sent(1_700_000_000, FIRST_TYPE),
-        sent(1_700_000_007, TYPE_AND_MORE),
-        sent(1_700_000_008, b"GET /status\r\n\r\n"),
-        sent(1_700_000_009, b"GET /status HTTP/1.1\r\n\r\n"),
-        sent(1_700_000_010, FIRST_TYPE),
-    ]
+/// What an answer here fits.
+const ROOM: usize = 512;
+
+/// Five clients, and when they come; the last finds no room that was made for its answer.
+fn five(alloc: Global) -> Result<Vec<Sent<'static>>, AllocError> {
+    let mut all = Vec::with_capacity(alloc, 5)?;
+    all.push(sent(alloc, 1_700_000_000, FIRST_TYPE)?)?;
+    all.push(sent(alloc, 1_700_000_007, TYPE_AND_MORE)?)?;
+    all.push(sent(alloc, 1_700_000_008, b"GET /status\r\n\r\n")?)?;
+    all.push(sent(alloc, 1_700_000_009, b"GET /status HTTP/1.1\r\n\r\n")?)?;
+    all.push(Sent {
+        now: 1_700_000_010,
+        bytes: FIRST_TYPE,
+        answer: Vec::new(alloc),
+    })?;
+    Ok(all)
 }
 
-fn sent(now: u64, bytes: &'static [u8]) -> Sent<'static> {
-    Sent { now, bytes }
+fn sent(alloc: Global, now: u64, bytes: &'static [u8]) -> Result<Sent<'static>, AllocError> {
+    let answer = Vec::with_capacity(alloc, ROOM)?;
+    Ok(Sent { now, bytes, answer })
 }
 
 const EXISTS: &[u8] =
@@ -111,9 +119,9 @@ fn serve_all<S: Alter + Drop>(
     alloc: Global,
     conn: Connection<S>,
 ) -> Result<(), Fail> {
-    let all = five();
+    let all = five(alloc)?;
     let mut keeper = made(alloc, conn).ok_or("no farm")?;
-    let mut clients = KnownClients::new(alloc, &all)?;
+    let mut clients = KnownClients::new(alloc, all)?;
     serve_known(rt, alloc, &mut keeper, &mut clients)
 }
 

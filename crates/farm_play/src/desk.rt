@@ -6,11 +6,11 @@ use farm_core::farm::Farm;
 use farm_desk::converse::converse;
 use farm_desk::fault::DeskFault;
 use farm_desk::import::{ImportEnd, import};
+use farm_desk::{Input, Output};
 use farm_keep::{KeepFault, Keeper};
 use farm_report::{boards_text, queue_text, reservations_text, zone_of};
 use sqlite::{Alter, Connection};
 use std::alloc::{AllocError, Global};
-use std::io::{Read, Write};
 
 /// A farm, by its keeper.
 pub struct Desk<S: Alter> {
@@ -87,7 +87,7 @@ impl<S: Alter + Drop> Desk<S> {
 }
 
 /// Converses once.
-fn told<R: Read, W: Write, S: Alter>(
+fn told<R: Input, W: Output, S: Alter>(
     alloc: Global,
     keeper: &mut Keeper<S>,
     reader: &mut R,

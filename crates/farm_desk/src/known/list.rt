@@ -1,17 +1,14 @@
-//! Clients in a list, and room for what each is answered.
+//! Clients in a list, and room for those that went.
 ghost use Rattle.std.specs.Prelude.{◌+◌, ◌≤◌, length, vec_capacity};
+ghost use Rattle.std.specs.Vec.Iter.{into_iter_items};
 
 use super::{Gone, Sent};
-use std::alloc::Global;
+use std::vec::IntoIter;
 
 /// Clients that are known beforehand, with what those that went were answered.
 #[derive(Drop)]
 pub struct KnownClients<'a> {
-    pub(super) all: &'a [Sent<'a>],
-    /// How many came.
-    pub(super) place: usize,
+    pub(super) coming: IntoIter<Sent<'a>>,
     pub(super) gone: Vec<Gone<'a>>,
-    pub(super) alloc: Global,
-    ghost within: { place ≤ length all.now },
-    ghost room: { length all.now + length gone.items ≤ vec_capacity gone + place },
+    ghost room: { length (into_iter_items coming) + length gone.items ≤ vec_capacity gone },
 }

@@ -1,7 +1,7 @@
 -- One conversation more, answered or not.
-use Rattle.std.proofs.Common.{◌<◌, length, arith, refl}
+use Rattle.std.proofs.Common.{◌<◌, length, arith, refl, ap, Err}
 use Rattle.farm_desk.specs.Conversations.{desk}
-use Rattle.farm_desk.proofs.ConversationLemmas.{one_more, stops_at}
+use Rattle.farm_desk.proofs.ConversationLemmas.{fault_in, one_more, stops_at}
 use Rattle.farm_desk.proofs.laws.converse_in_turn.Goals as goal
 
 pub returns-in-Err-clause-fault : goal.returns-in-Err-clause-fault
@@ -13,6 +13,9 @@ returns-in-Err-clause-fault g c =
     (desk c.converse.new.keeper (g.R.Read.remaining c.converse.new.reader) (g.W.Write.contents c.converse.new.writer))
     c.args.moments.now c.loop-now.now-index _ c.in-Err.fault low refl c.loop-now.invariant.answers
     (record { answered = ended.answered; unwritten = ended.unwritten; unread = ended.unread })
+
+pub returns-in-Err-clause-heard : goal.returns-in-Err-clause-heard
+returns-in-Err-clause-heard g c sure e = c.in-Err.ensures.heard sure (ap (λ fault. Err fault) (ap fault_in e))
 
 pub loop-now-preserved : goal.loop-now-preserved
 loop-now-preserved g c =

@@ -17,9 +17,9 @@ pub returns-in_err-serve_next-clause-visits : goal.returns-in_err-serve_next-cla
 returns-in_err-serve_next-clause-visits g c =
     let less : c.loop.counter + 1 ≤ c.args.max = omega (arith, c.loop-test.true) in
     let p = err_from_is_err_and c.from_residual.result c.from_residual.ensures.1 in
-    visits_within g.S.Store (g.K.Clients.clientele c.args.clients.now) (g.K.Clients.clientele c.serve_next.new.clients) c.args.keeper.now c.serve_next.new.keeper
+    visits_within g.S.Store g.K.Reader.Input.never_fails (g.K.Clients.clientele c.args.clients.now) (g.K.Clients.clientele c.serve_next.new.clients) c.args.keeper.now c.serve_next.new.keeper
     (c.loop.counter + 1) c.args.max (IsOk c.from_residual.result) less (λ ok. absurd (let no = subst (λ r. IsOk r) p.1 ok in cc))
-    (visits_next g.S.Store (g.K.Clients.clientele c.args.clients.now) (g.K.Clients.clientele c.loop.clients)
+    (visits_next g.S.Store g.K.Reader.Input.never_fails (g.K.Clients.clientele c.args.clients.now) (g.K.Clients.clientele c.loop.clients)
     (g.K.Clients.clientele c.serve_next.new.clients) c.args.keeper.now c.loop.keeper c.serve_next.new.keeper c.loop.counter
     _ ⊥ (λ never. absurd never) c.loop.invariant.visits c.in_err-serve_next.ensures.visits)
 
@@ -27,7 +27,7 @@ pub loop-init : goal.loop-init
 loop-init g c = record {
   clean = le_refl _;
   serves = serves_none g.S.Store c.args.keeper.now 0 (search rules);
-  visits = visits_begin g.S.Store (g.K.Clients.clientele c.args.clients.now) c.args.keeper.now (Unit {0});
+  visits = visits_begin g.S.Store g.K.Reader.Input.never_fails (g.K.Clients.clientele c.args.clients.now) c.args.keeper.now (Unit {0});
 }
 
 pub loop-preserved : goal.loop-preserved
@@ -36,7 +36,7 @@ loop-preserved g c =
       clean = omega (arith, c.loop.invariant.clean, c.serve_next.ensures.clean);
       serves = serves_next g.S.Store c.args.keeper.now c.loop.keeper c.serve_next.new.keeper c.loop.counter (Ok c.in_ok-serve_next.field-0)
           c.loop.invariant.serves c.in_ok-serve_next.ensures.serves;
-      visits = visits_next g.S.Store (g.K.Clients.clientele c.args.clients.now) (g.K.Clients.clientele c.loop.clients)
+      visits = visits_next g.S.Store g.K.Reader.Input.never_fails (g.K.Clients.clientele c.args.clients.now) (g.K.Clients.clientele c.loop.clients)
           (g.K.Clients.clientele c.serve_next.new.clients) c.args.keeper.now c.loop.keeper c.serve_next.new.keeper c.loop.counter
           _ (Unit {0}) (λ _. refl) c.loop.invariant.visits c.in_ok-serve_next.ensures.visits;
     }

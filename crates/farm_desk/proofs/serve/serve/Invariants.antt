@@ -10,5 +10,5 @@ abbrev pub invariant-loop : goal.invariant-loop
 invariant-loop g l = record {
   clean : doubt (state g.S.Store l.fn.keeper.conn).is_clean ≤ doubt (state g.S.Store l.keeper.conn).is_clean;
   serves : Serves g.S.Store l.fn.keeper l.keeper l.counter;
-  visits : ServesInTurn g.S.Store (g.K.Clients.clientele l.fn.clients) (g.K.Clients.clientele l.clients) l.fn.keeper l.keeper l.counter (Unit {0});
+  visits : ServesInTurn g.S.Store g.K.Reader.Input.never_fails (g.K.Clients.clientele l.fn.clients) (g.K.Clients.clientele l.clients) l.fn.keeper l.keeper l.counter (Unit {0});
 }

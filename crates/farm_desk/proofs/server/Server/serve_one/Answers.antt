@@ -8,7 +8,7 @@ use Rattle.farm_desk.proofs.server.Server.serve_one.Goals as goal
 
 pub returns-clause-serves : goal.returns-clause-serves
 returns-clause-serves g c =
-    conversation_serves g.S.Store c.args.keeper.now c.converse.new.keeper _ _ _ _ _ _ c.converse.result c.pass_on.result
+    conversation_serves g.S.Store c.args.keeper.now c.converse.new.keeper _ _ _ _ _ _ _ c.converse.result c.pass_on.result
     c.requires c.pass_on.ensures c.converse.ensures.told (λ read. (c.converse.ensures.unread read).0.rests)
 
 pub returns-clause-converses : goal.returns-clause-converses
@@ -16,8 +16,8 @@ returns-clause-converses g c =
     let said = conversation g.S.Store
     (desk c.args.keeper.now (g.R.Read.remaining c.args.reader.now) (g.W.Write.contents c.args.writer.now))
     (desk c.converse.new.keeper (g.R.Read.remaining (reader_of c.converse.new.reader)) (g.W.Write.contents (writer_of c.converse.new.writer)))
-    c.args.now _ c.converse.result
+    c.args.now g.R.Input.never_fails (g.W.Output.has_room c.args.writer.now) _ c.converse.result
     (rw (c.new-reader.ensures.reader, c.new-writer.ensures.writer) at c.converse.ensures.told)
     (λ read. rw c.new-writer.ensures.writer at (c.converse.ensures.unread read).0)
-    (λ read. (c.converse.ensures.unread read).2) in
+    (λ read. (c.converse.ensures.unread read).2) c.converse.ensures.heard in
     search rules

@@ -1,0 +1,46 @@
+-- A part of a line that a writer took.
+use Rattle.std.proofs.Common.{◌≡◌, ℕ, List, [], ◌++◌, length, take, drop, refl, sym, ◌∙◌, Ok, Err}
+use Rattle.std.specs.Prelude.{Option, Some, None, Result, OnOk, OnErr}
+use Rattle.std.specs.Io.KnownBytes.{Appends, Keeps, WriteAppends}
+use Rattle.std.specs.declared.io.Error.{Error}
+use Rattle.std.proofs.lemmas.List.{append-nil, take-append-drop}
+use Rattle.farm_http.specs.Faults.{WritesPrefix}
+use Rattle.farm_http.specs.declared.fault.WireFault.{WireFault}
+use Rattle.farm_desk.specs.Lines.{GainsPart}
+
+-- what stays gains nothing
+pub gains_nothing : (held holds : Option (List ℕ)) → Keeps held holds → Appends held holds []
+gains_nothing None holds kept = tt
+gains_nothing (Some xs) None kept = absurd kept
+gains_nothing (Some xs) (Some ys) kept = kept ∙ sym (append-nil xs)
+
+-- nothing is a part of any line
+pub part_none : (held holds : Option (List ℕ)) (line : List ℕ) → Keeps held holds → GainsPart held holds line
+part_none held holds line kept = record { part = []; rest = line; bytes_are = refl; gained = gains_nothing held holds kept }
+
+-- the first bytes of a line are a part of it
+pub part_taken : (held holds : Option (List ℕ)) (line : List ℕ) (n : ℕ) → Appends held holds (take n line) → GainsPart held holds line
+part_taken held holds line n gained = record { part = take n line; rest = drop n line; bytes_are = sym (take-append-drop n line); gained = gained }
+
+-- so is the whole line
+pub part_whole : (held holds : Option (List ℕ)) (line : List ℕ) → Appends held holds line → GainsPart held holds line
+part_whole held holds line gained = record { part = line; rest = []; bytes_are = sym (append-nil line); gained = gained }
+
+-- a call of a writer gains a part
+pub part_written : (held holds : Option (List ℕ)) (line : List ℕ) (result : Result ℕ Error) → WriteAppends held holds result line → GainsPart held holds line
+part_written held holds line (Ok n) gained = part_taken held holds line n gained
+part_written held holds line (Err error) kept = part_none held holds line kept
+
+pub part_of_prefix : (held holds : Option (List ℕ)) (line : List ℕ) → WritesPrefix held holds line → GainsPart held holds line
+part_of_prefix held holds line prefix = part_taken held holds line prefix.0 prefix.2
+
+-- a write that was tried gains a part
+pub part_tried : {X : Type 0} (held holds : Option (List ℕ)) (line : List ℕ) (result : Result X WireFault)
+    → OnOk result (Appends held holds line) → OnErr result (WritesPrefix held holds line) → GainsPart held holds line
+part_tried held holds line (Ok done) whole prefix = part_whole held holds line whole
+part_tried held holds line (Err fault) whole prefix = part_of_prefix held holds line prefix
+
+-- what isn't touched stays
+pub keeps_same : (held : Option (List ℕ)) → Keeps held held
+keeps_same None = tt
+keeps_same (Some xs) = refl

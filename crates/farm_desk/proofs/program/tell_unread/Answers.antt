@@ -1,0 +1,10 @@
+use Rattle.farm_desk.proofs.LineLemmas.{keeps_same}
+use Rattle.farm_desk.proofs.program.tell_unread.Goals as goal
+
+pub returns-in-Words : goal.returns-in-Words
+returns-in-Words g c =
+    rw c.in-Words.is (c.refuse_words.ensures.status, keeps_same _, rw c.as_bytes-in-Words.ensures.value at c.refuse_words.ensures.told)
+
+pub returns-in-NoMemory : goal.returns-in-NoMemory
+returns-in-NoMemory g c =
+    rw c.in-NoMemory.is (keeps_same _, record { status_is = c.tell.ensures.status; told = c.tell.ensures.told })

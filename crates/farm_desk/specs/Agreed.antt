@@ -1,0 +1,9 @@
+-- The exit statuses that the code names are the numbers of the definitions.
+use Rattle.std.specs.Prelude.{◌≡◌, [], ◌∷◌}
+use Rattle.farm_desk.specs.Faults.{done, failed, no_room, refused, wrong_words}
+use Rattle.farm_desk.specs.declared.program.TheConstants.{DONE, FAILED, NO_ROOM, REFUSED}
+use Rattle.farm_desk.specs.declared.program.TheConstants.{WRONG_WORDS}
+
+abbrev pub StatusesAgree : Type 0
+StatusesAgree = (DONE ∷ WRONG_WORDS ∷ REFUSED ∷ FAILED ∷ NO_ROOM ∷ [])
+    ≡ (done ∷ wrong_words ∷ refused ∷ failed ∷ no_room ∷ [])

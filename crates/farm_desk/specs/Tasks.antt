@@ -1,0 +1,82 @@
+-- What is done with a farm that is there, by the task. An output held this, and holds that.
+use Rattle.std.specs.Prelude.{◌≡◌, ◌≤◌, ◌⊎◌, ℕ, List, Option, Result, Ok, Err, IfErr}
+use Rattle.std.specs.Io.KnownBytes.{Appends, Keeps}
+use Rattle.sqlite_trees.specs.declared.store.Store.{Ghosts}
+use Rattle.farm_types.specs.Farm.{Farm}
+use Rattle.farm_keep.specs.Kept.{Kept}
+use Rattle.farm_order.specs.declared.order.Report.{Report}
+use Rattle.farm_report.specs.Moments.{most_minutes}
+use Rattle.farm_desk.specs.Conversations.{AnswersOne, Desk}
+use Rattle.farm_desk.specs.Imports.{IsImport}
+use Rattle.farm_desk.specs.Lines.{TellsImport, port_line}
+use Rattle.farm_desk.specs.Reports.{Reports, seconds_ahead}
+use Rattle.farm_desk.specs.Serving.{ServesUntil}
+use Rattle.farm_desk.specs.declared.fault.DeskFault.{DeskFault}
+use Rattle.farm_desk.specs.declared.import.ImportEnd.{ImportEnd}
+use Rattle.farm_desk.specs.declared.orders.End.{End}
+use Rattle.farm_desk.specs.declared.orders.Task.{Task}
+
+-- nothing is done, for this reason
+pub record DoesNothing {S : Type 0} (old new : Kept S) (held holds : Option (List ℕ))
+    (fault : DeskFault) (result : Result End DeskFault) : Type 0 where
+  pub fault_is : result ≡ Err fault
+  pub rests : new ≡ old
+  pub silent : Keeps held holds
+
+-- a text is imported at that moment, and what came of it is told
+pub record ImportsText {S : Type 0} (g : Ghosts S) (old new : Kept S)
+    (held holds : Option (List ℕ)) (now : ℕ) (result : Result End DeskFault) : Type 0 where
+  pub text : List ℕ
+  pub imported : ImportEnd
+  pub imports : IsImport g old new text now imported
+  pub tells : TellsImport imported held holds result
+
+-- it is, or nothing is done since no text can be read
+abbrev pub ImportsFile : {S : Type 0} → Ghosts S → Kept S → Kept S → Option (List ℕ)
+    → Option (List ℕ) → ℕ → Result End DeskFault → Type 0
+ImportsFile g old new held holds now result =
+    ImportsText g old new held holds now result
+    ⊎ (DoesNothing old new held holds DeskFault.NoMemory result
+    ⊎ DoesNothing old new held holds DeskFault.Read result)
+
+-- the report of a farm is printed, with moments so many minutes east and west of UTC
+pub record PrintsReport (F : Farm) (held holds : Option (List ℕ)) (east west : ℕ) (which : Report)
+    : Type 0 where
+  pub text : List ℕ
+  pub reports : east ≤ most_minutes → west ≤ most_minutes
+      → Reports which (seconds_ahead east west) F text
+  pub printed : Appends held holds text
+
+-- it is, or a fault ends the order
+abbrev pub PrintsIfOk : Farm → Option (List ℕ) → Option (List ℕ) → ℕ → ℕ → Report
+    → Result End DeskFault → Type 0
+PrintsIfOk F held holds east west which (Ok end) =
+    (end ≡ End.Done) × PrintsReport F held holds east west which
+PrintsIfOk F held holds east west which (Err fault) = Unit {0}
+
+-- the port is told, and then at most so many connections are served
+pub record ServesPort {S : Type 0} (g : Ghosts S) (old new : Kept S) (held holds : Option (List ℕ))
+    (port max : ℕ) (result : Result End DeskFault) : Type 0 where
+  pub told : Appends held holds (port_line port)
+  pub serves : ServesUntil g old new max result
+
+-- it is, or nothing is done since the port can't be had or told
+abbrev pub ServesIfHeard : {S : Type 0} → Ghosts S → Kept S → Kept S → Option (List ℕ)
+    → Option (List ℕ) → ℕ → ℕ → Result End DeskFault → Type 0
+ServesIfHeard g old new held holds port max result =
+    ServesPort g old new held holds port max result
+    ⊎ (DoesNothing old new held holds DeskFault.Read result
+    ⊎ ((new ≡ old) × (result ≡ Err DeskFault.Write)))
+
+-- what a task makes of a keeper, an input and an output, over a reader that never fails and a writer
+-- with such room
+abbrev pub DoesTask : {S : Type 0} → Ghosts S → Task → Desk S → Desk S → Type 0 → (ℕ → Type 0)
+    → Result End DeskFault → Type 0
+DoesTask g (Task.Answer at) old new Sure Room result = AnswersOne g old new at Sure Room result
+DoesTask g (Task.Import at lab) old new Sure Room result =
+    ImportsFile g old.keeper new.keeper old.output new.output at result
+DoesTask g (Task.Report east west which) old new Sure Room result =
+    (new.keeper ≡ old.keeper)
+    × PrintsIfOk old.keeper.farm.farm old.output new.output east west which result
+DoesTask g (Task.Serve port max) old new Sure Room result =
+    ServesIfHeard g old.keeper new.keeper old.output new.output port max result
