@@ -101,16 +101,47 @@ def answered(client):
 
 
 def two_clients(folder):
-    farm = Farm(folder, 2)
+    farm = Farm(folder, 3)
     before = int(time.time())
-    first, second = farm.client(), farm.client(LOOK)
-    first.sendall(FIRST_TYPE)
-    same("the first client", DONE, answered(first))
-    shown = answered(second)
+    silent, first = farm.client(), farm.client(FIRST_TYPE)
+    same("the client that says something", DONE, answered(first))
+    shown = answered(farm.client(LOOK))
     clocks = [answer("200 OK", STATUS % (clock, 1, 1)) for clock in range(before, int(time.time()) + 1)]
-    same("the second client", True, shown in clocks)
+    same("the next client", True, shown in clocks)
+    silent.sendall(FIRST_TYPE)
+    same("the client that was silent", EXISTS, answered(silent))
     farm.ends(0, b"")
-    return "two clients that wait at once are answered in turn, at the system's moment"
+    return "whoever's request is there is answered, at the system's moment; a silent client keeps nobody waiting"
+
+
+def requests_in_parts(folder):
+    """A request that comes in three parts is answered once it is whole, and no other is kept from its answer."""
+    farm = Farm(folder, 3)
+    parts = farm.client(FIRST_TYPE[:10])
+    same("the one that came whole", DONE, answered(farm.client(FIRST_TYPE)))
+    parts.sendall(FIRST_TYPE[10:60])
+    time.sleep(0.1)
+    same("another", EXISTS, answered(farm.client(FIRST_TYPE)))
+    parts.sendall(FIRST_TYPE[60:])
+    same("the one that came in parts", EXISTS, answered(parts))
+    farm.ends(0, b"")
+    return "a request that comes in parts is answered once it is whole"
+
+
+def largest_request(folder):
+    """A head and a body of the most bytes, whose last byte comes late: the system's buffer holds it all."""
+    farm = Farm(folder, 2)
+    head = b"POST /jobs HTTP/1.1\r\nx-user: admin\r\ncontent-length: 65536\r\nx-filler: %s\r\n\r\n"
+    filled = head % (b"x" * (8192 - len(head % b"")))
+    same("the head", 8192, len(filled))
+    request = filled + b"#" * 65536
+    late = farm.client(request[:-1])
+    same("another", DONE, answered(farm.client(FIRST_TYPE)))
+    late.sendall(request[-1:])
+    said = answered(late)
+    same("the largest request", True, said.startswith(b"HTTP/1.1 400 ") and b'{"code":70,' in said)
+    farm.ends(0, b"")
+    return "the largest request waits aside until its last byte came"
 
 
 def as_many_as_asked(folder):
@@ -160,7 +191,8 @@ def client_that_is_too_slow(folder):
     farm = Farm(folder, 2)
     begun = time.monotonic()
     slow = farm.client(FIRST_TYPE[:40])
-    good = farm.client(FIRST_TYPE)
+    same("the one behind it", DONE, answered(farm.client(FIRST_TYPE)))
+    same("at once", True, time.monotonic() - begun < 5)
     for byte in FIRST_TYPE[40:]:
         if select.select([slow], [], [], 3)[0]:
             break
@@ -171,20 +203,18 @@ def client_that_is_too_slow(folder):
         pass
     took = time.monotonic() - begun
     same(f"10 to 21 seconds, {took:.1f}", True, 10 <= took <= 21)
-    same("the one behind it", DONE, answered(good))
     farm.ends(0, b"")
     same("the accepted commands", 1, farm.count())
-    return f"a client that sends a byte now and then is given up after {took:.0f} seconds, the next is served"
+    return f"a client that sends a byte now and then is let go after {took:.0f} seconds, the next is served at once"
 
 
 def store_that_fails(folder):
     farm = Farm(folder, 9, limit=0)
-    first, second = farm.client(), farm.client(FIRST_TYPE)
-    first.sendall(FIRST_TYPE)
+    silent, first = farm.client(), farm.client(FIRST_TYPE)
     same("the client whose command fails", STORE_FAULT, answered(first))
     farm.ends(4, b"farm: 60 store fault\n")
     try:
-        same("the client behind it", b"", answered(second))
+        same("the client that waits", b"", answered(silent))
     except ConnectionResetError:
         pass
     same("the accepted commands", True, farm.count() in (0, 1))
@@ -193,6 +223,8 @@ def store_that_fails(folder):
 
 ROWS = [
     two_clients,
+    requests_in_parts,
+    largest_request,
     as_many_as_asked,
     clients_that_fail,
     more_than_was_asked_for,

@@ -13,9 +13,8 @@ use Rattle.sqlite_trees.specs.View.{IsClean, doubt}
 use Rattle.sqlite_trees.specs.Objects.{catalog_tree}
 use Rattle.sqlite_trees.specs.declared.store.Store as store
 use Rattle.sqlite_wal.specs.Recovery.{Image}
-use Rattle.farm_store.specs.Columns.{IsOfSchema, Tables, rows_of}
+use Rattle.farm_store.specs.Columns.{IsOfSchema, Tables, first_schema, rows_of}
 use Rattle.farm_store.specs.Holds.{Holds}
-use Rattle.farm_store.specs.declared.schema.TheConstants.{FIRST_SCHEMA}
 use Rattle.farm_store.specs.Schema.{farm_schema, no_schema}
 use Rattle.farm_types.specs.Farm.{Farm, empty_farm}
 use Rattle.farm_types.specs.Sound.{IsSound}
@@ -101,7 +100,7 @@ IsOpenFault fault = ⊥
 abbrev pub DeniesFarm : Image → DeskFault → Type 0
 DeniesFarm image (DeskFault.Keep KeepFault.BadStore) = (F : Farm) → IsSound F → ¬ HoldsFarm image F
 DeniesFarm image (DeskFault.Keep KeepFault.OldSchema) = (T : Tables) → HoldsTables image T
-    → IsOfSchema FIRST_SCHEMA T
+    → IsOfSchema first_schema T
 DeniesFarm image other = ⊤
 
 -- so it is on a disk that always returns what was written
@@ -153,7 +152,7 @@ abbrev pub DeniesTables : {S : Type 0} → store.Ghosts S → Held S → DeskFau
 DeniesTables g conn (DeskFault.Keep KeepFault.BadStore) = (F : Farm) → IsSound F
     → ¬ OpensTables g conn (rows_of F)
 DeniesTables g conn (DeskFault.Keep KeepFault.OldSchema) = (T : Tables) → OpensTables g conn T
-    → IsOfSchema FIRST_SCHEMA T
+    → IsOfSchema first_schema T
 DeniesTables g conn other = ⊤
 
 -- ---- after a stop

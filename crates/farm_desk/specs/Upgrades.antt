@@ -9,9 +9,8 @@ use Rattle.sqlite_store.specs.FileStore as files
 use Rattle.sqlite_trees.specs.View.{IsClean, doubt}
 use Rattle.sqlite_trees.specs.declared.store.Store as store
 use Rattle.sqlite_wal.specs.Recovery.{Image}
-use Rattle.farm_store.specs.Columns.{IsOfSchema, Tables, first_rows_of, rows_of}
+use Rattle.farm_store.specs.Columns.{IsOfSchema, Tables, first_rows_of, rows_of, second_schema}
 use Rattle.farm_store.specs.Holds.{LeavesEither, Stands}
-use Rattle.farm_store.specs.declared.schema.TheConstants.{SCHEMA}
 use Rattle.farm_types.specs.Farm.{Farm}
 use Rattle.farm_keep.specs.First.{IsSoundFirst}
 use Rattle.farm_keep.specs.Headline.{IsAlwaysClean}
@@ -57,7 +56,7 @@ abbrev pub DeniesUpgrade : Image → DeskFault → Type 0
 DeniesUpgrade image (DeskFault.Keep KeepFault.BadStore) = (F : Farm) → IsSoundFirst F
     → ¬ HoldsFirst image F
 DeniesUpgrade image (DeskFault.Keep KeepFault.NewSchema) = (T : Tables) → HoldsTables image T
-    → IsOfSchema SCHEMA T
+    → IsOfSchema second_schema T
 DeniesUpgrade image other = ⊤
 
 -- so it is on a disk that always returns what was written
@@ -81,7 +80,7 @@ abbrev pub DeniesRaise : {S : Type 0} → store.Ghosts S → Held S → DeskFaul
 DeniesRaise g conn (DeskFault.Keep KeepFault.BadStore) = (F : Farm) → IsSoundFirst F
     → ¬ OpensTables g conn (first_rows_of F)
 DeniesRaise g conn (DeskFault.Keep KeepFault.NewSchema) = (T : Tables) → OpensTables g conn T
-    → IsOfSchema SCHEMA T
+    → IsOfSchema second_schema T
 DeniesRaise g conn other = ⊤
 
 -- ---- after a stop

@@ -7,15 +7,18 @@ use std::time::{Clock, Duration};
 /// How long a client may take over its request, and how long over its answer, in seconds.
 pub const LIMIT_SECONDS: u64 = 10;
 
+/// How long a read or a write waits for a client that gives or takes nothing, in seconds.
+pub const STALL_SECONDS: u64 = 1;
+
 /// The most reads that `drop_rest` makes, of `ROOM` bytes each.
 const MOST_READS: u32 = 32;
 
 const ROOM: usize = 4096;
 
-/// One direction of a client's stream. A read or a write that waits for `LIMIT_SECONDS` fails, and
-/// so does one that begins later than that after the first. So whoever sends or takes a byte now
-/// and then keeps the others waiting for no longer than twice that at the request, and as long at
-/// the answer.
+/// One direction of a client's stream. A read or a write that waits for `STALL_SECONDS` fails, and
+/// so does one that begins later than `LIMIT_SECONDS` after the first. So whoever takes nothing of
+/// an answer keeps the others waiting for a second, and whoever takes a part of it now and then for
+/// eleven.
 #[derive(Drop)]
 pub(crate) struct DeadlineStream<'a, C: Clock> {
     pub(crate) stream: TcpStream,
@@ -67,14 +70,16 @@ impl<C: Clock> Write for DeadlineStream<'_, C> {
     }
 }
 
-fn limit() -> Duration {
+/// `LIMIT_SECONDS`.
+pub(crate) fn limit() -> Duration {
     Duration::from_secs(LIMIT_SECONDS)
 }
 
-/// Lets no read and no write of a stream wait for longer than the limit.
+/// Lets no read and no write of a stream wait for longer than a client may stall.
 pub(crate) fn limit_waits(stream: &TcpStream) -> io::Result<()> {
-    stream.set_read_timeout(Some(limit()))?;
-    stream.set_write_timeout(Some(limit()))
+    let stall = Duration::from_secs(STALL_SECONDS);
+    stream.set_read_timeout(Some(stall))?;
+    stream.set_write_timeout(Some(stall))
 }
 
 /// Ends an answer, and drops what has come and was not asked for. A close over unread bytes would

@@ -23,6 +23,7 @@ pub mod import;
 pub mod known;
 pub mod laws;
 pub mod orders;
+mod pending;
 pub mod program;
 mod report;
 mod response;

@@ -26,11 +26,12 @@ use farm_wire::statuses::OK;
 use farm_wire::write_whole;
 use sqlite::{Alter, Connection, MemStore, Unknown};
 use std::alloc::Global;
-use std::fs;
 use std::io::{IsTerminal, Write};
-use std::net::{Ipv4Addr, TcpListener};
+use std::net::{Ipv4Addr, SocketAddr, TcpListener};
+use std::os::fd::AsFd;
+use std::{fs, io};
 
-/// A file of so many bytes may take longer than two seconds to migrate.
+/// A file of so many bytes may take longer than two seconds to migrate or to open.
 const LARGE_FILE: u64 = 16_000_000;
 
 /// How an order ended that met no fault.
@@ -77,7 +78,10 @@ pub fn carry_out<R: Input, W: Output>(
             west,
             which,
         } => (file, Task::Report { east, west, which }),
-        Order::Serve { file, port, max } => (file, Task::Serve { port, max }),
+        Order::Serve { file, port, max } => {
+            tell_size(rt, file.as_str(), "opening");
+            (file, Task::Serve { port, max })
+        }
     };
     let keeper = open_farm(rt, alloc, file.as_str(), Unknown)?;
     on_farm(rt, alloc, keeper, task, input, output)
@@ -177,8 +181,9 @@ fn init<W: Output>(
     }
 }
 
-/// Tells whoever sits at the terminal that a file is a large one, which takes a few seconds.
-fn tell_size(rt: &HostRuntime, file: &str) {
+/// Tells whoever sits at the terminal what is done with a file that is a large one, since it takes a
+/// few seconds.
+fn tell_size(rt: &HostRuntime, file: &str, what: &str) {
     let Ok(found) = fs::metadata(rt, file) else {
         return;
     };
@@ -187,7 +192,7 @@ fn tell_size(rt: &HostRuntime, file: &str) {
         let megabytes = found.len() / 1_000_000;
         let _ = writeln!(
             errors,
-            "farm: migrating {megabytes} MB, which takes a few seconds"
+            "farm: {what} {megabytes} MB, which takes a few seconds"
         );
     }
 }
@@ -200,7 +205,7 @@ fn migrate<W: Output>(
     file: &str,
     output: &mut W,
 ) -> Result<End, DeskFault> {
-    tell_size(rt, file);
+    tell_size(rt, file, "migrating");
     let _ = migrate_farm(rt, alloc, file, Unknown)?.close();
     match write_whole(output, b"migrated\n") {
         Ok(()) => Ok(End::Done),
@@ -271,12 +276,20 @@ fn serve<W: Output, S: Alter>(
     ensures { ServesIfHeard S.Store keeper.old keeper.new (W.contents output.old)
         (W.contents output.new) port max result }
 {
-    let Ok(listener) = TcpListener::bind(rt, (Ipv4Addr::LOCALHOST, port)) else {
+    let Ok(listener) = listen(rt, port) else {
         return Err(DeskFault::Read);
     };
     print_port(output, port)?;
     serve_on(alloc, keeper, &listener, max, rt)?;
     Ok(End::Done)
+}
+
+/// A listener on a port of 127.0.0.1, behind which as many connections wait as the system allows:
+/// behind std's own 128 wait, and what further ones send is dropped.
+fn listen(rt: &HostRuntime, port: u16) -> io::Result<TcpListener> {
+    let address = SocketAddr::from((Ipv4Addr::LOCALHOST, port));
+    let listener = mio::net::TcpListener::bind(rt, address)?;
+    Ok(TcpListener::from(listener.as_fd().try_clone_to_owned()?))
 }
 
 /// Prints the port on which clients are heard from now on.

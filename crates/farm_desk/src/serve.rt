@@ -16,30 +16,32 @@ use farm_keep::{KeepFault, Keeper};
 use farm_wire::{CountedReader, CountedWriter};
 use sqlite::Alter;
 use std::alloc::Global;
-use std::net::TcpListener;
+use std::net::{Net, TcpListener};
 use std::time::Clock;
 
 /// Takes that many connections in turn; of each it reads one request, answers it as `converse`
-/// does, and closes it. The moment of a request is what the clock says once its connection is
-/// taken, in whole seconds since 1970-01-01 00:00:00 UTC.
+/// does, and closes it. The moment of a request is what the clock says once it is there, in whole
+/// seconds since 1970-01-01 00:00:00 UTC.
 ///
 /// A failed accept counts as a connection. A fault that leaves the keeper open ends its connection
 /// alone: a client that goes away or is too slow, want of memory outside the keeper, the clock's. A
 /// keeper that is closed ends the serving with its fault, 1 or 60, once its client was answered;
 /// one that was closed before ends it with 61 at once, and nobody is answered.
 ///
-/// Connections are served one at a time. While a client stalls, the others wait: for
-/// `LIMIT_SECONDS` where it gives or takes nothing, and for four times that where it gives and
-/// takes a little now and then. The system keeps up to 128 of them waiting.
+/// Connections are served one at a time, those first whose requests are there, in the order in which
+/// they came. Up to 1,024 wait aside until all bytes of their requests came, for `LIMIT_SECONDS` at
+/// most, and keep nobody waiting. A client that takes nothing of its answer keeps the others waiting
+/// for `STALL_SECONDS`, one that takes a part of it now and then for as much more as the limit. The
+/// network that the clock lends is asked which connections are ready, and for nothing else.
 ///
 /// The clauses say what becomes of the farm and of its store. That anybody was served they don't
 /// say: nothing can be said of what a socket gives and takes. It is `serve` over the listener's
 /// clients, and `serve` says it of clients that are known.
 ///
-/// Costs building a router of seventeen paths, once, and for each connection an accept, one read
-/// where the request came whole, one write where the answer is taken whole, a few short calls of
-/// the system, and what its command or view costs.
-pub fn serve_on<S: Alter, C: Clock>(
+/// Costs building a router of seventeen paths, once, and for each connection an accept, a peek for
+/// each time that bytes of its request came, one read, one write where the answer is taken whole, a
+/// dozen short calls of the system, and what its command or view costs.
+pub fn serve_on<S: Alter, C: Clock + Net>(
     alloc: Global,
     keeper: &mut Keeper<S>,
     listener: &TcpListener,
@@ -57,12 +59,10 @@ pub fn serve_on<S: Alter, C: Clock>(
     ensures clean { doubt (state S.Store keeper.old.conn).is_clean ≤ doubt
         (state S.Store keeper.new.conn).is_clean }
 {
-    let mut clients = Accepted {
-        alloc,
-        listener,
-        clock,
-    };
-    serve(alloc, keeper, &mut clients, max)
+    let mut clients = Accepted::new(alloc, listener, max, clock);
+    let ended = serve(alloc, keeper, &mut clients, max);
+    let _ = listener.set_nonblocking(false);
+    ended
 }
 
 /// Serves that many clients in turn: of each it reads one request at the moment that comes with it,

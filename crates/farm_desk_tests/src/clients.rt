@@ -12,7 +12,7 @@ use std::alloc::Global;
 use std::cell::Cell;
 use std::io;
 use std::io::{Error, ErrorKind, Read, Write};
-use std::net::{TcpListener, TcpStream};
+use std::net::{Net, SocketAddr, TcpListener, TcpStream};
 use std::process::Abort;
 use std::test::Fail;
 use std::time::{Clock, Duration};
@@ -55,6 +55,21 @@ impl Clock for Hands {
             Some(moment) => Ok(Duration::from_secs(moment)),
             None => Err(Error::from(ErrorKind::Other)),
         }
+    }
+}
+
+/// It reaches no network: what waits for connections asks the system itself.
+impl Net for Hands {
+    type Stream = TcpStream;
+
+    type Listener = TcpListener;
+
+    fn bind(&self, _addr: SocketAddr) -> io::Result<TcpListener> {
+        Err(Error::from(ErrorKind::Unsupported))
+    }
+
+    fn connect(&self, _addr: SocketAddr) -> io::Result<TcpStream> {
+        Err(Error::from(ErrorKind::Unsupported))
     }
 }
 
@@ -209,12 +224,13 @@ fn running() -> Hands {
 }
 
 /// A clock that can't be read, one whose time is over at the second look, and one that fails at the
-/// second: so the request isn't read, isn't read whole, or its answer isn't written.
+/// third, after a look at who waits and one at the request: so the request isn't read, isn't read
+/// whole, or its answer isn't written.
 fn clocks() -> [(Hands, &'static [u8], u64); 3] {
     let mut blank = Hands::standing(10);
     blank.moment = None;
     let mut ending = Hands::standing(10);
-    ending.looks = Cell::new(1);
+    ending.looks = Cell::new(2);
     [
         (blank, FIRST_TYPE, 0),
         (running(), &FIRST_TYPE[..40], 0),
@@ -264,7 +280,7 @@ fn serve_failing<S: Alter + Drop>(
 ) -> Option<Result<(), DeskFault>> {
     let mut keeper = made(alloc, conn)?;
     let mut clock = Hands::standing(10);
-    clock.looks = Cell::new(1);
+    clock.looks = Cell::new(2);
     let end = serve(alloc, &mut keeper, listener, 9, &clock);
     let again = serve(alloc, &mut keeper, listener, 9, &clock);
     assert_eq!(rt; again, Err(DeskFault::Keep(KeepFault::Closed)));
