@@ -1,7 +1,7 @@
 -- What a run leaves is found again, life by life.
 use Rattle.std.proofs.Common.{◌≡◌, inl, inr, ℕ, ◌+◌, List, [], ◌∷◌, Ok, Err, Result, take, refl, sym, subst, arith}
 use mathlib.Core.Bool.{true≢false}
-use Rattle.std.specs.Prelude.{IfOk}
+use Rattle.std.specs.Prelude.{IfOk, IfErr}
 use Rattle.std.specs.List.{AllZip}
 use Rattle.std.proofs.lemmas.List.Sums.{fold-append}
 use Rattle.sqlite.specs.Held.{Held, state}
@@ -17,6 +17,7 @@ use Rattle.farm_core.specs.Shown.{Shown}
 use Rattle.farm_store.specs.Columns.{IsOfSchema, Tables, rows_of}
 use Rattle.farm_store.specs.declared.schema.TheConstants.{FIRST_SCHEMA}
 use Rattle.farm_store.specs.Holds.{Holds, Stands}
+use Rattle.farm_keep.specs.Faults.{IsFindFault}
 use Rattle.farm_keep.specs.Headline.{Denies, LeavesRun}
 use Rattle.farm_keep.specs.Kept.{Kept, Keeps}
 use Rattle.farm_keep.specs.Lives.{AreLived, GivesFarm, IsDone, IsLived, IsRestart, Life}
@@ -44,16 +45,14 @@ not_first F first = true≢false (sym first)
 pub gives_farm : (result : Result Shown KeepFault) (old : State) (F : Farm) → IsSound F → Stands old (rows_of F)
     → IfOk result (λ f. (G : Farm) → IsSound G → Stands old (rows_of G) → f.farm ≡ G)
     → (result ≡ Err KeepFault.BadStore → (G : Farm) → IsSound G → ¬ Stands old (rows_of G))
-    → (result ≡ Err KeepFault.OldSchema → (T : Tables) → Stands old T → IsOfSchema FIRST_SCHEMA T) → GivesFarm result F
-gives_farm result old F sound at exact bad ours = record {
-  exact = by result exact;
-  good = λ is. bad is F sound at;
-  ours = λ is. not_first F (ours is (rows_of F) at);
-}
-  where
-    by : (r : Result Shown KeepFault) → IfOk r (λ f. (G : Farm) → IsSound G → Stands old (rows_of G) → f.farm ≡ G) → IfOk r (λ f. f.farm ≡ F)
-    by (Ok f) h = h F sound at
-    by (Err e) h = tt
+    → (result ≡ Err KeepFault.OldSchema → (T : Tables) → Stands old T → IsOfSchema FIRST_SCHEMA T) → IfErr result IsFindFault → GivesFarm result F
+gives_farm (Ok f) old F sound at exact bad ours may = record { exact = exact F sound at; fault = tt }
+gives_farm (Err KeepFault.NoMemory) old F sound at exact bad ours may = record { exact = tt; fault = tt }
+gives_farm (Err KeepFault.Store) old F sound at exact bad ours may = record { exact = tt; fault = tt }
+gives_farm (Err KeepFault.BadStore) old F sound at exact bad ours may = absurd (bad refl F sound at)
+gives_farm (Err KeepFault.OldSchema) old F sound at exact bad ours may = absurd (not_first F (ours refl (rows_of F) at))
+gives_farm (Err KeepFault.NewSchema) old F sound at exact bad ours may = absurd may
+gives_farm (Err KeepFault.Closed) old F sound at exact bad ours may = absurd may
 
 pub record LeftRun (db : Trees) (F : Farm) (end : RunEnd) (calls : List Call) : Type 0 where
   pub done : ℕ

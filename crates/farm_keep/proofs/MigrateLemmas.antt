@@ -1,6 +1,6 @@
 -- What a sound farm of the first edition has, and how the faults of its store are told.
 use Rattle.std.proofs.Common.{◌≡◌, ◌≢◌, ◌⊎◌, inl, inr, refl, Ok, Err, IsErrAnd, Result, sym, ap, subst, ◌∙◌, arith}
-use Rattle.std.specs.Prelude.{OnErr}
+use Rattle.std.specs.Prelude.{IfErr, OnErr}
 use Rattle.sqlite.specs.State.{State}
 use Rattle.sqlite.specs.Tree.{Trees}
 use Rattle.std.specs.List.{AllByRecursion}
@@ -17,7 +17,7 @@ use Rattle.farm_store.specs.declared.fault.StoreFault.{StoreFault}
 use Rattle.farm_store.specs.declared.schema.TheConstants.{SCHEMA}
 use Rattle.farm_store.proofs.EditionLemmas.{editions_apart, first_rows_are_old, rows_are_new}
 use Rattle.farm_store.proofs.SoundReadable.{sound_is_readable}
-use Rattle.farm_keep.specs.Faults.{store_fault}
+use Rattle.farm_keep.specs.Faults.{IsMigrateFault, IsOwnFault, store_fault}
 use Rattle.farm_keep.specs.First.{HoldsEither, IsSoundFirst}
 use Rattle.farm_keep.specs.declared.fault.KeepFault.{KeepFault}
 
@@ -56,13 +56,6 @@ back_is StoreFault.NewSchema = refl
 
 pub same_store_fault : (e f : StoreFault) → store_fault e ≡ store_fault f → e ≡ f
 same_store_fault e f is = sym (back_is e) ∙ ap back is ∙ back_is f
-
-pub never_closed : (e : StoreFault) → store_fault e ≢ KeepFault.Closed
-never_closed StoreFault.NoMemory is = cc
-never_closed StoreFault.Store is = cc
-never_closed StoreFault.BadStore is = cc
-never_closed StoreFault.OldSchema is = cc
-never_closed StoreFault.NewSchema is = cc
 
 same_err : {A E : Type 0} (r : Result A E) (e f : E) → r ≡ Err e → r ≡ Err f → e ≡ f
 same_err r e f p q = cc
@@ -112,8 +105,33 @@ module _ {A B : Type 0} (r : Result A StoreFault) (s : Result B KeepFault) (faul
       by (inl memory) same = another.0 (sym same ∙ memory)
       by (inr store) same = another.1 (sym same ∙ store)
 
-  pub told_never_closed : s ≢ Err KeepFault.Closed
-  told_never_closed is = never_closed fault (same_err s (store_fault fault) KeepFault.Closed is_told is)
+  pub told_so : (P : KeepFault → Type 0) → P (store_fault fault) → IfErr s P
+  told_so P p = subst (λ r. IfErr r P) (sym is_told) p
+
+-- ---- what may come of a migration
+
+pub migrate_fault : (e : StoreFault) → e ≢ StoreFault.OldSchema → IsMigrateFault (store_fault e)
+migrate_fault StoreFault.NoMemory never = tt
+migrate_fault StoreFault.Store never = tt
+migrate_fault StoreFault.BadStore never = tt
+migrate_fault StoreFault.NewSchema never = tt
+migrate_fault StoreFault.OldSchema never = absurd (never refl)
+
+pub raise_fault : (e : StoreFault) → (e ≡ StoreFault.NoMemory) ⊎ (e ≡ StoreFault.Store) → IsMigrateFault (store_fault e)
+raise_fault e which = migrate_fault e (by which)
+  where
+    by : (e ≡ StoreFault.NoMemory) ⊎ (e ≡ StoreFault.Store) → e ≡ StoreFault.OldSchema → ⊥
+    by (inl memory) is = cc
+    by (inr store) is = cc
+
+-- where a farm stands in either edition
+pub own_fault : (f : KeepFault) → IsMigrateFault f → f ≢ KeepFault.BadStore → f ≢ KeepFault.NewSchema → IsOwnFault f
+own_fault KeepFault.NoMemory may good ours = tt
+own_fault KeepFault.Store may good ours = tt
+own_fault KeepFault.BadStore may good ours = absurd (good refl)
+own_fault KeepFault.NewSchema may good ours = absurd (ours refl)
+own_fault KeepFault.OldSchema may good ours = absurd may
+own_fault KeepFault.Closed may good ours = absurd may
 
 pub on_err : {A E : Type 0} (r : Result A E) (P : Type 0) → P → OnErr r P
 on_err (Ok a) P p = tt

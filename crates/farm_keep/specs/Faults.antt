@@ -1,5 +1,6 @@
--- The numbers of a keeper's faults, and its words for the store's and for those of rows.
-use Rattle.std.specs.Prelude.{ℕ}
+-- The numbers of a keeper's faults, its words for the store's and for those of rows, and which of
+-- them may come.
+use Rattle.std.specs.Prelude.{ℕ, ⊤}
 use Rattle.farm_types.specs.Refusals.{bad_store, closed, new_schema, no_memory, old_schema}
 use Rattle.farm_types.specs.Refusals.{store_fault as failed_store}
 use Rattle.farm_core.specs.declared.farm.BadRows.{BadRows}
@@ -25,3 +26,34 @@ store_fault StoreFault.NewSchema = KeepFault.NewSchema
 abbrev pub rows_fault : BadRows → KeepFault
 rows_fault BadRows.Unsound = KeepFault.BadStore
 rows_fault BadRows.NoMemory = KeepFault.NoMemory
+
+-- ---- what may come, and nothing else
+
+-- where a farm stands that the call wants: memory was refused, or the store failed
+abbrev pub IsOwnFault : KeepFault → Type 0
+IsOwnFault KeepFault.NoMemory = ⊤
+IsOwnFault KeepFault.Store = ⊤
+IsOwnFault fault = ⊥
+
+-- of a command
+abbrev pub IsActFault : KeepFault → Type 0
+IsActFault KeepFault.NoMemory = ⊤
+IsActFault KeepFault.Store = ⊤
+IsActFault KeepFault.Closed = ⊤
+IsActFault fault = ⊥
+
+-- where a farm is looked for
+abbrev pub IsFindFault : KeepFault → Type 0
+IsFindFault KeepFault.NoMemory = ⊤
+IsFindFault KeepFault.Store = ⊤
+IsFindFault KeepFault.BadStore = ⊤
+IsFindFault KeepFault.OldSchema = ⊤
+IsFindFault fault = ⊥
+
+-- of a migration
+abbrev pub IsMigrateFault : KeepFault → Type 0
+IsMigrateFault KeepFault.NoMemory = ⊤
+IsMigrateFault KeepFault.Store = ⊤
+IsMigrateFault KeepFault.BadStore = ⊤
+IsMigrateFault KeepFault.NewSchema = ⊤
+IsMigrateFault fault = ⊥

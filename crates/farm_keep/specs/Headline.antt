@@ -1,6 +1,6 @@
 -- What a run leaves, and what is found again.
-use Rattle.std.specs.Prelude.{◌≡◌, ◌≢◌, ◌≤◌, ◌<◌, ◌⊎◌, ◌+◌, ℕ, true, false, List, take, map, length}
-use Rattle.std.specs.Prelude.{Some, IfNone, ⊤}
+use Rattle.std.specs.Prelude.{◌≡◌, ◌≤◌, ◌<◌, ◌⊎◌, ◌+◌, ℕ, true, false, List, [], take, map, length}
+use Rattle.std.specs.Prelude.{Option, Some, None, IfSome, IfNone, ⊤}
 use Rattle.sqlite.specs.State.{State, HasCleanDisk}
 use Rattle.sqlite.specs.Held.{Held, state}
 use Rattle.sqlite.specs.Tree.{Trees}
@@ -15,6 +15,7 @@ use Rattle.farm_store.specs.Columns.{IsOfSchema, Tables, rows_of}
 use Rattle.farm_store.specs.Holds.{Holds, Stands, LeavesNoMore}
 use Rattle.farm_store.specs.Schema.{farm_schema}
 use Rattle.farm_store.specs.declared.schema.TheConstants.{FIRST_SCHEMA}
+use Rattle.farm_keep.specs.Faults.{IsActFault}
 use Rattle.farm_keep.specs.Kept.{Kept, Keeps, KeepsFarm, KeepsEither}
 use Rattle.farm_keep.specs.Runs.{answers_of, IsNextChange}
 use Rattle.farm_keep.specs.declared.keeper.run.RunEnd.{RunEnd}
@@ -54,6 +55,14 @@ Denies s KeepFault.BadStore = (F : Farm) → IsSound F → ¬ Stands s (rows_of 
 Denies s KeepFault.OldSchema = (T : Tables) → Stands s T → IsOfSchema FIRST_SCHEMA T
 Denies s other = ⊤
 
+-- how the run of a closed keeper ends: for want of memory, at its first call, or without a fault
+-- where there is none
+abbrev pub EndsClosed : Option KeepFault → List Call → Type 0
+EndsClosed (Some KeepFault.NoMemory) calls = ⊤
+EndsClosed (Some KeepFault.Closed) calls = 0 < length calls
+EndsClosed None calls = calls ≡ []
+EndsClosed other calls = ⊥
+
 -- what a run over calls makes of a keeper
 pub record Runs {S : Type 0} (g : Ghosts S) (old new : Kept S) (end : RunEnd) (calls : List Call)
     : Type 0 where
@@ -79,9 +88,8 @@ pub record Runs {S : Type 0} (g : Ghosts S) (old new : Kept S) (end : RunEnd) (c
   -- a keeper that was closed does nothing
   pub closed : end.fault ≡ Some fault.Closed → (old.is_open ≡ false) × (new ≡ old)
   pub before : old.is_open ≡ false → (end.done ≡ 0) × (new.conn ≡ old.conn) × (new.is_open ≡ false)
-      × (end.fault ≢ Some fault.Store)
-  pub others : (end.fault ≢ Some fault.BadStore) × (end.fault ≢ Some fault.OldSchema)
-      × (end.fault ≢ Some fault.NewSchema)
+      × EndsClosed end.fault calls
+  pub faults : IfSome end.fault IsActFault
   -- however the run ended, a stop leaves no other tables, and each farm on the way is sound
   pub left : Keeps g old → LeavesRun g new end old.farm.farm calls
   pub sound : old.is_open ≡ true → (n : ℕ) → IsSound (run old.farm.farm (take n calls))

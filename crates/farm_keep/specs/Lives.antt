@@ -1,5 +1,5 @@
 -- Lives of a store: each opens it on what the last stop left, resumes the farm, and is stopped.
-use Rattle.std.specs.Prelude.{◌≡◌, ◌≢◌, ◌⊎◌, ◌+◌, ℕ, List, [], ◌∷◌, Some, Err, Result, IfOk, take}
+use Rattle.std.specs.Prelude.{◌≡◌, ◌⊎◌, ◌+◌, ℕ, List, [], ◌∷◌, Some, Result, IfOk, IfErr, take}
 use Rattle.std.specs.List.{AllZip}
 use Rattle.sqlite.specs.Held.{Held, state}
 use Rattle.sqlite.specs.State.{State, HasCleanDisk, IsLive, Opens}
@@ -9,6 +9,7 @@ use Rattle.farm_core.specs.Shown.{Shown}
 use Rattle.farm_types.specs.Farm.{Farm}
 use Rattle.farm_types.specs.Machine.{run}
 use Rattle.farm_types.specs.declared.calls.Call.{Call}
+use Rattle.farm_keep.specs.Faults.{IsOwnFault}
 use Rattle.farm_keep.specs.Kept.{Kept}
 use Rattle.farm_keep.specs.Headline.{Resumes}
 use Rattle.farm_keep.specs.Restarts.{Restart, calls_of}
@@ -29,8 +30,7 @@ IsDone end n = (n ≡ end.done) ⊎ ((end.fault ≡ Some KeepFault.Store) × (n 
 -- the store gives this very farm, memory and its own faults aside
 pub record GivesFarm (result : Result Shown KeepFault) (F : Farm) : Type 0 where
   pub exact : IfOk result (λ shown. shown.farm ≡ F)
-  pub good : result ≢ Err KeepFault.BadStore
-  pub ours : result ≢ Err KeepFault.OldSchema
+  pub fault : IfErr result IsOwnFault
 
 -- the farm after so many of the calls as a stop after this run leaves done
 pub record GivesRun (result : Result Shown KeepFault) (F : Farm) (end : RunEnd) (calls : List Call)

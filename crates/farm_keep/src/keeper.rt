@@ -1,5 +1,5 @@
 //! A farm and the store that keeps it.
-ghost use Rattle.std.specs.Prelude.{◌≡◌, ◌≢◌, ◌≤◌, ◌↔◌, ◌⊎◌, true, false, Err, OnOk, IfOk, IfErr};
+ghost use Rattle.std.specs.Prelude.{◌≡◌, ◌≤◌, ◌↔◌, true, false, Err, OnOk, IfOk, IfErr};
 ghost use Rattle.std.specs.Prelude.{MatchOption};
 ghost use Rattle.sqlite.specs.Held.{state};
 ghost use Rattle.sqlite.specs.State.{HasCleanDisk};
@@ -11,15 +11,16 @@ ghost use Rattle.farm_core.specs.Answers.{answer_of, IsChange, Leads};
 ghost use Rattle.farm_store.specs.Columns.{Tables, rows_of};
 ghost use Rattle.farm_store.specs.Holds.{LeavesEither, Stands, StandsFor};
 ghost use Rattle.farm_store.specs.Schema.{no_schema};
+ghost use Rattle.farm_keep.specs.Faults.{IsActFault, IsFindFault, IsOwnFault};
 ghost use Rattle.farm_keep.specs.Kept.{Keeps, KeepsEither, IfNoChange};
 ghost use Rattle.farm_keep.specs.Headline.{Adopts, Denies, IsAlwaysClean};
 
+mod opening;
 mod run;
 
 use crate::fault::KeepFault;
-use crate::reading::found;
 use farm_core::farm::Farm;
-use farm_store::{create, put};
+use farm_store::put;
 use farm_types::calls::{Answer, Call};
 pub use run::RunEnd;
 use sqlite::{Alter, Connection};
@@ -50,9 +51,9 @@ impl<S: Alter> Model for Keeper<S> {
 
 impl<S: Alter + Drop> Keeper<S> {
     /// A keeper of the empty farm, in a store without tables; a store that stands for tables is
-    /// refused as a fault of the store. What a fault leaves is said of `farm_store::create`, which
-    /// is lent the connection: such a store stands for its tables as before.
-    pub fn fresh(alloc: Global, mut conn: Connection<S>) -> Result<Keeper<S>, KeepFault>
+    /// refused as a fault of the store. At a fault the connection is given up, and stands for its
+    /// tables as before: `farm_store::create`, which is lent it, says what it leaves.
+    pub fn fresh(alloc: Global, conn: Connection<S>) -> Result<Keeper<S>, KeepFault>
         requires { conn.in_transaction ≡ false }
         ensures opened { IfOk result (λ k. (k.is_open ≡ true) × (k.farm.farm ≡ empty_farm)) }
         ensures keeps { IfOk result (λ k. (state S.Store conn).now.schema ≡ no_schema
@@ -64,33 +65,27 @@ impl<S: Alter + Drop> Keeper<S> {
             (state S.Store k.conn).is_clean) }
         ensures fault { IfErr result (λ fault. fault ≡ KeepFault.Store) }
     {
-        create(&mut conn)?;
-        Ok(Keeper {
-            conn,
-            farm: Farm::empty(alloc),
-            alloc,
-            is_open: true,
-        })
+        match opening::make(alloc, conn) {
+            Ok(keeper) => Ok(keeper),
+            Err(unkept) => Err(unkept.let_go()),
+        }
     }
 
     /// A keeper of the farm whose tables the store holds. At a fault the connection is given up.
     /// Over a store that always returns what was written, as one in memory does, bad store is the
     /// answer only where no sound farm stands there, and old schema only where tables of the first
-    /// edition do; over
-    /// any store `found`, which is lent the connection, says so, and what the fault leaves.
-    pub fn adopt(alloc: Global, mut conn: Connection<S>) -> Result<Keeper<S>, KeepFault>
+    /// edition do; over any store `found`, which is lent the connection, says so, and what the fault
+    /// leaves.
+    pub fn adopt(alloc: Global, conn: Connection<S>) -> Result<Keeper<S>, KeepFault>
         requires { conn.in_transaction ≡ false }
         ensures adopted { IfOk result (λ k. Adopts S.Store conn k) }
         ensures refused { IsAlwaysClean S.Store → IfErr result (Denies (state S.Store conn)) }
-        ensures fault { (result ≢ Err KeepFault.Closed) × (result ≢ Err KeepFault.NewSchema) }
+        ensures fault { IfErr result IsFindFault }
     {
-        let farm = found(alloc, &mut conn)?;
-        Ok(Keeper {
-            conn,
-            farm,
-            alloc,
-            is_open: true,
-        })
+        match opening::find(alloc, conn) {
+            Ok(keeper) => Ok(keeper),
+            Err(unkept) => Err(unkept.let_go()),
+        }
     }
 }
 
@@ -143,8 +138,7 @@ impl<S: Alter> Keeper<S> {
         // A closed keeper stays as it is.
         ensures closed { (result ≡ Err KeepFault.Closed) ↔ (self.old.is_open ≡ false) }
         ensures still { result ≡ Err KeepFault.Closed → self.new ≡ self.old }
-        ensures fault { (result ≢ Err KeepFault.BadStore) × (result ≢ Err KeepFault.OldSchema)
-            × (result ≢ Err KeepFault.NewSchema) }
+        ensures fault { IfErr result IsActFault }
         ensures clean { doubt (state S.Store self.old.conn).is_clean ≤ doubt
             (state S.Store self.new.conn).is_clean }
     {
@@ -185,8 +179,7 @@ fn step_and_put<S: Alter>(
         → HasCleanDisk (state S.Store conn.new)
         → LeavesEither (state S.Store conn.new) (rows_of farm.old.farm)
         (rows_of (step farm.old.farm call.entry.now)) }
-    ensures fault { IfErr result (λ fault. (fault ≡ KeepFault.NoMemory)
-        ⊎ (fault ≡ KeepFault.Store)) }
+    ensures fault { IfErr result IsOwnFault }
 {
     let answer = match farm.step(call) {
         Ok(answer) => answer,

@@ -110,7 +110,9 @@ pub fn found_after_upgrade<S: Alter>(
     opened_stands(conn);
     match migrate(alloc, conn) {
         Ok(()) => found(alloc, conn),
-        Err(KeepFault::NewSchema) => found(alloc, conn),
-        Err(fault) => Err(fault),
+        Err(fault) => match fault {
+            KeepFault::NewSchema => found(alloc, conn),
+            _ => Err(fault),
+        },
     }
 }

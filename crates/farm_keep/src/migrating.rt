@@ -1,5 +1,5 @@
 //! A store of the first edition, brought to this one.
-ghost use Rattle.std.specs.Prelude.{◌≡◌, ◌≢◌, ◌≤◌, ◌⊎◌, false, Err, OnErr, OnOk};
+ghost use Rattle.std.specs.Prelude.{◌≡◌, ◌≢◌, ◌≤◌, ◌⊎◌, false, Err, IfErr, OnErr, OnOk};
 ghost use Rattle.sqlite.specs.Held.{state};
 ghost use Rattle.sqlite.specs.State.{HasCleanDisk};
 ghost use Rattle.sqlite_trees.specs.View.{doubt};
@@ -8,6 +8,7 @@ ghost use Rattle.farm_store.specs.Columns.{IsOfSchema, Tables, first_rows_of, ro
 ghost use Rattle.farm_store.specs.Holds.{LeavesEither, Stands};
 ghost use Rattle.farm_store.specs.Schema.{farm_schema};
 ghost use Rattle.farm_store.specs.declared.schema.TheConstants.{FIRST_SCHEMA, SCHEMA};
+ghost use Rattle.farm_keep.specs.Faults.{IsMigrateFault};
 ghost use Rattle.farm_keep.specs.First.{IsSoundFirst};
 
 use crate::fault::KeepFault;
@@ -68,7 +69,7 @@ pub fn migrate<S: Alter>(alloc: Global, conn: &mut Connection<S>) -> Result<(), 
         → Stands (state S.Store conn.old) T → ¬ IsOfSchema SCHEMA T
         → ¬ IsOfSchema FIRST_SCHEMA T
         → (result ≡ Err KeepFault.BadStore) ⊎ (result ≡ Err KeepFault.Store) }
-    ensures fault { (result ≢ Err KeepFault.Closed) × (result ≢ Err KeepFault.OldSchema) }
+    ensures fault { IfErr result IsMigrateFault }
 {
     let rows = load_first(alloc, conn)?;
     if !is_sound(&rows) {

@@ -1,5 +1,5 @@
 //! The farm that a store's tables hold.
-ghost use Rattle.std.specs.Prelude.{◌≡◌, ◌≢◌, ◌≤◌, ◌⊎◌, false, Err, IfOk, OnOk};
+ghost use Rattle.std.specs.Prelude.{◌≡◌, ◌≤◌, ◌⊎◌, false, Err, IfErr, IfOk, OnOk};
 ghost use Rattle.sqlite.specs.State.{HasCleanDisk};
 ghost use Rattle.sqlite.specs.Held.{state};
 ghost use Rattle.sqlite_trees.specs.View.{doubt};
@@ -9,6 +9,7 @@ ghost use Rattle.farm_store.specs.Columns.{IsOfSchema, Tables, rows_of};
 ghost use Rattle.farm_store.specs.Holds.{Stands, LeavesNoMore};
 ghost use Rattle.farm_store.specs.Schema.{farm_schema};
 ghost use Rattle.farm_store.specs.declared.schema.TheConstants.{FIRST_SCHEMA};
+ghost use Rattle.farm_keep.specs.Faults.{IsFindFault};
 
 use crate::fault::KeepFault;
 use farm_core::farm::Farm;
@@ -54,7 +55,7 @@ pub fn found<S: Alter>(alloc: Global, conn: &mut Connection<S>) -> Result<Farm, 
     ensures known { HasCleanDisk (state S.Store conn.new) → (T : Tables)
         → Stands (state S.Store conn.old) T → IsOfSchema FIRST_SCHEMA T
         → (result ≡ Err KeepFault.OldSchema) ⊎ (result ≡ Err KeepFault.Store) }
-    ensures fault { (result ≢ Err KeepFault.Closed) × (result ≢ Err KeepFault.NewSchema) }
+    ensures fault { IfErr result IsFindFault }
 {
     let rows = match load(alloc, conn) {
         Ok(rows) => rows,

@@ -1,8 +1,9 @@
 //! One call after another.
-ghost use Rattle.std.specs.Prelude.{◌≡◌, ◌≢◌, ◌≤◌, true, false, Err, IfOk, IfErr, [], length};
+ghost use Rattle.std.specs.Prelude.{◌≡◌, ◌≤◌, true, false, IfOk, IfErr, [], length};
 ghost use Rattle.std.specs.Prelude.{vec_capacity};
 ghost use Rattle.sqlite.specs.Held.{state};
 ghost use Rattle.farm_types.specs.Sound.{IsSound};
+ghost use Rattle.farm_keep.specs.Faults.{IsFindFault};
 ghost use Rattle.farm_keep.specs.Headline.{Denies, IsAlwaysClean, Resumes, Runs};
 
 use crate::fault::KeepFault;
@@ -31,10 +32,10 @@ impl<S: Alter + Drop> Keeper<S> {
         requires autocommit { conn.in_transaction ≡ false }
         ensures resumed { IfOk result (λ r. Resumes S.Store conn r.0 r.1 calls.now) }
         ensures refused { IsAlwaysClean S.Store → IfErr result (Denies (state S.Store conn)) }
-        ensures fault { (result ≢ Err KeepFault.Closed) × (result ≢ Err KeepFault.NewSchema) }
+        ensures fault { IfErr result IsFindFault }
     {
         let mut keeper = Keeper::adopt(alloc, conn)?;
-        let end = keeper.run(alloc, calls);
+        let end = keeper.run(calls);
         Ok((keeper, end))
     }
 }
@@ -43,15 +44,15 @@ impl<S: Alter> Keeper<S> {
     /// One call after another, up to the first fault. Room for all answers is made first: where
     /// there is no memory for it, nothing is done and the keeper is closed. Any other fault of an
     /// open keeper comes at a call whose answer is a change's, and closes it; a closed keeper does
-    /// nothing.
-    pub fn run(&mut self, alloc: Global, calls: &[Call]) -> RunEnd
+    /// nothing, and says so where there is a call.
+    pub fn run(&mut self, calls: &[Call]) -> RunEnd
         ensures { Runs S.Store self.old self.new result calls.now }
     {
-        let Ok(answers) = Vec::with_capacity(alloc, calls.len()) else {
+        let Ok(answers) = Vec::with_capacity(self.alloc, calls.len()) else {
             self.is_open = false;
             return RunEnd {
                 done: 0,
-                answers: Vec::new(alloc),
+                answers: Vec::new(self.alloc),
                 fault: Some(KeepFault::NoMemory),
             };
         };

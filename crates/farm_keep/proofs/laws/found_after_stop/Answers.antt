@@ -16,5 +16,5 @@ returns g c = λ clean old new end calls keeps opened runs clean_new left may on
     record {
       done = it.done;
       counts = it.counts;
-      gives = gives_farm c.found.result (state g.S.Store c.args.conn.now) F (runs.sound opened it.done) at (told.exact clean) (told.bad clean) (told.old clean);
+      gives = gives_farm c.found.result (state g.S.Store c.args.conn.now) F (runs.sound opened it.done) at (told.exact clean) (told.bad clean) (told.old clean) told.fault;
     }

@@ -20,5 +20,5 @@ returns g c = λ clean F lives first last sound holds lived on.
     record {
       restarts = it.restarts;
       each = it.each;
-      gives = gives_farm c.found.result (state g.S.Store c.args.conn.now) G it.sound at (told.exact clean) (told.bad clean) (told.old clean);
+      gives = gives_farm c.found.result (state g.S.Store c.args.conn.now) G it.sound at (told.exact clean) (told.bad clean) (told.old clean) told.fault;
     }

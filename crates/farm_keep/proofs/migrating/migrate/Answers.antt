@@ -1,4 +1,4 @@
-use Rattle.std.proofs.Common.{◌≡◌, true, sym, subst, arith, rules}
+use Rattle.std.proofs.Common.{◌≡◌, Err, true, sym, ap, ◌∙◌, subst, arith, rules}
 use Rattle.sqlite.specs.Held.{state}
 use Rattle.sqlite.specs.State.{HasCleanDisk}
 use Rattle.farm_types.specs.Farm.{farm_of}
@@ -6,7 +6,8 @@ use Rattle.farm_types.specs.Sound.{IsSound}
 use Rattle.farm_store.specs.Columns.{first_rows_of, rows_of}
 use Rattle.farm_store.specs.Holds.{Stands, LeavesEither}
 use Rattle.farm_store.specs.declared.fault.StoreFault.{StoreFault}
-use Rattle.farm_keep.proofs.MigrateLemmas.{bad_is_another, first_of_sound, from_told, never_told, new_is_another, ok_is_no_err, old_is_another, on_err, one_told, only_memory, small_jobs, told_never_closed}
+use Rattle.farm_keep.specs.Faults.{IsMigrateFault}
+use Rattle.farm_keep.proofs.MigrateLemmas.{bad_is_another, first_of_sound, from_told, migrate_fault, never_told, new_is_another, ok_is_no_err, on_err, one_told, only_memory, raise_fault, small_jobs, told_so}
 use Rattle.farm_keep.proofs.migrating.migrate.Goals as goal
 
 -- ---- the rows could not be read
@@ -34,10 +35,9 @@ returns-in_err-rows-clause-other g c = λ clean T at new first.
     one_told c.load_first.result c.from_residual.result c.in_err-rows.field-0.0 c.in_err-rows.was c.from_residual.ensures.1 StoreFault.BadStore StoreFault.Store (c.load_first.ensures.other clean T at new first)
 
 pub returns-in_err-rows-clause-fault : goal.returns-in_err-rows-clause-fault
-returns-in_err-rows-clause-fault g c = (
-  told_never_closed c.load_first.result c.from_residual.result c.in_err-rows.field-0.0 c.in_err-rows.was c.from_residual.ensures.1,
-  λ is. c.load_first.ensures.never (from_told c.load_first.result c.from_residual.result c.in_err-rows.field-0.0 c.in_err-rows.was c.from_residual.ensures.1 StoreFault.OldSchema is),
-)
+returns-in_err-rows-clause-fault g c =
+    told_so c.load_first.result c.from_residual.result c.in_err-rows.field-0.0 c.in_err-rows.was c.from_residual.ensures.1 IsMigrateFault
+    (migrate_fault c.in_err-rows.field-0.0 (λ is. c.load_first.ensures.never (c.in_err-rows.was ∙ ap Err is)))
 
 -- ---- they are no sound farm's
 
@@ -138,7 +138,6 @@ returns-in_err-raise-clause-other g c = λ clean T at new first.
     absurd (ok_is_no_err c.load_first.result c.in_ok-rows.rows StoreFault.BadStore StoreFault.Store c.in_ok-rows.was (c.load_first.ensures.other early T at new first))
 
 pub returns-in_err-raise-clause-fault : goal.returns-in_err-raise-clause-fault
-returns-in_err-raise-clause-fault g c = (
-  told_never_closed c.raise.result c.from_residual-in_err-raise.result c.in_err-raise.field-0.0 c.in_err-raise.was c.from_residual-in_err-raise.ensures.1,
-  never_told c.raise.result c.from_residual-in_err-raise.result c.in_err-raise.field-0.0 c.in_err-raise.was c.from_residual-in_err-raise.ensures.1 StoreFault.OldSchema old_is_another c.in_err-raise.ensures.fault,
-)
+returns-in_err-raise-clause-fault g c =
+    told_so c.raise.result c.from_residual-in_err-raise.result c.in_err-raise.field-0.0 c.in_err-raise.was c.from_residual-in_err-raise.ensures.1 IsMigrateFault
+    (raise_fault c.in_err-raise.field-0.0 c.in_err-raise.ensures.fault)

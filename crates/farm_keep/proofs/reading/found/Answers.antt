@@ -1,11 +1,12 @@
-use Rattle.std.proofs.Common.{◌≡◌, ◌⊎◌, Result, Ok, Err, inl, inr, refl, sym, ap, ◌∙◌, subst}
+use Rattle.std.proofs.Common.{◌≡◌, ◌≢◌, ◌⊎◌, Result, Ok, Err, inl, inr, refl, sym, ap, ◌∙◌, subst}
+use Rattle.std.specs.Prelude.{IfErr}
 use Rattle.std.proofs.lemmas.Result.{err_from_is_err_and}
 use Rattle.farm_types.specs.Sound.{IsSound}
 use Rattle.farm_store.specs.Columns.{rows_of}
 use Rattle.farm_store.specs.declared.fault.StoreFault.{StoreFault}
 use Rattle.farm_store.proofs.SoundReadable.{sound_is_readable}
 use Rattle.farm_core.specs.declared.farm.BadRows.{BadRows}
-use Rattle.farm_keep.specs.Faults.{rows_fault, store_fault}
+use Rattle.farm_keep.specs.Faults.{IsFindFault, rows_fault, store_fault}
 use Rattle.farm_keep.specs.declared.fault.KeepFault.{KeepFault}
 use Rattle.farm_keep.proofs.reading.found.Goals as goal
 
@@ -29,19 +30,12 @@ from_old StoreFault.BadStore is = cc
 from_old StoreFault.OldSchema is = refl
 from_old StoreFault.NewSchema is = cc
 
-from_new : (e : StoreFault) → store_fault e ≡ KeepFault.NewSchema → e ≡ StoreFault.NewSchema
-from_new StoreFault.NoMemory is = cc
-from_new StoreFault.Store is = cc
-from_new StoreFault.BadStore is = cc
-from_new StoreFault.OldSchema is = cc
-from_new StoreFault.NewSchema is = refl
-
-from_closed : (e : StoreFault) → store_fault e ≡ KeepFault.Closed → ⊥
-from_closed StoreFault.NoMemory is = cc
-from_closed StoreFault.Store is = cc
-from_closed StoreFault.BadStore is = cc
-from_closed StoreFault.OldSchema is = cc
-from_closed StoreFault.NewSchema is = cc
+may_come : (e : StoreFault) → e ≢ StoreFault.NewSchema → IsFindFault (store_fault e)
+may_come StoreFault.NoMemory never = tt
+may_come StoreFault.Store never = tt
+may_come StoreFault.BadStore never = tt
+may_come StoreFault.OldSchema never = tt
+may_come StoreFault.NewSchema never = absurd (never refl)
 
 pub returns-in-Err-clause-bad : goal.returns-in-Err-clause-bad
 returns-in-Err-clause-bad g c = λ clean is F sound at.
@@ -54,10 +48,8 @@ returns-in-Err-clause-old g c = λ clean is T at.
     c.load.ensures.old clean (c.in-Err.is ∙ ap Err (from_old c.in-Err.fault (sym c.from.ensures ∙ same))) T at
 
 pub returns-in-Err-clause-fault : goal.returns-in-Err-clause-fault
-returns-in-Err-clause-fault g c = (
-  λ is. let same : c.from.result ≡ KeepFault.Closed = cc in from_closed c.in-Err.fault (sym c.from.ensures ∙ same),
-  λ is. let same : c.from.result ≡ KeepFault.NewSchema = cc in c.load.ensures.never (c.in-Err.is ∙ ap Err (from_new c.in-Err.fault (sym c.from.ensures ∙ same))),
-)
+returns-in-Err-clause-fault g c =
+    subst IsFindFault (sym c.from.ensures) (may_come c.in-Err.fault (λ is. c.load.ensures.never (c.in-Err.is ∙ ap Err is)))
 
 same_fault : {T : Type 0} (r : Result T KeepFault) (a b : KeepFault) → r ≡ Err a → r ≡ Err b → a ≡ b
 same_fault r a b p q = cc
@@ -70,13 +62,9 @@ never_old : (e : BadRows) → rows_fault e ≡ KeepFault.OldSchema → ⊥
 never_old BadRows.Unsound is = cc
 never_old BadRows.NoMemory is = cc
 
-never_closed : (e : BadRows) → rows_fault e ≡ KeepFault.Closed → ⊥
-never_closed BadRows.Unsound is = cc
-never_closed BadRows.NoMemory is = cc
-
-never_new : (e : BadRows) → rows_fault e ≡ KeepFault.NewSchema → ⊥
-never_new BadRows.Unsound is = cc
-never_new BadRows.NoMemory is = cc
+rows_may_come : (e : BadRows) → IsFindFault (rows_fault e)
+rows_may_come BadRows.Unsound = tt
+rows_may_come BadRows.NoMemory = tt
 
 pub returns-in_err-farm-clause-bad : goal.returns-in_err-farm-clause-bad
 returns-in_err-farm-clause-bad g c = λ clean is F sound at.
@@ -94,10 +82,8 @@ returns-in_err-farm-clause-old g c = λ clean is T at.
 
 pub returns-in_err-farm-clause-fault : goal.returns-in_err-farm-clause-fault
 returns-in_err-farm-clause-fault g c =
-    let p = err_from_is_err_and c.from_residual.result c.from_residual.ensures.1 in (
-      λ is. never_closed c.in_err-farm.field-0.0 (sym p.2 ∙ same_fault c.from_residual.result p.0 KeepFault.Closed p.1 is),
-      λ is. never_new c.in_err-farm.field-0.0 (sym p.2 ∙ same_fault c.from_residual.result p.0 KeepFault.NewSchema p.1 is),
-    )
+    let p = err_from_is_err_and c.from_residual.result c.from_residual.ensures.1 in
+    subst (λ r. IfErr r IsFindFault) (sym p.1) (subst IsFindFault (sym p.2) (rows_may_come c.in_err-farm.field-0.0))
 
 same_error : {T : Type 0} (r : Result T StoreFault) (a b : StoreFault) → r ≡ Err a → r ≡ Err b → a ≡ b
 same_error r a b p q = cc

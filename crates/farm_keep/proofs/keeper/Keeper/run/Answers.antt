@@ -15,8 +15,8 @@ returns-in_default g c = record {
   memory = λ is. (refl, inl refl, λ keeps. subst (λ h. KeepsFarm g.S.Store record c.args.self.now { conn = h } c.args.self.now.farm.farm) (ap (λ (k : Kept _). k.conn) (sym c.self.view_is)) keeps);
   store = λ is. absurd (let e = is in cc);
   closed = λ is. absurd (let e = is in cc);
-  before = λ shut. (refl, search rules, refl, λ is. let e = is in cc);
-  others = (λ is. let e = is in cc, λ is. let e = is in cc, λ is. let e = is in cc);
+  before = λ shut. (refl, search rules, refl, tt);
+  faults = tt;
   left = search rules;
   sound = λ opened n. IsSound-run (take n c.args.calls.now) c.args.self.now.farm.farm
       (subst (λ (k : Kept _). k.is_open ≡ true → IsSound k.farm.farm) c.self.view_is c.self.invariant.sound opened);

@@ -1,12 +1,13 @@
-use Rattle.std.proofs.Common.{Some, Err, inr, rules, arith, ◌+◌, ◌≡◌, ◌<◌, ◌++◌, ◌∷◌, [], map, take, length, get_or, sym, ap, ◌∙◌, subst}
-use Rattle.std.proofs.lemmas.List.{map-append, take_all}
+use Rattle.std.proofs.Common.{Some, Err, inr, rules, arith, false, ◌+◌, ◌≡◌, ◌<◌, ◌++◌, ◌∷◌, [], map, take, length, get_or, sym, ap, ◌∙◌, subst}
+use Rattle.std.proofs.lemmas.List.{map-append, nil_from_length, take_all}
 use Rattle.sqlite.specs.Held.{state}
 use Rattle.farm_sound.proofs.Step.{IsSound-run}
 use Rattle.farm_types.specs.Machine.{answer, step, run}
 use Rattle.farm_core.specs.Answers.{answer_of, IsChange}
 use Rattle.farm_store.specs.Holds.{StandsFor}
 use Rattle.farm_keep.specs.declared.fault.KeepFault.{KeepFault}
-use Rattle.farm_keep.specs.Kept.{Keeps, KeepsFarm, KeepsEither}
+use Rattle.farm_keep.specs.Headline.{EndsClosed}
+use Rattle.farm_keep.specs.Kept.{Kept, Keeps, KeepsFarm, KeepsEither}
 use Rattle.farm_keep.specs.Runs.{IsNextChange}
 use Rattle.farm_keep.proofs.RunLemmas.{run_more, answers_more, next_change, step_more}
 use Rattle.farm_keep.proofs.keeper.Keeper.run_into.Goals as goal
@@ -75,8 +76,17 @@ returns-in-Err g c =
                 (subst (λ G. KeepsEither g.S.Store c.act.new.self G (step c.loop-call.self.farm.farm call)) farm (s.2 (subst (KeepsFarm g.S.Store c.loop-call.self) (sym farm) (keeps_here keeps)))),
           );
       closed = search rules;
-      before = search rules;
-      others = search rules;
+      before = λ shut.
+          let rest = was.still shut in
+          let closed : c.loop-call.self.is_open ≡ false = ap (λ (k : Kept _). k.is_open) rest.1 ∙ shut in
+          let same : c.in-Err.fault ≡ KeepFault.Closed = (let e = sym c.in-Err.is ∙ c.act.ensures.closed.1 closed in cc) in
+          let kept = c.act.ensures.still (c.act.ensures.closed.1 closed) in (
+            done ∙ rest.0,
+            ap (λ (k : Kept _). k.conn) (kept ∙ rest.1),
+            ap (λ (k : Kept _). k.is_open) kept ∙ closed,
+            subst (λ f. EndsClosed (Some f) calls) (sym same) (omega (arith, low)),
+          );
+      faults = c.in-Err.ensures.fault;
       left = search rules;
       sound = λ opened n. IsSound-run (take n calls) F (c.requires.sound opened);
       clean = search rules;
@@ -98,8 +108,15 @@ returns g c =
       memory = λ is. absurd (let e = is in cc);
       store = λ is. absurd (let e = is in cc);
       closed = λ is. absurd (let e = is in cc);
-      before = search rules;
-      others = (λ is. let e = is in cc, λ is. let e = is in cc, λ is. let e = is in cc);
+      before = λ shut.
+          let rest = was.still shut in
+          let none = rest.0 in (
+            search rules,
+            search rules,
+            search rules,
+            nil_from_length calls (omega (arith, none)),
+          );
+      faults = tt;
       left = search rules;
       sound = λ opened n. IsSound-run (take n calls) F (c.requires.sound opened);
       clean = search rules;

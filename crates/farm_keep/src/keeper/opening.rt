@@ -1,0 +1,108 @@
+//! The making of a keeper.
+//!
+//! No clause can speak of a connection that was dropped. These functions have no `Drop` of it, so
+//! they can't let go of it: where they make no keeper they give it back, and their clauses say what
+//! it is like. `Keeper::fresh` and `Keeper::adopt` are one call of them, and let it go.
+ghost use Rattle.std.specs.Prelude.{◌≡◌, ◌≤◌, ◌⊎◌, true, false, OnOk, IfOk, IfErr};
+ghost use Rattle.sqlite.specs.Held.{state};
+ghost use Rattle.sqlite.specs.State.{HasCleanDisk};
+ghost use Rattle.sqlite.specs.Tree.{Trees};
+ghost use Rattle.sqlite_trees.specs.View.{doubt};
+ghost use Rattle.farm_types.specs.Farm.{empty_farm};
+ghost use Rattle.farm_store.specs.Columns.{Tables};
+ghost use Rattle.farm_store.specs.Holds.{IsMadeIn, LeavesNoMore, Stands};
+ghost use Rattle.farm_store.specs.Schema.{no_schema};
+ghost use Rattle.farm_keep.specs.Faults.{IsFindFault};
+ghost use Rattle.farm_keep.specs.Headline.{Adopts, Denies};
+ghost use Rattle.farm_keep.specs.Kept.{Keeps};
+
+use crate::fault::KeepFault;
+use crate::keeper::Keeper;
+use crate::reading::found;
+use farm_core::farm::Farm;
+use farm_store::create;
+use sqlite::{Alter, Connection};
+use std::alloc::Global;
+
+/// A connection of which no keeper was made, and why.
+#[derive(Drop)]
+pub(super) struct Unkept<S: Alter> {
+    conn: Connection<S>,
+    fault: KeepFault,
+}
+
+impl<S: Alter + Drop> Unkept<S> {
+    /// Why no keeper was made. The connection is let go.
+    pub(super) fn let_go(self) -> KeepFault
+        ensures { result ≡ self.fault }
+    {
+        self.fault
+    }
+}
+
+/// A keeper of the empty farm, in a store without tables.
+pub(super) fn make<S: Alter>(alloc: Global, mut conn: Connection<S>) -> Result<Keeper<S>, Unkept<S>>
+    requires { conn.in_transaction ≡ false }
+    ensures opened { IfOk result (λ k. (k.is_open ≡ true) × (k.farm.farm ≡ empty_farm)) }
+    ensures keeps { IfOk result (λ k. (state S.Store conn).now.schema ≡ no_schema
+        → Keeps S.Store k) }
+    ensures refused { IfOk result (λ k. HasCleanDisk (state S.Store k.conn) → (T : Tables)
+        → ¬ Stands (state S.Store conn) T) }
+    ensures bare { OnOk result ((state S.Store conn).now.schema ≡ no_schema) }
+    ensures clean { IfOk result (λ k. doubt (state S.Store conn).is_clean ≤ doubt
+        (state S.Store k.conn).is_clean) }
+    ensures fault { IfErr result (λ u. u.fault ≡ KeepFault.Store) }
+
+    // Where there is none, the store stands for its tables as before, and a stop leaves no more
+    // than before, or the tables of the empty farm.
+    ensures autocommit { IfErr result (λ u. u.conn.in_transaction ≡ false) }
+    ensures doubted { IfErr result (λ u. doubt (state S.Store conn).is_clean ≤ doubt
+        (state S.Store u.conn).is_clean) }
+    ensures stands { IfErr result (λ u. HasCleanDisk (state S.Store u.conn) → (T : Tables)
+        → Stands (state S.Store conn) T → Stands (state S.Store u.conn) T) }
+    ensures left { IfErr result (λ u. HasCleanDisk (state S.Store u.conn) → (db : Trees)
+        → (state S.Store u.conn).may_leave db
+        → (state S.Store conn).may_leave db ⊎ IsMadeIn (state S.Store conn) db) }
+{
+    match create(&mut conn) {
+        Ok(()) => Ok(Keeper {
+            conn,
+            farm: Farm::empty(alloc),
+            alloc,
+            is_open: true,
+        }),
+        Err(fault) => Err(Unkept {
+            conn,
+            fault: KeepFault::from(fault),
+        }),
+    }
+}
+
+/// A keeper of the farm whose tables the store holds.
+pub(super) fn find<S: Alter>(alloc: Global, mut conn: Connection<S>) -> Result<Keeper<S>, Unkept<S>>
+    requires { conn.in_transaction ≡ false }
+    ensures adopted { IfOk result (λ k. Adopts S.Store conn k) }
+    ensures fault { IfErr result (λ u. IsFindFault u.fault) }
+    ensures denied { IfErr result (λ u. HasCleanDisk (state S.Store u.conn)
+        → Denies (state S.Store conn) u.fault) }
+
+    // Where there is none, the store stands for its tables as before, and a stop leaves no more
+    // than before.
+    ensures autocommit { IfErr result (λ u. u.conn.in_transaction ≡ false) }
+    ensures doubted { IfErr result (λ u. doubt (state S.Store conn).is_clean ≤ doubt
+        (state S.Store u.conn).is_clean) }
+    ensures stands { IfErr result (λ u. HasCleanDisk (state S.Store u.conn) → (T : Tables)
+        → Stands (state S.Store conn) T → Stands (state S.Store u.conn) T) }
+    ensures left { IfErr result (λ u. HasCleanDisk (state S.Store u.conn)
+        → LeavesNoMore (state S.Store conn) (state S.Store u.conn)) }
+{
+    match found(alloc, &mut conn) {
+        Ok(farm) => Ok(Keeper {
+            conn,
+            farm,
+            alloc,
+            is_open: true,
+        }),
+        Err(fault) => Err(Unkept { conn, fault }),
+    }
+}
