@@ -14,8 +14,7 @@ use Rattle.farm_types.specs.Sound.{IsSound}
 use Rattle.farm_types.specs.declared.calls.Call.{Call}
 use Rattle.farm_sound.proofs.Step.{IsSound-run}
 use Rattle.farm_core.specs.Shown.{Shown}
-use Rattle.farm_store.specs.Columns.{IsOfSchema, Tables, rows_of}
-use Rattle.farm_store.specs.declared.schema.TheConstants.{FIRST_SCHEMA}
+use Rattle.farm_store.specs.Columns.{IsOfSchema, Tables, first_schema, rows_of}
 use Rattle.farm_store.specs.Holds.{Holds, Stands}
 use Rattle.farm_keep.specs.Faults.{IsFindFault}
 use Rattle.farm_keep.specs.Headline.{Denies, LeavesRun}
@@ -28,7 +27,7 @@ use Rattle.farm_keep.specs.declared.fault.KeepFault.{KeepFault}
 -- why a store gave no farm
 pub denies : (s : State) (fault : KeepFault) (result : Result Shown KeepFault) → result ≡ Err fault
     → (result ≡ Err KeepFault.BadStore → (F : Farm) → IsSound F → ¬ Stands s (rows_of F))
-    → (result ≡ Err KeepFault.OldSchema → (T : Tables) → Stands s T → IsOfSchema FIRST_SCHEMA T) → Denies s fault
+    → (result ≡ Err KeepFault.OldSchema → (T : Tables) → Stands s T → IsOfSchema first_schema T) → Denies s fault
 denies s KeepFault.NoMemory result is bad ours = tt
 denies s KeepFault.Store result is bad ours = tt
 denies s KeepFault.BadStore result is bad ours = bad is
@@ -37,7 +36,7 @@ denies s KeepFault.NewSchema result is bad ours = tt
 denies s KeepFault.Closed result is bad ours = tt
 
 -- the tables of a farm are of the second edition
-pub not_first : (F : Farm) → IsOfSchema FIRST_SCHEMA (rows_of F) → ⊥
+pub not_first : (F : Farm) → IsOfSchema first_schema (rows_of F) → ⊥
 unfolding rows_of
 not_first F first = true≢false (sym first)
 
@@ -45,7 +44,7 @@ not_first F first = true≢false (sym first)
 pub gives_farm : (result : Result Shown KeepFault) (old : State) (F : Farm) → IsSound F → Stands old (rows_of F)
     → IfOk result (λ f. (G : Farm) → IsSound G → Stands old (rows_of G) → f.farm ≡ G)
     → (result ≡ Err KeepFault.BadStore → (G : Farm) → IsSound G → ¬ Stands old (rows_of G))
-    → (result ≡ Err KeepFault.OldSchema → (T : Tables) → Stands old T → IsOfSchema FIRST_SCHEMA T) → IfErr result IsFindFault → GivesFarm result F
+    → (result ≡ Err KeepFault.OldSchema → (T : Tables) → Stands old T → IsOfSchema first_schema T) → IfErr result IsFindFault → GivesFarm result F
 gives_farm (Ok f) old F sound at exact bad ours may = record { exact = exact F sound at; fault = tt }
 gives_farm (Err KeepFault.NoMemory) old F sound at exact bad ours may = record { exact = tt; fault = tt }
 gives_farm (Err KeepFault.Store) old F sound at exact bad ours may = record { exact = tt; fault = tt }

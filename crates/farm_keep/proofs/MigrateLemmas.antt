@@ -1,6 +1,8 @@
 -- What a sound farm of the first edition has, and how the faults of its store are told.
 use Rattle.std.proofs.Common.{◌≡◌, ◌≢◌, ◌⊎◌, inl, inr, refl, Ok, Err, IsErrAnd, Result, sym, ap, subst, ◌∙◌, arith}
-use Rattle.std.specs.Prelude.{IfErr, OnErr}
+use Rattle.std.specs.Prelude.{ℕ, Some, IfErr, OnErr}
+use Rattle.std.specs.Result.{result_err}
+use Rattle.sqlite.specs.Effect.{Database}
 use Rattle.sqlite.specs.State.{State}
 use Rattle.sqlite.specs.Tree.{Trees}
 use Rattle.std.specs.List.{AllByRecursion}
@@ -10,15 +12,16 @@ use Rattle.farm_types.specs.Small.{IsSmallJob}
 use Rattle.farm_types.specs.Sound.{IsSound}
 use Rattle.farm_types.proofs.Put.{AllByRecursion-weaker}
 use Rattle.farm_sound.proofs.Collecting.{none_scheduling}
-use Rattle.farm_store.specs.Columns.{IsOfSchema, Tables, first_rows_of, rows_of}
+use Rattle.farm_store.specs.Columns.{IsOfSchema, Tables, first_rows_of, rows_of, second_schema}
+use Rattle.farm_store.specs.Versions.{MayTell, Tells}
 use Rattle.farm_store.specs.Holds.{Holds, LeavesEither, Stands}
 use Rattle.farm_store.specs.Readable.{IsReadableFirst}
 use Rattle.farm_store.specs.declared.fault.StoreFault.{StoreFault}
-use Rattle.farm_store.specs.declared.schema.TheConstants.{SCHEMA}
 use Rattle.farm_store.proofs.EditionLemmas.{editions_apart, first_rows_are_old, rows_are_new}
 use Rattle.farm_store.proofs.SoundReadable.{sound_is_readable}
 use Rattle.farm_keep.specs.Faults.{IsMigrateFault, IsOwnFault, store_fault}
 use Rattle.farm_keep.specs.First.{HoldsEither, IsSoundFirst}
+use Rattle.farm_keep.specs.Versions.{LooksAtVersion}
 use Rattle.farm_keep.specs.declared.fault.KeepFault.{KeepFault}
 
 pub first_of_sound : (F : Farm) → IsSoundFirst F → IsReadableFirst F
@@ -108,6 +111,43 @@ module _ {A B : Type 0} (r : Result A StoreFault) (s : Result B KeepFault) (faul
   pub told_so : (P : KeepFault → Type 0) → P (store_fault fault) → IfErr s P
   told_so P p = subst (λ r. IfErr r P) (sym is_told) p
 
+-- ---- the version that a store's `meta` tells
+
+some_err : {A : Type 0} (s : Result A KeepFault) (f : KeepFault) → s ≡ Err f → result_err s ≡ Some f
+some_err s f is = ap result_err is
+
+was_err : {A : Type 0} (s : Result A KeepFault) (f : KeepFault) → result_err s ≡ Some f → s ≡ Err f
+was_err (Ok a) f is = absurd (let e = is in cc)
+was_err (Err e) f is = (let same : e ≡ f = (let h = is in cc) in ap Err same)
+
+either_err : {A : Type 0} (s : Result A KeepFault) (f g : KeepFault) → (s ≡ Err f) ⊎ (s ≡ Err g) → (result_err s ≡ Some f) ⊎ (result_err s ≡ Some g)
+either_err s f g (inl is) = inl (some_err s f is)
+either_err s f g (inr is) = inr (some_err s g is)
+
+-- it was refused by its version, or failed, and so it is told
+pub looks_so : {A B : Type 0} (r : Result A StoreFault) (s : Result B KeepFault) (fault : StoreFault) → r ≡ Err fault → IsErrAnd s (λ f. f ≡ store_fault fault)
+    → (own other : ℕ) (refusal : StoreFault) (db : Database) → (r ≡ Err refusal → MayTell other db)
+    → (Tells other db → (r ≡ Err refusal) ⊎ (r ≡ Err StoreFault.Store))
+    → (¬ MayTell other db → ¬ MayTell own db → (r ≡ Err StoreFault.BadStore) ⊎ (r ≡ Err StoreFault.Store))
+    → LooksAtVersion own other (store_fault refusal) (result_err s) db
+looks_so r s fault was told own other refusal db only is neither = record {
+  told = λ e. only (from_told r s fault was told refusal (was_err s (store_fault refusal) e));
+  tells = λ t. either_err s (store_fault refusal) KeepFault.Store (one_told r s fault was told refusal StoreFault.Store (is t));
+  neither = λ a b. either_err s KeepFault.BadStore KeepFault.Store (one_told r s fault was told StoreFault.BadStore StoreFault.Store (neither a b));
+}
+
+-- it was read, so it has the version that is wanted
+pub looks_read : {A B : Type 0} (r : Result A StoreFault) (a : A) (s : Result B KeepFault) → r ≡ Ok a
+    → (own other : ℕ) (refusal : StoreFault) (db : Database) → s ≢ Err (store_fault refusal)
+    → (Tells other db → (r ≡ Err refusal) ⊎ (r ≡ Err StoreFault.Store))
+    → (¬ MayTell other db → ¬ MayTell own db → (r ≡ Err StoreFault.BadStore) ⊎ (r ≡ Err StoreFault.Store))
+    → LooksAtVersion own other (store_fault refusal) (result_err s) db
+looks_read r a s was own other refusal db never is neither = record {
+  told = λ e. absurd (never (was_err s (store_fault refusal) e));
+  tells = λ t. absurd (ok_is_no_err r a refusal StoreFault.Store was (is t));
+  neither = λ x y. absurd (ok_is_no_err r a StoreFault.BadStore StoreFault.Store was (neither x y));
+}
+
 -- ---- what may come of a migration
 
 pub migrate_fault : (e : StoreFault) → e ≢ StoreFault.OldSchema → IsMigrateFault (store_fault e)
@@ -159,11 +199,11 @@ module _ (old mid : State) (F : Farm) (sound : IsSoundFirst F)
 
 -- done, or refused as new, it leaves this edition's tables
 pub raised_stands : (old mid : State) (F : Farm) (r : Result (Unit {0}) KeepFault) → r ≡ Ok tt → IsSoundFirst F → (IsSoundFirst F → Stands old (first_rows_of F) → Stands mid (rows_of F))
-    → ((T : Tables) → Stands old T → IsOfSchema SCHEMA T → (r ≡ Err KeepFault.NewSchema) ⊎ (r ≡ Err KeepFault.Store)) → StandsEither old F → Stands mid (rows_of F)
+    → ((T : Tables) → Stands old T → IsOfSchema second_schema T → (r ≡ Err KeepFault.NewSchema) ⊎ (r ≡ Err KeepFault.Store)) → StandsEither old F → Stands mid (rows_of F)
 raised_stands old mid F r was sound ok known (inl first) = ok sound first
 raised_stands old mid F r was sound ok known (inr second) = absurd (ok_is_no_err r tt KeepFault.NewSchema KeepFault.Store was (known (rows_of F) second (rows_are_new F)))
 
-pub new_stands : (old mid : State) (F : Farm) → ((T : Tables) → Stands old T → IsOfSchema SCHEMA T) → ((T : Tables) → Stands old T → Stands mid T) → StandsEither old F → Stands mid (rows_of F)
+pub new_stands : (old mid : State) (F : Farm) → ((T : Tables) → Stands old T → IsOfSchema second_schema T) → ((T : Tables) → Stands old T → Stands mid T) → StandsEither old F → Stands mid (rows_of F)
 new_stands old mid F newer rests (inl first) = absurd (first_rows_are_old F (newer (first_rows_of F) first))
 new_stands old mid F newer rests (inr second) = rests (rows_of F) second
 
@@ -173,7 +213,7 @@ rests_new (Err f) P is rests = rests (λ store. let e = sym is ∙ store in cc)
 
 -- it is never refused as bad
 pub never_bad : (old : State) (F : Farm) (r : Result (Unit {0}) KeepFault) → r ≡ Err KeepFault.BadStore → ((G : Farm) → IsSoundFirst G → ¬ Stands old (first_rows_of G))
-    → ((T : Tables) → Stands old T → IsOfSchema SCHEMA T → (r ≡ Err KeepFault.NewSchema) ⊎ (r ≡ Err KeepFault.Store)) → IsSoundFirst F → StandsEither old F → ⊥
+    → ((T : Tables) → Stands old T → IsOfSchema second_schema T → (r ≡ Err KeepFault.NewSchema) ⊎ (r ≡ Err KeepFault.Store)) → IsSoundFirst F → StandsEither old F → ⊥
 never_bad old F r was bad known sound (inl first) = bad F sound first
 never_bad old F r was bad known sound (inr second) = by (known (rows_of F) second (rows_are_new F))
   where

@@ -11,10 +11,9 @@ use Rattle.farm_types.specs.Machine.{run}
 use Rattle.farm_types.specs.Sound.{IsSound}
 use Rattle.farm_types.specs.declared.calls.Call.{Call}
 use Rattle.farm_core.specs.Answers.{answer_of}
-use Rattle.farm_store.specs.Columns.{IsOfSchema, Tables, rows_of}
+use Rattle.farm_store.specs.Columns.{IsOfSchema, Tables, first_schema, rows_of}
 use Rattle.farm_store.specs.Holds.{Holds, Stands, LeavesNoMore}
 use Rattle.farm_store.specs.Schema.{farm_schema}
-use Rattle.farm_store.specs.declared.schema.TheConstants.{FIRST_SCHEMA}
 use Rattle.farm_keep.specs.Faults.{IsActFault}
 use Rattle.farm_keep.specs.Kept.{Kept, Keeps, KeepsFarm, KeepsEither}
 use Rattle.farm_keep.specs.Runs.{answers_of, IsNextChange}
@@ -52,7 +51,7 @@ IsAlwaysClean {S} g = (h : Held S) → HasCleanDisk (state g h)
 -- only where the tables are of the first edition
 abbrev pub Denies : State → KeepFault → Type 0
 Denies s KeepFault.BadStore = (F : Farm) → IsSound F → ¬ Stands s (rows_of F)
-Denies s KeepFault.OldSchema = (T : Tables) → Stands s T → IsOfSchema FIRST_SCHEMA T
+Denies s KeepFault.OldSchema = (T : Tables) → Stands s T → IsOfSchema first_schema T
 Denies s other = ⊤
 
 -- how the run of a closed keeper ends: for want of memory, at its first call, or without a fault

@@ -5,3 +5,4 @@ pub mod Kept
 pub mod Lives
 pub mod Restarts
 pub mod Runs
+pub mod Versions

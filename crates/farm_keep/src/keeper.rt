@@ -1,6 +1,7 @@
 //! A farm and the store that keeps it.
 ghost use Rattle.std.specs.Prelude.{◌≡◌, ◌≤◌, ◌↔◌, true, false, Err, OnOk, IfOk, IfErr};
 ghost use Rattle.std.specs.Prelude.{MatchOption};
+ghost use Rattle.std.specs.Result.{result_err};
 ghost use Rattle.sqlite.specs.Held.{state};
 ghost use Rattle.sqlite.specs.State.{HasCleanDisk};
 ghost use Rattle.sqlite_trees.specs.View.{doubt};
@@ -14,6 +15,7 @@ ghost use Rattle.farm_store.specs.Schema.{no_schema};
 ghost use Rattle.farm_keep.specs.Faults.{IsActFault, IsFindFault, IsOwnFault};
 ghost use Rattle.farm_keep.specs.Kept.{Keeps, KeepsEither, IfNoChange};
 ghost use Rattle.farm_keep.specs.Headline.{Adopts, Denies, IsAlwaysClean};
+ghost use Rattle.farm_keep.specs.Versions.{LooksForFarm};
 
 mod opening;
 mod run;
@@ -80,6 +82,8 @@ impl<S: Alter + Drop> Keeper<S> {
         requires { conn.in_transaction ≡ false }
         ensures adopted { IfOk result (λ k. Adopts S.Store conn k) }
         ensures refused { IsAlwaysClean S.Store → IfErr result (Denies (state S.Store conn)) }
+        ensures version { IsAlwaysClean S.Store
+            → LooksForFarm (result_err result) (state S.Store conn).now }
         ensures fault { IfErr result IsFindFault }
     {
         match opening::find(alloc, conn) {

@@ -1,15 +1,17 @@
 //! A store of the first edition, brought to this one.
 ghost use Rattle.std.specs.Prelude.{◌≡◌, ◌≢◌, ◌≤◌, ◌⊎◌, false, Err, IfErr, OnErr, OnOk};
+ghost use Rattle.std.specs.Result.{result_err};
 ghost use Rattle.sqlite.specs.Held.{state};
 ghost use Rattle.sqlite.specs.State.{HasCleanDisk};
 ghost use Rattle.sqlite_trees.specs.View.{doubt};
 ghost use Rattle.farm_types.specs.Farm.{Farm as Plain};
-ghost use Rattle.farm_store.specs.Columns.{IsOfSchema, Tables, first_rows_of, rows_of};
+ghost use Rattle.farm_store.specs.Columns.{IsOfSchema, Tables, first_rows_of, first_schema};
+ghost use Rattle.farm_store.specs.Columns.{rows_of, second_schema};
 ghost use Rattle.farm_store.specs.Holds.{LeavesEither, Stands};
 ghost use Rattle.farm_store.specs.Schema.{farm_schema};
-ghost use Rattle.farm_store.specs.declared.schema.TheConstants.{FIRST_SCHEMA, SCHEMA};
 ghost use Rattle.farm_keep.specs.Faults.{IsMigrateFault};
 ghost use Rattle.farm_keep.specs.First.{IsSoundFirst};
+ghost use Rattle.farm_keep.specs.Versions.{LooksForFirst};
 
 use crate::fault::KeepFault;
 use farm_sound::sound::is_sound;
@@ -59,16 +61,18 @@ pub fn migrate<S: Alter>(alloc: Global, conn: &mut Connection<S>) -> Result<(), 
     ensures bad { HasCleanDisk (state S.Store conn.new) → result ≡ Err KeepFault.BadStore
         → (F : Plain) → IsSoundFirst F → ¬ Stands (state S.Store conn.old) (first_rows_of F) }
     ensures newer { HasCleanDisk (state S.Store conn.new) → result ≡ Err KeepFault.NewSchema
-        → (T : Tables) → Stands (state S.Store conn.old) T → IsOfSchema SCHEMA T }
+        → (T : Tables) → Stands (state S.Store conn.old) T → IsOfSchema second_schema T }
 
-    // The version is looked at before anything else.
+    // The version is looked at before anything else, of any store.
     ensures known { HasCleanDisk (state S.Store conn.new) → (T : Tables)
-        → Stands (state S.Store conn.old) T → IsOfSchema SCHEMA T
+        → Stands (state S.Store conn.old) T → IsOfSchema second_schema T
         → (result ≡ Err KeepFault.NewSchema) ⊎ (result ≡ Err KeepFault.Store) }
     ensures other { HasCleanDisk (state S.Store conn.new) → (T : Tables)
-        → Stands (state S.Store conn.old) T → ¬ IsOfSchema SCHEMA T
-        → ¬ IsOfSchema FIRST_SCHEMA T
+        → Stands (state S.Store conn.old) T → ¬ IsOfSchema second_schema T
+        → ¬ IsOfSchema first_schema T
         → (result ≡ Err KeepFault.BadStore) ⊎ (result ≡ Err KeepFault.Store) }
+    ensures version { HasCleanDisk (state S.Store conn.new)
+        → LooksForFirst (result_err result) (state S.Store conn.old).now }
     ensures fault { IfErr result IsMigrateFault }
 {
     let rows = load_first(alloc, conn)?;

@@ -1,15 +1,16 @@
 //! The farm that a store's tables hold.
 ghost use Rattle.std.specs.Prelude.{◌≡◌, ◌≤◌, ◌⊎◌, false, Err, IfErr, IfOk, OnOk};
+ghost use Rattle.std.specs.Result.{result_err};
 ghost use Rattle.sqlite.specs.State.{HasCleanDisk};
 ghost use Rattle.sqlite.specs.Held.{state};
 ghost use Rattle.sqlite_trees.specs.View.{doubt};
 ghost use Rattle.farm_types.specs.Farm.{Farm as Plain};
 ghost use Rattle.farm_types.specs.Sound.{IsSound};
-ghost use Rattle.farm_store.specs.Columns.{IsOfSchema, Tables, rows_of};
+ghost use Rattle.farm_store.specs.Columns.{IsOfSchema, Tables, first_schema, rows_of};
 ghost use Rattle.farm_store.specs.Holds.{Stands, LeavesNoMore};
 ghost use Rattle.farm_store.specs.Schema.{farm_schema};
-ghost use Rattle.farm_store.specs.declared.schema.TheConstants.{FIRST_SCHEMA};
 ghost use Rattle.farm_keep.specs.Faults.{IsFindFault};
+ghost use Rattle.farm_keep.specs.Versions.{LooksForFarm};
 
 use crate::fault::KeepFault;
 use farm_core::farm::Farm;
@@ -49,12 +50,15 @@ pub fn found<S: Alter>(alloc: Global, conn: &mut Connection<S>) -> Result<Farm, 
     ensures bad { HasCleanDisk (state S.Store conn.new) → result ≡ Err KeepFault.BadStore
         → (F : Plain) → IsSound F → ¬ Stands (state S.Store conn.old) (rows_of F) }
     ensures old { HasCleanDisk (state S.Store conn.new) → result ≡ Err KeepFault.OldSchema
-        → (T : Tables) → Stands (state S.Store conn.old) T → IsOfSchema FIRST_SCHEMA T }
+        → (T : Tables) → Stands (state S.Store conn.old) T → IsOfSchema first_schema T }
 
-    // Tables of the first edition are told as such, whatever else stands there.
+    // Tables of the first edition are told as such, and of any store the version that its `meta`
+    // tells is looked at before anything else.
     ensures known { HasCleanDisk (state S.Store conn.new) → (T : Tables)
-        → Stands (state S.Store conn.old) T → IsOfSchema FIRST_SCHEMA T
+        → Stands (state S.Store conn.old) T → IsOfSchema first_schema T
         → (result ≡ Err KeepFault.OldSchema) ⊎ (result ≡ Err KeepFault.Store) }
+    ensures version { HasCleanDisk (state S.Store conn.new)
+        → LooksForFarm (result_err result) (state S.Store conn.old).now }
     ensures fault { IfErr result IsFindFault }
 {
     let rows = match load(alloc, conn) {

@@ -3,7 +3,8 @@
 //! No clause can speak of a connection that was dropped. These functions have no `Drop` of it, so
 //! they can't let go of it: where they make no keeper they give it back, and their clauses say what
 //! it is like. `Keeper::fresh` and `Keeper::adopt` are one call of them, and let it go.
-ghost use Rattle.std.specs.Prelude.{◌≡◌, ◌≤◌, ◌⊎◌, true, false, OnOk, IfOk, IfErr};
+ghost use Rattle.std.specs.Prelude.{◌≡◌, ◌≤◌, ◌⊎◌, true, false, Some, None, OnOk, IfOk, IfErr};
+ghost use Rattle.std.specs.Prelude.{MatchResult};
 ghost use Rattle.sqlite.specs.Held.{state};
 ghost use Rattle.sqlite.specs.State.{HasCleanDisk};
 ghost use Rattle.sqlite.specs.Tree.{Trees};
@@ -15,6 +16,7 @@ ghost use Rattle.farm_store.specs.Schema.{no_schema};
 ghost use Rattle.farm_keep.specs.Faults.{IsFindFault};
 ghost use Rattle.farm_keep.specs.Headline.{Adopts, Denies};
 ghost use Rattle.farm_keep.specs.Kept.{Keeps};
+ghost use Rattle.farm_keep.specs.Versions.{LooksForFarm};
 
 use crate::fault::KeepFault;
 use crate::keeper::Keeper;
@@ -85,6 +87,10 @@ pub(super) fn find<S: Alter>(alloc: Global, mut conn: Connection<S>) -> Result<K
     ensures fault { IfErr result (λ u. IsFindFault u.fault) }
     ensures denied { IfErr result (λ u. HasCleanDisk (state S.Store u.conn)
         → Denies (state S.Store conn) u.fault) }
+    ensures version { MatchResult result
+        (λ k. HasCleanDisk (state S.Store k.conn) → LooksForFarm None (state S.Store conn).now)
+        (λ u. HasCleanDisk (state S.Store u.conn)
+        → LooksForFarm (Some u.fault) (state S.Store conn).now) }
 
     // Where there is none, the store stands for its tables as before, and a stop leaves no more
     // than before.

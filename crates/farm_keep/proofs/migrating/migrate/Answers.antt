@@ -1,13 +1,14 @@
-use Rattle.std.proofs.Common.{◌≡◌, Err, true, sym, ap, ◌∙◌, subst, arith, rules}
+use Rattle.std.proofs.Common.{◌≡◌, Ok, Err, Result, true, sym, ap, ◌∙◌, subst, arith, rules}
 use Rattle.sqlite.specs.Held.{state}
 use Rattle.sqlite.specs.State.{HasCleanDisk}
 use Rattle.farm_types.specs.Farm.{farm_of}
 use Rattle.farm_types.specs.Sound.{IsSound}
-use Rattle.farm_store.specs.Columns.{first_rows_of, rows_of}
+use Rattle.farm_store.specs.Columns.{first_rows_of, first_schema, rows_of, second_schema}
 use Rattle.farm_store.specs.Holds.{Stands, LeavesEither}
 use Rattle.farm_store.specs.declared.fault.StoreFault.{StoreFault}
 use Rattle.farm_keep.specs.Faults.{IsMigrateFault}
-use Rattle.farm_keep.proofs.MigrateLemmas.{bad_is_another, first_of_sound, from_told, migrate_fault, never_told, new_is_another, ok_is_no_err, on_err, one_told, only_memory, raise_fault, small_jobs, told_so}
+use Rattle.farm_keep.specs.declared.fault.KeepFault.{KeepFault}
+use Rattle.farm_keep.proofs.MigrateLemmas.{bad_is_another, first_of_sound, from_told, looks_read, looks_so, migrate_fault, never_told, new_is_another, ok_is_no_err, on_err, one_told, only_memory, raise_fault, small_jobs, told_so}
 use Rattle.farm_keep.proofs.migrating.migrate.Goals as goal
 
 -- ---- the rows could not be read
@@ -141,3 +142,30 @@ pub returns-in_err-raise-clause-fault : goal.returns-in_err-raise-clause-fault
 returns-in_err-raise-clause-fault g c =
     told_so c.raise.result c.from_residual-in_err-raise.result c.in_err-raise.field-0.0 c.in_err-raise.was c.from_residual-in_err-raise.ensures.1 IsMigrateFault
     (raise_fault c.in_err-raise.field-0.0 c.in_err-raise.ensures.fault)
+
+-- ---- the version that `meta` tells
+
+pub returns-in_err-rows-clause-version : goal.returns-in_err-rows-clause-version
+returns-in_err-rows-clause-version g c = λ clean.
+    looks_so c.load_first.result c.from_residual.result c.in_err-rows.field-0.0 c.in_err-rows.was c.from_residual.ensures.1 first_schema second_schema StoreFault.NewSchema (state g.S.Store c.args.conn.now).now
+    (c.load_first.ensures.told clean) (c.load_first.ensures.tells clean) (c.load_first.ensures.neither clean)
+
+pub returns-then-not-is_sound-clause-version : goal.returns-then-not-is_sound-clause-version
+returns-then-not-is_sound-clause-version g c = λ clean.
+    let told : Result (Unit {0}) KeepFault = Err KeepFault.BadStore in
+    looks_read c.load_first.result c.in_ok-rows.rows told c.in_ok-rows.was first_schema second_schema StoreFault.NewSchema (state g.S.Store c.args.conn.now).now
+    (λ e. let h = e in cc) (c.load_first.ensures.tells clean) (c.load_first.ensures.neither clean)
+
+pub returns-clause-version : goal.returns-clause-version
+returns-clause-version g c = λ clean.
+    let early : HasCleanDisk (state g.S.Store c.load_first.new.conn) = omega (arith, c.raise.ensures.clean) in
+    let told : Result (Unit {0}) KeepFault = Ok tt in
+    looks_read c.load_first.result c.in_ok-rows.rows told c.in_ok-rows.was first_schema second_schema StoreFault.NewSchema (state g.S.Store c.args.conn.now).now
+    (λ e. let h = e in cc) (c.load_first.ensures.tells early) (c.load_first.ensures.neither early)
+
+pub returns-in_err-raise-clause-version : goal.returns-in_err-raise-clause-version
+returns-in_err-raise-clause-version g c = λ clean.
+    let early : HasCleanDisk (state g.S.Store c.load_first.new.conn) = omega (arith, c.raise.ensures.clean) in
+    looks_read c.load_first.result c.in_ok-rows.rows c.from_residual-in_err-raise.result c.in_ok-rows.was first_schema second_schema StoreFault.NewSchema (state g.S.Store c.args.conn.now).now
+    (never_told c.raise.result c.from_residual-in_err-raise.result c.in_err-raise.field-0.0 c.in_err-raise.was c.from_residual-in_err-raise.ensures.1 StoreFault.NewSchema new_is_another c.in_err-raise.ensures.fault)
+    (c.load_first.ensures.tells early) (c.load_first.ensures.neither early)

@@ -5,9 +5,13 @@ use Rattle.farm_types.specs.Sound.{IsSound}
 use Rattle.farm_store.specs.Columns.{rows_of}
 use Rattle.farm_store.specs.declared.fault.StoreFault.{StoreFault}
 use Rattle.farm_store.proofs.SoundReadable.{sound_is_readable}
+use Rattle.farm_core.specs.Shown.{Shown}
 use Rattle.farm_core.specs.declared.farm.BadRows.{BadRows}
 use Rattle.farm_keep.specs.Faults.{IsFindFault, rows_fault, store_fault}
 use Rattle.farm_keep.specs.declared.fault.KeepFault.{KeepFault}
+use Rattle.farm_store.specs.Columns.{first_schema, second_schema}
+use Rattle.sqlite.specs.Held.{state}
+use Rattle.farm_keep.proofs.MigrateLemmas.{looks_read, looks_so}
 use Rattle.farm_keep.proofs.reading.found.Goals as goal
 
 pub returns-clause-rows : goal.returns-clause-rows
@@ -113,3 +117,23 @@ returns-clause-known g c = λ clean T at first. absurd (never_read c.load.result
 
 pub returns-in_err-farm-clause-known : goal.returns-in_err-farm-clause-known
 returns-in_err-farm-clause-known g c = λ clean T at first. absurd (never_read c.load.result _ c.in-Ok.is (c.load.ensures.known clean T at first))
+
+-- ---- the version that `meta` tells
+
+pub returns-in-Err-clause-version : goal.returns-in-Err-clause-version
+returns-in-Err-clause-version g c = λ clean.
+    let told : Result Shown KeepFault = Err c.from.result in
+    looks_so c.load.result told c.in-Err.fault c.in-Err.is c.from.ensures second_schema first_schema StoreFault.OldSchema (state g.S.Store c.args.conn.now).now
+    (c.load.ensures.told clean) (c.load.ensures.tells clean) (c.load.ensures.neither clean)
+
+pub returns-clause-version : goal.returns-clause-version
+returns-clause-version g c = λ clean.
+    let told : Result Shown KeepFault = Ok c.in_ok-farm.farm in
+    looks_read c.load.result _ told c.in-Ok.is second_schema first_schema StoreFault.OldSchema (state g.S.Store c.args.conn.now).now
+    (λ e. let h = e in cc) (c.load.ensures.tells clean) (c.load.ensures.neither clean)
+
+pub returns-in_err-farm-clause-version : goal.returns-in_err-farm-clause-version
+returns-in_err-farm-clause-version g c = λ clean.
+    let p = err_from_is_err_and c.from_residual.result c.from_residual.ensures.1 in
+    looks_read c.load.result _ c.from_residual.result c.in-Ok.is second_schema first_schema StoreFault.OldSchema (state g.S.Store c.args.conn.now).now
+    (λ is. never_old c.in_err-farm.field-0.0 (sym p.2 ∙ same_fault c.from_residual.result p.0 KeepFault.OldSchema p.1 is)) (c.load.ensures.tells clean) (c.load.ensures.neither clean)
