@@ -61,15 +61,17 @@ limited "tests of scripts" python3 tests/waves.py --read || status=1
 if [ "$status" = 0 ]; then
     farm=crates/farm/out/farm
     player=crates/farm_play/out/farm_play
-    # two lanes: those that run the program most, and all others
+    # three lanes: those that run the program most, those of the tools, and all others
     long="refused_memory.sh power_cuts.py generated.py"
     short="words.sh statuses.sh mistakes.sh upgrade.sh examples.sh using.sh api.py shell.sh real_clients.sh sockets.py
-        malformed.py kills.py dispatch.py client.py importers.py page.py proxy.py package.sh"
+        crowds.py malformed.py kills.py"
+    tools="dispatch.py client.py importers.py page.py proxy.py package.sh"
     trying $long &
+    trying $tools &
     trying $short
     wait
     wrong=
-    for script in $short $long; do
+    for script in $short $tools $long; do
         cat "$folder/$script.said"
         case $(cat "$folder/$script.status") in
             0) passed=$((passed + 1)) ;;

@@ -8,7 +8,7 @@ use Rattle.farm_types.specs.declared.calls.Answer.{Answer}
 use Rattle.farm_types.specs.declared.calls.Call.{Call}
 use Rattle.farm_types.specs.Refusals.{no_memory}
 use Rattle.farm_core.specs.Answers.{IsChange}
-use Rattle.farm_keep.specs.Faults.{fault_code}
+use Rattle.farm_keep.specs.Faults.{IsActFault, fault_code}
 use Rattle.farm_keep.specs.Kept.{Kept, Keeps, KeepsEither}
 use Rattle.farm_keep.specs.declared.fault.KeepFault.{KeepFault}
 use Rattle.farm_wire.specs.Reading.{Denial, refused, other_methods}
@@ -91,7 +91,7 @@ pub fault_is_response : {S : Type 0} (g : Ghosts S) (old new : Kept S) (call : C
     × (Keeps g old → KeepsEither g new old.farm.farm (step old.farm.farm call)))
     → (acted fault ≡ Err KeepFault.Closed ↔ old.is_open ≡ false)
     → (acted fault ≡ Err KeepFault.Closed → new ≡ old)
-    → (acted fault ≢ Err KeepFault.BadStore) × (acted fault ≢ Err KeepFault.OldSchema) × (acted fault ≢ Err KeepFault.NewSchema)
+    → IsActFault fault
     → bytes ≡ reply_bytes (refusal (fault_code fault)) → end ≡ Err (DeskFault.Keep fault)
     → IsResponseTo g old new (Ok (Ask.Call call)) bytes end
 fault_is_response g old new call KeepFault.NoMemory bytes end memory store closed still other says ends =
@@ -119,6 +119,6 @@ fault_is_response g old new call KeepFault.Closed bytes end memory store closed 
       cause = record { was_closed = shut; rests = same };
     } in
     subst (λ e. IsResponseTo g old new (Ok (Ask.Call call)) bytes e) (sym ends) closes
-fault_is_response g old new call KeepFault.BadStore bytes end memory store closed still other says ends = absurd (other.0 refl)
-fault_is_response g old new call KeepFault.OldSchema bytes end memory store closed still other says ends = absurd (other.1 refl)
-fault_is_response g old new call KeepFault.NewSchema bytes end memory store closed still other says ends = absurd (other.2 refl)
+fault_is_response g old new call KeepFault.BadStore bytes end memory store closed still other says ends = absurd other
+fault_is_response g old new call KeepFault.OldSchema bytes end memory store closed still other says ends = absurd other
+fault_is_response g old new call KeepFault.NewSchema bytes end memory store closed still other says ends = absurd other

@@ -11,6 +11,7 @@ use Rattle.farm_types.specs.declared.calls.Answer.{Answer}
 use Rattle.farm_types.specs.declared.calls.Call.{Call}
 use Rattle.farm_types.specs.declared.refusal.Refusal.{Refusal}
 use Rattle.farm_core.specs.Answers.{IsChange, answer_of}
+use Rattle.farm_keep.specs.Faults.{IsActFault}
 use Rattle.farm_keep.specs.Kept.{Kept, Keeps, KeepsFarm, KeepsEither, IfNoChange}
 use Rattle.farm_keep.specs.Runs.{answers_of}
 use Rattle.farm_keep.specs.declared.fault.KeepFault.{KeepFault}
@@ -171,7 +172,7 @@ pub faulted_at : {S : Type 0} (g : Ghosts S) (old mid new : Kept S) (calls : Lis
     × (Keeps g mid → KeepsEither g new mid.farm.farm (step mid.farm.farm call)))
     → (acted fault ≡ Err KeepFault.Closed ↔ mid.is_open ≡ false)
     → (acted fault ≡ Err KeepFault.Closed → new ≡ mid)
-    → (acted fault ≢ Err KeepFault.BadStore) × (acted fault ≢ Err KeepFault.OldSchema) × (acted fault ≢ Err KeepFault.NewSchema)
+    → IsActFault fault
     → EndsBy g old new calls done None (Some (DeskFault.Keep fault))
 faulted_at g old mid new calls i done call KeepFault.NoMemory low here before same opened stands still memory store closed rests other =
     let lacks = memory refl in
@@ -194,6 +195,6 @@ faulted_at g old mid new calls i done call KeepFault.Closed low here before same
     let shut = sym opened ∙ closed.0 refl in
     let was = still shut in
     record { was_closed = shut; nothing = same ∙ was.0; rests = rests refl ∙ was.1 }
-faulted_at g old mid new calls i done call KeepFault.BadStore low here before same opened stands still memory store closed rests other = absurd (other.0 refl)
-faulted_at g old mid new calls i done call KeepFault.OldSchema low here before same opened stands still memory store closed rests other = absurd (other.1 refl)
-faulted_at g old mid new calls i done call KeepFault.NewSchema low here before same opened stands still memory store closed rests other = absurd (other.2 refl)
+faulted_at g old mid new calls i done call KeepFault.BadStore low here before same opened stands still memory store closed rests other = absurd other
+faulted_at g old mid new calls i done call KeepFault.OldSchema low here before same opened stands still memory store closed rests other = absurd other
+faulted_at g old mid new calls i done call KeepFault.NewSchema low here before same opened stands still memory store closed rests other = absurd other

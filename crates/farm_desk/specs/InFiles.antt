@@ -20,6 +20,7 @@ use Rattle.farm_types.specs.Farm.{Farm, empty_farm}
 use Rattle.farm_types.specs.Sound.{IsSound}
 use Rattle.farm_types.specs.Machine.{run}
 use Rattle.farm_types.specs.declared.calls.Call.{Call}
+use Rattle.farm_keep.specs.Faults.{IsFindFault}
 use Rattle.farm_keep.specs.Headline.{IsAlwaysClean, Runs}
 use Rattle.farm_keep.specs.Kept.{Kept, Keeps, KeepsFarm}
 use Rattle.farm_keep.specs.Lives.{IsDone}
@@ -89,10 +90,7 @@ pub record MakesFarm {D : Type 0} {g : Ghosts D} (image : Image) (k : Kept (File
 
 -- memory or the store failed, or the tables are those of no farm
 abbrev pub IsOpenFault : DeskFault → Type 0
-IsOpenFault (DeskFault.Keep KeepFault.NoMemory) = ⊤
-IsOpenFault (DeskFault.Keep KeepFault.Store) = ⊤
-IsOpenFault (DeskFault.Keep KeepFault.BadStore) = ⊤
-IsOpenFault (DeskFault.Keep KeepFault.OldSchema) = ⊤
+IsOpenFault (DeskFault.Keep fault) = IsFindFault fault
 IsOpenFault fault = ⊥
 
 -- the files are bad only where they hold no sound farm, and their schema is old only where their

@@ -12,6 +12,7 @@ use Rattle.sqlite_wal.specs.Recovery.{Image}
 use Rattle.farm_store.specs.Columns.{IsOfSchema, Tables, first_rows_of, rows_of, second_schema}
 use Rattle.farm_store.specs.Holds.{LeavesEither, Stands}
 use Rattle.farm_types.specs.Farm.{Farm}
+use Rattle.farm_keep.specs.Faults.{IsMigrateFault}
 use Rattle.farm_keep.specs.First.{IsSoundFirst}
 use Rattle.farm_keep.specs.Headline.{IsAlwaysClean}
 use Rattle.farm_keep.specs.declared.fault.KeepFault.{KeepFault}
@@ -44,10 +45,7 @@ pub record RaisesFarm {D : Type 0} {g : Ghosts D} (image : Image) (conn : Held (
 
 -- memory or the store failed, or the tables are those of no farm of the first edition
 abbrev pub IsUpgradeFault : DeskFault → Type 0
-IsUpgradeFault (DeskFault.Keep KeepFault.NoMemory) = ⊤
-IsUpgradeFault (DeskFault.Keep KeepFault.Store) = ⊤
-IsUpgradeFault (DeskFault.Keep KeepFault.BadStore) = ⊤
-IsUpgradeFault (DeskFault.Keep KeepFault.NewSchema) = ⊤
+IsUpgradeFault (DeskFault.Keep fault) = IsMigrateFault fault
 IsUpgradeFault fault = ⊥
 
 -- the files are bad only where they hold no sound farm of the first edition, and their schema is

@@ -1,7 +1,7 @@
 //! The answer that is due.
-ghost use Rattle.std.specs.Prelude.{◌≡◌, ◌≢◌, Err};
+ghost use Rattle.std.specs.Prelude.{◌≡◌, Err};
 ghost use Rattle.farm_types.specs.Refusals.{no_memory};
-ghost use Rattle.farm_keep.specs.Faults.{fault_code};
+ghost use Rattle.farm_keep.specs.Faults.{IsActFault, fault_code};
 ghost use Rattle.farm_wire.specs.Replies.{reply_bytes};
 ghost use Rattle.farm_desk.specs.Answers.{refusal, http_status};
 ghost use Rattle.farm_desk.specs.Made.{IsMadeOf, IsMadeOfNothing, bytes_in};
@@ -66,8 +66,7 @@ impl Response {
 
     /// The constant answer of a keeper's fault.
     pub(crate) fn closing(fault: KeepFault) -> Response
-        requires { (fault ≢ KeepFault.BadStore) × (fault ≢ KeepFault.OldSchema)
-            × (fault ≢ KeepFault.NewSchema) }
+        requires { IsActFault fault }
         ensures bytes { bytes_in result.bytes ≡ reply_bytes (refusal (fault_code fault)) }
         ensures end { result.end ≡ Err (DeskFault.Keep fault) }
     {
