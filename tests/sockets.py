@@ -144,6 +144,16 @@ def largest_request(folder):
     return "the largest request waits aside until its last byte came"
 
 
+def each_second(folder):
+    """Nobody is let go unheard by the moment: a client in an even second and one in an odd."""
+    farm = Farm(folder, 2)
+    for _ in range(2):
+        time.sleep(1.05 - time.time() % 1)
+        same("a client", True, answered(farm.client(LOOK)).startswith(b"HTTP/1.1 200 "))
+    farm.ends(0, b"")
+    return "clients of two seconds in a row are answered, the even one's and the odd one's"
+
+
 def as_many_as_asked(folder):
     nobody = Farm(folder, 0)
     nobody.ends(0, b"")
@@ -225,6 +235,7 @@ ROWS = [
     two_clients,
     requests_in_parts,
     largest_request,
+    each_second,
     as_many_as_asked,
     clients_that_fail,
     more_than_was_asked_for,
