@@ -1,5 +1,5 @@
 -- The answers that are due: to a view, to what is denied, to a call.
-use Rattle.std.proofs.Common.{◌≡◌, ◌≢◌, ◌↔◌, ℕ, List, Bool, true, false, refl, sym, ap, ◌∙◌, subst, Ok, Err, inl, inr}
+use Rattle.std.proofs.Common.{◌≡◌, ◌↔◌, ℕ, List, Bool, true, false, refl, sym, ap, ◌∙◌, subst, Ok, Err, inl, inr}
 use Rattle.std.specs.Prelude.{Option, Result}
 use Rattle.sqlite_trees.specs.declared.store.Store.{Ghosts}
 use Rattle.farm_types.specs.Machine.{Answered, answer, step}

@@ -15,9 +15,8 @@ use Rattle.sqlite_wal.specs.Recovery.{Image}
 use Rattle.farm_store.specs.Columns.{Tables, rows_of}
 use Rattle.farm_store.specs.Holds.{Holds, Stands}
 use Rattle.farm_store.specs.Schema.{farm_schema, no_schema}
-use Rattle.farm_types.specs.Farm.{Farm}
 use Rattle.farm_keep.specs.Headline.{Adopts, Denies}
-use Rattle.farm_keep.specs.Kept.{Kept, KeepsFarm}
+use Rattle.farm_keep.specs.Kept.{Kept}
 use Rattle.farm_keep.specs.declared.fault.KeepFault.{KeepFault}
 use Rattle.farm_desk.specs.InFiles.{AreFarms, AreFree, DeniesFarm, DeniesTables, FindsFarm, FindsTables, HoldsTables, ListFarm, ListNothing, MakesFarm, MakesTables, OpensTables, ShowsFiles}
 use Rattle.farm_desk.specs.declared.fault.DeskFault.{DeskFault}

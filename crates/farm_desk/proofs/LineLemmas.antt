@@ -1,5 +1,5 @@
 -- A part of a line that a writer took.
-use Rattle.std.proofs.Common.{◌≡◌, ℕ, List, [], ◌++◌, length, take, drop, refl, sym, ◌∙◌, Ok, Err}
+use Rattle.std.proofs.Common.{ℕ, List, [], take, drop, refl, sym, ◌∙◌, Ok, Err}
 use Rattle.std.specs.Prelude.{Option, Some, None, Result, OnOk, OnErr}
 use Rattle.std.specs.Io.KnownBytes.{Appends, Keeps, WriteAppends}
 use Rattle.std.specs.declared.io.Error.{Error}
