@@ -50,7 +50,7 @@ def free_port():
 class Farm:
     """A program that serves a farm in a new file."""
 
-    def __init__(self, folder, connections, limit=None):
+    def __init__(self, folder, connections, limit=None, descriptors=None):
         self.db = os.path.join(tempfile.mkdtemp(dir=folder), "farm.db")
         subprocess.run([FARM, "init", "--db", self.db], check=True, stdout=subprocess.DEVNULL)
         self.port = free_port()
@@ -60,6 +60,8 @@ class Farm:
             signal.signal(signal.SIGXFSZ, signal.SIG_IGN)
             if limit is not None:
                 resource.setrlimit(resource.RLIMIT_FSIZE, (limit, limit))
+            if descriptors is not None:
+                resource.setrlimit(resource.RLIMIT_NOFILE, (descriptors, descriptors))
 
         self.process = subprocess.Popen(
             words, stdout=subprocess.PIPE, stderr=subprocess.PIPE, preexec_fn=prepare,
@@ -218,6 +220,20 @@ def client_that_is_too_slow(folder):
     return f"a client that sends a byte now and then is let go after {took:.0f} seconds, the next is served at once"
 
 
+def descriptors_that_run_out(folder):
+    """Sixty idle clients where the program may have forty descriptors: it serves on once some are free."""
+    farm = Farm(folder, 2**63, descriptors=40)
+    crowd = [farm.client() for _ in range(60)]
+    time.sleep(0.5)
+    same("it serves on", None, farm.process.poll())
+    for client in crowd:
+        client.close()
+    same("a client after them", True, answered(farm.client(LOOK)).startswith(b"HTTP/1.1 200 "))
+    farm.process.kill()
+    farm.process.communicate()
+    return "where descriptors run out the serving goes on, and whoever comes later is answered"
+
+
 def store_that_fails(folder):
     farm = Farm(folder, 9, limit=0)
     silent, first = farm.client(), farm.client(FIRST_TYPE)
@@ -239,6 +255,7 @@ ROWS = [
     as_many_as_asked,
     clients_that_fail,
     more_than_was_asked_for,
+    descriptors_that_run_out,
     store_that_fails,
     client_that_is_too_slow,
 ]
