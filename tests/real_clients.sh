@@ -3,7 +3,7 @@
 #
 # A farm is made in a temporary folder, the example lab is imported, and the farm is served on a free
 # port of 127.0.0.1. Clients then ask by curl (or python3, where there is no curl): single requests,
-# 200 in a row, one behind a client that stalls; and five times a stream of commands under keys, in
+# 200 in a row, one beside a client that stalls; and five times a stream of commands under keys, in
 # the middle of which the server is killed (kill -9) and started again. Each command that was
 # acknowledged has to be there, none may have acted twice, and SQLite has to find the file whole.
 #
@@ -174,7 +174,7 @@ fi
 same "answers in a row" 200 "$(grep -c '^200$' "$folder/row")"
 echo "200 requests in a row: all answered 200, in $(($(date +%s) - begun)) s"
 
-# ---- behind a client that stalls
+# ---- beside a client that stalls
 
 if has python3; then
     python3 -c '
@@ -188,13 +188,13 @@ time.sleep(60)' "$port" "$folder/stalls" &
         sleep 0.02
     done
     begun=$(date +%s)
-    same "status behind a client that stalls" 200 "$(ask_into "$folder/answer" GET /status '' '' '')"
+    same "status beside a client that stalls" 200 "$(ask_into "$folder/answer" GET /status '' '' '')"
     waited=$(($(date +%s) - begun))
-    [ "$waited" -ge 8 ] && [ "$waited" -le 20 ] || fail "waited $waited s for a client that stalls"
+    [ "$waited" -le 2 ] || fail "waited $waited s for a client that stalls"
     kill "$stalled"
     wait "$stalled" 2> /dev/null || :
     stalled=
-    echo "behind a client that stalls: answered after $waited s"
+    echo "beside a client that stalls: answered after $waited s"
 else
     echo "skipped: a client that stalls, since python3 isn't there"
 fi
