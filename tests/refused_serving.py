@@ -162,7 +162,8 @@ def closes(run, due):
     if is_unheard(run):
         return False
     if run.command == due or run.command == NO_MEMORY and ends == (0, b""):
-        if ends != (0, b"") or not run.view:
+        # (a view's connection may lack memory for its place, too)
+        if ends != (0, b"") or not (run.view or run.command == due and run.is_refused):
             fail(f"behind the answer {run.command} the program ended with {ends}")
         return False
     if run.command == STORE_FAULT and ends == (4, b"farm: 60 store fault\n") and not run.view:
@@ -194,7 +195,7 @@ def try_command(served, first, path, body, view):
         if run.command != due and (served.once(command, OK) != due or served.once(get(view), OK) != after):
             fail(f"{path} wasn't done once when it was sent again, after growth {number}")
         # (a view that lacks memory is behind the last growth of the command)
-        if not run.is_refused or run.view == NO_MEMORY and run.command == due:
+        if not run.is_refused or run.view in (NO_MEMORY, b"") and run.command == due:
             return number - first, closed, unheard
         number, closed = number + 1, closed + is_closed
 
