@@ -417,7 +417,8 @@ def long_queue(room, browser):
     demand("ann's", (50, "(60 of 120)"), (len(shown["queue"]), shown["counts"]["queue"]))
     demand("her first place", "2", shown["queue"][0][0])
     opened.resize(1000, 900)
-    demand("on a desk", ["Boards", "Queue", "Reservations"], opened.ask(parts))
+    wide = ["Boards", "Queue", "Reservations"]
+    wait_until("boards first on a desk", lambda: opened.ask(parts) == wide)
     opened.close()
     lab.end()
     return "of a long queue the first fifty stand there, and all where they are asked for"

@@ -37,8 +37,8 @@ BEFORE = (
     ("admin", "/boards/b2/health", b'{"health":"Good"}'),
     ("ann", "/jobs", JOB),
 )
-# The most growths of a connection that waits aside: its place among those that wait, and among those that are ready.
-MOST_UNHEARD = 2
+# The most growths of two connections that wait aside: their places among those that wait, and that are ready.
+MOST_UNHEARD = 4
 # Each command: its path, its body, and the view that shows its change.
 COMMANDS = (("/types", b'{"name":"ccc"}', "/types"), ("/pass", b"", "/boards"))
 
@@ -185,7 +185,7 @@ def try_command(served, first, path, body, view):
     while True:
         run = served.run(number, command)
         is_closed = closes(run, due)
-        unheard += is_unheard(run)
+        unheard += is_unheard(run) or not run.view and run.command == due
         if unheard > MOST_UNHEARD:
             fail(f"{unheard} growths of {path} leave its client without an answer")
         rows = served.once(get(view), OK)
@@ -195,7 +195,7 @@ def try_command(served, first, path, body, view):
         if run.command != due and (served.once(command, OK) != due or served.once(get(view), OK) != after):
             fail(f"{path} wasn't done once when it was sent again, after growth {number}")
         # (a view that lacks memory is behind the last growth of the command)
-        if not run.is_refused or run.view in (NO_MEMORY, b"") and run.command == due:
+        if not run.is_refused or run.view == NO_MEMORY and run.command == due:
             return number - first, closed, unheard
         number, closed = number + 1, closed + is_closed
 
