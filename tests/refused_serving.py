@@ -37,8 +37,8 @@ BEFORE = (
     ("admin", "/boards/b2/health", b'{"health":"Good"}'),
     ("ann", "/jobs", JOB),
 )
-# The most growths of two connections that wait aside: their places among those that wait, and that are ready.
-MOST_UNHEARD = 4
+# The most growths of two connections that wait aside: a place or two each among those that wait, and that are ready.
+MOST_UNHEARD = 8
 # Each command: its path, its body, and the view that shows its change.
 COMMANDS = (("/types", b'{"name":"ccc"}', "/types"), ("/pass", b"", "/boards"))
 
