@@ -9,6 +9,7 @@ watch_told.py). Ends with status 1 at the first thing that isn't as it should be
 the machine lacks what it wants. Takes three minutes.
 """
 import os
+import shutil
 import subprocess
 import sys
 import tempfile
@@ -77,8 +78,9 @@ def ends_of_jobs(room):
 
 
 def some_outcomes(room):
-    rules = "[job]\nended = ['Incomplete', 'Infra']\n[owners]\nbob = 'b.smith@other.example'\ncat = ''\n"
-    lab = Watched(FARM, room, rules, boards=[*BOARDS_OF_CHECKS], hook=False)
+    rules = "[job]\nended = ['Incomplete', 'Infra']\n"
+    rules += "[owners]\nbob = 'b.smith@other.example'\ncat = ''\n"
+    lab = Watched(FARM, room, rules, boards=[("b1", "bbb", [])], hook=False)
     lab.start()
     lab.runs("true")
     for user in ("ann", "bob", "cat"):
@@ -103,9 +105,6 @@ def some_outcomes(room):
     return "outcomes, owners' addresses and who wants no mail are the file's; checks aren't told"
 
 
-BOARDS_OF_CHECKS = [("b1", "bbb", [])]
-
-
 def boards(room):
     lab = Watched(FARM, room, "[board]\nbad = true\nfree = 'all'\n")
     lab.farm.tell("admin", "/boards/b3/health", {"health": "Bad"})
@@ -115,8 +114,7 @@ def boards(room):
     job = lab.farm.submit("true", user="cat", more="tags = ['name=b1']")
     lab.farm.tell("admin", "/boards/b2/health", {"health": "Bad"})
     lab.mails([("lab@lab.example", "farm: board b2 is Bad")])
-    wait_until("they are seen", lambda: "2 reservations" or True)
-    wait_for_looks(lab, 3)
+    lab.looked()
     lab.farm.tell("ann", "/reservations/1/cancel")
     lab.passes()
     told = [(at("bob"), f"farm: reservation {second} has got b1")]
@@ -128,20 +126,13 @@ def boards(room):
     told.append((at("cat"), f"farm: job {job} has got b1"))
     lab.mails(told, "board-free")
     lab.farm.tell("admin", "/boards/b2/health", {"health": "Good"})
-    wait_for_looks(lab, 3)
+    lab.looked()
     lab.tool.kill()
     lab.farm.tell("admin", "/boards/b2/health", {"health": "Bad"})
     lab.start()
     lab.mails([("lab@lab.example", "farm: board b2 is Bad")] * 2, "board-bad")
     lab.end()
     return "a board that went Bad, also while nobody watched, and one that came free are told once"
-
-
-def wait_for_looks(lab, count):
-    """Waits until what is there now was looked at: by a job that ends meanwhile, or by time."""
-    del count
-    before = time.monotonic()
-    wait_until("some looks", lambda: time.monotonic() - before > 2)
 
 
 def checks(room):
@@ -190,7 +181,7 @@ def holds(room):
     demand("when it is ended", True, f"It is ended at {end}" in text)
     lab.tool.kill()
     lab.start()
-    wait_for_looks(lab, 5)
+    lab.looked()
     demand("mails after another start", 2, len(lab.mailbox.mails()))
     lab.end()
     return "an old hold is reminded of and one beyond its time ended; an extended one is neither"
@@ -200,7 +191,7 @@ def extended_at_the_end(room):
     """A hold that is due by what was known of it, and was extended since: the row is looked at just
     before."""
     now = time.time()
-    lab = Watched(FARM, room, "[hold]\nend = '12h'\n", boards=[], door=True)
+    lab = Watched(FARM, room, "[hold]\nend = '12h'\n", boards=[])
     begun = int(now - 12 * HOUR + 8)
     number, other = lab.held_since([(begun, "ann", "h1"), (begun, "bob", "h2")])
     lab.start()
@@ -210,8 +201,7 @@ def extended_at_the_end(room):
     demand("the extended one", "acquired", lab.farm.reservation(number)["state"])
     demand("the other one", "canceled", lab.farm.reservation(other)["state"])
     demand("looks at all reservations", True, lab.door.count("/reservations") <= 3)
-    looks = lab.door.looks()
-    wait_until("looks", lambda: lab.door.looks() > looks + 10)
+    lab.looked(10)
     demand("looks at all reservations, later", True, lab.door.count("/reservations") <= 3)
     lab.end()
     return "a hold that was extended just before its end isn't ended"
@@ -224,7 +214,7 @@ def not_the_admin(room):
     lab.start("--user", "eve")
     told = f"farm-watch: reservation {number} can't be ended: refused: 3 forbidden: asked as eve\n"
     wait_until("what is told", lambda: told in lab.tool.errors())
-    wait_for_looks(lab, 5)
+    lab.looked()
     demand("once", 1, lab.tool.errors().count(told))
     lab.stop()
     demand("no mail", [], lab.mailbox.told())
@@ -273,11 +263,10 @@ def late_passes(room):
 
 
 def full(room):
-    lab = Watched(FARM, room, "[full]\nat = [80, 95]\n", door=True)
+    lab = Watched(FARM, room, "[full]\nat = [80, 95]\n")
     lab.door.change["/status"] = {"jobs": 50000, "reservations": 29999}
     lab.start()
-    looks = lab.door.looks()
-    wait_until("looks", lambda: lab.door.looks() > looks + 5)
+    lab.looked(5)
     demand("below 80 %", [], lab.mailbox.told())
     lab.door.change["/status"] = {"jobs": 80000, "reservations": 0}
     first = ("lab@lab.example", "farm: the farm is 80 % full")
@@ -298,7 +287,7 @@ def what_is_asked(room):
         f"{JOBS}[hold]\nremind = '4h'\nend = '12h'\n[board]\nbad = true\nfree = true\n"
         "[pass]\nlate = '60s'\n[full]\nat = [80]\n"
     )
-    lab = Watched(FARM, room, rules, door=True)
+    lab = Watched(FARM, room, rules)
     lab.start()
     demand("a first look", ["/status", "/types", "/queue", "/boards"],
            [path for _, path in lab.door.asked[:4]])
@@ -307,8 +296,7 @@ def what_is_asked(room):
     job = lab.runs("true")
     lab.farm.submit("true", kind="ccc", user="bob")
     before = len(lab.door.asked)
-    looks = lab.door.looks()
-    wait_until("looks", lambda: lab.door.looks() > looks + 20)
+    lab.looked(20)
     asked = [path for _, path in lab.door.asked[before:]]
     demand("commands", [], [it for it in lab.door.asked if it[0] != "GET"])
     demand("what grows", 0, asked.count("/reservations"))
@@ -334,7 +322,7 @@ def another_farm(room):
     subprocess.run([FARM, "init", "--db", lab.farm.db], check=True, stdout=subprocess.DEVNULL)
     lab.farm.start()
     lab.farm.tell("admin", "/types", {"name": "bbb"})
-    wait_for_looks(lab, 5)
+    lab.looked()
     lab.farm.tell("admin", "/boards", {"name": "b1", "type": "bbb"})
     lab.farm.tell("admin", "/boards/b1/health", {"health": "Good"})
     lab.runs("true", user="bob")
@@ -437,17 +425,16 @@ def unit(room):
     with open(file, encoding="utf-8") as text:
         lines = text.read().split("\n")
     for line in ("StartLimitIntervalSec=0", "Restart=always", "RestartPreventExitStatus=2 3",
-                 "KillMode=mixed", "ProtectSystem=strict", "StateDirectory=farm-watch"):
+                 "KillMode=mixed", "ProtectSystem=full", "StateDirectory=farm-watch"):
         demand(line, True, line in lines)
     folder = tempfile.mkdtemp(dir=room)
     for name in ("farm", "farm-dispatch", "farm-watch"):
         with open(os.path.join(TOP, "examples", f"{name}.service"), encoding="utf-8") as text:
             write(folder, f"{name}.service",
                   text.read().replace("/usr/local/bin/", "/bin/true "))
-    told = [sys.executable, "-c", "import shutil, sys; sys.exit(not shutil.which('systemd-analyze'))"]
-    if subprocess.run(told, check=False).returncode:
+    if not shutil.which("systemd-analyze"):
         return "the unit begins again, but at 2 and 3; systemd isn't there to read it"
-    verify = ["systemd-analyze", "verify", os.path.join(folder, "farm-watch.service")]
+    verify = ["systemd-analyze", "--man=no", "verify", os.path.join(folder, "farm-watch.service")]
     ran = subprocess.run(verify, capture_output=True, text=True, check=False)
     demand("what systemd says of the unit", (0, ""), (ran.returncode, ran.stderr))
     return "systemd finds no fault with the unit, which begins again, but at 2 and 3"

@@ -2,6 +2,7 @@
 of the tests' own, and a door in front of a desk."""
 import email
 import email.policy
+import http.client
 import http.server
 import json
 import os
@@ -17,7 +18,7 @@ from served import Farm, Tool, demand, read, wait_until
 HOUR = 3600
 BOARDS = [("b1", "bbb", ["hdmi"]), ("b2", "bbb", []), ("b3", "ccc", [])]
 SENDMAIL = """#!/bin/sh
-# A sendmail that keeps what it is given, refuses it, or kills the one who gave it.
+# A sendmail that keeps what it is given, or refuses it, or kills a process then.
 set -e
 here=$(dirname "$0")
 new=$(mktemp "$here/new.XXXXXX")
@@ -29,11 +30,21 @@ if [ -e "$here/refuse" ]; then
     exit 75
 fi
 mv "$new" "$here/mail.${new##*.}"
-if [ -e "$here/kill" ]; then
-    rm "$here/kill"
-    kill -9 $PPID
+if mv "$here/kill" "$here/killing" 2> /dev/null; then
+    kill -9 "$(cat "$here/killing")" || :
 fi
 """
+
+
+def reply(handler, status, body):
+    """Answers a request, where its client lives still."""
+    try:
+        handler.send_response(status)
+        handler.send_header("content-length", str(len(body)))
+        handler.end_headers()
+        handler.wfile.write(body)
+    except OSError:
+        pass
 
 
 class Mailbox:
@@ -43,13 +54,20 @@ class Mailbox:
         self.folder = tempfile.mkdtemp(dir=folder)
         self.sendmail = write(self.folder, "sendmail", SENDMAIL, 0o755)
 
-    def let(self, name, is_set=True):
-        """Lets it `refuse` mails, or `kill` the process that brings the next."""
-        file = os.path.join(self.folder, name)
-        if is_set:
-            write(self.folder, name, "")
-        elif os.path.exists(file):
-            os.unlink(file)
+    def refuse(self, refuses):
+        """Lets it refuse mails, or take them again."""
+        if refuses:
+            write(self.folder, "refuse", "")
+        else:
+            os.unlink(os.path.join(self.folder, "refuse"))
+
+    def kill(self, process):
+        """Lets it kill this process once it has taken a mail; None lets it kill nobody."""
+        if process is not None:
+            os.replace(write(self.folder, "to-kill", str(process)),
+                       os.path.join(self.folder, "kill"))
+        elif os.path.exists(os.path.join(self.folder, "kill")):
+            os.unlink(os.path.join(self.folder, "kill"))
 
     def texts(self, kind="mail"):
         """What was brought, each time."""
@@ -117,12 +135,7 @@ class Hook:
         if self.to_kill is not None:
             process, self.to_kill = self.to_kill, None
             os.kill(process, signal.SIGKILL)
-        try:
-            handler.send_response(self.answer)
-            handler.send_header("content-length", "0")
-            handler.end_headers()
-        except OSError:
-            pass  # it was killed
+        reply(handler, self.answer, b"")
 
     def messages(self):
         """What was taken, by its id: one that came again is dropped, and has to be the same."""
@@ -162,16 +175,14 @@ class Door:
 
     def pass_on(self, handler, farm):
         self.asked.append((handler.command, handler.path))
-        user = handler.headers["x-user"]
-        key = handler.headers["x-key"]
-        status, said = farm.ask(user, handler.command, handler.path, key=key)
+        user, key = handler.headers["x-user"], handler.headers["x-key"]
+        try:
+            status, said = farm.ask(user, handler.command, handler.path, key=key)
+        except (OSError, http.client.HTTPException):
+            return  # no desk is there
         if status == 200:
             said = {**said, **self.change.get(handler.path, {})}
-        body = json.dumps(said).encode()
-        handler.send_response(status)
-        handler.send_header("content-length", str(len(body)))
-        handler.end_headers()
-        handler.wfile.write(body)
+        reply(handler, status, json.dumps(said).encode())
 
     def looks(self):
         return self.asked.count(("GET", "/status"))
@@ -183,10 +194,10 @@ class Door:
 class Watched:
     """A farm, its rules, and who is told."""
 
-    def __init__(self, program, room, rules, boards=BOARDS, mail=True, hook=True, door=False):
+    def __init__(self, program, room, rules, boards=BOARDS, mail=True, hook=True):
         self.folder = tempfile.mkdtemp(dir=room)
         self.farm = Farm(program, self.folder, list(boards))
-        self.door = Door(self.farm) if door else None
+        self.door = Door(self.farm)
         self.mailbox = Mailbox(self.folder)
         self.hook = Hook()
         self.place = os.path.join(self.folder, "watch")
@@ -195,7 +206,7 @@ class Watched:
 
     def write_rules(self, rules, mail=True, hook=True):
         heads = [
-            f"[desk]\nserver = '{self.door.address if self.door else self.farm.server}'\n",
+            f"[desk]\nserver = '{self.door.address}'\n",
             "[mail]\nfrom = 'farm@lab.example'\nto = '{owner}@lab.example'\n"
             f"admin = 'lab@lab.example'\nsendmail = '{self.mailbox.sendmail}'\n" if mail else "",
             f"[webhook]\nurl = '{self.hook.url}'\n" if hook else "",
@@ -210,6 +221,11 @@ class Watched:
         seen = read(os.path.join(self.folder, "output")).count("sees ")
         self.tool = Tool(self.words(*more), self.folder)
         wait_until("a first look", lambda: self.tool.output().count("sees ") > seen)
+
+    def looked(self, count=1):
+        """Waits for whole looks that begin from now on."""
+        begun = self.door.looks()
+        wait_until("looks", lambda: self.door.looks() > begun + count)
 
     def stop(self):
         self.tool.send(signal.SIGTERM)

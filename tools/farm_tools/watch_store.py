@@ -54,7 +54,14 @@ class Delivery(NamedTuple):
     body: Dict[str, Any]
 
 
+# What was seen, by its kinds: the farm's own numbers; each board's health; open groups of jobs and
+# reservations that wait, with their owners; holds, and those that are about to be ended.
 Seen = Dict[str, Dict[str, Any]]
+KINDS = ("farm", "boards", "groups", "waiting", "holds", "endings")
+
+
+def nothing() -> Seen:
+    return {kind: {} for kind in KINDS}
 
 
 class Store:
@@ -65,6 +72,8 @@ class Store:
         self.line = sqlite3.connect(file, check_same_thread=False, isolation_level=None)
         self.line.execute("PRAGMA synchronous = FULL")
         self.line.executescript(TABLES)
+        # what isn't told yet, or was being told when the process was killed, is tried at once
+        self.line.execute("UPDATE deliveries SET due = 0 WHERE done IS NULL")
         self.kept = self._seen()
         self.mark = self._mark()
 
@@ -99,7 +108,7 @@ class Store:
 
     def seen(self) -> Seen:
         """What was seen at the last look that was kept; the caller's own."""
-        return {kind: dict(rows) for kind, rows in self.kept.items() if kind != "file"}
+        return {kind: dict(self.kept.get(kind, {})) for kind in KINDS}
 
     def keep(self, seen: Seen, events: Sequence[Event]) -> None:
         """Keeps what a look saw, and its events, in one commit; nothing where nothing is new."""

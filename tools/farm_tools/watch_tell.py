@@ -9,6 +9,7 @@ import socket
 import sqlite3
 import ssl
 import subprocess
+import tempfile
 import threading
 import time
 import urllib.parse
@@ -65,17 +66,21 @@ def send_mail(mail: Mail, it: Delivery) -> str:
 
 
 def _hand_over(command: str, text: bytes) -> None:
-    """In a session of its own, so that a signal to farm-watch's group doesn't end it."""
+    """In a session of its own, so that a signal to farm-watch's group doesn't end it; from a file, so
+    that it has the whole message also where farm-watch is killed meanwhile."""
     try:
-        ran = subprocess.run(
-            [command, "-t", "-i"],
-            input=text,
-            stdout=subprocess.DEVNULL,
-            stderr=subprocess.PIPE,
-            timeout=SENDMAIL_WAITS,
-            check=False,
-            start_new_session=True,
-        )
+        with tempfile.TemporaryFile() as file:
+            file.write(text)
+            file.seek(0)
+            ran = subprocess.run(
+                [command, "-t", "-i"],
+                stdin=file,
+                stdout=subprocess.DEVNULL,
+                stderr=subprocess.PIPE,
+                timeout=SENDMAIL_WAITS,
+                check=False,
+                start_new_session=True,
+            )
     except (OSError, subprocess.SubprocessError) as fault:
         raise Undelivered(str(fault)) from fault
     if ran.returncode:

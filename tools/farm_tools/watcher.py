@@ -12,7 +12,7 @@ from farm_tools.watch_events import Events, fullness
 from farm_tools.watch_file import Rules
 from farm_tools.watch_holds import Holds
 from farm_tools.watch_passes import Passes
-from farm_tools.watch_store import Seen, Store
+from farm_tools.watch_store import Seen, Store, nothing
 
 MOST_JOBS = 200  # jobs that a look asks for one by one; the next look goes on
 
@@ -88,7 +88,7 @@ class Watcher:
     def no_answer(self, trouble: str) -> None:
         """Notes that the desk gives no answer, so that nobody knows of a pass."""
         seen = self.store.seen()
-        farm = seen.get("farm", {})
+        farm = seen["farm"]
         if farm and self.rules.late and self.passes.is_late() and farm["late"] is None:
             events = Events(self.rules, farm["number"])
             events.pass_late(self.clock, trouble)
@@ -107,11 +107,11 @@ class Watcher:
         """What was seen before, and whether this is the first look at the farm: another farm begins
         its numbers anew."""
         seen = self.store.seen()
-        farm = seen.get("farm", {})
-        status = look.status
+        farm, status = seen["farm"], look.status
         if "next" in farm and status["next"] >= farm["next"] and status["count"] >= farm["count"]:
-            return {**self._nothing(), **seen}, False
+            return seen, False
         began: Seen = {
+            **nothing(),
             "farm": {
                 "number": farm.get("number", 0) + 1,
                 "next": 1,
@@ -119,14 +119,10 @@ class Watcher:
                 "late": None,
                 "full": 0,
             },
-            **self._nothing(),
             "waiting": {str(it): row["owner"] for it, row in look.claims("reservation").items()},
         }
         self._open_jobs(began, look)
         return began, True
-
-    def _nothing(self) -> Seen:
-        return {"groups": {}, "waiting": {}, "boards": {}, "holds": {}, "endings": {}}
 
     def _open_jobs(self, seen: Seen, look: Look) -> None:
         """Takes up the jobs that are open at the first look, and leaves those that were before."""
