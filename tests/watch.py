@@ -17,7 +17,7 @@ import time
 
 import watch_told
 from desks import GROUP, write
-from served import TOOLS, TOP, demand, environment, free_port, wait_until
+from served import TOOLS, TOP, Tool, demand, environment, free_port, wait_until
 from watched import HOUR, Watched
 
 WATCH = os.path.join(TOOLS, "farm-watch")
@@ -258,6 +258,10 @@ def late_passes(room):
         sum("The desk answers." in it for it in texts),
         sum("The desk gives no answer: " in it for it in texts),
     ])
+    lab.stop()
+    lab.place = os.path.join(lab.folder, "another")
+    lab.tool = Tool(lab.words(), lab.folder)
+    lab.mails([subject] * 4)
     lab.stop()
     return "a pass that doesn't come is told once, also beside others' commands and a dead desk"
 

@@ -1,5 +1,6 @@
 """farm-watch: tells by mail and webhook what happens at the desk, and ends holds."""
 import argparse
+import contextlib
 import os
 import select
 import signal
@@ -179,7 +180,8 @@ class Once:
     def tell(self, text: str) -> None:
         if text != self.last:
             self.last = text
-            end(0, text)
+            with contextlib.suppress(OSError):  # nobody is there to be told
+                end(0, text)
 
 
 def serve(watcher: Watcher, tellers: List[watch_tell.Teller], stops: Stops, every: float) -> int:

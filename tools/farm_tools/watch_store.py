@@ -130,14 +130,15 @@ class Store:
     # ---- what is to be told
 
     def take(self, way: str) -> Optional[Delivery]:
-        """The next delivery that is due on a way. That it is tried is noted, and when it's tried
-        again where it isn't done by then."""
+        """The next delivery that is due on a way, first those that weren't tried yet. That it is
+        tried is noted, and when it's tried again where it isn't done by then."""
         now = time.time()
         with self._change() as line:
             # (a moment that is far ahead was noted before the machine's clock was set back)
             row = line.execute(
                 "SELECT event, tries, at, body FROM deliveries JOIN events ON number = event "
-                "WHERE way = ? AND done IS NULL AND (due <= ? OR due > ?) ORDER BY due, event",
+                "WHERE way = ? AND done IS NULL AND (due <= ? OR due > ?) "
+                "ORDER BY tries > 0, due, event",
                 (way, now, now + LONGEST_WAIT + 1),
             ).fetchone()
             if row is None:

@@ -1,5 +1,6 @@
 """How farm-watch tells: mail by sendmail, and posts to a webhook. Each way has a thread of its own,
 so neither holds up the other, nor the looks at the desk."""
+import contextlib
 import email.message
 import email.utils
 import functools
@@ -197,7 +198,8 @@ class Teller(threading.Thread):
         self.done = it
         self._note()
         if to:
-            print(f"told by {self.name} to {to}: {it.body['subject']}", flush=True)
+            with contextlib.suppress(OSError):  # nobody reads it
+                print(f"told by {self.name} to {to}: {it.body['subject']}", flush=True)
         return True
 
     def _note(self) -> None:

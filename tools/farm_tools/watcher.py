@@ -89,8 +89,8 @@ class Watcher:
         """Notes that the desk gives no answer, so that nobody knows of a pass."""
         seen = self.store.seen()
         farm = seen["farm"]
-        if farm and self.rules.late and self.passes.is_late() and farm["late"] is None:
-            events = Events(self.rules, farm["number"])
+        if self.rules.late and self.passes.is_late() and farm.get("late") is None:
+            events = Events(self.rules, farm.get("number", 0))
             events.pass_late(self.clock, trouble)
             seen["farm"] = {**farm, "late": self.passes.sign()}
             self.store.keep(seen, events.found)
