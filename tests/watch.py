@@ -8,6 +8,7 @@ and farm-watch killed (kill -9) at many places, over which each event has to be 
 watch_told.py). Ends with status 1 at the first thing that isn't as it should be, and with 77 where
 the machine lacks what it wants. Takes three minutes.
 """
+import json
 import os
 import shutil
 import subprocess
@@ -60,6 +61,8 @@ def ends_of_jobs(room):
         ("job-ended", group, "two", ["Complete", "Incomplete"], ["b1", "b2"]),
         tuple(said[it] for it in ("event", "job", "title", "results", "boards")),
     )
+    demand("its text", f"cat: job {group} (two) has ended: Complete, Incomplete",
+           said["text"].split("\n")[0])
     path, fields, _ = lab.hook.posted[0]
     demand("where it is posted", ("/hook?room=1", "application/json"),
            (path, fields["content-type"]))
@@ -75,6 +78,35 @@ def ends_of_jobs(room):
            [it for it in lab.mailbox.told() if f"job {early} " in it[1]])
     lab.end()
     return "a job's end is told once, of a group with all members, also one between two looks"
+
+
+def reasons(room):
+    """The dispatcher's history, where the desk's proxy serves it."""
+    lab = Watched(FARM, room, JOBS, hook=False)
+    of_bob = {"kind": "job", "job": 2, "owner": "bob", "outcome": "Incomplete"}
+    rows = [
+        {**of_bob, "owner": "ann", "reason": "another farm's"},
+        {**of_bob, "reason": "time limit of 1 hour,\nstatus 143"},
+        {"kind": "job", "job": 1},
+    ]
+    lab.door.serves["/history.json"] = json.dumps({"at": 1, "jobs": rows, "boards": []}).encode()
+    lab.start()
+    lab.runs("true")
+    lab.runs("true", user="bob", outcome="Incomplete")
+    lab.mails([
+        (at("ann"), "farm: job 1 (test) has ended: Complete"),
+        (at("bob"), "farm: job 2 (test) has ended: Incomplete"),
+    ])
+    texts = {it["to"]: it.get_content() for it in lab.mailbox.mails()}
+    demand("where it has none", False, "Reason" in texts[at("ann")])
+    demand("where it has one", "Reason: time limit of 1 hour, status 143",
+           texts[at("bob")].splitlines()[-1])
+    lab.door.serves["/history.json"] = b"[]"
+    last = lab.runs("true")
+    wait_until("the next", lambda: (at("ann"), f"farm: job {last} (test) has ended: Complete")
+               in lab.mailbox.told())
+    lab.end()
+    return "a reason of the dispatcher's history is told, where a proxy serves that"
 
 
 def some_outcomes(room):
@@ -282,7 +314,7 @@ def full(room):
     said = next(it for it in lab.hook.messages() if it["level"] == 95)
     demand("a message's facts", (50000, 45000), (said["jobs"], said["reservations"]))
     lab.end()
-    return "a farm that is 80 and 95 % full, by rows or by the replies that these take, is told once"
+    return "a farm that is 80 and 95 % full, by rows or the replies that they take, is told once"
 
 
 def what_is_asked(room):
@@ -304,6 +336,7 @@ def what_is_asked(room):
     asked = [path for _, path in lab.door.asked[before:]]
     demand("commands", [], [it for it in lab.door.asked if it[0] != "GET"])
     demand("what grows", 0, asked.count("/reservations"))
+    demand("the history, which isn't served", 1, lab.door.count("/history.json"))
     demand("what is asked of an end", True, asked.count(f"/jobs/{job}") <= 2)
     views = {"/status", "/queue", "/boards"}
     demand("a look's views", True, sum(it not in views for it in asked) <= 3)
@@ -369,7 +402,8 @@ FAULTS = [
      "line 4: [board] bad: its mail goes to the admins, and [mail] has no admin"),
     ("[mail]\n[job]\nended = true\n", "line 1: [mail]: from is missing: whom the mail comes from"),
     ("[webhook]\nurl = 'ftp://x/'\n",
-     "line 2: [webhook] url: 'ftp://x/' is no address, as \"https://chat.lab.example/hook\" is one"),
+     "line 2: [webhook] url: 'ftp://x/' is no address, "
+     "as \"https://chat.lab.example/hook\" is one"),
     (f"{MAIL}[owners]\nann = 'ann'\n",
      "line 6: [owners] ann: 'ann' is no address of mail, as \"ann@lab.example\" is one"),
     (f"{MAIL}[pass]\nlate = '1s'\n", "line 6: [pass] late: '1s' isn't within 10 seconds to 1 day"),
@@ -421,6 +455,9 @@ def words(room):
            (4, "mail: told lab@lab.example\n", "farm-watch: webhook: 127.0.0.1: answered 500\n"),
            watch("--try", *lab.words()[1:]))
     lab.end()
+    write(lab.place, "watch.db", "no database" * 100)
+    told = f"farm-watch: {place}/watch.db: file is not a database\n"
+    demand("a file that is none", (4, "", told), watch(*lab.words()[1:]))
     return "--check, --try, settings of the environment and exit statuses are as they are told"
 
 
@@ -447,6 +484,7 @@ def unit(room):
 ROWS = [
     refused_files,
     ends_of_jobs,
+    reasons,
     some_outcomes,
     boards,
     checks,

@@ -12,8 +12,8 @@ from watched import HOUR, Watched
 
 FARM = ""
 JOBS = "[job]\nended = true\n"
-# Runs farm-watch, and kills it at the COUNT-th of its places: each statement that its SQLite begins,
-# each connection and each process that it begins.
+# Runs farm-watch, and kills it at the COUNT-th of its places: each statement that its SQLite
+# begins, each connection and each process that it begins.
 KILLED = """\
 import os, runpy, signal, sqlite3, sys
 left = int(sys.argv[1])

@@ -157,6 +157,7 @@ class Door:
     def __init__(self, farm):
         self.asked = []
         self.change = {}
+        self.serves = {}  # what it serves beside the desk
         door = self
 
         class Handler(http.server.BaseHTTPRequestHandler):
@@ -175,6 +176,9 @@ class Door:
 
     def pass_on(self, handler, farm):
         self.asked.append((handler.command, handler.path))
+        if handler.path in self.serves:
+            reply(handler, 200, self.serves[handler.path])
+            return
         user, key = handler.headers["x-user"], handler.headers["x-key"]
         try:
             status, said = farm.ask(user, handler.command, handler.path, key=key)

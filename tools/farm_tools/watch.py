@@ -45,7 +45,7 @@ def main(words=None) -> int:
         return run(options, rules)
     except BadFile as fault:
         return end(BAD, str(fault))
-    except (settings.BadSettings, OSError, sqlite3.Error) as fault:
+    except (settings.BadSettings, OSError) as fault:
         return end(FAULT, str(fault))
 
 
@@ -137,7 +137,11 @@ def run(options: argparse.Namespace, rules: Rules) -> int:
     lock = folders.take_lock(os.path.join(place, folders.LOCK))
     if lock is None:
         return end(FAULT, f"{place} is in use by another farm-watch")
-    store = Store(os.path.join(place, "watch.db"))
+    file = os.path.join(place, "watch.db")
+    try:
+        store = Store(file)
+    except sqlite3.Error as fault:
+        return end(FAULT, f"{file}: {fault}")
     once = Once()
     tellers = [
         watch_tell.Teller(store, name, way, once.tell)

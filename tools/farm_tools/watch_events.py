@@ -63,18 +63,20 @@ class Events:
             reservation=number, board=board, since=begin,
         )
 
-    def job_ended(self, members: List[Dict[str, Any]]) -> None:
+    def is_told(self, members: List[Dict[str, Any]]) -> bool:
+        """Whether the end of a job of these members is told."""
+        return any(it["result"] in self.rules.outcomes for it in members)
+
+    def job_ended(self, members: List[Dict[str, Any]], reason: str) -> None:
         first = members[0]
         number, results = first["number"], [it["result"] for it in members]
-        if not set(results) & set(self.rules.outcomes):
-            return
         title = title_of(first["text"])
         named = f"job {number} ({title})" if title else f"job {number}"
         self._add(
             "job", "job-ended", number, first["owner"],
             f"{named} has ended: {', '.join(results)}",
-            tables.lines_of(members, ENDED),
-            job=number, title=title, type=first["type"], results=results,
+            [*tables.lines_of(members, ENDED), *(["", f"Reason: {reason}"] if reason else [])],
+            job=number, title=title, type=first["type"], results=results, reason=reason,
             boards=[it["board"] for it in members],
         )
 

@@ -67,8 +67,8 @@ def send_mail(mail: Mail, it: Delivery) -> str:
 
 
 def _hand_over(command: str, text: bytes) -> None:
-    """In a session of its own, so that a signal to farm-watch's group doesn't end it; from a file, so
-    that it has the whole message also where farm-watch is killed meanwhile."""
+    """In a session of its own, so that a signal to farm-watch's group doesn't end it; from a file,
+    so that it has the whole message also where farm-watch is killed meanwhile."""
     try:
         with tempfile.TemporaryFile() as file:
             file.write(text)
@@ -93,10 +93,13 @@ def _hand_over(command: str, text: bytes) -> None:
 
 
 def post(webhook: Webhook, it: Delivery) -> str:
-    """Posts a message as JSON, within five seconds. At each try it is the same to the byte."""
+    """Posts a message as JSON, within five seconds. At each try it is the same to the byte. Its
+    text is whole by itself, since chats show that alone."""
     address = urllib.parse.urlsplit(webhook.url)
     host = address.hostname or ""
-    body = json.dumps({"id": it.ident, **it.body}, ensure_ascii=False).encode()
+    owner = f"{it.body['owner']}: " if it.body["owner"] else ""
+    text = f"{owner}{it.body['subject']}\n{it.body['text']}"
+    body = json.dumps({"id": it.ident, **it.body, "text": text}, ensure_ascii=False).encode()
     path = urllib.parse.urlunsplit(("", "", address.path or "/", address.query, ""))
     fields = {
         "content-type": "application/json",

@@ -10,6 +10,7 @@ from typing import Any, Dict, List, NamedTuple, Optional, Set, Tuple
 from farm_tools import calls, waiting, wants
 from farm_tools.watch_events import Events, fullness
 from farm_tools.watch_file import Rules
+from farm_tools.watch_history import History
 from farm_tools.watch_holds import Holds
 from farm_tools.watch_passes import Passes
 from farm_tools.watch_store import Seen, Store, nothing
@@ -47,6 +48,7 @@ class Watcher:
         self.store = store
         self.rules = rules
         self.passes = Passes(desk, rules.late or 0)
+        self.history = History(desk)
         self.holds = Holds(desk, store, rules, self.passes.note_own, told)
         self.checked: Optional[Set[str]] = None
         self.types = -1
@@ -57,6 +59,7 @@ class Watcher:
     def round(self) -> None:
         """Looks once, and keeps what has happened."""
         self.left = MOST_JOBS
+        self.history.begin_look()
         look = self._look()
         seen, is_first = self._begun(look)
         events = Events(self.rules, seen["farm"]["number"])
@@ -207,8 +210,8 @@ class Watcher:
                 found = [it for it in members if it is not None and it["group"] == group]
                 if all(it["state"] == "Finished" for it in found):
                     del seen["groups"][key]
-                    if found:
-                        events.job_ended(found)
+                    if events.is_told(found):
+                        events.job_ended(found, self.history.reason(found))
 
     # ---- reservations, boards, passes, room
 
