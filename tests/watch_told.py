@@ -1,6 +1,7 @@
 """Rows of tests/watch.py: messages that aren't taken at once, and farm-watch killed (kill -9)."""
 import os
 import random
+import re
 import signal
 import subprocess
 import sys
@@ -32,7 +33,7 @@ sys.addaudithook(lambda name, _: name in ("socket.connect", "subprocess.Popen") 
 sys.argv = sys.argv[2:]
 runpy.run_path(sys.argv[0], run_name="__main__")
 """
-KILLS, HOLDS = 45, 12
+KILLS, HOLDS = 45, 10
 
 
 def ended(number):
@@ -134,10 +135,10 @@ def killed(room):
     places of its own, by the sendmail that has just taken a message, by the webhook before it
     answers. Dropping what came again, each event was told once by each way."""
     chance = random.Random(53)
-    lab = Watched(FARM, room, f"{JOBS}[board]\nbad = true\n[hold]\nremind = '4h'\nend = '4h1m'\n",
+    lab = Watched(FARM, room, f"{JOBS}[board]\nbad = true\n[hold]\nremind = '4h'\nend = '4h2m'\n",
                   boards=[])
     now = time.time()
-    moments = [(now - 4 * HOUR + 10 + 5 * it, f"user{it}", f"h{it}") for it in range(HOLDS)]
+    moments = [(now - 4 * HOUR - 50 + 8 * it, f"user{it}", f"h{it}") for it in range(HOLDS)]
     numbers = lab.held_since(moments)
     lab.farm.tell("admin", "/types", {"name": "bbb"})
     lab.farm.tell("admin", "/boards", {"name": "b0", "type": "bbb"})
@@ -165,9 +166,19 @@ def killed(room):
     told = [("ann", ended(it)) for it in jobs]
     told += [("", f"board {it} is Bad") for it in bad]
     for place, number in enumerate(numbers):
-        user = f"user{place}"
-        told.append((user, f"you have held h{place} for 4 hours (reservation {number})"))
-        told.append((user, f"reservation {number} was ended: you had held h{place} for 4 hours"))
+        told.append((
+            f"user{place}", f"reservation {number} was ended: you had held h{place} for 4 hours"
+        ))
+    wait_until("the last end", lambda: told_of(lab.hook.told("hold-ended"), told), 300)
+    lab.looked(3)
+    reminders = [
+        (f"user{place}", f"you have held h{place} for 4 hours (reservation {number})")
+        for place, number in enumerate(numbers)
+    ]
+    # (on a slow machine a hold's end may be there before the look that would have reminded of it)
+    seen = [it for it in reminders if it in in_hours(lab.hook.told("hold-reminder"))]
+    demand("reminders", True, len(seen) >= HOLDS / 2)
+    told += seen
     wait_until("the webhook's messages", lambda: len(lab.hook.messages()) >= len(told), 180)
     wait_until("the mails", lambda: len(lab.mailbox.mails()) >= len(told), 180)
     demand_told("by the webhook", told, lab.hook.told())
@@ -198,9 +209,9 @@ def begun(lab, count):
 
 
 def was_killed(process):
-    """Whether it was killed by itself within some seconds; if not it is killed now."""
+    """Whether it was killed by itself; if not it is killed now."""
     try:
-        process.wait(timeout=8)
+        process.wait(timeout=40)
     except subprocess.TimeoutExpired:
         process.kill()
         process.wait()
@@ -209,9 +220,19 @@ def was_killed(process):
     return 1
 
 
+def in_hours(found):
+    """What was told, with the times of holds in whole hours."""
+    return sorted((to, re.sub(" hours [0-9]+ minutes?", " hours", text)) for to, text in found)
+
+
+def told_of(found, wanted):
+    """Whether all ends of holds among these were told."""
+    return {it for it in wanted if " was ended: " in it[1]} <= set(in_hours(found))
+
+
 def demand_told(way, wanted, found):
-    """Demands that each was told, and none twice; a held time may be told in minutes too."""
-    found = sorted((owner, text.replace(" 1 minute", "")) for owner, text in found)
+    """Demands that each was told, and none twice."""
+    found = in_hours(found)
     demand(f"what was told {way} and lacks", [], sorted(set(wanted) - set(found)))
     demand(f"what was told {way} and shouldn't", [], sorted(set(found) - set(wanted)))
     demand(f"what was told {way} twice", [], sorted({it for it in found if found.count(it) > 1}))
