@@ -8,7 +8,7 @@ import sys
 import tempfile
 import time
 
-from served import STARTED, TOOLS, demand, environment, wait_until
+from served import STARTED, TOOLS, Tool, demand, environment, wait_until
 from watched import HOUR, Watched
 
 FARM = ""
@@ -130,6 +130,49 @@ def stopped_at_a_message(room):
 # ---- kills
 
 
+def killed_at_an_end(room):
+    """A hold is being ended when farm-watch is killed: before the desk has the command, or after."""
+    lab = Watched(FARM, room, "[hold]\nend = '12h'\n", boards=[])
+    moments = [(time.time() - 13 * HOUR + it, f"user{it}", f"h{it}") for it in range(4)]
+    held = lab.held_since(moments)
+
+    def is_killed(when):
+        setattr(lab.door, when, lambda: lab.tool.send(signal.SIGKILL))
+        lab.tool = Tool(lab.words(), lab.folder)
+        demand("how it ended", -signal.SIGKILL, lab.tool.ends())
+        setattr(lab.door, when, None)
+
+    def ends(place):
+        text = f"reservation {held[place]} was ended: you had held h{place} for 13 hours"
+        return (f"user{place}@lab.example", f"farm: {text}")
+
+    is_killed("after")  # (each ends one, which the next tells)
+    demand("the first", "canceled", lab.farm.reservation(held[0])["state"])
+    is_killed("before")
+    lab.farm.tell("user1", f"/reservations/{held[1]}/refresh")
+    lab.farm.tell("user2", f"/reservations/{held[2]}/cancel")
+    lab.start()
+    lab.mails([ends(0), ends(3)])
+    lab.looked(3)
+    demand("states", ["canceled", "acquired", "canceled", "canceled"],
+           [lab.farm.reservation(it)["state"] for it in held])
+    demand("who was told", sorted([ends(0), ends(3)]), lab.mailbox.told())
+    lab.end()
+    return "killed while it ends a hold it tells its own end, and neither an extended nor another's"
+
+
+def no_room_for_replies(room):
+    lab = Watched(FARM, room, "[hold]\nend = '12h'\n", boards=[])
+    (number,) = lab.held_since([(time.time() - 13 * HOUR, "ann", "h1")])
+    lab.door.is_full = True
+    lab.start()
+    text = f"farm: reservation {number} was ended: you had held h1 for 13 hours"
+    lab.mails([("ann@lab.example", text)])
+    demand("its state", "canceled", lab.farm.reservation(number)["state"])
+    lab.end()
+    return "where the desk has no room for replies, holds are ended without keys"
+
+
 def killed(room):
     """farm-watch is killed while jobs end, boards go Bad, and holds are reminded of and ended: at
     places of its own, by the sendmail that has just taken a message, by the webhook before it
@@ -238,4 +281,12 @@ def demand_told(way, wanted, found):
     demand(f"what was told {way} twice", [], sorted({it for it in found if found.count(it) > 1}))
 
 
-ROWS = [refused_messages, waits_that_grow, webhook_that_hangs, stopped_at_a_message, killed]
+ROWS = [
+    refused_messages,
+    waits_that_grow,
+    webhook_that_hangs,
+    stopped_at_a_message,
+    killed_at_an_end,
+    no_room_for_replies,
+    killed,
+]

@@ -158,6 +158,9 @@ class Door:
         self.asked = []
         self.change = {}
         self.serves = {}  # what it serves beside the desk
+        self.is_full = False  # it refuses keys, as a farm that has no room for replies
+        self.before = None  # what is called in the place of a command,
+        self.after = None  # and after one, before its answer
         door = self
 
         class Handler(http.server.BaseHTTPRequestHandler):
@@ -180,10 +183,18 @@ class Door:
             reply(handler, 200, self.serves[handler.path])
             return
         user, key = handler.headers["x-user"], handler.headers["x-key"]
+        if self.is_full and key:
+            reply(handler, 409, b'{"code":4,"text":"full"}')
+            return
+        if self.before is not None and handler.command == "POST":
+            self.before()
+            return
         try:
             status, said = farm.ask(user, handler.command, handler.path, key=key)
         except (OSError, http.client.HTTPException):
             return  # no desk is there
+        if self.after is not None and handler.command == "POST":
+            self.after()
         if status == 200:
             said = {**said, **self.change.get(handler.path, {})}
         reply(handler, status, json.dumps(said).encode())

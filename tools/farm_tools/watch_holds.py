@@ -50,13 +50,12 @@ class Holds:
         self.later = {key: it for key, it in self.later.items() if key in acquired}
 
     def care(self, events: Events, now: float) -> None:
-        """Reminds of the holds that are due, and ends those that are. Which are to be ended is kept
+        """Reminds of the holds that are due, and ends those that are. Which may be ended is kept
         before, so that one that was ended is told also where this process was killed then."""
         seen = self.store.seen()
         due = {key for key in seen["holds"] if self._is_due(seen, key, now)}
-        for key in due:
-            if self._is_over(seen["holds"][key][2], now):
-                seen["endings"][key] = now
+        if self.rules.end is not None:
+            seen["endings"].update(dict.fromkeys(due, True))
         due |= seen["endings"].keys()
         if not due:
             return
@@ -84,7 +83,7 @@ class Holds:
     def _settle(self, seen: Seen, key: str, row: Optional[Dict[str, Any]], events: Events,
                 now: float) -> None:
         """Does with a hold what its row asks for now."""
-        began_to_end = seen["endings"].pop(key, None) is not None
+        began_to_end = seen["endings"].pop(key, False)
         if row is None or row["state"] not in ("acquired", "canceled"):
             return
         begin = row["deadline"] - LEASE

@@ -55,7 +55,7 @@ class Delivery(NamedTuple):
 
 
 # What was seen, by its kinds: the farm's own numbers; each board's health; open groups of jobs and
-# reservations that wait, with their owners; holds, and those that are about to be ended.
+# reservations that wait, with their owners; holds, and those that may be ended.
 Seen = Dict[str, Dict[str, Any]]
 KINDS = ("farm", "boards", "groups", "waiting", "holds", "endings")
 
