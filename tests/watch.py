@@ -6,7 +6,7 @@ that went Bad or came free, holds that are reminded of and ended, passes that do
 that gets full, what a rules' file can't say, what is asked of the desk, messages that aren't taken,
 and farm-watch killed (kill -9) at many places, over which each event has to be told once (rows of
 watch_told.py). Ends with status 1 at the first thing that isn't as it should be, and with 77 where
-the machine lacks what it wants. Takes three minutes.
+the machine lacks what it wants. Takes five minutes.
 """
 import json
 import os
