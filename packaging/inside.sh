@@ -53,6 +53,7 @@ began=$(date +%s%N)
 install ./fizgruk-desk_*.deb ./fizgruk-farm_*.deb
 unit farm enabled active 'the first installation'
 unit farm-dispatch enabled active 'the first installation'
+unit farm-watch enabled inactive 'the first installation, without rules'
 systemctl stop farm
 cp "$lab" /root/lab.toml
 said=$(runuser -u farm -- farm import --db $home/lab.db --at "$(date +%s)" /dev/stdin < /root/lab.toml)

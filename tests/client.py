@@ -150,7 +150,18 @@ def reservations(farm, folder):
         (3, "", f"desk: refused: 32 wrong reservation state: reservation {number} is acquired\n"),
         desk(farm, "acquire", str(number)),
     )
+    before = farm.reservation(number)["deadline"]
+    wait_until("a later second", lambda: time.time() >= before - 58)
+    prints(farm, "", "extend", str(number))
+    extended = farm.reservation(number)
+    demand("an extended one", "acquired", extended["state"])
+    demand("its deadline is later", True, extended["deadline"] > before)
     prints(farm, f'{{"number":{number}}}\n', "cancel-reservation", str(number), "--json")
+    demand(
+        "extend one that ended",
+        (3, "", f"desk: refused: 32 wrong reservation state: reservation {number} is canceled\n"),
+        desk(farm, "extend", str(number)),
+    )
     tool = waiting_tool(farm, folder, "reserve", "--wait", "--every", "0.1")
     number = int(wait_until("its number", lambda: tool.output().strip()))
     farm.tell("ann", f"/reservations/{number}/cancel")
@@ -165,7 +176,7 @@ def reservations(farm, folder):
     tool.send(signal.SIGTERM)
     demand("one that is interrupted", 143, tool.ends())
     demand("its state", "canceled", farm.reservation(number)["state"])
-    return "a board is reserved, waited for, acquired, released and given back, interrupted too"
+    return "a board is reserved, waited for, acquired, extended and given back, interrupted too"
 
 
 def signal_that_is_dropped(farm, folder):

@@ -306,6 +306,7 @@ def completion(farm, folder):
     at = f"desk --server {farm.server}"
     completes("desk ", "queue", "health", "tags", "add-type", "add-board", "import", "with")
     completes("desk --v", "--version", others=["queue"])
+    completes("desk ext", "extend", others=["queue"])
     completes("desk --json ad", "add-type", "add-board", others=["queue"])
     completes(f"{at} health b1 ", "b1", "b2", "c1", "Good", "Retired", others=["hdmi"])
     completes(f"{at} tags ", "b1", "b2", others=["hdmi", "Good"])

@@ -34,6 +34,7 @@ field() { dpkg-deb -f "$folder"/"$1"_*.deb "$2"; }
 ! grep -E '^./(lib|etc|usr/bin/farm)' "$folder/fizgruk-desk/files" || fail "the client's package has more than the client"
 ! grep -l 'systemctl\|deb-systemd\|adduser' "$folder"/fizgruk-desk/*inst || fail "the client's package starts something"
 for file in lib/systemd/system/farm.service lib/systemd/system/farm-dispatch.service usr/bin/farm usr/bin/farm-dispatch \
+    lib/systemd/system/farm-watch.service usr/bin/farm-watch \
     usr/share/fizgruk/page/farm.html etc/nginx/sites-available/farm etc/farm/run-job etc/farm/check-board; do
     grep -qx "./$file" "$folder/fizgruk-farm/files" || fail "fizgruk-farm has no $file"
 done
@@ -50,7 +51,7 @@ for name in $(grep -o 'bin/fizgruk[^ ]*[.]deb' docs/USING.md | sed "s,bin/,,; s,
 done
 
 # ---- its units: enabled at the first installation alone, by what keeps an admin's choice
-for unit in farm farm-dispatch; do
+for unit in farm farm-dispatch farm-watch; do
     grep -q "was-enabled '$unit.service'" "$folder/fizgruk-farm/postinst" || fail "$unit isn't enabled"
 done
 ! grep 'systemctl.* enable\|systemctl.* disable' "$folder"/fizgruk-farm/p* || fail "it enables what an admin disabled"
@@ -63,10 +64,10 @@ for line in StartLimitIntervalSec=0 Restart=on-failure LimitNOFILE=2048; do
 done
 if grep -rn /usr/local "$tree/lib" "$tree/etc"; then fail "names of an installation by hand"; fi
 if command -v systemd-analyze > /dev/null; then
-    for unit in farm farm-dispatch; do
+    for unit in farm farm-dispatch farm-watch; do
         sed "s,/usr/bin/,$tree/usr/bin/,; s,/etc/farm,$tree/etc/farm,g" "$tree/lib/systemd/system/$unit.service" > "$folder/$unit.service"
     done
-    systemd-analyze --man=no verify "$folder/farm.service" "$folder/farm-dispatch.service" > "$folder/said" 2>&1 || :
+    systemd-analyze --man=no verify "$folder/farm.service" "$folder/farm-dispatch.service" "$folder/farm-watch.service" > "$folder/said" 2>&1 || :
     ! grep "$folder.*service:" "$folder/said" || fail "its units"
 fi
 

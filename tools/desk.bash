@@ -38,7 +38,7 @@ _desk_inner() {
 _desk() {
     local line=${COMP_LINE:0:COMP_POINT} word command= before= each place words reach=()
     word=${line##*[[:space:]]}
-    local reservations="wait acquire release refresh cancel-reservation"
+    local reservations="wait acquire release refresh extend cancel-reservation"
     local commands="boards queue jobs reservations submit cancel reserve with $reservations"
     commands="$commands health tags add-type add-board import"
     for each in ${line%"$word"}; do

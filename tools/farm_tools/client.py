@@ -18,6 +18,8 @@ from farm_tools.version import VERSION
 
 ENDED, REFUSED, FAULT = 1, 3, 4
 PATIENCE = 15
+# what the desk calls a change of a reservation that has another name here
+ACTIONS = {"extend": "refresh", "cancel-reservation": "cancel"}
 ABOUT = "Asks the desk of a board farm, and tells it what its user wants."
 STATUSES = """\
 exit status: 0 done; 1 the job that was waited for didn't end Complete, or the
@@ -169,11 +171,12 @@ def add_reservations(command) -> None:
         ("acquire", "acquire the board that a reservation was given, and print its name"),
         ("release", "release an acquired board: the reservation keeps it for a minute"),
         ("refresh", "let a reservation live a minute from now"),
+        ("extend", "keep an acquired board for longer: its hold's age begins anew"),
         ("cancel-reservation", "end a reservation, and give its board back"),
     ]:
         change = command(name, change_reservation, about)
         change.add_argument("number", metavar="N", type=number)
-        change.set_defaults(action=name.split("-")[0])
+        change.set_defaults(action=ACTIONS.get(name, name))
     hold = command(
         "with", holding.run_with_board, "run a command with a board, and give the board back"
     )
@@ -327,8 +330,8 @@ def wait_for(desk, options) -> int:
 
 
 def change_reservation(desk, options) -> int:
-    """Acquires, releases, refreshes or cancels. A refresh that is done twice does no harm, and has
-    no key."""
+    """Acquires, releases, refreshes, which is also how a hold is extended, or cancels. A refresh
+    that is done twice does no harm, and has no key."""
     path = f"/reservations/{options.number}/{options.action}"
     try:
         said = desk.nudge(path) if options.action == "refresh" else desk.tell(

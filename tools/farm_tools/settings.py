@@ -16,7 +16,11 @@ SERVER = "http://127.0.0.1:8080"
 LOOPBACK = ("127.0.0.1", "localhost", "::1")
 WORDS = ("server", "user", "password_file", "ca_file", "timeout")
 # The sections of a file, each with its settings.
-SECTIONS = {"desk": WORDS, "dispatch": (*WORDS, "limit", "most", "retry", "clock")}
+SECTIONS = {
+    "desk": WORDS,
+    "dispatch": (*WORDS, "limit", "most", "retry", "clock"),
+    "watch": WORDS,
+}
 
 
 class BadSettings(Exception):
@@ -92,7 +96,7 @@ def _environment_of(
     for name in sorted(it for it in os.environ if it.startswith(head)):
         word = name[len(head) :]
         if word not in known:
-            bad_words(f"{name} in the environment is no setting: {_meant(word, known, head)}")
+            bad_words(f"{name} in the environment is no setting: {meant(word, known, head)}")
         found[word.lower()] = os.environ[name]
     return found
 
@@ -123,17 +127,17 @@ def _section_of(
     for name in read.sections():
         if name not in SECTIONS:
             known = [f"[{it}]" for it in SECTIONS]
-            bad_words(f"{file}: [{name}] is no section: {_meant(f'[{name}]', known)}")
+            bad_words(f"{file}: [{name}] is no section: {meant(f'[{name}]', known)}")
     found = dict(read[section]) if read.has_section(section) else {}
     for word in found:
         if word not in SECTIONS[section]:
             bad_words(
-                f"{file}: {word} in [{section}] is no setting: {_meant(word, SECTIONS[section])}"
+                f"{file}: {word} in [{section}] is no setting: {meant(word, SECTIONS[section])}"
             )
     return found
 
 
-def _meant(word: str, known: Sequence[str], head: str = "") -> str:
+def meant(word: str, known: Sequence[str], head: str = "") -> str:
     """What a misspelt word may mean. `head` stands before each in what is told."""
     near = difflib.get_close_matches(word, known, 1)
     if near:

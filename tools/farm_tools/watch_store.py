@@ -1,0 +1,228 @@
+"""What farm-watch keeps over its lives, in an SQLite file: what it saw of the farm at its last
+look, and what it has to tell.
+
+A look's events and what was seen by it are kept in one commit, so an event is kept once however
+often the process is killed. Each event has a delivery for each way of telling it. A delivery is
+noted before it is tried, with the moment of the next try, and once it is done.
+"""
+import contextlib
+import dataclasses
+import json
+import secrets
+import sqlite3
+import threading
+import time
+from typing import Any, Dict, Iterator, List, NamedTuple, Optional, Sequence, Tuple
+
+TABLES = """
+CREATE TABLE IF NOT EXISTS seen (kind TEXT, key TEXT, value TEXT NOT NULL, PRIMARY KEY (kind, key));
+CREATE TABLE IF NOT EXISTS events (
+    number INTEGER PRIMARY KEY AUTOINCREMENT, name TEXT UNIQUE NOT NULL, at INTEGER NOT NULL,
+    body TEXT NOT NULL);
+CREATE TABLE IF NOT EXISTS deliveries (
+    event INTEGER REFERENCES events, way TEXT, tries INTEGER NOT NULL, due REAL NOT NULL,
+    done REAL, PRIMARY KEY (event, way));
+CREATE INDEX IF NOT EXISTS waiting ON deliveries (way, due) WHERE done IS NULL;
+"""
+DAY = 86400
+FIRST_WAIT, LONGEST_WAIT = 5.0, 3600.0
+GIVES_UP, KEPT = 5 * DAY, 90 * DAY  # a delivery is tried so long; an event is kept so long
+
+
+@dataclasses.dataclass(frozen=True)
+class Event:
+    """Something that is told once. `name` is its own; `owner` whom it is told to, nobody's where it
+    is for the admins; `facts` what a program reads of it."""
+
+    name: str
+    kind: str
+    at: int
+    owner: str
+    subject: str
+    text: str
+    facts: Dict[str, Any]
+    ways: Tuple[str, ...]
+
+
+class Delivery(NamedTuple):
+    """An event on one way: `ident` is the same at each try, and no other event's."""
+
+    number: int
+    ident: str
+    tries: int
+    at: int
+    body: Dict[str, Any]
+
+
+# What was seen, by its kinds: the farm's own numbers; each board's health; open groups of jobs and
+# reservations that wait, with their owners; holds, and those that may be ended.
+Seen = Dict[str, Dict[str, Any]]
+KINDS = ("farm", "boards", "groups", "waiting", "holds", "endings")
+
+
+def nothing() -> Seen:
+    return {kind: {} for kind in KINDS}
+
+
+class Store:
+    """The file. Its calls may come from several threads."""
+
+    def __init__(self, file: str):
+        self.lock = threading.RLock()
+        self.line = sqlite3.connect(file, check_same_thread=False, isolation_level=None)
+        self.line.execute("PRAGMA synchronous = FULL")
+        self.line.executescript(TABLES)
+        # what isn't told yet, or was being told when the process was killed, is tried at once
+        self.line.execute("UPDATE deliveries SET due = 0 WHERE done IS NULL")
+        self.kept = self._seen()
+        self.mark = self._mark()
+
+    @contextlib.contextmanager
+    def _change(self) -> Iterator[sqlite3.Connection]:
+        """One commit."""
+        with self.lock:
+            self.line.execute("BEGIN IMMEDIATE")
+            try:
+                yield self.line
+            except BaseException:
+                self.line.execute("ROLLBACK")
+                raise
+            self.line.execute("COMMIT")
+
+    def _seen(self) -> Seen:
+        found: Seen = {}
+        for kind, key, value in self.line.execute("SELECT kind, key, value FROM seen"):
+            found.setdefault(kind, {})[key] = json.loads(value)
+        return found
+
+    def _mark(self) -> str:
+        """What tells this file's events from those of others."""
+        mark = self.kept.get("file", {}).get("mark") or secrets.token_hex(6)
+        if "file" not in self.kept:
+            with self._change() as line:
+                line.execute("INSERT INTO seen VALUES ('file', 'mark', ?)", (json.dumps(mark),))
+            self.kept["file"] = {"mark": mark}
+        return mark
+
+    # ---- what was seen
+
+    def seen(self) -> Seen:
+        """What was seen at the last look that was kept; the caller's own."""
+        return {kind: dict(self.kept.get(kind, {})) for kind in KINDS}
+
+    def keep(self, seen: Seen, events: Sequence[Event]) -> None:
+        """Keeps what a look saw, and its events, in one commit; nothing where nothing is new."""
+        seen = {**seen, "file": self.kept["file"]}
+        changes = list(_changes(self.kept, seen))
+        if not (changes or events):
+            return
+        with self._change() as line:
+            for kind, key, value in changes:
+                if value is None:
+                    line.execute("DELETE FROM seen WHERE kind = ? AND key = ?", (kind, key))
+                else:
+                    row = (kind, key, json.dumps(value))
+                    line.execute("INSERT OR REPLACE INTO seen VALUES (?, ?, ?)", row)
+            for event in events:
+                _add(line, event)
+        self.kept = {kind: dict(rows) for kind, rows in seen.items()}
+
+    # ---- what is to be told
+
+    def take(self, way: str) -> Optional[Delivery]:
+        """The next delivery that is due on a way, first those that weren't tried yet. That it is
+        tried is noted, and when it's tried again where it isn't done by then."""
+        now = time.time()
+        with self._change() as line:
+            # (a moment that is far ahead was noted before the machine's clock was set back)
+            row = line.execute(
+                "SELECT event, tries, at, body FROM deliveries JOIN events ON number = event "
+                "WHERE way = ? AND done IS NULL AND (due <= ? OR due > ?) "
+                "ORDER BY tries > 0, due, event",
+                (way, now, now + LONGEST_WAIT + 1),
+            ).fetchone()
+            if row is None:
+                return None
+            number, tries, at, body = row
+            self._try_again(line, (number, way), tries + 1, now)
+        return Delivery(number, f"{self.mark}-{number}", tries + 1, at, json.loads(body))
+
+    def _try_again(self, line: sqlite3.Connection, key: Tuple[int, str], tries: int,
+                   now: float) -> None:
+        line.execute(
+            "UPDATE deliveries SET tries = ?, due = ? WHERE event = ? AND way = ?",
+            (tries, now + wait_after(tries), *key),
+        )
+
+    def fail(self, it: Delivery, way: str) -> bool:
+        """Notes that a delivery failed. Returns whether it is tried again."""
+        now = time.time()
+        gives_up = now - it.at > GIVES_UP
+        with self._change() as line:
+            self._try_again(line, (it.number, way), it.tries, now)
+        if gives_up:
+            self.done(it, way)
+        return not gives_up
+
+    def done(self, it: Delivery, way: str) -> None:
+        """Notes that a delivery is done."""
+        with self._change() as line:
+            line.execute(
+                "UPDATE deliveries SET done = ? WHERE event = ? AND way = ?",
+                (time.time(), it.number, way),
+            )
+
+    def due(self, way: str) -> Optional[float]:
+        """In how many seconds the next delivery of a way is due, or None where there is none."""
+        with self.lock:
+            row = self.line.execute(
+                "SELECT min(due) FROM deliveries WHERE way = ? AND done IS NULL", (way,)
+            ).fetchone()
+        return None if row[0] is None else row[0] - time.time()
+
+    def remove_old(self) -> None:
+        """Removes the events of long ago, which are told or were given up."""
+        oldest = (time.time() - KEPT,)
+        with self._change() as line:
+            line.execute(
+                "DELETE FROM deliveries WHERE event IN (SELECT number FROM events WHERE at < ?)",
+                oldest,
+            )
+            line.execute("DELETE FROM events WHERE at < ?", oldest)
+
+
+def wait_after(tries: int) -> float:
+    """How long it is waited after so many tries."""
+    return min(FIRST_WAIT * 2 ** min(tries - 1, 20), LONGEST_WAIT)
+
+
+def _changes(before: Seen, after: Seen) -> Iterator[Tuple[str, str, Any]]:
+    """The rows that aren't as they were: kind, key, and the value, None for one that is gone."""
+    for kind in {**before, **after}:
+        old, new = before.get(kind, {}), after.get(kind, {})
+        for key in old.keys() - new.keys():
+            yield kind, key, None
+        for key, value in new.items():
+            if key not in old or old[key] != value:
+                yield kind, key, value
+
+
+def _add(line: sqlite3.Connection, event: Event) -> None:
+    """Adds an event that isn't there yet, with its deliveries."""
+    body = {
+        "event": event.kind,
+        "at": event.at,
+        "owner": event.owner,
+        "subject": event.subject,
+        "text": event.text,
+        **event.facts,
+    }
+    added = line.execute(
+        "INSERT OR IGNORE INTO events (name, at, body) VALUES (?, ?, ?)",
+        (event.name, event.at, json.dumps(body)),
+    )
+    if added.rowcount:
+        rows: List[Tuple[Any, ...]] = [(added.lastrowid, way, 0, 0.0) for way in event.ways]
+        line.executemany(
+            "INSERT INTO deliveries (event, way, tries, due) VALUES (?, ?, ?, ?)", rows
+        )
