@@ -4,10 +4,11 @@
 A client sends keyed commands one after another, and the desk is killed (SIGKILL) and started again at moments by
 chance. Beside them COPIES copies are made. Each is, row by row as SQLite reads it, the farm after the first so many
 commands of the stream, with all that were answered before the copy began; the log is carried into the file and
-begins anew meanwhile, which its salts tell. Then a standby is followed FOLLOWS times, and desk and follower are
-killed at once: the standby is the farm after so many commands, with all that were answered before the moment that
-it names, and it is served. The rest is what becomes of files that move, that are damaged or that are no farm, of
-copies that are too many, and of a standby that somebody else has.
+begins anew meanwhile, which its salts tell. A standby is followed FOLLOWS times, beside a desk that is killed and
+started, until it has begun its log anew as the desk did, and then desk and follower are killed at once: the standby
+is the farm after so many commands, with all that were answered before the moment that it names, and it is served.
+The rest is what becomes of files that move, that are damaged or that are no farm, of copies that are too many, and
+of a standby that somebody else has.
 
 1,000 copies and 50 follows where no numbers are given: some ten minutes. `make test` asks for fewer.
 """
@@ -31,6 +32,7 @@ FIRST = 3  # commands that make the farm: a type, a board, its health
 COPIES_OF_ONE = 50  # copies of one farm, which grows meanwhile
 BESIDE = 40  # commands beside one copy at most, so that a slow machine's farm doesn't grow for ever
 CARRIED = 3  # so often at least each farm's log begins anew beside its copies
+SLOWLY = 0.02  # seconds before each command beside a standby, so that its log begins anew as the desk's does
 STALE = 30  # seconds that a standby may be behind on a slow machine
 
 
@@ -108,10 +110,12 @@ class Stream(Worker):
         self.farm = farm
         self.answered = []  # the moment of each answer
         self.most = 10**9  # how many are sent
+        self.pause = 0.0  # before each
         super().__init__()
 
     def step(self):
         number = len(self.answered)
+        time.sleep(self.pause)
         if number >= self.most:
             time.sleep(0.005)
             return
@@ -144,7 +148,7 @@ class Kills(Worker):
 
 
 class Salts(Worker):
-    """Notes the salts that a log has had, which stand in its header behind sixteen bytes."""
+    """Notes the salts that a log has had."""
 
     def __init__(self, log):
         self.log = log
@@ -152,11 +156,20 @@ class Salts(Worker):
         super().__init__()
 
     def step(self):
-        with open(self.log, "rb") as opened:
-            header = opened.read(32)
-        if header[:1] == b"\x37":
-            self.seen.add(header[16:24])
+        salts = salts_of(self.log)
+        if salts:
+            self.seen.add(salts)
         time.sleep(0.005)
+
+
+def salts_of(log):
+    """A log's salts, which stand in its header behind sixteen bytes; nothing while it is begun anew."""
+    try:
+        with open(log, "rb") as opened:
+            header = opened.read(32)
+    except FileNotFoundError:
+        return b""
+    return header[16:24] if header[:1] == b"\x37" else b""
 
 
 def farm_of_its_own(folder):
@@ -229,17 +242,35 @@ def moment_of(to):
     return datetime.datetime.strptime(text, "%Y-%m-%dT%H:%M:%S.%f%z").timestamp()
 
 
+class Anew:
+    """Whether a standby has begun its log anew without a new copy, since it was looked at first."""
+
+    def __init__(self, name):
+        self.name = name
+        self.seen = self._look()
+
+    def _look(self):
+        copy = os.path.realpath(self.name)
+        return copy, salts_of(f"{copy}-wal")
+
+    def __call__(self):
+        before, self.seen = self.seen, self._look()
+        return before[0] == self.seen[0] and b"" not in (before[1], self.seen[1]) and before[1] != self.seen[1]
+
+
 def try_follows(folder, number, chance):
     """Kills desk and follower at once, again and again; each time the follower begins over the same standby."""
     farm = farm_of_its_own(folder)
-    to, salts = f"{folder}/standby", Salts(f"{farm.db}-wal")
-    stream, lags = Stream(farm), []
+    to, stream, lags = f"{folder}/standby", Stream(farm), []
+    stream.pause = SLOWLY
     for turn in range(number):
         follower = Tool(words_of(farm.db, "--follow", to, "--every", "0.3")[1:], tempfile.mkdtemp(dir=folder))
-        began, anew = time.time(), len(salts.seen)
+        began = time.time()
         wait_until("a standby", lambda: moment_of(to) > began, 120)
-        # until the log has begun anew, and what was answered since has been shipped
-        wait_until("a log that began anew", lambda: len(salts.seen) > anew, 300)
+        # (a desk that is killed and started goes on in the same log)
+        farm.kill()
+        farm.start()
+        wait_until("a standby that began its log anew", Anew(f"{to}/farm.db"), 300)
         later = time.time() + chance.uniform(0, 2)
         wait_until("what was answered since", lambda: moment_of(to) > later, 120)
         farm.process.kill()
@@ -251,11 +282,9 @@ def try_follows(folder, number, chance):
         demand("what the follower tells", [], [it for it in follower.errors().splitlines() if "it goes on, " not in it])
         lags.append(killed - moment_of(to))
         due = sum(1 for it in answered if it < max(moment_of(to), killed - STALE))
-        copy = os.path.realpath(f"{to}/farm.db")
-        demand_prefix(f"standby {turn}", copy, folder, due, len(answered) + 1)
+        demand_prefix(f"standby {turn}", os.path.realpath(f"{to}/farm.db"), folder, due, len(answered) + 1)
         farm.start()
     stream.end()
-    salts.end()
     farm.kill()
     print(
         f"backup: {number} standbys of {len(stream.answered)} commands, each the farm after a prefix with all that was "
@@ -316,7 +345,7 @@ def try_served_standby(farm, to, stream):
     )
     demand("a standby that was served", (4, "", wanted), backup(own, "--follow", to))
     demand("farms that lie there", [], [it for it in os.listdir(to) if it.startswith(".new-")])
-    print("backup: a standby is locked while it is followed into, served by its name, and then left alone")
+    print("backup: a standby is locked while it is followed into, served by its name, and then left alone", flush=True)
 
 
 # ---- files that aren't as they should be
@@ -349,25 +378,30 @@ class Carries(Worker):
             self.stands.wait()  # an end of the connection would remove the log
 
 
+def moving_tool(farm, to, errors):
+    """A farm-backup that makes its copy again, as it says; None of one that had its copy at once."""
+    with open(errors, "wb") as opened:
+        tool = subprocess.Popen(
+            words_of(farm.db, to, "--verbose"), stdout=subprocess.PIPE, stderr=opened, env=environment()
+        )
+    STARTED.append(tool)
+    wait_until("a copy", lambda: "copied again" in read(errors) or tool.poll() is not None, 120)
+    return tool if "copied again" in read(errors) else None
+
+
 def try_moving(folder):
     """A copy is made again while the files move, and stands once they don't."""
     farm, commands = still_farm(folder)
     to = tempfile.mkdtemp(dir=folder)
     carries = Carries(farm.db)
-    errors = f"{to}/errors"
-    with open(errors, "wb") as opened:
-        tool = subprocess.Popen(
-            words_of(farm.db, to, "--verbose"), stdout=subprocess.PIPE, stderr=opened, env=environment()
-        )
-        STARTED.append(tool)
-        wait_until("a copy that is made again", lambda: "copied again" in read(errors), 60)
-        carries.is_over = True
-        said = tool.communicate(timeout=120)[0].decode().strip()
+    tool = wait_until("a copy that is made again", lambda: moving_tool(farm, to, f"{to}/errors"), 300)
+    carries.is_over = True
+    said = tool.communicate(timeout=120)[0].decode().strip()
     carries.stands.set()
     carries.join()
     demand("a copy once the files stand still", 0, tool.returncode)
     demand_prefix("a copy that was made again", f"{said}/farm.db", folder, commands, commands)
-    print("backup: a copy is made again while the log is begun anew")
+    print("backup: a copy is made again while the log is begun anew", flush=True)
 
 
 def try_faults(folder):

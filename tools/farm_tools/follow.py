@@ -1,16 +1,21 @@
 """A standby of a farm: a whole copy, to whose log the frames are added that the desk's log gets.
 
     lab.db          leads to the newest whole copy's lab.db, which has its log beside it
-    farm-MOMENT     a whole copy, made anew each time the desk has begun its log anew
+    farm-MOMENT     a whole copy
     as-of           the standby has all that was answered before this moment
+
+Where the desk has carried its log into its file and begun the log anew, the standby does the same:
+the old log's last frames still stand behind the new one's first. It demands then that the pages
+which it carries are those of the desk's file; where they aren't, a whole copy is made anew.
 
 The copy that `lab.db` leads to is locked as a desk locks it, so that nobody serves it while frames
 are added."""
 import fcntl
 import os
 import shutil
+import stat
 import time
-from typing import Callable, Optional, Tuple
+from typing import BinaryIO, Callable, Dict, List, Optional, Tuple
 
 from farm_tools import copying, folders, interrupts, wal
 
@@ -18,6 +23,7 @@ from farm_tools import copying, folders, interrupts, wal
 LOCKS, LOCKED = 1 << 30, 512
 AS_OF = "as-of"
 RETRY = 5.0
+HEADER_TRIES, HEADER_WAIT = 50, 0.01
 
 
 class InUse(Exception):
@@ -34,15 +40,17 @@ class Standby:
     def __init__(self, farm: copying.Farm, copy: copying.Farm):
         """`farm` is followed; `copy` is its copy, which nobody else has opened."""
         self.farm = farm
+        self.copy = copy
         self.locked = os.open(copy.db, os.O_RDWR | os.O_CLOEXEC)
         self.log = -1
         try:
             fcntl.lockf(self.locked, fcntl.LOCK_EX | fcntl.LOCK_NB, LOCKED, LOCKS)
             self.log = os.open(copy.log, os.O_RDWR | os.O_CLOEXEC)
             whole = os.pread(self.log, os.fstat(self.log).st_size, 0)
-            self.head = wal.head_of(whole)
-            if self.head is None:
+            head = wal.head_of(whole)
+            if head is None:
                 raise Anew
+            self.head = head
             self.place = wal.beginning(self.head)
             self.place = wal.last_commit(self.head, whole[wal.HEADER :], self.place)
             os.ftruncate(self.log, self.place.offset)
@@ -59,42 +67,109 @@ class Standby:
                 os.close(opened)
 
     def ship(self) -> None:
-        """Adds the commits that the desk's log has got."""
-        with open(self.farm.log, "rb") as log:
-            if log.read(wal.HEADER) != self.head.raw or not self._goes_on(log):
-                raise Anew
-            log.seek(self.place.offset)
-            data = log.read()
-            log.seek(0)
-            if log.read(wal.HEADER) != self.head.raw:
-                raise Anew
-        place = wal.last_commit(self.head, data, self.place)
+        """Adds the commits that the desk's log has got, also where it began anew."""
         if self._stands() != self.left:
             raise InUse("the standby's log was changed by another program: it isn't followed on")
-        if place != self.place:
-            self._add(data[: place.offset - self.place.offset])
-            self.place = place
+        with open(self.farm.log, "rb") as log:
+            head = _head_in(log)
+            if head != self.head:
+                self._carry(log, head)
+            if not self._goes_on(log):
+                raise Anew
+            data = _read_from(log, self.place.offset)
+            if _head_in(log) != self.head:
+                raise Anew
+        self._add(data)
 
-    def _goes_on(self, log) -> bool:
+    def _carry(self, log: BinaryIO, head: wal.Head) -> None:
+        """Carries the standby's log into its file, once it has the rest of the desk's former log,
+        and begins it anew with the desk's header."""
+        if not wal.follows(head, self.head):
+            raise Anew
+        self._add(_read_from(log, self.place.offset))
+        pages, count = wal.pages_of(self.head, os.pread(self.log, self.place.offset, 0))
+        self._demand_carried(head, pages, count)
+        for number, page in pages.items():
+            _write_at(self.locked, page, (number - 1) * head.page_size)
+        os.ftruncate(self.locked, count * head.page_size)
+        os.fsync(self.locked)
+        # until here the old log has all that was written, and from here on the file has it
+        former, self.log = self.log, self._new_log(head)
+        os.close(former)
+        self.head, self.place = head, wal.beginning(head)
+        self.left = self._stands()
+
+    def _new_log(self, head: wal.Head) -> int:
+        """A log of the header alone in the place of the one that is there."""
+        name = f"{self.copy.log}.new"
+        new = os.open(name, os.O_RDWR | os.O_CREAT | os.O_TRUNC | os.O_CLOEXEC, 0o600)
+        try:
+            os.fchmod(new, stat.S_IMODE(os.fstat(self.log).st_mode))
+            _write_at(new, head.raw, 0)
+            os.fsync(new)
+            os.replace(name, self.copy.log)
+            folders.sync_folder(os.path.dirname(name))
+        except BaseException:
+            os.close(new)
+            raise
+        return new
+
+    def _demand_carried(self, head: wal.Head, pages: Dict[int, bytes], count: int) -> None:
+        """Demands that the desk's file has just these pages. Each command changes a page that each
+        other changes too, so a commit that is missed shows."""
+        before = self.farm.see()
+        if before.head != head or before.file[2] != count * head.page_size:
+            raise Anew
+        with open(self.farm.db, "rb") as file:
+            for number, page in pages.items():
+                if os.pread(file.fileno(), len(page), (number - 1) * len(page)) != page:
+                    raise Anew
+        if self.farm.see() != before:
+            raise Anew
+
+    def _goes_on(self, log: BinaryIO) -> bool:
         """Whether what was shipped last stands in the desk's log as it was shipped: sums go on from
         frame to frame, so a frame's header tells of all that is before it."""
         last = self.place.offset - wal.FRAME - self.head.page_size
         if last < wal.HEADER:
             return True
-        log.seek(last)
-        return log.read(wal.FRAME) == os.pread(self.log, wal.FRAME, last)
+        wanted = os.pread(self.log, wal.FRAME, last)
+        return os.pread(log.fileno(), wal.FRAME, last) == wanted
 
     def _add(self, data: bytes) -> None:
-        at = self.place.offset
-        while data:
-            written = os.pwrite(self.log, data, at)
-            at, data = at + written, data[written:]
+        """Adds the whole commits of these bytes of the desk's log."""
+        place = wal.last_commit(self.head, data, self.place)
+        if place == self.place:
+            return
+        _write_at(self.log, data[: place.offset - self.place.offset], self.place.offset)
         os.fsync(self.log)
+        self.place = place
         self.left = self._stands()
 
     def _stands(self) -> Tuple[int, int]:
         found = os.fstat(self.log)
         return found.st_size, found.st_mtime_ns
+
+
+def _head_in(log: BinaryIO) -> wal.Head:
+    """The header of a log, which a desk that begins it anew writes within moments."""
+    for _ in range(HEADER_TRIES):
+        head = wal.head_of(os.pread(log.fileno(), wal.HEADER, 0))
+        if head is not None:
+            return head
+        time.sleep(HEADER_WAIT)
+    raise Anew
+
+
+def _read_from(log: BinaryIO, offset: int) -> bytes:
+    log.seek(offset)
+    return log.read()
+
+
+def _write_at(opened: int, data: bytes, at: int) -> None:
+    while data:
+        written = os.pwrite(opened, data, at)
+        at, data = at + written, data[written:]
 
 
 class Follower:
@@ -108,7 +183,7 @@ class Follower:
         self.name = os.path.join(folder, os.path.basename(farm.db))
         self.standby: Optional[Standby] = None
         self.as_of = 0.0  # the standby has what was answered before
-        self.made: list = []  # the whole copies of this process
+        self.made: List[str] = []  # the whole copies of this process
         self.trouble = ""
 
     def run(self) -> None:
@@ -158,6 +233,7 @@ class Follower:
         self.standby = standby
         name = copying.free_name(self.folder, copying.name_of(time.time()))
         os.rename(place, os.path.join(self.folder, name))
+        standby.copy = self.farm.within(os.path.join(self.folder, name))
         copying.link(os.path.join(name, os.path.basename(self.name)), self.name)
         self._remove_former(name)
 

@@ -1,5 +1,5 @@
 """Prometheus' text format, version 0.0.4."""
-from typing import Dict, List, NamedTuple, Tuple, Union
+from typing import Dict, List, NamedTuple, Sequence, Tuple, Union
 
 CONTENT = "text/plain; version=0.0.4; charset=utf-8"
 GAUGE, COUNTER = "gauge", "counter"
@@ -13,7 +13,7 @@ class Family(NamedTuple):
     name: str
     kind: str
     about: str
-    samples: List[Tuple[Dict[str, str], Number]]
+    samples: Sequence[Tuple[Dict[str, str], Number]]
 
 
 def one(name: str, kind: str, about: str, value: Number) -> Family:

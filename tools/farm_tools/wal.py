@@ -5,7 +5,7 @@ behind it has a header of 24 bytes and a page: the page's number, the size of th
 where a commit ends with this frame, the header's salts, and a sum that goes on from the frame
 before. The log ends before the first frame whose salts or sum are wrong."""
 import struct
-from typing import NamedTuple, Optional, Tuple
+from typing import Dict, NamedTuple, Optional, Tuple
 
 HEADER, FRAME = 32, 24
 MAGIC = 0x377F0682  # one more: its sums are over big-endian words
@@ -72,3 +72,21 @@ def last_commit(head: Head, data: bytes, place: Place) -> Place:
         if struct.unpack_from(">I", frame, 4) != (0,):
             found = Place(place.offset + at + size, now)
     return found
+
+
+def follows(head: Head, before: Head) -> bool:
+    """Whether a log with this header began next after the one with that: the first salt counts."""
+    one, other = (struct.unpack_from(">I", it.raw, SALTS.start)[0] for it in (head, before))
+    return head.page_size == before.page_size and one == (other + 1) & WORD
+
+
+def pages_of(head: Head, data: bytes) -> Tuple[Dict[int, bytes], int]:
+    """The newest form of each page that a log's whole commits have, which are all of `data`, and
+    how many pages the file has after them."""
+    pages: Dict[int, bytes] = {}
+    count = 0
+    for at in range(HEADER, len(data), FRAME + head.page_size):
+        number, commit = struct.unpack_from(">II", data, at)
+        pages[number] = data[at + FRAME : at + FRAME + head.page_size]
+        count = commit or count
+    return {number: page for number, page in pages.items() if number <= count}, count
