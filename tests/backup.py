@@ -410,6 +410,9 @@ def try_faults(folder):
     status, first, errors = backup(farm.db, to)
     demand("a copy of a farm that isn't served", (0, ""), (status, errors))
     demand("its link", first.strip(), os.path.realpath(f"{to}/latest"))
+    os.symlink(farm.db, f"{folder}/linked.db")
+    said = backup(f"{folder}/linked.db", to)[1].strip()
+    demand_prefix("a copy of a farm by a link", f"{said}/linked.db", folder, commands, commands)
     for wrong, words, why in [
         (farm.db, ["--program", "/nonexistent/farm"], "can't be proved"),
         (farm.db, ["--program", "false"], "the copy is no farm, and is thrown away (nothing was said)"),
@@ -422,6 +425,13 @@ def try_faults(folder):
         demand(f"what {words} says", True, why in errors)
         demand(f"what {words} leaves", [], [it for it in os.listdir(to) if it.startswith(".new-")])
     demand("words", 2, backup(farm.db, to, "--keep", "0")[0])
+    before = sorted(os.listdir(to))
+    small = subprocess.run(
+        ["sh", "-c", 'ulimit -f 100; exec "$@"', "sh", *words_of(farm.db, to)],
+        capture_output=True, text=True, timeout=120, check=False, env=environment(),
+    )
+    demand("a disk without room", (4, "", 1), (small.returncode, small.stdout, small.stderr.count("\n")))
+    demand("what it leaves", before, sorted(os.listdir(to)))
     try_damage(farm, commands, folder, to)
     print("backup: what can't be copied or proved is told in a line, and leaves the copies as they are")
 

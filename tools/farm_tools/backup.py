@@ -27,7 +27,7 @@ words; 4 there is no copy that is a farm, or DIR can't be used"""
 
 def main(words: Optional[Sequence[str]] = None) -> int:
     options = options_of(words)
-    farm = copying.Farm(os.path.abspath(options.db), options.program)
+    farm = copying.Farm(options.db, options.program)
     folder = os.path.realpath(options.folder)
     try:
         interrupts.catch_signals()

@@ -42,14 +42,16 @@ class Seen(NamedTuple):
 class Farm:
     """A farm's two files and the program that opens them."""
 
-    def __init__(self, db: str, program: str):
-        self.db = db
-        self.log = f"{db}-wal"
+    def __init__(self, name: str, program: str):
+        """`name` may be a link: the log lies beside the file that it leads to, as for a desk."""
+        self.name = os.path.basename(name)
+        self.db = os.path.realpath(name)
+        self.log = f"{self.db}-wal"
         self.program = program
 
     def within(self, folder: str) -> "Farm":
         """The farm of the same name in another folder."""
-        return Farm(os.path.join(folder, os.path.basename(self.db)), self.program)
+        return Farm(os.path.join(folder, self.name), self.program)
 
     def see(self) -> Seen:
         file, log = os.stat(self.db), os.stat(self.log)

@@ -180,7 +180,7 @@ class Follower:
         self.folder = folder
         self.every = every
         self.tell = tell
-        self.name = os.path.join(folder, os.path.basename(farm.db))
+        self.name = os.path.join(folder, farm.name)
         self.standby: Optional[Standby] = None
         self.as_of = 0.0  # the standby has what was answered before
         self.made: List[str] = []  # the whole copies of this process
@@ -234,7 +234,7 @@ class Follower:
         name = copying.free_name(self.folder, copying.name_of(time.time()))
         os.rename(place, os.path.join(self.folder, name))
         standby.copy = self.farm.within(os.path.join(self.folder, name))
-        copying.link(os.path.join(name, os.path.basename(self.name)), self.name)
+        copying.link(os.path.join(name, self.farm.name), self.name)
         self._remove_former(name)
 
     def _remove_former(self, name: str) -> None:
@@ -290,7 +290,7 @@ class Follower:
         that which the desk's machine lost before it was answered.)"""
         if not os.path.exists(self.name):
             return
-        former = copying.Farm(os.path.realpath(self.name), self.farm.program).count()
+        former = copying.Farm(self.name, self.farm.program).count()
         here = copy.count()
         if former > here + 1:
             raise InUse(
