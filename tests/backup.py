@@ -362,46 +362,63 @@ def still_farm(folder):
 
 
 class Carries(Worker):
-    """SQLite as the desk: it changes the farm's file and begins its log anew, as fast as it can."""
+    """SQLite as the desk: in bursts it changes two rows in turn, which lie on two pages, and carries each change into
+    the file before the next, so that the log begins anew."""
 
-    def __init__(self, db):
+    CLOCK = 2_000_000_000
+    TURNS = ["update boards set jobs_since = ?", "update meta set value = ? + 2000000000 where name = 'clock'"]
+
+    def __init__(self, db, chance):
         self.db = db
-        self.stands = threading.Event()
+        self.chance = chance
+        self.turn = 0
         super().__init__()
 
     def run(self):
         with contextlib.closing(sqlite3.connect(self.db, isolation_level=None)) as conn:
             conn.execute("pragma synchronous = off")
             while not self.is_over:
-                conn.execute("update meta set value = value + 1 where name = 'clock'")
-                conn.execute("pragma wal_checkpoint(restart)")
-            self.stands.wait()  # an end of the connection would remove the log
+                until = time.monotonic() + self.chance.uniform(0, 0.4)
+                while time.monotonic() < until:
+                    self.turn += 1
+                    conn.execute(self.TURNS[self.turn % 2], (self.turn,))
+                    conn.execute("pragma wal_checkpoint(restart)")
+                time.sleep(self.chance.uniform(0, 0.4))
 
 
-def moving_tool(farm, to, errors):
-    """A farm-backup that makes its copy again, as it says; None of one that had its copy at once."""
-    with open(errors, "wb") as opened:
-        tool = subprocess.Popen(
-            words_of(farm.db, to, "--verbose"), stdout=subprocess.PIPE, stderr=opened, env=environment()
-        )
-    STARTED.append(tool)
-    wait_until("a copy", lambda: "copied again" in read(errors) or tool.poll() is not None, 120)
-    return tool if "copied again" in read(errors) else None
+def turns_in(db, folder):
+    """The turns of the two rows in a copy."""
+    place = tempfile.mkdtemp(dir=folder)
+    for end in ("", "-wal"):
+        shutil.copy(db + end, f"{place}/farm.db{end}")
+    with contextlib.closing(sqlite3.connect(f"{place}/farm.db")) as conn:
+        board = conn.execute("select jobs_since from boards").fetchone()[0]
+        clock = conn.execute("select value from meta where name = 'clock'").fetchone()[0]
+    shutil.rmtree(place)
+    return board, clock - Carries.CLOCK
 
 
-def try_moving(folder):
-    """A copy is made again while the files move, and stands once they don't."""
-    farm, commands = still_farm(folder)
+def try_moving(folder, number, chance):
+    """Copies of files that move: each is made again until they stood still, and never has one row without the
+    other's turn before."""
+    farm, _ = still_farm(folder)
     to = tempfile.mkdtemp(dir=folder)
-    carries = Carries(farm.db)
-    tool = wait_until("a copy that is made again", lambda: moving_tool(farm, to, f"{to}/errors"), 300)
-    carries.is_over = True
-    said = tool.communicate(timeout=120)[0].decode().strip()
-    carries.stands.set()
-    carries.join()
-    demand("a copy once the files stand still", 0, tool.returncode)
-    demand_prefix("a copy that was made again", f"{said}/farm.db", folder, commands, commands)
-    print("backup: a copy is made again while the log is begun anew", flush=True)
+    carries = Carries(farm.db, chance)
+    wait_until("turns", lambda: carries.turn > 2, 120)
+    made = again = 0
+    until = time.monotonic() + 300
+    while made < number or not again and time.monotonic() < until:
+        status, said, errors = backup(farm.db, to, "--keep", "1", "--verbose")
+        again += errors.count("copied again: ")
+        if status:
+            demand("a copy of files that move all the time", True, "no copy after 20 tries: " in errors)
+            continue
+        made += 1
+        board, clock = turns_in(f"{said.strip()}/farm.db", folder)
+        demand(f"how far the rows of {board} and {clock} are apart", 1, abs(board - clock))
+    demand("copies that were made again", True, again > 0)
+    carries.end()
+    print(f"backup: {made} copies of files that move, made again {again} times, are the farm of a moment", flush=True)
 
 
 def try_faults(folder):
@@ -479,7 +496,7 @@ def main(copies, follows):
         folder = os.path.realpath(folder)
         try_keep(folder)
         try_faults(folder)
-        try_moving(folder)
+        try_moving(folder, max(20, copies // 5), chance)
         try_served_standby(*try_follows(folder, follows, chance))
         try_copies(folder, copies, chance)
 
