@@ -33,7 +33,7 @@ COPIES_OF_ONE = 50  # copies of one farm, which grows meanwhile
 BESIDE = 40  # commands beside one copy at most, so that a slow machine's farm doesn't grow for ever
 CARRIED = 3  # so often at least each farm's log begins anew beside its copies
 SLOWLY = 0.02  # seconds before each command beside a standby, so that its log begins anew as the desk's does
-STALE = 30  # seconds that a standby may be behind on a slow machine
+STALE = 60  # seconds that a standby may be behind on a slow machine
 
 
 # ---- a stream of commands, and the farm after some of them
