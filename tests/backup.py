@@ -294,6 +294,26 @@ def try_follows(folder, number, chance):
     return farm, to, stream
 
 
+def try_trouble(folder):
+    """A follower that finds no farm says so once, and goes on when there is one."""
+    farm, commands = still_farm(folder)
+    to, place = tempfile.mkdtemp(dir=folder), tempfile.mkdtemp(dir=folder)
+    follower = Tool(words_of(f"{place}/farm.db", "--follow", to)[1:], tempfile.mkdtemp(dir=folder))
+    wanted = f"farm-backup: nothing is shipped: there is no {place}/farm.db: a farm is a file and its log\n"
+    wait_until("a line", follower.errors)
+    demand("a follower without a farm", wanted, follower.errors())
+    shutil.copy(f"{farm.db}-wal", f"{place}/farm.db-wal")
+    shutil.copy(farm.db, f"{place}/new")
+    os.rename(f"{place}/new", f"{place}/farm.db")
+    wait_until("a standby", lambda: moment_of(to) > 0, 120)
+    demand("one that goes on", f"{wanted}farm-backup: it goes on\n", follower.errors())
+    demand("what it prints", True, follower.output().startswith(f"{to}/farm.db follows {place}/farm.db every 1 s: "))
+    follower.send(signal.SIGINT)
+    demand("its end", 0, follower.ends())
+    demand_prefix("a standby", os.path.realpath(f"{to}/farm.db"), folder, commands, commands)
+    print("backup: a follower says once that there is nothing to follow, and goes on", flush=True)
+
+
 def serve(db):
     """A desk over a standby, and its port."""
     port = free_port()
@@ -496,6 +516,7 @@ def main(copies, follows):
         folder = os.path.realpath(folder)
         try_keep(folder)
         try_faults(folder)
+        try_trouble(folder)
         try_moving(folder, max(20, copies // 5), chance)
         try_served_standby(*try_follows(folder, follows, chance))
         try_copies(folder, copies, chance)

@@ -251,10 +251,10 @@ class Follower:
 
     def _note(self, moment: float) -> None:
         """Notes what the standby has, and tells where it was behind."""
-        behind = time.time() - self.as_of
-        if self.as_of and behind > RETRY + 2 * self.every or self.trouble:
+        late = self.as_of and time.time() - self.as_of > RETRY + 2 * self.every
+        if self.trouble or late:
             self.tell(f"it goes on{self._behind()}")
-        elif not self.as_of:
+        if not self.as_of:
             print(
                 f"{self.name} follows {self.farm.db} every {self.every:g} s: a machine that is "
                 f"lost takes with it what was answered since {AS_OF}",
