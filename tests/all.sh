@@ -46,6 +46,7 @@ trying() {
             refused_memory.sh) set -- sh "tests/$script" "$farm" "$player" ;;
             malformed.py) set -- python3 "tests/$script" "$farm" 5000 ;;
             kills.py) set -- python3 "tests/$script" "$farm" 100 ;;
+            backup.py) set -- python3 "tests/$script" "$farm" 60 3 ;;
             power_cuts.py) set -- python3 "tests/$script" "$farm" 200 ;;
             *.py) set -- python3 "tests/$script" "$farm" ;;
             *) set -- sh "tests/$script" "$farm" ;;
@@ -65,7 +66,7 @@ if [ "$status" = 0 ]; then
     long="refused_memory.sh power_cuts.py generated.py"
     short="words.sh statuses.sh mistakes.sh upgrade.sh examples.sh using.sh api.py shell.sh real_clients.sh sockets.py
         crowds.py malformed.py kills.py"
-    tools="dispatch.py client.py watch.py importers.py page.py proxy.py package.sh"
+    tools="dispatch.py watch.py backup.py metrics.py client.py importers.py page.py proxy.py package.sh"
     trying $long &
     trying $tools &
     trying $short

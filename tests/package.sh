@@ -35,6 +35,7 @@ field() { dpkg-deb -f "$folder"/"$1"_*.deb "$2"; }
 ! grep -l 'systemctl\|deb-systemd\|adduser' "$folder"/fizgruk-desk/*inst || fail "the client's package starts something"
 for file in lib/systemd/system/farm.service lib/systemd/system/farm-dispatch.service usr/bin/farm usr/bin/farm-dispatch \
     lib/systemd/system/farm-watch.service usr/bin/farm-watch \
+    lib/systemd/system/farm-backup.timer lib/systemd/system/farm-metrics.timer \
     usr/share/fizgruk/page/farm.html etc/nginx/sites-available/farm etc/farm/run-job etc/farm/check-board; do
     grep -qx "./$file" "$folder/fizgruk-farm/files" || fail "fizgruk-farm has no $file"
 done
@@ -54,6 +55,10 @@ done
 for unit in farm farm-dispatch farm-watch; do
     grep -q "was-enabled '$unit.service'" "$folder/fizgruk-farm/postinst" || fail "$unit isn't enabled"
 done
+for unit in farm-backup farm-metrics; do
+    # (such a unit is enabled again where the admin had enabled it, and by nothing else)
+    grep -q "debian-installed '$unit.timer'" "$folder/fizgruk-farm/postinst" || fail "$unit.timer is enabled"
+done
 ! grep 'systemctl.* enable\|systemctl.* disable' "$folder"/fizgruk-farm/p* || fail "it enables what an admin disabled"
 # (2.0 kept no note of what was disabled: it is made by the one of the two that comes first)
 for name in fizgruk fizgruk-farm; do
@@ -64,11 +69,12 @@ for line in StartLimitIntervalSec=0 Restart=on-failure LimitNOFILE=2048; do
 done
 if grep -rn /usr/local "$tree/lib" "$tree/etc"; then fail "names of an installation by hand"; fi
 if command -v systemd-analyze > /dev/null; then
-    for unit in farm farm-dispatch farm-watch; do
+    cp "$tree"/lib/systemd/system/*.timer "$folder"
+    for unit in farm farm-dispatch farm-watch farm-backup farm-metrics; do
         sed "s,/usr/bin/,$tree/usr/bin/,; s,/etc/farm,$tree/etc/farm,g" "$tree/lib/systemd/system/$unit.service" > "$folder/$unit.service"
     done
-    systemd-analyze --man=no verify "$folder/farm.service" "$folder/farm-dispatch.service" "$folder/farm-watch.service" > "$folder/said" 2>&1 || :
-    ! grep "$folder.*service:" "$folder/said" || fail "its units"
+    systemd-analyze --man=no verify "$folder"/*.service "$folder"/*.timer > "$folder/said" 2>&1 || :
+    ! grep "$folder.*\(service\|timer\):" "$folder/said" || fail "its units"
 fi
 
 # ---- programs and documents

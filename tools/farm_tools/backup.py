@@ -1,0 +1,143 @@
+"""farm-backup: copies of a farm while its desk serves, and a standby that follows it."""
+import argparse
+import os
+import shutil
+import sys
+import time
+import urllib.parse
+from typing import Optional, Sequence
+
+from farm_tools import calls, copying, folders, follow, interrupts, settings
+
+PROGRAM = "farm-backup"
+FAULT = 4
+DB = "/var/lib/farm/lab.db"
+LATEST = "latest"
+ANSWER = 10.0  # seconds that a desk has for its answer
+ABOUT = """\
+Copies a farm's two files while its desk serves, proves the copy by 'farm
+report', and leaves it in DIR/farm-YYYYMMDDTHHMMSSZ, with the link DIR/latest to
+it. It prints that folder's name. The copy has every command that was answered
+before it began. With --follow DIR is a standby: what the log gets is shipped
+there every second, and 'farm serve --db DIR/lab.db' begins from it."""
+STATUSES = """\
+exit status: 0 the copy is there, or --follow was ended by a signal; 2 bad
+words; 4 there is no copy that is a farm, or DIR can't be used"""
+
+
+def main(words: Optional[Sequence[str]] = None) -> int:
+    options = options_of(words)
+    farm = copying.Farm(options.db, options.program)
+    folder = os.path.realpath(options.folder)
+    try:
+        interrupts.catch_signals()
+        os.makedirs(folder, mode=0o700, exist_ok=True)
+        lock = copying.take_folder(folder)
+        if lock is None:
+            return told(FAULT, f"{folder} is in use by another farm-backup")
+        if options.follow:
+            follow.Follower(farm, folder, options.every, tell).run()
+        return back_up(farm, folder, options)
+    except interrupts.Interrupted:
+        return 0 if options.follow else told(FAULT, "ended by a signal: there is no copy")
+    except (copying.NoCopy, follow.InUse, OSError) as fault:
+        return told(FAULT, str(fault))
+
+
+def options_of(words: Optional[Sequence[str]]) -> argparse.Namespace:
+    parser = argparse.ArgumentParser(
+        prog=PROGRAM,
+        description=ABOUT,
+        epilog=STATUSES,
+        formatter_class=argparse.RawDescriptionHelpFormatter,
+    )
+    option = parser.add_argument
+    option("--db", metavar="FILE", default=DB, help=f"the farm's file ({DB})")
+    option("--keep", metavar="N", type=_number, help="remove all copies but the newest N")
+    about = "compare the copy with what the desk there has done"
+    option("--server", metavar="URL", type=_server, help=about)
+    option("--follow", action="store_true", help="keep a standby in DIR")
+    option(
+        "--every", metavar="SECONDS", type=_seconds, default=1.0, help="between two shippings (1)"
+    )
+    option("--program", metavar="FILE", default="farm", help="the program that proves it (farm)")
+    option("--verbose", action="store_true", help="tell what is copied again")
+    option("folder", metavar="DIR", help="where the copies are")
+    options = parser.parse_args(words)
+    if options.follow and (options.keep or options.server):
+        parser.error("--keep and --server aren't for --follow")
+    return options
+
+
+def _number(text: str) -> int:
+    number = int(text)
+    if number < 1:
+        raise ValueError
+    return number
+
+
+def _seconds(text: str) -> float:
+    seconds = float(text)
+    if not 0 < seconds <= 3600:
+        raise ValueError
+    return seconds
+
+
+def _server(text: str) -> str:
+    address = urllib.parse.urlsplit(text)
+    if address.scheme not in ("http", "https") or not address.hostname or address.port == 0:
+        raise ValueError
+    return text
+
+
+def tell(text: str) -> None:
+    print(f"{PROGRAM}: {text}", file=sys.stderr, flush=True)
+
+
+def told(status: int, text: str) -> int:
+    tell(text)
+    return status
+
+
+def back_up(farm: copying.Farm, folder: str, options: argparse.Namespace) -> int:
+    """Makes one copy, names it, and removes the oldest."""
+    answered = answered_at(options.server) if options.server else None
+    began = copying.name_of(time.time())
+    place = copying.new_copy(farm, folder, tell if options.verbose else lambda text: None)
+    try:
+        if answered is not None:
+            compare(farm.within(place), answered)
+        name = copying.free_name(folder, began)
+        os.rename(place, os.path.join(folder, name))
+    except BaseException:
+        shutil.rmtree(place, ignore_errors=True)
+        raise
+    copying.link(name, os.path.join(folder, LATEST))
+    folders.sync_folder(folder)
+    if options.keep:
+        for old in copying.copies_in(folder)[: -options.keep]:
+            if old != name:
+                shutil.rmtree(os.path.join(folder, old))
+    print(os.path.join(folder, name), flush=True)
+    return 0
+
+
+def answered_at(server: str) -> Optional[int]:
+    """How many commands a desk has done; None, which is told, where it gives no answer."""
+    desk = calls.Desk(settings.Settings(server, PROGRAM, None, None, ANSWER), patience=0)
+    try:
+        return desk.look("/status")["count"]
+    except (calls.NoAnswer, calls.Refused) as fault:
+        tell(f"the copy isn't compared with the desk at {server}: {fault}")
+        return None
+
+
+def compare(copy: copying.Farm, answered: int) -> None:
+    """A log that is damaged ends before its damage, and the farm without the rest is a farm, too:
+    only the desk, which has it all, tells."""
+    count = copy.count()
+    if count < answered:
+        raise copying.NoCopy(
+            f"the copy has {count} commands, and the desk had done {answered}: it is thrown away, "
+            "since it is another farm's, or the log is damaged"
+        )

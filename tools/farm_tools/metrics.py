@@ -1,0 +1,142 @@
+"""farm-metrics: what a desk shows, in Prometheus' text format."""
+import argparse
+import http.server
+import sys
+import threading
+from typing import Optional, Sequence
+
+from farm_tools import calls, collecting, interrupts, prometheus, settings
+
+PROGRAM = "farm-metrics"
+FAULT = 4
+LONGEST_LOOK = 5.0  # seconds that the desk has for an answer
+STALLED = 10  # seconds that a client has for its request
+HISTORY = "/var/lib/farm-dispatch/history.jsonl"
+ABOUT = """\
+Prints what a desk shows, in Prometheus' text format: boards by type, health and
+state, claims that wait and the oldest one's age, commands, rows and their
+limits, seconds since the last command, which passes are too, and, where the
+dispatcher's history is there, how many jobs ended how."""
+STATUSES = """\
+exit status: 0 done, or --listen was ended by a signal; 2 bad words; 4 no answer
+from the desk, which fizgruk_up tells too, bad settings, or a file or a port
+that can't be used"""
+
+
+def main(words: Optional[Sequence[str]] = None) -> int:
+    options = options_of(words)
+    try:
+        interrupts.catch_signals()
+        desk = calls.Desk(settings.read_settings("desk", options, "metrics"), patience=0)
+        desk.timeout = min(desk.timeout, LONGEST_LOOK)
+        state = options.state or (options.textfile and f"{options.textfile}.state")
+        metrics = Metrics(collecting.Collector(desk, options.history, state))
+        if options.listen is not None:
+            listen(metrics, options.listen)
+        text = metrics.text()
+        if options.textfile:
+            collecting.write(options.textfile, text, 0o644)
+        else:
+            print(text, end="", flush=True)
+        return FAULT if metrics.collector.trouble else 0
+    except interrupts.Interrupted as interrupted:
+        return 0 if options.listen is not None else interrupted.status
+    except (settings.BadSettings, OSError) as fault:
+        tell(str(fault))
+        return FAULT
+
+
+def options_of(words: Optional[Sequence[str]]) -> argparse.Namespace:
+    parser = argparse.ArgumentParser(
+        prog=PROGRAM,
+        description=ABOUT,
+        epilog=STATUSES,
+        formatter_class=argparse.RawDescriptionHelpFormatter,
+    )
+    where = parser.add_mutually_exclusive_group()
+    about = "write the file, whole, in place of the output"
+    where.add_argument("--textfile", metavar="PATH", help=about)
+    about = "serve /metrics on a port of 127.0.0.1"
+    where.add_argument("--listen", metavar="PORT", type=_port, help=about)
+    about = f"the dispatcher's history ({HISTORY})"
+    parser.add_argument("--history", metavar="FILE", default=HISTORY, help=about)
+    about = "what is kept for the next time (PATH.state; none without --textfile)"
+    parser.add_argument("--state", metavar="FILE", help=about)
+    settings.add_options(parser)
+    return parser.parse_args(words)
+
+
+def _port(text: str) -> int:
+    port = int(text)
+    if not 0 <= port <= 65535:
+        raise ValueError
+    return port
+
+
+def tell(text: str) -> None:
+    print(f"{PROGRAM}: {text}", file=sys.stderr, flush=True)
+
+
+class Metrics:
+    """The text of a collector's metrics, for one client after another; each trouble is told
+    once."""
+
+    def __init__(self, collector: collecting.Collector):
+        self.collector = collector
+        self.lock = threading.Lock()
+        self.told: Sequence[str] = ()
+
+    def text(self) -> str:
+        with self.lock:
+            text = prometheus.text_of(self.collector.families())
+            self._tell()
+            return text
+
+    def _tell(self) -> None:
+        troubles = []
+        if self.collector.trouble:
+            server = self.collector.desk.server
+            troubles.append(f"no answer from the desk at {server}: {self.collector.trouble}")
+        if self.collector.history.trouble:
+            troubles.append(f"jobs aren't counted: {self.collector.history.trouble}")
+        for it in troubles:
+            if it not in self.told:
+                tell(it)
+        if self.told and not troubles:
+            tell("it goes on")
+        self.told = troubles
+
+
+def listen(metrics: Metrics, port: int) -> None:
+    """Serves the metrics until a signal comes."""
+
+    class Handler(http.server.BaseHTTPRequestHandler):
+        """One client's requests."""
+
+        protocol_version = "HTTP/1.1"
+        timeout = STALLED
+
+        def do_GET(self) -> None:  # the name that http.server calls
+            if self.path.partition("?")[0] != "/metrics":
+                self.send_error(404)
+                return
+            try:
+                self._answer(metrics.text().encode())
+            except OSError as fault:  # a client that went, or a disk that is full
+                tell(str(fault))
+                self.close_connection = True
+
+        def _answer(self, body: bytes) -> None:
+            self.send_response(200)
+            self.send_header("content-type", prometheus.CONTENT)
+            self.send_header("content-length", str(len(body)))
+            self.end_headers()
+            self.wfile.write(body)
+
+        def log_message(self, *_) -> None:
+            """Says nothing of a request."""
+
+    with http.server.ThreadingHTTPServer(("127.0.0.1", port), Handler) as server:
+        server.daemon_threads = True
+        print(f"listening {server.server_port}", flush=True)
+        server.serve_forever()
