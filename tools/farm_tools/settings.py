@@ -15,8 +15,9 @@ SYSTEM_FILE = "/etc/farm/desk.ini"
 SERVER = "http://127.0.0.1:8080"
 LOOPBACK = ("127.0.0.1", "localhost", "::1")
 WORDS = ("server", "user", "password_file", "ca_file", "timeout")
+OF_DISPATCH = ("limit", "most", "retry", "clock", "keep_logs")
 # The sections of a file, each with its settings.
-SECTIONS = {"desk": WORDS, "dispatch": (*WORDS, "limit", "most", "retry", "clock")}
+SECTIONS = {"desk": WORDS, "dispatch": (*WORDS, *OF_DISPATCH)}
 
 
 class BadSettings(Exception):

@@ -1,0 +1,306 @@
+"""Rows of tests/dispatch.py: the history that farm-dispatch keeps: a line a job over any kill, a
+line a change of health, the newest lines, and the logs that a proxy serves."""
+import json
+import os
+import random
+import signal
+import subprocess
+import sys
+import time
+
+from served import STARTED, TOOLS, demand, environment, read, wait_until
+
+# A dispatcher that kills itself at one of the places at which it writes, renames or gives a
+# command; of what it was to write there, half is written.
+DIES = """\
+import os, signal, sys
+sys.path.insert(0, sys.argv.pop(1))
+left = int(sys.argv.pop(1))
+def dying(call):
+    def called(*words, **more):
+        global left
+        left -= 1
+        if left == 0:
+            if call.__name__ == "write":
+                call(words[0], words[1][:len(words[1]) // 2])
+            os.kill(os.getpid(), signal.SIGKILL)
+        return call(*words, **more)
+    return called
+for name in ("write", "fsync", "replace", "rename", "link", "mkdir", "ftruncate", "unlink"):
+    setattr(os, name, dying(getattr(os, name)))
+from farm_tools import calls, dispatch
+for name in ("tell", "nudge"):
+    setattr(calls.Desk, name, dying(getattr(calls.Desk, name)))
+sys.exit(dispatch.main())
+"""
+TWO = "job_name = 'two'\nrun = 'true'\n[roles.a]\ndevice_type = 'bbb'\ncount = 2\n"
+JOB_FIELDS = [
+    "kind", "job", "group", "owner", "boards", "type", "name", "submitted", "began", "ended",
+    "outcome", "reason",
+]
+
+
+def lines_of(lab):
+    """The lines of a lab's history."""
+    text = read(os.path.join(lab.place, "history.jsonl"))
+    demand("the end of the history", True, text == "" or text.endswith("\n"))
+    return [json.loads(it) for it in text.split("\n")[:-1]]
+
+
+def jobs_of(lab):
+    return [it for it in lines_of(lab) if it["kind"] == "job"]
+
+
+def healths_of(lab):
+    return [it for it in lines_of(lab) if it["kind"] == "health"]
+
+
+def newest_of(lab):
+    return json.loads(read(os.path.join(lab.place, "history.json")))
+
+
+def one_line_each(lab, numbers, about=""):
+    """Demands that each of these jobs has one line, which says what the desk says."""
+    wait_until(f"the lines of all jobs {about}", lambda: len(jobs_of(lab)) >= len(numbers))
+    rows = jobs_of(lab)
+    demand(f"the jobs that have a line {about}", sorted(numbers), sorted(it["job"] for it in rows))
+    for row in rows:
+        view = lab.farm.job(row["job"])
+        said = (view["group"], view["owner"], [view["board"]], view["type"], view["result"])
+        found = tuple(row[it] for it in ("group", "owner", "boards", "type", "outcome"))
+        demand(f"the line of job {row['job']} {about}", said, found)
+
+
+def dies_at(lab, place):
+    """Runs a dispatcher that kills itself at a place, or is killed where it has done all before.
+    Returns the jobs that it was given: one, and a group of two."""
+    words = [
+        sys.executable, "-c", DIES, TOOLS, str(place), "--server", lab.farm.server, "--folder",
+        lab.place, "--every", "0.1", lab.command,
+    ]
+    process = subprocess.Popen(
+        words, stdout=subprocess.DEVNULL, stderr=subprocess.PIPE, env=environment(RUNS=lab.runs)
+    )
+    STARTED.append(process)
+    numbers = [lab.farm.submit("true"), *two_of(lab.farm)]
+    wait_until(
+        f"it is dead or done, place {place}",
+        lambda: process.poll() is not None or are_done(lab, numbers),
+    )
+    process.kill()
+    demand(f"what it tells, place {place}", b"", process.communicate()[1])
+    return numbers
+
+
+def are_done(lab, numbers):
+    """Whether nothing is left to be done for these jobs."""
+    states = {lab.farm.job(it)["state"] for it in numbers}
+    marks = [os.path.exists(lab.file(it, "finished")) for it in numbers[:2]]
+    return states == {"Finished"} and all(marks)
+
+
+def two_of(farm):
+    """The numbers of a group of two that is submitted."""
+    first = farm.tell("ann", "/jobs", TWO.encode())["number"]
+    return [first, first + 1]
+
+
+def a_line_over_any_kill(lab):
+    """Kills at a third of the places at which a dispatcher writes something or gives a command,
+    from its start on until it has ended three jobs."""
+    first = random.randrange(1, 4)
+    numbers, places = [], range(first, 109, 3)
+    for place in places:
+        numbers += dies_at(lab, place)
+    dispatcher = lab.dispatch(every="0.1")
+    about = f"(from place {first} on)"
+    for number in numbers:
+        demand(f"job {number} {about}", "Complete", lab.finished(number))
+    one_line_each(lab, numbers, about)
+    groups = {lab.farm.job(it)["group"] for it in numbers}
+    demand(f"jobs not begun once {about}", [], [it for it in groups if lab.begins(it) != 1])
+    lab.closes(dispatcher)
+    return f"over {len(places)} kills at all places, each of {len(numbers)} jobs has one line"
+
+
+def what_a_line_says(lab):
+    before = int(time.time())
+    dispatcher = lab.dispatch()
+    ends = {"true": "Complete", "exit 3": "Incomplete", "exit 75": "Infra", "kill -9 $PPID": "Infra"}
+    numbers = {lab.farm.submit(run): (run, result) for run, result in ends.items()}
+    told = {"true": "", "exit 3": "status 3", "exit 75": "status 75", "kill -9 $PPID": "signal 9"}
+    canceled = lab.farm.submit(lab.sleeps(100))
+    lab.begun(canceled)
+    lab.farm.tell("ann", f"/jobs/{canceled}/cancel")
+    pair = two_of(lab.farm)
+    one_line_each(lab, [*numbers, canceled, *pair])
+    rows = {it["job"]: it for it in jobs_of(lab)}
+    for number, (run, result) in numbers.items():
+        row = rows[number]
+        demand(f"the fields of {run}", JOB_FIELDS, list(row))
+        demand(f"how {run} ended", (result, told[run]), (row["outcome"], row["reason"]))
+        demand(f"the name of {run}", "test", row["name"])
+        times = [before, row["began"], row["ended"], int(time.time())]
+        demand(f"the moments of {run}, {times}", sorted(times), times)
+    demand("the canceled one", "Canceled", rows[canceled]["outcome"])
+    demand("the group of two", [pair[0]] * 2, [rows[it]["group"] for it in pair])
+    late = lab.farm.submit("sleep 0.5")
+    wait_until("its line", lambda: [it for it in jobs_of(lab) if it["job"] == late])
+    row = jobs_of(lab)[-1]
+    demand("that it was submitted before it began", True, before <= row["submitted"] <= row["began"])
+    newest = newest_of(lab)
+    demand("the newest jobs", list(reversed(jobs_of(lab))), newest["jobs"])
+    demand("its moment", True, before <= newest["at"] <= time.time())
+    for name in ("history.jsonl", "history.json"):
+        mode = os.stat(os.path.join(lab.place, name)).st_mode & 0o777
+        demand(f"who may read {name}", 0o644, mode)
+    lab.closes(dispatcher)
+    return "a line says whose a job was, on which board, when, how it ended and why"
+
+
+def torn_lines(lab):
+    """What a stop, or another hand, leaves at the history's end."""
+    file = os.path.join(lab.place, "history.jsonl")
+    os.makedirs(lab.place)
+    whole = {**dict.fromkeys(JOB_FIELDS), "kind": "job", "job": 900, "boards": [], "began": 5,
+             "owner": "zoe", "name": "old", "outcome": "Complete", "reason": ""}
+    rows = [{**whole, "job": 700 + place} for place in range(250)]
+    text = "".join(f"{json.dumps(it)}\n" for it in rows)
+    for tail, stays in ((json.dumps(whole)[:40], 0), (json.dumps(whole), 1), ("{" * 70_000, 0)):
+        with open(file, "w", encoding="utf-8") as history:
+            history.write(text + tail)
+        dispatcher = lab.dispatch()
+        number = lab.farm.submit("true")
+        demand("a job", "Complete", lab.finished(number))
+        mark = lab.file(number, "finished")
+        wait_until("all is done", lambda it=mark: os.path.exists(it))
+        found = [it["job"] for it in jobs_of(lab)[len(rows) :]]
+        demand(f"the lines behind {tail[:20]!r}", [900] * stays + [number], found)
+        demand("the lines before", rows, jobs_of(lab)[: len(rows)])
+        newest = newest_of(lab)["jobs"]
+        demand("how many are newest", 200, len(newest))
+        demand("the newest", list(reversed(jobs_of(lab)[-200:])), newest)
+        dispatcher.send(signal.SIGTERM)
+        dispatcher.ends()
+    lab.farm.kill()
+    return "a torn last line is cut off or ended; the newest 200 lines are told of more"
+
+
+def changes_of_health(lab):
+    lab.farm.tell("admin", "/types", {"name": "checked", "check": "jobs", "every": 20})
+    for name in ("c1", "c2"):
+        lab.farm.tell("admin", "/boards", {"name": name, "type": "checked"})
+    check = "sh -c 'test $FARM_BOARD = c1'"
+    dispatcher = lab.dispatch("--check", check)
+    wait_until("the first look", lambda: os.path.exists(os.path.join(lab.place, "healths.json")))
+    demand("lines before there is a change", [], healths_of(lab))
+    for name in ("c1", "c2"):
+        lab.farm.tell("admin", f"/boards/{name}/health", {"health": "Unknown"})
+    wait_until("the checks' ends", lambda: last_of(lab, "c1") == "Good" and last_of(lab, "c2") == "Bad")
+    number = lab.farm.submit("exit 75")
+    board = wait_until("its board", lambda: lab.farm.job(number)["board"])
+    wait_until(f"{board} is Unknown", lambda: last_of(lab, board) == "Unknown")
+    reasons = [(it["board"], it["to"], it["reason"]) for it in healths_of(lab)]
+    checks = {it["boards"][0]: it for it in jobs_of(lab) if it["name"] == "health check"}
+    demand("the checks' owners", ["admin"] * 2, [it["owner"] for it in checks.values()])
+    demand("when checks were submitted", [None] * 2, [it["submitted"] for it in checks.values()])
+    wanted = [
+        ("c1", "Good", f"health check {checks['c1']['job']} ended Complete"),
+        ("c2", "Bad", f"health check {checks['c2']['job']} ended Incomplete"),
+        (board, "Unknown", f"job {number} ended Infra"),
+    ]
+    demand("changes that aren't told", [], [it for it in wanted if it not in reasons])
+    # those that come while no dispatcher runs, and the same board again
+    dispatcher.kill()
+    lab.farm.tell("admin", f"/boards/{board}/health", {"health": "Maintenance"})
+    count = len(healths_of(lab))
+    dispatcher = lab.dispatch("--check", check)
+    wait_until("the change is told", lambda: last_of(lab, board) == "Maintenance")
+    dispatcher.kill()
+    dispatcher = lab.dispatch("--check", check)
+    lab.farm.tell("admin", f"/boards/{board}/health", {"health": "Good"})
+    wait_until("the next is told", lambda: last_of(lab, board) == "Good")
+    rows = healths_of(lab)[count:]
+    found = [(it["board"], it["from"], it["to"], it["reason"]) for it in rows]
+    by_admin = "by the admin"
+    demand("what the admin did", [
+        (board, "Unknown", "Maintenance", by_admin), (board, "Maintenance", "Good", by_admin)
+    ], found)
+    demand("the newest", list(reversed(healths_of(lab))), newest_of(lab)["boards"])
+    lab.closes(dispatcher)
+    return "each change of a board's health is told once, with the job that made it"
+
+
+def last_of(lab, board):
+    """The health that the last line of a board tells, or nothing."""
+    return ([it["to"] for it in healths_of(lab) if it["board"] == board] or [""])[-1]
+
+
+def room_and_other_farms(lab):
+    """A history that can't be written for a while, and one that has another farm's job of the same
+    number."""
+    file = os.path.join(lab.place, "history.jsonl")
+    dispatcher = lab.dispatch()
+    wait_until("it runs", dispatcher.output)
+    os.mkdir(file)
+    number = lab.farm.submit("true")
+    demand("the job", "Complete", lab.finished(number))
+    wait_until("it is told", lambda: f"job {number}: [Errno 21] " in dispatcher.output())
+    demand("a job beside", "Complete", lab.finished(lab.farm.submit("true")))
+    dispatcher.kill()
+    os.rmdir(file)
+    earlier = {**dict.fromkeys(JOB_FIELDS), "kind": "job", "job": number, "boards": ["b1"],
+               "began": 1_000, "owner": "zoe", "name": "old", "outcome": "Infra", "reason": ""}
+    with open(file, "w", encoding="utf-8") as history:
+        history.write(f"{json.dumps(earlier)}\n")
+    dispatcher = lab.dispatch()
+    wait_until("their lines", lambda: len(jobs_of(lab)) >= 3)
+    demand("their owners", ["zoe", "ann", "ann"], [it["owner"] for it in jobs_of(lab)])
+    demand("a job after", "Complete", lab.finished(lab.farm.submit("true")))
+    wait_until("its line", lambda: len(jobs_of(lab)) == 4)
+    lab.closes(dispatcher)
+    return "a line that can't be written is written later, also beside another farm's same number"
+
+
+def served_logs(lab):
+    dispatcher = lab.dispatch("--keep-logs", "1 hour")
+    one = lab.farm.submit("echo said; echo told >&2")
+    pair = two_of(lab.farm)
+    running = lab.farm.submit(f"echo begun; {lab.until('open')}")
+    for number in (one, *pair):
+        demand(f"job {number}", "Complete", lab.finished(number))
+    demand("a job's log", "said\ntold\n", read(log_of(lab, one)))
+    demand("that of each of two", ["", ""], [read(log_of(lab, it)) for it in pair])
+    demand("those that are there", {str(it) for it in (one, *pair, running)}, logs_in(lab))
+    wait_until("one that goes on", lambda: read(log_of(lab, running)) == "begun\n")
+    demand("who may read it", 0o644, os.stat(log_of(lab, one)).st_mode & 0o777)
+    demand("who may list them", 0o711, os.stat(os.path.join(lab.place, "logs")).st_mode & 0o777)
+    dispatcher.kill()
+    for number in (one, running):
+        os.utime(log_of(lab, number), (time.time() - 3700,) * 2)
+    dispatcher = lab.dispatch("--keep-logs", "1 hour")
+    left = {str(it) for it in (*pair, running)}
+    wait_until("old logs are gone", lambda: logs_in(lab) == left)
+    demand("the log in the job's folder", "said\ntold\n", read(lab.file(one, "log")))
+    lab.let("open")
+    demand("the one that went on", "Complete", lab.finished(running))
+    lab.closes(dispatcher)
+    return "each job's log has its number in logs/, until it is old and the job has ended"
+
+
+def log_of(lab, number):
+    return os.path.join(lab.place, "logs", str(number))
+
+
+def logs_in(lab):
+    return set(os.listdir(os.path.join(lab.place, "logs")))
+
+
+ROWS = [
+    what_a_line_says,
+    changes_of_health,
+    torn_lines,
+    room_and_other_farms,
+    served_logs,
+    a_line_over_any_kill,
+]
