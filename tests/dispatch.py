@@ -526,7 +526,7 @@ def unstartable_scripts(place):
         demand("how often it was begun", 1, lab.begins(number))
     for name in ("c1", "c2"):
         wait_until(f"{name} is Good", lambda: is_good(lab, name))
-    demand("that it goes on", True, "it goes on" in dispatcher.errors())
+    wait_until("it tells that it goes on", lambda: "it goes on" in dispatcher.errors())
     lab.closes(dispatcher)
     return "scripts that aren't executable finish no job and condemn no board; it is told, status 5"
 
@@ -662,9 +662,10 @@ class DeskOfThree:
                 for it in sorted(held)
             ]}
         number = int(path.rpartition("/")[2])
-        return {"number": number, "group": number, "state": self.states[number], "kind": "check",
+        state = self.states[number]
+        return {"number": number, "group": number, "state": state, "kind": "check",
                 "board": f"b{number}", "type": "bbb", "role": "", "text": "", "owner": "admin",
-                "priority": 50}
+                "priority": 50, "result": "Complete" if state == "Finished" else ""}
 
     def tell(self, path, body=None, key=None):
         number, _, what = path.removeprefix("/jobs/").partition("/")

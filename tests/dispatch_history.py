@@ -262,6 +262,29 @@ def room_and_other_farms(lab):
     return "a line that can't be written is written later, also beside another farm's same number"
 
 
+def folders_that_lack_it(lab):
+    """Jobs whose folder is gone, or was made by a version that kept no history; and one that
+    somebody else finished."""
+    gone, old, others = (lab.farm.submit(lab.until("open")) for _ in range(3))
+    dispatcher = lab.dispatch()
+    for number in (gone, old, others):
+        lab.begun(number)
+    dispatcher.kill()
+    os.kill(lab.runner(gone), signal.SIGKILL)
+    os.rename(os.path.dirname(lab.file(gone, "log")), os.path.join(lab.folder, "gone"))
+    os.unlink(lab.file(old, "about.json"))
+    lab.farm.tell("admin", f"/jobs/{others}/finish", {"outcome": "Complete"})
+    lab.let("open")
+    dispatcher = lab.dispatch("--grace", "1")
+    one_line_each(lab, [gone, old, others])
+    rows = {it["job"]: (it["outcome"], it["reason"], it["name"]) for it in jobs_of(lab)}
+    demand("the lost one", ("Infra", "lost, with its folder", "test"), rows[gone])
+    demand("the old one", ("Complete", "", "test"), rows[old])
+    demand("the other's", "Complete", rows[others][0])
+    lab.closes(dispatcher)
+    return "a job whose folder was lost, or made by an earlier version, has its line"
+
+
 def served_logs(lab):
     dispatcher = lab.dispatch("--keep-logs", "1 hour")
     one = lab.farm.submit("echo said; echo told >&2")
@@ -301,6 +324,7 @@ ROWS = [
     changes_of_health,
     torn_lines,
     room_and_other_farms,
+    folders_that_lack_it,
     served_logs,
     a_line_over_any_kill,
 ]

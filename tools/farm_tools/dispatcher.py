@@ -10,17 +10,15 @@ import shutil
 import subprocess
 import sys
 import time
-from typing import Dict, List, Optional, Set
+from typing import Callable, Dict, Optional, Set
 
-from farm_tools import calls, folders, limits, records, toml_text
-from farm_tools.lab_file import MOST_WANTS
+from farm_tools import calls, folders, limits
+from farm_tools.past import Past
 from farm_tools.starts import Starts
-from farm_tools.submissions import Submissions
 
 ROOT = os.path.dirname(os.path.dirname(os.path.abspath(__file__)))
 DAY = 86400
 KILLS_AFTER = 10
-LONGEST_NAME = 200
 LOST = "lost, with its folder"
 
 
@@ -32,7 +30,6 @@ class Dispatcher:
         and `retry`."""
         self.desk = desk
         self.jobs = os.path.join(place, "jobs")
-        self.logs = folders.made_for_all(os.path.join(place, "logs"))
         self.options = options
         self.starts = Starts((options.command, options.check), options.retry)
         os.makedirs(self.jobs, mode=0o750, exist_ok=True)
@@ -42,17 +39,14 @@ class Dispatcher:
         self.running: Dict[int, int] = {}
         self.others: Set[int] = set()
         self.told: Set[str] = set()
-        self.history = records.History(place, self._open_members())
-        self.submissions = Submissions(place)
+        self.past = Past(desk, place, self.open)
 
     def round(self, passes: bool) -> None:
         """Takes up what there is to do, after a pass where one is due, and again after each pass
         that the end of a job asks for. There is no pass while no command can be started."""
         self.starts.look()
         if passes:
-            self._note_numbers()
-        if not self.history.is_shown:
-            self.history.show()
+            self.past.look()
         if passes and not self.starts.fault:
             self.desk.nudge("/pass")
         while self._take_up() and not self.starts.fault:
@@ -62,26 +56,25 @@ class Dispatcher:
     def _take_up(self) -> bool:
         """Does what each group that holds boards asks for. Returns whether a group was finished."""
         lab = self.desk.look("/boards")["boards"]
-        self._try("the boards' health", lambda: self.history.see(lab))
+        self._try("the boards' health", self.past.see, lab)
         boards = [it for it in lab if it["holder"].startswith("job ")]
         groups = self._groups(sorted(int(it["holder"].split()[1]) for it in boards))
         self.running = {}
         self.runners = {key: it for key, it in self.runners.items() if it.poll() != 0}
         self.starts.settle(self._has_started)
         names = {it["name"]: it for it in boards}
-        done = [
-            self._try(f"job {number}", lambda it=(number, members): self._do(*it, names))
-            for number, members in groups.items()
-        ]
+        finished = False
+        for number, members in groups.items():
+            finished |= self._try(f"job {number}", self._do, number, members, names)
         for number in self.open - groups.keys():
-            self._try(f"job {number}", lambda it=number: self._close(it))
-        return any(done)
+            self._try(f"job {number}", self._close, number)
+        return finished
 
-    def _try(self, about: str, call) -> bool:
+    def _try(self, about: str, call: Callable, *words) -> bool:
         """Does what one group asks for. Its fault keeps none of the others waiting; it is tried
         again."""
         try:
-            return bool(call())
+            return bool(call(*words))
         except (calls.Refused, OSError) as fault:
             if isinstance(fault, calls.Refused) and fault.status in (401, 403):
                 raise
@@ -161,13 +154,11 @@ class Dispatcher:
         folders.write_synced(os.path.join(new, folders.TEXT), members[0]["text"])
         folders.write_synced(os.path.join(new, folders.BOARDS), "".join(lines))
         folders.write_synced(os.path.join(new, "boards.json"), json.dumps(rows, indent=1) + "\n")
-        about = json.dumps(self._about_group(members))
-        folders.write_synced(os.path.join(new, folders.ABOUT), f"{about}\n")
-        folders.make_log(new)
         if ended:
             folders.claim(new)
             folders.write_synced(os.path.join(new, folders.ENDED), f"{ended}\n")
-        self._serve_log(new, [it["number"] for it in members])
+        for fault in self.past.prepare(new, members):
+            self._tell_once(fault)
         os.rename(new, self._folder(number))
         folders.sync_folder(self.jobs)
         self.open.add(number)
@@ -346,6 +337,10 @@ class Dispatcher:
         self._mark_finished(number, f"{said} ({ended})")
         return True
 
+    def _record(self, number: int, ended: str) -> None:
+        """Writes the lines of a group, whose end the desk has acknowledged, into the history."""
+        self.past.record(number, self._folder(number), ended, self._outcome_of(ended))
+
     def _outcome_of(self, ended: str) -> str:
         if ended == "status 0":
             return "Complete"
@@ -365,97 +360,6 @@ class Dispatcher:
                 raise
             self.desk.tell(path, body)
 
-    # ---- the history
-
-    def _about_group(self, members) -> dict:
-        """What its history will say of a group that got its boards, whoever then looks."""
-        first = members[0]
-        is_check = first["kind"] == "check"
-        return {
-            "owner": first["owner"],
-            "name": records.CHECK if is_check else _name_in(first["text"]),
-            "members": [
-                {"job": it["number"], "board": it["board"], "type": it["type"]} for it in members
-            ],
-        }
-
-    def _about(self, number: int) -> dict:
-        """The same, as it stands in the group's folder, where it does."""
-        text = self._text_of(number, folders.ABOUT)
-        return json.loads(text) if text else {"owner": "", "name": "", "members": []}
-
-    def _record(self, number: int, how: str) -> None:
-        """Writes the line of each member of a group, whose end the desk has acknowledged."""
-        about = self._about(number)
-        members = about["members"]
-        began = self._moment_of(number, folders.BEGAN)
-        ended = max(began, self._moment_of(number, folders.ENDED))
-        submitted = None if records.is_check(about) else self._submitted(number, began)
-        rows: List[dict] = []
-        for member in members:
-            outcome = self._result_of(member, about["owner"]) or self._outcome_of(how)
-            rows.append({
-                "kind": "job",
-                "job": member["job"],
-                "group": number,
-                "owner": about["owner"],
-                "boards": [member["board"]],
-                "type": member["type"],
-                "name": about["name"],
-                "submitted": submitted,
-                "began": began,
-                "ended": ended,
-                "outcome": outcome,
-                "reason": self._reason_of(outcome, how),
-            })
-        self.history.add_jobs(rows)
-
-    def _submitted(self, number: int, began: int) -> Optional[int]:
-        """When a group that began then was submitted, where that is known."""
-        if not self.submissions.has_seen(number):
-            self._note_numbers()
-        moment = self.submissions.moment_of(number)
-        return None if moment is None else min(moment, began)
-
-    def _note_numbers(self) -> None:
-        self.submissions.note(self.desk.look("/status").get("next"))
-
-    def _result_of(self, member: dict, owner: str) -> Optional[str]:
-        """How a job ended, as the desk says, where it still knows it."""
-        try:
-            view = self.desk.look(f"/jobs/{member['job']}")
-        except calls.Refused as refusal:
-            if refusal.code != calls.NO_JOB:
-                raise
-            return None
-        is_it = (view["owner"], view["board"]) == (owner, member["board"])
-        return view.get("result") if is_it else None
-
-    def _reason_of(self, outcome: str, how: str) -> str:
-        """Why a job ended so."""
-        if outcome not in ("Canceled", self._outcome_of(how)):
-            return "finished by somebody else"
-        return "" if outcome == "Complete" else how
-
-    def _moment_of(self, number: int, name: str) -> int:
-        """When a file of a group's folder was written; now, where it wasn't."""
-        try:
-            return int(os.stat(self._file(number, name)).st_mtime)
-        except FileNotFoundError:
-            return int(time.time())
-
-    def _serve_log(self, folder: str, numbers: List[int]) -> None:
-        """Lets a group's log be served under the number of each of its members."""
-        for number in numbers:
-            try:
-                folders.link(os.path.join(folder, folders.LOG), os.path.join(self.logs, f"{number}"))
-            except OSError as fault:
-                self._tell_once(f"the log of job {number} isn't served: {fault}")
-
-    def _open_members(self) -> Set[int]:
-        """The jobs of the groups that aren't known to have ended, and maybe a few beside."""
-        return {it + place for it in self.open for place in range(MOST_WANTS)}
-
     # ---- folders
 
     def _close(self, number: int) -> None:
@@ -473,7 +377,7 @@ class Dispatcher:
     def _mark_finished(self, number: int, how: str) -> None:
         if os.path.isdir(self._folder(number)):
             folders.write_synced(self._file(number, folders.FINISHED), f"{how}\n")
-        self.history.settle(range(number, number + MOST_WANTS))
+        self.past.settle(number)
         self._forget(number)
 
     def _drop(self, number: int) -> None:
@@ -488,8 +392,8 @@ class Dispatcher:
             del self.runners[number]
 
     def remove_old(self) -> None:
-        """Removes the folders of jobs that were finished longer ago than they are kept, and logs
-        to which nothing was added for as long as they are kept."""
+        """Removes the folders and the served logs of jobs that were finished longer ago than these
+        are kept."""
         oldest = time.time() - self.options.keep * DAY
         for name in os.listdir(self.jobs):
             folder = os.path.join(self.jobs, name)
@@ -499,11 +403,7 @@ class Dispatcher:
                     shutil.rmtree(folder, ignore_errors=True)
             except OSError:
                 continue
-        oldest, is_open = time.time() - self.options.keep_logs, self._open_members()
-        for name in os.listdir(self.logs):
-            log = os.path.join(self.logs, name)
-            if not (name.isdigit() and int(name) in is_open) and os.stat(log).st_mtime < oldest:
-                os.unlink(log)
+        self.past.remove_old(self.options.keep_logs, self.open)
 
     def _folder(self, number: int) -> str:
         return os.path.join(self.jobs, str(number))
@@ -521,12 +421,3 @@ class Dispatcher:
         if text not in self.told:
             self.told.add(text)
             self._tell(text)
-
-
-def _name_in(text: str) -> str:
-    """The name that a job's text has."""
-    try:
-        name = toml_text.tree_of(text).get("job_name")
-    except toml_text.NotToml:
-        return ""
-    return name[:LONGEST_NAME] if isinstance(name, str) else ""
