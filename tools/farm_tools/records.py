@@ -42,8 +42,7 @@ class History:
         self.effects: Dict[str, Effect] = {}  # of jobs that ended, until the health is seen
         self.healths: Dict[str, str] = _healths_in(self.known)
         self.is_shown = False
-        if os.path.exists(self.lines):
-            _append(self.lines, [])
+        _append(self.lines, [])
         for row in rows_of(self.lines):
             self._take(row)
             if row["kind"] == "job" and row["job"] in wanted:
