@@ -306,6 +306,14 @@ def completion(farm, folder):
     at = f"desk --server {farm.server}"
     completes("desk ", "queue", "health", "tags", "add-type", "add-board", "import", "with")
     completes("desk --v", "--version", others=["queue"])
+    completes("desk ", "log", "history", "usage", "resubmit")
+    completes(f"{at} history ", "b1", "c1", others=["hdmi"])
+    completes("desk usage --by ", "owner", "board", "type")
+    completes("desk jobs --", "--mine", "--last", "--text", others=["--all"])
+    number = farm.tell("ann", "/jobs", b"job_name = 'one'\ndevice_type = 'bbb'\n")["number"]
+    for command in ("log", "cancel", "resubmit", "jobs"):
+        completes(f"{at} --user ann {command} ", str(number), others=["b1"])
+    farm.tell("ann", f"/jobs/{number}/cancel")
     completes("desk --json ad", "add-type", "add-board", others=["queue"])
     completes(f"{at} health b1 ", "b1", "b2", "c1", "Good", "Retired", others=["hdmi"])
     completes(f"{at} tags ", "b1", "b2", others=["hdmi", "Good"])

@@ -1,5 +1,5 @@
-"""Rows of tests/client.py: jobs that ended, logs, a board's past, what was used, and a job's text once
-more, from the folder of a dispatcher on this machine."""
+"""Rows of tests/client.py: jobs that ended, logs, a board's past, what was used, and a job's text
+once more, from the folder of a dispatcher on this machine."""
 import json
 import os
 import shutil
@@ -94,7 +94,7 @@ def history_that_is_long(farm, folder):
         demand(f"the last {count}", wanted, [it["job"] for it in said])
     demand("without a number", 50, len(json.loads(
         desk(farm, "--history", past, "jobs", "--json")[1])["ended"]))
-    return "of a long history one's own jobs are found beyond the newest, and as many as are asked for"
+    return "of a long history one's own jobs are found, and as many as are asked for"
 
 
 def no_history(farm, folder):
@@ -140,7 +140,7 @@ def logs(farm, folder):
     prints(own, "first\na partof it\n", "log", number, **own_past)
     prints(own, "first\na partof it\n", "log", number, "--follow", **own_past)
     os.unlink(log)
-    told = f"desk: job {number} has no log: its command wasn't begun, or its log is too old to be kept\n"
+    told = f"desk: job {number} has no log: it never began, or its log is too old to be kept\n"
     demand("one whose log is gone", (3, "", told), desk(own, "log", number, **own_past))
     demand("the same, followed", (3, "", told), desk(own, "log", number, "--follow", **own_past))
     told = "desk: there is no job 77\n"
@@ -176,7 +176,8 @@ MOMENT           WHAT              OWNER TOOK    ABOUT
     said = desk(farm, "--history", past, "history", "b1", "--last", "1", "--json")[1]
     row = health_line("b1", "Good", "Bad", "health check 13 ended Incomplete")
     demand("as JSON", {"history": [row]}, json.loads(said))
-    demand("a board without a past", 1, len(cells(desk(farm, "--history", past, "history", "c1")[1])))
+    none = desk(farm, "--history", past, "history", "c1")[1]
+    demand("a board without a past", 1, len(cells(none)))
     told = (3, "", "desk: there is no board x9\n")
     demand("no such board", told, desk(farm, "--history", past, "history", "x9"))
     return "a board's jobs and changes of health are shown, with the reasons"
@@ -189,7 +190,8 @@ def usage(farm, folder):
         folder,
         job_line(1, held=50 * HOUR, ago=31 * DAY),
         job_line(2, "zoe", boards=["b2"], held=3 * HOUR, outcome="Incomplete", ago=2 * DAY),
-        job_line(3, "zoe", boards=["c1"], kind="ccc", held=DAY, outcome="Infra", ago=29 * DAY + DAY // 2),
+        job_line(3, "zoe", boards=["c1"], kind="ccc", held=DAY, outcome="Infra",
+                 ago=29 * DAY + DAY // 2),
         *(job_line(10 + it, held=HOUR // 10, waited=10 * it, ago=DAY) for it in range(10, 0, -1)),
         job_line(30, boards=["b1", "b2"], held=HOUR, outcome="Canceled", ago=DAY),
         health_line("b1", "Good", "Bad", ""),
@@ -209,7 +211,8 @@ BOARD JOBS COMPLETE INCOMPLETE INFRA CANCELED HOURS WAITED  NINTH
 b2       2        0          1     0        1 4.0   -       -
 b1      11       10          0     0        1 2.0   0:00:50 0:01:30
 """, "--history", past, "usage", "--by", "board", "--since", "3d")
-    types = cells(desk(farm, "--history", past, "usage", "--by", "type", "--since", "2020-01-01")[1])
+    words = ["--history", past, "usage", "--by", "type", "--since", "2020-01-01"]
+    types = cells(desk(farm, *words)[1])
     demand("by type", [["bbb", "13", "56.0"], ["ccc", "1", "24.0"]],
            [[it[0], it[1], it[6]] for it in types[1:]])
     demand("none since", 1, len(cells(desk(farm, "--history", past, "usage", "--since", "1m")[1])))

@@ -126,19 +126,23 @@ def a_line_over_any_kill(lab):
 def what_a_line_says(lab):
     before = int(time.time())
     dispatcher = lab.dispatch()
-    ends = {"true": "Complete", "exit 3": "Incomplete", "exit 75": "Infra", "kill -9 $PPID": "Infra"}
-    numbers = {lab.farm.submit(run): (run, result) for run, result in ends.items()}
-    told = {"true": "", "exit 3": "status 3", "exit 75": "status 75", "kill -9 $PPID": "signal 9"}
+    ends = {
+        "true": ("Complete", ""),
+        "exit 3": ("Incomplete", "status 3"),
+        "exit 75": ("Infra", "status 75"),
+        "kill -9 $PPID": ("Infra", "signal 9"),
+    }
+    numbers = {lab.farm.submit(run): run for run in ends}
     canceled = lab.farm.submit(lab.sleeps(100))
     lab.begun(canceled)
     lab.farm.tell("ann", f"/jobs/{canceled}/cancel")
     pair = two_of(lab.farm)
     one_line_each(lab, [*numbers, canceled, *pair])
     rows = {it["job"]: it for it in jobs_of(lab)}
-    for number, (run, result) in numbers.items():
+    for number, run in numbers.items():
         row = rows[number]
         demand(f"the fields of {run}", JOB_FIELDS, list(row))
-        demand(f"how {run} ended", (result, told[run]), (row["outcome"], row["reason"]))
+        demand(f"how {run} ended", ends[run], (row["outcome"], row["reason"]))
         demand(f"the name of {run}", "test", row["name"])
         times = [before, row["began"], row["ended"], int(time.time())]
         demand(f"the moments of {run}, {times}", sorted(times), times)
@@ -147,7 +151,7 @@ def what_a_line_says(lab):
     late = lab.farm.submit("sleep 0.5")
     wait_until("its line", lambda: [it for it in jobs_of(lab) if it["job"] == late])
     row = jobs_of(lab)[-1]
-    demand("that it was submitted before it began", True, before <= row["submitted"] <= row["began"])
+    demand("when it was submitted", True, before <= row["submitted"] <= row["began"])
     newest = newest_of(lab)
     demand("the newest jobs", list(reversed(jobs_of(lab))), newest["jobs"])
     demand("its moment", True, before <= newest["at"] <= time.time())
@@ -196,7 +200,8 @@ def changes_of_health(lab):
     demand("lines before there is a change", [], healths_of(lab))
     for name in ("c1", "c2"):
         lab.farm.tell("admin", f"/boards/{name}/health", {"health": "Unknown"})
-    wait_until("the checks' ends", lambda: last_of(lab, "c1") == "Good" and last_of(lab, "c2") == "Bad")
+    wait_until("c1 is Good", lambda: last_of(lab, "c1") == "Good")
+    wait_until("c2 is Bad", lambda: last_of(lab, "c2") == "Bad")
     number = lab.farm.submit("exit 75")
     board = wait_until("its board", lambda: lab.farm.job(number)["board"])
     wait_until(f"{board} is Unknown", lambda: last_of(lab, board) == "Unknown")

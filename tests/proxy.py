@@ -4,9 +4,9 @@ bin/farm
 
 The site is the example's, with its addresses and files put into a temporary folder. Each row prints
 a line and says what it saw: TLS, names and passwords, the status page, foreign pages' commands,
-many viewers, clients that ask without end, long jobs, history and logs, a desk that is away. Ends with status 1 at
-the first thing that isn't as it should be, and with 77 where nginx, openssl or curl isn't there;
-where Chromium isn't, the row that wants it says so. Takes about a minute.
+many viewers, clients that ask without end, long jobs, history and logs, a desk that is away. Ends
+with status 1 at the first thing that isn't as it should be, and with 77 where nginx, openssl or
+curl isn't there; where Chromium isn't, the row that wants it says so. Takes about a minute.
 """
 import base64
 import http.client
@@ -258,8 +258,9 @@ def history(farm, door):
     demand("a log from a byte on", (206, b"more\n"), (status, body))
     demand("nothing beyond", 416, got(door, f"/logs/{number}", "-H", "range: bytes=10-")[0])
     for path in (
-        "/logs/", "/logs", "/logs/901", "/logs/900", "/logs/0", f"/logs/0{number}", "/logs/../secret",
-        "/logs/%2e%2e/secret", "/logs/..%2fsecret", f"/logs/{number}/../../secret", "/logs//secret",
+        "/logs/", "/logs", "/logs/901", "/logs/900", "/logs/0", f"/logs/0{number}",
+        "/logs/../secret", "/logs/%2e%2e/secret", "/logs/..%2fsecret", "/logs//secret",
+        f"/logs/{number}/../../secret",
         f"/logs/{number}/", f"/logs/{number}%00", "/secret", "/healths.json", "/lock", "/numbers",
         f"/logs/../jobs/{number}/job.toml", f"/jobs/{number}/job.toml", "/history.json/../secret",
     ):
@@ -275,7 +276,8 @@ def client_of_history(farm, door):
     row = json.loads(got(door, "/history.json")[2])["jobs"][0]
     number = row["job"]
     demand("desk log", (0, "said\nmore\n", ""), desk(door, "log", str(number)))
-    demand("desk log --follow", (0, "said\nmore\n", ""), desk(door, "log", str(number), "--follow"))
+    followed = desk(door, "log", str(number), "--follow")
+    demand("desk log --follow", (0, "said\nmore\n", ""), followed)
     told = (3, "", "desk: there is no job 901\n")
     demand("a log that isn't there", told, desk(door, "log", "901"))
     said = json.loads(desk(door, "--json", "jobs")[1])
@@ -294,7 +296,8 @@ def client_of_history(farm, door):
         DESK_CA_FILE=door.certificate,
         DESK_PASSWORD_FILE=os.path.join(door.folder, "ann"),
     )
-    wait_until("it waits", lambda: f"job {again} is Submitted, and has no log yet" in tool.errors())
+    told = f"job {again} is Submitted, and has no log yet"
+    wait_until("it waits", lambda: told in tool.errors())
     write(f"{door.folder}/dispatch/logs", str(again), "first\n", 0o644)
     wait_until("its begin", lambda: tool.output() == "first\n")
     with open(f"{door.folder}/dispatch/logs/{again}", "a", encoding="utf-8") as log:

@@ -170,7 +170,7 @@ def add_jobs(command) -> None:
 def add_past(command) -> None:
     log = command("log", past_jobs.show_log, "print what a job's command said")
     log.add_argument("number", metavar="N", type=number)
-    log.add_argument("--follow", action="store_true", help="and all that it says until it has ended")
+    log.add_argument("--follow", action="store_true", help="and what it says until it has ended")
     add_every(log)
     past = command("history", past_jobs.show_history, "show a board's jobs and changes of health")
     past.add_argument("board", metavar="BOARD", help="the board's name")

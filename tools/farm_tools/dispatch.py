@@ -115,7 +115,8 @@ def options_of(words):
     option("--infra", "STATUS", 75, int, "exit status for a fault of the lab")
     option("--keep", "DAYS", 30, seconds, "to keep the folders of jobs that ended")
     for name, (metavar, default, about) in MORE.items():
-        parser.add_argument(f"--{name.replace('_', '-')}", metavar=metavar, help=f"{about} ({default})")
+        word = f"--{name.replace('_', '-')}"
+        parser.add_argument(word, metavar=metavar, help=f"{about} ({default})")
     about = "the command for health checks, in quotes (COMMAND)"
     parser.add_argument("--check", metavar="WORDS", type=shlex.split, help=about)
     settings.add_options(parser)

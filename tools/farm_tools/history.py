@@ -1,5 +1,5 @@
-"""The history that farm-dispatch keeps, as the proxy serves it beside the desk, or as it stands in the
-dispatcher's folder."""
+"""The history that farm-dispatch keeps, as the proxy serves it beside the desk, or as it stands in
+the dispatcher's folder."""
 import collections
 import os
 from typing import Iterator, List, Optional, Union

@@ -235,7 +235,7 @@ def why_no_log(desk, number: int) -> str:
     if not view:
         return f"there is no job {number}"
     if view["state"] == "Finished":
-        return f"job {number} has no log: its command wasn't begun, or its log is too old to be kept"
+        return f"job {number} has no log: it never began, or its log is too old to be kept"
     return f"job {number} is {view['state']}, and has no log yet"
 
 

@@ -1,5 +1,5 @@
-"""What the dispatcher keeps of the past: history.jsonl, a line a job that ended and a line a board's
-change of health that was seen, and history.json, which has the newest of both.
+"""What the dispatcher keeps of the past: history.jsonl, a line for each job that ended and each
+change of a board's health that was seen, and history.json, which has the newest of both.
 
 Lines are whole and are never changed. A stop in the middle of one leaves a part of it, which is cut
 off before the next is written.
