@@ -247,6 +247,7 @@ def room_and_other_farms(lab):
     file = os.path.join(lab.place, "history.jsonl")
     dispatcher = lab.dispatch()
     wait_until("it runs", dispatcher.output)
+    os.unlink(file)
     os.mkdir(file)
     number = lab.farm.submit("true")
     demand("the job", "Complete", lab.finished(number))
@@ -265,6 +266,58 @@ def room_and_other_farms(lab):
     wait_until("its line", lambda: len(jobs_of(lab)) == 4)
     lab.closes(dispatcher)
     return "a line that can't be written is written later, also beside another farm's same number"
+
+
+class Clock:
+    """A clock that stands until it is set."""
+
+    def __init__(self):
+        self.now = 1_000_000
+
+    def time(self):
+        return self.now
+
+
+def moments_of_submission(lab):
+    """What looks at the number that is given next tell, over restarts and another farm."""
+    lab.farm.kill()
+    os.makedirs(lab.place)
+    sys.path.insert(0, TOOLS)
+    from farm_tools import submissions as module
+
+    clock = Clock()
+    real, module.time = module.time, clock
+    try:
+        seen = module.Submissions(lab.place)
+        look_at(seen, clock, [(0, 5), (5, 5), (10, 8), (110, 9)])
+        demand("what it knows", [None] * 4 + [1_000_010] * 3 + [None] * 2, moments(seen, 9))
+        with open(os.path.join(lab.place, "numbers"), "a", encoding="ascii") as file:
+            file.write("12 100")
+        seen = module.Submissions(lab.place)
+        look_at(seen, clock, [(120, 9), (125, 10), (170, 11)])
+        wanted = [1_000_010, None, 1_000_125, 1_000_170, None]
+        demand("over a restart", wanted, moments(seen, 11)[6:])
+        look_at(seen, clock, [(175, 2), (180, 7)])
+        demand("of another farm", [None] + [1_000_180] * 5 + [None], moments(seen, 7))
+        look_at(seen, clock, [(181 + it, 8 + it) for it in range(module.MOST)])
+        with open(os.path.join(lab.place, "numbers"), encoding="ascii") as file:
+            demand("looks that are kept", True, len(file.readlines()) <= module.MOST)
+        demand("the last", 1_000_180 + module.MOST, moments(seen, 7 + module.MOST)[-2])
+    finally:
+        module.time = real
+    return "when a job was submitted is known where the desk was looked at before and after"
+
+
+def look_at(seen, clock, looks):
+    """Looks at these moments, which find these numbers to be given next."""
+    for after, following in looks:
+        clock.now = 1_000_000 + after
+        seen.note(following)
+
+
+def moments(seen, last):
+    """When each number was given, from 1 on."""
+    return [seen.moment_of(it) for it in range(1, last + 1)]
 
 
 def folders_that_lack_it(lab):
@@ -329,6 +382,7 @@ ROWS = [
     changes_of_health,
     torn_lines,
     room_and_other_farms,
+    moments_of_submission,
     folders_that_lack_it,
     served_logs,
     a_line_over_any_kill,

@@ -18,6 +18,14 @@ READABLE = 0o644  # by the proxy's user too
 CHECK = "health check"  # the name of a job that the desk makes itself
 BY_ADMIN = "by the admin"
 BLOCK = 65536
+# The kinds of lines, each with its fields.
+FIELDS = {
+    "job": (
+        "job", "group", "owner", "boards", "type", "name", "submitted", "began", "ended", "outcome",
+        "reason",
+    ),
+    "health": ("board", "from", "to", "at", "reason"),
+}
 
 
 class Effect(NamedTuple):
@@ -156,7 +164,7 @@ def row_of(line: bytes) -> Optional[dict]:
         return None
     if not isinstance(row, dict):
         return None
-    wanted = {"job": ("job", "boards", "began"), "health": ("board", "to")}.get(row.get("kind"))
+    wanted = FIELDS.get(str(row.get("kind")), ())
     return row if wanted and all(it in row for it in wanted) else None
 
 

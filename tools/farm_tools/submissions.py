@@ -34,7 +34,7 @@ class Submissions:
             return
         now = int(time.time())
         if self.looks and following < self.looks[-1].next:
-            self.looks = []  # another farm
+            self.looks, self.since = [], 0  # another farm
             self._write()
         if not self.looks or following > self.looks[-1].next:
             self.looks.append(Look(following, now, self.since))

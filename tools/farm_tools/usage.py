@@ -16,7 +16,7 @@ SPAN = re.compile(r"([0-9]{1,6})([mhdw])")
 class Use:
     """The use of one owner, board or type."""
 
-    def __init__(self):
+    def __init__(self) -> None:
         self.outcomes: Counter[str] = collections.Counter()
         self.seconds = 0
         self.waits: List[int] = []
