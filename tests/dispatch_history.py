@@ -11,15 +11,22 @@ import time
 from served import STARTED, TOOLS, demand, environment, read, wait_until
 
 # A dispatcher that kills itself at one of the places at which it writes, renames or gives a
-# command; of what it was to write there, half is written.
+# command, counted from its start on, from its first `finish`, or from its first line of the
+# history; of what it was to write there, half is written.
 DIES = """\
 import os, signal, sys
 sys.path.insert(0, sys.argv.pop(1))
-left = int(sys.argv.pop(1))
+phase, left = sys.argv.pop(1), int(sys.argv.pop(1))
+def begins(call, words):
+    if phase == "finish":
+        return call.__name__ == "tell" and words[1].endswith("/finish")
+    return phase == "start" or call.__name__ == "write" and words[1][:7] == b'{"kind"'
 def dying(call):
     def called(*words, **more):
-        global left
-        left -= 1
+        global phase, left
+        if begins(call, words):
+            phase = "start"
+        left -= phase == "start"
         if left == 0:
             if call.__name__ == "write":
                 call(words[0], words[1][:len(words[1]) // 2])
@@ -71,12 +78,12 @@ def one_line_each(lab, numbers, about=""):
         demand(f"the line of job {row['job']} {about}", said, found)
 
 
-def dies_at(lab, place):
+def dies_at(lab, phase, place):
     """Runs a dispatcher that kills itself at a place, or is killed where it has done all before.
     Returns the jobs that it was given: one, and a group of two."""
     words = [
-        sys.executable, "-c", DIES, TOOLS, str(place), "--server", lab.farm.server, "--folder",
-        lab.place, "--every", "0.1", lab.command,
+        sys.executable, "-c", DIES, TOOLS, phase, str(place), "--server", lab.farm.server,
+        "--folder", lab.place, "--every", "0.1", lab.command,
     ]
     process = subprocess.Popen(
         words, stdout=subprocess.DEVNULL, stderr=subprocess.PIPE, env=environment(RUNS=lab.runs)
@@ -84,11 +91,11 @@ def dies_at(lab, place):
     STARTED.append(process)
     numbers = [lab.farm.submit("true"), *two_of(lab.farm)]
     wait_until(
-        f"it is dead or done, place {place}",
+        f"it is dead or done, {phase} {place}",
         lambda: process.poll() is not None or are_done(lab, numbers),
     )
     process.kill()
-    demand(f"what it tells, place {place}", b"", process.communicate()[1])
+    demand(f"what it tells, {phase} {place}", b"", process.communicate()[1])
     return numbers
 
 
@@ -106,21 +113,36 @@ def two_of(farm):
 
 
 def a_line_over_any_kill(lab):
-    """Kills at a third of the places at which a dispatcher writes something or gives a command,
-    from its start on until it has ended three jobs."""
-    first = random.randrange(1, 4)
-    numbers, places = [], range(first, 109, 3)
-    for place in places:
-        numbers += dies_at(lab, place)
+    """Kills at places at which a dispatcher writes something or gives a command: some while it
+    makes the jobs' folders, and each one from the first end of a job on."""
+    seed = random.randrange(10**6)
+    dice, about = random.Random(seed), f"(seed {seed})"
+    places = [("start", it) for it in dice.sample(range(1, 40), 8)]
+    places += [("finish", it) for it in range(1, 19)] + [("line", it) for it in range(1, 11)]
+    dice.shuffle(places)
+    numbers, between = [], 0
+    for phase, place in places:
+        numbers += dies_at(lab, phase, place)
+        between += bool(unmarked(lab, numbers))
+    demand(f"kills between a job's end and its mark, at least three {about}", True, between >= 3)
     dispatcher = lab.dispatch(every="0.1")
-    about = f"(from place {first} on)"
     for number in numbers:
         demand(f"job {number} {about}", "Complete", lab.finished(number))
     one_line_each(lab, numbers, about)
     groups = {lab.farm.job(it)["group"] for it in numbers}
     demand(f"jobs not begun once {about}", [], [it for it in groups if lab.begins(it) != 1])
     lab.closes(dispatcher)
-    return f"over {len(places)} kills at all places, each of {len(numbers)} jobs has one line"
+    return (
+        f"over {len(places)} kills, {between} of them between a job's end and its mark, each of "
+        f"{len(numbers)} jobs has one line"
+    )
+
+
+def unmarked(lab, numbers):
+    """Those of these jobs that the desk has finished, and the dispatcher hasn't marked so."""
+    views = [lab.farm.job(it) for it in numbers]
+    ended = {it["group"] for it in views if it["state"] == "Finished"}
+    return [it for it in ended if not os.path.exists(lab.file(it, "finished"))]
 
 
 def what_a_line_says(lab):

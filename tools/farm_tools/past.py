@@ -19,7 +19,7 @@ class Past:
         """`is_open` are the groups that aren't known to have ended."""
         self.desk = desk
         self.logs = folders.made_for_all(os.path.join(place, "logs"))
-        self.history = records.History(place, _members_of(is_open))
+        self.history = records.History(place, is_open)
         self.submissions = Submissions(place)
 
     def look(self) -> None:
@@ -71,7 +71,7 @@ class Past:
 
     def settle(self, number: int) -> None:
         """Nobody records this group again."""
-        self.history.settle(_members_of([number]))
+        self.history.settle(number)
 
     def remove_old(self, seconds: float, is_open: Set[int]) -> None:
         """Removes the logs to which nothing was added for so many seconds."""

@@ -40,33 +40,39 @@ class History:
     """The history in a dispatcher's folder."""
 
     def __init__(self, place: str, wanted: Set[int]):
-        """`wanted` are the jobs of which it has to be known whether they have their line."""
+        """`wanted` are the groups of which it has to be known whether they have their lines."""
         self.lines = os.path.join(place, LINES)
         self.newest = os.path.join(place, NEWEST)
         self.known = os.path.join(place, HEALTHS)
         self.jobs: Deque[dict] = collections.deque(maxlen=MOST_SHOWN)
         self.boards: Deque[dict] = collections.deque(maxlen=MOST_SHOWN)
-        self.written: Dict[int, int] = {}  # when they began, of jobs that have their line
+        # of groups that aren't settled: when each member began that has its line
+        self.written: Dict[int, Dict[int, int]] = {}
         self.effects: Dict[str, Effect] = {}  # of jobs that ended, until the health is seen
         self.healths: Dict[str, str] = _healths_in(self.known)
         self.is_shown = False
         _append(self.lines, [])
         for row in rows_of(self.lines):
             self._take(row)
-            if row["kind"] == "job" and row["job"] in wanted:
-                self.written[row["job"]] = row["began"]
+            if row["kind"] == "job" and row["group"] in wanted:
+                self._note_written(row)
         self.show()
 
     def add_jobs(self, rows: List[dict]) -> None:
         """Adds the lines of jobs that ended, of those that have none yet."""
-        new = [it for it in rows if self.written.get(it["job"]) != it["began"]]
+        new = [
+            it for it in rows if self.written.get(it["group"], {}).get(it["job"]) != it["began"]
+        ]
         self._add(new)
-        self.written.update({it["job"]: it["began"] for it in new})
+        for row in new:
+            self._note_written(row)
 
-    def settle(self, jobs: Iterable[int]) -> None:
-        """These jobs have their lines, and are never added again."""
-        for job in jobs:
-            self.written.pop(job, None)
+    def _note_written(self, row: dict) -> None:
+        self.written.setdefault(row["group"], {})[row["job"]] = row["began"]
+
+    def settle(self, group: int) -> None:
+        """This group has its lines, which are never added again."""
+        self.written.pop(group, None)
 
     def see(self, boards: List[dict]) -> None:
         """Adds a line for each of these boards whose health isn't what it was when it was seen
