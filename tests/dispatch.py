@@ -908,9 +908,10 @@ def misspelt_settings(place):
         tool = Tool(words, own, **around)
         demand(f"the status of {words}", 2, tool.ends())
         demand(f"what it tells: {wanted}", True, wanted in tool.errors())
-    for name, text in (("limit", "soon"), ("most", "0"), ("retry", "1 min"), ("clock", "maybe")):
-        own = tempfile.mkdtemp(dir=place)
-        tool = Tool(["farm-dispatch", "--folder", own, f"--{name}", text, "true"], own)
+    bad = {"limit": "soon", "most": "0", "retry": "1 min", "clock": "maybe", "keep_logs": "ever"}
+    for name, text in bad.items():
+        own, option = tempfile.mkdtemp(dir=place), f"--{name.replace('_', '-')}"
+        tool = Tool(["farm-dispatch", "--folder", own, option, text, "true"], own)
         demand(f"the status of --{name} {text}", 4, tool.ends())
         demand(f"what is told of --{name}", True, f"{name}: '{text}'" in tool.errors())
     return "a setting that there isn't is told with what it may mean, and the status is 2"
