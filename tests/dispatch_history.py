@@ -6,9 +6,10 @@ import random
 import signal
 import subprocess
 import sys
+import tempfile
 import time
 
-from served import STARTED, TOOLS, demand, environment, read, wait_until
+from served import STARTED, TOOLS, Farm, demand, environment, read, wait_until
 
 # A dispatcher that kills itself at one of the places at which it writes, renames or gives a
 # command, counted from its start on, from its first `finish`, or from its first line of the
@@ -391,6 +392,29 @@ def served_logs(lab):
     return "each job's log has its number in logs/, until it is old and the job has ended"
 
 
+def another_farm(lab):
+    """The next farm gives the numbers of the one before again, on the same dispatcher's folder."""
+    dispatcher = lab.dispatch()
+    first, second = lab.farm.submit("echo old"), lab.farm.submit("echo old")
+    for number in (first, second):
+        demand(f"job {number}", "Complete", lab.finished(number))
+    one_line_each(lab, [first, second])
+    before = jobs_of(lab)
+    lab.closes(dispatcher)
+    lab.farm = Farm(lab.farm.program, tempfile.mkdtemp(dir=lab.folder), [("b1", "bbb", [])])
+    lab.farm.tell("admin", "/boards/b1/health", {"health": "Maintenance"})
+    demand("the next farm's first number", first, lab.farm.submit("echo new"))
+    dispatcher = lab.dispatch()
+    wait_until("the log of a number that is still to come is gone", lambda: logs_in(lab) == {"1"})
+    lab.farm.tell("admin", "/boards/b1/health", {"health": "Good"})
+    demand("its job", "Complete", lab.finished(first))
+    wait_until("its line", lambda: len(jobs_of(lab)) == 3)
+    demand("the lines before", before, jobs_of(lab)[:2])
+    demand("its log", "new\n", read(log_of(lab, first)))
+    lab.closes(dispatcher)
+    return "another farm's jobs have their own lines and logs under the numbers of the one before"
+
+
 def log_of(lab, number):
     return os.path.join(lab.place, "logs", str(number))
 
@@ -407,5 +431,6 @@ ROWS = [
     moments_of_submission,
     folders_that_lack_it,
     served_logs,
+    another_farm,
     a_line_over_any_kill,
 ]

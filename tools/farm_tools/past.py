@@ -3,7 +3,7 @@ logs, by which a proxy serves them: a file a job, whose name is its number."""
 import json
 import os
 import time
-from typing import Iterable, List, Optional, Set
+from typing import Iterable, List, Optional, Set, Tuple
 
 from farm_tools import calls, folders, records, toml_text
 from farm_tools.lab_file import MOST_WANTS
@@ -24,8 +24,12 @@ class Past:
 
     def look(self) -> None:
         """Looks at the numbers that the desk has given, and shows the newest lines where there was
-        no room for them."""
-        self.submissions.note(self.desk.look("/status").get("next"))
+        no room for them. A log whose number will be given again goes."""
+        following = self.desk.look("/status").get("next")
+        if following is not None and self.submissions.note(following):
+            for number, log in self._served_logs():
+                if number >= following:
+                    os.unlink(log)
         if not self.history.is_shown:
             self.history.show()
 
@@ -76,10 +80,14 @@ class Past:
     def remove_old(self, seconds: float, is_open: Set[int]) -> None:
         """Removes the logs to which nothing was added for so many seconds."""
         oldest, kept = time.time() - seconds, _members_of(is_open)
-        for name in os.listdir(self.logs):
-            log = os.path.join(self.logs, name)
-            if not (name.isdigit() and int(name) in kept) and os.stat(log).st_mtime < oldest:
+        for number, log in self._served_logs():
+            if number not in kept and os.stat(log).st_mtime < oldest:
                 os.unlink(log)
+
+    def _served_logs(self) -> List[Tuple[int, str]]:
+        """The logs that are served: each with its number."""
+        names = [it for it in os.listdir(self.logs) if it.isdigit()]
+        return [(int(it), os.path.join(self.logs, it)) for it in names]
 
     def _about_in(self, folder: str) -> dict:
         """What stands in a group's folder; in one that an earlier version made, by the desk."""

@@ -28,19 +28,20 @@ class Submissions:
         self.since = 0
         self._trim()
 
-    def note(self, following: Optional[int]) -> None:
-        """Notes the number that is given next, where the desk says it."""
-        if following is None:
-            return
+    def note(self, following: int) -> bool:
+        """Notes the number that is given next, as the desk says it now. Returns whether numbers
+        that were given will be given again: the farm is another, or an earlier copy."""
         now = int(time.time())
-        if self.looks and following < self.looks[-1].next:
-            self.looks, self.since = [], 0  # another farm
+        is_earlier = bool(self.looks) and following < self.looks[-1].next
+        if is_earlier:
+            self.looks, self.since = [it for it in self.looks if it.next <= following], 0
             self._write()
         if not self.looks or following > self.looks[-1].next:
             self.looks.append(Look(following, now, self.since))
             self._append(self.looks[-1])
             self._trim()
         self.since = now
+        return is_earlier
 
     def has_seen(self, number: int) -> bool:
         """Whether a look found that a number was given."""
