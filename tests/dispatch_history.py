@@ -49,9 +49,8 @@ JOB_FIELDS = [
 
 
 def lines_of(lab):
-    """The lines of a lab's history."""
+    """The whole lines of a lab's history."""
     text = read(os.path.join(lab.place, "history.jsonl"))
-    demand("the end of the history", True, text == "" or text.endswith("\n"))
     return [json.loads(it) for it in text.split("\n")[:-1]]
 
 
@@ -65,6 +64,11 @@ def healths_of(lab):
 
 def newest_of(lab):
     return json.loads(read(os.path.join(lab.place, "history.json")))
+
+
+def are_newest(lab, kind, rows):
+    """Waits until these lines are told as the newest, the last of them first."""
+    wait_until(f"the newest {kind}", lambda: newest_of(lab)[kind] == rows[::-1])
 
 
 def one_line_each(lab, numbers, about=""):
@@ -175,9 +179,8 @@ def what_a_line_says(lab):
     wait_until("its line", lambda: [it for it in jobs_of(lab) if it["job"] == late])
     row = jobs_of(lab)[-1]
     demand("when it was submitted", True, before <= row["submitted"] <= row["began"])
-    newest = newest_of(lab)
-    demand("the newest jobs", list(reversed(jobs_of(lab))), newest["jobs"])
-    demand("its moment", True, before <= newest["at"] <= time.time())
+    are_newest(lab, "jobs", jobs_of(lab))
+    demand("its moment", True, before <= newest_of(lab)["at"] <= time.time())
     for name in ("history.jsonl", "history.json"):
         mode = os.stat(os.path.join(lab.place, name)).st_mode & 0o777
         demand(f"who may read {name}", 0o644, mode)
@@ -204,11 +207,10 @@ def torn_lines(lab):
         found = [it["job"] for it in jobs_of(lab)[len(rows) :]]
         demand(f"the lines behind {tail[:20]!r}", [900] * stays + [number], found)
         demand("the lines before", rows, jobs_of(lab)[: len(rows)])
-        newest = newest_of(lab)["jobs"]
-        demand("how many are newest", 200, len(newest))
-        demand("the newest", list(reversed(jobs_of(lab)[-200:])), newest)
+        are_newest(lab, "jobs", jobs_of(lab)[-200:])
         dispatcher.send(signal.SIGTERM)
         dispatcher.ends()
+        demand("the history's end", True, read(file).endswith('"reason":""}\n'))
     lab.farm.kill()
     return "a torn last line is cut off or ended; the newest 200 lines are told of more"
 
@@ -254,7 +256,7 @@ def changes_of_health(lab):
     demand("what the admin did", [
         (board, "Unknown", "Maintenance", by_admin), (board, "Maintenance", "Good", by_admin)
     ], found)
-    demand("the newest", list(reversed(healths_of(lab))), newest_of(lab)["boards"])
+    are_newest(lab, "boards", healths_of(lab))
     lab.closes(dispatcher)
     return "each change of a board's health is told once, with the job that made it"
 

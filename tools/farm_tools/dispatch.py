@@ -43,7 +43,11 @@ The command runs in a folder of its own, DIR/jobs/NUMBER, with the job's text in
 job.toml, its boards in boards ('NAME TYPE ROLE NUMBER' a line) and boards.json,
 and its output in log. Its environment has FARM_JOB, FARM_KIND (ordinary or
 check), FARM_OWNER, FARM_PRIORITY, FARM_BOARD (the first), FARM_BOARDS,
-FARM_TYPES, FARM_ROLES, FARM_JOB_FILE, FARM_BOARDS_FILE and FARM_FOLDER."""
+FARM_TYPES, FARM_ROLES, FARM_JOB_FILE, FARM_BOARDS_FILE and FARM_FOLDER.
+
+DIR/history.jsonl gets a line for each job that ended and each change of a
+board's health, DIR/history.json has the newest, and DIR/logs/N is job N's log:
+what the proxy serves."""
 STATUSES = """\
 exit status: 0 ended by SIGTERM or SIGINT (commands go on, and the next
 farm-dispatch on DIR takes them up); 2 bad words, or a setting that there isn't;
