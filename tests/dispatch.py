@@ -517,7 +517,7 @@ def unstartable_scripts(place):
     dispatcher.send(signal.SIGTERM)
     demand("its status while it stands", 5, dispatcher.ends())
     dispatcher = lab.dispatch(*words)
-    time.sleep(1)
+    wait_until("the next tells it", lambda: dispatcher.errors().count("not executable") == 2)
     demand("passes of the next", count, lab.farm.look("/status")["count"])
     os.chmod(check, 0o755)
     os.chmod(lab.command, 0o755)
