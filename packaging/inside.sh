@@ -64,6 +64,8 @@ served
 curl -sS -H 'x-user: admin' -d '{"health":"Good"}' http://127.0.0.1:8080/boards/qemu-01/health > /dev/null
 desk --user ann reserve virtual --acquire > /tmp/board 2> /dev/null || fail "the first reservation"
 [ "$(tail -n 1 /tmp/board)" = qemu-01 ] || fail "the first reservation gives $(cat /tmp/board)"
+runuser -u www-data -- grep -q '"jobs":' /var/lib/farm-dispatch/history.json || fail "nginx's user reads no history"
+! runuser -u www-data -- ls /var/lib/farm-dispatch/jobs 2> /dev/null || fail "nginx's user reads jobs' folders"
 echo "package: the first import and the first reservation, $((($(date +%s%N) - began) / 1000000000)) s after the installation began"
 
 # ---- a start that is refused is tried again until it isn't

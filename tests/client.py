@@ -3,7 +3,8 @@
 
 Each row prints a line and says what it saw: views, groups, jobs, reservations, `with`, keys over
 lost answers, settings, passwords and exit statuses; those of client_told.py, what the client tells
-of clocks, waits and refusals; those of client_admin.py, an admin's commands, imports, completion.
+of clocks, waits and refusals; those of client_admin.py, an admin's commands, imports, completion;
+those of client_history.py, jobs that ended, logs, a board's past, what was used.
 Ends with status 1 at the first thing that isn't as it should be, and with 77 where the machine
 lacks what it wants. Takes about two minutes.
 """
@@ -21,6 +22,7 @@ import tempfile
 import time
 
 import client_admin
+import client_history
 import client_told
 from desks import BOARDS, DESK, GROUP, JOB, desk, passes, prints, waiting_tool, write
 from served import TOOLS, Farm, Tool, demand, environment, free_port, wait_until
@@ -498,8 +500,10 @@ def statuses(farm, folder):
     for words in (
         [],
         ["boards", "--nowhere"],
-        ["jobs"],
         ["jobs", "0"],
+        ["jobs", "--text"],
+        ["jobs", "1", "--mine"],
+        ["log"],
         ["cancel", "x"],
         ["reserve", "--every", "0"],
     ):
@@ -527,6 +531,7 @@ ROWS = [
     statuses,
     *client_told.ROWS,
     *client_admin.ROWS,
+    *client_history.ROWS,
 ]
 
 if __name__ == "__main__":

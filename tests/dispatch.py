@@ -4,8 +4,9 @@
 Each row serves a farm in a new file, prints a line and says what it saw: how each way to end is
 told, groups, health checks, cancels, lost processes, and dispatchers and a desk that are killed
 (kill -9) at random moments, over which each group has to run exactly once; commands that can't be
-started, time limits, misspelt settings and wrong clocks. Ends with status 1 at the first thing that
-isn't as it should be, and with 77 where the machine lacks what it wants. Takes three minutes.
+started, time limits, misspelt settings and wrong clocks; those of dispatch_history.py, what it
+keeps of the past. Ends with status 1 at the first thing that isn't as it should be, and with 77
+where the machine lacks what it wants. Takes five minutes.
 """
 import argparse
 import contextlib
@@ -23,6 +24,7 @@ import sys
 import tempfile
 import time
 
+import dispatch_history
 from served import TOOLS, TOP, Farm, Tool, demand, free_port, read, wait_until
 
 # Runs the line `run = '..'` of a job's text, and notes that it began and ended.
@@ -292,6 +294,8 @@ def killed_dispatchers(place):
         "no job holds a board",
         lambda: all(it["holder"] == "none" for it in lab.farm.look("/boards")["boards"]),
     )
+    members = [it + place for it in numbers[-4:] for place in range(2)]
+    dispatch_history.one_line_each(lab, [*numbers[:-4], *members], f"(seed {seed})")
     # The last one may have come after all was done: it is told to end once it has run a job.
     demand("a job of the last", "Complete", lab.finished(lab.farm.submit("true")))
     lab.closes(dispatcher)
@@ -378,7 +382,15 @@ def many_runners(place):
 
 
 OPTIONS = argparse.Namespace(
-    command=["true"], check=["true"], grace=1, infra=75, keep=1, limit=60, most=60, retry=1
+    command=["true"],
+    check=["true"],
+    grace=1,
+    infra=75,
+    keep=1,
+    keep_logs=86400,
+    limit=60,
+    most=60,
+    retry=1,
 )
 
 
@@ -391,8 +403,11 @@ class DeskToCome:
     def look(self, path):
         if path == "/boards":
             return {"boards": [
-                {"name": "b1", "holder": "job 1"}, {"name": "b2", "holder": "job 3"}
+                {"name": "b1", "health": "Good", "holder": "job 1"},
+                {"name": "b2", "health": "Good", "holder": "job 3"},
             ]}
+        if path == "/status":
+            return {"next": 4}
         if path == "/jobs/1":
             return {"number": 1, "group": 1, "state": "Scheduling", "board": "b1"}
         return {"number": 3, "group": 3, "state": "Reviewing", "board": "b2"}
@@ -502,7 +517,7 @@ def unstartable_scripts(place):
     dispatcher.send(signal.SIGTERM)
     demand("its status while it stands", 5, dispatcher.ends())
     dispatcher = lab.dispatch(*words)
-    time.sleep(1)
+    wait_until("the next tells it", lambda: dispatcher.errors().count("not executable") == 2)
     demand("passes of the next", count, lab.farm.look("/status")["count"])
     os.chmod(check, 0o755)
     os.chmod(lab.command, 0o755)
@@ -511,7 +526,7 @@ def unstartable_scripts(place):
         demand("how often it was begun", 1, lab.begins(number))
     for name in ("c1", "c2"):
         wait_until(f"{name} is Good", lambda: is_good(lab, name))
-    demand("that it goes on", True, "it goes on" in dispatcher.errors())
+    wait_until("it tells that it goes on", lambda: "it goes on" in dispatcher.errors())
     lab.closes(dispatcher)
     return "scripts that aren't executable finish no job and condemn no board; it is told, status 5"
 
@@ -607,7 +622,9 @@ def mended_and_broken(place):
     seed = random.randrange(10**6)
     dice = random.Random(seed)
     numbers = [lab.farm.submit(f"sleep 0.{dice.randrange(3)}") for _ in range(24)]
-    texts = [COMMAND, COMMAND, "no line that names an interpreter\n", "#!/nonexistent/sh\n"]
+    # (a shell that was just started may read any of them: all have the same commands)
+    commands = COMMAND.partition("\n")[2]
+    texts = [COMMAND, COMMAND, commands, f"#!/nonexistent/sh\n{commands}"]
     words, kills = ["--retry", "0.2"], 0
     dispatcher = lab.dispatch(*words, every="0.1")
     until = time.monotonic() + 12
@@ -636,15 +653,19 @@ class DeskOfThree:
         self.states = {1: "Scheduled", 2: "Scheduled", 3: "Scheduled"}
 
     def look(self, path):
+        if path == "/status":
+            return {"next": 4}
         if path == "/boards":
             held = {it for it, state in self.states.items() if state != "Finished"}
             return {"boards": [
-                {"name": f"b{it}", "type": "bbb", "holder": f"job {it}"} for it in sorted(held)
+                {"name": f"b{it}", "type": "bbb", "health": "Good", "holder": f"job {it}"}
+                for it in sorted(held)
             ]}
         number = int(path.rpartition("/")[2])
-        return {"number": number, "group": number, "state": self.states[number], "kind": "check",
+        state = self.states[number]
+        return {"number": number, "group": number, "state": state, "kind": "check",
                 "board": f"b{number}", "type": "bbb", "role": "", "text": "", "owner": "admin",
-                "priority": 50}
+                "priority": 50, "result": "Complete" if state == "Finished" else ""}
 
     def tell(self, path, body=None, key=None):
         number, _, what = path.removeprefix("/jobs/").partition("/")
@@ -887,9 +908,10 @@ def misspelt_settings(place):
         tool = Tool(words, own, **around)
         demand(f"the status of {words}", 2, tool.ends())
         demand(f"what it tells: {wanted}", True, wanted in tool.errors())
-    for name, text in (("limit", "soon"), ("most", "0"), ("retry", "1 min"), ("clock", "maybe")):
-        own = tempfile.mkdtemp(dir=place)
-        tool = Tool(["farm-dispatch", "--folder", own, f"--{name}", text, "true"], own)
+    bad = {"limit": "soon", "most": "0", "retry": "1 min", "clock": "maybe", "keep_logs": "ever"}
+    for name, text in bad.items():
+        own, option = tempfile.mkdtemp(dir=place), f"--{name.replace('_', '-')}"
+        tool = Tool(["farm-dispatch", "--folder", own, option, text, "true"], own)
         demand(f"the status of --{name} {text}", 4, tool.ends())
         demand(f"what is told of --{name}", True, f"{name}: '{text}'" in tool.errors())
     return "a setting that there isn't is told with what it may mean, and the status is 2"
@@ -1022,6 +1044,11 @@ def unit(place):
     return "systemd finds no fault with the unit, which never gives up, but at 2 and 3"
 
 
+def of_lab(row):
+    """A row that is given a lab of its own."""
+    return lambda place: row(Lab(place))
+
+
 ROWS = [
     ways_to_end,
     passes_after_a_finish,
@@ -1051,6 +1078,7 @@ ROWS = [
     unit,
     no_room_for_replies,
     killed_dispatchers,
+    *map(of_lab, dispatch_history.ROWS),
 ]
 
 if __name__ == "__main__":

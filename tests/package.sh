@@ -67,6 +67,10 @@ done
 for line in StartLimitIntervalSec=0 Restart=on-failure LimitNOFILE=2048; do
     grep -qx "$line" "$tree/lib/systemd/system/farm.service" || fail "farm.service doesn't say $line"
 done
+# (nginx's user goes through the dispatcher's folder to the history and the logs)
+grep -qx StateDirectoryMode=0711 "$tree/lib/systemd/system/farm-dispatch.service" || fail "who gets to the history"
+grep -q '0711 /var/lib/farm-dispatch$' "$folder/fizgruk-farm/postinst" || fail "who gets to the history at first"
+grep -q 'root /var/lib/farm-dispatch;' "$tree/etc/nginx/sites-available/farm" || fail "nginx serves no history"
 if grep -rn /usr/local "$tree/lib" "$tree/etc"; then fail "names of an installation by hand"; fi
 if command -v systemd-analyze > /dev/null; then
     cp "$tree"/lib/systemd/system/*.timer "$folder"

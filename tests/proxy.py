@@ -4,9 +4,9 @@ bin/farm
 
 The site is the example's, with its addresses and files put into a temporary folder. Each row prints
 a line and says what it saw: TLS, names and passwords, the status page, foreign pages' commands,
-many viewers, clients that ask without end, long jobs, a desk that is away. Ends with status 1 at
-the first thing that isn't as it should be, and with 77 where nginx, openssl or curl isn't there;
-where Chromium isn't, the row that wants it says so. Takes about a minute.
+many viewers, clients that ask without end, long jobs, history and logs, a desk that is away. Ends
+with status 1 at the first thing that isn't as it should be, and with 77 where nginx, openssl or
+curl isn't there; where Chromium isn't, the row that wants it says so. Takes about a minute.
 """
 import base64
 import http.client
@@ -105,6 +105,7 @@ class Door:
             ("/etc/nginx/farm.htpasswd", f"{self.folder}/farm.htpasswd"),
             ("/usr/local/lib/farm-tools", TOOLS),
             ("/var/cache/farm-views", f"{self.folder}/views"),
+            ("/var/lib/farm-dispatch", f"{self.folder}/dispatch"),
             *changes,
         ]:
             demand(f"{old} in the example", True, old in site)
@@ -214,8 +215,98 @@ def dispatcher(farm, door):
         DISPATCH_PASSWORD_FILE=os.path.join(door.folder, "dispatcher"),
     )
     wait_until("the job is Complete", lambda: farm.job(number)["result"] == "Complete")
+    mark = f"{door.folder}/dispatch/jobs/{number}/finished"
+    wait_until("it has done all of it", lambda: os.path.exists(mark))
     tool.kill()
     return "farm-dispatch runs a job from behind the proxy"
+
+
+def got(door, path, *words, user="ann"):
+    """The status, the fields of the head and the body of an answer, whatever the path is."""
+    words = ["-i", "--path-as-is", *words, *(["-u", f"{user}:{WORDS[user]}"] if user else [])]
+    head = ["curl", "-s", "--http1.1", "--cacert", door.certificate, *words]
+    ran = subprocess.run([*head, door.server + path], capture_output=True, check=False)
+    said, _, body = ran.stdout.partition(b"\r\n\r\n")
+    lines = said.decode().split("\r\n")
+    fields = dict(line.lower().split(": ", 1) for line in lines[1:])
+    return int(lines[0].split()[1]), fields, body
+
+
+def history(farm, door):
+    """What farm-dispatch keeps, beside the desk's own routes; the row before has run one job."""
+    number = next(it for it in range(1, 99) if farm.ask("ann", "GET", f"/jobs/{it}")[0] == 200)
+    while farm.job(number)["result"] != "Complete":
+        number += 1
+    folder = f"{door.folder}/dispatch"
+    write(folder, "secret", "secret", 0o644)
+    write(f"{folder}/logs", str(number), "said\nmore\n", 0o644)
+    os.symlink(f"{folder}/secret", f"{folder}/logs/900")
+    served = [f"/logs/{number}", "/history.json", "/history.jsonl"]
+    for path in served:
+        status, fields, body = got(door, path)
+        with open(folder + path, "rb") as file:
+            demand(f"GET {path}", (200, file.read()), (status, body))
+        kind = (fields["content-type"], fields["x-content-type-options"], fields["cache-control"])
+        demand(f"the kind of {path}", ("text/plain; charset=utf-8", "nosniff", "no-cache"), kind)
+        demand(f"HEAD {path}", 200, got(door, path, "-I")[0])
+        for words in (["-X", "DELETE"], ["-d", "x"], ["-X", "PUT", "-d", "x"]):
+            demand(f"{words} {path}", 405, got(door, path, *words)[0])
+        demand(f"{path} without a password", 401, got(door, path, user="")[0])
+        again = got(door, path, "-H", f"if-none-match: {fields['etag']}")
+        demand(f"{path} again", True, again[0] in (200, 304))
+    status, fields, body = got(door, f"/logs/{number}", "-H", "range: bytes=5-")
+    demand("a log from a byte on", (206, b"more\n"), (status, body))
+    demand("nothing beyond", 416, got(door, f"/logs/{number}", "-H", "range: bytes=10-")[0])
+    for path in (
+        "/logs/", "/logs", "/logs/901", "/logs/900", "/logs/0", f"/logs/0{number}",
+        "/logs/../secret", "/logs/%2e%2e/secret", "/logs/..%2fsecret", "/logs//secret",
+        f"/logs/{number}/../../secret",
+        f"/logs/{number}/", f"/logs/{number}%00", "/secret", "/healths.json", "/lock", "/numbers",
+        f"/logs/../jobs/{number}/job.toml", f"/jobs/{number}/job.toml", "/history.json/../secret",
+    ):
+        status, _, body = got(door, path)
+        demand(f"GET {path}", True, status in (400, 403, 404) and b"secret" not in body)
+    rows = json.loads(got(door, "/history.json")[2])["jobs"]
+    demand("the job's line", ("ann", "Complete"), (rows[0]["owner"], rows[0]["outcome"]))
+    return "the history and each log are served to those who have a password, and nothing beside"
+
+
+def client_of_history(farm, door):
+    """The client, which finds history and logs beside the desk."""
+    row = json.loads(got(door, "/history.json")[2])["jobs"][0]
+    number = row["job"]
+    demand("desk log", (0, "said\nmore\n", ""), desk(door, "log", str(number)))
+    followed = desk(door, "log", str(number), "--follow")
+    demand("desk log --follow", (0, "said\nmore\n", ""), followed)
+    told = (3, "", "desk: there is no job 901\n")
+    demand("a log that isn't there", told, desk(door, "log", "901"))
+    said = json.loads(desk(door, "--json", "jobs")[1])
+    demand("desk jobs", row, said["ended"][0])
+    said = json.loads(desk(door, "--json", "history", "b1")[1])
+    demand("desk history", row, said["history"][0])
+    said = json.loads(desk(door, "--json", "usage")[1])["usage"]
+    demand("desk usage", [("ann", 1)], [(it["name"], it["complete"]) for it in said])
+    again = int(desk(door, "resubmit", str(number))[1])
+    demand("desk resubmit", farm.job(number)["text"], farm.job(again)["text"])
+    tool = Tool(
+        ["desk", "log", str(again), "--follow", "--every", "0.2"],
+        tempfile.mkdtemp(dir=door.folder),
+        DESK_SERVER=door.server,
+        DESK_USER="ann",
+        DESK_CA_FILE=door.certificate,
+        DESK_PASSWORD_FILE=os.path.join(door.folder, "ann"),
+    )
+    told = f"job {again} is Submitted, and has no log yet"
+    wait_until("it waits", lambda: told in tool.errors())
+    write(f"{door.folder}/dispatch/logs", str(again), "first\n", 0o644)
+    wait_until("its begin", lambda: tool.output() == "first\n")
+    with open(f"{door.folder}/dispatch/logs/{again}", "a", encoding="utf-8") as log:
+        log.write("second\n")
+    wait_until("what is added", lambda: tool.output() == "first\nsecond\n")
+    farm.tell("ann", f"/jobs/{again}/cancel")
+    demand("its status", 0, tool.ends())
+    demand("its output", "first\nsecond\n", tool.output())
+    return "desk finds jobs that ended, logs, a board's past and what was used behind the proxy"
 
 
 def refused(door, *words, user="ann"):
@@ -481,6 +572,8 @@ ROWS = [
     status_page,
     long_jobs,
     dispatcher,
+    history,
+    client_of_history,
     own_refusals,
     foreign_commands,
     foreign_page,

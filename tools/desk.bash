@@ -19,6 +19,11 @@ _desk_types() {
     _desk_ask boards | sed -n 's/^"type":"\(.*\)"$/\1/p' | sort -u
 }
 
+# The numbers of the user's jobs: `number` are those that are open, `job` the last that ended.
+_desk_jobs() {
+    _desk_ask jobs --mine | sed -n "s/^\"\($1\)\":\(.*\)$/\2/p" | sort -u
+}
+
 # The numbers of the user's reservations that haven't ended.
 _desk_reservations() {
     _desk_ask reservations --mine | sed -n 's/^"number":\(.*\)$/\1/p'
@@ -39,11 +44,11 @@ _desk() {
     local line=${COMP_LINE:0:COMP_POINT} word command= before= each place words reach=()
     word=${line##*[[:space:]]}
     local reservations="wait acquire release refresh extend cancel-reservation"
-    local commands="boards queue jobs reservations submit cancel reserve with $reservations"
-    commands="$commands health tags add-type add-board import"
+    local commands="boards queue jobs reservations submit resubmit cancel reserve with"
+    commands="$commands $reservations log history usage health tags add-type add-board import"
     for each in ${line%"$word"}; do
         case $before in
-            --server | --user | --password-file | --ca-file | --timeout | --config)
+            --server | --user | --password-file | --ca-file | --timeout | --config | --history)
                 reach+=("$before" "$each")
                 before=
                 continue
@@ -65,19 +70,24 @@ _desk() {
         *:--priority:*) words="low medium high" ;;
         *:--server:*) words="http://127.0.0.1:8080 https://" ;;
         *:--check:*) words="none hours jobs" ;;
-        *:--user:* | *:--timeout:* | *:--every:*) words= ;;
-        *:--config:* | *:--password-file:* | *:--ca-file:* | submit:*:[!-]* | submit:*: | import:*)
+        *:--by:*) words="owner board type" ;;
+        *:--user:* | *:--timeout:* | *:--every:* | *:--last:* | *:--since:*) words= ;;
+        *:--config:* | *:--password-file:* | *:--ca-file:* | *:--history:* | import:* | \
+            submit:*:[!-]* | submit:*:)
             mapfile -t COMPREPLY < <(compgen -f -- "$word")
             return
             ;;
         :*:-*)
-            words="--config --server --user --password-file --ca-file --timeout --json --version"
-            words="$words --help"
+            words="--config --server --user --password-file --ca-file --timeout --history --json"
+            words="$words --version --help"
             ;;
         :*) words=$commands ;;
-        jobs:*:-*) words="--text --json --help" ;;
+        jobs:*:-*) words="--mine --last --text --json --help" ;;
+        log:*:-*) words="--follow --every --help" ;;
+        history:*:-*) words="--last --json --help" ;;
+        usage:*:-*) words="--since --by --json --help" ;;
         reservations:*:-*) words="--all --mine --json --help" ;;
-        submit:*:-*) words="--wait --every --json --help" ;;
+        submit:*:-* | resubmit:*:-*) words="--wait --every --json --help" ;;
         reserve:*:-*) words="--wait --acquire --priority --every --json --help" ;;
         wait:*:-*) words="--every --json --help" ;;
         with:*:-*) words="--priority --every --json --help --" ;;
@@ -86,7 +96,10 @@ _desk() {
         *:-*) words="--json --help" ;;
         boards:* | reserve:* | with:*) words=$(_desk_tags) ;;
         health:*) words="$(_desk_boards) Good Bad Unknown Maintenance Retired" ;;
-        tags:tags:*) words=$(_desk_boards) ;;
+        tags:tags:* | history:history:*) words=$(_desk_boards) ;;
+        history:* | usage:*) words= ;;
+        cancel:*) words=$(_desk_jobs number) ;;
+        jobs:* | log:* | resubmit:*) words=$(_desk_jobs 'job\|number') ;;
         tags:*) words=$(_desk_tags | grep -v ^name=) ;;
         add-board:add-board:*) words= ;;
         add-board:*) words="$(_desk_types) $(_desk_tags | grep -v ^name=)" ;;

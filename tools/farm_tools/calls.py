@@ -7,8 +7,9 @@ import secrets
 import ssl
 import time
 import urllib.parse
+from typing import Iterator
 
-NOT_LET_IN = 401
+NOT_LET_IN, NOT_FOUND, NOTHING_BEYOND = 401, 404, 416
 FORBIDDEN = 3
 FULL = 4
 NO_JOB = 20
@@ -17,12 +18,14 @@ BAD_JOB_FILE = (5, 6, 7, 23, 70)
 NO_RESERVATION = 30
 EXPIRED = 31
 WRONG_RESERVATION_STATE = 32
+NO_ROUTE = 52
 
 # Statuses after which nobody knows whether a command was done: those of a proxy that reached no
 # desk, and the desk's own 503.
 UNKNOWN = (502, 503, 504)
 FIRST_WAIT = 0.2
 LONGEST_WAIT = 5.0
+BLOCK = 65536
 
 
 class Refused(Exception):
@@ -99,6 +102,24 @@ class Desk:
         no key."""
         return self._answer("POST", path, None, {}, True)
 
+    def stream(self, path: str, begin: int = 0) -> Iterator[bytes]:
+        """The bytes of a file that stands beside the desk, from one on, or the last ones where that
+        is below 0."""
+        line = self._line()
+        try:
+            span = {"range": f"bytes={begin}-" if begin > 0 else f"bytes={begin}"} if begin else {}
+            line.request("GET", self.front + path, headers={**self.fields, **span})
+            answer = line.getresponse()
+            if answer.status == NOTHING_BEYOND:
+                return
+            if answer.status not in (200, 206):
+                self._meaning(answer.status, answer.reason, answer.read())
+            yield from _read(answer, 0 if answer.status == 206 else begin)
+        except (OSError, http.client.HTTPException) as fault:
+            raise NoAnswer(str(fault) or type(fault).__name__) from fault
+        finally:
+            line.close()
+
     def _answer(self, method, path, body, fields, again) -> dict:
         until = time.monotonic() + self.patience
         wait = FIRST_WAIT
@@ -138,12 +159,7 @@ class Desk:
 
     def _exchange(self, method, path, body, fields):
         """One request and its answer: status, reason and body."""
-        if self.context:
-            line = http.client.HTTPSConnection(
-                self.host, self.port, timeout=self.timeout, context=self.context
-            )
-        else:
-            line = http.client.HTTPConnection(self.host, self.port, timeout=self.timeout)
+        line = self._line()
         try:
             line.request(method, self.front + path, body=body, headers=fields)
             answer = line.getresponse()
@@ -152,6 +168,27 @@ class Desk:
             return answer.status, answer.reason, answer.read()
         finally:
             line.close()
+
+    def _line(self) -> http.client.HTTPConnection:
+        """A connection to the server."""
+        if self.context:
+            return http.client.HTTPSConnection(
+                self.host, self.port, timeout=self.timeout, context=self.context
+            )
+        return http.client.HTTPConnection(self.host, self.port, timeout=self.timeout)
+
+
+def _read(answer: http.client.HTTPResponse, begin: int) -> Iterator[bytes]:
+    """The bytes of an answer from one on, piece by piece."""
+    length, place = answer.getheader("content-length"), 0
+    while True:
+        said = answer.read(BLOCK)
+        if not said:
+            break
+        yield said[max(0, begin - place) :]
+        place += len(said)
+    if length is not None and place < int(length):
+        raise http.client.HTTPException("the answer was cut")
 
 
 def _bytes_of(body):

@@ -10,7 +10,9 @@ from farm_tools import (
     holding,
     interrupts,
     job_file,
+    past_jobs,
     settings,
+    usage,
     views,
     waiting,
 )
@@ -110,6 +112,9 @@ def parser_of():
         formatter_class=argparse.RawDescriptionHelpFormatter,
     )
     settings.add_options(parser)
+    parser.add_argument(
+        "--history", metavar="FOLDER", help="the dispatcher's folder, for the history (the proxy's)"
+    )
     parser.add_argument("--json", action="store_true", help="print what the desk answers")
     parser.add_argument("--version", action="version", version=f"desk {VERSION}")
     parser.set_defaults(asks_as=None)
@@ -126,6 +131,7 @@ def parser_of():
 
     add_views(command)
     add_jobs(command)
+    add_past(command)
     add_reservations(command)
     admin.add_commands(command)
     return parser
@@ -147,14 +153,45 @@ def add_views(command) -> None:
 
 
 def add_jobs(command) -> None:
-    jobs = command("jobs", views.show_jobs, "show jobs")
+    jobs = command("jobs", show_jobs, "show the jobs that are open and those that ended, or some")
     jobs.add_argument("--text", action="store_true", help="print the text that was submitted")
-    jobs.add_argument("numbers", metavar="N", nargs="+", type=number, help="a job's number")
+    jobs.add_argument("--mine", action="store_true", help="those of the user alone")
+    add_last(jobs, "how many of those that ended")
+    jobs.add_argument("numbers", metavar="N", nargs="*", type=number, help="a job's number")
+    jobs.set_defaults(parser=jobs)
     submit = command("submit", submit_job, "submit a job file, and print the job's number")
     submit.add_argument("file", metavar="FILE", help="the job file, - for the input")
     add_waiting(submit, "wait until all of its members have ended, and print how")
     cancel = command("cancel", cancel_job, "cancel a job and its group")
     cancel.add_argument("number", metavar="N", type=number)
+    again = command("resubmit", resubmit_job, "submit a job's text again, and print the number")
+    again.add_argument("number", metavar="N", type=number)
+    add_waiting(again, "wait until all of its members have ended, and print how")
+
+
+def add_past(command) -> None:
+    log = command("log", past_jobs.show_log, "print what a job's command said")
+    log.add_argument("number", metavar="N", type=number)
+    log.add_argument("--follow", action="store_true", help="and what it says until it has ended")
+    add_every(log)
+    past = command("history", past_jobs.show_history, "show a board's jobs and changes of health")
+    past.add_argument("board", metavar="BOARD", help="the board's name")
+    add_last(past, "how many of them")
+    used = command("usage", usage.show_usage, "show what jobs used, how they ended and waited")
+    used.add_argument(
+        "--since",
+        metavar="WHEN",
+        type=usage.moment_of,
+        default="30d",
+        help="30d, 12h, 90m or 2w ago, or a date as 2026-11-30 (30d)",
+    )
+    used.add_argument("--by", choices=usage.BY, default="owner", help="each has a line (owner)")
+
+
+def add_last(parser, about: str) -> None:
+    parser.add_argument(
+        "--last", metavar="N", type=number, help=f"{about} ({past_jobs.LAST})"
+    )
 
 
 def add_reservations(command) -> None:
@@ -223,12 +260,35 @@ def seconds(text: str) -> float:
 # ---- jobs
 
 
+def show_jobs(desk, options) -> int:
+    """Shows jobs by their numbers, or without any, those that are open and the last that ended."""
+    if options.numbers:
+        if options.mine or options.last:
+            options.parser.error("--mine and --last go without numbers")
+        return views.show_jobs(desk, options)
+    if options.text:
+        options.parser.error("--text: give numbers")
+    return past_jobs.list_jobs(desk, options)
+
+
 def submit_job(desk, options) -> int:
     if options.file == "-":
         text = sys.stdin.buffer.read()
     else:
         with open(options.file, "rb") as file:
             text = file.read()
+    return submit_text(desk, options, text)
+
+
+def resubmit_job(desk, options) -> int:
+    text = past_jobs.text_of(desk, options.number)
+    if text is None:
+        return told(REFUSED, f"job {options.number} is a health check, which has no text")
+    return submit_text(desk, options, text)
+
+
+def submit_text(desk, options, text: bytes) -> int:
+    """Submits a job file, prints its number, and waits for its end where that is asked for."""
     if options.wait:
         options.clock.look()
     try:

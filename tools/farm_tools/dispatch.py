@@ -24,6 +24,7 @@ MORE = {
     "limit": ("TIME", "1 hour", "a job's time limit, where its text names none"),
     "most": ("TIME", "1 day", "the longest time limit that a job is granted"),
     "retry": ("TIME", "30 seconds", "until a command that couldn't be started is tried again"),
+    "keep_logs": ("TIME", "30 days", "to keep the logs that the proxy serves"),
     "clock": ("WORD", "synchronized", "any: ask the desk also before this machine's clock is set"),
 }
 ABOUT = """\
@@ -42,7 +43,11 @@ The command runs in a folder of its own, DIR/jobs/NUMBER, with the job's text in
 job.toml, its boards in boards ('NAME TYPE ROLE NUMBER' a line) and boards.json,
 and its output in log. Its environment has FARM_JOB, FARM_KIND (ordinary or
 check), FARM_OWNER, FARM_PRIORITY, FARM_BOARD (the first), FARM_BOARDS,
-FARM_TYPES, FARM_ROLES, FARM_JOB_FILE, FARM_BOARDS_FILE and FARM_FOLDER."""
+FARM_TYPES, FARM_ROLES, FARM_JOB_FILE, FARM_BOARDS_FILE and FARM_FOLDER.
+
+DIR/history.jsonl gets a line for each job that ended and each change of a
+board's health, DIR/history.json has the newest, and DIR/logs/N is job N's log:
+what the proxy serves."""
 STATUSES = """\
 exit status: 0 ended by SIGTERM or SIGINT (commands go on, and the next
 farm-dispatch on DIR takes them up); 2 bad words, or a setting that there isn't;
@@ -80,7 +85,7 @@ def main(words=None) -> int:
         desk = calls.Desk(settings.read_settings("dispatch", options, "dispatcher"), patience=0)
         use(options, settings.values_of("dispatch", options))
         place = os.path.realpath(options.folder)
-        os.makedirs(place, mode=0o750, exist_ok=True)
+        os.makedirs(place, mode=0o711, exist_ok=True)
         lock = folders.take_lock(os.path.join(place, folders.LOCK))
         if lock is None:
             return end(FAULT, f"{place} is in use by another farm-dispatch")
@@ -114,7 +119,8 @@ def options_of(words):
     option("--infra", "STATUS", 75, int, "exit status for a fault of the lab")
     option("--keep", "DAYS", 30, seconds, "to keep the folders of jobs that ended")
     for name, (metavar, default, about) in MORE.items():
-        parser.add_argument(f"--{name}", metavar=metavar, help=f"{about} ({default})")
+        word = f"--{name.replace('_', '-')}"
+        parser.add_argument(word, metavar=metavar, help=f"{about} ({default})")
     about = "the command for health checks, in quotes (COMMAND)"
     parser.add_argument("--check", metavar="WORDS", type=shlex.split, help=about)
     settings.add_options(parser)
@@ -133,7 +139,7 @@ def from_anywhere(words: List[str]) -> List[str]:
 
 def use(options: argparse.Namespace, more: Dict[str, Optional[str]]) -> None:
     """Puts the settings that options, environment or files may have into the options."""
-    for name in ("limit", "most", "retry"):
+    for name in ("limit", "most", "retry", "keep_logs"):
         text = more[name] or MORE[name][1]
         try:
             setattr(options, name, time_of(text))

@@ -1,7 +1,8 @@
 """Passes, and runs the jobs that got their boards.
 
 What a job comes to is the desk's to say; what became of a process is in the job's folder. Nothing
-else is kept, so a dispatcher that is killed at any moment and started again goes on where it was.
+else is needed, so a dispatcher that is killed at any moment and started again goes on where it was.
+Of what has ended it keeps a history, for people and other tools.
 """
 import json
 import os
@@ -9,22 +10,24 @@ import shutil
 import subprocess
 import sys
 import time
-from typing import Dict, Optional, Set
+from typing import Callable, Dict, Optional, Set
 
 from farm_tools import calls, folders, limits
+from farm_tools.past import Past
 from farm_tools.starts import Starts
 
 ROOT = os.path.dirname(os.path.dirname(os.path.abspath(__file__)))
 DAY = 86400
 KILLS_AFTER = 10
+LOST = "lost, with its folder"
 
 
 class Dispatcher:
     """The dispatcher of one desk, over a folder of its own."""
 
     def __init__(self, desk, place: str, options):
-        """`options` has `command`, `check`, `grace`, `infra`, `keep`, `limit`, `most` and
-        `retry`."""
+        """`options` has `command`, `check`, `grace`, `infra`, `keep`, `keep_logs`, `limit`, `most`
+        and `retry`."""
         self.desk = desk
         self.jobs = os.path.join(place, "jobs")
         self.options = options
@@ -36,11 +39,14 @@ class Dispatcher:
         self.running: Dict[int, int] = {}
         self.others: Set[int] = set()
         self.told: Set[str] = set()
+        self.past = Past(desk, place, self.open)
 
     def round(self, passes: bool) -> None:
         """Takes up what there is to do, after a pass where one is due, and again after each pass
         that the end of a job asks for. There is no pass while no command can be started."""
         self.starts.look()
+        if passes:
+            self.past.look()
         if passes and not self.starts.fault:
             self.desk.nudge("/pass")
         while self._take_up() and not self.starts.fault:
@@ -49,25 +55,31 @@ class Dispatcher:
 
     def _take_up(self) -> bool:
         """Does what each group that holds boards asks for. Returns whether a group was finished."""
-        boards = [
-            it for it in self.desk.look("/boards")["boards"] if it["holder"].startswith("job ")
-        ]
+        lab = self.desk.look("/boards")["boards"]
+        self._try("the boards' health", self.past.see, lab)
+        boards = [it for it in lab if it["holder"].startswith("job ")]
         groups = self._groups(sorted(int(it["holder"].split()[1]) for it in boards))
         self.running = {}
         self.runners = {key: it for key, it in self.runners.items() if it.poll() != 0}
         self.starts.settle(self._has_started)
+        names = {it["name"]: it for it in boards}
         finished = False
         for number, members in groups.items():
-            try:
-                finished |= self._do(number, members, {it["name"]: it for it in boards})
-            except (calls.Refused, OSError) as fault:
-                if isinstance(fault, calls.Refused) and fault.status in (401, 403):
-                    raise
-                # One group's fault keeps none of the others waiting; it is tried again.
-                self._tell_once(f"job {number}: {fault}")
+            finished |= self._try(f"job {number}", self._do, number, members, names)
         for number in self.open - groups.keys():
-            self._close(number)
+            self._try(f"job {number}", self._close, number)
         return finished
+
+    def _try(self, about: str, call: Callable, *words) -> bool:
+        """Does what one group asks for. Its fault keeps none of the others waiting; it is tried
+        again."""
+        try:
+            return bool(call(*words))
+        except (calls.Refused, OSError) as fault:
+            if isinstance(fault, calls.Refused) and fault.status in (401, 403):
+                raise
+            self._tell_once(f"{about}: {fault}")
+            return False
 
     def _do(self, number: int, members, boards) -> bool:
         """Does what a group asks for. Returns whether it was finished."""
@@ -75,7 +87,7 @@ class Dispatcher:
         if state == "Scheduled":
             self._begin(number, members, boards)
         elif state in ("Running", "Canceling"):
-            return self._go_on(number, members)
+            return self._go_on(number, members, boards)
         elif state != "Scheduling":  # a group that collects boards doesn't run yet
             self._tell_once(f"job {number} is {state}, which is left to the desk")
         return False
@@ -123,9 +135,9 @@ class Dispatcher:
             self.desk.tell(f"/jobs/{number}/start")
         return True
 
-    def _prepare(self, number: int, members, boards) -> None:
-        """Makes the folder of a group, with its text and its boards. What stands there under its
-        number, and was begun, is of another farm."""
+    def _prepare(self, number: int, members, boards, ended: str = "") -> None:
+        """Makes the folder of a group, with its text and its boards, and how it ended, where it
+        has. What stands there under its number, and was begun, is of another farm."""
         if self._has(number, folders.BEGAN):
             aside = f"{self._folder(number)}.before-{int(time.time())}"
             os.rename(self._folder(number), aside)
@@ -142,6 +154,11 @@ class Dispatcher:
         folders.write_synced(os.path.join(new, folders.TEXT), members[0]["text"])
         folders.write_synced(os.path.join(new, folders.BOARDS), "".join(lines))
         folders.write_synced(os.path.join(new, "boards.json"), json.dumps(rows, indent=1) + "\n")
+        if ended:
+            folders.claim(new)
+            folders.write_synced(os.path.join(new, folders.ENDED), f"{ended}\n")
+        for fault in self.past.prepare(new, members):
+            self._tell_once(fault)
         os.rename(new, self._folder(number))
         folders.sync_folder(self.jobs)
         self.open.add(number)
@@ -192,10 +209,10 @@ class Dispatcher:
 
     # ---- a group that runs
 
-    def _go_on(self, number: int, members) -> bool:
+    def _go_on(self, number: int, members, boards) -> bool:
         """Looks after a group that the desk says runs. Returns whether it was finished."""
         if not os.path.isdir(self._folder(number)):
-            return self._without_folder(number, members)
+            return self._without_folder(number, members, boards)
         canceled = members[0]["state"] == "Canceling"
         if canceled:
             self._cancel(number)
@@ -244,12 +261,14 @@ class Dispatcher:
             return True
         return False if number in self.open else None
 
-    def _without_folder(self, number: int, members) -> bool:
+    def _without_folder(self, number: int, members, boards) -> bool:
         """A group that runs and has no folder: somebody else's, or its folder was removed."""
         if number in self.others:
             return False
         if self._is_started(number):
-            return self._finish(number, members, "lost, with its folder")
+            views = [self.desk.look(f"/jobs/{it['number']}") for it in members]
+            self._prepare(number, views, boards, LOST)
+            return self._finish(number, views, LOST)
         self._leave(number)
         return False
 
@@ -314,8 +333,13 @@ class Dispatcher:
                     raise
         said = "Canceled" if members[0].get("state") == "Canceling" else outcome
         self._tell(f"job {number} has ended ({ended}): {said}")
+        self._record(number, ended)
         self._mark_finished(number, f"{said} ({ended})")
         return True
+
+    def _record(self, number: int, ended: str) -> None:
+        """Writes the lines of a group, whose end the desk has acknowledged, into the history."""
+        self.past.record(number, self._folder(number), ended, self._outcome_of(ended))
 
     def _outcome_of(self, ended: str) -> str:
         if ended == "status 0":
@@ -345,6 +369,7 @@ class Dispatcher:
         elif self._how_it_ended(number) is None and self._lives(number):
             self._cancel(number)
         elif self._has(number, folders.BEGAN):
+            self._record(number, self._how_it_ended(number) or self._how_it_was_lost(number))
             self._mark_finished(number, "the desk had it finished")
         elif folders.claim(self._folder(number)):
             self._drop(number)
@@ -352,6 +377,7 @@ class Dispatcher:
     def _mark_finished(self, number: int, how: str) -> None:
         if os.path.isdir(self._folder(number)):
             folders.write_synced(self._file(number, folders.FINISHED), f"{how}\n")
+        self.past.settle(number)
         self._forget(number)
 
     def _drop(self, number: int) -> None:
@@ -366,7 +392,8 @@ class Dispatcher:
             del self.runners[number]
 
     def remove_old(self) -> None:
-        """Removes the folders of jobs that were finished longer ago than they are kept."""
+        """Removes the folders and the served logs of jobs that were finished longer ago than these
+        are kept."""
         oldest = time.time() - self.options.keep * DAY
         for name in os.listdir(self.jobs):
             folder = os.path.join(self.jobs, name)
@@ -376,6 +403,7 @@ class Dispatcher:
                     shutil.rmtree(folder, ignore_errors=True)
             except OSError:
                 continue
+        self.past.remove_old(self.options.keep_logs, self.open)
 
     def _folder(self, number: int) -> str:
         return os.path.join(self.jobs, str(number))

@@ -3,6 +3,7 @@ happened.
 
     job.toml      the job's text             boards.json   the boards as JSON
     boards        the boards, a line each    log           what its command said
+    about.json    what its history will say of it
     began         it was begun, once for all: nobody begins it again; when, by the machine's clock
                   that nobody sets, and its time limit, in seconds
     started       its command runs, or ran
@@ -22,7 +23,7 @@ from typing import Optional, Tuple
 
 BEGAN, STARTED, ENDED, FINISHED = "began", "started", "ended", "finished"
 CANCEL, LATE, UNKEYED = "cancel", "late", "unkeyed"
-LOCK, LOG, TEXT, BOARDS = "lock", "log", "job.toml", "boards"
+LOCK, LOG, TEXT, BOARDS, ABOUT = "lock", "log", "job.toml", "boards", "about.json"
 COOKIE = "FARM_FOLDER"
 NOT_STARTED, TIME_LIMIT = "not started", "time limit"  # how `ended` begins then
 
@@ -44,6 +45,31 @@ def write_synced(file: str, text: str) -> None:
         os.fsync(new.fileno())
     os.replace(f"{file}.new", file)
     sync_folder(os.path.dirname(file))
+
+
+def made_for_all(folder: str) -> str:
+    """A folder whose files others may read by their names."""
+    os.makedirs(folder, exist_ok=True)
+    os.chmod(folder, 0o711)
+    return folder
+
+
+def make_log(folder: str) -> None:
+    """Makes a job's log, which others may read where they can reach it."""
+    opened = os.open(os.path.join(folder, LOG), os.O_WRONLY | os.O_CREAT | os.O_CLOEXEC, 0o644)
+    try:
+        os.fchmod(opened, 0o644)
+    finally:
+        os.close(opened)
+
+
+def link(file: str, name: str) -> None:
+    """Gives a file one more name, which it takes from whatever has it."""
+    beside = f"{name}.new"
+    if os.path.lexists(beside):
+        os.unlink(beside)
+    os.link(file, beside)
+    os.replace(beside, name)
 
 
 def line_of(text: str) -> bytes:

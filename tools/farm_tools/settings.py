@@ -15,10 +15,12 @@ SYSTEM_FILE = "/etc/farm/desk.ini"
 SERVER = "http://127.0.0.1:8080"
 LOOPBACK = ("127.0.0.1", "localhost", "::1")
 WORDS = ("server", "user", "password_file", "ca_file", "timeout")
+OF_DESK = ("history",)
+OF_DISPATCH = ("limit", "most", "retry", "clock", "keep_logs")
 # The sections of a file, each with its settings.
 SECTIONS = {
-    "desk": WORDS,
-    "dispatch": (*WORDS, "limit", "most", "retry", "clock"),
+    "desk": (*WORDS, *OF_DESK),
+    "dispatch": (*WORDS, *OF_DISPATCH),
     "watch": WORDS,
 }
 
@@ -63,7 +65,9 @@ def values_of(section: str, options) -> Dict[str, Optional[str]]:
     around = _environment_of(section, words, options.bad_words)
     named = options.config or around.get("config")
     files = _files_read(section, named, options.bad_words)
-    return {word: getattr(options, word) or around.get(word) or files.get(word) for word in words}
+    return {
+        word: getattr(options, word, None) or around.get(word) or files.get(word) for word in words
+    }
 
 
 def read_settings(section: str, options, user=None) -> Settings:

@@ -44,6 +44,7 @@ RESERVATIONS = [
 ]
 LEASED = ("waiting", "allocated")
 ENDED = ("expired", "canceled")
+WIDEST = 60  # a job's name, or a reason
 
 
 def time_left(reservation: dict, now: float) -> str:
@@ -52,6 +53,22 @@ def time_left(reservation: dict, now: float) -> str:
     if reservation["state"] not in LEASED:
         return "-"
     return f"{max(0, reservation['deadline'] - int(now))} s"
+
+
+def moment(seconds: int) -> str:
+    """A moment by this machine's calendar."""
+    return time.strftime("%Y-%m-%d %H:%M", time.localtime(seconds))
+
+
+def span(seconds: int) -> str:
+    """A span of time in hours, minutes and seconds: `1:02:03`."""
+    return f"{seconds // 3600}:{seconds // 60 % 60:02}:{seconds % 60:02}"
+
+
+def printable(text: str) -> str:
+    """A text of somebody else's as it is shown on a terminal."""
+    shown = "".join(it if it.isprintable() else "?" for it in text)
+    return shown if len(shown) <= WIDEST else f"{shown[: WIDEST - 2]}.."
 
 
 def lines_of(rows, columns) -> list:

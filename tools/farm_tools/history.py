@@ -1,0 +1,94 @@
+"""The history that farm-dispatch keeps, as the proxy serves it beside the desk, or as it stands in
+the dispatcher's folder."""
+import collections
+import os
+from typing import Iterator, List, Optional, Union
+
+from farm_tools import calls, records, settings
+
+NONE_SERVED = (
+    "{} serves no history: ask through the proxy (examples/nginx.conf), or on the dispatcher's "
+    "machine with --history FOLDER"
+)
+
+
+class NoLog(Exception):
+    """A job has no log here."""
+
+
+class Served:
+    """The history that stands beside a desk."""
+
+    def __init__(self, desk):
+        self.desk = desk
+
+    def newest(self) -> List[dict]:
+        """The lines of the newest jobs, the newest first."""
+        try:
+            return self.desk.look(f"/{records.NEWEST}")["jobs"]
+        except calls.Refused as refusal:
+            raise self._about(refusal)
+
+    def rows(self, last: int = 0) -> Iterator[dict]:
+        """All lines, or those of the last so many bytes, the oldest first."""
+        self.desk.look("/status")  # (a desk that gives no answer at first is waited for)
+        rest = b""
+        try:
+            for said in self.desk.stream(f"/{records.LINES}", -last):
+                *lines, rest = (rest + said).split(b"\n")
+                yield from (row for row in map(records.row_of, lines) if row is not None)
+        except calls.Refused as refusal:
+            raise self._about(refusal)
+
+    def log(self, number: int, begin: int) -> Iterator[bytes]:
+        """What a job's log has, from a byte on."""
+        try:
+            yield from self.desk.stream(f"/logs/{number}", begin)
+        except calls.Refused as refusal:
+            if refusal.status == calls.NOT_FOUND and refusal.code != calls.NO_ROUTE:
+                raise NoLog from refusal
+            raise self._about(refusal)
+
+    def _about(self, refusal: calls.Refused) -> calls.Refused:
+        if refusal.status == calls.NOT_FOUND:
+            return refusal.about(NONE_SERVED.format(self.desk.server))
+        return refusal
+
+
+class Kept:
+    """The history in a dispatcher's folder, or in a file of its lines."""
+
+    def __init__(self, place: str):
+        self.lines = place if os.path.isfile(place) else os.path.join(place, records.LINES)
+        self.folder = os.path.dirname(self.lines)
+        if not os.path.isfile(self.lines):
+            raise settings.BadSettings(f"{place} has no history: {self.lines} isn't there")
+
+    def newest(self) -> List[dict]:
+        """The lines of the newest jobs, the newest first."""
+        jobs = (it for it in self.rows() if it["kind"] == "job")
+        return list(collections.deque(jobs, records.MOST_SHOWN))[::-1]
+
+    def rows(self, last: int = 0) -> Iterator[dict]:
+        """All lines, the oldest first."""
+        del last
+        return iter(records.rows_of(self.lines))
+
+    def log(self, number: int, begin: int) -> Iterator[bytes]:
+        """What a job's log has, from a byte on."""
+        try:
+            with open(os.path.join(self.folder, "logs", f"{number}"), "rb") as file:
+                file.seek(begin)
+                while True:
+                    said = file.read(calls.BLOCK)
+                    if not said:
+                        return
+                    yield said
+        except FileNotFoundError as fault:
+            raise NoLog from fault
+
+
+def history_of(desk, options) -> Union[Served, Kept]:
+    """The history of a desk: the folder's that the settings name, or the one that is served."""
+    place: Optional[str] = settings.values_of("desk", options)["history"]
+    return Kept(os.path.expanduser(place)) if place else Served(desk)
