@@ -1,10 +1,12 @@
 //! One call after another.
 ghost use Rattle.std.specs.Prelude.{◌≡◌, ◌≤◌, true, false, IfOk, IfErr, [], length};
 ghost use Rattle.std.specs.Prelude.{vec_capacity};
+ghost use Rattle.std.specs.Result.{result_err};
 ghost use Rattle.sqlite.specs.Held.{state};
 ghost use Rattle.farm_types.specs.Sound.{IsSound};
 ghost use Rattle.farm_keep.specs.Faults.{IsFindFault};
 ghost use Rattle.farm_keep.specs.Headline.{Denies, IsAlwaysClean, Resumes, Runs};
+ghost use Rattle.farm_keep.specs.Versions.{LooksForFarm};
 
 use crate::fault::KeepFault;
 use crate::keeper::Keeper;
@@ -32,6 +34,8 @@ impl<S: Alter + Drop> Keeper<S> {
         requires autocommit { conn.in_transaction ≡ false }
         ensures resumed { IfOk result (λ r. Resumes S.Store conn r.0 r.1 calls.now) }
         ensures refused { IsAlwaysClean S.Store → IfErr result (Denies (state S.Store conn)) }
+        ensures version { IsAlwaysClean S.Store
+            → LooksForFarm (result_err result) (state S.Store conn).now }
         ensures fault { IfErr result IsFindFault }
     {
         let mut keeper = Keeper::adopt(alloc, conn)?;
