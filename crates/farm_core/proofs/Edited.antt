@@ -9,11 +9,8 @@ use Rattle.std.proofs.lemmas.Cmp.{tied_itself, alike_right}
 use Rattle.farm_types.specs.Table.{put, put_all, change_where}
 use Rattle.farm_sound.proofs.Where.{AllByRecursion-map, sorted_map, by_cases}
 use Rattle.farm_sound.proofs.Puts.{puts_are_change}
+use Rattle.farm_table.proofs.Steps.{put_all_join}
 use Rattle.farm_core.proofs.Small.{all_join}
-
-pub put_all_join : {R : Type 0} (cmp : R → R → Ordering) (rows xs ys : List R) → put_all cmp rows (xs ++ ys) ≡ put_all cmp (put_all cmp rows xs) ys
-put_all_join cmp rows [] ys = refl
-put_all_join cmp rows (x ∷ xs) ys = put_all_join cmp (put cmp rows x) xs ys
 
 module _ {R : Type 0} (test : R → Bool) (f : R → R) where
   pub all_changed : (P : R → Type 0) → ((r : R) → P r → P (f r)) → (rows : List R) → AllByRecursion P rows → AllByRecursion P (change_where test f rows)

@@ -38,19 +38,6 @@ all_join P (r ∷ rows) more all each = (all.0, all_join P rows more all.1 each)
 pub small_kept_push : (rows : List KeptRow) (row : KeptRow) → IsSmallKept row → AllByRecursion IsSmallKept rows → AllByRecursion IsSmallKept (rows ++ (row ∷ []))
 small_kept_push rows row here all = all_push IsSmallKept row here rows all
 
--- what holds of each row holds of the one that is found
-pub found_has : {R : Type 0} (P : R → Type 0) (test : R → Bool) (b : R) → (rows : List R) → AllByRecursion P rows → find test rows ≡ Some b → P b
-found_has P test b [] all found = cc
-found_has P test b (r ∷ rows) all found = by (found_has P test b rows all.1) (test r) found
-  where
-    by : (find test rows ≡ Some b → P b) → (v : Bool) → cond v (Some r) (find test rows) ≡ Some b → P b
-    by rest true is = let same : r ≡ b = cc in subst P same all.0
-    by rest false is = rest is
-
--- a board that is found has small numbers
-pub small_found : (name : List ℕ) (b : BoardRow) (boards : List BoardRow) → find (λ r. bytes_eq r.name name) boards ≡ Some b → AllByRecursion IsSmallBoard boards → IsSmallBoard b
-small_found name b boards found all = found_has IsSmallBoard (λ r. bytes_eq r.name name) b boards all found
-
 both_true : (a b : Bool) → (a && b) ≡ true → (a ≡ true) × (b ≡ true)
 both_true true b is = (refl, is)
 both_true false b is = cc

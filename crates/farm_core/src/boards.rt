@@ -7,7 +7,6 @@ ghost use Rattle.farm_types.specs.Refuse.{set_tags_reasons, set_health_reasons};
 ghost use Rattle.farm_types.specs.declared.calls.Cmd.{Cmd};
 ghost use Rattle.farm_core.specs.Drafted.{Acts};
 ghost use Rattle.farm_core.specs.Plain.{plain_farm};
-ghost use Rattle.farm_core.specs.Orderly.{IsOrderly};
 
 use crate::draft::Draft;
 use crate::tables::Tables;
@@ -30,12 +29,15 @@ impl Tables {
     pub fn count_kind(&self, kind: &Name) -> usize
         ensures { result ≡ length (filter (λ b. bytes_eq b.kind kind.now) (plain_farm self.now).boards) }
     {
-        self.boards.iter().filter(|row| row.kind.is(kind)).count()
+        self.boards
+            .rows()
+            .iter()
+            .filter(|row| row.kind.is(kind))
+            .count()
     }
 
     /// Why a board of that name and type isn't added.
     pub fn refuse_add_board(&self, name: &Name, kind: &Name) -> Option<u16>
-        requires { IsOrderly (plain_farm self.now) }
         ensures { result ≡ first_code (add_board_reasons (plain_farm self.now) name.now kind.now) }
     {
         if self.find_type(kind).is_none() {
@@ -49,7 +51,6 @@ impl Tables {
 
     /// Why a board's tags aren't set.
     pub fn refuse_set_tags(&self, name: &Name) -> Option<u16>
-        requires { IsOrderly (plain_farm self.now) }
         ensures { result ≡ first_code (set_tags_reasons (plain_farm self.now) name.now) }
     {
         match self.find_board(name) {
@@ -65,7 +66,6 @@ impl Tables {
 
     /// Why a board's health isn't set.
     pub fn refuse_set_health(&self, name: &Name, health: Health) -> Option<u16>
-        requires { IsOrderly (plain_farm self.now) }
         ensures { result ≡ first_code (set_health_reasons (plain_farm self.now) name.now health) }
     {
         match self.find_board(name) {

@@ -5,7 +5,6 @@ ghost use Rattle.farm_types.specs.Refuse.{first_code, add_type_reasons};
 ghost use Rattle.farm_types.specs.declared.calls.Cmd.{Cmd};
 ghost use Rattle.farm_core.specs.Drafted.{Acts};
 ghost use Rattle.farm_core.specs.Plain.{plain_farm};
-ghost use Rattle.farm_core.specs.Orderly.{IsOrderly};
 
 use crate::draft::Draft;
 use crate::tables::Tables;
@@ -18,7 +17,6 @@ use std::alloc::AllocError;
 impl Tables {
     /// Why a type of that name isn't added.
     pub fn refuse_add_type(&self, name: &Name) -> Option<u16>
-        requires { IsOrderly (plain_farm self.now) }
         ensures { result ≡ first_code (add_type_reasons (plain_farm self.now) name.now) }
     {
         if self.find_type(name).is_some() {
