@@ -1,5 +1,5 @@
 -- What an edit of one table keeps of all.
-use Rattle.std.proofs.Common.{◌≡◌, ℕ, ◌++◌, List, map, Bool, ap, subst, sym, ◌∙◌, Vec, Global}
+use Rattle.std.proofs.Common.{◌≡◌, ◌++◌, List, map, Bool, ap, subst, sym, ◌∙◌, Vec, Global}
 use Rattle.std.specs.List.{AllByRecursion, filter}
 use Rattle.std.specs.Cmp.{IsTotalOrder, on_total, nat_cmp_total}
 use Rattle.std.specs.BTreeSet.{BTreeSet}
@@ -8,10 +8,9 @@ use Rattle.std.specs.declared.cmp.Ordering.TheVariants.{Equal}
 use Rattle.std.specs.declared.cmp.Ordering.{Ordering}
 use Rattle.std.specs.List.Sorted.{IsStrictlySortedBy}
 use Rattle.std.proofs.lemmas.Cmp.{tied_itself}
-use Rattle.farm_types.specs.Table.{type_cmp, board_cmp, job_cmp, res_cmp, change_where}
+use Rattle.farm_types.specs.Table.{board_cmp, job_cmp, res_cmp, change_where}
 use Rattle.farm_types.specs.Farm.{Farm}
 use Rattle.farm_types.specs.Small.{IsSmallJob, IsSmallRes}
-use Rattle.farm_types.specs.declared.rows.TypeRow.{TypeRow}
 use Rattle.farm_types.specs.declared.rows.BoardRow.{BoardRow}
 use Rattle.farm_types.specs.declared.rows.JobRow.{JobRow}
 use Rattle.farm_types.specs.declared.rows.ResRow.{ResRow}
@@ -21,6 +20,7 @@ use Rattle.farm_table.specs.Tabled.{Tabled, Leads}
 use Rattle.farm_core.specs.declared.leases.Lease.{Lease}
 use Rattle.farm_core.specs.Leases.{AreNoted}
 use Rattle.farm_core.specs.Orderly.{AreOrderly, IsOrderly, IsNear}
+use Rattle.farm_core.specs.Came.{CameTo, Seen}
 use Rattle.farm_core.specs.Drafted.{Drafted, IsLogged, IsWhole}
 use Rattle.farm_core.specs.Plain.{plain_farm}
 use Rattle.farm_core.specs.declared.tables.Tables.{Tables}
@@ -36,16 +36,22 @@ ordered is o = subst (λ (T : Tables). IsOrderly (plain_farm T)) (sym is) o
 -- ---- the draft stays whole
 
 module _ {start : Farm} {c : Changes} (T : Tables) (whole : IsWhole start c T) where
-  pub whole_types : (types : Tabled TypeRow) → Leads type_cmp T.types types → IsWhole start c (record T { types = types })
-  whole_types types leads = record {
-    orderly = whole.orderly;
-    types = leads.on start.types whole.types;
-    boards = whole.boards;
-    jobs = whole.jobs;
-    reservations = whole.reservations;
-    kept = whole.kept;
-    noted = whole.noted;
-  }
+  -- a command in place that changes types and boards alone
+  pub whole_came : (s : Seen) (b : Tables) → CameTo T s b → s.farm.jobs ≡ T.jobs → s.farm.reservations ≡ T.reservations.items → s.farm.kept ≡ T.kept → s.leases ≡ T.leases → IsWhole start c b
+  whole_came s b came jobs_stay reservations_stay kept_stay leases_stay =
+      let jobs : b.jobs ≡ T.jobs = ap (λ (s : Seen). s.farm.jobs) came.now ∙ jobs_stay in
+      let reservations : b.reservations.items ≡ T.reservations.items = ap (λ (s : Seen). s.farm.reservations) came.now ∙ reservations_stay in
+      let kept : b.kept ≡ T.kept = ap (λ (s : Seen). s.farm.kept) came.now ∙ kept_stay in
+      let leases : b.leases ≡ T.leases = ap (λ (s : Seen). s.leases) came.now ∙ leases_stay in
+      record {
+        orderly = rw (jobs, reservations, kept) whole.orderly;
+        types = came.logs.types.on start.types whole.types;
+        boards = came.logs.boards.on start.boards whole.boards;
+        jobs = rw jobs whole.jobs;
+        reservations = rw reservations whole.reservations;
+        kept = rw kept whole.kept;
+        noted = rw (leases, reservations) whole.noted;
+      }
 
   pub whole_boards : (boards : Tabled BoardRow) → Leads board_cmp T.boards boards → IsWhole start c (record T { boards = boards })
   whole_boards boards leads = record {

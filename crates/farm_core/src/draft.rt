@@ -3,8 +3,8 @@
 //! otherwise.
 ghost use Rattle.std.specs.Prelude.{◌≡◌, IfOk};
 ghost use Rattle.farm_types.specs.Table.{put, job_cmp};
-ghost use Rattle.farm_types.specs.Farm.{Farm, put_type, put_board, put_res, put_kept};
-ghost use Rattle.farm_types.specs.Small.{IsSmallType, IsSmallBoard, IsSmallJob, IsSmallRes};
+ghost use Rattle.farm_types.specs.Farm.{Farm, put_res, put_kept};
+ghost use Rattle.farm_types.specs.Small.{IsSmallJob, IsSmallRes};
 ghost use Rattle.farm_types.specs.Small.{IsSmallKept};
 ghost use Rattle.farm_pick.specs.Kept.{queued_cmp};
 ghost use Rattle.farm_core.specs.Plain.{plain_farm};
@@ -19,7 +19,7 @@ use crate::tables::{Tables, no_changes};
 use farm_start::Start;
 use farm_types::calls::Changes;
 use farm_types::claims::Claim;
-use farm_types::rows::{BoardRow, JobRow, KeptRow, ResRow, TypeRow};
+use farm_types::rows::{JobRow, KeptRow, ResRow};
 use farm_types::table::upsert;
 use farm_types::words::Name;
 use std::alloc::AllocError;
@@ -128,24 +128,6 @@ impl Draft {
     {
         self.tables.queues.take_claim(number);
         self
-    }
-
-    /// Puts a type.
-    pub fn put_type(mut self, row: TypeRow) -> Result<Draft, AllocError>
-        requires { IsSmallType row }
-        ensures { IfOk result (λ d. d ≡ at_farm (put_type self.farm row) self) }
-    {
-        self.tables.types.put(row)?;
-        Ok(self)
-    }
-
-    /// Puts a board.
-    pub fn put_board(mut self, row: BoardRow) -> Result<Draft, AllocError>
-        requires { IsSmallBoard row }
-        ensures { IfOk result (λ d. d ≡ at_farm (put_board self.farm row) self) }
-    {
-        self.tables.boards.put(row)?;
-        Ok(self)
     }
 
     /// Puts a job. A row with the next number is added at the end, and moves none.

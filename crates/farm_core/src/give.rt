@@ -9,6 +9,7 @@ ghost use Rattle.farm_types.specs.Pass.{held_board};
 ghost use Rattle.farm_types.specs.Small.{IsSmall, held_by};
 ghost use Rattle.farm_types.specs.declared.rows.JobState.{JobState};
 ghost use Rattle.farm_types.specs.declared.rows.State.{State};
+ghost use Rattle.farm_core.specs.Came.{CameTo, seen, seen_at};
 ghost use Rattle.farm_core.specs.Drafted.{at_farm};
 ghost use Rattle.farm_core.specs.Plain.{plain_farm};
 ghost use Rattle.farm_core.specs.Serving.{give_named, give_first};
@@ -25,10 +26,25 @@ use farm_types::rows::{Holder, JobState};
 use farm_types::words::Name;
 use std::alloc::AllocError;
 
-impl Draft {
+impl Tables {
     /// The board of that name is reserved for a holder. It is looked for where the first free board
     /// stands if none that is held stands behind one that is free: claims get the first boards that
     /// fit. With B boards it costs O(log B) at most.
+    fn hold_board(&mut self, name: &Name, holder: Holder) -> Result<(), AllocError>
+        requires { IsSmall (held_by holder) }
+        ensures { OnOk result (CameTo self.old (seen_at (record (plain_farm self.old) {
+          boards = change_where (λ c. bytes_eq c.name name.now)
+              (held_board holder State.Reserved) (plain_farm self.old).boards;
+        }) (seen self.old)) self.new) }
+    {
+        let guess = self.boards.len().saturating_sub(self.queues.free_count());
+        self.boards.change_near(guess, name, &Hold { holder })?;
+        Ok(())
+    }
+}
+
+impl Draft {
+    /// The board of that name is reserved for a holder.
     pub fn hold_board(mut self, name: &Name, holder: Holder) -> Result<Draft, AllocError>
         requires { IsSmall (held_by holder) }
         ensures { IfOk result
@@ -38,12 +54,7 @@ impl Draft {
                   (held_board holder State.Reserved) self.farm.boards;
             }) self) }
     {
-        let tables = &mut *self.tables;
-        let guess = tables
-            .boards
-            .len()
-            .saturating_sub(tables.queues.free_count());
-        tables.boards.change_near(guess, name, &Hold { holder })?;
+        self.tables.hold_board(name, holder)?;
         Ok(self)
     }
 

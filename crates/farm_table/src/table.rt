@@ -1,7 +1,7 @@
 //! A table: rows in strict order of their keys, and a log of the rows that changed. What may fail
 //! comes first, then the edit of the row, and the log last, into room that was made for it: so a
 //! call that fails leaves a table in which the log still tells each change.
-ghost use Rattle.std.specs.Prelude.{◌≡◌, ◌≤◌, ◌<◌, ℕ, [], false, get_or, length, set, IfSome, OnOk, OnErr};
+ghost use Rattle.std.specs.Prelude.{◌≡◌, ◌<◌, [], get_or, length, set, IfSome, OnOk, OnErr};
 ghost use Rattle.std.specs.List.{AllByRecursion, find};
 ghost use Rattle.std.specs.List.Sorted.{IsStrictlySortedBy};
 ghost use Rattle.std.specs.Option.{option_copied};

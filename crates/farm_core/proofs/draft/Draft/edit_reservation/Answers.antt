@@ -4,7 +4,6 @@ use Rattle.farm_types.specs.declared.rows.ResRow.{ResRow}
 use Rattle.farm_core.specs.Edits.{res_changed, res_passes}
 use Rattle.farm_core.specs.Leases.{AreNoted}
 use Rattle.farm_core.specs.Orderly.{IsPlaceOf}
-use Rattle.farm_core.specs.Plain.{plain_farm}
 use Rattle.farm_core.proofs.EditLemmas.{keeps_res}
 use Rattle.farm_core.proofs.Given.{logged_behind}
 use Rattle.farm_core.proofs.Leasing.{noted_changed}
