@@ -20,7 +20,6 @@ use Rattle.farm_table.specs.Tabled.{Tabled, Leads}
 use Rattle.farm_core.specs.declared.leases.Lease.{Lease}
 use Rattle.farm_core.specs.Leases.{AreNoted}
 use Rattle.farm_core.specs.Orderly.{AreOrderly, IsOrderly, IsNear}
-use Rattle.farm_core.specs.Came.{CameTo, Seen}
 use Rattle.farm_core.specs.Drafted.{Drafted, IsLogged, IsWhole}
 use Rattle.farm_core.specs.Plain.{plain_farm}
 use Rattle.farm_core.specs.declared.tables.Tables.{Tables}
@@ -36,23 +35,6 @@ ordered is o = subst (λ (T : Tables). IsOrderly (plain_farm T)) (sym is) o
 -- ---- the draft stays whole
 
 module _ {start : Farm} {c : Changes} (T : Tables) (whole : IsWhole start c T) where
-  -- a command in place that changes types and boards alone
-  pub whole_came : (s : Seen) (b : Tables) → CameTo T s b → s.farm.jobs ≡ T.jobs → s.farm.reservations ≡ T.reservations.items → s.farm.kept ≡ T.kept → s.leases ≡ T.leases → IsWhole start c b
-  whole_came s b came jobs_stay reservations_stay kept_stay leases_stay =
-      let jobs : b.jobs ≡ T.jobs = ap (λ (s : Seen). s.farm.jobs) came.now ∙ jobs_stay in
-      let reservations : b.reservations.items ≡ T.reservations.items = ap (λ (s : Seen). s.farm.reservations) came.now ∙ reservations_stay in
-      let kept : b.kept ≡ T.kept = ap (λ (s : Seen). s.farm.kept) came.now ∙ kept_stay in
-      let leases : b.leases ≡ T.leases = ap (λ (s : Seen). s.leases) came.now ∙ leases_stay in
-      record {
-        orderly = rw (jobs, reservations, kept) whole.orderly;
-        types = came.logs.types.on start.types whole.types;
-        boards = came.logs.boards.on start.boards whole.boards;
-        jobs = rw jobs whole.jobs;
-        reservations = rw reservations whole.reservations;
-        kept = rw kept whole.kept;
-        noted = rw (leases, reservations) whole.noted;
-      }
-
   pub whole_boards : (boards : Tabled BoardRow) → Leads board_cmp T.boards boards → IsWhole start c (record T { boards = boards })
   whole_boards boards leads = record {
     orderly = whole.orderly;
