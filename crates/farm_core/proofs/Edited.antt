@@ -1,19 +1,16 @@
 -- Rows that are changed where they pass: what stays, and what the log of changed rows then says.
-use Rattle.std.proofs.Common.{◌≡◌, List, [], ◌∷◌, ◌++◌, map, Bool, true, false, cond, sym, ap, ◌∙◌, refl, subst}
+use Rattle.std.proofs.Common.{◌≡◌, List, [], ◌∷◌, ◌++◌, map, Bool, true, false, cond, sym, ap, ◌∙◌, subst}
 use Rattle.std.specs.List.{AllByRecursion, filter}
 use Rattle.std.specs.List.Sorted.{IsStrictlySortedBy}
 use Rattle.std.specs.Cmp.{IsTotalOrder}
 use Rattle.std.specs.declared.cmp.Ordering.TheVariants.{Equal}
 use Rattle.std.specs.declared.cmp.Ordering.{Ordering}
 use Rattle.std.proofs.lemmas.Cmp.{tied_itself, alike_right}
-use Rattle.farm_types.specs.Table.{put, put_all, change_where}
+use Rattle.farm_types.specs.Table.{put_all, change_where}
 use Rattle.farm_sound.proofs.Where.{AllByRecursion-map, sorted_map, by_cases}
 use Rattle.farm_sound.proofs.Puts.{puts_are_change}
-use Rattle.farm_core.proofs.Small.{all_join}
-
-pub put_all_join : {R : Type 0} (cmp : R → R → Ordering) (rows xs ys : List R) → put_all cmp rows (xs ++ ys) ≡ put_all cmp (put_all cmp rows xs) ys
-put_all_join cmp rows [] ys = refl
-put_all_join cmp rows (x ∷ xs) ys = put_all_join cmp (put cmp rows x) xs ys
+use Rattle.farm_table.proofs.Steps.{put_all_join}
+use Rattle.farm_sound.proofs.Lists.{all_join}
 
 module _ {R : Type 0} (test : R → Bool) (f : R → R) where
   pub all_changed : (P : R → Type 0) → ((r : R) → P r → P (f r)) → (rows : List R) → AllByRecursion P rows → AllByRecursion P (change_where test f rows)

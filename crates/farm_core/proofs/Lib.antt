@@ -17,7 +17,6 @@ pub mod Serving
 pub mod Passing
 pub mod Checking
 pub mod Whole
-pub mod BoardWindow
 pub mod Free
 pub mod Given
 pub mod Leasing

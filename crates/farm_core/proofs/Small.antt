@@ -1,55 +1,20 @@
--- What holds of each row holds of each after one is put or added.
-use Rattle.std.proofs.Common.{◌≡◌, ◌==◌, ℕ, length, Option, List, [], ◌∷◌, ◌++◌, ◌&&◌, Bool, true, false, cond, Some, IsTrue, refl, subst, arith}
+-- What is small, and what proper calls say of it.
+use Rattle.std.proofs.Common.{◌≡◌, ◌==◌, ℕ, length, Option, List, [], ◌∷◌, ◌++◌, ◌&&◌, Bool, true, false, IsTrue, refl, subst, arith}
 use Rattle.std.proofs.lemmas.Bool.Decides.{nat_tests}
-use Rattle.std.specs.declared.cmp.Ordering.{Ordering}
-use Rattle.std.specs.Str.{bytes_eq}
-use Rattle.std.specs.List.{AllByRecursion, find}
-use Rattle.std.specs.Ordering.{match_ordering}
-use Rattle.std.specs.declared.cmp.Ordering.TheVariants.{Less, Equal, Greater}
+use Rattle.std.specs.List.{AllByRecursion}
 use Rattle.farm_types.specs.Limits.{longest_name}
 use Rattle.farm_types.specs.Words.{is_word}
 use Rattle.farm_types.specs.Proper.{is_frequency, is_proper_cmd}
 use Rattle.farm_types.specs.declared.calls.Cmd.{Cmd}
 use Rattle.farm_types.specs.declared.calls.Call.{Call}
 use Rattle.farm_types.specs.declared.rows.Check.{Check}
-use Rattle.farm_types.specs.Table.{put}
-use Rattle.farm_types.specs.Small.{IsSmall, every_of, IsSmallBoard, IsSmallKept}
-use Rattle.farm_types.specs.declared.rows.BoardRow.{BoardRow}
+use Rattle.farm_types.specs.Small.{IsSmall, every_of, IsSmallKept}
 use Rattle.farm_types.specs.declared.rows.KeptRow.{KeptRow}
 use Rattle.farm_types.specs.declared.rows.Want.{Want}
-
-pub all_put : {R : Type 0} (P : R → Type 0) (cmp : R → R → Ordering) (row : R) → P row → (rows : List R) → AllByRecursion P rows → AllByRecursion P (put cmp rows row)
-all_put P cmp row here [] all = (here, tt)
-all_put {R = R} P cmp row here (r ∷ rows) all = by (all_put P cmp row here rows all.1) (cmp row r)
-  where
-    by : AllByRecursion P (put cmp rows row) → (o : Ordering) → AllByRecursion P (match_ordering o (row ∷ r ∷ rows) (row ∷ rows) (r ∷ put cmp rows row))
-    by rest Less = (here, all)
-    by rest Equal = (here, all.1)
-    by rest Greater = (all.0, rest)
-
-pub all_push : {R : Type 0} (P : R → Type 0) (row : R) → P row → (rows : List R) → AllByRecursion P rows → AllByRecursion P (rows ++ (row ∷ []))
-all_push P row here [] all = (here, tt)
-all_push P row here (r ∷ rows) all = (all.0, all_push P row here rows all.1)
-
-pub all_join : {R : Type 0} (P : R → Type 0) (rows more : List R) → AllByRecursion P rows → AllByRecursion P more → AllByRecursion P (rows ++ more)
-all_join P [] more all each = each
-all_join P (r ∷ rows) more all each = (all.0, all_join P rows more all.1 each)
+use Rattle.farm_table.proofs.Steps.{all_push}
 
 pub small_kept_push : (rows : List KeptRow) (row : KeptRow) → IsSmallKept row → AllByRecursion IsSmallKept rows → AllByRecursion IsSmallKept (rows ++ (row ∷ []))
-small_kept_push rows row here all = all_push IsSmallKept row here rows all
-
--- what holds of each row holds of the one that is found
-pub found_has : {R : Type 0} (P : R → Type 0) (test : R → Bool) (b : R) → (rows : List R) → AllByRecursion P rows → find test rows ≡ Some b → P b
-found_has P test b [] all found = cc
-found_has P test b (r ∷ rows) all found = by (found_has P test b rows all.1) (test r) found
-  where
-    by : (find test rows ≡ Some b → P b) → (v : Bool) → cond v (Some r) (find test rows) ≡ Some b → P b
-    by rest true is = let same : r ≡ b = cc in subst P same all.0
-    by rest false is = rest is
-
--- a board that is found has small numbers
-pub small_found : (name : List ℕ) (b : BoardRow) (boards : List BoardRow) → find (λ r. bytes_eq r.name name) boards ≡ Some b → AllByRecursion IsSmallBoard boards → IsSmallBoard b
-small_found name b boards found all = found_has IsSmallBoard (λ r. bytes_eq r.name name) b boards all found
+small_kept_push rows row here all = all_push IsSmallKept rows row all here
 
 both_true : (a b : Bool) → (a && b) ≡ true → (a ≡ true) × (b ≡ true)
 both_true true b is = (refl, is)

@@ -3,7 +3,7 @@ use Rattle.std.proofs.Common.{◌≡◌, ◌≤◌, ◌==◌, ℕ, zero, suc, Li
 use Rattle.std.specs.List.{AllByRecursion, filter}
 use Rattle.std.specs.Option.{option_map_or}
 use Rattle.farm_types.specs.Farm.{Farm, job_of, res_of}
-use Rattle.farm_types.specs.Small.{IsSmall, held_by, IsSmallBoard, IsSmallJob, AreSmall}
+use Rattle.farm_types.specs.Small.{IsSmall, held_by, IsSmallType, IsSmallBoard, IsSmallJob, AreSmall}
 use Rattle.farm_types.specs.Sound.{IsSound, IsBoardRow, IsHeldBy, job_hold, res_hold, shown_hold}
 use Rattle.farm_types.specs.declared.rows.Holder.{Holder}
 use Rattle.farm_types.specs.declared.rows.BoardRow.{BoardRow}
@@ -40,15 +40,18 @@ module _ (F : Farm) (sound : IsSound F) where
     numbers = (omega (arith, is.0.since), (omega (arith, is.0.checked, sound.steady.clock), tt));
   }
 
+  -- its types and its boards can be tables
+  pub small_types : AllByRecursion IsSmallType F.types
+  small_types = AllByRecursion-weaker (λ r is. small_frequency r.check is.check) F.types sound.steady.types
+
+  pub small_boards : AllByRecursion IsSmallBoard F.boards
+  small_boards = AllByRecursion-weaker small_board F.boards (AllByRecursion-both (IsBoardRow F) (λ b. IsHeldBy F b b.holder) F.boards sound.steady.boards sound.held.boards)
+
   pub IsOrderly-sound : IsOrderly F
   IsOrderly-sound = record {
-    types = sound.steady.types_sorted;
-    boards = sound.steady.boards_sorted;
     jobs = sound.steady.jobs_sorted;
     reservations = sound.steady.reservations_sorted;
     kept = sound.steady.kept_sorted;
-    small_types = AllByRecursion-weaker (λ r is. small_frequency r.check is.check) F.types sound.steady.types;
-    small_boards = AllByRecursion-weaker small_board F.boards (AllByRecursion-both (IsBoardRow F) (λ b. IsHeldBy F b b.holder) F.boards sound.steady.boards sound.held.boards);
     small_jobs = AllByRecursion-weaker (λ r is. record { number = omega (arith, is.number.1, sound.steady.next.1); group = omega (arith, is.group.0, is.number.1, sound.steady.next.1) }) F.jobs sound.steady.jobs;
     small_reservations = AllByRecursion-weaker (λ r is. record { number = omega (arith, is.number.1, sound.steady.next.1); deadline = omega (arith, is.deadline, sound.steady.clock) }) F.reservations sound.steady.reservations;
     near = AllByRecursion-weaker (λ r is. is.group) F.jobs sound.steady.jobs;

@@ -5,6 +5,7 @@ pub mod Replies
 pub mod Marks
 pub mod Tracks
 pub mod Drafted
+pub mod Came
 pub mod Following
 pub mod Edits
 pub mod Collecting

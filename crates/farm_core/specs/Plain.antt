@@ -4,8 +4,8 @@ use Rattle.farm_core.specs.declared.tables.Tables.{Tables}
 
 abbrev pub plain_farm : Tables → Farm
 plain_farm t = record {
-  types = t.types.items;
-  boards = t.boards.items;
+  types = t.types.rows;
+  boards = t.boards.rows;
   jobs = t.jobs;
   reservations = t.reservations.items;
   kept = t.kept;

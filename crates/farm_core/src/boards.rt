@@ -1,17 +1,16 @@
 //! The commands on boards.
-ghost use Rattle.std.specs.Prelude.{◌≡◌, ◌&&◌, [], IfOk, length};
+ghost use Rattle.std.specs.Prelude.{◌≡◌, ◌&&◌, OnOk, Some, length};
 ghost use Rattle.std.specs.List.{filter};
 ghost use Rattle.std.specs.Str.{bytes_eq};
 ghost use Rattle.farm_types.specs.Refuse.{first_code, is_retired, add_board_reasons};
 ghost use Rattle.farm_types.specs.Refuse.{set_tags_reasons, set_health_reasons};
-ghost use Rattle.farm_types.specs.declared.calls.Cmd.{Cmd};
-ghost use Rattle.farm_core.specs.Drafted.{Acts};
+ghost use Rattle.farm_types.specs.Farm.{put_board};
+ghost use Rattle.farm_types.specs.Pass.{with_board};
+ghost use Rattle.farm_types.specs.Change.{new_board};
+ghost use Rattle.farm_core.specs.Came.{CameTo, seen, seen_at};
 ghost use Rattle.farm_core.specs.Plain.{plain_farm};
-ghost use Rattle.farm_core.specs.Orderly.{IsOrderly};
 
-use crate::draft::Draft;
 use crate::tables::Tables;
-use farm_types::calls::Changes;
 use farm_types::refusal::{BOARD_EXISTS, HELD, NO_BOARD, NO_TYPE, RETIRED};
 use farm_types::rows::{BoardRow, Health, Holder};
 use farm_types::tags::Tags;
@@ -30,12 +29,15 @@ impl Tables {
     pub fn count_kind(&self, kind: &Name) -> usize
         ensures { result ≡ length (filter (λ b. bytes_eq b.kind kind.now) (plain_farm self.now).boards) }
     {
-        self.boards.iter().filter(|row| row.kind.is(kind)).count()
+        self.boards
+            .rows()
+            .iter()
+            .filter(|row| row.kind.is(kind))
+            .count()
     }
 
     /// Why a board of that name and type isn't added.
     pub fn refuse_add_board(&self, name: &Name, kind: &Name) -> Option<u16>
-        requires { IsOrderly (plain_farm self.now) }
         ensures { result ≡ first_code (add_board_reasons (plain_farm self.now) name.now kind.now) }
     {
         if self.find_type(kind).is_none() {
@@ -49,7 +51,6 @@ impl Tables {
 
     /// Why a board's tags aren't set.
     pub fn refuse_set_tags(&self, name: &Name) -> Option<u16>
-        requires { IsOrderly (plain_farm self.now) }
         ensures { result ≡ first_code (set_tags_reasons (plain_farm self.now) name.now) }
     {
         match self.find_board(name) {
@@ -65,7 +66,6 @@ impl Tables {
 
     /// Why a board's health isn't set.
     pub fn refuse_set_health(&self, name: &Name, health: Health) -> Option<u16>
-        requires { IsOrderly (plain_farm self.now) }
         ensures { result ≡ first_code (set_health_reasons (plain_farm self.now) name.now health) }
     {
         match self.find_board(name) {
@@ -81,44 +81,42 @@ impl Tables {
             }
         }
     }
-}
 
-impl Draft {
     /// Adds a board, in Maintenance and in nobody's hands.
-    pub fn add_board(
-        self,
-        name: &Name,
-        kind: &Name,
-        tags: &Tags,
-    ) -> Result<(Draft, u64), AllocError>
-        ensures { IfOk result
-            (λ r. Acts self [] (Cmd.AddBoard name.now kind.now tags.now) r.1 r.0) }
+    pub fn add_board(&mut self, name: &Name, kind: &Name, tags: &Tags) -> Result<(), AllocError>
+        ensures { OnOk result (CameTo self.old (seen_at (put_board (plain_farm self.old)
+            (new_board name.now kind.now tags.now)) (seen self.old)) self.new) }
     {
         let row = BoardRow::new(name.copy()?, kind.copy()?, tags.copy()?);
-        Ok((self.put_board(row)?, 0))
+        self.boards.put(row)?;
+        Ok(())
     }
 
     /// Sets a board's tags.
-    pub fn set_tags(self, name: &Name, tags: &Tags) -> Result<(Draft, u64), AllocError>
-        ensures { IfOk result (λ r. Acts self [] (Cmd.SetTags name.now tags.now) r.1 r.0) }
+    pub fn set_tags(&mut self, name: &Name, tags: &Tags) -> Result<(), AllocError>
+        ensures { OnOk result (CameTo self.old (seen_at (with_board (λ b. record b { tags = tags.now })
+            (plain_farm self.old) (Some name.now)) (seen self.old)) self.new) }
     {
-        let mut row = match self.tables.find_board(name) {
-            None => return Ok((self, 0)),
+        let mut row = match self.find_board(name) {
+            None => return Ok(()),
             Some(row) => row.copy()?,
         };
         row.tags = tags.copy()?;
-        Ok((self.put_board(row)?, 0))
+        self.boards.put(row)?;
+        Ok(())
     }
 
     /// Sets a board's health.
-    pub fn set_health(self, name: &Name, health: Health) -> Result<(Draft, u64), AllocError>
-        ensures { IfOk result (λ r. Acts self [] (Cmd.SetHealth name.now health) r.1 r.0) }
+    pub fn set_health(&mut self, name: &Name, health: Health) -> Result<(), AllocError>
+        ensures { OnOk result (CameTo self.old (seen_at (with_board (λ b. record b { health = health })
+            (plain_farm self.old) (Some name.now)) (seen self.old)) self.new) }
     {
-        let mut row = match self.tables.find_board(name) {
-            None => return Ok((self, 0)),
+        let mut row = match self.find_board(name) {
+            None => return Ok(()),
             Some(row) => row.copy()?,
         };
         row.health = health;
-        Ok((self.put_board(row)?, 0))
+        self.boards.put(row)?;
+        Ok(())
     }
 }

@@ -91,7 +91,7 @@ impl Draft {
     }
 
     /// What a command other than a pass does. Gives the number of its reply.
-    fn act_numbered(self, call: &Call) -> Result<(Draft, u64), AllocError>
+    fn act_numbered(mut self, call: &Call) -> Result<(Draft, u64), AllocError>
         requires numbered { call.now.cmd ≢ Cmd.Pass }
         requires small { IsSmallCmd call.now.cmd }
         requires clock { self.farm.clock ≤ last_moment }
@@ -100,10 +100,22 @@ impl Draft {
         ensures { IfOk result (λ r. Acts self call.entry.now.caller call.entry.now.cmd r.1 r.0) }
     {
         match &call.cmd {
-            Cmd::AddType(name, check) => self.add_type(name, *check),
-            Cmd::AddBoard(name, kind, tags) => self.add_board(name, kind, tags),
-            Cmd::SetTags(name, tags) => self.set_tags(name, tags),
-            Cmd::SetHealth(name, health) => self.set_health(name, *health),
+            Cmd::AddType(name, check) => {
+                self.tables.add_type(name, *check)?;
+                Ok((self, 0))
+            }
+            Cmd::AddBoard(name, kind, tags) => {
+                self.tables.add_board(name, kind, tags)?;
+                Ok((self, 0))
+            }
+            Cmd::SetTags(name, tags) => {
+                self.tables.set_tags(name, tags)?;
+                Ok((self, 0))
+            }
+            Cmd::SetHealth(name, health) => {
+                self.tables.set_health(name, *health)?;
+                Ok((self, 0))
+            }
             Cmd::Submit(priority, wants, roles, body) => {
                 self.submit(&call.caller, *priority, wants, roles, body)
             }

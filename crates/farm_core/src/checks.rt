@@ -8,7 +8,6 @@ ghost use Rattle.farm_types.specs.Pick.{check_of, is_nobody};
 ghost use Rattle.farm_types.specs.declared.rows.BoardRow.{BoardRow};
 ghost use Rattle.farm_core.specs.Drafted.{at_farm};
 ghost use Rattle.farm_core.specs.Plain.{plain_farm};
-ghost use Rattle.farm_core.specs.Orderly.{IsOrderly};
 ghost use Rattle.farm_core.specs.Tracks.{Tracks};
 
 use crate::draft::Draft;
@@ -101,7 +100,6 @@ fn check_job(alloc: Global, number: u64, board: &BoardRow) -> Result<JobRow, All
 impl Tables {
     /// How often boards of a type are checked.
     fn check_of(&self, kind: &Name) -> Check
-        requires { IsOrderly (plain_farm self.now) }
         ensures { result ≡ check_of (plain_farm self.now).types kind.now }
     {
         match self.find_type(kind) {
@@ -112,7 +110,6 @@ impl Tables {
 
     /// Whether a board is to be checked now.
     fn is_due(&self, board: &BoardRow) -> bool
-        requires { IsOrderly (plain_farm self.now) }
         ensures { result ≡ is_due (plain_farm self.now) (plain_farm self.now).clock board.now }
     {
         matches!(board.holder, Holder::Nobody)
@@ -132,7 +129,7 @@ impl Draft {
             return Ok(self);
         }
         let number = tables.next;
-        let board = &tables.boards[at];
+        let board = &tables.boards.rows()[at];
         let row = check_job(*tables.boards.allocator(), number, board)?;
         let name = board.name.copy()?;
         let draft = self.put_job(row)?;
@@ -152,7 +149,7 @@ impl Draft {
         let mut draft = self;
         for at in 0..count {
             let tables = &*draft.tables;
-            if tables.is_due(&tables.boards[at]) {
+            if tables.is_due(&tables.boards.rows()[at]) {
                 draft = draft.check_board(at)?;
             }
         }

@@ -3,8 +3,8 @@
 //! otherwise.
 ghost use Rattle.std.specs.Prelude.{◌≡◌, IfOk};
 ghost use Rattle.farm_types.specs.Table.{put, job_cmp};
-ghost use Rattle.farm_types.specs.Farm.{Farm, put_type, put_board, put_res, put_kept};
-ghost use Rattle.farm_types.specs.Small.{IsSmallType, IsSmallBoard, IsSmallJob, IsSmallRes};
+ghost use Rattle.farm_types.specs.Farm.{Farm, put_res, put_kept};
+ghost use Rattle.farm_types.specs.Small.{IsSmallJob, IsSmallRes};
 ghost use Rattle.farm_types.specs.Small.{IsSmallKept};
 ghost use Rattle.farm_pick.specs.Kept.{queued_cmp};
 ghost use Rattle.farm_core.specs.Plain.{plain_farm};
@@ -19,15 +19,15 @@ use crate::tables::{Tables, no_changes};
 use farm_start::Start;
 use farm_types::calls::Changes;
 use farm_types::claims::Claim;
-use farm_types::rows::{BoardRow, JobRow, KeptRow, ResRow, TypeRow};
+use farm_types::rows::{JobRow, KeptRow, ResRow};
 use farm_types::table::upsert;
 use farm_types::words::Name;
 use std::alloc::AllocError;
 use std::marker::Model;
 use std::mem::replace;
 
-/// The tables are in order, each lease that may end is noted, and the changed rows, put into the
-/// farm at the start, give the tables. A step takes the draft and gives it back: one that fails for
+/// The tables are in order, each lease that may end is noted, and the rows that have changed since
+/// the start, put into the farm as it then was, give the tables. Types and boards log their own. A step takes the draft and gives it back: one that fails for
 /// want of memory leaves none. Tables and changes lie in boxes, since they take some 550 bytes and a
 /// draft is moved a dozen times for each claim that is served.
 #[derive(Drop)]
@@ -50,13 +50,12 @@ impl Model for Draft {
       queues = d.tables.value.queues;
     } };
 
-    ghost invariant = { λ d. IsWhole (plain_farm d.start.value) d.changes.value
-        (plain_farm d.tables.value) d.tables.value.leases };
+    ghost invariant = { λ d. IsWhole (plain_farm d.start.value) d.changes.value d.tables.value };
 }
 
 impl Draft {
     /// A draft in which nothing has changed. It takes memory for two boxes, whatever the farm's size.
-    pub fn of(tables: Tables) -> Result<Draft, AllocError>
+    pub fn of(mut tables: Tables) -> Result<Draft, AllocError>
         requires orderly { IsOrderly (plain_farm tables) }
         requires noted { AreNoted tables.leases (plain_farm tables).reservations }
         ensures { IfOk result (λ d. d ≡ record {
@@ -67,6 +66,8 @@ impl Draft {
     {
         let start = Start::note(&tables);
         let alloc = *tables.types.allocator();
+        tables.types.take_changes();
+        tables.boards.take_changes();
         Ok(Draft {
             start,
             tables: Box::new(alloc, tables)?,
@@ -81,7 +82,11 @@ impl Draft {
         ensures queues { result.0.queues ≡ self.queues }
         ensures noted { AreNoted result.0.leases self.farm.reservations }
     {
-        (Box::into_inner(self.tables), Box::into_inner(self.changes))
+        let mut tables = Box::into_inner(self.tables);
+        let mut changes = Box::into_inner(self.changes);
+        changes.types = tables.types.take_changes();
+        changes.boards = tables.boards.take_changes();
+        (tables, changes)
     }
 
     /// The next job or reservation has that number.
@@ -98,7 +103,7 @@ impl Draft {
         ensures { IfOk result (λ d. d ≡ self) }
     {
         let free = self.tables.queues.free_count();
-        self.changes.boards.reserve(free)?;
+        self.tables.boards.reserve(free)?;
         self.changes.jobs.reserve(free)?;
         Ok(self)
     }
@@ -123,26 +128,6 @@ impl Draft {
     {
         self.tables.queues.take_claim(number);
         self
-    }
-
-    /// Puts a type.
-    pub fn put_type(mut self, row: TypeRow) -> Result<Draft, AllocError>
-        requires { IsSmallType row }
-        ensures { IfOk result (λ d. d ≡ at_farm (put_type self.farm row) self) }
-    {
-        self.changes.types.push(row.copy()?)?;
-        upsert(&mut self.tables.types, row)?;
-        Ok(self)
-    }
-
-    /// Puts a board.
-    pub fn put_board(mut self, row: BoardRow) -> Result<Draft, AllocError>
-        requires { IsSmallBoard row }
-        ensures { IfOk result (λ d. d ≡ at_farm (put_board self.farm row) self) }
-    {
-        self.changes.boards.push(row.copy()?)?;
-        upsert(&mut self.tables.boards, row)?;
-        Ok(self)
     }
 
     /// Puts a job. A row with the next number is added at the end, and moves none.

@@ -3,7 +3,8 @@ ghost use Rattle.std.specs.Prelude.{◌≡◌, ◌++◌, ◌≤◌, ◌<◌, ℕ
 ghost use Rattle.std.specs.List.{filter};
 ghost use Rattle.farm_types.specs.Table.{change_where};
 
-use farm_types::rows::{BoardRow, JobRow, ResRow};
+use farm_table::Edit;
+use farm_types::rows::{JobRow, ResRow};
 use std::alloc::AllocError;
 
 /// A row that can be copied for the log of changed rows.
@@ -13,12 +14,6 @@ pub trait Logged {
     /// An equal row.
     fn logged(&self) -> Result<Self, AllocError>
         ensures { IfOk result (λ copy. copy ≡ self.now) };
-}
-
-impl Logged for BoardRow {
-    fn logged(&self) -> Result<BoardRow, AllocError> {
-        self.copy()
-    }
 }
 
 impl Logged for JobRow {
@@ -31,23 +26,6 @@ impl Logged for ResRow {
     fn logged(&self) -> Result<ResRow, AllocError> {
         self.copy()
     }
-}
-
-/// A change of the rows that pass a test. Keys stay.
-pub trait Edit<R> {
-    ghost use Rattle.std.specs.Prelude.{◌≡◌, Bool, OnOk};
-
-    ghost passes: { Self → R → Bool };
-
-    ghost changed: { Self → R → R };
-
-    /// Whether the row changes.
-    fn passes(&self, row: &R) -> bool
-        ensures { result ≡ passes self.now row.now };
-
-    /// Changes the row.
-    fn change(&self, row: &mut R) -> Result<(), AllocError>
-        ensures { OnOk result (row.new ≡ changed self.now row.old) };
 }
 
 /// Changes the rows that pass, and logs each as it then is. Only the rows from `start` to `end` are

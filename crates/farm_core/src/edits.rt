@@ -97,13 +97,12 @@ impl Draft {
             }) self) }
     {
         let tables = &mut *self.tables;
-        let end = tables.boards.len();
         let held = OfJobs {
             jobs: tables.jobs.rows(),
             edit,
             becomes,
         };
-        change_rows(&mut tables.boards, &mut self.changes.boards, 0, end, &held)?;
+        tables.boards.change_where(&held)?;
         Ok(self)
     }
 
@@ -140,13 +139,12 @@ impl Draft {
             }) self) }
     {
         let tables = &mut *self.tables;
-        let end = tables.boards.len();
         let held = OfReservations {
             reservations: &tables.reservations,
             edit,
             becomes,
         };
-        change_rows(&mut tables.boards, &mut self.changes.boards, 0, end, &held)?;
+        tables.boards.change_where(&held)?;
         Ok(self)
     }
 

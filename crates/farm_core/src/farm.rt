@@ -128,14 +128,14 @@ impl Farm {
     pub fn types(&self) -> &[TypeRow]
         ensures { result.now ≡ self.now.farm.types }
     {
-        self.tables.types.as_slice()
+        self.tables.types.rows()
     }
 
     /// The boards in name order.
     pub fn boards(&self) -> &[BoardRow]
         ensures { result.now ≡ self.now.farm.boards }
     {
-        self.tables.boards.as_slice()
+        self.tables.boards.rows()
     }
 
     /// The reservations in order of number.

@@ -46,7 +46,7 @@ impl Tables {
         ensures farm { plain_farm self.new ≡ plain_farm self.old }
         ensures queues { OnOk result (self.new.queues ≡ lists_of (plain_farm self.old)) }
     {
-        note_boards(&mut self.queues, &self.types, &self.boards)?;
+        note_boards(&mut self.queues, self.types.rows(), self.boards.rows())?;
         let alloc = *self.boards.allocator();
         let mut claims = farm_pick::queue_of(alloc, self.jobs.rows(), &self.reservations)?;
         while let Some(claim) = claims.pop() {

@@ -64,7 +64,7 @@ impl Draft {
         }) }
     {
         let tables = &mut *self.tables;
-        note_boards(&mut tables.queues, &tables.types, &self.changes.boards)?;
+        note_boards(&mut tables.queues, tables.types.rows(), tables.boards.log())?;
         Ok(self)
     }
 

@@ -1,59 +1,50 @@
 //! Boards are given to jobs and reservations.
 ghost use Rattle.std.specs.Prelude.{◌≡◌, ◌≤◌, ◌∷◌, [], OnOk, IfOk};
 ghost use Rattle.std.specs.List.{AllByRecursion, fold, zip};
-ghost use Rattle.std.specs.List.Sorted.{IsStrictlySortedBy};
 ghost use Rattle.std.specs.Str.{bytes_eq};
 ghost use Rattle.farm_types.specs.Limits.{last_moment};
-ghost use Rattle.farm_types.specs.Table.{board_cmp, change_where};
+ghost use Rattle.farm_types.specs.Table.{change_where};
 ghost use Rattle.farm_types.specs.Farm.{Farm};
 ghost use Rattle.farm_types.specs.Pass.{held_board};
 ghost use Rattle.farm_types.specs.Small.{IsSmall, held_by};
 ghost use Rattle.farm_types.specs.declared.rows.JobState.{JobState};
 ghost use Rattle.farm_types.specs.declared.rows.State.{State};
+ghost use Rattle.farm_core.specs.Came.{CameTo, seen, seen_at};
 ghost use Rattle.farm_core.specs.Drafted.{at_farm};
 ghost use Rattle.farm_core.specs.Plain.{plain_farm};
-ghost use Rattle.farm_core.specs.Orderly.{IsOrderly, IsWindow};
 ghost use Rattle.farm_core.specs.Serving.{give_named, give_first};
 ghost use Rattle.farm_core.specs.Tracks.{Tracks};
 
 use crate::draft::Draft;
-use crate::edit::change_rows;
 use crate::held::Hold;
 use crate::job_edit::JobEdit;
 use crate::res_edit::ResEdit;
 use crate::tables::Tables;
-use farm_sound::seek;
 use farm_types::calls::Changes;
 use farm_types::limits::LEASE;
-use farm_types::rows::{BoardRow, Holder, JobState};
+use farm_types::rows::{Holder, JobState};
 use farm_types::words::Name;
 use std::alloc::AllocError;
 
-/// How many boards are looked at one by one before a binary search.
-const NEARBY: usize = 8;
-
-/// From where to where the board of a name stands, one place or none: it is one of the few from a
-/// guess on, or else looked for by binary search.
-fn window_of(boards: &[BoardRow], guess: usize, name: &Name) -> (usize, usize)
-    requires { IsStrictlySortedBy board_cmp boards.now }
-    ensures { IsWindow (λ b. bytes_eq b.name name.now) boards.now result.0 result.1 }
-{
-    let end = guess.saturating_add(NEARBY).min(boards.len());
-    for at in guess..end {
-        if boards[at].name.is(name) {
-            return (at, at + 1);
-        }
-    }
-    match seek::board_at(boards, name) {
-        Ok(at) => (at, at + 1),
-        Err(_) => (0, 0),
+impl Tables {
+    /// The board of that name is reserved for a holder. It is looked for where the first free board
+    /// stands if none that is held stands behind one that is free: claims get the first boards that
+    /// fit. With B boards it costs O(log B) at most.
+    fn hold_board(&mut self, name: &Name, holder: Holder) -> Result<(), AllocError>
+        requires { IsSmall (held_by holder) }
+        ensures { OnOk result (CameTo self.old (seen_at (record (plain_farm self.old) {
+          boards = change_where (λ c. bytes_eq c.name name.now)
+              (held_board holder State.Reserved) (plain_farm self.old).boards;
+        }) (seen self.old)) self.new) }
+    {
+        let guess = self.boards.len().saturating_sub(self.queues.free_count());
+        self.boards.change_near(guess, name, &Hold { holder })?;
+        Ok(())
     }
 }
 
 impl Draft {
-    /// The board of that name is reserved for a holder. It is looked for where the first free board
-    /// stands if none that is held stands behind one that is free: claims get the first boards that
-    /// fit. With B boards it costs O(log B) at most.
+    /// The board of that name is reserved for a holder.
     pub fn hold_board(mut self, name: &Name, holder: Holder) -> Result<Draft, AllocError>
         requires { IsSmall (held_by holder) }
         ensures { IfOk result
@@ -63,20 +54,7 @@ impl Draft {
                   (held_board holder State.Reserved) self.farm.boards;
             }) self) }
     {
-        let tables = &mut *self.tables;
-        let guess = tables
-            .boards
-            .len()
-            .saturating_sub(tables.queues.free_count());
-        let (start, end) = window_of(&tables.boards, guess, name);
-        let hold = Hold { name, holder };
-        change_rows(
-            &mut tables.boards,
-            &mut self.changes.boards,
-            start,
-            end,
-            &hold,
-        )?;
+        self.tables.hold_board(name, holder)?;
         Ok(self)
     }
 

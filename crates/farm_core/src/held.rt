@@ -5,13 +5,12 @@ ghost use Rattle.std.proofs.Props.{props};
 ghost use Rattle.farm_types.specs.Table.{job_cmp, res_cmp};
 ghost use Rattle.farm_types.specs.Change.{graded_board, after_job, after_check};
 
-use crate::edit::Edit;
 use crate::job_edit::JobEdit;
 use crate::res_edit::ResEdit;
 use farm_sound::seek;
+use farm_table::Edit;
 use farm_types::limits::MOST_JOBS_SINCE;
 use farm_types::rows::{BoardRow, Health, Holder, JobRow, Outcome, ResRow, State};
-use farm_types::words::Name;
 use std::alloc::AllocError;
 
 /// What becomes of a board.
@@ -159,24 +158,23 @@ impl Edit<BoardRow> for OfReservations<'_> {
     }
 }
 
-/// The board of a name is reserved for a holder.
+/// The board is reserved for a holder.
 #[derive(Drop)]
-pub struct Hold<'a> {
-    pub name: &'a Name,
+pub struct Hold {
     pub holder: Holder,
 }
 
-impl Edit<BoardRow> for Hold<'_> {
-    ghost use Rattle.std.specs.Str.{bytes_eq};
+impl Edit<BoardRow> for Hold {
+    ghost use Rattle.std.specs.Prelude.{true};
     ghost use Rattle.farm_types.specs.Pass.{held_board};
     ghost use Rattle.farm_types.specs.declared.rows.State.{State};
 
-    ghost passes = { λ e b. bytes_eq b.name e.name.now };
+    ghost passes = { λ e b. true };
 
     ghost changed = { λ e. held_board e.holder State.Reserved };
 
-    fn passes(&self, row: &BoardRow) -> bool {
-        row.name.is(self.name)
+    fn passes(&self, _row: &BoardRow) -> bool {
+        true
     }
 
     fn change(&self, row: &mut BoardRow) -> Result<(), AllocError> {

@@ -2,7 +2,7 @@
 ghost use Rattle.std.specs.Prelude.{◌≡◌};
 ghost use Rattle.farm_types.specs.Change.{is_unstarted};
 
-use crate::edit::Edit;
+use farm_table::Edit;
 use farm_types::rows::{JobRow, JobState, Outcome};
 use farm_types::words::Name;
 use std::alloc::AllocError;
@@ -86,8 +86,9 @@ impl Edit<JobRow> for JobEdit<'_> {
                 row.outcome = Some(outcome);
             }
             JobEdit::Place(state, _, board) => {
+                let board = board.copy()?;
                 row.state = state;
-                row.board = Some(board.copy()?);
+                row.board = Some(board);
             }
             JobEdit::Back(_) => {
                 row.state = JobState::Submitted;

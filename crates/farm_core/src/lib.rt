@@ -2,7 +2,8 @@
 //!
 //! Read `specs/` in the order Plain, Shown, Answers, which say what callers see; then Replies, how
 //! kept replies are kept, and Marks, what stands beside each job; then Calls, Orderly, Leases,
-//! Tracks, Drafted, Following, Edits, Serving, Ahead, which say what a command keeps on its way.
+//! Tracks, Drafted, Came, Following, Edits, Serving, Ahead, which say what a command keeps on its
+//! way.
 #![tactic(auto)]
 
 mod ahead;

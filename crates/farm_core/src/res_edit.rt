@@ -2,7 +2,7 @@
 ghost use Rattle.std.specs.Prelude.{◌≡◌};
 ghost use Rattle.farm_types.specs.Pass.{is_dead};
 
-use crate::edit::Edit;
+use farm_table::Edit;
 use farm_types::rows::{ResRow, ResState};
 use farm_types::words::Name;
 use std::alloc::AllocError;
@@ -64,8 +64,9 @@ impl Edit<ResRow> for ResEdit<'_> {
             ResEdit::End(_) => row.state = ResState::Expired,
             ResEdit::Expire(_) => row.state = ResState::Expired,
             ResEdit::Allocate(_, board, deadline) => {
+                let board = board.copy()?;
                 row.state = ResState::Allocated;
-                row.board = Some(board.copy()?);
+                row.board = Some(board);
                 row.deadline = deadline;
             }
         }

@@ -32,7 +32,10 @@ impl Tables {
         ensures { result ≡ list_any (λ b. fits b (record { kind = None; tags = tags.now })
             && not_retired b) (plain_farm self.now).boards }
     {
-        self.boards.iter().any(|board| may_serve(board, tags))
+        self.boards
+            .rows()
+            .iter()
+            .any(|board| may_serve(board, tags))
     }
 
     /// Why a reservation isn't made. With B boards it costs O(B), and no memory.

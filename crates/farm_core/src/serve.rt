@@ -101,7 +101,7 @@ impl Tables {
     {
         let mut names = Vec::new(*self.boards.allocator());
         for place in places {
-            if let Some(board) = self.boards.get(*place) {
+            if let Some(board) = self.boards.rows().get(*place) {
                 names.push(board.name.copy()?)?;
             }
         }
@@ -111,7 +111,6 @@ impl Tables {
     /// The names of the least list of free boards that meets some wants. At most 4 tests a free
     /// board.
     pub fn pick(&self, wants: &[&Want]) -> Result<Option<Vec<Name>>, AllocError>
-        requires orderly { IsOrderly (plain_farm self.now) }
         requires free { self.now.queues.boards ≡ idle_boards (plain_farm self.now) }
         requires few { length wants.now ≤ most_wants }
         ensures { IfOk result (λ picked. option_map (λ names. names.items) picked
@@ -119,7 +118,8 @@ impl Tables {
             (least (plain_farm self.now).boards (is_free (plain_farm self.now).types)
             (map (λ w. w.now) wants.now))) }
     {
-        match self.queues.least_of(&self.boards, &self.types, wants) {
+        let (boards, types) = (self.boards.rows(), self.types.rows());
+        match self.queues.least_of(boards, types, wants) {
             None => Ok(None),
             Some(picked) => Ok(Some(self.names_at(picked.places())?)),
         }
@@ -127,7 +127,6 @@ impl Tables {
 
     /// The names of the boards for a group, whose members are among some rows.
     fn pick_for_group(&self, near: &[JobRow], group: u64) -> Result<Option<Vec<Name>>, AllocError>
-        requires orderly { IsOrderly (plain_farm self.now) }
         requires near { filter (λ j. j.group == group) near.now ≡ members (plain_farm self.now) group }
         requires few { length near.now ≤ most_wants }
         requires free { self.now.queues.boards ≡ idle_boards (plain_farm self.now) }

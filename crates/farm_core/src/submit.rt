@@ -14,7 +14,6 @@ ghost use Rattle.farm_pick.specs.Queued.{first_kind};
 ghost use Rattle.farm_core.specs.Edits.{text_at};
 ghost use Rattle.farm_core.specs.Drafted.{at_farm, Acts, IsFresh};
 ghost use Rattle.farm_core.specs.Plain.{plain_farm};
-ghost use Rattle.farm_core.specs.Orderly.{IsOrderly};
 
 use crate::draft::Draft;
 use crate::tables::Tables;
@@ -88,7 +87,6 @@ fn member_text(alloc: Global, place: usize, body: &Body) -> Result<Body, AllocEr
 impl Tables {
     /// Whether a type is named that isn't there.
     fn lacks_type(&self, kind: &Option<Name>) -> bool
-        requires { IsOrderly (plain_farm self.now) }
         ensures { result ≡ option_map_or (λ kind. is_none (type_of (plain_farm self.now) kind)) kind.now
             false }
     {
@@ -100,14 +98,12 @@ impl Tables {
 
     /// Whether some want names a type that isn't there.
     fn lacks_types(&self, wants: &[Want]) -> bool
-        requires { IsOrderly (plain_farm self.now) }
         ensures { result
             ≡ list_any (λ w. option_map_or (λ kind. is_none (type_of (plain_farm self.now) kind)) w.kind
             false) wants.now }
     {
         wants.iter().any(
             |want: &Want| -> bool
-                requires { IsOrderly (plain_farm self.now) }
                 ensures { result ≡ option_map_or
                     (λ kind. is_none (type_of (plain_farm self.entry.now) kind)) want.now.kind false }
             { self.lacks_type(&want.kind) },
@@ -116,13 +112,13 @@ impl Tables {
 
     /// Why a group isn't submitted. With B boards and at most four wants it costs O(B).
     pub fn refuse_submit(&self, wants: &Wants) -> Option<u16>
-        requires { IsOrderly (plain_farm self.now) }
         ensures { result ≡ first_code (submit_reasons (plain_farm self.now) wants.now) }
     {
         if self.lacks_types(wants.items()) {
             return Some(NO_TYPE);
         }
-        if farm_pick::least(&self.boards, &self.types, wants, Free::NotRetired).is_none() {
+        let (boards, types) = (self.boards.rows(), self.types.rows());
+        if farm_pick::least(boards, types, wants, Free::NotRetired).is_none() {
             return Some(NO_SUCH_BOARDS);
         }
         None

@@ -1,13 +1,12 @@
 //! The tables of a farm, and what is looked up in them.
-ghost use Rattle.std.specs.Prelude.{◌≡◌, [], IfOk, option_map};
-ghost use Rattle.std.specs.List.Sorted.{IsStrictlySortedBy};
+ghost use Rattle.std.specs.Prelude.{◌≡◌, [], IfOk, IfSome, option_map};
 ghost use Rattle.std.specs.Option.{option_copied};
-ghost use Rattle.farm_types.specs.Table.{kept_cmp};
 ghost use Rattle.farm_types.specs.Farm.{Farm, empty_farm, farm_of, type_of, board_of};
 ghost use Rattle.farm_types.specs.Refuse.{kept_for};
+ghost use Rattle.farm_types.specs.Small.{IsSmallBoard};
+ghost use Rattle.farm_types.specs.Sound.{IsSound};
 ghost use Rattle.farm_pick.specs.Queued.{lists_of};
 ghost use Rattle.farm_core.specs.Plain.{plain_farm};
-ghost use Rattle.farm_core.specs.Orderly.{IsOrderly};
 ghost use Rattle.farm_core.specs.Replies.{kept_reply};
 ghost use Rattle.farm_core.specs.Tracks.{Tracks};
 
@@ -15,10 +14,9 @@ use crate::job_table::JobTable;
 use crate::kept::{Kept, KeptReply};
 use crate::leases::Lease;
 use farm_pick::Queues;
-use farm_sound::seek;
+use farm_table::Table;
 use farm_types::calls::{Call, Changes, Rows};
 use farm_types::rows::{BoardRow, MetaRow, ResRow, TypeRow};
-use farm_types::table::upsert;
 use farm_types::words::Name;
 use std::alloc::{AllocError, Global};
 use std::collections::BTreeSet;
@@ -28,8 +26,8 @@ use std::fmt;
 /// jobs and reservations in order of number.
 #[derive(Drop)]
 pub struct Tables {
-    pub types: Vec<TypeRow>,
-    pub boards: Vec<BoardRow>,
+    pub types: Table<TypeRow>,
+    pub boards: Table<BoardRow>,
     pub jobs: JobTable,
     pub reservations: Vec<ResRow>,
     pub kept: Kept,
@@ -52,8 +50,8 @@ pub struct Tables {
 impl fmt::Debug for Tables {
     fn fmt<W: fmt::Write>(&self, f: &mut fmt::Formatter<W>) -> fmt::Result {
         f.debug_struct("Tables")
-            .field("types", &self.types)
-            .field("boards", &self.boards)
+            .field("types", &self.types.rows())
+            .field("boards", &self.boards.rows())
             .field("jobs", &self.jobs.rows())
             .field("reservations", &self.reservations)
             .field("kept", &self.kept)
@@ -91,8 +89,8 @@ impl Tables {
         ensures queues { result.queues ≡ lists_of empty_farm }
     {
         Tables {
-            types: Vec::new(alloc),
-            boards: Vec::new(alloc),
+            types: Table::new(alloc),
+            boards: Table::new(alloc),
             jobs: JobTable::new(alloc),
             reservations: Vec::new(alloc),
             kept: Kept::new(alloc),
@@ -105,10 +103,10 @@ impl Tables {
         }
     }
 
-    /// The tables of some rows, with empty queues and no leases. It takes memory for the kept
+    /// The tables of a sound farm's rows, with empty queues and no leases. It takes memory for the kept
     /// replies and for the marks of the jobs.
     pub fn of(rows: Rows) -> Result<Tables, AllocError>
-        requires { IsStrictlySortedBy kept_cmp rows.kept.items }
+        requires { IsSound (farm_of rows) }
         ensures farm { IfOk result (λ t. plain_farm t ≡ farm_of rows) }
         ensures queues { IfOk result (λ t. t.queues ≡ record { claims = []; boards = [] }) }
     {
@@ -116,8 +114,8 @@ impl Tables {
         let kept = Kept::of(rows.kept)?;
         let jobs = JobTable::of(alloc, rows.jobs)?;
         Ok(Tables {
-            types: rows.types,
-            boards: rows.boards,
+            types: Table::of(rows.types),
+            boards: Table::of(rows.boards),
             jobs,
             reservations: rows.reservations,
             kept,
@@ -132,18 +130,17 @@ impl Tables {
 
     /// The type of that name, by binary search.
     pub fn find_type(&self, name: &Name) -> Option<&TypeRow>
-        requires { IsOrderly (plain_farm self.now) }
         ensures { option_copied result ≡ type_of (plain_farm self.now) name.now }
     {
-        seek::type_of(&self.types, name)
+        self.types.find(name)
     }
 
     /// The board of that name, by binary search.
     pub fn find_board(&self, name: &Name) -> Option<&BoardRow>
-        requires { IsOrderly (plain_farm self.now) }
-        ensures { option_copied result ≡ board_of (plain_farm self.now) name.now }
+        ensures found { option_copied result ≡ board_of (plain_farm self.now) name.now }
+        ensures small { IfSome result (λ board. IsSmallBoard board.now) }
     {
-        seek::board_of(&self.boards, name)
+        self.boards.find(name)
     }
 
     /// What is kept for the call's caller and key, if the call has a key.

@@ -1,15 +1,12 @@
 //! The command on types.
-ghost use Rattle.std.specs.Prelude.{◌≡◌, [], IfOk, IsTrue};
+ghost use Rattle.std.specs.Prelude.{◌≡◌, IsTrue, OnOk};
+ghost use Rattle.farm_types.specs.Farm.{put_type};
 ghost use Rattle.farm_types.specs.Proper.{is_frequency};
 ghost use Rattle.farm_types.specs.Refuse.{first_code, add_type_reasons};
-ghost use Rattle.farm_types.specs.declared.calls.Cmd.{Cmd};
-ghost use Rattle.farm_core.specs.Drafted.{Acts};
+ghost use Rattle.farm_core.specs.Came.{CameTo, seen, seen_at};
 ghost use Rattle.farm_core.specs.Plain.{plain_farm};
-ghost use Rattle.farm_core.specs.Orderly.{IsOrderly};
 
-use crate::draft::Draft;
 use crate::tables::Tables;
-use farm_types::calls::Changes;
 use farm_types::refusal::TYPE_EXISTS;
 use farm_types::rows::{Check, TypeRow};
 use farm_types::words::Name;
@@ -18,7 +15,6 @@ use std::alloc::AllocError;
 impl Tables {
     /// Why a type of that name isn't added.
     pub fn refuse_add_type(&self, name: &Name) -> Option<u16>
-        requires { IsOrderly (plain_farm self.now) }
         ensures { result ≡ first_code (add_type_reasons (plain_farm self.now) name.now) }
     {
         if self.find_type(name).is_some() {
@@ -26,18 +22,15 @@ impl Tables {
         }
         None
     }
-}
 
-impl Draft {
     /// Adds a type.
-    pub fn add_type(self, name: &Name, check: Check) -> Result<(Draft, u64), AllocError>
+    pub fn add_type(&mut self, name: &Name, check: Check) -> Result<(), AllocError>
         requires { IsTrue (is_frequency check) }
-        ensures { IfOk result (λ r. Acts self [] (Cmd.AddType name.now check) r.1 r.0) }
+        ensures { OnOk result (CameTo self.old (seen_at (put_type (plain_farm self.old)
+            (record { name = name.now; check = check })) (seen self.old)) self.new) }
     {
-        let row = TypeRow {
-            name: name.copy()?,
-            check,
-        };
-        Ok((self.put_type(row)?, 0))
+        let name = name.copy()?;
+        self.types.put(TypeRow { name, check })?;
+        Ok(())
     }
 }

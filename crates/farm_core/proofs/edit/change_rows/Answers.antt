@@ -1,6 +1,7 @@
 use Rattle.std.proofs.Common.{◌++◌, ◌<◌, length, sym, ap, ◌∙◌, arith}
 use Rattle.std.proofs.lemmas.List.{append-nil}
-use Rattle.farm_core.proofs.Upto.{upto_none, upto_all, upto_long, stepped, changed_at}
+use Rattle.farm_table.proofs.Upto.{upto_long}
+use Rattle.farm_core.proofs.Upto.{upto_none, upto_all, stepped, changed_at}
 use Rattle.farm_core.proofs.edit.change_rows.Goals as goal
 use Rattle.farm_core.proofs.edit.change_rows.Goals.{then-passes+in_ok-change+in_ok-logged+in_ok-push, else-passes}
 
@@ -15,7 +16,7 @@ loop-at-preserved g c =
     let step = stepped (g.E.Edit.passes c.args.edit.now) (g.E.Edit.changed c.args.edit.now) c.loop-at.at c.args.rows.now.items c.loop-at.rows.items c.index.result.now c.loop-at.invariant.rows (omega arith) c.index.ensures in
     elim c.if-passes.branch [
       | then-passes+in_ok-change+in_ok-logged+in_ok-push w ↦
-          let now = changed_at (g.E.Edit.passes c.args.edit.now) (g.E.Edit.changed c.args.edit.now) c.loop-at.at c.args.rows.now.items c.loop-at.rows.items c.args.log.now.items c.loop-at.log.items c.index.result.now w.index_mut.result.now w.change.new.row w.in_ok-logged.field-0 step (sym w.if-passes.ensures) long c.index.ensures w.index_mut.ensures.value w.in_ok-change.ensures
+          let now = changed_at (g.E.Edit.passes c.args.edit.now) (g.E.Edit.changed c.args.edit.now) c.loop-at.at c.args.rows.now.items c.loop-at.rows.items c.args.log.now.items c.loop-at.log.items c.index.result.now w.index_mut.result.now w.change.new.row w.in_ok-logged.field-0 step (sym w.if-passes.ensures) long c.index.ensures w.index_mut.ensures.value w.in_ok-change.ensures.done
           (rw w.in_ok-logged.ensures w.index-then-passes.ensures) c.loop-at.invariant.log in
           record { rows = rw w.rows-is now.0; log = rw w.log-is (w.in_ok-push.ensures.items ∙ now.1) }
       | else-passes w ↦

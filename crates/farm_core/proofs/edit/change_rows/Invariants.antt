@@ -1,5 +1,6 @@
 use Rattle.std.proofs.Common.{◌≡◌, ◌++◌}
-use Rattle.farm_core.proofs.Upto.{upto, logged}
+use Rattle.farm_table.specs.Tabled.{upto}
+use Rattle.farm_core.proofs.Upto.{logged}
 use Rattle.farm_core.proofs.edit.change_rows.Given as goal
 
 abbrev pub invariant-loop-at : goal.invariant-loop-at

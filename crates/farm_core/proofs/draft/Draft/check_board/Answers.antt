@@ -18,9 +18,9 @@ returns c = λ b is.
     let T = c.deref-tables.result.now in
     let here : plain_farm T ≡ D.farm = ap (λ (D : Drafted). D.farm) (seen c.deref-tables.ensures c.self.view_is) in
     let next : T.next ≡ D.farm.next = ap (λ (F : Farm). F.next) here in
-    let low : c.args.at < length T.boards.items = subst (λ (F : Farm). c.args.at < length F.boards) (sym here) c.requires in
-    let same : c.index-board.result.now ≡ b =
-    get_or_read T.boards.items c.args.at c.index-board.result.now low c.index-board.ensures b ∙ ap (λ (F : Farm). get_or F.boards c.args.at b) here ∙ sym is in
+    let low : c.args.at < length T.boards.rows = subst (λ (F : Farm). c.args.at < length F.boards) (sym here) c.requires in
+    let same : c.index-rows-at.result ≡ b =
+    get_or_read T.boards.rows c.args.at c.index-rows-at.result low (c.index-rows-at.is ∙ ap (λ bs. get_or bs c.args.at c.index-rows-at.result) c.rows.ensures.rows) b ∙ ap (λ (F : Farm). get_or F.boards c.args.at b) here ∙ sym is in
     let room : true ≡ has_room D.farm 1 = c.if-not-has_room.ensures ∙ ap (λ (F : Farm). has_room F 1) here in
     let added : c.in_ok-draft.draft ≡ at_farm (record D.farm { jobs = put job_cmp D.farm.jobs (check_job D.farm.next b) }) D =
     c.in_ok-draft.ensures ∙ ap (λ row. at_farm (record D.farm { jobs = put job_cmp D.farm.jobs row }) D) (c.in_ok-row.ensures ∙ (λ i. check_job (next i) (same i))) in

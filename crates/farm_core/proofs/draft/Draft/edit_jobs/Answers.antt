@@ -7,7 +7,7 @@ use Rattle.farm_core.specs.Plain.{plain_farm}
 use Rattle.farm_core.specs.Edits.{job_passes, job_changed, first_of}
 use Rattle.farm_core.specs.Orderly.{IsOrderly}
 use Rattle.farm_core.proofs.Windows.{none_before, none_behind, places_rise}
-use Rattle.farm_core.proofs.Tabled.{whole_jobs}
+use Rattle.farm_core.proofs.Tabled.{logged_jobs, orderly_jobs, whole_jobs}
 use Rattle.farm_core.proofs.EditLemmas.{keeps_job}
 use Rattle.farm_core.proofs.draft.Draft.edit_jobs.Goals as goal
 
@@ -35,8 +35,11 @@ change-requires-clause-behind c =
 pub invariant_of-self : goal.invariant_of-self
 invariant_of-self c =
     let edit = c.args.edit in
-    let was : c.replace-former.result ≡ c.self.inside.tables.value.jobs =
-    c.replace-former.ensures.value ∙ ap (λ (T : Tables). T.jobs) c.deref_mut-tables.ensures.value in
-    rw (c.deref_mut-tables.ensures.value, c.deref_mut.ensures.value) (whole_jobs (plain_farm c.self.inside.tables.value) (job_passes edit) (job_changed edit) (keeps_job edit) c.self.invariant.orderly
-    c.in_ok-jobs.jobs (c.in_ok-jobs.ensures.rows ∙ ap (change_where (job_passes edit) (job_changed edit)) was) c.change.new.log
-    (rw (← c.deref_mut.ensures.value) c.in_ok-jobs.ensures.log ∙ ap (λ rows. c.self.inside.changes.value.jobs.items ++ map (job_changed edit) (filter (job_passes edit) rows)) was) c.self.invariant.tracked c.self.invariant.noted)
+    let T = c.self.inside.tables.value in
+    let whole = c.self.invariant in
+    let was : c.replace-former.result ≡ T.jobs = c.replace-former.ensures.value ∙ ap (λ (T : Tables). T.jobs) c.deref_mut-tables.ensures.value in
+    let is = c.in_ok-jobs.ensures.rows ∙ ap (change_where (job_passes edit) (job_changed edit)) was in
+    let logged = rw (← c.deref_mut.ensures.value) c.in_ok-jobs.ensures.log ∙ ap (λ rows. c.self.inside.changes.value.jobs.items ++ map (job_changed edit) (filter (job_passes edit) rows)) was in
+    rw (c.deref_mut-tables.ensures.value, c.deref_mut.ensures.value) (whole_jobs T whole c.in_ok-jobs.jobs c.change.new.log
+    (orderly_jobs T.jobs T.reservations.items T.kept whole.orderly (job_passes edit) (job_changed edit) (keeps_job edit) c.in_ok-jobs.jobs is)
+    (logged_jobs T.jobs T.reservations.items T.kept whole.orderly (job_passes edit) (job_changed edit) (keeps_job edit) c.in_ok-jobs.jobs is _ _ c.change.new.log.items whole.jobs logged))

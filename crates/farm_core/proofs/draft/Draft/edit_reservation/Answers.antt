@@ -1,13 +1,13 @@
-use Rattle.std.proofs.Common.{rules, ◌∙◌, ◌+◌, ◌≤◌, filter, length, map, subst, sym}
+use Rattle.std.proofs.Common.{rules, ◌≡◌, ◌∙◌, ◌+◌, ◌++◌, ◌≤◌, filter, length, map, subst, sym}
+use Rattle.farm_types.specs.Table.{change_where}
 use Rattle.farm_types.specs.declared.rows.ResRow.{ResRow}
 use Rattle.farm_core.specs.Edits.{res_changed, res_passes}
 use Rattle.farm_core.specs.Leases.{AreNoted}
 use Rattle.farm_core.specs.Orderly.{IsPlaceOf}
-use Rattle.farm_core.specs.Plain.{plain_farm}
 use Rattle.farm_core.proofs.EditLemmas.{keeps_res}
 use Rattle.farm_core.proofs.Given.{logged_behind}
 use Rattle.farm_core.proofs.Leasing.{noted_changed}
-use Rattle.farm_core.proofs.Tabled.{whole_reservations}
+use Rattle.farm_core.proofs.Tabled.{logged_reservations, orderly_reservations, whole_reservations}
 use Rattle.farm_core.proofs.Windows.{places_rise}
 use Rattle.farm_core.proofs.draft.Draft.edit_reservation.Goals as goal
 
@@ -32,5 +32,14 @@ noted c =
 
 pub invariant_of-self : goal.invariant_of-self
 invariant_of-self c =
-    rw (c.deref_mut-tables.ensures.value, c.deref_mut-changes.ensures.value) (whole_reservations (plain_farm c.self.inside.tables.value) (res_passes c.args.edit) (res_changed c.args.edit) (keeps_res c.args.edit) c.requires.small c.self.invariant.orderly
-    c.change_rows.new.rows.items (rw (← c.deref_mut-tables.ensures.value) c.in_ok-change_rows.ensures.rows) c.change_rows.new.log (rw (← c.deref_mut-tables.ensures.value, ← c.deref_mut-changes.ensures.value) c.in_ok-change_rows.ensures.log) c.self.invariant.tracked (noted c))
+    let edit = c.args.edit in
+    let T = c.self.inside.tables.value in
+    let whole = c.self.invariant in
+    let rows = T.reservations.items in
+    let new = c.change_rows.new.rows.items in
+    let is : new ≡ change_where (res_passes edit) (res_changed edit) rows = rw (← c.deref_mut-tables.ensures.value) c.in_ok-change_rows.ensures.rows in
+    let logged : c.change_rows.new.log.items ≡ c.self.inside.changes.value.reservations.items ++ map (res_changed edit) (filter (res_passes edit) rows) = rw (← c.deref_mut-tables.ensures.value, ← c.deref_mut-changes.ensures.value) c.in_ok-change_rows.ensures.log in
+    rw (c.deref_mut-tables.ensures.value, c.deref_mut-changes.ensures.value) (whole_reservations T whole c.change_rows.new.rows c.note_leases.new.leases c.change_rows.new.log
+    (orderly_reservations T.jobs rows T.kept whole.orderly (res_passes edit) (res_changed edit) (keeps_res edit) c.requires.small new is)
+    (logged_reservations T.jobs rows T.kept whole.orderly (res_passes edit) (res_changed edit) (keeps_res edit) c.requires.small new is _ _ c.change_rows.new.log.items whole.reservations logged)
+    (noted c))

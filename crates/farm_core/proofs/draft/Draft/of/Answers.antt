@@ -1,5 +1,16 @@
+use Rattle.std.proofs.Common.{refl}
 use Rattle.farm_core.specs.Plain.{plain_farm}
 use Rattle.farm_core.proofs.draft.Draft.of.Goals as goal
 
 pub invariant_of-result : goal.invariant_of-result
-invariant_of-result c = rw (c.note-start.ensures, c.in_ok-new.ensures.ok, c.in_ok-new-2.ensures.ok) (record { orderly = c.requires.orderly; tracked = c.no_changes.ensures (plain_farm c.args.tables); noted = c.requires.noted })
+invariant_of-result c =
+    let tracks = c.no_changes.ensures (plain_farm c.args.tables) in
+    rw (c.note-start.ensures, c.in_ok-new.ensures.ok, c.in_ok-new-2.ensures.ok) (record {
+      orderly = c.requires.orderly;
+      types = rw c.take_changes.ensures.rests refl;
+      boards = rw c.take_changes-2.ensures.rests refl;
+      jobs = record { leads = tracks.jobs; fit = tracks.small.jobs };
+      reservations = record { leads = tracks.reservations; fit = tracks.small.reservations };
+      kept = record { leads = tracks.kept; fit = tracks.small.kept };
+      noted = c.requires.noted;
+    })

@@ -25,20 +25,7 @@ pub of-requires-clause-noted : goal.of-requires-clause-noted
 of-requires-clause-noted c = rw c.replace.ensures.value c.requires.noted
 
 pub of-requires-clause-orderly : goal.of-requires-clause-orderly
-of-requires-clause-orderly c =
-    let o = IsOrderly-sound (plain_farm c.args.self.now) c.requires.sound in
-    rw c.replace.ensures.value (record {
-      types = o.types;
-      boards = o.boards;
-      jobs = o.jobs;
-      reservations = o.reservations;
-      kept = o.kept;
-      near = o.near;
-      small_types = o.small_types;
-      small_boards = o.small_boards;
-      small_jobs = o.small_jobs;
-      small_reservations = o.small_reservations;
-    })
+of-requires-clause-orderly c = rw c.replace.ensures.value (IsOrderly-sound (plain_farm c.args.self.now) c.requires.sound)
 
 pub act-requires-clause-sound : goal.act-requires-clause-sound
 act-requires-clause-sound c =

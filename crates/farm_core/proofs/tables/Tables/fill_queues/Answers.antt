@@ -17,9 +17,9 @@ loop-claim-init c =
       farm = refl;
       fills = fills_begin F c.requires.sound c.note_boards.new.queues c.in_ok-claims.claims.items
           (c.in_ok-note_boards.ensures
-          ∙ (λ i. record (c.requires.empty i) { boards = fold (free_boards_with (c.deref.ensures.value i)) (c.requires.empty i).boards (c.deref-2.ensures.value i) })
+          ∙ (λ i. record (c.requires.empty i) { boards = fold (free_boards_with (c.rows.ensures.rows i)) (c.requires.empty i).boards (c.rows-2.ensures.rows i) })
           ∙ ap (λ bs. record { claims = []; boards = bs }) (noted_whole F.types F.boards c.requires.sound.steady.boards_sorted))
-          (c.in_ok-claims.ensures F c.requires.sound.steady (sym c.rows.ensures) (sym c.deref-3.ensures.value));
+          (c.in_ok-claims.ensures F c.requires.sound.steady (sym c.rows-3.ensures) (sym c.deref.ensures.value));
     }
 
 pub put_waiting-requires-clause-fresh : goal.put_waiting-requires-clause-fresh

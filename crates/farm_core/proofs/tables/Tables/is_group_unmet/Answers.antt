@@ -15,6 +15,6 @@ is_like_group-requires-clause-orderly c = IsOrderly-sound (plain_farm c.args.sel
 
 pub returns-then-is_like_group : goal.returns-then-is_like_group
 returns-then-is_like_group c = λ so.
-    ap (λ ms. least c.args.self.now.boards.items (is_free c.args.self.now.types.items) (map (λ (m : JobRow). m.want) ms)) (sym c.near_from-rows.ensures.members)
+    ap (λ ms. least c.args.self.now.boards.rows (is_free c.args.self.now.types.rows) (map (λ (m : JobRow). m.want) ms)) (sym c.near_from-rows.ensures.members)
     ∙ like_unmet (plain_farm c.args.self.now) c.claims-known-items.result.now (member_wants c.near_from-rows.result.now c.args.group) c.loop-known.known-index _ c.requires.sound
     (subst (AreUnmet (plain_farm c.args.self.now)) (sym c.claims-known-items.ensures) c.requires.known) (omega arith) (c.is_like_group.ensures c.if-is_like_group.true)

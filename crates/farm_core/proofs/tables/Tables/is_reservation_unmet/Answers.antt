@@ -13,6 +13,6 @@ is_like_reservation-requires c = IsOrderly-sound (plain_farm c.args.self.now) c.
 
 pub returns-then-is_like_reservation : goal.returns-then-is_like_reservation
 returns-then-is_like_reservation c = λ so.
-    ap (λ o. least c.args.self.now.boards.items (is_free c.args.self.now.types.items) (option_map_or (λ (r : ResRow). r.want ∷ []) o [])) c.requires.row
+    ap (λ o. least c.args.self.now.boards.rows (is_free c.args.self.now.types.rows) (option_map_or (λ (r : ResRow). r.want ∷ []) o [])) c.requires.row
     ∙ like_unmet (plain_farm c.args.self.now) c.claims-known-items.result.now (c.args.row.now.want ∷ []) c.loop-known.known-index _ c.requires.sound
     (subst (AreUnmet (plain_farm c.args.self.now)) (sym c.claims-known-items.ensures) c.requires.known) (omega arith) (c.is_like_reservation.ensures c.if-is_like_reservation.true)

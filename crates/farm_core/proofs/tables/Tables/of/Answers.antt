@@ -1,0 +1,9 @@
+use Rattle.farm_types.specs.Farm.{farm_of}
+use Rattle.farm_core.proofs.Sound.{small_boards, small_types}
+use Rattle.farm_core.proofs.tables.Tables.of.Goals as goal
+
+pub of-requires-3-clause-fit : goal.of-requires-3-clause-fit
+of-requires-3-clause-fit c = small_types (farm_of c.args.rows) c.requires
+
+pub of-requires-4-clause-fit : goal.of-requires-4-clause-fit
+of-requires-4-clause-fit c = small_boards (farm_of c.args.rows) c.requires

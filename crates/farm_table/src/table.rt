@@ -1,0 +1,245 @@
+//! A table: rows in strict order of their keys, and a log of the rows that changed. What may fail
+//! comes first, then the edit of the row, and the log last, into room that was made for it: so a
+//! call that fails leaves a table in which the log still tells each change.
+ghost use Rattle.std.specs.Prelude.{◌≡◌, ◌<◌, [], get_or, length, set, IfSome, OnOk, OnErr};
+ghost use Rattle.std.specs.List.{AllByRecursion, find};
+ghost use Rattle.std.specs.List.Sorted.{IsStrictlySortedBy};
+ghost use Rattle.std.specs.Option.{option_copied};
+ghost use Rattle.farm_types.specs.Table.{put, change_where};
+ghost use Rattle.farm_table.specs.Tabled.{by_key, IsFoundAt, IsPartly, Keeps, Leads};
+
+use crate::row::{Edit, Row};
+use std::alloc::{AllocError, Global};
+use std::cmp::Ordering;
+use std::marker::Model;
+use std::mem::replace;
+
+/// How many rows from a guess on are looked at one by one before a binary search.
+const NEARBY: usize = 8;
+
+/// Rows in strict order of their keys, and the log: each row that was put or changed since the log
+/// began, as it then was.
+#[derive(Drop)]
+pub struct Table<R: Row + Drop> {
+    rows: Vec<R>,
+    log: Vec<R>,
+}
+
+impl<R: Row + Drop> Model for Table<R> {
+    ghost use Rattle.farm_table.specs.Tabled.{Tabled, by_key, IsTable};
+
+    ghost Value = { Tabled R };
+
+    ghost view = { λ t. record { rows = t.rows.items; log = t.log.items } };
+
+    ghost invariant = { λ t. IsTable (by_key R.key R.key_cmp) R.Fits t.rows.items t.log.items };
+}
+
+/// Puts a row in the place of the one with its key, or adds it in key order.
+fn upsert<R: Row + Drop>(rows: &mut Vec<R>, row: R) -> Result<(), AllocError>
+    requires { IsStrictlySortedBy (by_key R.key R.key_cmp) rows.old.items }
+    ensures rows { OnOk result (rows.new.items ≡ put (by_key R.key R.key_cmp) rows.old.items row) }
+    ensures stays { OnErr result (rows.new.items ≡ rows.old.items) }
+{
+    let found = rows.binary_search_by(
+        |r: &R| -> Ordering
+            ensures { result ≡ R.key_cmp (R.key r.now) (R.key row) }
+        { R::order(r.key(), row.key()) },
+    );
+    match found {
+        Ok(at) => {
+            rows[at] = row;
+            Ok(())
+        }
+        Err(at) => Ok(rows.insert(at, row)?),
+    }
+}
+
+impl<R: Row + Drop> Table<R> {
+    /// No rows.
+    pub fn new(alloc: Global) -> Table<R>
+        ensures { result ≡ record { rows = []; log = [] } }
+    {
+        Table {
+            rows: Vec::new(alloc),
+            log: Vec::new(alloc),
+        }
+    }
+
+    /// The table of rows that stand in order.
+    pub fn of(rows: Vec<R>) -> Table<R>
+        requires sorted { IsStrictlySortedBy (by_key R.key R.key_cmp) rows.items }
+        requires fit { AllByRecursion R.Fits rows.items }
+        ensures { result ≡ record { rows = rows.items; log = [] } }
+    {
+        let alloc = *rows.allocator();
+        Table {
+            rows,
+            log: Vec::new(alloc),
+        }
+    }
+
+    /// Makes room in the log for so many rows more, so that it isn't moved as they come.
+    pub fn reserve(&mut self, additional: usize) -> Result<(), AllocError>
+        ensures { self.new ≡ self.old }
+    {
+        self.log.reserve(additional)?;
+        Ok(())
+    }
+
+    /// The rows in order of their keys.
+    pub fn rows(&self) -> &[R]
+        ensures rows { result.now ≡ self.now.rows }
+        ensures sorted { IsStrictlySortedBy (by_key R.key R.key_cmp) self.now.rows }
+        ensures fit { AllByRecursion R.Fits self.now.rows }
+    {
+        &self.rows
+    }
+
+    /// The log.
+    pub fn log(&self) -> &[R]
+        ensures log { result.now ≡ self.now.log }
+        ensures fit { AllByRecursion R.Fits self.now.log }
+    {
+        &self.log
+    }
+
+    /// Where the rows' memory comes from.
+    pub fn allocator(&self) -> &Global {
+        self.rows.allocator()
+    }
+
+    /// How many rows there are.
+    pub fn len(&self) -> usize
+        ensures { result ≡ length self.now.rows }
+    {
+        self.rows.len()
+    }
+
+    /// The place of the row with that key, or where it would stand, by binary search.
+    fn place_of(&self, key: &R::Key) -> Result<usize, usize>
+        ensures place { IsFoundAt self.now.rows (find (λ r. R.same (R.key r) key.now) self.now.rows)
+            result }
+        ensures sorted { IsStrictlySortedBy (by_key R.key R.key_cmp) self.now.rows }
+    {
+        self.rows.binary_search_by(
+            |r: &R| -> Ordering
+                ensures { result ≡ R.key_cmp (R.key r.now) key.entry.now }
+            { R::order(r.key(), key) },
+        )
+    }
+
+    /// The same, where the row may be one of the few from a guess on.
+    fn place_near(&self, guess: usize, key: &R::Key) -> Result<usize, usize>
+        ensures place { IsFoundAt self.now.rows (find (λ r. R.same (R.key r) key.now) self.now.rows)
+            result }
+        ensures sorted { IsStrictlySortedBy (by_key R.key R.key_cmp) self.now.rows }
+    {
+        let end = guess.saturating_add(NEARBY).min(self.rows.len());
+        for at in guess..end {
+            if R::order(self.rows[at].key(), key).is_eq() {
+                return Ok(at);
+            }
+        }
+        self.place_of(key)
+    }
+
+    /// The row with that key, by binary search.
+    pub fn find(&self, key: &R::Key) -> Option<&R>
+        ensures found { option_copied result ≡ find (λ r. R.same (R.key r) key.now) self.now.rows }
+        ensures fit { IfSome result (λ r. R.Fits r.now) }
+    {
+        match self.place_of(key) {
+            Ok(at) => Some(&self.rows[at]),
+            Err(_) => None,
+        }
+    }
+
+    /// Puts a row in the place of the one with its key, or adds it in key order. Where memory runs
+    /// out the table is as it was.
+    pub fn put(&mut self, row: R) -> Result<(), AllocError>
+        requires { R.Fits row }
+        ensures rows { OnOk result (self.new.rows ≡ put (by_key R.key R.key_cmp) self.old.rows row) }
+        ensures leads { Leads (by_key R.key R.key_cmp) self.old self.new }
+        ensures stays { OnErr result (self.new ≡ self.old) }
+    {
+        let copy = row.copy()?;
+        self.log.reserve(1)?;
+        upsert(&mut self.rows, row)?;
+        self.log.push_reserved(copy);
+        Ok(())
+    }
+
+    /// Changes the row at a place.
+    fn change_at<E: Edit<R>>(&mut self, at: usize, edit: &E) -> Result<(), AllocError>
+        requires within { at < length self.old.rows }
+        requires keeps { Keeps R.key R.Fits (E.changed edit.now) }
+        ensures rows { OnOk result ((d : R) → self.new.rows
+            ≡ set self.old.rows at (E.changed edit.now (get_or self.old.rows at d))) }
+        ensures leads { Leads (by_key R.key R.key_cmp) self.old self.new }
+        ensures stays { OnErr result (self.new ≡ self.old) }
+    {
+        let mut changed = self.rows[at].copy()?;
+        edit.change(&mut changed)?;
+        self.log.reserve(1)?;
+        edit.change(&mut self.rows[at])?;
+        self.log.push_reserved(changed);
+        Ok(())
+    }
+
+    /// Changes the row with that key, if there is one: one of the few from a guess on, or else found
+    /// by binary search. Where memory runs out the table is as it was.
+    pub fn change_near<E: Edit<R>>(
+        &mut self,
+        guess: usize,
+        key: &R::Key,
+        edit: &E,
+    ) -> Result<(), AllocError>
+        requires { Keeps R.key R.Fits (E.changed edit.now) }
+        ensures rows { OnOk result (self.new.rows
+            ≡ change_where (λ r. R.same (R.key r) key.now) (E.changed edit.now) self.old.rows) }
+        ensures leads { Leads (by_key R.key R.key_cmp) self.old self.new }
+        ensures stays { OnErr result (self.new ≡ self.old) }
+    {
+        match self.place_near(guess, key) {
+            Ok(at) => self.change_at(at, edit),
+            Err(_) => Ok(()),
+        }
+    }
+
+    /// Whether the row at a place passes.
+    fn passes_at<E: Edit<R>>(&self, at: usize, edit: &E) -> bool
+        requires { at < length self.now.rows }
+        ensures { (d : R) → result ≡ E.passes edit.now (get_or self.now.rows at d) }
+    {
+        edit.passes(&self.rows[at])
+    }
+
+    /// Changes the rows that pass. Each is looked at. Where memory runs out the first ones are
+    /// changed, and the log says which.
+    pub fn change_where<E: Edit<R>>(&mut self, edit: &E) -> Result<(), AllocError>
+        requires { Keeps R.key R.Fits (E.changed edit.now) }
+        ensures rows { OnOk result (self.new.rows
+            ≡ change_where (E.passes edit.now) (E.changed edit.now) self.old.rows) }
+        ensures partly { OnErr result (IsPartly (E.passes edit.now) (E.changed edit.now)
+            self.old.rows self.new.rows) }
+        ensures leads { Leads (by_key R.key R.key_cmp) self.old self.new }
+    {
+        for at in 0..self.len() {
+            if self.passes_at(at, edit) {
+                self.change_at(at, edit)?;
+            }
+        }
+        Ok(())
+    }
+
+    /// Gives the log away, and begins a new one.
+    pub fn take_changes(&mut self) -> Vec<R>
+        ensures changes { result.items ≡ self.old.log }
+        ensures fit { AllByRecursion R.Fits result.items }
+        ensures rests { self.new ≡ record { rows = self.old.rows; log = [] } }
+    {
+        let none = Vec::new(*self.allocator());
+        replace(&mut self.log, none)
+    }
+}
