@@ -6,8 +6,7 @@ next one looks at the status; each growth from the first client on is refused in
 command's any more. The commands are one that adds a type, and a pass that gives two boards to a job of two roles.
 
 The client of the command hears what it would hear with ample memory, or the constant answer of code 1 or 60.
-Where there is no memory to have its connection wait aside, it hears nothing: then nothing was done, the program
-goes on, and so few growths are of that kind that they are counted. After 60 the program has ended with that fault. After 1 it goes on, or it has ended with 1: then the growth was
+After 60 the program has ended with that fault. After 1 it goes on, or it has ended with 1: then the growth was
 refused in the middle of the command's change. In each case what was answered before is in the file, of the
 command all or nothing, and nothing where the program ended with 1; and the command, sent again under its key,
 is answered as with ample memory, and acts once. At least one growth of each command has to end the program
@@ -37,8 +36,6 @@ BEFORE = (
     ("admin", "/boards/b2/health", b'{"health":"Good"}'),
     ("ann", "/jobs", JOB),
 )
-# The most growths of two connections that wait aside: a place or two each among those that wait, and that are ready.
-MOST_UNHEARD = 8
 # Each command: its path, its body, and the view that shows its change.
 COMMANDS = (("/types", b'{"name":"ccc"}', "/types"), ("/pass", b"", "/boards"))
 
@@ -151,19 +148,11 @@ class Served:
         return Run(body_of(answer), body_of(view), program.returncode, told, os.path.exists(self.flag))
 
 
-def is_unheard(run):
-    """Returns whether the client of the command heard nothing, and the next one was served."""
-    return not run.command and bool(run.view) and (run.status, run.told) == (0, b"")
-
-
 def closes(run, due):
     """Returns whether a run ended with 1 in the middle of the change; any end but those that may be fails."""
     ends = (run.status, run.told)
-    if is_unheard(run):
-        return False
     if run.command == due or run.command == NO_MEMORY and ends == (0, b""):
-        # (a view's connection may lack memory for its place, too)
-        if ends != (0, b"") or not (run.view or run.command == due and run.is_refused):
+        if ends != (0, b"") or not run.view:
             fail(f"behind the answer {run.command} the program ended with {ends}")
         return False
     if run.command == STORE_FAULT and ends == (4, b"farm: 60 store fault\n") and not run.view:
@@ -174,29 +163,24 @@ def closes(run, due):
 
 
 def try_command(served, first, path, body, view):
-    """Refuses each growth of a command in turn, and returns how many there were, how many closed the keeper, and
-    how many left the client without an answer."""
+    """Refuses each growth of a command in turn, and returns how many there were and how many closed the keeper."""
     command = post("admin", path, body, "k1")
     served.anew()
     before = served.once(get(view), OK)
     due = served.once(command, OK)
     after = served.once(get(view), OK)
-    number, closed, unheard = first, 0, 0
+    number, closed = first, 0
     while True:
         run = served.run(number, command)
         is_closed = closes(run, due)
-        unheard += is_unheard(run) or not run.view and run.command == due
-        if unheard > MOST_UNHEARD:
-            fail(f"{unheard} growths of {path} leave its client without an answer")
         rows = served.once(get(view), OK)
-        untouched = is_closed or is_unheard(run)
-        if rows != after and (rows != before or run.command == due) or untouched and rows != before:
+        if rows != after and (rows != before or run.command == due) or is_closed and rows != before:
             fail(f"after growth {number} of {path}, answered {run.command}, the farm has {rows}")
         if run.command != due and (served.once(command, OK) != due or served.once(get(view), OK) != after):
             fail(f"{path} wasn't done once when it was sent again, after growth {number}")
         # (a view that lacks memory is behind the last growth of the command)
         if not run.is_refused or run.view == NO_MEMORY and run.command == due:
-            return number - first, closed, unheard
+            return number - first, closed
         number, closed = number + 1, closed + is_closed
 
 
@@ -205,10 +189,10 @@ def main(program, library):
         served = Served(os.path.realpath(program), os.path.realpath(library), folder)
         first = served.first_growth()
         for path, body, view in COMMANDS:
-            growths, closed, unheard = try_command(served, first, path, body, view)
+            growths, closed = try_command(served, first, path, body, view)
             if not closed:
                 fail(f"no growth of {path} was refused in the middle of its change")
-            print(f"refused memory: each of the {growths} growths of a served POST {path}; {closed} in the middle of its change, which ended the program; {unheard} before its connection could wait")
+            print(f"refused memory: each of the {growths} growths of a served POST {path}; {closed} in the middle of its change, which ended the program")
 
 
 if __name__ == "__main__":

@@ -6,7 +6,7 @@ use mio::event::Event;
 use mio::unix::SourceFd;
 use mio::{Events, Interest, Poll, Token};
 use std::alloc::Global;
-use std::collections::{BTreeMap, BTreeSet};
+use std::collections::VecDeque;
 use std::io::ErrorKind;
 use std::net::{Net, TcpListener, TcpStream};
 use std::os::fd::AsRawFd;
@@ -31,12 +31,12 @@ const PAUSE_MILLISECONDS: u64 = 100;
 /// The listener's token. A connection's is its number, in the order of arrival.
 const LISTENER: Token = Token(usize::MAX);
 
-/// A connection, and when it was accepted.
+/// A connection, its number, and when it was accepted.
 #[derive(Drop)]
 struct Waiting {
+    number: usize,
     stream: TcpStream,
     since: Duration,
-    is_registered: bool,
 }
 
 /// The connections of a listener, from their accept until their requests are there, or the time is
@@ -44,16 +44,20 @@ struct Waiting {
 /// buffer, which holds the longest one, and are looked at when some came. Among those whose
 /// requests are there the first that came is the next.
 ///
-/// With N connections each costs O(log N), and a look at the bytes of its request for each time
-/// that some came.
+/// There is a place for each that may wait from the start, so a place takes no memory later, and
+/// whoever is accepted is heard. Those whose requests aren't there, `silent`, are registered; both
+/// rows are in the order of arrival.
+///
+/// Each connection costs two binary searches in its row, one shift of the shorter side of each, and
+/// a look at the bytes of its request for each time that some came.
 #[derive(Drop)]
 pub(crate) struct Pending {
     alloc: Global,
     poll: Poll,
     events: Events,
     bytes: Vec<u8>,
-    waiting: BTreeMap<usize, Waiting>,
-    ready: BTreeSet<usize>,
+    silent: VecDeque<Waiting>,
+    ready: VecDeque<Waiting>,
     accepted: usize,
     left: u64,
     refused: u64,
@@ -72,6 +76,8 @@ impl Pending {
         let poll = Poll::new(net).ok()?;
         let events = Events::with_capacity(alloc, MOST_EVENTS).ok()?;
         let bytes = Vec::from_elem(alloc, 0u8, LONGEST_REQUEST + 1).ok()?;
+        let silent = VecDeque::with_capacity(alloc, MOST_WAITING).ok()?;
+        let ready = VecDeque::with_capacity(alloc, MOST_WAITING).ok()?;
         let fd = listener.as_raw_fd();
         poll.registry()
             .register(&mut SourceFd(&fd), LISTENER, Interest::READABLE)
@@ -82,8 +88,8 @@ impl Pending {
             poll,
             events,
             bytes,
-            waiting: BTreeMap::new(alloc),
-            ready: BTreeSet::new(alloc),
+            silent,
+            ready,
             accepted: 0,
             left: max,
             refused: 0,
@@ -102,21 +108,21 @@ impl Pending {
             let now = clock.monotonic().ok();
             self.accept_all(listener, now);
             // Who waits is looked at before whoever came now, also while there is always one ready.
-            if self.waiting.len() > self.ready.len() {
+            if !self.silent.is_empty() {
                 self.look(Some(Duration::ZERO));
             }
-            if let Some(number) = self.first_over(now) {
-                return self.take(number);
+            if self.is_first_over(now) {
+                return self.take_silent();
             }
-            if let Some(number) = self.ready.first() {
-                let number = *number;
-                return self.take(number);
+            if let Some(waiting) = self.ready.pop_front() {
+                waiting.stream.set_nonblocking(false).ok()?;
+                return Some(waiting.stream);
             }
             if self.refused > 0 {
                 self.refused -= 1;
                 return None;
             }
-            if self.left == 0 && self.waiting.is_empty() {
+            if self.left == 0 && self.silent.is_empty() {
                 return None;
             }
             let until = self.time_left(now);
@@ -131,7 +137,7 @@ impl Pending {
             return;
         }
         for _ in 0..MOST_WAITING {
-            if self.left == 0 || self.waiting.len() >= MOST_WAITING {
+            if self.left == 0 || !self.has_room() {
                 return;
             }
             match listener.accept() {
@@ -152,6 +158,10 @@ impl Pending {
         }
     }
 
+    fn has_room(&self) -> bool {
+        self.silent.len().saturating_add(self.ready.len()) < MOST_WAITING
+    }
+
     /// Whether the system refused to accept a moment ago.
     fn is_paused(&self, now: Option<Duration>) -> bool {
         match (self.paused_until, now) {
@@ -160,54 +170,41 @@ impl Pending {
         }
     }
 
-    /// Has a connection wait, unless its request is there already; none where the system or the
-    /// memory refuses.
+    /// Has a connection wait, unless its request is there already; none where the system refuses.
     fn take_in(&mut self, stream: TcpStream, now: Option<Duration>) -> Option<()> {
         limit_waits(&stream).ok()?;
         stream.set_nonblocking(true).ok()?;
         let number = self.accepted;
         self.accepted = number.wrapping_add(1);
-        let is_there = is_there(self.alloc, &stream, self.bytes.as_mut_slice());
-        if !is_there {
-            let fd = stream.as_raw_fd();
-            self.poll
-                .registry()
-                .register(&mut SourceFd(&fd), Token(number), Interest::READABLE)
-                .ok()?;
-        }
         let waiting = Waiting {
+            number,
             stream,
             since: now.unwrap_or(Duration::ZERO),
-            is_registered: !is_there,
         };
-        self.waiting.insert(number, waiting).ok()?;
-        if is_there {
-            self.ready.insert(number).ok()?;
+        if is_there(self.alloc, &waiting.stream, self.bytes.as_mut_slice()) {
+            return self.ready.push_back(waiting).ok();
         }
-        Some(())
+        let fd = waiting.stream.as_raw_fd();
+        self.poll
+            .registry()
+            .register(&mut SourceFd(&fd), Token(number), Interest::READABLE)
+            .ok()?;
+        self.silent.push_back(waiting).ok()
     }
 
-    /// The first connection, where its time is over or nobody can tell.
-    fn first_over(&self, now: Option<Duration>) -> Option<usize> {
-        let (number, waiting) = self.waiting.first_key_value()?;
-        let is_over = match now {
-            Some(now) => now.saturating_sub(waiting.since) > limit(),
-            None => true,
-        };
-        if is_over { Some(*number) } else { None }
+    /// Whether the time of the first silent connection is over, or nobody can tell.
+    fn is_first_over(&self, now: Option<Duration>) -> bool {
+        match (self.silent.front(), now) {
+            (Some(first), Some(now)) => now.saturating_sub(first.since) > limit(),
+            (Some(_), None) => true,
+            (None, _) => false,
+        }
     }
 
-    /// Takes a connection out; a read of one whose request isn't there waits for nothing.
-    fn take(&mut self, number: usize) -> Option<TcpStream> {
-        let is_there = self.ready.remove(&number);
-        let waiting = self.waiting.remove(&number)?;
-        if waiting.is_registered {
-            let fd = waiting.stream.as_raw_fd();
-            let _ = self.poll.registry().deregister(&mut SourceFd(&fd));
-        }
-        if is_there {
-            waiting.stream.set_nonblocking(false).ok()?;
-        }
+    /// Takes the first silent connection out. A read of it waits for nothing.
+    fn take_silent(&mut self) -> Option<TcpStream> {
+        let waiting = self.silent.pop_front()?;
+        deregister(&self.poll, &waiting.stream);
         Some(waiting.stream)
     }
 
@@ -218,11 +215,20 @@ impl Pending {
         }
         for event in self.events.iter() {
             let number = event.token().0;
-            let Some(waiting) = self.waiting.get(&number) else {
+            let Ok(place) = self.silent.binary_search_by_key(&number, |it| it.number) else {
                 continue;
             };
-            if is_ended(event) || is_there(self.alloc, &waiting.stream, self.bytes.as_mut_slice()) {
-                let _ = self.ready.insert(number);
+            let Some(waiting) = self.silent.get(place) else {
+                continue;
+            };
+            let is_next = is_ended(event)
+                || is_there(self.alloc, &waiting.stream, self.bytes.as_mut_slice());
+            if !is_next {
+                continue;
+            }
+            if let Some(waiting) = self.silent.remove(place) {
+                deregister(&self.poll, &waiting.stream);
+                put_in_order(&mut self.ready, waiting);
             }
         }
     }
@@ -234,9 +240,9 @@ impl Pending {
             Some(until) if now < until => Some(until.saturating_sub(now)),
             _ => None,
         };
-        let limit = match self.waiting.first_key_value() {
-            Some((_, waiting)) => Some(
-                waiting
+        let limit = match self.silent.front() {
+            Some(first) => Some(
+                first
                     .since
                     .saturating_add(limit())
                     .saturating_sub(now)
@@ -250,6 +256,17 @@ impl Pending {
             (None, limit) => limit,
         }
     }
+}
+
+fn deregister(poll: &Poll, stream: &TcpStream) {
+    let fd = stream.as_raw_fd();
+    let _ = poll.registry().deregister(&mut SourceFd(&fd));
+}
+
+/// Puts a connection behind those that came before it. There is room for it.
+fn put_in_order(row: &mut VecDeque<Waiting>, waiting: Waiting) {
+    let place = row.partition_point(|it| it.number < waiting.number);
+    let _ = row.insert(place, waiting);
 }
 
 /// Whether a peer sends no more.
