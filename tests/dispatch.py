@@ -610,6 +610,10 @@ def not_started_and_told_otherwise(place):
     wait_until(f"{alone} is told", lambda: f"job {alone} wasn't st" in dispatcher.output())
     lab.farm.tell("ann", f"/jobs/{alone}/cancel")
     demand("one that waits alone, and is canceled", "Canceled", lab.finished(alone))
+    wait_until("its mark", lambda: os.path.exists(lab.file(alone, "finished")))
+    line = dispatch_history.jobs_of(lab)[-1]
+    told = (line["job"], line["outcome"], line["reason"])
+    demand("its line", (alone, "Canceled", "not begun"), told)
     replace(lab.command, COMMAND)
     demand("a job after it", "Complete", lab.finished(lab.farm.submit("true")))
     lab.closes(dispatcher)

@@ -19,7 +19,7 @@ from farm_tools.starts import Starts
 ROOT = os.path.dirname(os.path.dirname(os.path.abspath(__file__)))
 DAY = 86400
 KILLS_AFTER = 10
-LOST = "lost, with its folder"
+LOST, NOT_BEGUN = "lost, with its folder", "not begun"
 
 
 class Dispatcher:
@@ -243,9 +243,10 @@ class Dispatcher:
             self._leave(number)
             return False
         if canceled:
-            return folders.claim(self._folder(number)) and self._finish(
-                number, members, "not begun"
-            )
+            if not folders.claim(self._folder(number)):
+                return False
+            folders.write_synced(self._file(number, folders.ENDED), f"{NOT_BEGUN}\n")
+            return self._finish(number, members, NOT_BEGUN)
         self._launch(number, [self.desk.look(f"/jobs/{it['number']}") for it in members])
         return False
 
