@@ -1,5 +1,5 @@
-"""Where the desk is and who asks: what is given, else the environment, else desk.ini, as the command
-`desk` has it; and ~/.netrc."""
+"""Where the desk is and who asks: what is given, else the environment, else desk.ini, as the
+command `desk` has it; and ~/.netrc."""
 import configparser
 import dataclasses
 import difflib
