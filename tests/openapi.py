@@ -462,5 +462,5 @@ if __name__ == "__main__":
         full_farm(LAB, room)
         demand_all_seen(LAB)
     ROUTES = len(operations())
-    print(f"openapi: jsonschema {'agrees' if jsonschema else 'is not asked, since it is not there'}")
+    print(f"openapi: jsonschema {'agrees' if jsonschema else 'was not asked: it is not there'}")
     print(f"openapi: {LAB.answers} answers of {ROUTES} routes are as docs/openapi.json says")

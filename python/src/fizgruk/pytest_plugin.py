@@ -12,6 +12,7 @@ from typing import Iterator, List, Optional, Union
 import pytest
 
 from fizgruk.client import Client
+from fizgruk.errors import FizgrukError
 from fizgruk.models import Board
 
 # Signals that end a process without a word, and here end the session as Ctrl-C does.
@@ -77,7 +78,11 @@ def end(number: int, frame: Optional[FrameType]) -> None:
 @pytest.fixture(scope="session")
 def farm_client() -> Iterator[Client]:
     """The desk, as the user sees whom the settings name."""
-    with Client() as client:
+    try:
+        client = Client()
+    except FizgrukError as fault:
+        pytest.fail(str(fault), pytrace=False)
+    with client:
         yield client
 
 
@@ -94,9 +99,12 @@ def board(pytestconfig: pytest.Config, request: pytest.FixtureRequest) -> Iterat
         timeout=pytestconfig.getoption("--farm-timeout"),
         tell=lambda text: tell(pytestconfig, text),
     )
-    with hold as held:
-        tell(pytestconfig, f"{held.name} is held by reservation {held.reservation}")
-        yield held
+    try:
+        with hold as held:
+            tell(pytestconfig, f"{held.name} is held by reservation {held.reservation}")
+            yield held
+    except FizgrukError as fault:
+        pytest.fail(str(fault), pytrace=False)
 
 
 def tell(config: pytest.Config, text: str) -> None:
