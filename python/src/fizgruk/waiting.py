@@ -95,13 +95,13 @@ def _board_or_reason(wait: Wait, number: int, tags: Sequence[str]) -> Optional[B
     """The board that a reservation has, or None, where it is said why there is none."""
     place = wait.place("reservation", number)
     boards = wait.client.boards()
+    for it in boards:
+        if it.holder == f"reservation {number}":
+            return it
     if place:
         why = reason(wait, [it for it in boards if it.fits(*tags)])
         wait.say(f"reservation {number} is waiting, {place}{why and ': '}{why}")
         return None
-    for it in boards:
-        if it.holder == f"reservation {number}":
-            return it
     # (asked for at a reservation's end alone, since the view has all that ever were)
     states = [it.state for it in wait.client.reservations() if it.number == number]
     if not states or states[0] in ENDED:
