@@ -118,6 +118,8 @@ def demand_document():
     demand("docs/openapi.json is what docs/openapi.py prints", True, same)
     headings = re.findall(r"^### `(.*)`$", read("docs", "API.md"), re.MULTILINE)
     demand("its routes are those of docs/API.md", sorted(headings), sorted(operations()))
+    version = re.search('VERSION = "(.*)"', read("tools", "farm_tools", "version.py")).group(1)
+    demand("its version", version, DOCUMENT["info"]["version"])
     names = [it["operationId"] for it in operations().values()]
     demand("names of operations", len(names), len(set(names)))
     for name, schema in DOCUMENT["components"]["schemas"].items():

@@ -4,8 +4,8 @@
 Each row prints a line and says what it saw: the package as pip installs it, its types by mypy, each
 view and command, kept connections and lost answers, boards that are held by a `with` and given back
 whatever happens; those of python_pytest.py, the plugin of pytest. What a row wants that the machine
-lacks (pip with setuptools and wheel, mypy, pytest) it says. Ends with status 1 at the first thing
-that isn't as it should be. Takes about two minutes.
+lacks (pip with setuptools and wheel, mypy, nginx, pytest) it says. Ends with status 1 at the first
+thing that isn't as it should be. Takes about two minutes.
 """
 import importlib
 import json
@@ -20,6 +20,7 @@ import tempfile
 import threading
 import time
 
+import proxy
 import python_pytest
 from desks import BOARDS
 from python_front import SOURCES, Front, Passer, copied, python_with
@@ -283,6 +284,37 @@ def kept_connections(farm, folder):
     return "a connection is kept where the server keeps it, and where it closes a new one is opened"
 
 
+def behind_nginx(farm, folder):
+    """Over TLS and by a password, through the proxy of examples/nginx.conf."""
+    if not (proxy.NGINX and shutil.which("openssl") and shutil.which("curl")):
+        return "nginx: not tried, since nginx, openssl or curl isn't there"
+    place = tempfile.mkdtemp(dir=folder)
+    for it in (folder, place):
+        os.chmod(it, 0o755)
+    door = proxy.Door(farm, place)
+    trusts = {"ca_file": door.certificate}
+    ann = client_of(door.server, password_file=os.path.join(place, "ann"), **trusts)
+    connections, asks = [], ann._wire
+    opened = asks._opened
+    asks._opened = lambda: connections.append(asks) or opened()
+    passer = Passer(farm)
+    for _ in range(10):
+        with ann.board("hdmi", every=0.1) as board:
+            demand("whose it is", "ann", farm.reservation(board.reservation)["owner"])
+        demand("after it", "canceled", state_of(farm, board.reservation))
+    passer.end()
+    demand("connections that ten boards took", 1, len(connections))
+    other = client_of(door.server, password_file=os.path.join(place, "dispatcher"), **trusts)
+    refusal = raised(fizgruk.Refused, other.status)
+    told = (401, "401 Unauthorized: asked as ann, with a password")
+    demand("another's password", told, (refusal.code, str(refusal)))
+    begun = time.monotonic()
+    raised(fizgruk.Unreachable, client_of(door.server).status)
+    demand("a certificate that nobody knows isn't tried again", True, time.monotonic() - begun < 10)
+    door.process.kill()
+    return "through nginx, over TLS and by a password, ten boards take one connection"
+
+
 def lost_answers(farm, folder):
     del folder
     front = Front(farm)
@@ -500,6 +532,7 @@ ROWS = [
     views_and_commands,
     refusals,
     kept_connections,
+    behind_nginx,
     lost_answers,
     held_boards,
     lost_boards,
