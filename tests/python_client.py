@@ -74,7 +74,8 @@ def installed(farm, folder):
         env={**os.environ, "PIP_DISABLE_PIP_VERSION_CHECK": "1"},
     )
     demand(f"pip's status ({ran.stderr})", 0, ran.returncode)
-    told = "import fizgruk as f, importlib.metadata as it; print(it.version('fizgruk'), f.__version__)"
+    told = "import fizgruk; print(fizgruk.__version__)"
+    told += "; import importlib.metadata as it; print(it.version('fizgruk'))"
     ran = subprocess.run(
         [python, "-c", told],
         capture_output=True,
@@ -84,7 +85,7 @@ def installed(farm, folder):
     )
     sys.path.insert(0, TOOLS)
     version = importlib.import_module("farm_tools.version").VERSION
-    demand("the version", f"{version} {version}\n", ran.stdout)
+    demand("the version", f"{version}\n{version}\n", ran.stdout)
     left = {"__pycache__"}
     found = {it for it in os.listdir(f"{to}/fizgruk") if it not in left}
     there = {it for it in os.listdir(f"{SOURCES}/src/fizgruk") if it not in left}
@@ -445,6 +446,9 @@ def held_once(client):
 
 SCRIPT = """\
 import os, sys, time, fizgruk
+if sys.argv[1] == "leaves":
+    print(fizgruk.Client().board("hdmi", every=0.1).__enter__().reservation)
+    sys.exit()
 with fizgruk.Client().board("hdmi", every=0.1) as board:
     print(board.reservation, flush=True)
     if sys.argv[1] == "forks":
@@ -497,6 +501,9 @@ def interrupted_scripts(farm, folder):
     process.send_signal(signal.SIGINT)
     process.wait(60)
     demand("at its end", "canceled", state_of(farm, number))
+    process, file = script_of(farm.server, folder, "leaves")
+    demand("its status", 0, process.wait(60))
+    demand("at the end of the program alone", "canceled", state_of(farm, int(read(file))))
     passer.end()
     return "Ctrl-C gives the board back, however often it comes, and the end of a child doesn't"
 
