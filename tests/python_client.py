@@ -508,6 +508,30 @@ def interrupted_scripts(farm, folder):
     return "Ctrl-C gives the board back, however often it comes, and the end of a child doesn't"
 
 
+def documented(farm, folder):
+    """The first program of docs/PYTHON.md."""
+    page = read(os.path.join(TOP, "docs", "PYTHON.md"))
+    own = Farm(farm.program, tempfile.mkdtemp(dir=folder), [("b1", "bbb", ["hdmi", "power=pdu2"])])
+    passer = Passer(own)
+    env = environment(
+        PYTHONPATH=os.path.join(SOURCES, "src"), DESK_SERVER=own.server, DESK_USER="ann"
+    )
+    ran = subprocess.run(
+        [sys.executable, "-c", re.search("```python\n(.*?)```", page, re.DOTALL).group(1)],
+        capture_output=True,
+        text=True,
+        timeout=60,
+        check=False,
+        env=env,
+    )
+    wanted = "b1 bbb ('hdmi', 'power=pdu2') 1\n"
+    demand(f"what it prints ({ran.stderr})", (0, wanted), (ran.returncode, ran.stdout))
+    demand("after it", "canceled", newest(own)["state"])
+    passer.end()
+    own.kill()
+    return "the program that docs/PYTHON.md begins with runs"
+
+
 class Waiting:
     """A board that is waited for longer than a lease, while the other rows run."""
 
@@ -545,6 +569,7 @@ ROWS = [
     lost_boards,
     desk_that_is_killed,
     interrupted_scripts,
+    documented,
     *python_pytest.ROWS,
 ]
 

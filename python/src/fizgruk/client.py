@@ -48,7 +48,7 @@ class Client:
             "server": server, "user": user, "password_file": password_file, "ca_file": ca_file,
             "timeout": seconds, "config": config,
         }
-        self._wire = Wire(read_settings(given), patience)
+        self._wire = Wire(read_settings(given))
         self.patience = patience
 
     @property
@@ -193,7 +193,7 @@ class Client:
     def refresh(self, number: int) -> None:
         """Lets a reservation live for a minute from now on. Done twice it does no harm, so it has
         no key."""
-        self._wire.tell(f"/reservations/{number}/refresh", patience=self.patience)
+        self._wire.tell(f"/reservations/{number}/refresh", None, None, self.patience)
 
     def cancel_reservation(self, number: int, *, key: Optional[str] = None) -> None:
         """Ends a reservation: its board is free."""
@@ -219,7 +219,8 @@ class Client:
 
     def call_pass(self) -> PassCounts:
         """Gives boards to what waits for them. Done twice it does no harm, so it has no key."""
-        return models.view_of(PassCounts, self._wire.tell("/pass", patience=self.patience))
+        told = self._wire.tell("/pass", None, None, self.patience)
+        return models.view_of(PassCounts, told)
 
     def start_job(self, number: int, *, key: Optional[str] = None) -> int:
         """Starts a job's group. Gives the group's number."""

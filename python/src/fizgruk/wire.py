@@ -46,12 +46,10 @@ def fresh_key() -> str:
 class Wire:
     """Requests to one desk, as one user; several threads may use it at once."""
 
-    def __init__(self, settings: Settings, patience: float) -> None:
-        """`patience` is for how many seconds a request is sent again where no answer comes."""
+    def __init__(self, settings: Settings) -> None:
         address = address_of(settings.server)
         self.server = settings.server
         self.user = settings.user
-        self.patience = patience
         self._host = address.hostname or ""
         self._port = address.port
         self._front = address.path.rstrip("/")
@@ -71,14 +69,12 @@ class Wire:
         for line in iter(self._kept, None):
             line.close()
 
-    def look(self, path: str, patience: Optional[float] = None) -> Told:
-        """What a view shows."""
+    def look(self, path: str, patience: float) -> Told:
+        """What a view shows. `patience` is for how many seconds a request is sent again where no
+        answer comes."""
         return self._answer("GET", path, None, {}, patience)
 
-    def tell(
-        self, path: str, body: Body = None, key: Optional[str] = None,
-        patience: Optional[float] = None,
-    ) -> Told:
+    def tell(self, path: str, body: Body, key: Optional[str], patience: float) -> Told:
         """Gives a command, again and again until an answer comes: under a key, or without one
         where it does no harm when it is done twice."""
         sent = body if body is None or isinstance(body, bytes) else json.dumps(body).encode()
@@ -86,9 +82,9 @@ class Wire:
 
     def _answer(
         self, method: str, path: str, body: Optional[bytes], fields: Dict[str, str],
-        patience: Optional[float],
+        patience: float,
     ) -> Told:
-        until = time.monotonic() + (self.patience if patience is None else patience)
+        until = time.monotonic() + patience
         wait = FIRST_WAIT
         is_told = False
         while True:
@@ -119,9 +115,9 @@ class Wire:
             return told
         if 200 <= answer.status < 300:
             raise Unreachable(f"{self.server}: the answer isn't a desk's")
-        told = told if isinstance(told, dict) else {}
-        code, text = told.get("code", answer.status), told.get("text", answer.reason)
-        about = ""
+        code, text, about = answer.status, answer.reason, ""
+        if isinstance(told, dict) and isinstance(told.get("code"), int):
+            code, text = told["code"], str(told.get("text", text))
         if answer.status == NOT_LET_IN:
             word = "with" if "authorization" in self._fields else "without"
             about = f"asked as {self.user}, {word} a password"
