@@ -3,9 +3,10 @@
 #     sh packaging/build.sh bin/farm bin
 # Ends with status 77 where one of the programs isn't there that build packages.
 set -eu
-for tool in dpkg-buildpackage dh dh_python3 po2debconf strip; do
+for tool in dpkg-buildpackage dh dh_python3 po2debconf pybuild strip; do
     command -v "$tool" > /dev/null || { echo "package: not built, since there is no $tool"; exit 77; }
 done
+/usr/bin/python3 -c 'import setuptools' 2> /dev/null || { echo "package: not built, since there is no python3-setuptools"; exit 77; }
 program=$(realpath "$1")
 to=$(realpath "$2")
 cd "$(dirname "$0")/.."
@@ -14,7 +15,7 @@ trap 'rm -r "$folder"' EXIT
 umask 022
 tree=$folder/fizgruk
 mkdir "$tree"
-cp -r packaging/debian tools docs examples "$tree"
+cp -r packaging/debian tools python docs examples "$tree"
 find "$tree" -name __pycache__ -prune -exec rm -r {} +
 install -m 755 "$program" "$tree/farm"
 (cd "$tree" && dpkg-buildpackage --build=binary --no-sign --no-check-builddeps) > "$folder/log" 2>&1 ||

@@ -48,6 +48,13 @@ does apt-get purge -y fizgruk-desk
 stands | diff /tmp/before - || fail "the client leaves files"
 echo "package: the client alone starts nothing, and leaves nothing"
 
+# ---- the Python package alone
+install ./python3-fizgruk_*.deb
+(cd / && python3 -c 'import fizgruk') || fail "import fizgruk"
+does apt-get purge -y python3-fizgruk
+stands | diff /tmp/before - || fail "the Python package leaves files"
+echo "package: the Python package alone can be imported, and leaves nothing"
+
 # ---- the first import and the first reservation
 began=$(date +%s%N)
 install ./fizgruk-desk_*.deb ./fizgruk-farm_*.deb

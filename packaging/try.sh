@@ -1,8 +1,8 @@
 #!/bin/sh
-# Installs the packages in a clean Debian with its own systemd, as a new user would: the client alone; the first
-# import and the first reservation, timed; upgrades, from the single package 2.0 and of a farm of the first edition
-# too; what an admin disabled; removing and purging. Wants root, debootstrap and a mirror of Debian; takes minutes,
-# and is run by hand:
+# Installs the packages in a clean Debian with its own systemd, as a new user would: the client alone, and the Python
+# package; the first import and the first reservation, timed; upgrades, from the single package 2.0 and of a farm of
+# the first edition too; what an admin disabled; removing and purging. Wants root, debootstrap and a mirror of
+# Debian; takes minutes, and is run by hand:
 #     git archive 337eb97 | tar -x -C OLD && sh OLD/packaging/build.sh bin/farm OLD     # the package 2.0
 #     sh packaging/try.sh bin OLD/fizgruk_2.0_amd64.deb [FOLDER OF A DEBIAN THAT IS THERE]
 set -eu
@@ -23,7 +23,7 @@ else
 fi
 chmod 755 "$room"
 mkdir "$root/srv/packages"
-cp "$packages"/fizgruk*.deb "$root/srv/packages"
+cp "$packages"/fizgruk*.deb "$packages"/python3-fizgruk*.deb "$root/srv/packages"
 cp "$old" "$root/srv/old.deb"
 cp -r "$here/inside.sh" "$here/../tests/first_edition" "$root/srv"
 cp /etc/resolv.conf "$root/etc/resolv.conf"

@@ -26,7 +26,7 @@ for deb in $built; do
         [ ! -e "$folder/$name/$script" ] || sh -n "$folder/$name/$script" || fail "$name's $script is no script"
     done
 done
-[ "$(echo "$built" | wc -l)" = 3 ] || fail "it builds $built"
+[ "$(echo "$built" | wc -l)" = 4 ] || fail "it builds $built"
 
 # ---- what each package has and needs
 field() { dpkg-deb -f "$folder"/"$1"_*.deb "$2"; }
@@ -46,9 +46,29 @@ for name in fizgruk-desk fizgruk-farm; do
 done
 field fizgruk-farm Depends | grep -q 'fizgruk-desk (= .*python3' || fail "what fizgruk-farm depends on"
 
+# ---- the Python package stands alone, and is the one that docs/PYTHON.md installs
+[ "$(field python3-fizgruk Architecture)" = all ] || fail "the Python package's architecture"
+! field python3-fizgruk Depends | grep fizgruk || fail "the Python package needs others"
+! grep -vE '^./(usr/(lib/(python3/(dist-packages/(fizgruk.*)?)?)?|share/(doc/(python3-fizgruk/.*)?)?)?)?$' \
+    "$folder/python3-fizgruk/files" || fail "the Python package has more than its modules and documents"
+modules=$tree/usr/lib/python3/dist-packages
+for file in python/src/fizgruk/*.py python/src/fizgruk/py.typed; do
+    cmp -s "$file" "$modules/fizgruk/${file##*/}" || fail "python3-fizgruk has no $file"
+done
+said=$(PYTHONPATH=$modules /usr/bin/python3 -c 'import importlib.metadata as it; print(it.version("fizgruk"))')
+[ "$said-1" = "$(field python3-fizgruk Version)" ] || fail "the Python package's version $said"
+if /usr/bin/python3 -c 'import pytest' 2> /dev/null; then
+    (cd "$folder" && PYTHONPATH=$modules /usr/bin/python3 -m pytest --help) > "$folder/help"
+    grep -q '^  --farm=TAGS' "$folder/help" || fail "pytest doesn't find the plugin"
+fi
+for name in gitlab-ci.yml Jenkinsfile with-board.sh; do
+    cmp -s "examples/$name" "$tree/usr/share/doc/fizgruk-desk/examples/$name" || fail "there is no example $name"
+done
+cmp -s docs/PYTHON.md "$tree/usr/share/doc/python3-fizgruk/PYTHON.md" || fail "python3-fizgruk has no PYTHON.md"
+
 architecture=$(dpkg --print-architecture)
-for name in $(grep -o 'bin/fizgruk[^ ]*[.]deb' docs/USING.md | sed "s,bin/,,; s,amd64,$architecture," | sort -u); do
-    [ -e "$folder/$name" ] || fail "docs/USING.md names $name"
+for name in $(grep -oh 'bin/[a-z3-]*fizgruk[^ ]*[.]deb' docs/USING.md docs/PYTHON.md | sed "s,bin/,,; s,amd64,$architecture," | sort -u); do
+    [ -e "$folder/$name" ] || fail "docs/USING.md or docs/PYTHON.md names $name"
 done
 
 # ---- its units: enabled at the first installation alone, by what keeps an admin's choice
@@ -99,7 +119,8 @@ for page in "$tree"/usr/share/man/man?/*.gz; do
     gunzip -c "$page" > "$folder/pages/$(basename "$page" .gz)"
 done
 for page in "$tree$docs"/*.md "$folder"/pages/* "$tree"/etc/farm/* "$tree/etc/nginx/sites-available/farm" "$tree"/lib/systemd/system/*; do
-    named=$(sed 's,[a-z/]*[A-Z]*[.]md of the source,,g' "$page" | grep -Eo '[a-z/-]*[A-Z]+[.]md|docs/[a-z.-]+[0-9]|docs/[a-z]+[.]png' | sort -u)
+    named=$(sed 's,[a-z/]*[A-Z]*[.]md of the source,,g' "$page" |
+        grep -Eo '[a-z/-]*[A-Z]+[.]md|docs/[a-z.-]+[0-9]|docs/[a-z]+[.]png|openapi[.]json' | sort -u)
     for name in $named; do
         name=$(basename "$name")
         [ -e "$tree$docs/$name" ] || [ -e "$tree/usr/share/man/man${name##*.}/$name.gz" ] ||
@@ -110,4 +131,4 @@ if command -v lintian > /dev/null; then
     # shellcheck disable=SC2086
     lintian --allow-root --fail-on error,warning $built > "$folder/said" 2>&1 || fail "lintian says $(cat "$folder/said")"
 fi
-echo "package: client and server apart, units that an admin may disable, the tools, man pages and each document that is named"
+echo "package: client, server and Python package apart, units that an admin may disable, the tools, man pages and each document that is named"

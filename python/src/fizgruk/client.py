@@ -1,0 +1,251 @@
+"""The desk of a board farm: its views, its commands, and boards held for the time of a `with`."""
+import copy
+import logging
+from types import TracebackType
+from typing import Callable, Dict, List, Optional, Sequence, Type, TypeVar, Union
+
+from fizgruk import models
+from fizgruk.errors import Code, Refused, Unreachable
+from fizgruk.holding import Hold
+from fizgruk.models import (
+    BoardView,
+    Check,
+    Claim,
+    Health,
+    JobView,
+    Outcome,
+    PassCounts,
+    ReservationView,
+    Status,
+    TypeView,
+)
+from fizgruk.settings import read_settings
+from fizgruk.waiting import Tell, Wait, wait_for_board, wait_for_group
+from fizgruk.wire import Body, Told, Wire, fresh_key
+
+LOG = logging.getLogger("fizgruk")
+Own = TypeVar("Own", bound="Client")
+Priority = Union[int, str, None]
+
+
+class Client:
+    """A desk, as one user sees it.
+
+    What isn't given comes from the environment, desk.ini and ~/.netrc, as for the command `desk`.
+    Each command goes out under a fresh key, or under `key`, and again under the same one where no
+    answer came, so that it is done once. Raises `Refused` where the desk refuses, and `Unreachable`
+    where no answer came for `patience` seconds.
+    """
+
+    def __init__(
+        self, server: Optional[str] = None, user: Optional[str] = None, *,
+        password_file: Optional[str] = None, ca_file: Optional[str] = None,
+        timeout: Optional[float] = None, config: Optional[str] = None, patience: float = 15.0,
+    ) -> None:
+        """`timeout` is how many seconds a network call may wait, `config` the file of settings."""
+        seconds = None if timeout is None else str(timeout)
+        given = {
+            "server": server, "user": user, "password_file": password_file, "ca_file": ca_file,
+            "timeout": seconds, "config": config,
+        }
+        self._wire = Wire(read_settings(given))
+        self.patience = patience
+
+    @property
+    def server(self) -> str:
+        return self._wire.server
+
+    @property
+    def user(self) -> str:
+        return self._wire.user
+
+    def close(self) -> None:
+        """Closes the connections that are kept; the next call opens one again."""
+        self._wire.close()
+
+    def __enter__(self: Own) -> Own:
+        return self
+
+    def __exit__(
+        self, kind: Optional[Type[BaseException]], fault: Optional[BaseException],
+        trace: Optional[TracebackType],
+    ) -> None:
+        self.close()
+
+    def of_patience(self: Own, seconds: float) -> Own:
+        """The same client, whose calls are sent again for so many seconds."""
+        other = copy.copy(self)
+        other.patience = seconds
+        return other
+
+    # ---- views
+
+    def types(self) -> List[TypeView]:
+        return self._rows("types", TypeView)
+
+    def boards(self, *tags: str) -> List[BoardView]:
+        """The boards, or those that have all of these tags."""
+        return [it for it in self._rows("boards", BoardView) if it.fits(*tags)]
+
+    def queue(self) -> List[Claim]:
+        """What waits for boards, in the order in which it is served."""
+        return self._rows("queue", Claim)
+
+    def reservations(self) -> List[ReservationView]:
+        """All reservations that ever were."""
+        return self._rows("reservations", ReservationView)
+
+    def job(self, number: int) -> JobView:
+        return models.view_of(JobView, self._look(f"/jobs/{number}"))
+
+    def group(self, number: int) -> List[JobView]:
+        """All members of a job's group, which have consecutive numbers."""
+        first = self.job(number).group
+        members: List[JobView] = []
+        while True:
+            try:
+                job = self.job(first + len(members))
+            except Refused as refusal:
+                if refusal.code != Code.NO_SUCH_JOB or not members:
+                    raise
+                return members
+            if job.group != first:
+                return members
+            members.append(job)
+
+    def status(self) -> Status:
+        return models.view_of(Status, self._look("/status"))
+
+    # ---- the admin's commands
+
+    def add_type(
+        self, name: str, check: Check = "none", every: Optional[int] = None, *,
+        key: Optional[str] = None,
+    ) -> None:
+        """Adds a type, whose boards are checked every so many hours or jobs, or never."""
+        body: Dict[str, object] = {"name": name, "check": check}
+        if every is not None:
+            body["every"] = every
+        self._tell("/types", body, key)
+
+    def add_board(
+        self, name: str, type: str, tags: Sequence[str] = (), *, key: Optional[str] = None
+    ) -> None:
+        """Adds a board, in Maintenance."""
+        self._tell("/boards", {"name": name, "type": type, "tags": list(tags)}, key)
+
+    def set_tags(self, board: str, tags: Sequence[str], *, key: Optional[str] = None) -> None:
+        """Gives a board these tags in the place of those that it has."""
+        self._tell(f"/boards/{board}/tags", {"tags": list(tags)}, key)
+
+    def set_health(self, board: str, health: Health, *, key: Optional[str] = None) -> None:
+        self._tell(f"/boards/{board}/health", {"health": health}, key)
+
+    # ---- jobs
+
+    def submit(self, text: Union[str, bytes], *, key: Optional[str] = None) -> int:
+        """Submits the text of a job file. Gives the number of its group."""
+        sent = text.encode() if isinstance(text, str) else text
+        return self._number("/jobs", sent, key)
+
+    def cancel_job(self, number: int, *, key: Optional[str] = None) -> int:
+        """Cancels a job and its group. Gives the group's number."""
+        return self._number(f"/jobs/{number}/cancel", None, key)
+
+    def wait_for_job(
+        self, number: int, timeout: Optional[float] = None, *, every: float = 2.0,
+        tell: Tell = LOG.info,
+    ) -> List[JobView]:
+        """Waits until all members of a job's group have ended, and gives them."""
+        wait = Wait(self, f"job {number} hasn't ended", timeout, every, tell)
+        return wait_for_group(wait, number)
+
+    # ---- reservations
+
+    def reserve(
+        self, *tags: str, priority: Priority = None, key: Optional[str] = None
+    ) -> int:
+        """Reserves a board that has all of these tags. Gives the reservation's number; it lives for
+        a minute, and for one more with each refresh."""
+        body: Dict[str, object] = {"tags": list(tags)}
+        if priority is not None:
+            body["priority"] = priority
+        return self._number("/reservations", body, key)
+
+    def wait_for_board(
+        self, number: int, timeout: Optional[float] = None, *, every: float = 2.0,
+        tell: Tell = LOG.info,
+    ) -> BoardView:
+        """Waits until a reservation has a board, and refreshes it meanwhile. The board is to be
+        acquired within a minute."""
+        rows = [it for it in self.reservations() if it.number == number]
+        wait = Wait(self, f"no board for reservation {number}", timeout, every, tell)
+        return wait_for_board(wait, number, rows[0].tags if rows else ())
+
+    def acquire(self, number: int, *, key: Optional[str] = None) -> None:
+        """Takes the board that a reservation was given, until it is released or canceled."""
+        self._number(f"/reservations/{number}/acquire", None, key)
+
+    def release(self, number: int, *, key: Optional[str] = None) -> None:
+        """Lets an acquired board go; it stays the reservation's for a minute."""
+        self._number(f"/reservations/{number}/release", None, key)
+
+    def refresh(self, number: int) -> None:
+        """Lets a reservation live for a minute from now on. Done twice it does no harm, so it has
+        no key."""
+        self._wire.tell(f"/reservations/{number}/refresh", None, None, self.patience)
+
+    def cancel_reservation(self, number: int, *, key: Optional[str] = None) -> None:
+        """Ends a reservation: its board is free."""
+        self._number(f"/reservations/{number}/cancel", None, key)
+
+    def board(
+        self, *tags: str, priority: Priority = None, timeout: Optional[float] = None,
+        every: float = 2.0, tell: Tell = LOG.info, **wants: str,
+    ) -> Hold:
+        """A board that is yours within a `with`:
+
+            with client.board("hdmi", power="pdu2", timeout=600) as board:
+                print(board.name)
+
+        Reserves a board that has all of these tags (`power="pdu2"` stands for `power=pdu2`, and
+        `name="rpi4b-02"` for that board), waits for it, for `timeout` seconds at most, acquires it,
+        and gives it back at the end, whatever happens. What the wait has come to is told to `tell`.
+        """
+        asked = [*tags, *(f"{name}={value}" for name, value in wants.items())]
+        return Hold(self, asked, priority, timeout, every, tell)
+
+    # ---- the dispatcher's commands
+
+    def call_pass(self) -> PassCounts:
+        """Gives boards to what waits for them. Done twice it does no harm, so it has no key."""
+        told = self._wire.tell("/pass", None, None, self.patience)
+        return models.view_of(PassCounts, told)
+
+    def start_job(self, number: int, *, key: Optional[str] = None) -> int:
+        """Starts a job's group. Gives the group's number."""
+        return self._number(f"/jobs/{number}/start", None, key)
+
+    def finish_job(self, number: int, outcome: Outcome, *, key: Optional[str] = None) -> int:
+        """Says how a job ended. Gives its number."""
+        return self._number(f"/jobs/{number}/finish", {"outcome": outcome}, key)
+
+    # ---- how it is asked
+
+    def _look(self, path: str) -> Told:
+        return self._wire.look(path, self.patience)
+
+    def _rows(self, name: str, kind: Callable[..., models.View]) -> List[models.View]:
+        rows = self._look(f"/{name}").get(name)
+        if not isinstance(rows, list):
+            raise Unreachable(f"{self.server}: the answer isn't a desk's")
+        return [models.view_of(kind, it) for it in rows]
+
+    def _tell(self, path: str, body: Body, key: Optional[str]) -> Told:
+        return self._wire.tell(path, body, key or fresh_key(), self.patience)
+
+    def _number(self, path: str, body: Body, key: Optional[str]) -> int:
+        number = self._tell(path, body, key).get("number")
+        if not isinstance(number, int):
+            raise Unreachable(f"{self.server}: the answer isn't a desk's")
+        return number

@@ -1,0 +1,72 @@
+"""What can go wrong: each error of the package, and the codes of the desk's refusals."""
+import enum
+
+
+class Code(enum.IntEnum):
+    """The codes that a desk refuses with (docs/API.md, Refusals)."""
+
+    NO_MEMORY = 1
+    BAD_MOMENT = 2
+    FORBIDDEN = 3
+    FULL = 4
+    BAD_NAME = 5
+    BAD_TAG = 6
+    BAD_COUNT = 7
+    NO_SUCH_TYPE = 10
+    TYPE_EXISTS = 11
+    NO_SUCH_BOARD = 12
+    BOARD_EXISTS = 13
+    BOARD_IS_HELD = 14
+    BOARD_IS_RETIRED = 15
+    NO_SUCH_JOB = 20
+    WRONG_JOB_STATE = 21
+    NO_SUCH_BOARDS = 22
+    BAD_PRIORITY = 23
+    NO_SUCH_RESERVATION = 30
+    RESERVATION_EXPIRED = 31
+    WRONG_RESERVATION_STATE = 32
+    KEY_REUSED = 40
+    BAD_KEY = 41
+    BAD_REQUEST = 50
+    TOO_LARGE = 51
+    NO_SUCH_ROUTE = 52
+    WRONG_METHOD = 53
+    BAD_CODING = 54
+    STORE_FAULT = 60
+    CLOSED = 61
+    BAD_JOB_FILE = 70
+
+
+class FizgrukError(Exception):
+    """Any error of this package."""
+
+
+class Refused(FizgrukError):
+    """The desk refused: nothing was done. What the proxy in front of it refuses has the HTTP status
+    as its code, as 401 where the password is wrong."""
+
+    def __init__(self, code: int, text: str, status: int, about: str = "") -> None:
+        super().__init__(f"{code} {text}" + (f": {about}" if about else ""))
+        self.code = code
+        self.text = text
+        self.status = status
+
+
+class Unreachable(FizgrukError):
+    """No answer came, or none that is a desk's: nobody knows whether a command was done."""
+
+
+class TimedOut(FizgrukError, TimeoutError):
+    """What was waited for didn't come in time."""
+
+
+class ReservationEnded(FizgrukError):
+    """A reservation ended before its board was acquired."""
+
+
+class NotGivenBack(FizgrukError):
+    """A board may be held still, since no answer came when it was given back."""
+
+
+class BadSettings(FizgrukError):
+    """The settings can't be read, or can't be used."""

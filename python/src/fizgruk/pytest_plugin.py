@@ -1,0 +1,118 @@
+"""Tests on a board of the farm: `pytest --farm hdmi`, and the fixture `board`.
+
+The board is reserved for the session as the first test asks for it, and given back at the end, also
+after Ctrl-C, SIGTERM and SIGHUP. Tests that ask for it are skipped where --farm isn't given.
+"""
+import contextlib
+import signal
+import threading
+from types import FrameType
+from typing import Iterator, List, Optional, Union
+
+import pytest
+
+from fizgruk.client import Client
+from fizgruk.errors import FizgrukError
+from fizgruk.models import Board
+
+# Signals that end a process without a word, and here end the session as Ctrl-C does.
+SIGNALS = (signal.SIGTERM, signal.SIGHUP)
+
+
+class Ended(KeyboardInterrupt):
+    """The session was ended by a signal."""
+
+
+def pytest_addoption(parser: pytest.Parser) -> None:
+    group = parser.getgroup("farm", "boards of a farm")
+    group.addoption(
+        "--farm",
+        metavar="TAGS",
+        action="append",
+        help="hold a board with these tags for the tests that ask for the fixture board; several"
+        " tags are divided by spaces, '' is any board",
+    )
+    group.addoption(
+        "--farm-priority", metavar="P", help="low, medium, high, or 0 to 100 (50)", type=priority
+    )
+    group.addoption(
+        "--farm-timeout", metavar="SECONDS", help="wait so long for a board (no end)", type=float
+    )
+
+
+def priority(text: str) -> Union[int, str]:
+    return int(text) if text.isascii() and text.isdigit() else text
+
+
+def pytest_report_header(config: pytest.Config) -> Optional[str]:
+    tags = tags_of(config)
+    return None if tags is None else f"farm: a board{' with ' if tags else ''}{' '.join(tags)}"
+
+
+def tags_of(config: pytest.Config) -> Optional[List[str]]:
+    """The tags of all options --farm, or None where there is none."""
+    given = config.getoption("--farm")
+    return None if given is None else " ".join(given).split()
+
+
+def pytest_configure(config: pytest.Config) -> None:
+    """Lets the signals be raised, where nobody else takes them."""
+    if tags_of(config) is None or threading.current_thread() is not threading.main_thread():
+        return
+    for number in SIGNALS:
+        if signal.getsignal(number) is signal.SIG_DFL:
+            signal.signal(number, end)
+
+
+def pytest_unconfigure() -> None:
+    if threading.current_thread() is threading.main_thread():
+        for number in SIGNALS:
+            if signal.getsignal(number) is end:
+                signal.signal(number, signal.SIG_DFL)
+
+
+def end(number: int, frame: Optional[FrameType]) -> None:
+    raise Ended(f"ended by {signal.Signals(number).name}")
+
+
+@pytest.fixture(scope="session")
+def farm_client() -> Iterator[Client]:
+    """The desk, as the user sees whom the settings name."""
+    try:
+        client = Client()
+    except FizgrukError as fault:
+        pytest.fail(str(fault), pytrace=False)
+    with client:
+        yield client
+
+
+@pytest.fixture(scope="session")
+def board(pytestconfig: pytest.Config, request: pytest.FixtureRequest) -> Iterator[Board]:
+    """A board of the farm that has the tags of --farm, for the time of the session."""
+    tags = tags_of(pytestconfig)
+    if tags is None:
+        pytest.skip("it wants a board of the farm: pytest --farm TAGS")
+    client: Client = request.getfixturevalue("farm_client")
+    hold = client.board(
+        *tags,
+        priority=pytestconfig.getoption("--farm-priority"),
+        timeout=pytestconfig.getoption("--farm-timeout"),
+        tell=lambda text: tell(pytestconfig, text),
+    )
+    try:
+        with hold as held:
+            tell(pytestconfig, f"{held.name} is held by reservation {held.reservation}")
+            yield held
+    except FizgrukError as fault:
+        pytest.fail(str(fault), pytrace=False)
+
+
+def tell(config: pytest.Config, text: str) -> None:
+    """Tells on the terminal, also while what tests print is captured."""
+    reporter = config.pluginmanager.get_plugin("terminalreporter")
+    capture = config.pluginmanager.get_plugin("capturemanager")
+    if reporter is None:
+        return
+    with capture.global_and_fixture_disabled() if capture else contextlib.nullcontext():
+        reporter.ensure_newline()
+        reporter.write_line(f"farm: {text}")
