@@ -1,16 +1,19 @@
 """What the tests of the status page share: a door that stands in the proxy's place, a farm behind
-it, and what a page shows."""
+it, what a page shows, and how it is worked with."""
 import http.client
 import http.server
+import json
 import os
 import re
+import shutil
 import subprocess
 import sys
 import tempfile
 import threading
+import time
 import urllib.parse
 
-from browser import CHROMIUM
+from browser import CHROMIUM, Browser
 from served import TOOLS, Farm, demand, free_port, wait_until
 
 BOARDS = [("b1", "bbb", ["hdmi", "serial"]), ("b2", "bbb", ["serial"]), ("c1", "ccc", [])]
@@ -133,8 +136,7 @@ class Lab:
         if not scheme:
             return self.browser.open(address, **size)
         opened = self.browser.open("data:text/html,", **size)
-        media = [{"name": "prefers-color-scheme", "value": scheme}]
-        opened.do("Emulation.setEmulatedMedia", features=media)
+        set_scheme(opened, scheme)
         opened.go(address)
         return opened
 
@@ -197,6 +199,105 @@ def want_a_browser(name):
     except OSError:
         print(f"{name}: not tried, since there is no 127.0.0.1")
         sys.exit(77)
+
+
+
+# ---- working with it
+
+# A row's button, and what is in a dialog.
+BUTTON = """[...[...document.querySelectorAll("#{table} tbody tr:not(.group)")]
+  .find(it => it.cells[0].textContent.trim() === "{row}").querySelectorAll("button")]
+  .find(it => it.textContent === "{text}")"""
+HEAD = """[...document.querySelectorAll("#{table} thead th")].find(
+  it => it.textContent.trim() === "{text}")"""
+FACTS = """(id => Object.fromEntries([...document.querySelectorAll(`#${id} dt`)].map(
+  it => [it.textContent, it.nextElementSibling.textContent.trim()])))"""
+
+
+def click(opened, table, row, text):
+    opened.ask(BUTTON.format(table=table, row=row, text=text) + ".click()")
+
+
+def answer(opened, text):
+    """Answers the question that is open."""
+    opened.ask(
+        f"[...document.querySelectorAll('#question button')].find(it => it.textContent === '{text}').click()"
+    )
+
+
+def buttons(shown, table, row):
+    """What can be done with a row."""
+    return next(it[-1] for it in shown[table] if it[0] == row)
+
+
+def set_scheme(opened, scheme):
+    """Lets a page be light or dark."""
+    media = [{"name": "prefers-color-scheme", "value": scheme}]
+    opened.do("Emulation.setEmulatedMedia", features=media)
+
+
+def key(opened, name, number, text=""):
+    """Presses a key, with the text that it types."""
+    pressed = {"key": name, "code": name, "windowsVirtualKeyCode": number}
+    kind = "keyDown" if text else "rawKeyDown"
+    opened.do("Input.dispatchKeyEvent", type=kind, text=text, **pressed)
+    opened.do("Input.dispatchKeyEvent", type="keyUp", **pressed)
+
+
+def reservation(lab, user, *tags):
+    return lab.farm.tell(user, "/reservations", {"tags": list(tags)})["number"]
+
+
+def passes(lab):
+    lab.farm.tell("dispatcher", "/pass")
+
+
+def end_all(lab):
+    """Ends what a row left."""
+    for it in lab.farm.look("/reservations")["reservations"]:
+        if it["state"] in ("waiting", "allocated", "acquired"):
+            lab.farm.tell("admin", f"/reservations/{it['number']}/cancel")
+    for it in lab.farm.look("/boards")["boards"]:
+        kind, _, number = it["holder"].partition(" ")
+        if kind == "job":
+            lab.farm.tell("admin", f"/jobs/{number}/cancel")
+            if lab.farm.job(int(number))["state"] == "Canceling":
+                lab.farm.tell("dispatcher", f"/jobs/{number}/finish", {"outcome": "Complete"})
+    for it in lab.farm.look("/queue")["queue"]:
+        lab.farm.tell("admin", f"/jobs/{it['number']}/cancel")
+    lab.given.clear()
+    lab.files.clear()
+
+
+def lab_of_the_past(program, folder, browser, ago):
+    """A lab for ann whose boards were added so many seconds ago; its farm isn't served yet."""
+    lab, moment = Lab(program, folder, browser, [], "ann"), time.time() - ago
+    lab.farm.kill()
+    commands = [("/types", {"name": kind}) for kind in sorted({it[1] for it in BOARDS})]
+    for name, kind, tags in BOARDS:
+        commands.append(("/boards", {"name": name, "type": kind, "tags": tags}))
+        commands.append((f"/boards/{name}/health", {"health": "Good"}))
+    for path, body in commands:
+        tell_at(lab.farm, moment, "admin", path, json.dumps(body).encode())
+    return lab
+
+
+def run_rows(name, program, rows, own_rows):
+    """Tries rows over one farm after another, and then those that want a farm of their own."""
+    want_a_browser(name)
+    folder = tempfile.mkdtemp()
+    try:
+        browser = Browser(folder)
+        lab = Lab(program, folder, browser, BOARDS, "ann")
+        for row in rows:
+            print(f"{name}: {row(lab)}", flush=True)
+        lab.end()
+        for row in own_rows:
+            print(f"{name}: {row(program, folder, browser)}", flush=True)
+        browser.end()
+    finally:
+        # (Chromium may still write)
+        shutil.rmtree(folder, ignore_errors=True)
 
 
 # ---- contrast
