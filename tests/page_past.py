@@ -73,7 +73,7 @@ def history(lab):
     rows = opened.ask("[...document.querySelectorAll('#board-history tbody tr')].map("
                       "it => [...it.cells].slice(1).map(cell => cell.textContent))")
     demand("a board's", [["job 900", "ann", "Complete", "test 900"],
-                         ["Good to Bad", "", "Bad", "no prompt"],
+                         ["health", "", "Good to Bad", "no prompt"],
                          ["job 899", "bob", "Infra", "test 899: lost"]], rows)
     demand("its facts", "Good", opened.ask(f"{FACTS}('board').Health"))
     for scheme in ("light", "dark"):

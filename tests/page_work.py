@@ -9,10 +9,16 @@ refused; an admin sets healths. Each row prints a line and says what it saw. End
 import json
 import os
 import re
+import shutil
 import sys
+import tempfile
 import time
+import urllib.parse
 
+import proxy
+from browser import Browser
 from pages import (
+    BOARDS,
     BUTTON,
     FACTS,
     HEAD,
@@ -34,7 +40,7 @@ from pages import (
     tell_at,
     until,
 )
-from served import demand, wait_until
+from served import Farm, demand, wait_until
 
 # ---- finding
 
@@ -249,6 +255,29 @@ def lost_answers(lab):
     return "a command without an answer is sent again under its key, and done once"
 
 
+def waiting_is_extended(lab):
+    held, opened = reservation(lab, "bob", "hdmi"), lab.open()
+    passes(lab)
+    other = reservation(lab, "ann", "hdmi")
+    until(opened, "it is held", lambda it: "bob" in str(it["boards"]))
+    opened.ask("tagField.value = 'hdmi'; reserveForm.requestSubmit()")
+    until(opened, "it waits", lambda it: len(it["reservations"]) == 3)
+    number = max(it["number"] for it in lab.farm.look("/queue")["queue"])
+    begun = lab.farm.reservation(number)["deadline"]
+    lab.given.clear()
+    # (as if half of the lease were over)
+    opened.ask(f"void [{number}, {other}].forEach(it => reservations.get(it).deadline -= 40)")
+    wait_until("it is extended", lambda: lab.given)
+    lab.asked.clear()
+    wait_until("two more looks", lambda: lab.times_asked("/status") == 2)
+    demand("once, without a key", [(f"/reservations/{number}/refresh", None, "")], lab.given)
+    demand("its deadline", True, lab.farm.reservation(number)["deadline"] > begun)
+    opened.close()
+    lab.farm.tell("bob", f"/reservations/{held}/cancel")
+    end_all(lab)
+    return "what was reserved from the page and waits is extended while the page is in sight"
+
+
 def refusals(program, room, browser):
     lab, now = lab_of_the_past(program, room, browser, 100), time.time()
     number = str(tell_at(lab.farm, now - 70, "ann", "/reservations", b'{"tags":["hdmi"]}'))
@@ -352,6 +381,42 @@ def an_admin(lab):
     return "an admin sets healths and ends others' work; who isn't known or the dispatcher only looks"
 
 
+# ---- behind nginx
+
+
+def behind_nginx(program, room, browser):
+    """The page's own commands pass the example's proxy, which refuses those of foreign pages."""
+    del browser
+    if proxy.NGINX is None or shutil.which("openssl") is None or shutil.which("curl") is None:
+        return "behind nginx: not tried, since nginx, openssl or curl isn't there"
+    folder = tempfile.mkdtemp(dir=room)
+    farm = Farm(program, folder, BOARDS)
+    door = proxy.Door(farm, folder)
+    login = f"ann:{urllib.parse.quote(proxy.WORDS['ann'])}@"
+    demand("who asks without a password", 22, proxy.ask(door, "-f", "/whoami"))
+    demand("with another's", 22, proxy.ask(door, "-f", "-u", "ann:pass on", "/whoami"))
+    own = Browser(folder, "--ignore-certificate-errors")
+    opened = own.open(door.server.replace("https://", f"https://{login}"))
+    demand("who looks", "ann", seen(opened)["who"])
+    click(opened, "boards", "b2", "Reserve")
+    until(opened, "it is reserved", lambda it: it["reservations"])
+    found = farm.look("/reservations")["reservations"][0]
+    demand("at the desk", ("ann", ["name=b2"]), (found["owner"], found["tags"]))
+    farm.tell("dispatcher", "/pass")
+    until(opened, "it is allocated", lambda it: it["reservations"][0][1] == "allocated")
+    click(opened, "boards", "b2", "Take")
+    until(opened, "it is acquired", lambda it: it["reservations"][0][1] == "acquired")
+    demand("at the desk", "acquired", farm.reservation(1)["state"])
+    click(opened, "boards", "b2", "Give back")
+    answer(opened, "Give back")
+    until(opened, "it is given back", lambda it: not it["reservations"])
+    demand("at the desk", "canceled", farm.reservation(1)["state"])
+    own.end()
+    door.process.kill()
+    farm.kill()
+    return "behind nginx the page knows who logged in, and its commands are taken"
+
+
 if __name__ == "__main__":
     run_rows(
         "page_work",
@@ -363,8 +428,9 @@ if __name__ == "__main__":
             keys_and_dialogs,
             reserve_and_give_back,
             lost_answers,
+            waiting_is_extended,
             jobs_are_canceled,
             an_admin,
         ],
-        [refusals],
+        [refusals, behind_nginx],
     )

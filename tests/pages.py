@@ -71,7 +71,8 @@ class Door(http.server.BaseHTTPRequestHandler):
     def do_POST(self):
         lab, body = self.server.lab, self.rfile.read(int(self.headers["content-length"] or 0))
         lab.given.append((self.path, self.headers["x-key"], body.decode()))
-        self.hand_on("POST", self.path, body, {"x-user": lab.user, "x-key": self.headers["x-key"]})
+        fields = {"x-user": lab.user, "x-key": self.headers["x-key"]}
+        self.hand_on("POST", self.path, body, {it: fields[it] for it in fields if fields[it]})
 
     def hand_on(self, method, path, body=None, fields=None):
         lab = self.server.lab
