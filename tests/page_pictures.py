@@ -51,7 +51,8 @@ def use(farm, now):
     mine = tell(47 * MINUTE, "ann", "/reservations", {"tags": ["camera=imx219"]})
     tell(47 * MINUTE, "dispatcher", "/pass")
     tell(47 * MINUTE - 20, "ann", f"/reservations/{mine}/acquire")
-    for user, kind in (("ann", "qemu-aarch64"), ("dan", "qemu-aarch64"), ("ci", "beaglebone-black")):
+    running = {"ann": "qemu-aarch64", "dan": "qemu-aarch64", "ci": "beaglebone-black"}
+    for user, kind in running.items():
         job = f"job_name = 'boot {user}'\ndevice_type = '{kind}'\n".encode()
         number = tell(12 * MINUTE, user, "/jobs", job)
         tell(12 * MINUTE, "dispatcher", "/pass")
@@ -68,7 +69,8 @@ def use(farm, now):
 
 def look(farm, now):
     words = [farm.program, "once", "--db", farm.db, "--at", str(int(now - 4 * HOUR))]
-    ran = subprocess.run(words, input=b"GET /boards HTTP/1.1\r\n\r\n", capture_output=True, check=True)
+    request = b"GET /boards HTTP/1.1\r\n\r\n"
+    ran = subprocess.run(words, input=request, capture_output=True, check=True)
     return ran.stdout.split(b"\r\n\r\n", 1)[1]
 
 

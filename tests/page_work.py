@@ -2,9 +2,10 @@
 """Works with the status page in a headless Chromium: python3 tests/page_work.py bin/farm
 
 What a user does with it: finds what is his or her own, sorts, groups, reserves a board, takes it,
-extends it, gives it back, cancels, by mouse and by keyboard, also where answers are lost and commands
-refused; an admin sets healths. Each row prints a line and says what it saw. Ends with status 1 at the first thing that isn't as it should be, and with
-77 where Chromium isn't there. Takes about a minute.
+extends it, gives it back, cancels, by mouse and by keyboard, also where answers are lost and
+commands refused; an admin sets healths. Each row prints a line and says what it saw. Ends with
+status 1 at the first thing that isn't as it should be, and with 77 where Chromium isn't there;
+where nginx isn't, the row that wants it says so. Takes a minute or two.
 """
 import json
 import os
@@ -38,6 +39,7 @@ from pages import (
     set_health,
     set_scheme,
     tell_at,
+    text_of,
     until,
 )
 from served import Farm, demand, wait_until
@@ -58,7 +60,8 @@ def mine(lab):
     demand("what is marked", ["c1", "1", str(waits)], opened.ask(marked))
     opened.ask("mine.click()")
     shown = opened.ask(SHOWN)
-    demand("ann's boards", [["c1", f"ann job {number} test"]], [[it[0], it[4]] for it in shown["boards"]])
+    hers = [(it[0], it[4]) for it in shown["boards"]]
+    demand("ann's boards", [("c1", f"ann job {number} test")], hers)
     demand("ann's claims", [f"reservation {waits}"], [it[1] for it in shown["queue"]])
     demand("ann's reservations", [str(waits)], names(shown, "reservations"))
     demand("how many", "(1 of 3)", shown["counts"]["boards"])
@@ -98,7 +101,8 @@ def sorting(lab):
         opened.ask(f"{head}.querySelector('button').click()")
     health = HEAD.format(table="boards", text="Health")
     opened.ask(f"{health}.querySelector('button').click()")
-    demand("one column alone", 1, opened.ask("document.querySelectorAll('#boards [aria-sort]').length"))
+    sorts = "document.querySelectorAll('#boards [aria-sort]').length"
+    demand("one column alone", 1, opened.ask(sorts))
     demand("by health", ["b2", "b1", "b10", "c1", "a1"], names(opened.ask(SHOWN)))
     opened.ask(HEAD.format(table="queue", text="Priority") + ".querySelector('button').click()")
     priorities = [it[3] for it in opened.ask(SHOWN)["queue"]]
@@ -108,7 +112,7 @@ def sorting(lab):
     opened.close()
     set_health(lab.farm, a1="Retired", b10="Retired")
     end_all(lab)
-    return "a click on a head sorts, numbers by their size, and the other way round, and not any more"
+    return "a click on a head sorts, numbers by size, then the other way round, then no more"
 
 
 def groups(lab):
@@ -138,7 +142,8 @@ def groups(lab):
     shown = opened.ask(SHOWN)
     demand("no groups", ([], 5), (shown["groups"], len(shown["boards"])))
     demand("the address", "?flat", opened.ask("location.search"))
-    demand("the type is seen then", True, opened.ask("document.querySelector('td.type').checkVisibility()"))
+    is_seen = "document.querySelector('td.type').checkVisibility()"
+    demand("the type is seen then", True, opened.ask(is_seen))
     opened.close()
     set_health(lab.farm, b2="Good")
     end_all(lab)
@@ -171,26 +176,35 @@ def keys_and_dialogs(lab):
 # ---- commands
 
 
-def reserve_and_give_back(lab):
+def reserve_by_tags(lab):
     opened = lab.open()
     demand("the button of a free board", "Reserve", buttons(seen(opened), "boards", "b2"))
     opened.ask("tagField.focus()")
     opened.do("Input.insertText", text="serial hd")
     offered = opened.ask("[...completions.children].map(it => it.value)")
     demand("what is offered", ["serial hdmi"], offered)
-    demand("what fits", "", opened.ask("fitting.textContent").replace("0 boards fit, 0 free", ""))
+    demand("what fits", "0 boards fit, 0 free", opened.ask("fitting.textContent"))
     opened.do("Input.insertText", text="mi")
     demand("what fits then", "1 board fits, 1 free", opened.ask("fitting.textContent"))
     key(opened, "Enter", 13, "\r")
-    until(opened, "it is reserved", lambda it: it["reservations"])
+    shown = until(opened, "it is reserved", lambda it: it["reservations"])
     path, used, body = lab.given.pop()
-    demand("the command", ("/reservations", {"tags": ["serial", "hdmi"]}), (path, json.loads(body)))
+    wanted = ("/reservations", {"tags": ["serial", "hdmi"]})
+    demand("the command", wanted, (path, json.loads(body)))
     demand("its key", True, bool(re.fullmatch(r"[0-9a-f]{32}", used)))
-    number = str(lab.farm.look("/reservations")["reservations"][-1]["number"])
-    demand("whose it is", "ann", lab.farm.reservation(int(number))["owner"])
-    shown = opened.ask(SHOWN)
-    demand("while it waits", "Extend Cancel", buttons(shown, "reservations", number))
-    demand("the field is empty again", "", opened.ask("tagField.value"))
+    found = lab.farm.look("/reservations")["reservations"][-1]
+    demand("whose it is", "ann", found["owner"])
+    demand("while it waits", "Extend Cancel", buttons(shown, "reservations", str(found["number"])))
+    wait_until("the field is empty again", lambda: opened.ask("tagField.value") == "")
+    opened.close()
+    end_all(lab)
+    return "a board is reserved by tags, which are offered, and what fits is counted"
+
+
+def take_extend_give_back(lab):
+    number = str(reservation(lab, "ann", "hdmi"))
+    opened = lab.open()
+    seen(opened)
     passes(lab)
     shown = until(opened, "it is allocated", lambda it: it["reservations"][0][1] == "allocated")
     demand("then", "Take Extend Cancel", buttons(shown, "reservations", number))
@@ -201,28 +215,29 @@ def reserve_and_give_back(lab):
     key(opened, "Enter", 13, "\r")
     shown = until(opened, "it is acquired", lambda it: it["reservations"][0][1] == "acquired")
     demand("after that", "Extend Give back", buttons(shown, "boards", "b1"))
-    demand("the focus stays in the row", "b1", opened.ask(
-        "document.activeElement.closest('tr').cells[0].textContent"))
+    row = "document.activeElement.closest('tr').cells[0].textContent"
+    demand("the focus stays in the row", "b1", opened.ask(row))
     click(opened, "reservations", number, "Extend")
     until(opened, "it is told", lambda it: it["news"] == f"reservation {number} is extended")
-    demand("the commands", [f"/reservations/{number}/{it}" for it in ("acquire", "refresh")],
-           [it[0] for it in lab.given])
+    wanted = [f"/reservations/{number}/{it}" for it in ("acquire", "refresh")]
+    demand("the commands", wanted, [it[0] for it in lab.given])
     click(opened, "reservations", number, "Give back")
-    demand("a question", True, "b1" in opened.ask("document.querySelector('dialog:modal p').textContent"))
+    asked = "Give back b1? Others may get it at once."
+    demand("a question", asked, text_of(opened, "dialog:modal p"))
     demand("what Enter would do", "No", opened.ask("document.activeElement.textContent"))
     key(opened, "Escape", 27)
-    wait_until("the question is gone", lambda: not opened.ask("document.querySelector('dialog:modal')"))
+    wait_until("the question is gone", lambda: text_of(opened, "dialog:modal p") is None)
     demand("no further command", 2, len(lab.given))
     click(opened, "reservations", number, "Give back")
     key(opened, "Tab", 9)
     key(opened, "Enter", 13, "\r")
     shown = until(opened, "it is given back", lambda it: not it["reservations"])
     demand("free again", "Reserve", buttons(shown, "boards", "b1"))
-    demand("what is told", "b1 is given back", opened.ask(SHOWN)["news"])
+    demand("what is told", "b1 is given back", shown["news"])
     demand("keys", 3, len({it[1] for it in lab.given}))
     opened.close()
     end_all(lab)
-    return "a board is reserved by tags, taken, extended and given back, by keys too"
+    return "a board is taken, extended and given back by keys, and the last is asked about"
 
 
 def lost_answers(lab):
@@ -249,7 +264,8 @@ def lost_answers(lab):
     click(opened, "reservations", number, "Send again")
     until(opened, "an answer", lambda it: it["news"] == f"reservation {number} is extended")
     demand("again under its key", (sent + 1, 1), (len(lab.given), len({it[1] for it in lab.given})))
-    demand("nothing is told beside it", "Extend Cancel", buttons(opened.ask(SHOWN), "reservations", number))
+    left = buttons(opened.ask(SHOWN), "reservations", number)
+    demand("nothing is told beside it", "Extend Cancel", left)
     opened.close()
     end_all(lab)
     return "a command without an answer is sent again under its key, and done once"
@@ -319,20 +335,21 @@ def jobs_are_canceled(lab):
     demand("the desk's", "Canceled", lab.farm.job(second)["result"])
     demand("its news", f"group {second} is canceled", opened.ask(SHOWN)["news"])
     click(opened, "boards", "c1", f"job {first}")
-    facts = wait_until("its facts", lambda: opened.ask(f"{FACTS}('job')").get("State") and opened.ask(
-        f"{FACTS}('job')"))
-    demand("the job", ("ann", "Scheduled", "c1", "ccc"),
-           tuple(facts[it] for it in ("Owner", "State", "Board", "Type")))
-    demand("its title", f"Job {first}: two", opened.ask("document.querySelector('#job h2').textContent"))
-    demand("its text", group.decode(), opened.ask("document.querySelector('#job-text pre').textContent"))
+    wait_until("its facts", lambda: opened.ask(f"{FACTS}('job').State"))
+    facts = opened.ask(f"{FACTS}('job')")
+    found = [facts[it] for it in ("Owner", "State", "Board", "Type")]
+    demand("the job", ["ann", "Scheduled", "c1", "ccc"], found)
+    demand("its title", f"Job {first}: two", text_of(opened, "#job h2"))
+    demand("its text", group.decode(), text_of(opened, "#job-text pre"))
     opened.ask("document.querySelector('#job .actions button').click()")
     answer(opened, "Cancel")
-    wait_until("it is canceled", lambda: opened.ask(f"{FACTS}('job').State") == "Finished, Canceled")
-    demand("no more to do", 0, opened.ask("document.querySelectorAll('#job .actions button').length"))
+    state = f"{FACTS}('job').State"
+    wait_until("it is canceled", lambda: opened.ask(state) == "Finished, Canceled")
+    demand("no more to do", None, text_of(opened, "#job .actions button"))
     demand("bob's", "Submitted", lab.farm.job(others)["state"])
     opened.close()
     end_all(lab)
-    return "who looks cancels jobs of his or her own, in the queue, at a board, where the job is shown"
+    return "who looks cancels his or her own jobs, in the queue and where a job is shown"
 
 
 def an_admin(lab):
@@ -341,12 +358,12 @@ def an_admin(lab):
     passes(lab)
     lab.farm.tell("bob", f"/reservations/{held}/acquire")
     shown = lab.look()
-    demand("what ann can do", ("", ""), (buttons(shown, "boards", "c1"), buttons(shown, "boards", "b1")))
+    demand("what ann can do", ["", ""], [buttons(shown, "boards", it) for it in ("c1", "b1")])
     lab.user = "admin"
     opened = lab.open()
     shown = seen(opened)
-    demand("what the admin can do", ("Cancel", "Extend Give back"),
-           (buttons(shown, "boards", "c1"), buttons(shown, "boards", "b1")))
+    can = [buttons(shown, "boards", it) for it in ("c1", "b1")]
+    demand("what the admin can do", ["Cancel", "Extend Give back"], can)
     click(opened, "boards", "b2", "b2")
     health = "[...document.querySelectorAll('#health button')]"
     demand("healths", ["Unknown", "Bad", "Maintenance", "Retired"],
@@ -355,30 +372,34 @@ def an_admin(lab):
     wait_until("it is Bad", lambda: opened.ask(f"{FACTS}('board').Health") == "Bad")
     demand("the desk's", "Bad", lab.farm.board("b2")["health"])
     opened.ask(f"{health}[3].click()")
-    demand("a question", "Retire b2? That is for good.", opened.ask(
-        "document.querySelector('#question p').textContent"))
+    demand("a question", "Retire b2? That is for good.", text_of(opened, "#question p"))
     answer(opened, "No")
     demand("not retired", "Bad", lab.farm.board("b2")["health"])
     opened.ask(f"{health}[0].click()")
     wait_until("it is Good", lambda: opened.ask(f"{FACTS}('board').Health") == "Good")
     opened.ask("boardDialog.close()")
     click(opened, "boards", "c1", "Cancel")
-    demand("a question", f"Cancel bob's job {number}? All jobs of its group end.", opened.ask(
-        "document.querySelector('#question p').textContent"))
+    asked = f"Cancel bob's job {number}? All jobs of its group end."
+    demand("a question", asked, text_of(opened, "#question p"))
     answer(opened, "Cancel")
     wait_until("bob's job", lambda: lab.farm.job(number)["result"] == "Canceled")
     opened.close()
-    for user, quiet in (
-        ("dispatcher", ""),
-        (None, "Who looks isn't told here (/whoami), so nothing can be done from this page."),
-    ):
+    end_all(lab)
+    return "an admin sets healths, and ends others' work"
+
+
+def who_only_looks(lab):
+    reservation(lab, "ann", "hdmi")
+    told = "Who looks isn't told here (/whoami), so nothing can be done from this page."
+    for user, quiet in (("dispatcher", ""), (None, told)):
         lab.user = user
         shown = lab.look()
-        demand(f"what {user} can do", {""}, {it[-1] for it in shown["boards"] + shown["reservations"]})
+        can = {it[-1] for it in shown["boards"] + shown["reservations"]}
+        demand(f"what {user} can do", {""}, can)
         demand("what is said of it", True, shown["quiet"].startswith(quiet))
     lab.user = "ann"
     end_all(lab)
-    return "an admin sets healths and ends others' work; who isn't known or the dispatcher only looks"
+    return "the dispatcher, and who isn't known, only look, and the latter is told why"
 
 
 # ---- behind nginx
@@ -426,11 +447,13 @@ if __name__ == "__main__":
             sorting,
             groups,
             keys_and_dialogs,
-            reserve_and_give_back,
+            reserve_by_tags,
+            take_extend_give_back,
             lost_answers,
             waiting_is_extended,
             jobs_are_canceled,
             an_admin,
+            who_only_looks,
         ],
         [refusals, behind_nginx],
     )

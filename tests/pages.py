@@ -176,7 +176,7 @@ def names(shown, table="boards"):
 
 
 def tell_at(farm, moment, user, path, body=b""):
-    """Gives a command at a moment of its own, while the farm isn't served, and returns its number."""
+    """Gives a command at a moment of its own, while the farm isn't served. Returns its number."""
     head = f"POST {path} HTTP/1.1\r\nx-user: {user}\r\ncontent-length: {len(body)}\r\n\r\n"
     words = [farm.program, "once", "--db", farm.db, "--at", str(int(moment))]
     ran = subprocess.run(words, input=head.encode() + body, capture_output=True, check=False)
@@ -219,11 +219,15 @@ def click(opened, table, row, text):
     opened.ask(BUTTON.format(table=table, row=row, text=text) + ".click()")
 
 
+def text_of(opened, selector):
+    """The text of the first element of this kind, and nothing where there is none."""
+    return opened.ask(f"(document.querySelector({selector!r}) || {{}}).textContent")
+
+
 def answer(opened, text):
     """Answers the question that is open."""
-    opened.ask(
-        f"[...document.querySelectorAll('#question button')].find(it => it.textContent === '{text}').click()"
-    )
+    found = f"find(it => it.textContent === '{text}')"
+    opened.ask(f"[...document.querySelectorAll('#question button')].{found}.click()")
 
 
 def buttons(shown, table, row):
@@ -305,7 +309,8 @@ def run_rows(name, program, rows, own_rows):
 
 # The texts that are seen, with their colour and the grounds that they stand on, the nearest first.
 TEXTS = """(() => {
-  const grounds = it => it ? [getComputedStyle(it).backgroundColor, ...grounds(it.parentElement)] : [];
+  const grounds = it => it
+    ? [getComputedStyle(it).backgroundColor, ...grounds(it.parentElement)] : [];
   const top = document.querySelector("dialog:modal") || document.body;
   const seen = [...top.querySelectorAll("*")].filter(it => it.checkVisibility());
   const texts = seen
