@@ -100,23 +100,26 @@ def logs(lab):
     log = "document.getElementById('log').textContent"
     said = "document.getElementById('log-said').textContent"
     click(opened, "boards", "c1", f"job {number}")
-    wait_until("no log", lambda: opened.ask(said) == "no log is kept of it")
+    wait_until("no log", lambda: opened.ask(said) == "no log yet")
     lab.files[f"/logs/{number}"] = b"\x1b[1;32mU-Boot\x1b[0m\r\nboots\n"
     wait_until("the log", lambda: opened.ask(log) == "U-Boot\nboots\n")
-    opened.ask(f"void (window.kept = document.getElementById('log').firstChild)")
+    opened.ask("void (window.kept = document.getElementById('log').firstChild)")
     lab.files[f"/logs/{number}"] += b"login:"
     wait_until("more of it", lambda: opened.ask(log) == "U-Boot\nboots\nlogin:")
     demand("it is added", True, opened.ask("kept === document.getElementById('log').firstChild"))
     lab.files[f"/logs/{number}"] = b"x" * 300_000 + b"end"
     wait_until("a long one", lambda: opened.ask(log).endswith("end"))
     demand("its end", (200_000, "the end of it"), (len(opened.ask(log)), opened.ask(said)))
-    demand("all of it", f"/logs/{number}", opened.ask(
-        "new URL(document.getElementById('whole-log').href).pathname"))
+    link = "new URL(document.getElementById('whole-log').href).pathname"
+    demand("all of it", f"/logs/{number}", opened.ask(link))
     lab.farm.tell("dispatcher", f"/jobs/{number}/finish", {"outcome": "Incomplete"})
     wait_until("its end", lambda: opened.ask(f"{FACTS}('job').State") == "Finished, Incomplete")
     lab.asked.clear()
     wait_until("two more looks", lambda: lab.times_asked("/status") == 2)
     demand("it isn't asked for again", 0, lab.times_asked(f"/logs/{number}"))
+    del lab.files[f"/logs/{number}"]
+    opened.ask(f"openJob({number})")
+    wait_until("one that is gone", lambda: opened.ask(said) == "no log is kept of it")
     opened.close()
     end_all(lab)
     return "a job's log is shown at a click, its end of a long one, and followed while the job runs"

@@ -356,7 +356,10 @@ def an_admin(lab):
     number = lab.farm.submit("true", "ccc", "bob")
     held = reservation(lab, "bob", "hdmi")
     passes(lab)
+    lab.user = "admin"
+    demand("who takes it is its owner", "Extend Cancel", buttons(lab.look(), "boards", "b1"))
     lab.farm.tell("bob", f"/reservations/{held}/acquire")
+    lab.user = "ann"
     shown = lab.look()
     demand("what ann can do", ["", ""], [buttons(shown, "boards", it) for it in ("c1", "b1")])
     lab.user = "admin"
