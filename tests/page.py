@@ -135,12 +135,12 @@ def asks_seldom(lab):
     demand("asked for reservations that it knows", 0, lab.times_asked("/reservations"))
     lab.farm.tell("eve", "/reservations", {"tags": ["name=b2"]})
     until(opened, "a new one", lambda it: "5" in names(it, "reservations"))
-    demand("asked for reservations", 1, lab.times_asked("/reservations"))
+    wait_until("it asks for reservations", lambda: lab.times_asked("/reservations") == 1)
     lab.farm.tell("dispatcher", "/pass")
     given = until(opened, "it is allocated", lambda it: ["5", "allocated"] in starts(it))
     held = [["2", "acquired"], ["5", "allocated"], ["3", "waiting"]]
     demand("those that hold a board come first", held, starts(given))
-    demand("asked for the new lease", 2, lab.times_asked("/reservations"))
+    wait_until("it asks for the new lease", lambda: lab.times_asked("/reservations") == 2)
     for number in (2, 3, 5):
         lab.farm.tell("admin", f"/reservations/{number}/cancel")
     shown = until(opened, "they have ended", lambda it: not it["reservations"])
