@@ -10,13 +10,16 @@ that isn't as it should be, and with 77 where Chromium isn't there. Takes about 
 import json
 import os
 import sys
+import tempfile
 import time
 
 from pages import (
+    BOARDS,
     FACTS,
     HEAD,
     PHONE,
     SHOWN,
+    Lab,
     click,
     end_all,
     lab_of_the_past,
@@ -31,7 +34,7 @@ from pages import (
     text_of,
     until,
 )
-from served import demand, wait_until
+from served import Farm, demand, wait_until
 
 # ---- the past
 
@@ -153,6 +156,29 @@ def since_when(program, room, browser):
     return "a board tells who holds it since when: a lease, or what this page saw, also earlier"
 
 
+def next_farm(program, room, browser):
+    """A farm that is full is followed by another, whose numbers begin at 1 again."""
+    lab = Lab(program, room, browser, BOARDS, "ann")
+    reservation(lab, "ann", "hdmi")
+    lab.farm.submit("true", "ccc", "eve")
+    reservation(lab, "ann", "hdmi")
+    passes(lab)
+    opened = lab.open()
+    shown = seen(opened)
+    held = ["ann reservation 1", "", "eve job 2 test"]
+    demand("who holds the boards", held, [it[4] for it in shown["boards"]])
+    lab.farm.kill()
+    lab.farm = Farm(program, tempfile.mkdtemp(dir=room), BOARDS)
+    reservation(lab, "bob", "hdmi")
+    lab.farm.submit("true", "ccc", "fay")
+    passes(lab)
+    held = ["bob reservation 1", "", "fay job 2 test"]
+    until(opened, "who holds them then", lambda it: [row[4] for row in it["boards"]] == held)
+    opened.close()
+    lab.end()
+    return "where the next farm's numbers begin again, the page forgets those of the one before"
+
+
 # ---- a full farm, a phone
 
 
@@ -254,5 +280,5 @@ if __name__ == "__main__":
         "page_past",
         os.path.realpath(sys.argv[1]),
         [history, logs, no_stutter, no_shift],
-        [since_when],
+        [since_when, next_farm],
     )
