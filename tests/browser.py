@@ -74,6 +74,8 @@ class Browser:
         session = self.do("Target.attachToTarget", targetId=target, flatten=True)["sessionId"]
         page = Page(self, target, session)
         page.resize(wide, high)
+        # (without this the script is taken, and never run)
+        page.do("Page.enable")
         page.do("Page.addScriptToEvaluateOnNewDocument", source=before)
         page.go(address)
         return page

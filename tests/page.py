@@ -1,148 +1,40 @@
 #!/usr/bin/env python3
-"""Looks at the status page in a headless Chromium: python3 tests/page.py bin/farm [SCREENSHOT]
+"""Looks at the status page in a headless Chromium: python3 tests/page.py bin/farm
 
 A farm is served, and beside it the page, as the proxy in examples/ does. Each row prints a line and
-says what it saw. Where a file is named, the page of the example lab is drawn into it, and beside it
-as a phone has it. Ends with status 1 at the first thing that isn't as it should be, and with 77
-where Chromium isn't there. Takes a minute or two.
+says what it saw of what the page shows; what a user does with it is in page_work.py. Ends with
+status 1 at the first thing that isn't as it should be, and with 77 where Chromium isn't there.
+Takes a minute or two.
 """
-import http.client
-import http.server
-import json
 import os
 import re
 import shutil
-import subprocess
 import sys
 import tempfile
-import threading
 import time
 import urllib.parse
 
-from browser import CHROMIUM, Browser
-from served import TOP, TOOLS, Farm, demand, free_port, wait_until
-
-BOARDS = [("b1", "bbb", ["hdmi", "serial"]), ("b2", "bbb", ["serial"]), ("c1", "ccc", [])]
-PHONE = 360
-# What a page shows: the cells of each table's rows, how many there are, and what it says. What an
-# earlier page said is found where this one says it.
-SHOWN = """(() => {
-  const words = cell => {
-    const tags = [...cell.querySelectorAll(".tag")].map(it => it.textContent);
-    return tags.length ? tags.join(" ") : cell.textContent.trim();
-  };
-  const text = name => (document.getElementById(name) || {textContent: ""}).textContent.trim();
-  const found = {said: text("said"), warned: text("warnings"), counts: {}, text: {}};
-  for (const name of ["boards", "queue", "reservations"]) {
-    found[name] = [...document.querySelectorAll(`#${name} tbody tr`)].map(
-      row => [...row.cells].map(words));
-    found.counts[name] = text(name + "-count");
-    found.text[name] = text(name);
-  }
-  return found;
-})()"""
-
-
-class Door(http.server.BaseHTTPRequestHandler):
-    """Gives the page at /, and hands every other request on to the desk."""
-
-    def do_GET(self):
-        path = urllib.parse.urlsplit(self.path).path
-        if path == "/":
-            self.answer(200, "text/html; charset=utf-8", page().encode())
-            return
-        self.server.asked.append(path)
-        self.server.may_answer.wait()
-        try:
-            line = http.client.HTTPConnection("127.0.0.1", self.server.farm.port, timeout=30)
-            line.request("GET", path)
-            answer = line.getresponse()
-            self.answer(answer.status, "application/json", answer.read())
-        except OSError:
-            self.answer(502, "text/html", b"Bad Gateway")
-
-    def answer(self, status, kind, body):
-        self.send_response(status)
-        self.send_header("content-type", kind)
-        self.send_header("content-length", str(len(body)))
-        self.end_headers()
-        self.wfile.write(body)
-
-    def log_message(self, *_):
-        pass
-
-
-def page():
-    with open(os.path.join(TOOLS, "page", "farm.html"), encoding="utf-8") as text:
-        return text.read()
-
-
-class Lab:
-    """A served farm, and a door to it that gives the page too."""
-
-    def __init__(self, folder, browser, boards):
-        self.browser = browser
-        self.farm = Farm(FARM, tempfile.mkdtemp(dir=folder), boards)
-        self.door = http.server.ThreadingHTTPServer(("127.0.0.1", 0), Door)
-        self.door.farm, self.door.asked = self.farm, []
-        self.door.may_answer = threading.Event()
-        self.door.may_answer.set()
-        threading.Thread(target=self.door.serve_forever, daemon=True).start()
-
-    def open(self, path="/", **size):
-        """A page that looks at the farm."""
-        return self.browser.open(f"http://127.0.0.1:{self.door.server_address[1]}{path}", **size)
-
-    def look(self, path="/"):
-        """What the page shows once it has looked."""
-        opened = self.open(path)
-        shown = seen(opened)
-        opened.close()
-        return shown
-
-    def asked(self, path):
-        return self.door.asked.count(path)
-
-    def end(self):
-        self.farm.kill()
-        self.door.shutdown()
-
-
-def seen(opened):
-    """What a page shows once it has looked for the first time."""
-    return until(opened, "it has looked", lambda it: "as of" in it["said"])
-
-
-def until(opened, what, test):
-    """What a page shows once that passes a test."""
-
-    def shown():
-        found = opened.ask(SHOWN)
-        return found if test(found) else None
-
-    return wait_until(what, shown)
-
-
-def names(shown, table="boards"):
-    return [row[0] for row in shown[table]]
+from browser import Browser
+from pages import (
+    BOARDS,
+    PHONE,
+    SHOWN,
+    Lab,
+    names,
+    page,
+    poor_texts,
+    seen,
+    set_health,
+    tell_at,
+    until,
+    want_a_browser,
+)
+from served import demand, wait_until
 
 
 def starts(shown):
     """The numbers and states of the reservations."""
     return [row[:2] for row in shown["reservations"]]
-
-
-def tell_at(farm, moment, user, path, body=b""):
-    """Gives a command at a moment of its own, while the farm isn't served."""
-    head = f"POST {path} HTTP/1.1\r\nx-user: {user}\r\ncontent-length: {len(body)}\r\n\r\n"
-    words = [FARM, "once", "--db", farm.db, "--at", str(int(moment))]
-    ran = subprocess.run(words, input=head.encode() + body, capture_output=True, check=False)
-    demand(f"{user} {path} at {moment}", 0, ran.returncode)
-
-
-def set_health(farm, **boards):
-    for name, health in boards.items():
-        farm.tell("admin", f"/boards/{name}/health", {"health": health})
 
 
 # ---- what it shows
@@ -158,22 +50,23 @@ def views(lab):
     set_health(lab.farm, b2="Bad")
     shown = lab.look()
     boards = [
-        ["b1", "bbb", "Good", "Reserved", "reservation 2", "hdmi serial"],
-        ["b2", "bbb", "Bad", "Idle", "", "serial"],
-        ["c1", "ccc", "Good", "Running", "job 1", ""],
+        ["b1", "bbb", "Good", "Reserved", "bob reservation 2", "< 1 min", "hdmi serial", ""],
+        ["b2", "bbb", "Bad", "Idle", "", "", "serial", ""],
+        ["c1", "ccc", "Good", "Running", "ann job 1 test", "", "", ""],
     ]
     demand("the boards", boards, shown["boards"])
-    demand("the queue", [["1", "reservation 3", "bob", "50", "1", ""]], shown["queue"])
+    demand("the queue", [["1", "reservation 3", "bob", "50", "1", "", ""]], shown["queue"])
     rows = shown["reservations"]
     demand("the reservations", [["2", "allocated"], ["3", "waiting"]], [it[:2] for it in rows])
-    demand("the rest of one", ["b1", "bob", "100", "hdmi"], rows[0][3:])
+    demand("the rest of one", ["b1", "bob", "< 1 min", "100", "hdmi", ""], rows[0][3:])
     times = [int(re.fullmatch(r"(\d+) s", it[2]).group(1)) for it in rows]
     demand("the time left", [True, True], [50 <= it <= 60 for it in times])
-    demand("how many", {"boards": "(3)", "queue": "(1)", "reservations": "(2)"}, shown["counts"])
+    counts = {"boards": "(3)", "queue": "(1)", "reservations": "(2)", "ended": ""}
+    demand("how many", counts, shown["counts"])
     demand("warnings", "", shown["warned"])
     lab.farm.tell("bob", "/reservations/2/acquire")
     rows = lab.look()["reservations"]
-    demand("an acquired one", ["2", "acquired", "", "b1", "bob", "100", "hdmi"], rows[0])
+    demand("an acquired one", ["2", "acquired", "", "b1", "bob"], rows[0][:5])
     return "boards, queue and reservations with the time left are shown"
 
 
@@ -184,8 +77,9 @@ def filter_by_any_word(lab):
         ("bbb", (["b1", "b2"], [], [])),
         ("serial bad", (["b2"], [], [])),
         ("name=c1", (["c1"], [], [])),
-        ("ann", ([], ["2"], [])),
-        ("bob", ([], ["1"], ["2", "3"])),
+        ("ann", (["c1"], ["2"], [])),
+        ("bob", (["b1"], ["1"], ["2", "3"])),
+        ("job test", (["c1"], [], [])),
         ("reservation", (["b1"], ["1"], [])),
         ("WAITING", ([], [], ["3"])),
         ("eria", (["b1", "b2"], [], [])),
@@ -212,8 +106,10 @@ def filter_by_any_word(lab):
 def focus_and_selection(lab):
     opened = lab.open()
     seen(opened)
-    opened.ask("document.querySelectorAll('#boards tr')[2].querySelector('.tag').focus()")
-    opened.ask("getSelection().selectAllChildren(document.querySelectorAll('#boards tr')[3])")
+    row = "[...document.querySelectorAll('#boards tr')].find(it => it.textContent.startsWith({!r}))"
+    opened.ask(f"void (window.kept = {row.format('b2')})")
+    opened.ask("kept.querySelector('.tag').focus()")
+    opened.ask(f"getSelection().selectAllChildren({row.format('c1')})")
     held = "[document.activeElement.textContent, getSelection().toString().split(/\\s+/)[0]]"
     demand("before", ["serial", "c1"], opened.ask(held))
     lab.farm.tell("admin", "/boards", {"name": "a1", "type": "bbb", "tags": []})
@@ -221,6 +117,7 @@ def focus_and_selection(lab):
     shown = until(opened, "the new board", lambda it: names(it) == ["a1", "b1", "b2", "c1"])
     demand("what has changed", "Unknown", shown["boards"][2][2])
     demand("after", ["serial", "c1"], opened.ask(held))
+    demand("its row", True, opened.ask(f"kept === {row.format('b2')}"))
     set_health(lab.farm, a1="Retired")
     until(opened, "the next look", lambda it: it["boards"][0][2] == "Retired")
     demand("after the next", ["serial", "c1"], opened.ask(held))
@@ -231,24 +128,24 @@ def focus_and_selection(lab):
 def asks_seldom(lab):
     opened = lab.open()
     seen(opened)
-    lab.door.asked.clear()
+    lab.asked.clear()
     begun = time.monotonic()
-    wait_until("two looks", lambda: lab.asked("/status") == 2)
-    demand("seconds between looks", True, 4 <= (time.monotonic() - begun) / 2 <= 8)
-    demand("asked for reservations that it knows", 0, lab.asked("/reservations"))
+    wait_until("two looks", lambda: lab.times_asked("/status") == 2)
+    demand("seconds between looks", True, 4 <= (time.monotonic() - begun) / 2 <= 20)
+    demand("asked for reservations that it knows", 0, lab.times_asked("/reservations"))
     lab.farm.tell("eve", "/reservations", {"tags": ["name=b2"]})
     until(opened, "a new one", lambda it: "5" in names(it, "reservations"))
-    demand("asked for reservations", 1, lab.asked("/reservations"))
+    wait_until("it asks for reservations", lambda: lab.times_asked("/reservations") == 1)
     lab.farm.tell("dispatcher", "/pass")
     given = until(opened, "it is allocated", lambda it: ["5", "allocated"] in starts(it))
     held = [["2", "acquired"], ["5", "allocated"], ["3", "waiting"]]
     demand("those that hold a board come first", held, starts(given))
-    demand("asked for the new lease", 2, lab.asked("/reservations"))
+    wait_until("it asks for the new lease", lambda: lab.times_asked("/reservations") == 2)
     for number in (2, 3, 5):
         lab.farm.tell("admin", f"/reservations/{number}/cancel")
     shown = until(opened, "they have ended", lambda it: not it["reservations"])
     demand("no reservations", "none", shown["text"]["reservations"])
-    demand("asked for the end of all", 2, lab.asked("/reservations"))
+    demand("asked for the end of all", 2, lab.times_asked("/reservations"))
     opened.close()
     return "it looks every five seconds, and asks for reservations only where there is news of them"
 
@@ -269,10 +166,10 @@ def desk_that_goes_away(lab):
     lab.farm.start()
     demand("it comes back", 4, len(seen(opened)["boards"]))
     opened.close()
-    lab.door.may_answer.clear()
+    lab.may_answer.clear()
     opened = lab.open()
     demand("while nothing has come", "loading", opened.ask(SHOWN)["said"])
-    lab.door.may_answer.set()
+    lab.may_answer.set()
     seen(opened)
     opened.close()
     return "it says that it loads, that no answer comes, and as of when that is what it shows"
@@ -283,7 +180,7 @@ def desk_that_goes_away(lab):
 
 def leases_run_on(room, browser):
     """No pass comes: the farm's clock stands still where the reservations were made."""
-    lab = Lab(room, browser, [])
+    lab = Lab(FARM, room, browser, [])
     lab.farm.kill()
     tell_at(lab.farm, time.time() - 80, "admin", "/types", b'{"name":"bbb"}')
     tell_at(lab.farm, time.time() - 80, "admin", "/boards", b'{"name":"b1","type":"bbb"}')
@@ -305,14 +202,14 @@ def leases_run_on(room, browser):
     demand("it was counted between two looks", True, len(times) > 3)
     left = re.fullmatch(r"(\d+) s", shown["reservations"][2][2])
     demand("one that was refreshed", True, bool(left) and int(left.group(1)) > 15)
-    demand("how often it asked for reservations", 2, lab.asked("/reservations"))
+    demand("how often it asked for reservations", 2, lab.times_asked("/reservations"))
     opened.close()
     lab.end()
     return "a lease runs on by the second while no pass comes, and is over unless it was refreshed"
 
 
 def clock_that_stands(room, browser):
-    lab = Lab(room, browser, [])
+    lab = Lab(FARM, room, browser, [])
     demand("a new farm", "no pass yet: is farm-dispatch running?", lab.look()["warned"])
     lab.farm.kill()
     tell_at(lab.farm, time.time() - 45, "dispatcher", "/pass")
@@ -329,7 +226,7 @@ def clock_that_stands(room, browser):
 
 
 def clock_that_is_ahead(room, browser):
-    lab = Lab(room, browser, [])
+    lab = Lab(FARM, room, browser, [])
     lab.farm.kill()
     tell_at(lab.farm, time.time() + 3 * 86_400 + 100, "dispatcher", "/pass")
     lab.farm.start()
@@ -341,7 +238,7 @@ def clock_that_is_ahead(room, browser):
 
 def clock_of_the_viewer(room, browser):
     """A viewer's clock may be wrong: what the desk's machine says counts."""
-    lab = Lab(room, browser, BOARDS)
+    lab = Lab(FARM, room, browser, BOARDS)
     lab.farm.tell("ann", "/reservations", {"tags": ["name=b1"]})
     opened = lab.open(before="const real = Date.now; Date.now = () => real() + 600000;")
     shown = seen(opened)
@@ -358,7 +255,7 @@ def clock_of_the_viewer(room, browser):
 
 def claims_that_cannot_be_served(room, browser):
     boards = [*BOARDS, ("c2", "ccc", ["usb"])]
-    lab = Lab(room, browser, boards)
+    lab = Lab(FARM, room, browser, boards)
     group = b"job_name = 'two'\n[roles.a]\ndevice_type = 'bbb'\ncount = 2\n"
     lab.farm.tell("ann", "/jobs", group)
     lab.farm.tell("eve", "/reservations", {"tags": ["usb"]})
@@ -373,12 +270,12 @@ def claims_that_cannot_be_served(room, browser):
     demand("the warning", f"group 1 collects boards, and {stuck}", shown["warned"])
     opened = lab.open()
     seen(opened)
-    lab.door.asked.clear()
+    lab.asked.clear()
     set_health(lab.farm, b2="Retired", c2="Good")
     shown = until(opened, "a retired board", lambda it: "Retired" in it["queue"][0][5])
     demand("it can be served", "", shown["queue"][1][5])
-    wait_until("two more looks", lambda: lab.asked("/status") == 3)
-    demand("jobs that it asked for again", [], [it for it in lab.door.asked if "jobs" in it])
+    wait_until("two more looks", lambda: lab.times_asked("/status") == 3)
+    demand("jobs that it asked for again", [], [it for it in lab.asked if "jobs" in it])
     # Each want alone could be met, by the one board; a held board and one to be checked may come.
     lab.farm.tell("admin", "/boards", {"name": "b3", "type": "bbb", "tags": []})
     set_health(lab.farm, b3="Unknown")
@@ -394,23 +291,28 @@ def claims_that_cannot_be_served(room, browser):
 
 
 def long_queue(room, browser):
-    lab = Lab(room, browser, BOARDS)
+    lab = Lab(FARM, room, browser, BOARDS)
     for number in range(120):
         lab.farm.submit("true", "ccc", "ann" if number % 2 else "bob")
-    lab.door.asked.clear()
+    lab.asked.clear()
     opened = lab.open(wide=PHONE)
     shown = seen(opened)
-    demand("jobs that it looked into", 5, sum("/jobs/" in it for it in lab.door.asked))
+    demand("jobs that it looked into", 5, sum("/jobs/" in it for it in lab.asked))
     demand("claims at first", 50, len(shown["queue"]))
     demand("how many there are", "(120)", shown["counts"]["queue"])
-    more = "document.querySelector('#queue .more')"
-    demand("the rest", "and 70 more", opened.ask(f"{more}.textContent"))
+    more, fewer = (f"document.querySelector('#queue .more').children[{it}]" for it in (0, 1))
+    demand("the rest", "50 more of 70", opened.ask(f"{more}.textContent"))
     demand("how high it is", True, opened.ask("document.documentElement.scrollHeight") < 6000)
-    parts = "[...document.querySelectorAll('h2')].map(it => it.textContent.split(' ')[0])"
-    demand("on a phone", ["Queue", "Reservations", "Boards"], opened.ask(parts))
+    parts = "[...document.querySelectorAll('h2[id$=-title]')].filter(it => it.checkVisibility())"
+    parts += ".map(it => it.textContent.split(' ')[0])"
+    demand("on a phone", ["Reservations", "Queue", "Boards"], opened.ask(parts))
+    opened.ask(f"{more}.click()")
+    demand("a hundred claims", 100, len(opened.ask(SHOWN)["queue"]))
+    demand("the rest of them", "the other 20", opened.ask(f"{more}.textContent"))
     opened.ask(f"{more}.click()")
     demand("all claims", 120, len(opened.ask(SHOWN)["queue"]))
-    opened.ask(f"{more}.click()")
+    demand("no more", False, opened.ask(f"{more}.checkVisibility()"))
+    opened.ask(f"{fewer}.click()")
     demand("the first again", 50, len(opened.ask(SHOWN)["queue"]))
     opened.ask("choose('ann')")
     shown = opened.ask(SHOWN)
@@ -431,15 +333,33 @@ def on_a_phone(lab):
     set_health(lab.farm, **{name: "Good"})
     opened = lab.open(wide=PHONE)
     demand("boards", 5, len(seen(opened)["boards"]))
-    room = opened.ask("[innerWidth, document.documentElement.scrollWidth]")
-    demand("how wide it is", (PHONE, True), (room[0], room[1] <= PHONE))
+    for wide in (PHONE, 320):
+        opened.resize(wide, 800)
+        room = opened.ask("[innerWidth, document.documentElement.scrollWidth]")
+        demand("how wide it is", (wide, True), (room[0], room[1] <= wide))
     small = """[...document.querySelectorAll("button")].filter(
       it => it.checkVisibility() && it.getBoundingClientRect().height < 24).length"""
     demand("buttons that are too small for a finger", 0, opened.ask(small))
     opened.ask("document.querySelectorAll('nav button')[2].click()")
     demand("a jump", "boards-title", opened.ask("document.activeElement.id"))
     opened.close()
-    return "a page 360 points wide shows all without moving aside, a board with long words too"
+    return "a page 390 or 320 points wide shows all without moving aside, long words too"
+
+
+def all_are_reached(opened):
+    """Goes through the page by Tab."""
+    stops = """[...document.querySelectorAll("button, input, summary, a[href], [tabindex='0']")]
+      .filter(it => it.checkVisibility())"""
+    opened.ask("void (window.reached = new Set())")
+    for place in range(opened.ask(f"{stops}.length")):
+        opened.press("Tab", "Tab", 9)
+        opened.ask("void reached.add(document.activeElement)")
+        if not place:
+            demand("the first stop", "filter", opened.ask("document.activeElement.id"))
+            shown = "getComputedStyle(document.activeElement).outlineStyle"
+            demand("what shows where it is", "solid", opened.ask(shown))
+    missed = f"{stops}.filter(it => !reached.has(it)).map(it => it.textContent)"
+    demand("what Tab doesn't reach", [], opened.ask(missed))
 
 
 def names_and_keys(lab):
@@ -450,53 +370,29 @@ def names_and_keys(lab):
         (it["role"]["value"], it.get("name", {}).get("value", "")) for it in tree if "role" in it
     }
     for wanted in [
-        ("searchbox", "Only what has all these words"),
+        ("searchbox", "Search: only what has all these words"),
         ("table", "Boards (5)"),
         ("columnheader", "Health"),
+        ("rowheader", "b1"),
         ("button", "serial"),
+        ("navigation", "Parts of this page"),
         ("status", ""),
     ]:
         demand(f"{wanted} in the accessible tree", True, wanted in said)
-    opened.press("Tab", "Tab", 9)
-    demand("the first stop", "filter", opened.ask("document.activeElement.id"))
-    opened.press("Tab", "Tab", 9)
-    demand("the next", "tag", opened.ask("document.activeElement.className"))
+    fields = ("button", "textbox", "searchbox")
+    demand("what has no name", [], [it for it in said if it[0] in fields and not it[1]])
+    all_are_reached(opened)
+    opened.ask("document.querySelector('#boards .tag').focus()")
     opened.press(" ", "Space", 32)
     demand("what it does", '"hdmi"', opened.ask("filter.value"))
     demand("still there", "hdmi", opened.ask("document.activeElement.textContent"))
     opened.close()
     for scheme in ("light", "dark"):
-        demand(f"texts of little contrast, {scheme}", [], poor_texts(lab, scheme))
+        opened = lab.open(scheme=scheme)
+        seen(opened)
+        demand(f"texts of little contrast, {scheme}", [], poor_texts(opened))
+        opened.close()
     return "tables and fields have their names, the keyboard reaches all, and texts can be told"
-
-
-def poor_texts(lab, scheme):
-    """The texts whose contrast is below 4.5, as WCAG counts it."""
-    opened = lab.open()
-    media = [{"name": "prefers-color-scheme", "value": scheme}]
-    opened.do("Emulation.setEmulatedMedia", features=media)
-    seen(opened)
-    # (what is white by day, and what Chromium takes for it by night)
-    ground = "rgb(255, 255, 255)" if scheme == "light" else "rgb(18, 18, 18)"
-    texts = opened.ask(
-        """[...document.querySelectorAll("body *")].filter(it => it.checkVisibility()
-             && [...it.childNodes].some(node => node.nodeType === 3 && node.data.trim()))
-             .map(it => [it.className || it.tagName, getComputedStyle(it).color])"""
-    )
-    opened.close()
-    demand(f"texts, {scheme}", True, len(texts) > 30)
-    return sorted({name for name, colour in texts if contrast(colour, ground) < 4.5})
-
-
-def contrast(one, other):
-    light = sorted(map(luminance, (one, other)))
-    return (light[1] + 0.05) / (light[0] + 0.05)
-
-
-def luminance(colour):
-    parts = [int(it) / 255 for it in re.findall(r"\d+", colour)[:3]]
-    linear = [it / 12.92 if it <= 0.03928 else ((it + 0.055) / 1.055) ** 2.4 for it in parts]
-    return 0.2126 * linear[0] + 0.7152 * linear[1] + 0.0722 * linear[2]
 
 
 def foreign_code(lab):
@@ -507,37 +403,6 @@ def foreign_code(lab):
     )
     demand("scripts with a source", [], re.findall(r"<script[^>]*src", text))
     return "it holds its script and style itself, and names no other place"
-
-
-def draw(room, browser, file):
-    """Draws the page of the example lab in use."""
-    lab = Lab(room, browser, [])
-    lab.farm.kill()
-    example = os.path.join(TOP, "examples", "lab.toml")
-    subprocess.run([FARM, "import", "--db", lab.farm.db, "--at", "1700000000", example], check=True)
-    lab.farm.start()
-    set_health(lab.farm, **{it["name"]: "Good" for it in lab.farm.look("/boards")["boards"]})
-    set_health(lab.farm, **{"bbb-02": "Maintenance", "rpi4b-03": "Bad", "qemu-04": "Unknown"})
-    lab.farm.tell("dispatcher", "/pass")
-    with open(os.path.join(TOP, "examples", "multinode.toml"), "rb") as text:
-        lab.farm.tell("ann", "/jobs", text.read())
-    reservations = [("bob", ["hdmi", "power=pdu2"]), ("eve", ["kvm"])]
-    numbers = [
-        lab.farm.tell(who, "/reservations", {"tags": tags})["number"] for who, tags in reservations
-    ]
-    lab.farm.tell("dispatcher", "/pass")
-    lab.farm.tell("bob", f"/reservations/{numbers[0]}/acquire")
-    lab.farm.tell("fay", "/reservations", {"tags": ["camera=imx219"], "priority": "low"})
-    lab.farm.submit("true", "qemu-aarch64", "ann")
-    lab.farm.tell("dispatcher", "/pass")
-    lab.farm.tell("gus", "/reservations", {"tags": ["wifi", "outlet=3"]})
-    stem, end = os.path.splitext(file)
-    for name, wide, high in ((file, 1000, 1120), (f"{stem}-phone{end}", PHONE, 1600)):
-        opened = lab.open(wide=wide, high=high)
-        seen(opened)
-        opened.draw(name)
-        opened.close()
-    lab.end()
 
 
 # Those of one farm after another, and those that want a farm of their own.
@@ -562,25 +427,16 @@ OWN_ROWS = [
 
 if __name__ == "__main__":
     FARM = os.path.realpath(sys.argv[1])
-    if CHROMIUM is None:
-        print("page: not tried, since Chromium isn't there")
-        sys.exit(77)
-    try:
-        free_port()
-    except OSError:
-        print("page: not tried, since there is no 127.0.0.1")
-        sys.exit(77)
+    want_a_browser("page")
     folder = tempfile.mkdtemp()
     try:
         chromium = Browser(folder)
-        looked = Lab(folder, chromium, BOARDS)
+        looked = Lab(FARM, folder, chromium, BOARDS)
         for row in ROWS:
             print(f"page: {row(looked)}", flush=True)
         looked.end()
         for row in OWN_ROWS:
             print(f"page: {row(folder, chromium)}", flush=True)
-        if len(sys.argv) > 2:
-            draw(folder, chromium, sys.argv[2])
         chromium.end()
     finally:
         # (Chromium may still write)
