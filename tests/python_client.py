@@ -578,6 +578,9 @@ if __name__ == "__main__":
         del os.environ[name]
     os.environ.update(HOME="/nonexistent", XDG_CONFIG_HOME="/nonexistent")
     logging.disable(logging.CRITICAL)
+    # (what a shell runs in the background, or by nohup, ignores these)
+    signal.signal(signal.SIGINT, signal.default_int_handler)
+    signal.signal(signal.SIGHUP, signal.SIG_DFL)
     with tempfile.TemporaryDirectory() as room:
         LONG = Waiting(sys.argv[1], room)
         served = Farm(sys.argv[1], room, BOARDS)
