@@ -524,6 +524,8 @@ def main(copies, follows):
 
 
 if __name__ == "__main__":
+    # (what a shell runs in the background ignores it)
+    signal.signal(signal.SIGINT, signal.default_int_handler)
     PROGRAM = os.path.realpath(sys.argv[1])
     numbers = [int(word) for word in sys.argv[2:]]
     main(*numbers, *[1000, 50][len(numbers) :])

@@ -536,7 +536,7 @@ ROWS = [
 
 if __name__ == "__main__":
     # (a shell lets what it runs in the background ignore these)
-    for each in (signal.SIGINT, signal.SIGQUIT):
+    for each in (signal.SIGINT, signal.SIGQUIT, signal.SIGHUP):
         signal.signal(each, signal.SIG_DFL)
     try:
         free_port()
