@@ -199,9 +199,9 @@ def usage(farm, folder):
     said = json.loads(desk(farm, "--history", past, "usage", "--json")[1])
     demand("by what, and since", ("owner", 30 * DAY), (said["by"], said["until"] - said["since"]))
     rows = {it.pop("name"): it for it in said["usage"]}
-    # (the third began before the 30 days, of which it has half a day; a second may have gone by)
+    # (the third began before the 30 days, of which it has half a day, less what has gone by meanwhile)
     hours = rows["zoe"].pop("hours")
-    demand("zoe's hours", True, 14.9 < hours <= 15.0)
+    demand("zoe's hours", True, 14.0 < hours <= 15.0)
     demand("zoe", {"jobs": 2, "complete": 0, "incomplete": 1, "infra": 1, "canceled": 0,
                    "waited_median": None, "waited_ninth": None}, rows["zoe"])
     demand("ann", {"jobs": 11, "complete": 10, "incomplete": 0, "infra": 0, "canceled": 1,
