@@ -1,6 +1,6 @@
 -- What a sound farm of the first edition has, and how the faults of its store are told.
 use Rattle.std.proofs.Common.{◌≡◌, ◌≢◌, ◌⊎◌, inl, inr, refl, Ok, Err, IsErrAnd, Result, sym, ap, subst, ◌∙◌, arith}
-use Rattle.std.specs.Prelude.{ℕ, Some, IfErr, OnErr}
+use Rattle.std.specs.Prelude.{ℕ, Some, IfErr, OnErr, OnOk}
 use Rattle.std.specs.Result.{result_err}
 use Rattle.sqlite.specs.Effect.{Database}
 use Rattle.sqlite.specs.State.{State}
@@ -172,6 +172,11 @@ own_fault KeepFault.BadStore may good ours = absurd (good refl)
 own_fault KeepFault.NewSchema may good ours = absurd (ours refl)
 own_fault KeepFault.OldSchema may good ours = absurd may
 own_fault KeepFault.Closed may good ours = absurd may
+
+-- what is said of what was done says nothing of a fault
+pub none_done : {A E : Type 0} (r : Result A E) (P : Type 0) (e : E) → r ≡ Err e → OnOk r P
+none_done (Ok a) P e is = absurd (let h = is in cc)
+none_done (Err f) P e is = tt
 
 pub on_err : {A E : Type 0} (r : Result A E) (P : Type 0) → P → OnErr r P
 on_err (Ok a) P p = tt

@@ -1,5 +1,6 @@
 pub mod Faults
 pub mod First
+pub mod Found
 pub mod Headline
 pub mod Kept
 pub mod Lives

@@ -9,11 +9,15 @@ use Rattle.farm_types.specs.declared.rows.MetaRow.{MetaRow}
 use Rattle.farm_store.specs.Columns.{IsOfSchema, Tables, tells, type_columns, board_columns, res_columns, kept_columns}
 use Rattle.farm_store.specs.Editions.{IsCollectorIn, IsReadableIn, IsReadableJobIn, job_columns_in, meta_rows_in, other_edition, rows_in, schema_of, told_as}
 use Rattle.farm_store.specs.Readable.{IsReadableType, IsReadableBoard, IsReadableRes, IsReadableKept}
-use Rattle.farm_store.specs.Reading.{LooksAtSchema, LooksFirst, ReadsAs, ReadsFarm, ReadsNumbers, TellsNoVersion}
+use Rattle.sqlite.specs.State.{State}
+use Rattle.farm_store.specs.Holds.{Stands}
+use Rattle.farm_store.specs.Reading.{LooksAtSchema, LooksFirst, ReadsAs, ReadsEdition, ReadsFarm, ReadsNumbers, TellsNoVersion}
+use Rattle.farm_store.specs.Schema.{farm_schema}
 use Rattle.farm_store.specs.Versions.{ShowsNumbers}
 use Rattle.farm_store.specs.declared.edition.Edition.{Edition}
 use Rattle.farm_store.specs.declared.fault.StoreFault.{StoreFault}
 use Rattle.farm_store.specs.declared.fault.StoreFault.TheVariants.{BadStore, Store}
+use Rattle.farm_store.proofs.OneFarm.{one_farm_in}
 use Rattle.farm_store.proofs.EditionLemmas.{is_in, never_told, no_version, not_bad, not_store, numbers_are_own, numbers_tell, states_of, whole_in, words_of}
 
 -- a table that was refused refuses them all
@@ -160,3 +164,30 @@ first_again {A} {B} e r s db fault was told first = record {
     one : (f g : StoreFault) → (r ≡ Err f) ⊎ (r ≡ Err g) → (s ≡ Err f) ⊎ (s ≡ Err g)
     one f g (inl is) = inl (same_fault r s fault f was told is)
     one f g (inr is) = inr (same_fault r s fault g was told is)
+
+-- ---- what is told of a store
+
+-- by what is told of the tables that stand there
+pub reads_edition : (e : Edition) (r : Result Rows StoreFault) (s : State) → ((T : Tables) → Stands s T → ReadsFarm e r T) → ((T : Tables) → Stands s T → LooksAtSchema e r T) → LooksFirst e r s.now → ReadsEdition e r s
+reads_edition e r s read schema version = record {
+  rows = if_read e r (λ rows. (T : Tables) → Stands s T → rows_in e (farm_of rows) ≡ T) (Stands s) read (λ rows read T at. (read T at).1);
+  readable = if_read e r (λ rows. (T : Tables) → Stands s T → IsReadableIn e (farm_of rows)) (Stands s) read (λ rows read T at. (read T at).0);
+  farm = if_read e r (λ rows. (F : Farm) → IsReadableIn e F → Stands s (rows_in e F) → farm_of rows ≡ F) (Stands s) read
+      (λ rows read F good at. let it = read (rows_in e F) at in one_farm_in e (farm_of rows) F it.0 good it.1);
+  bad = λ bad F good at. never_bad e r F bad good (read (rows_in e F) at);
+  other = λ told T at. tells_other e r T told (read T at);
+  schema = schema;
+  version = version;
+}
+
+-- no tables stand in a store with another schema, so rows that were read there are refused as bad
+pub not_ours : (e : Edition) (rows : Rows) (s : State) → IsTrue s.is_open → s.now.schema ≢ farm_schema → ReadsEdition e (Ok rows) s → ReadsEdition e (Err BadStore) s
+not_ours e rows s is_open others told = record {
+  rows = tt;
+  readable = tt;
+  farm = tt;
+  bad = λ _ F good at. others (at.shown is_open).schema;
+  other = λ _ T at. absurd (others (at.shown is_open).schema);
+  schema = λ T at. absurd (others (at.shown is_open).schema);
+  version = read_on e rows (Err BadStore) s.now told.version (λ is. cc, λ is. cc);
+}

@@ -53,6 +53,14 @@ LeavesNoMore old new = (db : Trees) → new.may_leave db → old.may_leave db
 abbrev pub KeepsDoubt : State → State → Type 0
 KeepsDoubt old new = doubt old.is_clean ≤ doubt new.is_clean
 
+-- what a call that only reads leaves, whatever comes of it: no transaction is begun, what stood
+-- there stands, and a stop leaves no more than before
+pub record ReadsOnly (old new : State) : Type 0 where
+  pub autocommit : new.in_transaction ≡ false
+  pub clean : KeepsDoubt old new
+  pub left : HasCleanDisk new → LeavesNoMore old new
+  pub stands : HasCleanDisk new → (T : Tables) → Stands old T → Stands new T
+
 -- the connection stands for the farm, where its disk has returned what was written
 abbrev pub StandsFor : State → Farm → Type 0
 StandsFor s F = HasCleanDisk s → Stands s (rows_of F)

@@ -1,6 +1,6 @@
 -- What reading makes of columns and rows.
 use Rattle.std.specs.Prelude.{◌≡◌, ◌≢◌, ◌⊎◌, IsTrue, ℕ, suc, List, [], ◌∷◌, Result, Err}
-use Rattle.std.specs.Prelude.{MatchResult, map, ⊤}
+use Rattle.std.specs.Prelude.{IfOk, MatchResult, map, ⊤}
 use Rattle.std.specs.List.{AllByRecursion}
 use Rattle.sqlite.specs.Effect.{Database}
 use Rattle.sqlite.specs.Order.{Row}
@@ -12,7 +12,7 @@ use Rattle.farm_types.specs.declared.rows.MetaRow.{MetaRow}
 use Rattle.farm_store.specs.Columns.{IsOfSchema, Tables}
 use Rattle.farm_store.specs.Editions.{IsCollectorIn, IsReadableIn, meta_rows_in, other_edition}
 use Rattle.farm_store.specs.Editions.{rows_in, schema_of, told_as}
-use Rattle.farm_store.specs.Holds.{ShowsTables}
+use Rattle.farm_store.specs.Holds.{ShowsTables, Stands}
 use Rattle.farm_store.specs.Versions.{MayTell, Tells}
 use Rattle.farm_store.specs.declared.edition.Edition.{Edition}
 use Rattle.farm_store.specs.declared.fault.StoreFault.{StoreFault}
@@ -96,3 +96,22 @@ ReadsFarm edition result T =
     (λ fault. (fault ≡ told_as (other_edition edition)
     → IsOfSchema (schema_of (other_edition edition)) T)
     × (fault ≡ BadStore → (F : Farm) → IsReadableIn edition F → rows_in edition F ≢ T))
+
+-- what a reading of the tables of an edition tells of the store
+pub record ReadsEdition (edition : Edition) (result : Result Rows StoreFault) (s : State)
+    : Type 0 where
+  -- the rows are those of a readable farm with the tables that stand there: of that very farm
+  pub rows : IfOk result (λ rows. (T : Tables) → Stands s T → rows_in edition (farm_of rows) ≡ T)
+  pub readable : IfOk result (λ rows. (T : Tables) → Stands s T
+      → IsReadableIn edition (farm_of rows))
+  pub farm : IfOk result (λ rows. (F : Farm) → IsReadableIn edition F
+      → Stands s (rows_in edition F) → farm_of rows ≡ F)
+  -- bad are only tables that no readable farm has, and of the other edition only those of its
+  -- version
+  pub bad : result ≡ Err BadStore → (F : Farm) → IsReadableIn edition F
+      → ¬ Stands s (rows_in edition F)
+  pub other : result ≡ Err (told_as (other_edition edition)) → (T : Tables) → Stands s T
+      → IsOfSchema (schema_of (other_edition edition)) T
+  -- the version is looked at before anything else: of our tables, and of any store
+  pub schema : (T : Tables) → Stands s T → LooksAtSchema edition result T
+  pub version : LooksFirst edition result s.now

@@ -2,20 +2,17 @@
 pub(crate) mod cells;
 pub(crate) mod rows;
 
-ghost use Rattle.std.specs.Prelude.{◌≡◌, ◌≢◌, ◌⊎◌, false, Err, IfErr, IfOk, IsTrue, OnOk};
+ghost use Rattle.std.specs.Prelude.{◌≡◌, ◌≢◌, false, Err, IfErr, IfOk, IsTrue, OnOk};
 ghost use Rattle.sqlite.specs.Held.{state};
 ghost use Rattle.sqlite.specs.State.{HasCleanDisk};
-ghost use Rattle.farm_types.specs.Farm.{Farm, farm_of};
-ghost use Rattle.farm_store.specs.Columns.{IsOfSchema, Tables, first_rows_of, first_schema, rows_of};
-ghost use Rattle.farm_store.specs.Columns.{second_schema};
+ghost use Rattle.farm_store.specs.Columns.{Tables};
 ghost use Rattle.farm_store.specs.Editions.{IsCollectorIn, meta_rows_in, told_as};
 ghost use Rattle.farm_store.specs.Edits.{GoesOn};
-ghost use Rattle.farm_store.specs.Holds.{IsInside, KeepsDoubt, Stands, LeavesNoMore};
-ghost use Rattle.farm_store.specs.Readable.{IsReadable, IsReadableFirst};
-ghost use Rattle.farm_store.specs.Reading.{CommitShows, LooksAtSchema, LooksFirst, ReadsFarm};
-ghost use Rattle.farm_store.specs.Reading.{TellsNoVersion};
+ghost use Rattle.farm_store.specs.Holds.{IsInside, ReadsOnly};
+ghost use Rattle.farm_store.specs.Reading.{CommitShows, LooksAtSchema, LooksFirst, ReadsEdition};
+ghost use Rattle.farm_store.specs.Reading.{ReadsFarm, TellsNoVersion};
 ghost use Rattle.farm_store.specs.Schema.{farm_schema};
-ghost use Rattle.farm_store.specs.Versions.{MayTell, Tells};
+ghost use Rattle.farm_store.specs.declared.edition.Edition.TheVariants.{First, Second};
 
 use crate::edition::Edition;
 use crate::fault::StoreFault;
@@ -93,18 +90,9 @@ fn read_any<S: Alter>(
     edition: Edition,
 ) -> Result<Rows, StoreFault>
     requires autocommit { conn.old.in_transaction ≡ false }
-    ensures autocommit { conn.new.in_transaction ≡ false }
-    ensures clean { KeepsDoubt (state S.Store conn.old) (state S.Store conn.new) }
-    ensures left { HasCleanDisk (state S.Store conn.new)
-        → LeavesNoMore (state S.Store conn.old) (state S.Store conn.new) }
-    ensures stands { HasCleanDisk (state S.Store conn.new) → (T : Tables)
-        → Stands (state S.Store conn.old) T → Stands (state S.Store conn.new) T }
-    ensures read { HasCleanDisk (state S.Store conn.new) → (T : Tables)
-        → Stands (state S.Store conn.old) T → ReadsFarm edition result T }
-    ensures schema { HasCleanDisk (state S.Store conn.new) → (T : Tables)
-        → Stands (state S.Store conn.old) T → LooksAtSchema edition result T }
-    ensures looked { HasCleanDisk (state S.Store conn.new)
-        → LooksFirst edition result (state S.Store conn.old).now }
+    ensures only { ReadsOnly (state S.Store conn.old) (state S.Store conn.new) }
+    ensures reads { HasCleanDisk (state S.Store conn.new)
+        → ReadsEdition edition result (state S.Store conn.old) }
     ensures opened { HasCleanDisk (state S.Store conn.new)
         → OnOk result (IsTrue (state S.Store conn.old).is_open) }
     ensures collector { IfOk result (λ rows. IsCollectorIn edition rows.meta.collector) }
@@ -123,19 +111,10 @@ fn read_edition<S: Alter>(
     edition: Edition,
 ) -> Result<Rows, StoreFault>
     requires autocommit { conn.old.in_transaction ≡ false }
-    ensures autocommit { conn.new.in_transaction ≡ false }
-    ensures clean { KeepsDoubt (state S.Store conn.old) (state S.Store conn.new) }
-    ensures left { HasCleanDisk (state S.Store conn.new)
-        → LeavesNoMore (state S.Store conn.old) (state S.Store conn.new) }
-    ensures stands { HasCleanDisk (state S.Store conn.new) → (T : Tables)
-        → Stands (state S.Store conn.old) T → Stands (state S.Store conn.new) T }
+    ensures only { ReadsOnly (state S.Store conn.old) (state S.Store conn.new) }
     ensures ours { OnOk result ((state S.Store conn.old).now.schema ≡ farm_schema) }
-    ensures read { HasCleanDisk (state S.Store conn.new) → (T : Tables)
-        → Stands (state S.Store conn.old) T → ReadsFarm edition result T }
-    ensures schema { HasCleanDisk (state S.Store conn.new) → (T : Tables)
-        → Stands (state S.Store conn.old) T → LooksAtSchema edition result T }
-    ensures looked { HasCleanDisk (state S.Store conn.new)
-        → LooksFirst edition result (state S.Store conn.old).now }
+    ensures reads { HasCleanDisk (state S.Store conn.new)
+        → ReadsEdition edition result (state S.Store conn.old) }
     ensures collector { IfOk result (λ rows. IsCollectorIn edition rows.meta.collector) }
     ensures fault { result ≢ Err (told_as edition) }
 {
@@ -166,39 +145,10 @@ fn read_edition<S: Alter>(
 /// It reads each row once, and keeps the raw rows of one table at a time.
 pub fn load<S: Alter>(alloc: Global, conn: &mut Connection<S>) -> Result<Rows, StoreFault>
     requires autocommit { conn.old.in_transaction ≡ false }
-    ensures autocommit { conn.new.in_transaction ≡ false }
-    ensures clean { KeepsDoubt (state S.Store conn.old) (state S.Store conn.new) }
-    ensures left { HasCleanDisk (state S.Store conn.new)
-        → LeavesNoMore (state S.Store conn.old) (state S.Store conn.new) }
-    ensures stands { HasCleanDisk (state S.Store conn.new) → (T : Tables)
-        → Stands (state S.Store conn.old) T → Stands (state S.Store conn.new) T }
-    ensures rows { HasCleanDisk (state S.Store conn.new)
-        → IfOk result (λ rows. (T : Tables) → Stands (state S.Store conn.old) T
-        → rows_of (farm_of rows) ≡ T) }
-    ensures farm { HasCleanDisk (state S.Store conn.new)
-        → IfOk result (λ rows. (F : Farm) → IsReadable F
-        → Stands (state S.Store conn.old) (rows_of F) → farm_of rows ≡ F) }
+    ensures only { ReadsOnly (state S.Store conn.old) (state S.Store conn.new) }
+    ensures reads { HasCleanDisk (state S.Store conn.new)
+        → ReadsEdition Second result (state S.Store conn.old) }
     ensures ours { OnOk result ((state S.Store conn.old).now.schema ≡ farm_schema) }
-    ensures bad { HasCleanDisk (state S.Store conn.new) → result ≡ Err StoreFault.BadStore
-        → (F : Farm) → IsReadable F → ¬ Stands (state S.Store conn.old) (rows_of F) }
-    ensures old { HasCleanDisk (state S.Store conn.new) → result ≡ Err StoreFault.OldSchema
-        → (T : Tables) → Stands (state S.Store conn.old) T → IsOfSchema first_schema T }
-    ensures known { HasCleanDisk (state S.Store conn.new) → (T : Tables)
-        → Stands (state S.Store conn.old) T → IsOfSchema first_schema T
-        → (result ≡ Err StoreFault.OldSchema) ⊎ (result ≡ Err StoreFault.Store) }
-    ensures other { HasCleanDisk (state S.Store conn.new) → (T : Tables)
-        → Stands (state S.Store conn.old) T → ¬ IsOfSchema first_schema T
-        → ¬ IsOfSchema second_schema T
-        → (result ≡ Err StoreFault.BadStore) ⊎ (result ≡ Err StoreFault.Store) }
-    ensures told { HasCleanDisk (state S.Store conn.new) → result ≡ Err StoreFault.OldSchema
-        → MayTell first_schema (state S.Store conn.old).now }
-    ensures tells { HasCleanDisk (state S.Store conn.new)
-        → Tells first_schema (state S.Store conn.old).now
-        → (result ≡ Err StoreFault.OldSchema) ⊎ (result ≡ Err StoreFault.Store) }
-    ensures neither { HasCleanDisk (state S.Store conn.new)
-        → ¬ MayTell first_schema (state S.Store conn.old).now
-        → ¬ MayTell second_schema (state S.Store conn.old).now
-        → (result ≡ Err StoreFault.BadStore) ⊎ (result ≡ Err StoreFault.Store) }
     ensures never { result ≢ Err StoreFault.NewSchema }
 {
     read_edition(alloc, conn, Edition::Second)
@@ -215,43 +165,11 @@ pub fn load<S: Alter>(alloc: Global, conn: &mut Connection<S>) -> Result<Rows, S
 /// Whether the rows are those of a sound farm is not looked at.
 pub fn load_first<S: Alter>(alloc: Global, conn: &mut Connection<S>) -> Result<Rows, StoreFault>
     requires autocommit { conn.old.in_transaction ≡ false }
-    ensures autocommit { conn.new.in_transaction ≡ false }
-    ensures clean { KeepsDoubt (state S.Store conn.old) (state S.Store conn.new) }
-    ensures left { HasCleanDisk (state S.Store conn.new)
-        → LeavesNoMore (state S.Store conn.old) (state S.Store conn.new) }
-    ensures stands { HasCleanDisk (state S.Store conn.new) → (T : Tables)
-        → Stands (state S.Store conn.old) T → Stands (state S.Store conn.new) T }
-    ensures rows { HasCleanDisk (state S.Store conn.new)
-        → IfOk result (λ rows. (T : Tables) → Stands (state S.Store conn.old) T
-        → first_rows_of (farm_of rows) ≡ T) }
-    ensures first { HasCleanDisk (state S.Store conn.new)
-        → IfOk result (λ rows. (T : Tables) → Stands (state S.Store conn.old) T
-        → IsReadableFirst (farm_of rows)) }
-    ensures farm { HasCleanDisk (state S.Store conn.new)
-        → IfOk result (λ rows. (F : Farm) → IsReadableFirst F
-        → Stands (state S.Store conn.old) (first_rows_of F) → farm_of rows ≡ F) }
+    ensures only { ReadsOnly (state S.Store conn.old) (state S.Store conn.new) }
+    ensures reads { HasCleanDisk (state S.Store conn.new)
+        → ReadsEdition First result (state S.Store conn.old) }
     ensures none { IfOk result (λ rows. rows.meta.collector ≡ 0) }
     ensures ours { OnOk result ((state S.Store conn.old).now.schema ≡ farm_schema) }
-    ensures bad { HasCleanDisk (state S.Store conn.new) → result ≡ Err StoreFault.BadStore
-        → (F : Farm) → IsReadableFirst F → ¬ Stands (state S.Store conn.old) (first_rows_of F) }
-    ensures newer { HasCleanDisk (state S.Store conn.new) → result ≡ Err StoreFault.NewSchema
-        → (T : Tables) → Stands (state S.Store conn.old) T → IsOfSchema second_schema T }
-    ensures known { HasCleanDisk (state S.Store conn.new) → (T : Tables)
-        → Stands (state S.Store conn.old) T → IsOfSchema second_schema T
-        → (result ≡ Err StoreFault.NewSchema) ⊎ (result ≡ Err StoreFault.Store) }
-    ensures other { HasCleanDisk (state S.Store conn.new) → (T : Tables)
-        → Stands (state S.Store conn.old) T → ¬ IsOfSchema second_schema T
-        → ¬ IsOfSchema first_schema T
-        → (result ≡ Err StoreFault.BadStore) ⊎ (result ≡ Err StoreFault.Store) }
-    ensures told { HasCleanDisk (state S.Store conn.new) → result ≡ Err StoreFault.NewSchema
-        → MayTell second_schema (state S.Store conn.old).now }
-    ensures tells { HasCleanDisk (state S.Store conn.new)
-        → Tells second_schema (state S.Store conn.old).now
-        → (result ≡ Err StoreFault.NewSchema) ⊎ (result ≡ Err StoreFault.Store) }
-    ensures neither { HasCleanDisk (state S.Store conn.new)
-        → ¬ MayTell second_schema (state S.Store conn.old).now
-        → ¬ MayTell first_schema (state S.Store conn.old).now
-        → (result ≡ Err StoreFault.BadStore) ⊎ (result ≡ Err StoreFault.Store) }
     ensures never { result ≢ Err StoreFault.OldSchema }
 {
     read_edition(alloc, conn, Edition::First)

@@ -11,7 +11,7 @@ ghost use Rattle.sqlite.specs.Tree.{Trees};
 ghost use Rattle.sqlite_trees.specs.View.{doubt};
 ghost use Rattle.farm_types.specs.Farm.{empty_farm};
 ghost use Rattle.farm_store.specs.Columns.{Tables};
-ghost use Rattle.farm_store.specs.Holds.{IsMadeIn, LeavesNoMore, Stands};
+ghost use Rattle.farm_store.specs.Holds.{IsMadeIn, ReadsOnly, Stands};
 ghost use Rattle.farm_store.specs.Schema.{no_schema};
 ghost use Rattle.farm_keep.specs.Faults.{IsFindFault};
 ghost use Rattle.farm_keep.specs.Headline.{Adopts, Denies};
@@ -92,15 +92,8 @@ pub(super) fn find<S: Alter>(alloc: Global, mut conn: Connection<S>) -> Result<K
         (λ u. HasCleanDisk (state S.Store u.conn)
         → LooksForFarm (Some u.fault) (state S.Store conn).now) }
 
-    // Where there is none, the store stands for its tables as before, and a stop leaves no more
-    // than before.
-    ensures autocommit { IfErr result (λ u. u.conn.in_transaction ≡ false) }
-    ensures doubted { IfErr result (λ u. doubt (state S.Store conn).is_clean ≤ doubt
-        (state S.Store u.conn).is_clean) }
-    ensures stands { IfErr result (λ u. HasCleanDisk (state S.Store u.conn) → (T : Tables)
-        → Stands (state S.Store conn) T → Stands (state S.Store u.conn) T) }
-    ensures left { IfErr result (λ u. HasCleanDisk (state S.Store u.conn)
-        → LeavesNoMore (state S.Store conn) (state S.Store u.conn)) }
+    // Where there is none, the store stands for its tables as before.
+    ensures only { IfErr result (λ u. ReadsOnly (state S.Store conn) (state S.Store u.conn)) }
 {
     match found(alloc, &mut conn) {
         Ok(farm) => Ok(Keeper {

@@ -12,38 +12,38 @@ pub returns-in-Ok-clause-gives : goal.returns-in-Ok-clause-gives
 returns-in-Ok-clause-gives g c = λ clean F left sound holds on.
     let old = state g.S.Store c.args.conn.now in
     let mid = state g.S.Store c.migrate.new.conn in
-    let early : HasCleanDisk mid = omega (arith, c.found.ensures.clean) in
+    let early : HasCleanDisk mid = omega (arith, c.found.ensures.only.clean) in
     let at = stands_either old left F (c.opened_stands.ensures on.opens on.live) on.on holds in
     let stands : Stands mid (rows_of F) = raised_stands old mid F c.migrate.result c.in-Ok.is sound (λ is first. c.in-Ok.ensures.ok early F is first) (c.migrate.ensures.known early) at in
-    let told = c.found.ensures in
-    gives_farm c.found.result mid F sound.sound stands (told.exact clean) (told.bad clean) (told.old clean) told.fault
+    let told = c.found.ensures.finds clean in
+    gives_farm c.found.result mid F sound.sound stands told.exact told.bad told.old c.found.ensures.fault
 
 pub returns-in-Ok-clause-left : goal.returns-in-Ok-clause-left
 returns-in-Ok-clause-left g c = λ clean F left sound holds on db may.
     let old = state g.S.Store c.args.conn.now in
     let mid = state g.S.Store c.migrate.new.conn in
-    let early : HasCleanDisk mid = omega (arith, c.found.ensures.clean) in
+    let early : HasCleanDisk mid = omega (arith, c.found.ensures.only.clean) in
     left_either old mid F sound (c.migrate.ensures.stop early) (c.migrate.ensures.others early) (stands_either old left F (c.opened_stands.ensures on.opens on.live) on.on holds) db
-    (c.found.ensures.left clean db may)
+    (c.found.ensures.only.left clean db may)
 
 pub returns-in-NewSchema-clause-gives : goal.returns-in-NewSchema-clause-gives
 returns-in-NewSchema-clause-gives g c = λ clean F left sound holds on.
     let old = state g.S.Store c.args.conn.now in
     let mid = state g.S.Store c.migrate.new.conn in
-    let early : HasCleanDisk mid = omega (arith, c.found-in-NewSchema.ensures.clean) in
+    let early : HasCleanDisk mid = omega (arith, c.found-in-NewSchema.ensures.only.clean) in
     let at = stands_either old left F (c.opened_stands.ensures on.opens on.live) on.on holds in
     let is : c.migrate.result ≡ Err KeepFault.NewSchema = c.in-Err.is ∙ ap Err c.in-NewSchema.is in
     let stands : Stands mid (rows_of F) = new_stands old mid F (c.migrate.ensures.newer early is) (rests_new c.migrate.result _ is (c.migrate.ensures.rests early)) at in
-    let told = c.found-in-NewSchema.ensures in
-    gives_farm c.found-in-NewSchema.result mid F sound.sound stands (told.exact clean) (told.bad clean) (told.old clean) told.fault
+    let told = c.found-in-NewSchema.ensures.finds clean in
+    gives_farm c.found-in-NewSchema.result mid F sound.sound stands told.exact told.bad told.old c.found-in-NewSchema.ensures.fault
 
 pub returns-in-NewSchema-clause-left : goal.returns-in-NewSchema-clause-left
 returns-in-NewSchema-clause-left g c = λ clean F left sound holds on db may.
     let old = state g.S.Store c.args.conn.now in
     let mid = state g.S.Store c.migrate.new.conn in
-    let early : HasCleanDisk mid = omega (arith, c.found-in-NewSchema.ensures.clean) in
+    let early : HasCleanDisk mid = omega (arith, c.found-in-NewSchema.ensures.only.clean) in
     left_either old mid F sound (c.migrate.ensures.stop early) (c.migrate.ensures.others early) (stands_either old left F (c.opened_stands.ensures on.opens on.live) on.on holds) db
-    (c.found-in-NewSchema.ensures.left clean db may)
+    (c.found-in-NewSchema.ensures.only.left clean db may)
 
 pub returns-in_default-clause-gives : goal.returns-in_default-clause-gives
 returns-in_default-clause-gives g c = λ clean F left sound holds on.
