@@ -63,7 +63,7 @@ if [ "$status" = 0 ]; then
     player=crates/farm_play/out/farm_play
     # three lanes: those that run the program most, those of the tools, and all others
     long="refused_memory.sh power_cuts.py generated.py"
-    short="words.sh statuses.sh mistakes.sh upgrade.sh examples.sh using.sh api.py shell.sh real_clients.sh sockets.py
+    short="words.sh statuses.sh mistakes.sh moved_files.py upgrade.sh examples.sh using.sh api.py shell.sh real_clients.sh sockets.py
         crowds.py malformed.py kills.py"
     tools="dispatch.py client.py importers.py page.py proxy.py package.sh"
     trying $long &
