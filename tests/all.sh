@@ -64,7 +64,7 @@ if [ "$status" = 0 ]; then
     player=crates/farm_play/out/farm_play
     # four lanes: those that run the program most, those of the tools, those of what stands outside, all others
     long="refused_memory.sh power_cuts.py generated.py"
-    short="words.sh statuses.sh mistakes.sh upgrade.sh examples.sh using.sh api.py shell.sh real_clients.sh sockets.py
+    short="words.sh statuses.sh mistakes.sh moved_files.py upgrade.sh examples.sh using.sh api.py shell.sh real_clients.sh sockets.py
         crowds.py malformed.py kills.py"
     tools="dispatch.py watch.py backup.py metrics.py client.py importers.py"
     outside="page.py page_work.py page_past.py proxy.py python_client.py openapi.py package.sh"

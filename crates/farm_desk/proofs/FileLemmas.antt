@@ -18,7 +18,7 @@ use Rattle.farm_store.specs.Schema.{farm_schema, no_schema}
 use Rattle.farm_keep.specs.Headline.{Adopts, Denies}
 use Rattle.farm_keep.specs.Kept.{Kept}
 use Rattle.farm_keep.specs.declared.fault.KeepFault.{KeepFault}
-use Rattle.farm_desk.specs.InFiles.{AreFarms, AreFree, DeniesFarm, DeniesTables, FindsFarm, FindsTables, HoldsTables, ListFarm, ListNothing, MakesFarm, MakesTables, OpensTables, ShowsFiles}
+use Rattle.farm_desk.specs.InFiles.{AreFarms, AreFree, DeniesFarm, DeniesTables, FindsFarm, FindsTables, HoldsTables, IsFoundIn, ListFarm, ListNothing, MakesFarm, MakesTables, OpensTables, ShowsFiles}
 use Rattle.farm_desk.specs.declared.fault.DeskFault.{DeskFault}
 
 -- ---- any store
@@ -78,6 +78,14 @@ lists_shown image conn schema shows clean is =
     let same : (file_state conn).committed.schema ≡ schema = ap (λ (d : Database). d.schema) (sym open_now.0.clean) ∙ is in
     subst (λ (s : Schema). AreListed ((file_state conn).committed.trees catalog_tree) s) same
     (open_now.1 open_now.0.is_open).1.lists.listed
+
+-- a connection that was just opened shows the database that is found in its files
+pub found_in : {D : Type 0} {g : Ghosts D} (image : Image) (conn : Held (FileStore D g)) → ShowsFiles image conn
+    → HasCleanDisk (file_state conn) → IsFoundIn image (file_state conn).now
+found_in image conn shows clean =
+    let open_now = shows.opened clean in
+    subst (λ (d : Database). IsFoundIn image d) (sym open_now.0.clean)
+    (record { found = (shows.found clean).reads; ours = (shows.found clean).holds; sound = (open_now.1 open_now.0.is_open).1 })
 
 -- the files of a connection on which a farm was found hold that farm
 are_farms : {D : Type 0} {g : Ghosts D} (image : Image) (conn : Held (FileStore D g)) (k : Kept (FileStore D g))

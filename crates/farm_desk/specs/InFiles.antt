@@ -1,5 +1,7 @@
 -- Which farm stands in a file and the log beside it.
-use Rattle.std.specs.Prelude.{◌≡◌, ◌≤◌, ℕ, true, List, take, Result, IfErr, ⊤}
+use Rattle.std.specs.Prelude.{◌≡◌, ◌≤◌, ◌⊎◌, ℕ, true, List, take, Option, Some, None, Result, Ok, Err}
+use Rattle.std.specs.Prelude.{IfErr, ⊤}
+use Rattle.sqlite.specs.Effect.{Database, IsDatabase}
 use Rattle.sqlite.specs.Files.{HoldsDatabase, over_files, file_state, AreFoundIn, IsOpened}
 use Rattle.sqlite.specs.Held.{Held, state}
 use Rattle.sqlite.specs.Start.{FindsIn}
@@ -24,6 +26,7 @@ use Rattle.farm_keep.specs.Faults.{IsFindFault}
 use Rattle.farm_keep.specs.Headline.{IsAlwaysClean, Runs}
 use Rattle.farm_keep.specs.Kept.{Kept, Keeps, KeepsFarm}
 use Rattle.farm_keep.specs.Lives.{IsDone}
+use Rattle.farm_keep.specs.Versions.{LooksForFarm}
 use Rattle.farm_keep.specs.declared.fault.KeepFault.{KeepFault}
 use Rattle.farm_keep.specs.declared.keeper.run.RunEnd.{RunEnd}
 use Rattle.farm_desk.specs.declared.fault.DeskFault.{DeskFault}
@@ -106,6 +109,34 @@ abbrev pub GivesReason : {D : Type 0} {g : Ghosts D} → Image
     → Result (Kept (FileStore D g)) DeskFault → Type 0
 GivesReason {D} {g} image result = IsAlwaysClean (over_files {D = D} {g = g})
     → IfErr result (DeniesFarm image)
+
+-- ---- which version they tell
+
+-- an open finds this database in the files: its trees are what they recover to, and whatever
+-- database they hold, and these list its schema
+pub record IsFoundIn (image : Image) (db : Database) : Type 0 where
+  pub found : AreFoundIn image db.trees
+  pub ours : (trees : Trees) → HoldsDatabase image trees → db.trees ≡ trees
+  pub sound : IsDatabase db
+
+-- the keeper's fault, where there is one
+abbrev pub keep_fault : {A : Type 0} → Result A DeskFault → Option KeepFault
+keep_fault (Ok done) = None
+keep_fault (Err (DeskFault.Keep fault)) = Some fault
+keep_fault (Err fault) = None
+
+-- a database is found in the files, and its version was looked at before anything else of it; or the
+-- store failed
+abbrev pub LooksIn : {A : Type 0} → (Option KeepFault → Database → Type 0) → Image
+    → Result A DeskFault → Type 0
+LooksIn Looks image result = (result ≡ Err (DeskFault.Keep KeepFault.Store))
+    ⊎ ((db : Database) × IsFoundIn image db × Looks (keep_fault result) db)
+
+-- so it is where a farm of this edition is looked for, on a disk that always returns what was written
+abbrev pub LooksForFarmIn : {D : Type 0} {g : Ghosts D} → Image
+    → Result (Kept (FileStore D g)) DeskFault → Type 0
+LooksForFarmIn {D} {g} image result = IsAlwaysClean (over_files {D = D} {g = g})
+    → LooksIn LooksForFarm image result
 
 -- ---- the same of any store
 

@@ -15,8 +15,9 @@ use Rattle.farm_types.specs.Farm.{Farm}
 use Rattle.farm_keep.specs.Faults.{IsMigrateFault}
 use Rattle.farm_keep.specs.First.{IsSoundFirst}
 use Rattle.farm_keep.specs.Headline.{IsAlwaysClean}
+use Rattle.farm_keep.specs.Versions.{LooksForFirst}
 use Rattle.farm_keep.specs.declared.fault.KeepFault.{KeepFault}
-use Rattle.farm_desk.specs.InFiles.{HoldsFarm, HoldsTables, OpensTables}
+use Rattle.farm_desk.specs.InFiles.{HoldsFarm, HoldsTables, LooksIn, OpensTables}
 use Rattle.farm_desk.specs.declared.fault.DeskFault.{DeskFault}
 
 -- ---- the files
@@ -62,6 +63,12 @@ abbrev pub GivesUpgradeReason : {D : Type 0} {g : Ghosts D} → Image
     → Result (Held (FileStore D g)) DeskFault → Type 0
 GivesUpgradeReason {D} {g} image result = IsAlwaysClean (over_files {D = D} {g = g})
     → IfErr result (DeniesUpgrade image)
+
+-- the version that the files tell is looked at before anything else of them
+abbrev pub LooksForFirstIn : {D : Type 0} {g : Ghosts D} → Image
+    → Result (Held (FileStore D g)) DeskFault → Type 0
+LooksForFirstIn {D} {g} image result = IsAlwaysClean (over_files {D = D} {g = g})
+    → LooksIn LooksForFirst image result
 
 -- ---- the same of any store
 

@@ -3,21 +3,24 @@ ghost use Rattle.std.specs.Prelude.{None, ⊤};
 
 use crate::clients::{Client, Clients};
 use crate::deadline_stream::{DeadlineStream, drop_rest, limit_waits};
+use crate::open_files::OpenFiles;
 use crate::pending::Pending;
-use farm_wire::constant::no_memory_answer;
+use farm_wire::constant::{no_memory_answer, store_answer};
 use farm_wire::write_whole;
 use std::alloc::Global;
 use std::io::BufReader;
 use std::net::{Net, TcpListener, TcpStream};
 use std::time::{Clock, SystemTime, UNIX_EPOCH};
 
-/// The clients of a listener. Of them nothing is known.
+/// The clients of a listener, as long as nobody takes away the files under the farm that is served,
+/// where these are given. Of the clients nothing is known.
 #[derive(Drop)]
 pub(crate) struct Accepted<'a, C: Clock> {
     alloc: Global,
     listener: &'a TcpListener,
     clock: &'a C,
     pending: Option<Pending>,
+    files: Option<&'a OpenFiles<'a>>,
 }
 
 impl<'a, C: Clock + Net> Accepted<'a, C> {
@@ -28,6 +31,7 @@ impl<'a, C: Clock + Net> Accepted<'a, C> {
         listener: &'a TcpListener,
         max: u64,
         clock: &'a C,
+        files: Option<&'a OpenFiles<'a>>,
     ) -> Accepted<'a, C> {
         let pending = Pending::new(alloc, clock, listener, max);
         if pending.is_none() {
@@ -38,6 +42,17 @@ impl<'a, C: Clock + Net> Accepted<'a, C> {
             listener,
             clock,
             pending,
+            files,
+        }
+    }
+}
+
+impl<C: Clock> Accepted<'_, C> {
+    /// Whether the files are still those that were opened, where they are given.
+    fn has_files(&self) -> bool {
+        match self.files {
+            Some(files) => files.are_there(),
+            None => true,
         }
     }
 }
@@ -51,8 +66,17 @@ impl<'a, C: Clock> Clients for Accepted<'a, C> {
 
     ghost has_one = { λ _. ⊤ };
 
+    /// Whether the files were taken away.
+    fn is_over(&self) -> bool {
+        match self.files {
+            Some(files) => files.are_lost(),
+            None => false,
+        }
+    }
+
     /// The next connection whose request is there. A buffer stands before its stream, so that a
-    /// head costs one read; without memory for the buffer the client is told so.
+    /// head costs one read; without memory for the buffer the client is told so, and without the
+    /// files that the store is lost.
     fn next(&mut self) -> Option<Client<BufReader<DeadlineStream<'a, C>>, DeadlineStream<'a, C>>> {
         let stream = match &mut self.pending {
             Some(pending) => pending.next_stream(self.listener, self.clock)?,
@@ -61,6 +85,10 @@ impl<'a, C: Clock> Clients for Accepted<'a, C> {
         let second = stream.try_clone().ok()?;
         let now = moment(self.clock)?;
         let mut writer = DeadlineStream::new(second, self.clock);
+        if !self.has_files() {
+            refuse(&mut writer, store_answer());
+            return None;
+        }
         match BufReader::new(self.alloc, DeadlineStream::new(stream, self.clock)) {
             Ok(reader) => Some(Client {
                 now,
@@ -68,8 +96,7 @@ impl<'a, C: Clock> Clients for Accepted<'a, C> {
                 writer,
             }),
             Err(_) => {
-                let _ = write_whole(&mut writer, no_memory_answer());
-                drop_rest(&writer.stream);
+                refuse(&mut writer, no_memory_answer());
                 None
             }
         }
@@ -78,6 +105,12 @@ impl<'a, C: Clock> Clients for Accepted<'a, C> {
     fn part(&mut self, _reader: BufReader<DeadlineStream<'a, C>>, writer: DeadlineStream<'a, C>) {
         drop_rest(&writer.stream);
     }
+}
+
+/// Answers a request that isn't read.
+fn refuse<C: Clock>(writer: &mut DeadlineStream<'_, C>, answer: &[u8]) {
+    let _ = write_whole(writer, answer);
+    drop_rest(&writer.stream);
 }
 
 /// The stream of the next connection, limited in time.

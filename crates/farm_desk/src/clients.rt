@@ -1,5 +1,5 @@
 //! Clients that come one after another.
-ghost use Rattle.std.specs.Prelude.{◌≡◌, Option, MatchOption, IsSome};
+ghost use Rattle.std.specs.Prelude.{◌≡◌, Option, MatchOption, IsSome, IsTrue};
 ghost use Rattle.farm_desk.specs.Clients.{Clientele, Brings, Goes, IsOver};
 
 use farm_http::input::Input;
@@ -25,6 +25,10 @@ pub trait Clients {
 
     /// A client that came hasn't gone.
     ghost has_one: { Self → Type 0 };
+
+    /// Whether nobody comes any more.
+    fn is_over(&self) -> bool
+        ensures { IsTrue result → IsOver (clientele self.now) };
 
     /// The next client; none where nobody came, or where the one that came can't be served.
     fn next(&mut self) -> Option<Client<Self::Reader, Self::Writer>>

@@ -1,11 +1,14 @@
 //! Farms in files.
 ghost use Rattle.std.specs.Prelude.{◌≡◌, ◌⊎◌, ◌+◌, false, take, IfOk, IfErr, IfSome};
+ghost use Rattle.sqlite.specs.Held.{state};
 ghost use Rattle.sqlite_wal.specs.Files.{image_at};
 ghost use Rattle.sqlite_wal.specs.Recovery.{Image};
 ghost use Rattle.farm_types.specs.Limits.{longest_lab_file};
 ghost use Rattle.farm_keep.specs.Headline.{IsAlwaysClean};
+ghost use Rattle.farm_keep.specs.Versions.{LooksForFarm};
 ghost use Rattle.farm_desk.specs.InFiles.{ShowsFiles, FindsTables, FindsFarm, MakesTables};
 ghost use Rattle.farm_desk.specs.InFiles.{MakesFarm, DeniesTables, GivesReason, IsOpenFault};
+ghost use Rattle.farm_desk.specs.InFiles.{LooksForFarmIn, keep_fault};
 
 use crate::fault::DeskFault;
 use crate::ground::Ground;
@@ -61,6 +64,10 @@ pub fn open_farm<S: Start>(
     // On a disk that always returns what was written, the files are told bad only where they hold
     // no sound farm, and of an old schema only where their tables are of the first edition.
     ensures denied { GivesReason (image_at S.Start) result }
+
+    // Whatever else stands in them, they are told to be of an old schema only where their `meta` may
+    // tell 1, and are told so where it does; where it tells neither 1 nor 2 they are bad.
+    ensures version { LooksForFarmIn (image_at S.Start) result }
     ensures fault { IfErr result IsOpenFault }
 {
     let Some(ground) = Ground::of_farm(rt, alloc, path) else {
@@ -108,6 +115,7 @@ fn farm_on<D: Disk + Drop>(
     requires { conn.in_transaction ≡ false }
     ensures found { IfOk result (λ k. (image : Image) → ShowsFiles image conn → FindsFarm image k) }
     ensures denied { (image : Image) → ShowsFiles image conn → GivesReason image result }
+    ensures version { (image : Image) → ShowsFiles image conn → LooksForFarmIn image result }
     ensures fault { IfErr result IsOpenFault }
 {
     adopt(alloc, conn)
@@ -118,6 +126,8 @@ fn adopt<S: Alter + Drop>(alloc: Global, conn: Connection<S>) -> Result<Keeper<S
     requires { conn.in_transaction ≡ false }
     ensures found { IfOk result (FindsTables S.Store conn) }
     ensures denied { IsAlwaysClean S.Store → IfErr result (DeniesTables S.Store conn) }
+    ensures version { IsAlwaysClean S.Store
+        → LooksForFarm (keep_fault result) (state S.Store conn).now }
     ensures fault { IfErr result IsOpenFault }
 {
     opened_stands(&conn);

@@ -172,7 +172,7 @@ fn first_page_is_bare(file: &mut File) -> io::Result<bool> {
 }
 
 /// The path of the log beside a file, which lies where a link leads.
-fn log_path(rt: &HostRuntime, alloc: Global, file: &str) -> io::Result<String> {
+pub(crate) fn log_path(rt: &HostRuntime, alloc: Global, file: &str) -> io::Result<String> {
     match fs::canonicalize(rt, file) {
         Ok(real) => {
             let real = real.as_str();

@@ -58,6 +58,10 @@ impl<'a> Clients for KnownClients<'a> {
     ghost has_one = { λ clients. length (into_iter_items clients.coming) + length clients.gone.items
         < vec_capacity clients.gone };
 
+    fn is_over(&self) -> bool {
+        self.coming.len() == 0
+    }
+
     fn next(&mut self) -> Option<Client<&'a [u8], Vec<u8>>> {
         let sent = self.coming.next()?;
         Some(Client {

@@ -22,6 +22,7 @@ mod hear;
 pub mod import;
 pub mod known;
 pub mod laws;
+mod open_files;
 pub mod orders;
 mod pending;
 pub mod program;

@@ -14,8 +14,9 @@ use crate::converse::converse;
 use crate::fault::DeskFault;
 use crate::files::{make_farm, open_farm, read_lab};
 use crate::import::{ImportEnd, import};
+use crate::open_files::OpenFiles;
 use crate::report::{report_text, zone_between};
-use crate::serve::serve_on;
+use crate::serve::serve_on_files;
 use crate::upgrade::migrate_farm;
 use farm_http::input::Input;
 use farm_http::output::Output;
@@ -63,6 +64,7 @@ pub fn carry_out<R: Input, W: Output>(
                     alloc,
                     memory_keeper(alloc)?,
                     Task::Answer { at },
+                    None,
                     input,
                     output,
                 );
@@ -79,12 +81,35 @@ pub fn carry_out<R: Input, W: Output>(
             which,
         } => (file, Task::Report { east, west, which }),
         Order::Serve { file, port, max } => {
-            tell_size(rt, file.as_str(), "opening");
-            (file, Task::Serve { port, max })
+            return serve_file(rt, alloc, file.as_str(), port, max, input, output);
         }
     };
     let keeper = open_farm(rt, alloc, file.as_str(), Unknown)?;
-    on_farm(rt, alloc, keeper, task, input, output)
+    on_farm(rt, alloc, keeper, task, None, input, output)
+}
+
+/// Serves from the farm in a file. Where somebody takes away the file or its log meanwhile, that is a
+/// fault of the store, since what would be written then is lost.
+fn serve_file<R: Input, W: Output>(
+    rt: &HostRuntime,
+    alloc: Global,
+    file: &str,
+    port: u16,
+    max: u64,
+    input: &mut R,
+    output: &mut W,
+) -> Result<End, DeskFault> {
+    tell_size(rt, file, "opening");
+    let keeper = open_farm(rt, alloc, file, Unknown)?;
+    let Some(files) = OpenFiles::new(rt, alloc, file) else {
+        return Err(DeskFault::Keep(KeepFault::Store));
+    };
+    let task = Task::Serve { port, max };
+    let end = on_farm(rt, alloc, keeper, task, Some(&files), input, output)?;
+    if files.are_lost() {
+        return Err(DeskFault::Keep(KeepFault::Store));
+    }
+    Ok(end)
 }
 
 /// What is done with a farm that is there.
@@ -96,12 +121,14 @@ enum Task {
     Serve { port: u16, max: u64 },
 }
 
-/// Does what an order wants of a keeper's farm.
+/// Does what an order wants of a keeper's farm. It serves as long as these files are there, where they
+/// are given.
 fn on_farm<R: Input, W: Output, S: Alter + Drop>(
     rt: &HostRuntime,
     alloc: Global,
     mut keeper: Keeper<S>,
     task: Task,
+    files: Option<&OpenFiles<'_>>,
     input: &mut R,
     output: &mut W,
 ) -> Result<End, DeskFault>
@@ -110,7 +137,7 @@ fn on_farm<R: Input, W: Output, S: Alter + Drop>(
         (desk left (R.remaining input.new) (W.contents output.new))
         R.never_fails (W.has_room output.old) result }
 {
-    do_task(rt, alloc, &mut keeper, &task, input, output)
+    do_task(rt, alloc, &mut keeper, &task, files, input, output)
 }
 
 /// Does a task with a keeper's farm.
@@ -119,6 +146,7 @@ fn do_task<R: Input, W: Output, S: Alter>(
     alloc: Global,
     keeper: &mut Keeper<S>,
     task: &Task,
+    files: Option<&OpenFiles<'_>>,
     input: &mut R,
     output: &mut W,
 ) -> Result<End, DeskFault>
@@ -133,7 +161,7 @@ fn do_task<R: Input, W: Output, S: Alter>(
         Task::Report { east, west, which } => {
             print_report(alloc, keeper, (*east, *west), *which, output)
         }
-        Task::Serve { port, max } => serve(rt, alloc, keeper, *port, *max, output),
+        Task::Serve { port, max } => serve(rt, alloc, keeper, *port, *max, files, output),
     }
 }
 
@@ -264,13 +292,15 @@ fn print_counts<W: Output>(output: &mut W, accepted: usize, kept: usize) -> Resu
     }
 }
 
-/// Serves so many connections to a port of 127.0.0.1 from a keeper's farm.
+/// Serves so many connections to a port of 127.0.0.1 from a keeper's farm, as long as its files are
+/// there, where they are given.
 fn serve<W: Output, S: Alter>(
     rt: &HostRuntime,
     alloc: Global,
     keeper: &mut Keeper<S>,
     port: u16,
     max: u64,
+    files: Option<&OpenFiles<'_>>,
     output: &mut W,
 ) -> Result<End, DeskFault>
     ensures { ServesIfHeard S.Store keeper.old keeper.new (W.contents output.old)
@@ -280,7 +310,7 @@ fn serve<W: Output, S: Alter>(
         return Err(DeskFault::Read);
     };
     print_port(output, port)?;
-    serve_on(alloc, keeper, &listener, max, rt)?;
+    serve_on_files(alloc, keeper, &listener, max, rt, files)?;
     Ok(End::Done)
 }
 

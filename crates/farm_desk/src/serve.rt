@@ -9,6 +9,7 @@ ghost use Rattle.farm_desk.specs.Visits.{ServesInTurn};
 use crate::accepted::Accepted;
 use crate::clients::{Client, Clients};
 use crate::fault::DeskFault;
+use crate::open_files::OpenFiles;
 use crate::server::Server;
 use farm_http::input::Input;
 use farm_http::output::Output;
@@ -59,7 +60,26 @@ pub fn serve_on<S: Alter, C: Clock + Net>(
     ensures clean { doubt (state S.Store keeper.old.conn).is_clean ≤ doubt
         (state S.Store keeper.new.conn).is_clean }
 {
-    let mut clients = Accepted::new(alloc, listener, max, clock);
+    serve_on_files(alloc, keeper, listener, max, clock, None)
+}
+
+/// The same from files, where they are given: once somebody took one away it ends without a fault,
+/// and before anybody else is answered from the farm.
+pub(crate) fn serve_on_files<S: Alter, C: Clock + Net>(
+    alloc: Global,
+    keeper: &mut Keeper<S>,
+    listener: &TcpListener,
+    max: u64,
+    clock: &C,
+    files: Option<&OpenFiles<'_>>,
+) -> Result<(), DeskFault>
+    ensures serves { ServesUntil S.Store keeper.old keeper.new max result }
+    ensures closed { (result ≡ Err (DeskFault.Keep KeepFault.Closed))
+        ↔ (keeper.old.is_open ≡ false) }
+    ensures clean { doubt (state S.Store keeper.old.conn).is_clean ≤ doubt
+        (state S.Store keeper.new.conn).is_clean }
+{
+    let mut clients = Accepted::new(alloc, listener, max, clock, files);
     let ended = serve(alloc, keeper, &mut clients, max);
     let _ = listener.set_nonblocking(false);
     ended
@@ -92,6 +112,9 @@ pub fn serve<S: Alter, K: Clients>(
     }
     let server = Server::of_many(alloc);
     for _ in 0..max {
+        if clients.is_over() {
+            return Ok(());
+        }
         server.serve_next(keeper, clients)?;
     }
     Ok(())

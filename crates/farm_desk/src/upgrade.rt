@@ -1,10 +1,13 @@
 //! Farms of the first edition in files, brought to this one.
 ghost use Rattle.std.specs.Prelude.{◌≡◌, false, IfOk, IfErr};
+ghost use Rattle.sqlite.specs.Held.{state};
 ghost use Rattle.sqlite_wal.specs.Files.{image_at};
 ghost use Rattle.sqlite_wal.specs.Recovery.{Image};
 ghost use Rattle.farm_keep.specs.Headline.{IsAlwaysClean};
-ghost use Rattle.farm_desk.specs.InFiles.{ShowsFiles};
+ghost use Rattle.farm_keep.specs.Versions.{LooksForFirst};
+ghost use Rattle.farm_desk.specs.InFiles.{ShowsFiles, keep_fault};
 ghost use Rattle.farm_desk.specs.Upgrades.{DeniesRaise, GivesUpgradeReason, IsUpgradeFault};
+ghost use Rattle.farm_desk.specs.Upgrades.{LooksForFirstIn};
 ghost use Rattle.farm_desk.specs.Upgrades.{RaisesFarm, RaisesTables};
 
 use crate::fault::DeskFault;
@@ -34,6 +37,10 @@ pub fn migrate_farm<S: Start>(
     // On a disk that always returns what was written, the files are told bad only where they hold
     // no sound farm of the first edition, and new only where their tables are of this one.
     ensures denied { GivesUpgradeReason (image_at S.Start) result }
+
+    // Whatever else stands in them, they are told to be of a new schema only where their `meta` may
+    // tell 2, and are told so where it does; where it tells neither 1 nor 2 they are bad.
+    ensures version { LooksForFirstIn (image_at S.Start) result }
     ensures fault { IfErr result IsUpgradeFault }
 {
     let Some(ground) = Ground::of_farm(rt, alloc, path) else {
@@ -57,6 +64,7 @@ fn raised_on<D: Disk + Drop>(
     ensures raised { IfOk result (λ new. (image : Image) → ShowsFiles image conn
         → RaisesFarm image new) }
     ensures denied { (image : Image) → ShowsFiles image conn → GivesUpgradeReason image result }
+    ensures version { (image : Image) → ShowsFiles image conn → LooksForFirstIn image result }
     ensures fault { IfErr result IsUpgradeFault }
 {
     raise(alloc, conn)
@@ -70,6 +78,8 @@ fn raise<S: Alter + Drop>(
     requires { conn.in_transaction ≡ false }
     ensures raised { IfOk result (RaisesTables S.Store conn) }
     ensures denied { IsAlwaysClean S.Store → IfErr result (DeniesRaise S.Store conn) }
+    ensures version { IsAlwaysClean S.Store
+        → LooksForFirst (keep_fault result) (state S.Store conn).now }
     ensures fault { IfErr result IsUpgradeFault }
 {
     opened_stands(&conn);

@@ -8,3 +8,6 @@ returns-clause-raised g c =
 
 pub returns-clause-denied : goal.returns-clause-denied
 returns-clause-denied g c = c.raised_on-raised.ensures.denied (image_at g.S.Start) c.in_ok-conn.ensures.shows
+
+pub returns-clause-version : goal.returns-clause-version
+returns-clause-version g c = c.raised_on-raised.ensures.version (image_at g.S.Start) c.in_ok-conn.ensures.shows

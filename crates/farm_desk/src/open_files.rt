@@ -1,0 +1,112 @@
+//! A farm's two files while they are served: whether somebody moved, removed or cut one. Nothing is
+//! known of a path, so nothing here has a clause.
+use crate::ground::log_path;
+use std::alloc::Global;
+use std::cell::Cell;
+use std::fs;
+use std::io::ErrorKind;
+use std::os::unix::fs::MetadataExt;
+
+/// What the system says of a path.
+#[derive(Clone, Copy, Debug, PartialEq, Eq)]
+enum Look {
+    /// It names this file, which is so long.
+    Names(Identity, u64),
+    Nothing,
+    /// It can't be told.
+    Unknown,
+}
+
+/// Which file it is.
+#[derive(Clone, Copy, Debug, PartialEq, Eq)]
+struct Identity {
+    device: u64,
+    node: u64,
+}
+
+/// A path, the file that it named once that was open, and how long the file was at the last look.
+#[derive(Drop)]
+struct OpenFile {
+    path: String,
+    identity: Identity,
+    length: Cell<u64>,
+}
+
+/// A farm's file and the log beside it, which the desk has open. Where a path names another file, or
+/// none, or a file got shorter, somebody took it away: what the desk writes from then on is lost.
+/// Neither gets shorter by what the desk does: nothing is vacuumed, and a log that was copied into
+/// the file is written from its beginning on.
+#[derive(Drop)]
+pub(crate) struct OpenFiles<'a> {
+    rt: &'a HostRuntime,
+    file: OpenFile,
+    log: OpenFile,
+    are_lost: Cell<bool>,
+}
+
+impl<'a> OpenFiles<'a> {
+    /// The files of a farm that was just opened; none where a path names no file, or where that
+    /// can't be told.
+    pub(crate) fn new(rt: &'a HostRuntime, alloc: Global, file: &str) -> Option<OpenFiles<'a>> {
+        let log = log_path(rt, alloc, file).ok()?;
+        Some(OpenFiles {
+            rt,
+            file: OpenFile::new(rt, String::from_str(alloc, file).ok()?)?,
+            log: OpenFile::new(rt, log)?,
+            are_lost: Cell::new(false),
+        })
+    }
+
+    /// Looks at both: whether neither was taken away, now or at a look before.
+    pub(crate) fn are_there(&self) -> bool {
+        if !self.file.is_there(self.rt) || !self.log.is_there(self.rt) {
+            self.are_lost.set(true);
+        }
+        !self.are_lost()
+    }
+
+    /// Whether a look found that one was taken away.
+    pub(crate) fn are_lost(&self) -> bool {
+        self.are_lost.get()
+    }
+}
+
+impl OpenFile {
+    fn new(rt: &HostRuntime, path: String) -> Option<OpenFile> {
+        match look_at(rt, path.as_str()) {
+            Look::Names(identity, length) => Some(OpenFile {
+                path,
+                identity,
+                length: Cell::new(length),
+            }),
+            _ => None,
+        }
+    }
+
+    /// Whether the path names the file, which didn't get shorter, as far as can be told.
+    fn is_there(&self, rt: &HostRuntime) -> bool {
+        match look_at(rt, self.path.as_str()) {
+            Look::Names(identity, length) => {
+                identity == self.identity && length >= self.length.replace(length)
+            }
+            Look::Nothing => false,
+            Look::Unknown => true,
+        }
+    }
+}
+
+fn look_at(rt: &HostRuntime, path: &str) -> Look {
+    match fs::metadata(rt, path) {
+        Ok(found) => Look::Names(
+            Identity {
+                device: found.dev(),
+                node: found.ino(),
+            },
+            found.len(),
+        ),
+        Err(error) => match error.kind() {
+            ErrorKind::NotFound | ErrorKind::NotADirectory => Look::Nothing,
+            _ => Look::Unknown,
+        },
+    }
+}
