@@ -62,19 +62,22 @@ limited "tests of scripts" python3 tests/waves.py --read || status=1
 if [ "$status" = 0 ]; then
     farm=crates/farm/out/farm
     player=crates/farm_play/out/farm_play
-    # four lanes: those that run the program most, those of the tools, those of what stands outside, all others
+    # five lanes: those that run the program most, those that wait most, those of the tools, those of what stands
+    # outside, all others
     long="refused_memory.sh power_cuts.py generated.py"
     short="words.sh statuses.sh mistakes.sh moved_files.py upgrade.sh examples.sh using.sh api.py shell.sh real_clients.sh sockets.py
         crowds.py malformed.py kills.py"
-    tools="dispatch.py watch.py backup.py metrics.py client.py importers.py"
+    patient="client.py watch.py"
+    tools="dispatch.py backup.py metrics.py importers.py"
     outside="page.py page_work.py page_past.py proxy.py python_client.py openapi.py package.sh"
     trying $long &
+    trying $patient &
     trying $tools &
     trying $outside &
     trying $short
     wait
     wrong=
-    for script in $short $tools $outside $long; do
+    for script in $short $patient $tools $outside $long; do
         cat "$folder/$script.said"
         case $(cat "$folder/$script.status") in
             0) passed=$((passed + 1)) ;;
