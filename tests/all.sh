@@ -65,7 +65,7 @@ if [ "$status" = 0 ]; then
     long="refused_memory.sh power_cuts.py generated.py"
     short="words.sh statuses.sh mistakes.sh upgrade.sh examples.sh using.sh api.py shell.sh real_clients.sh sockets.py
         crowds.py malformed.py kills.py"
-    tools="dispatch.py client.py importers.py page.py proxy.py package.sh"
+    tools="dispatch.py client.py importers.py page.py proxy.py boards_run.py package.sh"
     trying $long &
     trying $tools &
     trying $short

@@ -237,7 +237,65 @@ def cancels(way, board, text, started):
     print(f"boards_run: {way.name}: a cancel while the board runs ends it", flush=True)
 
 
+def status_of(name, place, text, boards="q1"):
+    """The status of a command for a text, without a dispatcher."""
+    folder = tempfile.mkdtemp(dir=place)
+    write(os.path.join(folder, "job.toml"), text)
+    ran = subprocess.run(
+        [os.path.join(TOP, "examples", f"run-job-{name}"), place],
+        env={**os.environ, "FARM_FOLDER": folder, "FARM_BOARDS": boards, "FARM_JOB": "1",
+             "FARM_JOB_FILE": os.path.join(folder, "job.toml")},
+        cwd=folder, check=False, capture_output=True, text=True, timeout=300,
+    )
+    demand(f"what {name} says on standard error", "", ran.stderr)
+    return ran.returncode
+
+
+def refusals(place):
+    """What ends before labgrid or LAVA is asked."""
+    for name, table in (("labgrid", "test = ''"), ("lava", "definition = ''")):
+        empty = tempfile.mkdtemp(dir=place)
+        text = f"[{name}]\n{table}\n"
+        demand(f"{name} of a board without a file", 75, status_of(name, empty, text))
+        write(os.path.join(empty, "q1.yaml"), "")
+        demand(f"{name} of two boards", 1, status_of(name, empty, text, "q1 q2"))
+        other, number = f"[{name}]\nother = 'x'", f"[{name}]\n{table[:-2]}1"
+        for bad in ("", "= no TOML", f"{name} = 3", other, number):
+            demand(f"{name} of the text {bad!r}", 1, status_of(name, empty, bad))
+    print("boards_run: a text without a job is Incomplete, no file of the board Infra", flush=True)
+
+
+def labgrid_statuses(place):
+    """How labgrid's and pytest's ways to end are told."""
+    folder = tempfile.mkdtemp(dir=place)
+    write(os.path.join(folder, "env.yaml"), "targets: {main: {drivers: {}}}\n")
+    fixture = "import pytest\n@pytest.fixture\ndef up():\n    raise {}\ndef test(up): pass\n"
+    for wanted, test in (
+        (0, "def test(target): pass"),
+        (0, "import os\ndef test(): assert os.environ['LG_PLACE'] == 'q1'"),
+        (1, "def test(): assert False"),
+        (1, "def test(): raise OSError"),
+        (1, "def test(:"),
+        (1, ""),
+        (1, fixture.format("ValueError")),
+        (75, fixture.format("ConnectionRefusedError")),
+        (75, "def test(target): target.get_driver('ShellDriver')"),
+        (75, "def test(target): target.get_resource('RemotePlace')"),
+        (75, "import pytest\ndef test(): pytest.exit('as labgrid, without its place')"),
+    ):
+        text = f"[labgrid]\ntest = \"\"\"{test}\"\"\"\n"
+        demand(f"labgrid's status of {test!r}", wanted, status_of("labgrid", folder, text))
+    text = "[labgrid]\nvariables = { OTHER = 'x' }\ntest = ''\n"
+    demand("of a variable that isn't LG_..", 1, status_of("labgrid", folder, text))
+    for file in ("targets: {", "images: {kernel: !template $LG_NONE}", "images: {kernel: gone}"):
+        write(os.path.join(folder, "env.yaml"), file)
+        text = "[labgrid]\ntest = 'def test(): pass'\n"
+        demand(f"of the environment {file!r}", 75, status_of("labgrid", folder, text))
+    print("boards_run: labgrid: a failed test is Incomplete, what a board lacks Infra", flush=True)
+
+
 def labgrid(place, board):
+    labgrid_statuses(place)
     way = Way("labgrid", {"env.yaml": ENVIRONMENT})
     gone = os.path.join(place, "gone")
     jobs = {
@@ -248,7 +306,25 @@ def labgrid(place, board):
     cancels(way, board, labgrid_job(board, LABGRID_STAYS), tries(way, place, board, jobs))
 
 
+def lava_statuses(place, board):
+    """How lava-run's errors that need no board are told."""
+    folder = tempfile.mkdtemp(dir=place)
+    good = lava_job(board)
+    for device, text, wanted in (
+        (DEVICE, good.replace("job_name: boots", "job_name: [boots"), 1),
+        (DEVICE, good.replace("actions:", "acts:"), 1),
+        (DEVICE, good.replace("- boot:", "- dance:"), 1),
+        (DEVICE.replace("constants:", "others:"), good, 75),
+        ("no: [YAML", good, 75),
+    ):
+        write(os.path.join(folder, "q1.yaml"), board.fill(device))
+        demand(f"lava's status of {device} {text}", wanted, status_of("lava", folder, text))
+    told = "a job's error is Incomplete, a device file's Infra"
+    print(f"boards_run: lava: {told}", flush=True)
+
+
 def lava(place, board):
+    lava_statuses(place, board)
     way = Way("lava", {"q1.yaml": DEVICE})
     gone = os.path.join(place, "gone")
     jobs = {
@@ -265,11 +341,16 @@ def kernel_of_this_machine():
     return next((it for it in found[::-1] if os.access(it, os.R_OK)), None)
 
 
+def runs_python(line):
+    """Whether Debian's Python runs a line."""
+    return os.path.exists(PYTHON) and not subprocess.run(
+        [PYTHON, "-c", line], check=False, capture_output=True
+    ).returncode
+
+
 def ways():
     """The ways that this machine can try, and what the others lack."""
-    has_labgrid = os.path.exists(PYTHON) and not subprocess.run(
-        [PYTHON, "-c", "import labgrid"], check=False, capture_output=True
-    ).returncode
+    has_labgrid = runs_python("import labgrid, tomllib")
     has_lava = shutil.which("lava-run") is not None and os.geteuid() == 0
     found = [it for it, there in ((labgrid, has_labgrid), (lava, has_lava)) if there]
     lacks = [] if has_labgrid else ["python3-labgrid"]
@@ -281,6 +362,9 @@ def main():
     kernel = kernel_of_this_machine()
     lacks += [] if kernel else ["a kernel in /boot or FARM_TEST_KERNEL"]
     found, missing = ways()
+    if runs_python("import tomllib"):
+        with tempfile.TemporaryDirectory() as room:
+            refusals(room)
     if lacks or not found:
         print(f"boards_run: not tried, for want of {', '.join(lacks + missing)}")
         return 77

@@ -34,7 +34,8 @@ field() { dpkg-deb -f "$folder"/"$1"_*.deb "$2"; }
 ! grep -E '^./(lib|etc|usr/bin/farm)' "$folder/fizgruk-desk/files" || fail "the client's package has more than the client"
 ! grep -l 'systemctl\|deb-systemd\|adduser' "$folder"/fizgruk-desk/*inst || fail "the client's package starts something"
 for file in lib/systemd/system/farm.service lib/systemd/system/farm-dispatch.service usr/bin/farm usr/bin/farm-dispatch \
-    usr/share/fizgruk/page/farm.html etc/nginx/sites-available/farm etc/farm/run-job etc/farm/check-board; do
+    usr/share/fizgruk/page/farm.html etc/nginx/sites-available/farm etc/farm/run-job etc/farm/check-board \
+    etc/farm/run-job-labgrid etc/farm/run-job-lava; do
     grep -qx "./$file" "$folder/fizgruk-farm/files" || fail "fizgruk-farm has no $file"
 done
 for name in fizgruk-desk fizgruk-farm; do
