@@ -212,6 +212,7 @@ def tries(way, place, board, jobs):
         show(number, read(log))
         demand(f"{way.name}: the result of {read(log)}", wanted, farm.job(number)["result"])
         demand(f"{way.name}: that {line!r} is in the log {read(log)}", True, line in read(log))
+        demand(f"{way.name}: whether the log has escapes", False, "\x1b" in read(log))
         demand(f"{way.name}: the emulators after the {wanted} job", [], board.processes())
     told = "a prompt is Complete, a panic Incomplete, no image Infra"
     print(f"boards_run: {way.name}: {told}", flush=True)
