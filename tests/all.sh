@@ -68,7 +68,7 @@ if [ "$status" = 0 ]; then
     short="words.sh statuses.sh mistakes.sh moved_files.py upgrade.sh examples.sh using.sh api.py shell.sh real_clients.sh sockets.py
         crowds.py malformed.py kills.py"
     patient="client.py watch.py"
-    tools="dispatch.py backup.py metrics.py importers.py"
+    tools="dispatch.py backup.py metrics.py importers.py boards_run.py"
     outside="page.py page_work.py page_past.py proxy.py python_client.py openapi.py package.sh"
     trying $long &
     trying $patient &
