@@ -67,7 +67,7 @@ if [ "$status" = 0 ]; then
     short="words.sh statuses.sh mistakes.sh upgrade.sh examples.sh using.sh api.py shell.sh real_clients.sh sockets.py
         crowds.py malformed.py kills.py"
     tools="dispatch.py watch.py backup.py metrics.py client.py importers.py"
-    outside="page.py page_work.py page_past.py proxy.py python_client.py openapi.py package.sh"
+    outside="page.py page_work.py page_past.py proxy.py python_client.py openapi.py manual.py package.sh"
     trying $long &
     trying $tools &
     trying $outside &

@@ -124,6 +124,8 @@ its lines that was put aside; without it, the server is asked."""
         added = commands.add_parser(name, help=parsers.first_sentence(about), about=about)
         added.set_defaults(does=does)
         about = "Print what the desk answered, as JSON."
+        if does in (past_jobs.show_log, holding.run_with_board):
+            about = argparse.SUPPRESS  # it is taken, and there is nothing to be printed so
         added.add_argument(
             "--json", action="store_true", default=argparse.SUPPRESS, help=about
         )

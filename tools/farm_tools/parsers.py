@@ -97,9 +97,10 @@ def arguments_of(parser: argparse.ArgumentParser) -> List[argparse.Action]:
 
 
 def options_of(parser: Parser) -> List[argparse.Action]:
-    """The options that are no settings."""
-    settings = settings_of(parser)
-    return [it for it in parser._actions if it.option_strings and it not in settings]
+    """The options that are no settings, but for those that help leaves out."""
+    left = settings_of(parser)
+    left += [it for it in parser._actions if it.help == argparse.SUPPRESS]
+    return [it for it in parser._actions if it.option_strings and it not in left]
 
 
 def settings_of(parser: Parser) -> List[argparse.Action]:
