@@ -33,10 +33,10 @@ PAGES = {
 OF_EACH_COMMAND = ("help", "json")
 PART = re.compile(r'(\.\\" begin (.+)\n)(?:.*\n)*?(\.\\" end \2\n)')
 WORD = re.compile(
-    r"(?<!\w)'(?P<quoted>[^']+)'(?!\w)|(?P<option>--[a-z][a-z-]*)|(?P<page>[a-z][a-z-]*)\((?P<of>\d)\)"
-    r"|(?P<value>\b[A-Z]+\b)"
+    r"(?<!\w)'(?P<quoted>[^']+)'(?!\w)|(?P<option>--[a-z][a-z-]*)"
+    r"|(?P<page>[a-z][a-z-]*)\((?P<of>\d)\)|(?P<value>\b[A-Z]+\b)"
 )
-FORM_WORD = re.compile(r"\[(?P<any>settings)\]|(?P<literal>--|[-a-z]*[a-z])|(?P<value>[A-Z]+)")
+FORM_WORD = re.compile(r"\[(?P<any>settings)\]|(?P<literal>[-a-z]*[a-z]|--)|(?P<value>[A-Z]+)")
 
 
 class BadPage(Exception):

@@ -145,7 +145,8 @@ def widths(folder):
             for words in ([], *([it] for it in commands)):
                 said = help_of(page, *words, columns=columns)
                 longest = max(len(it) for it in said.split("\n"))
-                demand(f"{page} {words} at {columns}: its width", True, longest <= min(columns, WIDEST))
+                what = f"the width of {page} {words} at {columns}"
+                demand(what, True, longest <= min(columns, WIDEST))
                 count += 1
     return f"--help of the tools and of desk's commands ends with 0 and fits the terminal ({count})"
 
@@ -196,8 +197,8 @@ def commands_of_desk(folder):
     said = items_of_help(help_of("desk.1"))
     demand("desk's commands", COMMANDS, [it for it in said if it[0].islower()])
     text = section_of("desk.1", "COMMANDS") + section_of("desk.1", "COMMANDS OF AN ADMIN")
-    blocks = re.findall(r"^\.TP\n([a-z-]+)\b.*\n((?:(?!\.R).*\n)*)\.RS\n((?:(?!\.R).*\n)*)\.RE$",
-        text, re.MULTILINE)
+    block = r"^\.TP\n([a-z-]+)\b.*\n((?:(?!\.R).*\n)*)\.RS\n((?:(?!\.R).*\n)*)\.RE$"
+    blocks = re.findall(block, text, re.MULTILINE)
     demand("commands in desk.1", COMMANDS, [it[0] for it in blocks])
     demand("texts of their own", len(COMMANDS), len({it[1] for it in blocks}))
     for name, about, lists in blocks:
@@ -243,7 +244,7 @@ def writer(folder):
     checks(1, "farm-from-lava.1: line ")
     write(re.sub(', help="The server.*"', "", source), tool)
     checks(1, "FOLDER\\fP has no text")
-    return "docs/manual.py finds a page that isn't as the tool says, writes it, and leaves its prose"
+    return "docs/manual.py finds a page that isn't as the tool says, writes it, leaves its prose"
 
 
 def warnings(folder):

@@ -5,12 +5,12 @@ ABOUT = """\
 Speaks with the desk of a board farm, at its address or through the proxy in front of it. Each \
 command is sent under a fresh key (those of an import under keys made of the names), and again \
 under the same key where no answer came, so that it is done once. A refresh, which does no harm \
-when it is done twice, has no key. Where no answer comes at first it says so on standard error, and \
-tries again for a quarter of a minute.
-It warns on standard error where no pass has come for more than 30 seconds: where the desk's clock, \
-which every accepted command moves, is so old beside this machine's; while it waits, where nothing \
-but its own commands moved that clock for so long, or where free boards meet its claim for so long. \
-It warns too where that clock is more than a minute ahead of this machine's."""
+when it is done twice, has no key. Where no answer comes at first it says so on standard error, \
+and tries again for a quarter of a minute.
+It warns on standard error where no pass has come for more than 30 seconds: where the desk's \
+clock, which every accepted command moves, is so old beside this machine's; while it waits, where \
+nothing but its own commands moved that clock for so long, or where free boards meet its claim for \
+so long. It warns too where that clock is more than a minute ahead of this machine's."""
 
 STATUSES = (
     ("0", "Done; a job that was waited for ended Complete."),
@@ -34,15 +34,15 @@ OF_ALL = {
 Show what waits for boards, in the order in which it is served. There is a column 'NOTE' where a \
 group collects boards, or where a claim waits for boards of which none can come: no list of boards \
 that aren't Retired, Bad or in Maintenance meets it. It says what is wanted and which boards are \
-out of use, for the group that collects and for the first fifty claims, as far as they can be asked \
-for in three seconds.""",
+out of use, for the group that collects and for the first fifty claims, as far as they can be \
+asked for in three seconds.""",
     "reservations": """\
 Show the reservations that haven't ended. 'LEFT' is how long a lease still runs by this machine's \
 clock.""",
     "jobs": """\
 Show the jobs that are open and those that ended, or some. Those that ended come last, the newest \
-first. With numbers it shows those of them that there are, and tells the others. A group that waits \
-has one line; what it is called is asked of the desk for the first fifty that wait.""",
+first. With numbers it shows those of them that there are, and tells the others. A group that \
+waits has one line; what it is called is asked of the desk for the first fifty that wait.""",
     "submit": """\
 Submit a job file, and print the job's number. Of one that the desk refuses it says which rule it \
 breaks.""",
@@ -55,8 +55,8 @@ that the desk keeps.""",
 Show a board's jobs, and how its health changed and why, the newest first.""",
     "usage": """\
 Show what jobs used, how they ended and how long they waited. A line has how many jobs ended since \
-WHEN, and how; the hours for which they held boards since then; and how long they waited from their \
-submission to their begin: half of them no longer than 'WAITED', nine of ten no longer than \
+WHEN, and how; the hours for which they held boards since then; and how long they waited from \
+their submission to their begin: half of them no longer than 'WAITED', nine of ten no longer than \
 'NINTH'. Jobs that were submitted while nobody looked, and health checks, count in neither. Checks \
 are the admin's jobs; reservations aren't counted.""",
     "reserve": """\
@@ -74,12 +74,12 @@ Keep an acquired board for longer. The age of the hold begins anew, where farm-w
 holds or ends them.""",
     "cancel-reservation": "End a reservation, and give its board back.",
     "with": """\
-Run a command with a board, and give the board back. It reserves, waits, acquires, and runs COMMAND \
-with 'BOARD', 'BOARD_TYPE', 'BOARD_TAGS' and 'RESERVATION' in its environment. When that has ended, \
-or a signal came, the board is given back. SIGINT, SIGTERM, SIGHUP and SIGQUIT are handed on to the \
-command. (Killed by SIGKILL it can't give the board back: 'desk cancel-reservation'.) The exit \
-status is that of the command, 128 and the number of the signal that killed it, or 125 to 127 where \
-it wasn't run.""",
+Run a command with a board, and give the board back. It reserves, waits, acquires, and runs \
+COMMAND with 'BOARD', 'BOARD_TYPE', 'BOARD_TAGS' and 'RESERVATION' in its environment. When that \
+has ended, or a signal came, the board is given back. SIGINT, SIGTERM, SIGHUP and SIGQUIT are \
+handed on to the command. (Killed by SIGKILL it can't give the board back: 'desk \
+cancel-reservation'.) The exit status is that of the command, 128 and the number of the signal \
+that killed it, or 125 to 127 where it wasn't run.""",
 }
 
 OF_AN_ADMIN = {
@@ -91,11 +91,11 @@ Add a type, as an admin. Its boards are checked each N hours or jobs, or never."
     "add-board": "Add a board, as an admin. It is in Maintenance until its health is set.",
     "import": """\
 Add the types and boards of a lab file, as an admin. It does so as 'farm import' does, under the \
-same keys, while the desk serves: what either of them added, the other keeps. It prints \
-'accepted A, kept K', as 'farm import' does; kept are those of the file's types and boards that were there \
+same keys, while the desk serves: what either of them added, the other keeps. It prints 'accepted \
+A, kept K', as 'farm import' does; kept are those of the file's types and boards that were there \
 when it began. Where the file has a fault nothing is added, and the fault's line is named. It ends \
-at the first type or board that the desk refuses, and names its line in the file; a type or a board \
-that is there and that no import added is refused so.""",
+at the first type or board that the desk refuses, and names its line in the file; a type or a \
+board that is there and that no import added is refused so.""",
 }
 
 TEXTS = {**OF_ALL, **OF_AN_ADMIN}

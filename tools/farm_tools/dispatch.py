@@ -50,8 +50,8 @@ each health check that a pass gave its boards, runs COMMAND for it, one process 
 the desk how it ended: Complete for status 0, Infra for 75 (--infra) and for a signal, Incomplete \
 for any other status and where the time limit ended it. The command of a job that is canceled, or \
 whose time limit is over, is sent SIGTERM, and SIGKILL after the grace.
-One dispatcher runs for a desk. It may be killed at any moment: commands go on, and the next one on \
-the same folder takes them up. Each group's command is begun once at most.
+One dispatcher runs for a desk. It may be killed at any moment: commands go on, and the next one \
+on the same folder takes them up. Each group's command is begun once at most.
 The command runs in a folder of its own, DIR/jobs/NUMBER, which has the job's text in 'job.toml' \
 and its boards in 'boards' and 'boards.json', and gets all that it says in 'log'. Its environment \
 has 'FARM_JOB', 'FARM_KIND', 'FARM_OWNER', 'FARM_PRIORITY', 'FARM_BOARD' (the first), \

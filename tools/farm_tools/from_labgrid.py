@@ -7,8 +7,8 @@ from farm_tools import lab_file, parsers
 
 PROGRAM = "farm-from-labgrid"
 ABOUT = """\
-Reads PLACES, the places.yaml in which labgrid's coordinator keeps its places, and writes a lab file \
-that 'farm import' takes: a board for each place, with its tags."""
+Reads PLACES, the places.yaml in which labgrid's coordinator keeps its places, and writes a lab \
+file that 'farm import' takes: a board for each place, with its tags."""
 FAULT = "PLACES or the lab file can't be used, PLACES isn't of its kind, or PyYAML isn't there."
 # What a place has that is carried over, or told in words of its own.
 KNOWN = (

@@ -9,8 +9,8 @@ from farm_tools import lab_file, parsers
 PROGRAM = "farm-from-lava"
 ABOUT = """\
 Reads FOLDER, which LAVA's server has in /etc/lava-server/dispatcher-config, and writes a lab file \
-that 'farm import' takes: a board for each device, a type for each device type, and a check every 24 \
-hours (--hours) for each type that has a health check."""
+that 'farm import' takes: a board for each device, a type for each device type, and a check every \
+24 hours (--hours) for each type that has a health check."""
 FAULT = "FOLDER, the tags' file or the lab file can't be used, or what is read isn't of its kind."
 SUFFIX = ".jinja2"
 PARTS = re.compile(r"{%-?\s*(\w+)\s*(.*?)\s*-?%}|{{.*?}}", re.DOTALL)

@@ -14,9 +14,9 @@ STALLED = 10  # seconds that a client has for its request
 HISTORY = "/var/lib/farm-dispatch/history.jsonl"
 ABOUT = """\
 Asks a desk for its status, its boards and its queue, and prints once, in Prometheus' text format, \
-what it counts. With --textfile it writes that into a file of node_exporter's textfile folder, by a \
-rename; with --listen it serves it on 127.0.0.1, and asks the desk at each request. It asks for no \
-view that grows with the farm's age."""
+what it counts. With --textfile it writes that into a file of node_exporter's textfile folder, by \
+a rename; with --listen it serves it on 127.0.0.1, and asks the desk at each request. It asks for \
+no view that grows with the farm's age."""
 STATUSES = (
     ("0", "Done; --listen: it was ended by a signal."),
     ("2", "Bad words, or a setting that there isn't."),

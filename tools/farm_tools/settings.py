@@ -28,9 +28,10 @@ SECTIONS = {
 }
 ABOUT = """\
 Each option that follows is a setting too: it has a name in the environment, as '{2}_SERVER', and, \
-but for --config, one in the section '[{0}]' of the file of settings, as 'server'. Options go first, \
-then the environment,{1} and last the file. A variable that begins with '{2}_', a key of the \
-section, or a section that there isn't ends it with status 2, and it says which one may be meant."""
+but for --config, one in the section '[{0}]' of the file of settings, as 'server'. Options go \
+first, then the environment,{1} and last the file of settings. A variable that begins with '{2}_', \
+a key of the section, or a section that there isn't ends it with status 2, and it says which one \
+may be meant."""
 PASSWORD = """\
 A file that nobody else may read, whose first line is the password; without it, the one in \
 ~/.netrc. A password is sent over TLS, or to this machine, alone."""

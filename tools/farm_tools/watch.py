@@ -20,8 +20,8 @@ FILE, FOLDER = "/etc/farm/watch.toml", "/var/lib/farm-watch"
 LONGEST_EVERY = LONGEST_CALL = 5.0
 DAY = 86400
 ABOUT = """\
-Looks at the desk every five seconds, and tells what FILE has rules for, by mail (sendmail) and by a \
-webhook: a hold that is old, or was ended for its age; a job that has ended; a reservation that \
+Looks at the desk every five seconds, and tells what FILE has rules for, by mail (sendmail) and by \
+a webhook: a hold that is old, or was ended for its age; a job that has ended; a reservation that \
 waited and got a board; a board that went Bad; no pass for long; a farm that is nearly full. Each \
 event is told once, by each way that its rule names; what isn't taken is tried again.
 It may be killed at any moment, and goes on from its last look; what happened meanwhile is told \
