@@ -69,7 +69,7 @@ if [ "$status" = 0 ]; then
         crowds.py malformed.py kills.py"
     patient="client.py watch.py"
     tools="dispatch.py backup.py metrics.py importers.py boards_run.py"
-    outside="page.py page_work.py page_past.py proxy.py python_client.py openapi.py package.sh"
+    outside="page.py page_work.py page_past.py proxy.py python_client.py openapi.py manual.py package.sh"
     trying $long &
     trying $patient &
     trying $tools &

@@ -331,32 +331,6 @@ def completion(farm, folder):
     return "bash completes commands, their values, and what stands behind --"
 
 
-def manuals(farm, folder):
-    """The options that a tool's help names are those of its man page."""
-    del farm, folder
-    tools = (("desk", "desk.1", True), ("farm-dispatch", "farm-dispatch.8", False))
-    for name, page, has_commands in tools:
-        said = help_of(name)
-        commands = re.findall(r"^    ([a-z][a-z-]*)(?: |$)", said, re.MULTILINE)
-        demand(f"whether {name} has commands", has_commands, bool(commands))
-        said += "".join(help_of(name, it) for it in commands)
-        with open(os.path.join(TOP, "docs", page), encoding="utf-8") as file:
-            manual = file.read().replace("\\-", "-")
-        demand(f"{name}'s commands", [], [it for it in commands if it not in manual])
-        found = set(re.findall(r"--[a-z][a-z-]*", said))
-        told = re.findall(r"^\.TP\n\.BI? (--[a-z-]+)", manual, re.MULTILINE)
-        demand(f"options that {page} lacks", [], [it for it in found if it not in manual])
-        demand(f"options that {page} alone has", [], [it for it in told if it not in found])
-    return "the options and commands of desk and farm-dispatch are those of their man pages"
-
-
-def help_of(*words):
-    """The help of a tool, or of a command of it."""
-    tool = [sys.executable, os.path.join(TOOLS, words[0]), *words[1:], "--help"]
-    ran = subprocess.run(tool, capture_output=True, text=True, check=True, env=environment())
-    return ran.stdout
-
-
 ROWS = [
     admin_commands,
     imports,
@@ -367,5 +341,4 @@ ROWS = [
     lines_of_a_file,
     version,
     completion,
-    manuals,
 ]

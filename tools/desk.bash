@@ -72,8 +72,8 @@ _desk() {
         *:--check:*) words="none hours jobs" ;;
         *:--by:*) words="owner board type" ;;
         *:--user:* | *:--timeout:* | *:--every:* | *:--last:* | *:--since:*) words= ;;
-        *:--config:* | *:--password-file:* | *:--ca-file:* | *:--history:* | import:* | \
-            submit:*:[!-]* | submit:*:)
+        *:--config:* | *:--password-file:* | *:--ca-file:* | *:--history:* | import:*:[!-]* | \
+            import:*: | submit:*:[!-]* | submit:*:)
             mapfile -t COMPREPLY < <(compgen -f -- "$word")
             return
             ;;
@@ -90,7 +90,7 @@ _desk() {
         submit:*:-* | resubmit:*:-*) words="--wait --every --json --help" ;;
         reserve:*:-*) words="--wait --acquire --priority --every --json --help" ;;
         wait:*:-*) words="--every --json --help" ;;
-        with:*:-*) words="--priority --every --json --help --" ;;
+        with:*:-*) words="--priority --every --help --" ;;
         add-type:*:-*) words="--check --every --json --help" ;;
         tags:*:-*) words="--none --json --help" ;;
         *:-*) words="--json --help" ;;

@@ -4,6 +4,7 @@ import sys
 
 from farm_tools import calls, lab_import, views
 from farm_tools.lab_file import LONGEST_EVERY
+from farm_tools.parsers import one_of
 
 REFUSED = 3
 HEALTHS = ("Good", "Bad", "Unknown", "Maintenance", "Retired")
@@ -11,23 +12,26 @@ HEALTHS = ("Good", "Bad", "Unknown", "Maintenance", "Retired")
 
 def add_commands(command) -> None:
     """Adds these commands, each of which asks as the admin where nothing names another."""
-    health = command("health", set_health, "set the health of boards")
-    health.add_argument("boards", metavar="BOARD", nargs="+", help="a board's name")
-    health.add_argument("health", metavar="HEALTH", type=health_called, help=", ".join(HEALTHS))
-    tags = command("tags", set_tags, "give a board these tags in the place of those it has")
-    tags.add_argument("board", metavar="BOARD", help="the board's name")
-    tags.add_argument("tags", metavar="TAG", nargs="*", help="a tag of the board")
-    tags.add_argument("--none", action="store_true", help="it has no tags from now on")
-    kind = command("add-type", add_type, "add a type of boards")
-    kind.add_argument("name", metavar="NAME", help="the type's name")
-    kind.add_argument("--check", choices=lab_import.CHECKS, help="how its boards are checked")
-    kind.add_argument("--every", metavar="N", type=frequency, help="each so many hours or jobs")
-    board = command("add-board", add_board, "add a board, which is in Maintenance at first")
-    board.add_argument("name", metavar="NAME", help="the board's name")
-    board.add_argument("type", metavar="TYPE", help="its type")
-    board.add_argument("tags", metavar="TAG", nargs="*", help="a tag of the board")
-    lab = command("import", lab_import.import_lab, "add the types and boards of a lab file")
-    lab.add_argument("file", metavar="FILE", help="the lab file, - for the input")
+    health = command("health", set_health)
+    health.add_argument("boards", metavar="BOARD", nargs="+", help="A board's name.")
+    about = f"{', '.join(HEALTHS[:-1])}, or {HEALTHS[-1]}, which is for good."
+    health.add_argument("health", metavar="HEALTH", type=health_called, help=about)
+    tags = command("tags", set_tags)
+    tags.add_argument("board", metavar="BOARD", help="The board's name.")
+    tags.add_argument("tags", metavar="TAG", nargs="*", help="A tag of the board.")
+    tags.add_argument("--none", action="store_true", help="It has no tags from now on.")
+    kind = command("add-type", add_type)
+    kind.add_argument("name", metavar="NAME", help="The type's name.")
+    about = "What its checks are counted by, with --every (default none)."
+    one_of(kind, "--check", lab_import.CHECKS, about)
+    about = f"How many hours or jobs lie between two checks, 1 to {LONGEST_EVERY}."
+    kind.add_argument("--every", metavar="N", type=frequency, help=about)
+    board = command("add-board", add_board)
+    board.add_argument("name", metavar="NAME", help="The board's name.")
+    board.add_argument("type", metavar="TYPE", help="Its type.")
+    board.add_argument("tags", metavar="TAG", nargs="*", help="A tag of the board.")
+    lab = command("import", lab_import.import_lab)
+    lab.add_argument("file", metavar="FILE", help="The lab file, or - for the input.")
     for each in (health, tags, kind, board, lab):
         each.set_defaults(asks_as="admin", parser=each)
 

@@ -7,7 +7,7 @@ import time
 import urllib.parse
 from typing import Optional, Sequence
 
-from farm_tools import calls, copying, folders, follow, interrupts, settings
+from farm_tools import calls, copying, folders, follow, interrupts, parsers, settings
 
 PROGRAM = "farm-backup"
 FAULT = 4
@@ -15,14 +15,22 @@ DB = "/var/lib/farm/lab.db"
 LATEST = "latest"
 ANSWER = 10.0  # seconds that a desk has for its answer
 ABOUT = """\
-Copies a farm's two files while its desk serves, proves the copy by 'farm
-report', and leaves it in DIR/farm-YYYYMMDDTHHMMSSZ, with the link DIR/latest to
-it. It prints that folder's name. The copy has every command that was answered
-before it began. With --follow DIR is a standby: what the log gets is shipped
-there every second, and 'farm serve --db DIR/lab.db' begins from it."""
-STATUSES = """\
-exit status: 0 the copy is there, or --follow was ended by a signal; 2 bad
-words; 4 there is no copy that is a farm, or DIR can't be used"""
+Copies the two files of a farm while its desk serves, and prints the name of the folder that the \
+copy is in, DIR/farm-YYYYMMDDTHHMMSSZ (UTC). DIR/latest leads to the newest. The copy is the \
+farm after some command; every command that was answered before the copying began is in it. It is \
+proved by 'farm report' before it gets its name.
+With --follow it goes on, and DIR has a standby, to which each second ships what the desk's log \
+got; 'farm serve --db DIR/lab.db' begins from it."""
+STATUSES = (
+    ("0", "The copy is there; --follow: it was ended by a signal."),
+    ("2", "Bad words."),
+    (
+        "4",
+        "There is no copy that is a farm, or DIR can't be used, or is in use by another "
+        "farm-backup. Standard error has the reason in a line. What was in DIR before is there "
+        "still.",
+    ),
+)
 
 
 def main(words: Optional[Sequence[str]] = None) -> int:
@@ -44,25 +52,33 @@ def main(words: Optional[Sequence[str]] = None) -> int:
         return told(FAULT, str(fault))
 
 
-def options_of(words: Optional[Sequence[str]]) -> argparse.Namespace:
-    parser = argparse.ArgumentParser(
-        prog=PROGRAM,
-        description=ABOUT,
-        epilog=STATUSES,
-        formatter_class=argparse.RawDescriptionHelpFormatter,
+def parser_of() -> parsers.Parser:
+    parser = parsers.parser_of(PROGRAM, ABOUT, STATUSES)
+    parser.forms = (
+        f"{PROGRAM} [--db FILE] [--keep N] [--server URL] [--program FILE] [--verbose] DIR",
+        f"{PROGRAM} --follow [--db FILE] [--every SECONDS] [--program FILE] DIR",
     )
     option = parser.add_argument
-    option("--db", metavar="FILE", default=DB, help=f"the farm's file ({DB})")
-    option("--keep", metavar="N", type=_number, help="remove all copies but the newest N")
-    about = "compare the copy with what the desk there has done"
+    option("--db", metavar="FILE", default=DB, help="The farm's file (default %(default)s).")
+    about = "Once the new copy has its name, remove all but the newest N; without it none is."
+    option("--keep", metavar="N", type=_number, help=about)
+    about = """\
+Ask the desk there before the copying how many commands it has done, and throw the copy away where
+it has fewer. Where no answer comes this is told, and the copy is kept."""
     option("--server", metavar="URL", type=_server, help=about)
-    option("--follow", action="store_true", help="keep a standby in DIR")
-    option(
-        "--every", metavar="SECONDS", type=_seconds, default=1.0, help="between two shippings (1)"
-    )
-    option("--program", metavar="FILE", default="farm", help="the program that proves it (farm)")
-    option("--verbose", action="store_true", help="tell what is copied again")
-    option("folder", metavar="DIR", help="where the copies are")
+    option("--follow", action="store_true", help="Keep a standby in DIR.")
+    about = "Between two shippings to the standby (default 1)."
+    option("--every", metavar="SECONDS", type=_seconds, default=1.0, help=about)
+    about = "The program that proves a copy (default %(default)s, as the shell finds it)."
+    option("--program", metavar="FILE", default="farm", help=about)
+    about = "Tell on standard error why a copy is made again."
+    option("--verbose", action="store_true", help=about)
+    option("folder", metavar="DIR", help="Where the copies or the standby are.")
+    return parser
+
+
+def options_of(words: Optional[Sequence[str]]) -> argparse.Namespace:
+    parser = parser_of()
     options = parser.parse_args(words)
     if options.follow and (options.keep or options.server):
         parser.error("--keep and --server aren't for --follow")

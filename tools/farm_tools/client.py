@@ -7,28 +7,29 @@ from farm_tools import (
     admin,
     calls,
     clock,
+    desk_texts,
     holding,
     interrupts,
     job_file,
+    parsers,
     past_jobs,
     settings,
     usage,
     views,
     waiting,
 )
-from farm_tools.version import VERSION
+from farm_tools.parsers import Parser, one_of
 
 ENDED, REFUSED, FAULT = 1, 3, 4
+AWAITS_END = """\
+Wait until all members of its group have ended, and print 'NUMBER RESULT BOARD' of each. \
+Interrupted, it says that the job goes on."""
+AWAITS_BOARD = """\
+Wait until a pass gives it a board, refresh the reservation meanwhile, tell on standard error its \
+place in the queue, and why no board comes where none that fits is free, and print the board."""
 PATIENCE = 15
 # what the desk calls a change of a reservation that has another name here
 ACTIONS = {"extend": "refresh", "cancel-reservation": "cancel"}
-ABOUT = "Asks the desk of a board farm, and tells it what its user wants."
-STATUSES = """\
-exit status: 0 done; 1 the job that was waited for didn't end Complete, or the
-reservation ended before it had a board; 2 bad words; 3 refused by the desk, or
-a bad lab file; 4 no answer, or bad settings; 128 and the number of a signal. Of
-'with': the command's; 125 where it couldn't be run with a board, or the board
-not given back; 126 and 127 where the command can't be run or found."""
 
 
 def main(words=None) -> int:
@@ -104,29 +105,30 @@ def options_of(words):
     return options
 
 
-def parser_of():
-    parser = argparse.ArgumentParser(
-        prog="desk",
-        description=ABOUT,
-        epilog=STATUSES,
-        formatter_class=argparse.RawDescriptionHelpFormatter,
+def parser_of() -> Parser:
+    parser = parsers.parser_of("desk", desk_texts.ABOUT, desk_texts.STATUSES)
+    group = settings.add_options(
+        parser, "desk", "without it, the user of the server in ~/.netrc, or of the login"
     )
-    settings.add_options(parser)
-    parser.add_argument(
-        "--history", metavar="FOLDER", help="the dispatcher's folder, for the history (the proxy's)"
-    )
-    parser.add_argument("--json", action="store_true", help="print what the desk answers")
-    parser.add_argument("--version", action="version", version=f"desk {VERSION}")
+    about = """\
+Where farm-dispatch(8) keeps its history on this machine, as /var/lib/farm-dispatch, or a file of
+its lines that was put aside; without it, the server is asked."""
+    group.add_argument("--history", metavar="FOLDER", help=about)
+    about = "Print what the desk answered, as JSON, an object a line; also behind the command."
+    parser.add_argument("--json", action="store_true", help=about)
     parser.set_defaults(asks_as=None)
-    also = argparse.ArgumentParser(add_help=False)
-    also.add_argument(
-        "--json", action="store_true", default=argparse.SUPPRESS, help="print what the desk answers"
-    )
     commands = parser.add_subparsers(metavar="COMMAND", required=True)
 
-    def command(name, does, about):
-        added = commands.add_parser(name, parents=[also], help=about, description=about)
+    def command(name, does):
+        about = desk_texts.TEXTS[name]
+        added = commands.add_parser(name, help=parsers.first_sentence(about), about=about)
         added.set_defaults(does=does)
+        about = "Print what the desk answered, as JSON."
+        if does in (past_jobs.show_log, holding.run_with_board):
+            about = argparse.SUPPRESS  # it is taken, and there is nothing to be printed so
+        added.add_argument(
+            "--json", action="store_true", default=argparse.SUPPRESS, help=about
+        )
         return added
 
     add_views(command)
@@ -138,95 +140,85 @@ def parser_of():
 
 
 def add_views(command) -> None:
-    boards = command(
-        "boards", views.show_boards, "show the boards, or those that have all of these tags"
-    )
-    boards.add_argument("tags", metavar="TAG", nargs="*", help="a tag of the board, or name=BOARD")
-    command(
-        "queue", views.show_queue, "show what waits for boards, in the order in which it is served"
-    )
-    rows = command(
-        "reservations", views.show_reservations, "show the reservations that haven't ended"
-    )
-    rows.add_argument("--all", action="store_true", help="those that have ended too")
-    rows.add_argument("--mine", action="store_true", help="those of the user alone")
+    add_tags(command("boards", views.show_boards))
+    command("queue", views.show_queue)
+    rows = command("reservations", views.show_reservations)
+    rows.add_argument("--all", action="store_true", help="Those that have ended too.")
+    rows.add_argument("--mine", action="store_true", help="Those of the user alone.")
 
 
 def add_jobs(command) -> None:
-    jobs = command("jobs", show_jobs, "show the jobs that are open and those that ended, or some")
-    jobs.add_argument("--text", action="store_true", help="print the text that was submitted")
-    jobs.add_argument("--mine", action="store_true", help="those of the user alone")
-    add_last(jobs, "how many of those that ended")
-    jobs.add_argument("numbers", metavar="N", nargs="*", type=number, help="a job's number")
+    jobs = command("jobs", show_jobs)
+    jobs.add_argument("--text", action="store_true", help="Print the texts that were submitted.")
+    jobs.add_argument("--mine", action="store_true", help="Those of the user alone.")
+    add_last(jobs, "How many of those that ended")
+    jobs.add_argument("numbers", metavar="N", nargs="*", type=number, help="A job's number.")
     jobs.set_defaults(parser=jobs)
-    submit = command("submit", submit_job, "submit a job file, and print the job's number")
-    submit.add_argument("file", metavar="FILE", help="the job file, - for the input")
-    add_waiting(submit, "wait until all of its members have ended, and print how")
-    cancel = command("cancel", cancel_job, "cancel a job and its group")
-    cancel.add_argument("number", metavar="N", type=number)
-    again = command("resubmit", resubmit_job, "submit a job's text again, and print the number")
-    again.add_argument("number", metavar="N", type=number)
-    add_waiting(again, "wait until all of its members have ended, and print how")
+    submit = command("submit", submit_job)
+    submit.add_argument("file", metavar="FILE", help="The job file, or - for the input.")
+    add_waiting(submit, AWAITS_END)
+    add_number(command("cancel", cancel_job), "A job's number.")
+    again = command("resubmit", resubmit_job)
+    add_number(again, "A job's number.")
+    add_waiting(again, AWAITS_END)
 
 
 def add_past(command) -> None:
-    log = command("log", past_jobs.show_log, "print what a job's command said")
-    log.add_argument("number", metavar="N", type=number)
-    log.add_argument("--follow", action="store_true", help="and what it says until it has ended")
+    log = command("log", past_jobs.show_log)
+    add_number(log, "A job's number.")
+    about = "Print also what it says from then on, until the job has ended."
+    log.add_argument("--follow", action="store_true", help=about)
     add_every(log)
-    past = command("history", past_jobs.show_history, "show a board's jobs and changes of health")
-    past.add_argument("board", metavar="BOARD", help="the board's name")
-    add_last(past, "how many of them")
-    used = command("usage", usage.show_usage, "show what jobs used, how they ended and waited")
+    past = command("history", past_jobs.show_history)
+    past.add_argument("board", metavar="BOARD", help="The board's name.")
+    add_last(past, "How many of the jobs and changes")
+    used = command("usage", usage.show_usage)
+    about = """\
+A span, as 30d, 12h, 90m or 2w, or a date, as 2026-11-30 (default %(default)s)."""
     used.add_argument(
-        "--since",
-        metavar="WHEN",
-        type=usage.moment_of,
-        default="30d",
-        help="30d, 12h, 90m or 2w ago, or a date as 2026-11-30 (30d)",
+        "--since", metavar="WHEN", type=usage.moment_of, default="30d", help=about
     )
-    used.add_argument("--by", choices=usage.BY, default="owner", help="each has a line (owner)")
+    about = "What has a line each: owners, boards or types (default %(default)s)."
+    one_of(used, "--by", usage.BY, about, default="owner")
 
 
 def add_last(parser, about: str) -> None:
-    parser.add_argument(
-        "--last", metavar="N", type=number, help=f"{about} ({past_jobs.LAST})"
-    )
+    about = f"{about}, at most (default {past_jobs.LAST})."
+    parser.add_argument("--last", metavar="N", type=number, help=about)
 
 
 def add_reservations(command) -> None:
-    reserve = command(
-        "reserve", reserve_board, "reserve a board that has these tags, and print the number"
-    )
+    reserve = command("reserve", reserve_board)
     add_wants(reserve)
-    add_waiting(reserve, "wait until it has a board, and print that")
-    reserve.add_argument("--acquire", action="store_true", help="wait, and acquire the board")
-    wait = command("wait", wait_for, "wait for a job's end, or for a reservation's board")
-    wait.add_argument("number", metavar="N", type=number)
+    add_waiting(reserve, AWAITS_BOARD)
+    about = "Wait, and then acquire the board."
+    reserve.add_argument("--acquire", action="store_true", help=about)
+    wait = command("wait", wait_for)
+    add_number(wait, "The number of a job or a reservation.")
     add_every(wait)
-    for name, about in [
-        ("acquire", "acquire the board that a reservation was given, and print its name"),
-        ("release", "release an acquired board: the reservation keeps it for a minute"),
-        ("refresh", "let a reservation live a minute from now"),
-        ("extend", "keep an acquired board for longer: its hold's age begins anew"),
-        ("cancel-reservation", "end a reservation, and give its board back"),
-    ]:
-        change = command(name, change_reservation, about)
-        change.add_argument("number", metavar="N", type=number)
+    for name in ("acquire", "release", "refresh", "extend", "cancel-reservation"):
+        change = command(name, change_reservation)
+        add_number(change, "A reservation's number.")
         change.set_defaults(action=ACTIONS.get(name, name))
-    hold = command(
-        "with", holding.run_with_board, "run a command with a board, and give the board back"
-    )
-    hold.usage = "desk with [--priority P] [TAG ..] -- COMMAND [ARGUMENT ..]"
+    hold = command("with", holding.run_with_board)
+    hold.tail = "-- COMMAND [ARGUMENT ..]"
     add_wants(hold)
     add_every(hold)
 
 
+def add_number(parser, about: str) -> None:
+    parser.add_argument("number", metavar="N", type=number, help=about)
+
+
+def add_tags(parser) -> None:
+    about = "A tag of the board; 'name=BOARD' is that board."
+    parser.add_argument("tags", metavar="TAG", nargs="*", help=about)
+
+
 def add_wants(parser) -> None:
-    parser.add_argument("tags", metavar="TAG", nargs="*", help="a tag of the board, or name=BOARD")
-    parser.add_argument(
-        "--priority", metavar="P", type=priority, help="low, medium, high, or 0 to 100 (50)"
-    )
+    add_tags(parser)
+    about = "Its place in the queue: 'low', 'medium', 'high', or 0 to 100 (default 50)."
+    parser.add_argument("--priority", metavar="P", type=priority, help=about)
 
 
 def add_waiting(parser, about: str) -> None:
@@ -235,9 +227,8 @@ def add_waiting(parser, about: str) -> None:
 
 
 def add_every(parser) -> None:
-    parser.add_argument(
-        "--every", metavar="SECONDS", type=seconds, default=2, help="between two looks (2)"
-    )
+    about = "Between two looks, while it waits (default %(default)s)."
+    parser.add_argument("--every", metavar="SECONDS", type=seconds, default=2, help=about)
 
 
 def number(text: str) -> int:

@@ -8,7 +8,7 @@ import sys
 import time
 from typing import Dict, List, Optional
 
-from farm_tools import calls, folders, limits, settings
+from farm_tools import calls, folders, limits, parsers, settings
 from farm_tools.clocks import UNSYNCHRONIZED, Clocks
 from farm_tools.dispatcher import Dispatcher
 
@@ -21,39 +21,49 @@ STANDS = (
 NO_TOML = "timeouts of jobs aren't read: this Python has neither tomllib nor tomli (python3-tomli)"
 # What options, environment and files may set: its value's word, its default, and what it is.
 MORE = {
-    "limit": ("TIME", "1 hour", "a job's time limit, where its text names none"),
-    "most": ("TIME", "1 day", "the longest time limit that a job is granted"),
-    "retry": ("TIME", "30 seconds", "until a command that couldn't be started is tried again"),
-    "keep_logs": ("TIME", "30 days", "to keep the logs that the proxy serves"),
-    "clock": ("WORD", "synchronized", "any: ask the desk also before this machine's clock is set"),
+    "limit": (
+        "TIME",
+        "1 hour",
+        "The time limit of a job that names none, and of a health check; a TIME is a number of "
+        "seconds, or a text as '1 hour 30 minutes'",
+    ),
+    "most": ("TIME", "1 day", "The longest time limit that a job is granted"),
+    "retry": ("TIME", "30 seconds", "Between two tries of a command that couldn't be started"),
+    "keep_logs": (
+        "TIME",
+        "30 days",
+        "For how long a log that the proxy serves is kept, after the last that was added to it, "
+        "where its job has ended; the one in the job's folder goes with that, after --keep",
+    ),
+    "clock": (
+        "WORD",
+        "synchronized",
+        "'synchronized': nothing is asked of the desk before this machine's clock is set, where "
+        "timedatectl(1) says that a time service runs and hasn't set it yet; 'any': the desk is "
+        "asked all the same, as in a lab whose time service reaches no server, or where the desk "
+        "is on another machine",
+    ),
 }
 ABOUT = """\
-Calls the desk's pass every few seconds, and at once after a job has ended;
-starts each job and health check that got its boards, runs COMMAND for it, one
-process a group, and tells the desk how it ended: Complete for status 0, Infra
-for 75 (--infra) and for a signal, Incomplete for any other status and where the
-job's time limit ended it. A command that is to end, since its job was canceled
-or its time limit is over, is sent SIGTERM, and SIGKILL after the grace.
-
-The time limit is the job's, [timeouts] job = "1 hour 30 minutes", or as LAVA
-has it, job = { hours = 1, minutes = 30 }. While a command can't be started
-nothing is started, no pass made and no job finished by it; it is tried again.
-
-The command runs in a folder of its own, DIR/jobs/NUMBER, with the job's text in
-job.toml, its boards in boards ('NAME TYPE ROLE NUMBER' a line) and boards.json,
-and its output in log. Its environment has FARM_JOB, FARM_KIND (ordinary or
-check), FARM_OWNER, FARM_PRIORITY, FARM_BOARD (the first), FARM_BOARDS,
-FARM_TYPES, FARM_ROLES, FARM_JOB_FILE, FARM_BOARDS_FILE and FARM_FOLDER.
-
-DIR/history.jsonl gets a line for each job that ended and each change of a
-board's health, DIR/history.json has the newest, and DIR/logs/N is job N's log:
-what the proxy serves."""
-STATUSES = """\
-exit status: 0 ended by SIGTERM or SIGINT (commands go on, and the next
-farm-dispatch on DIR takes them up); 2 bad words, or a setting that there isn't;
-3 the desk refuses the user as its dispatcher; 4 bad settings, or DIR can't be
-used or is in use; 5 ended by a signal while a command couldn't be started"""
-
+Calls the desk's pass every few seconds, and at once after a job has ended. It starts each job and \
+each health check that a pass gave its boards, runs COMMAND for it, one process a group, and tells \
+the desk how it ended: Complete for status 0, Infra for 75 (--infra) and for a signal, Incomplete \
+for any other status and where the time limit ended it. The command of a job that is canceled, or \
+whose time limit is over, is sent SIGTERM, and SIGKILL after the grace.
+One dispatcher runs for a desk. It may be killed at any moment: commands go on, and the next one \
+on the same folder takes them up. Each group's command is begun once at most.
+The command runs in a folder of its own, DIR/jobs/NUMBER, which has the job's text in 'job.toml' \
+and its boards in 'boards' and 'boards.json', and gets all that it says in 'log'. Its environment \
+has 'FARM_JOB', 'FARM_KIND', 'FARM_OWNER', 'FARM_PRIORITY', 'FARM_BOARD' (the first), \
+'FARM_BOARDS', 'FARM_TYPES', 'FARM_ROLES', 'FARM_JOB_FILE', 'FARM_BOARDS_FILE' and \
+'FARM_FOLDER'."""
+STATUSES = (
+    ("0", "It was ended by SIGTERM or SIGINT."),
+    ("2", "Bad words, or a setting that there isn't."),
+    ("3", "The desk refuses the user as its dispatcher."),
+    ("4", "Bad settings, or DIR can't be used or is in use by another dispatcher."),
+    ("5", "It was ended by SIGTERM or SIGINT while a command couldn't be started."),
+)
 
 class Stopped(BaseException):
     """SIGTERM or SIGINT came."""
@@ -101,32 +111,41 @@ def main(words=None) -> int:
         return end(FAULT, str(fault))
 
 
-def options_of(words):
-    parser = argparse.ArgumentParser(
-        prog="farm-dispatch",
-        description=ABOUT,
-        epilog=STATUSES,
-        formatter_class=argparse.RawDescriptionHelpFormatter,
-    )
+def parser_of() -> parsers.Parser:
+    parser = parsers.parser_of("farm-dispatch", ABOUT, STATUSES)
 
     def option(name, metavar, default, kind, about):
-        about = f"{about} ({default})"
         parser.add_argument(name, metavar=metavar, default=default, type=kind, help=about)
 
-    option("--folder", "DIR", "/var/lib/farm-dispatch", str, "where jobs have their folders")
-    option("--every", "SECONDS", 5, seconds, "between two passes")
-    option("--grace", "SECONDS", 30, seconds, "to end in, once told to")
-    option("--infra", "STATUS", 75, int, "exit status for a fault of the lab")
-    option("--keep", "DAYS", 30, seconds, "to keep the folders of jobs that ended")
+    about = """\
+Where jobs have their folders, and the history (default %(default)s). It must keep what it has over
+a restart of the machine."""
+    option("--folder", "DIR", "/var/lib/farm-dispatch", str, about)
+    about = """\
+Between two passes (default %(default)s). The status page and desk(1) warn where the desk's clock is
+more than 30 seconds old."""
+    option("--every", "SECONDS", 5, seconds, about)
+    about = "Between SIGTERM and SIGKILL, once a command is told to end (default %(default)s)."
+    option("--grace", "SECONDS", 30, seconds, about)
+    about = "The exit status that means a fault of the lab (default %(default)s)."
+    option("--infra", "STATUS", 75, int, about)
+    about = "For how long the folder of a job that has ended is kept (default %(default)s)."
+    option("--keep", "DAYS", 30, seconds, about)
+    about = "The command for health checks with its arguments, in one word (default COMMAND)."
+    parser.add_argument("--check", metavar="WORDS", type=shlex.split, help=about)
+    group = settings.add_options(parser, "dispatch", "default dispatcher")
     for name, (metavar, default, about) in MORE.items():
         word = f"--{name.replace('_', '-')}"
-        parser.add_argument(word, metavar=metavar, help=f"{about} ({default})")
-    about = "the command for health checks, in quotes (COMMAND)"
-    parser.add_argument("--check", metavar="WORDS", type=shlex.split, help=about)
-    settings.add_options(parser)
-    parser.add_argument("command", metavar="COMMAND", help="what to run for a job")
-    parser.add_argument("arguments", metavar="ARGUMENT", nargs=argparse.REMAINDER)
-    options = parser.parse_args(words)
+        group.add_argument(word, metavar=metavar, help=f"{about} (default {default}).")
+    about = "What is run for a job: the script itself, without a shell or env(1) in front."
+    parser.add_argument("command", metavar="COMMAND", help=about)
+    about = "What the command gets as its arguments."
+    parser.add_argument("arguments", metavar="ARGUMENT", nargs=argparse.REMAINDER, help=about)
+    return parser
+
+
+def options_of(words) -> argparse.Namespace:
+    options = parser_of().parse_args(words)
     options.command = from_anywhere([options.command, *options.arguments])
     options.check = from_anywhere(options.check) if options.check else options.command
     return options

@@ -5,16 +5,21 @@ import sys
 import time
 from typing import Any, Dict, List, NamedTuple, Optional, Sequence, Tuple
 
-from farm_tools import calls, lab_file, settings
+from farm_tools import calls, lab_file, parsers, settings
 
 PROGRAM = "farm-from-desk"
 ABOUT = """\
-Writes a lab file of a desk's types and boards, with their checks, tags and
-health, to begin the next farm with. 'farm import' takes types, boards and tags
-from it; --set-health FILE then gives each board of the file its health at the
-new desk, as the admin. --lab FILE names the lines of the lab's own file that
-say something else than the desk has: an import of that file changes none of
-it."""
+Asks a desk for its types, boards and queue, and writes a lab file that 'farm import' takes, to \
+begin the next farm with: each type with its check, and each board with its tags. A line 'health' \
+stands with each board, which 'farm import' passes over; --set-health then gives each board its \
+health at the new desk."""
+STATUSES = (
+    ("0", "Nothing that matters was left out, or each board has its health."),
+    ("1", lab_file.LEFT_OUT),
+    ("2", "Bad words, or a setting that there isn't."),
+    ("3", "Refused by the desk."),
+    ("4", "No answer from the desk, bad settings, or a file that can't be read or written."),
+)
 HEAD = """\
 The types and boards of {server}, for the farm that comes after it:
     farm init --db NEW
@@ -50,15 +55,26 @@ def told(status: int, text: str) -> int:
     return status
 
 
-def options_of(words: Optional[Sequence[str]]) -> argparse.Namespace:
-    parser = lab_file.parser_of(PROGRAM, ABOUT)
-    parser.epilog = f"{parser.epilog}; 3 the desk refuses"
-    parser.add_argument(
-        "--lab", metavar="FILE", help="the lab's own file, to be compared with the desk"
+def parser_of() -> parsers.Parser:
+    parser = lab_file.parser_of(PROGRAM, ABOUT, STATUSES)
+    parser.forms = (
+        f"{PROGRAM} [--output FILE] [--lab FILE] [--verbose] [settings]",
+        f"{PROGRAM} --set-health FILE [settings]",
     )
-    parser.add_argument("--set-health", metavar="FILE", help="give boards the health of a lab file")
-    settings.add_options(parser)
-    return parser.parse_args(words)
+    about = """\
+The lab's own file, to be compared with the desk: the written file and standard error name its lines
+that say something else of a type or a board. It wants Python 3.11, which reads TOML."""
+    parser.add_argument("--lab", metavar="FILE", help=about)
+    about = """\
+The lab file whose boards are given their health, which is printed. Those in Maintenance stay as the
+import made them. Done again it does no harm."""
+    parser.add_argument("--set-health", metavar="FILE", help=about)
+    settings.add_options(parser, "desk", "default admin")
+    return parser
+
+
+def options_of(words: Optional[Sequence[str]]) -> argparse.Namespace:
+    return parser_of().parse_args(words)
 
 
 # ---- writing

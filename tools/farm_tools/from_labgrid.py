@@ -3,13 +3,13 @@ import argparse
 import re
 from typing import Any, Dict, List, Optional, Sequence
 
-from farm_tools import lab_file
+from farm_tools import lab_file, parsers
 
 PROGRAM = "farm-from-labgrid"
 ABOUT = """\
-Reads places.yaml, in which labgrid's coordinator keeps its places, and writes a
-lab file: a board for each place, with its tags. A board's type is the value of
-the tag 'board' (--type-tag); the tag stays."""
+Reads PLACES, the places.yaml in which labgrid's coordinator keeps its places, and writes a lab \
+file that 'farm import' takes: a board for each place, with its tags."""
+FAULT = "PLACES or the lab file can't be used, PLACES isn't of its kind, or PyYAML isn't there."
 # What a place has that is carried over, or told in words of its own.
 KNOWN = (
     "name", "tags", "aliases", "comment", "matches", "acquired", "acquired_resources",
@@ -26,14 +26,19 @@ def main(words: Optional[Sequence[str]] = None) -> int:
     return lab_file.status_of(PROGRAM, lab_of, options_of(words))
 
 
+def parser_of() -> parsers.Parser:
+    parser = lab_file.parser_of(PROGRAM, ABOUT, lab_file.statuses_of(FAULT))
+    parser.add_argument("places", metavar="PLACES", help="The coordinator's places.yaml.")
+    about = """\
+The tag whose value is the board's type (default %(default)s). The tag stays a tag."""
+    parser.add_argument("--type-tag", metavar="KEY", default="board", help=about)
+    about = "The type of places without that tag, which are not told then (default place)."
+    parser.add_argument("--type", metavar="NAME", help=about)
+    return parser
+
+
 def options_of(words: Optional[Sequence[str]]) -> argparse.Namespace:
-    parser = lab_file.parser_of(PROGRAM, ABOUT)
-    parser.add_argument("places", metavar="PLACES", help="the coordinator's places.yaml")
-    parser.add_argument(
-        "--type-tag", metavar="KEY", default="board", help="the tag that names the type (board)"
-    )
-    parser.add_argument("--type", metavar="NAME", help="the type of places without it (place)")
-    return parser.parse_args(words)
+    return parser_of().parse_args(words)
 
 
 def lab_of(options: argparse.Namespace) -> lab_file.LabFile:

@@ -4,16 +4,14 @@ import os
 import re
 from typing import Dict, List, Optional, Sequence, Tuple
 
-from farm_tools import lab_file
+from farm_tools import lab_file, parsers
 
 PROGRAM = "farm-from-lava"
 ABOUT = """\
-Reads FOLDER, as LAVA's server has it in /etc/lava-server/dispatcher-config:
-devices/NAME.jinja2, whose 'extends' names the device's type,
-device-types/TYPE.jinja2, and health-checks/TYPE.yaml. It writes a lab file: a
-board for each device, a type for each device type, and a check every 24 hours
-(--hours) for each type that has a health check. Tags stand in LAVA's database;
---tags gives them."""
+Reads FOLDER, which LAVA's server has in /etc/lava-server/dispatcher-config, and writes a lab file \
+that 'farm import' takes: a board for each device, a type for each device type, and a check every \
+24 hours (--hours) for each type that has a health check."""
+FAULT = "FOLDER, the tags' file or the lab file can't be used, or what is read isn't of its kind."
 SUFFIX = ".jinja2"
 PARTS = re.compile(r"{%-?\s*(\w+)\s*(.*?)\s*-?%}|{{.*?}}", re.DOTALL)
 COMMENT = re.compile(r"{#.*?#}", re.DOTALL)
@@ -23,16 +21,20 @@ def main(words: Optional[Sequence[str]] = None) -> int:
     return lab_file.status_of(PROGRAM, lab_of, options_of(words))
 
 
+def parser_of() -> parsers.Parser:
+    parser = lab_file.parser_of(PROGRAM, ABOUT, lab_file.statuses_of(FAULT))
+    parser.add_argument("folder", metavar="FOLDER", help="The server's dispatcher-config.")
+    about = "Between two checks of a board, 1 to 10000 (default %(default)s)."
+    parser.add_argument("--hours", metavar="N", type=hours, default=24, help=about)
+    about = """\
+The devices' tags, which stand in LAVA's database: a line 'DEVICE TAG ..' for each device that has
+some."""
+    parser.add_argument("--tags", metavar="FILE", help=about)
+    return parser
+
+
 def options_of(words: Optional[Sequence[str]]) -> argparse.Namespace:
-    parser = lab_file.parser_of(PROGRAM, ABOUT)
-    parser.add_argument("folder", metavar="FOLDER", help="the server's dispatcher-config")
-    parser.add_argument(
-        "--hours", metavar="N", type=hours, default=24, help="between two checks of a board (24)"
-    )
-    parser.add_argument(
-        "--tags", metavar="FILE", help="a line 'DEVICE TAG ..' for each device with tags"
-    )
-    return parser.parse_args(words)
+    return parser_of().parse_args(words)
 
 
 def hours(text: str) -> int:

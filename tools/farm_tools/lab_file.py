@@ -6,15 +6,14 @@ import re
 import sys
 from typing import Callable, Dict, Iterable, List, NamedTuple, Optional, Tuple
 
+from farm_tools import parsers
+
 NAME, TAG_KEY, TAG_VALUE = 48, 32, 64
 MOST_TAGS, MOST_TYPES, MOST_BOARDS, MOST_OF_A_TYPE = 16, 64, 256, 64
 HIGHEST_PRIORITY, MOST_WANTS, LONGEST_EVERY = 100, 4, 10000
 LONGEST_JOB_FILE, LONGEST_LAB_FILE = 65536, 1048576
 CARRIED, NOT_CARRIED, FAULT = 0, 1, 4
-STATUSES = """\
-exit status: 0 nothing that matters was left out; 1 the lab file is written, and
-standard error says line by line what was left out; 2 bad words; 4 what is read
-or written can't be, or isn't of its kind"""
+LEFT_OUT = "The lab file is written, and standard error says what was left out, a line each."
 
 
 class Unreadable(Exception):
@@ -28,18 +27,19 @@ class Note(NamedTuple):
     usual: bool
 
 
-def parser_of(program: str, about: str) -> argparse.ArgumentParser:
-    """The words that each program has which writes a lab file."""
-    parser = argparse.ArgumentParser(
-        prog=program,
-        description=about,
-        epilog=STATUSES,
-        formatter_class=argparse.RawDescriptionHelpFormatter,
-    )
-    parser.add_argument("--output", metavar="FILE", help="the lab file (the output)")
-    parser.add_argument(
-        "--verbose", action="store_true", help="tell also what is left out of every file"
-    )
+def statuses_of(fault: str) -> parsers.Statuses:
+    """The exit statuses of a program that writes a lab file; `fault` says when it can't."""
+    done = "Nothing that matters was left out."
+    return (("0", done), ("1", LEFT_OUT), ("2", "Bad words."), ("4", fault))
+
+
+def parser_of(program: str, about: str, statuses: parsers.Statuses) -> parsers.Parser:
+    """The parser of a program that writes a lab file, with the options that each has."""
+    parser = parsers.parser_of(program, about, statuses)
+    about = "The lab file; without it, the output."
+    parser.add_argument("--output", metavar="FILE", help=about)
+    about = "Tell also what is left out of every file."
+    parser.add_argument("--verbose", action="store_true", help=about)
     return parser
 
 

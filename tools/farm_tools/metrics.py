@@ -5,7 +5,7 @@ import sys
 import threading
 from typing import Optional, Sequence
 
-from farm_tools import calls, collecting, interrupts, prometheus, settings
+from farm_tools import calls, collecting, interrupts, parsers, prometheus, settings
 
 PROGRAM = "farm-metrics"
 FAULT = 4
@@ -13,14 +13,19 @@ LONGEST_LOOK = 5.0  # seconds that the desk has for an answer
 STALLED = 10  # seconds that a client has for its request
 HISTORY = "/var/lib/farm-dispatch/history.jsonl"
 ABOUT = """\
-Prints what a desk shows, in Prometheus' text format: boards by type, health and
-state, claims that wait and the oldest one's age, commands, rows and their
-limits, seconds since the last command, which passes are too, and, where the
-dispatcher's history is there, how many jobs ended how."""
-STATUSES = """\
-exit status: 0 done, or --listen was ended by a signal; 2 bad words; 4 no answer
-from the desk, which fizgruk_up tells too, bad settings, or a file or a port
-that can't be used"""
+Asks a desk for its status, its boards and its queue, and prints once, in Prometheus' text format, \
+what it counts. With --textfile it writes that into a file of node_exporter's textfile folder, by \
+a rename; with --listen it serves it on 127.0.0.1, and asks the desk at each request. It asks for \
+no view that grows with the farm's age."""
+STATUSES = (
+    ("0", "Done; --listen: it was ended by a signal."),
+    ("2", "Bad words, or a setting that there isn't."),
+    (
+        "4",
+        "No answer from the desk (what is printed says 'fizgruk_up 0'), bad settings, or a file or "
+        "a port that can't be used.",
+    ),
+)
 
 
 def main(words: Optional[Sequence[str]] = None) -> int:
@@ -46,24 +51,37 @@ def main(words: Optional[Sequence[str]] = None) -> int:
         return FAULT
 
 
-def options_of(words: Optional[Sequence[str]]) -> argparse.Namespace:
-    parser = argparse.ArgumentParser(
-        prog=PROGRAM,
-        description=ABOUT,
-        epilog=STATUSES,
-        formatter_class=argparse.RawDescriptionHelpFormatter,
+def parser_of() -> parsers.Parser:
+    parser = parsers.parser_of(PROGRAM, ABOUT, STATUSES)
+    rest = "[--history FILE] [--state FILE] [settings]"
+    parser.forms = (
+        f"{PROGRAM} [--textfile PATH] {rest}",
+        f"{PROGRAM} --listen PORT {rest}",
     )
     where = parser.add_mutually_exclusive_group()
-    about = "write the file, whole, in place of the output"
+    about = "Write this file in place of the output; its name has to end with '.prom'."
     where.add_argument("--textfile", metavar="PATH", help=about)
-    about = "serve /metrics on a port of 127.0.0.1"
+    about = """\
+Serve http://127.0.0.1:PORT/metrics, and print 'listening PORT' first; 0 takes a port that is
+free."""
     where.add_argument("--listen", metavar="PORT", type=_port, help=about)
-    about = f"the dispatcher's history ({HISTORY})"
+    about = """\
+The dispatcher's history (default %(default)s). It is read once, and then each time only what is
+new."""
     parser.add_argument("--history", metavar="FILE", default=HISTORY, help=about)
-    about = "what is kept for the next time (PATH.state; none without --textfile)"
+    about = """\
+What is kept for the next time: since when claims are seen, and the counts of the history (default
+PATH.state with --textfile; else nothing is kept)."""
     parser.add_argument("--state", metavar="FILE", help=about)
-    settings.add_options(parser)
-    return parser.parse_args(words)
+    timeout = "How long a network call may wait, 5 at most (default 5)."
+    settings.add_options(
+        parser, "desk", "default metrics, which the desk lets look", timeout=timeout
+    )
+    return parser
+
+
+def options_of(words: Optional[Sequence[str]]) -> argparse.Namespace:
+    return parser_of().parse_args(words)
 
 
 def _port(text: str) -> int:

@@ -1,5 +1,6 @@
 """Where the desk is and who asks: from options, the environment, a file of settings, and
 ~/.netrc."""
+import argparse
 import configparser
 import dataclasses
 import difflib
@@ -11,7 +12,9 @@ import stat
 import urllib.parse
 from typing import Callable, Dict, Optional, Sequence
 
-SYSTEM_FILE = "/etc/farm/desk.ini"
+from farm_tools.parsers import Parser
+
+SYSTEM_FILE, OWN_FILE = "/etc/farm/desk.ini", "~/.config/farm/desk.ini"
 SERVER = "http://127.0.0.1:8080"
 LOOPBACK = ("127.0.0.1", "localhost", "::1")
 WORDS = ("server", "user", "password_file", "ca_file", "timeout")
@@ -23,6 +26,15 @@ SECTIONS = {
     "dispatch": (*WORDS, *OF_DISPATCH),
     "watch": WORDS,
 }
+ABOUT = """\
+Each option that follows is a setting too: it has a name in the environment, as '{2}_SERVER', and, \
+but for --config, one in the section '[{0}]' of the file of settings, as 'server'. Options go \
+first, then the environment,{1} and last the file of settings. A variable that begins with '{2}_', \
+a key of the section, or a section that there isn't ends it with status 2, and it says which one \
+may be meant."""
+PASSWORD = """\
+A file that nobody else may read, whose first line is the password; without it, the one in \
+~/.netrc. A password is sent over TLS, or to this machine, alone."""
 
 
 class BadSettings(Exception):
@@ -40,21 +52,27 @@ class Settings:
     timeout: float
 
 
-def add_options(parser) -> None:
-    """The options that each tool has for its server and user."""
-    parser.add_argument("--config", metavar="FILE", help="the file of settings")
-    parser.add_argument("--server", metavar="URL", help=f"the desk's address ({SERVER})")
-    parser.add_argument("--user", metavar="NAME", help="who asks")
-    parser.add_argument(
-        "--password-file", metavar="FILE", help="a file whose first line is the password"
-    )
-    parser.add_argument(
-        "--ca-file", metavar="FILE", help="certificates that the server's is checked by"
-    )
-    parser.add_argument(
-        "--timeout", metavar="SECONDS", help="how long a network call may wait (30)"
-    )
+def add_options(
+    parser: Parser,
+    section: str,
+    user: str,
+    before_file: str = "",
+    timeout: str = "How long a network call may wait (default 30).",
+) -> argparse._ArgumentGroup:
+    """The options that each tool has for its server and user, which are settings of a section too.
+    `user` says who asks where nothing names one, `before_file` what else is looked at."""
+    group = parser.add_settings(section, ABOUT.format(section, before_file, section.upper()))
+    option = group.add_argument
+    about = f"The file of settings (without it, {SYSTEM_FILE}, and over it {OWN_FILE})."
+    option("--config", metavar="FILE", help=about)
+    option("--server", metavar="URL", help=f"The desk's address (default {SERVER}).")
+    option("--user", metavar="NAME", help=f"Who asks ({user}).")
+    option("--password-file", metavar="FILE", help=PASSWORD)
+    about = "The certificates that the server's is checked by."
+    option("--ca-file", metavar="FILE", help=about)
+    option("--timeout", metavar="SECONDS", help=timeout)
     parser.set_defaults(bad_words=parser.error)
+    return group
 
 
 def values_of(section: str, options) -> Dict[str, Optional[str]]:

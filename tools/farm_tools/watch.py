@@ -9,8 +9,7 @@ import sys
 import time
 from typing import Dict, List, Optional
 
-from farm_tools import calls, folders, limits, settings, watch_tell
-from farm_tools.version import VERSION
+from farm_tools import calls, folders, limits, parsers, settings, watch_tell
 from farm_tools.watch_file import Rules, read_file
 from farm_tools.watch_store import Delivery, Store
 from farm_tools.watcher import Watcher
@@ -21,16 +20,22 @@ FILE, FOLDER = "/etc/farm/watch.toml", "/var/lib/farm-watch"
 LONGEST_EVERY = LONGEST_CALL = 5.0
 DAY = 86400
 ABOUT = """\
-Looks at the desk every five seconds, and tells by mail (sendmail) or a webhook
-what FILE has rules for: a hold that is old, or was ended for its age; a job
-that has ended; a reservation that waited and got a board; a board that went
-Bad; no pass for long; a farm that is nearly full. Each event is told once, by
-each way that its rule names; what isn't taken is tried again."""
-STATUSES = """\
-exit status: 0 ended by SIGTERM or SIGINT, or with --check or --try all is well;
-2 bad words, or FILE says what it can't; 3 the desk doesn't let it in; 4 FILE
-can't be read, DIR can't be used or is in use, or a message of --try wasn't
-taken"""
+Looks at the desk every five seconds, and tells what FILE has rules for, by mail (sendmail) and by \
+a webhook: a hold that is old, or was ended for its age; a job that has ended; a reservation that \
+waited and got a board; a board that went Bad; no pass for long; a farm that is nearly full. Each \
+event is told once, by each way that its rule names; what isn't taken is tried again.
+It may be killed at any moment, and goes on from its last look; what happened meanwhile is told \
+then. At its first look at a farm it tells of jobs and boards only what happens from then on."""
+STATUSES = (
+    ("0", "It was ended by SIGTERM or SIGINT; with --check or --try, all is well."),
+    ("2", "Bad words, a setting that there isn't, or FILE says what it can't."),
+    ("3", "The desk, or the proxy in front of it, doesn't let it in."),
+    (
+        "4",
+        "FILE can't be read, DIR can't be used or is in use by another farm-watch, bad settings, "
+        "or a message of --try wasn't taken.",
+    ),
+)
 
 
 def main(words=None) -> int:
@@ -49,27 +54,38 @@ def main(words=None) -> int:
         return end(FAULT, str(fault))
 
 
-def options_of(words):
-    parser = argparse.ArgumentParser(
-        prog="farm-watch",
-        description=ABOUT,
-        epilog=STATUSES,
-        formatter_class=argparse.RawDescriptionHelpFormatter,
+def parser_of() -> parsers.Parser:
+    parser = parsers.parser_of("farm-watch", ABOUT, STATUSES)
+    parser.forms = (
+        "farm-watch [--folder DIR] [--every SECONDS] [settings] [FILE]",
+        "farm-watch --check [FILE]",
+        "farm-watch --try [FILE]",
     )
-    about = f"where it keeps what it has seen and told ({FOLDER})"
+    about = """\
+Where it keeps what it has seen and told, in watch.db (default %(default)s). Events are kept for 90
+days. Without this file it begins as at its first look."""
     parser.add_argument("--folder", metavar="DIR", default=FOLDER, help=about)
+    about = "Between two looks, 5 at most (default 5)."
     parser.add_argument(
-        "--every", metavar="SECONDS", type=seconds, default=LONGEST_EVERY,
-        help="between two looks, 5 at most (5)",
+        "--every", metavar="SECONDS", type=seconds, default=LONGEST_EVERY, help=about
     )
-    parser.add_argument("--check", action="store_true", help="read FILE, and say what it has")
-    parser.add_argument(
-        "--try", action="store_true", dest="try_ways", help="tell the admins a word, by each way"
+    parser.add_argument("--check", action="store_true", help="Read FILE, and print its rules.")
+    about = "Send the admins a word by each way, and say who took it."
+    parser.add_argument("--try", action="store_true", dest="try_ways", help=about)
+    settings.add_options(
+        parser,
+        "watch",
+        "default admin, as it has to be where holds are ended",
+        " '[desk]' of FILE,",
+        "How long a network call to the desk may wait, 5 at most (default 5).",
     )
-    settings.add_options(parser)
-    parser.add_argument("--version", action="version", version=f"farm-watch {VERSION}")
-    parser.add_argument("file", metavar="FILE", nargs="?", default=FILE, help=f"the rules ({FILE})")
-    return parser.parse_args(words)
+    about = "The rules (default %(default)s)."
+    parser.add_argument("file", metavar="FILE", nargs="?", default=FILE, help=about)
+    return parser
+
+
+def options_of(words) -> argparse.Namespace:
+    return parser_of().parse_args(words)
 
 
 def seconds(text: str) -> float:

@@ -1,0 +1,101 @@
+"""What each command of desk does, as its --help says it and docs/desk.1. The first sentence stands
+in the list of `desk --help`."""
+
+ABOUT = """\
+Speaks with the desk of a board farm, at its address or through the proxy in front of it. Each \
+command is sent under a fresh key (those of an import under keys made of the names), and again \
+under the same key where no answer came, so that it is done once. A refresh, which does no harm \
+when it is done twice, has no key. Where no answer comes at first it says so on standard error, \
+and tries again for a quarter of a minute.
+It warns on standard error where no pass has come for more than 30 seconds: where the desk's \
+clock, which every accepted command moves, is so old beside this machine's; while it waits, where \
+nothing but its own commands moved that clock for so long, or where free boards meet its claim for \
+so long. It warns too where that clock is more than a minute ahead of this machine's."""
+
+STATUSES = (
+    ("0", "Done; a job that was waited for ended Complete."),
+    ("1", "A job that was waited for ended otherwise, or a reservation before it had a board."),
+    ("2", "Bad words, or a setting that there isn't."),
+    (
+        "3",
+        "Refused by the desk, or in part: standard error has its code and text, and what is known "
+        "beside; or a lab file that can't be taken; or there is no such log or board.",
+    ),
+    ("4", "No answer from the desk, or bad settings, or a file that can't be read."),
+    ("125", "Of 'with': no board for the command, or the board couldn't be given back."),
+    ("126", "Of 'with': the command can't be run."),
+    ("127", "Of 'with': there is no such command."),
+    ("128+N", "Ended by signal N: 130 by SIGINT, 143 by SIGTERM, 129 by SIGHUP, 131 by SIGQUIT."),
+)
+
+OF_ALL = {
+    "boards": "Show the boards, or those that have all of these tags.",
+    "queue": """\
+Show what waits for boards, in the order in which it is served. There is a column 'NOTE' where a \
+group collects boards, or where a claim waits for boards of which none can come: no list of boards \
+that aren't Retired, Bad or in Maintenance meets it. It says what is wanted and which boards are \
+out of use, for the group that collects and for the first fifty claims, as far as they can be \
+asked for in three seconds.""",
+    "reservations": """\
+Show the reservations that haven't ended. 'LEFT' is how long a lease still runs by this machine's \
+clock.""",
+    "jobs": """\
+Show the jobs that are open and those that ended, or some. Those that ended come last, the newest \
+first. With numbers it shows those of them that there are, and tells the others. A group that \
+waits has one line; what it is called is asked of the desk for the first fifty that wait.""",
+    "submit": """\
+Submit a job file, and print the job's number. Of one that the desk refuses it says which rule it \
+breaks.""",
+    "resubmit": """\
+Submit a job's text again, and print the new number. It may be anybody's job; its text is the one \
+that the desk keeps.""",
+    "cancel": "Cancel a job and its group.",
+    "log": "Print what a job's command said, as it stands in its log.",
+    "history": """\
+Show a board's jobs, and how its health changed and why, the newest first.""",
+    "usage": """\
+Show what jobs used, how they ended and how long they waited. A line has how many jobs ended since \
+WHEN, and how; the hours for which they held boards since then; and how long they waited from \
+their submission to their begin: half of them no longer than 'WAITED', nine of ten no longer than \
+'NINTH'. Jobs that were submitted while nobody looked, and health checks, count in neither. Checks \
+are the admin's jobs; reservations aren't counted.""",
+    "reserve": """\
+Reserve a board that has all these tags, and print the reservation's number. One that was given a \
+board has to be acquired within a minute. Where this waits and is interrupted, the reservation is \
+canceled.""",
+    "wait": """\
+Wait for a job's end as 'submit --wait' does, or for a reservation's board as 'reserve --wait' \
+does.""",
+    "acquire": "Acquire the board that a reservation was given, and print its name.",
+    "release": "Release an acquired board, which the reservation keeps for a minute.",
+    "refresh": "Let a reservation live for a minute from now.",
+    "extend": """\
+Keep an acquired board for longer. The age of the hold begins anew, where farm-watch(8) reminds of \
+holds or ends them.""",
+    "cancel-reservation": "End a reservation, and give its board back.",
+    "with": """\
+Run a command with a board, and give the board back. It reserves, waits, acquires, and runs \
+COMMAND with 'BOARD', 'BOARD_TYPE', 'BOARD_TAGS' and 'RESERVATION' in its environment. When that \
+has ended, or a signal came, the board is given back. SIGINT, SIGTERM, SIGHUP and SIGQUIT are \
+handed on to the command. (Killed by SIGKILL it can't give the board back: 'desk \
+cancel-reservation'.) The exit status is that of the command, 128 and the number of the signal \
+that killed it, or 125 to 127 where it wasn't run.""",
+}
+
+OF_AN_ADMIN = {
+    "health": """\
+Set the health of boards, as an admin. A board that is refused is told, and the others have it.""",
+    "tags": "Give a board these tags in the place of those it has, as an admin.",
+    "add-type": """\
+Add a type, as an admin. Its boards are checked each N hours or jobs, or never.""",
+    "add-board": "Add a board, as an admin. It is in Maintenance until its health is set.",
+    "import": """\
+Add the types and boards of a lab file, as an admin. It does so as 'farm import' does, under the \
+same keys, while the desk serves: what either of them added, the other keeps. It prints 'accepted \
+A, kept K', as 'farm import' does; kept are those of the file's types and boards that were there \
+when it began. Where the file has a fault nothing is added, and the fault's line is named. It ends \
+at the first type or board that the desk refuses, and names its line in the file; a type or a \
+board that is there and that no import added is refused so.""",
+}
+
+TEXTS = {**OF_ALL, **OF_AN_ADMIN}
