@@ -133,7 +133,7 @@ def stopped_at_a_message(room):
 def killed_at_an_end(room):
     """A hold is being ended when farm-watch is killed: before the desk has the command, or after."""
     lab = Watched(FARM, room, "[hold]\nend = '12h'\n", boards=[])
-    moments = [(time.time() - 13 * HOUR + it, f"user{it}", f"h{it}") for it in range(4)]
+    moments = [(time.time() - 13 * HOUR - 10 + it, f"user{it}", f"h{it}") for it in range(4)]
     held = lab.held_since(moments)
 
     def is_killed(when):
