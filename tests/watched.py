@@ -6,6 +6,7 @@ import http.client
 import http.server
 import json
 import os
+import re
 import signal
 import subprocess
 import tempfile
@@ -45,6 +46,11 @@ def reply(handler, status, body):
         handler.wfile.write(body)
     except OSError:
         pass
+
+
+def hours(subject):
+    """A subject without the minutes of an age, which a slow machine adds."""
+    return re.sub(r"( hours) [0-9]+ minutes?", r"\1", subject)
 
 
 class Mailbox:
@@ -91,9 +97,11 @@ class Mailbox:
         return [read for _, read in found.values()]
 
     def told(self, kind=None):
-        """Whom which subjects went to, in order."""
+        """Whom which subjects went to, in order; of ages the hours alone."""
         return sorted(
-            (it["to"], it["subject"]) for it in self.mails() if kind in (None, it["x-farm-event"])
+            (it["to"], hours(it["subject"]))
+            for it in self.mails()
+            if kind in (None, it["x-farm-event"])
         )
 
 
@@ -147,7 +155,9 @@ class Hook:
 
     def told(self, kind=None):
         return sorted(
-            (it["owner"], it["subject"]) for it in self.messages() if kind in (None, it["event"])
+            (it["owner"], hours(it["subject"]))
+            for it in self.messages()
+            if kind in (None, it["event"])
         )
 
 
