@@ -508,7 +508,9 @@ def check_boards(lab, boards):
 
 
 def check_reservations(lab, rows):
-    held = collections.Counter(it["board"] for it in rows if it["state"] in ("allocated", "acquired"))
+    held = collections.Counter(
+        it["board"] for it in rows if it["state"] in ("allocated", "acquired")
+    )
     for board, count in held.items():
         if count > 1:
             lab.wrong(f"{board} is held by {count} reservations")
@@ -596,7 +598,8 @@ def mailed(lab):
 
 
 def check_keys(lab):
-    """Sends all again, to a desk that was killed: each command is answered as it was."""
+    """Sends all again, once the dispatcher has ended, to a desk that was killed: each command is
+    answered as it was, and none is done again."""
     lab.farm.kill()
     lab.farm.start()
     count = lab.look("/status")["count"]
@@ -770,19 +773,21 @@ def check_copies(lab, killed, standby):
     check_copy(lab, "the standby", db, final, standby, killed)
 
 
-def ends(lab):
-    """Ends the tools and the desk; none tells of a fault of its own, and no process is left."""
+def ends_tools(lab):
+    """Ends the tools; none tells of a fault of its own."""
     for name in ("dispatcher", "watcher"):
         lab.tools[name].send(signal.SIGTERM)
         status = lab.tools[name].ends(60)
         if status:
             lab.wrong(f"the {name} ended with status {status}")
-    lab.farm.kill()
     for name, tool in lab.tools.items():
         if "Traceback" in tool.errors():
             lab.wrong(f"the {name} tells: {tool.errors()}")
-    left = lab.waits(20, lambda: not processes_of(lab.room)) is None
-    if left:
+
+
+def ends_desk(lab):
+    lab.farm.kill()
+    if lab.waits(20, lambda: not processes_of(lab.room)) is None:
         lab.wrong(f"processes that are left: {processes_of(lab.room)}")
 
 
@@ -849,9 +854,10 @@ def main(program, seconds=430, seed=None):
         outcomes, waits = check_jobs(lab)
         check_holders(lab)
         told, again = check_told(lab)
+        ends_tools(lab)
         commands = lab.look("/status")["count"]
         check_keys(lab)
-        ends(lab)
+        ends_desk(lab)
         check_copies(lab, killed, moment_of(f"{room}/standby"))
         if sum(lab.kills.values()) < 60 or len(lab.submitted) != 200:
             lab.wrong(f"{sum(lab.kills.values())} kills, {len(lab.submitted)} submissions")
