@@ -402,7 +402,9 @@ def runs_with(lab, user, dice):
 
 
 def administers(lab, user, dice):
-    """Mends what went Bad once that is told, takes boards out for seconds, imports two boards."""
+    """Mends what went Bad once that is told, takes boards out for seconds, imports two boards. What
+    is mended is in Maintenance for longer than a look and a start of farm-watch take: it may miss
+    what lasts less, and so a board that is Bad again at the next look."""
     seen, out, imported = set(), {}, False
     due, import_at = time.monotonic() + 10, lab.over - 0.66 * lab.left()
     while not lab.drained.is_set():
@@ -410,16 +412,17 @@ def administers(lab, user, dice):
         for it in lab.hook.messages():
             if it["event"] == "board-bad" and it["id"] not in seen:
                 seen.add(it["id"])
-                health = "Good" if it["type"] == "qemu" else "Unknown"
-                lab.command(user, f"/boards/{it['board']}/health", {"health": health})
-        for board in [it for it, until in out.items() if until < time.monotonic()]:
-            del out[board]
-            lab.command(user, f"/boards/{board}/health", {"health": "Good"})
+                out[it["board"]] = (time.monotonic() + 8, "Unknown")
+                lab.command(user, f"/boards/{it['board']}/health", {"health": "Maintenance"})
+        for board in [it for it, (until, _) in out.items() if until < time.monotonic()]:
+            health = out.pop(board)[1]
+            lab.command(user, f"/boards/{board}/health", {"health": health})
         if due < time.monotonic() and lab.left() > 10:
             due = time.monotonic() + dice.uniform(5, 25)
-            good = [it["name"] for it in lab.look("/boards")["boards"] if it["health"] == "Good"]
+            good = [it["name"] for it in lab.look("/boards")["boards"]
+                    if it["health"] == "Good" and it["name"] not in out]
             board = dice.choice(good)
-            out[board] = time.monotonic() + dice.uniform(2, 6)
+            out[board] = (time.monotonic() + dice.uniform(2, 6), "Good")
             lab.command(user, f"/boards/{board}/health", {"health": "Maintenance"})
         if not imported and import_at < time.monotonic():
             imported = True
