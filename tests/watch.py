@@ -8,9 +8,11 @@ and farm-watch killed (kill -9) at many places, over which each event has to be 
 watch_told.py). Ends with status 1 at the first thing that isn't as it should be, and with 77 where
 the machine lacks what it wants. Takes five minutes.
 """
+import contextlib
 import json
 import os
 import shutil
+import sqlite3
 import subprocess
 import sys
 import tempfile
@@ -298,6 +300,21 @@ def late_passes(room):
     return "a pass that doesn't come is told once, also beside others' commands and a dead desk"
 
 
+def started_again(room):
+    """Also over a file that has no word on late passes, as an earlier version left it."""
+    lab = Watched(FARM, room, "[pass]\nlate = '60s'\n", hook=False)
+    lab.start()
+    lab.tool.kill()
+    lab.start()
+    lab.stop()
+    with contextlib.closing(sqlite3.connect(os.path.join(lab.place, "watch.db"))) as file, file:
+        file.execute("DELETE FROM seen WHERE kind = 'farm' AND key = 'late'")
+    lab.start()
+    demand("what it tells", ("", []), (lab.tool.errors(), lab.mailbox.told()))
+    lab.end()
+    return "one that is started again while passes come goes on"
+
+
 def full(room):
     lab = Watched(FARM, room, "[full]\nat = [80, 95]\n")
     lab.door.change["/status"] = {"jobs": 50000, "reservations": 29999}
@@ -492,6 +509,7 @@ ROWS = [
     extended_at_the_end,
     not_the_admin,
     late_passes,
+    started_again,
     full,
     what_is_asked,
     another_farm,

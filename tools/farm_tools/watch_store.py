@@ -117,11 +117,11 @@ class Store:
         if not (changes or events):
             return
         with self._change() as line:
-            for kind, key, value in changes:
-                if value is None:
+            for kind, key, text in changes:
+                if text is None:
                     line.execute("DELETE FROM seen WHERE kind = ? AND key = ?", (kind, key))
                 else:
-                    row = (kind, key, json.dumps(value))
+                    row = (kind, key, text)
                     line.execute("INSERT OR REPLACE INTO seen VALUES (?, ?, ?)", row)
             for event in events:
                 _add(line, event)
@@ -196,15 +196,16 @@ def wait_after(tries: int) -> float:
     return min(FIRST_WAIT * 2 ** min(tries - 1, 20), LONGEST_WAIT)
 
 
-def _changes(before: Seen, after: Seen) -> Iterator[Tuple[str, str, Any]]:
-    """The rows that aren't as they were: kind, key, and the value, None for one that is gone."""
+def _changes(before: Seen, after: Seen) -> Iterator[Tuple[str, str, Optional[str]]]:
+    """The rows that aren't as they were: kind, key, and the value as JSON, None for one that is
+    gone."""
     for kind in {**before, **after}:
         old, new = before.get(kind, {}), after.get(kind, {})
         for key in old.keys() - new.keys():
             yield kind, key, None
         for key, value in new.items():
             if key not in old or old[key] != value:
-                yield kind, key, value
+                yield kind, key, json.dumps(value)
 
 
 def _add(line: sqlite3.Connection, event: Event) -> None:

@@ -244,10 +244,11 @@ class Watcher:
             return
         self.passes.look(look.status, look.lab, look.queue, self.may_ask)
         farm = seen["farm"]
-        if farm["late"] is None and self.passes.is_late():
+        late = farm.get("late")  # (a file of an earlier version lacks it while passes come)
+        if late is None and self.passes.is_late():
             events.pass_late(look.status["clock"], "")
             seen["farm"] = {**farm, "late": self.passes.sign()}
-        elif farm["late"] is not None and self.passes.is_over(farm["late"]):
+        elif late is not None and self.passes.is_over(late):
             seen["farm"] = {**farm, "late": None}
 
     def _full(self, seen: Seen, look: Look, events: Events) -> None:
