@@ -42,7 +42,7 @@ import time
 from typing import NamedTuple
 
 from desks import DESK, write
-from served import TOOLS, Farm, Tool, environment, read
+from served import TOOLS, Farm, Tool, environment, read, wait_until
 from watched import Hook, Mailbox
 
 TYPES = {"bbb": ("hours", 1), "rpi": ("jobs", 8), "qemu": ("none", 0)}
@@ -130,6 +130,8 @@ class Lab:
         for name in ("dispatcher", "watcher", "follower"):
             os.mkdir(f"{room}/{name}")
             self.start(name)
+        # (what ended before farm-watch's first look isn't told)
+        wait_until("a first look", lambda: "sees " in self.tools["watcher"].output())
         self.over = time.monotonic() + seconds
         self.drained = threading.Event()
 
