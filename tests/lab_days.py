@@ -42,7 +42,7 @@ import time
 from typing import NamedTuple
 
 from desks import DESK, write
-from served import TOOLS, Farm, Tool, environment, read
+from served import TOOLS, Farm, Tool, environment, read, wait_until
 from watched import Hook, Mailbox
 
 TYPES = {"bbb": ("hours", 1), "rpi": ("jobs", 8), "qemu": ("none", 0)}
@@ -130,6 +130,8 @@ class Lab:
         for name in ("dispatcher", "watcher", "follower"):
             os.mkdir(f"{room}/{name}")
             self.start(name)
+        # (what ended before farm-watch's first look isn't told)
+        wait_until("a first look", lambda: "sees " in self.tools["watcher"].output())
         self.over = time.monotonic() + seconds
         self.drained = threading.Event()
 
@@ -575,8 +577,8 @@ def lives(lab, seconds, dice):
         it.join(240)
         if it.is_alive():
             lab.wrong(f"{it.name} hasn't ended")
-    if not lab.waits(180, lambda: is_done(lab)):
-        lab.wrong(f"not all has ended: {lab.look('/queue')}, {lab.look('/boards')}")
+    if not lab.waits(180, lambda: not busy(lab)):
+        lab.wrong(f"not all has ended: {busy(lab)}")
     lab.waits(60, lambda: {it["id"] for it in lab.hook.messages()} == mailed(lab)
               and all(lab.told("job-ended", "job", it) for it in lab.submitted))
     lab.drained.set()
@@ -585,12 +587,13 @@ def lives(lab, seconds, dice):
     return killed
 
 
-def is_done(lab):
-    boards = lab.look("/boards")["boards"]
-    is_free = all(it["holder"] == "none" for it in boards)
-    serve = all(it["health"] == "Good" or it["type"] == "qemu" and it["health"] == "Unknown"
-                for it in boards)
-    return is_free and serve and not lab.look("/queue")["queue"]
+def busy(lab):
+    """What waits, and the boards that are held or don't serve; a board of a type without a check
+    serves while it is Unknown, too."""
+    boards = [(it["name"], it["health"], it["holder"]) for it in lab.look("/boards")["boards"]
+              if it["holder"] != "none" or it["health"] != "Good"
+              and (it["type"], it["health"]) != ("qemu", "Unknown")]
+    return lab.look("/queue")["queue"] + boards
 
 
 def mailed(lab):
