@@ -14,8 +14,13 @@ use Rattle.farm_types.specs.declared.rows.BoardRow.{BoardRow}
 use Rattle.farm_core.specs.declared.job_edit.JobEdit.{JobEdit}
 use Rattle.farm_core.specs.declared.res_edit.ResEdit.{ResEdit}
 use Rattle.farm_core.specs.declared.held.Becomes.{Becomes}
+use Rattle.farm_table.specs.Near.{IsFitJob}
 use Rattle.farm_core.specs.Edits.{IfAfterCheck, job_changed, res_changed, board_after}
-use Rattle.farm_core.proofs.Tabled.{KeepsJob}
+
+-- jobs keep their number and group
+pub record KeepsJob (f : JobRow → JobRow) : Type 0 where
+  pub number : (j : JobRow) → (f j).number ≡ j.number
+  pub group : (j : JobRow) → (f j).group ≡ j.group
 
 keeps_number : (e : JobEdit) (j : JobRow) → (job_changed e j).number ≡ j.number
 keeps_number (JobEdit.Start group) j = refl
@@ -35,6 +40,13 @@ keeps_group (JobEdit.Back group) j = refl
 
 pub keeps_job : (e : JobEdit) → KeepsJob (job_changed e)
 keeps_job e = record { number = keeps_number e; group = keeps_group e }
+
+-- and go on to fit
+pub keeps_fit : (e : JobEdit) (j : JobRow) → IsFitJob j → IsFitJob (job_changed e j)
+keeps_fit e j fit = record {
+  small = record { number = rw (keeps_number e j) fit.small.number; group = rw (keeps_group e j) fit.small.group };
+  near = rw (keeps_number e j, keeps_group e j) fit.near;
+}
 
 pub keeps_res : (e : ResEdit) (r : ResRow) → (res_changed e r).number ≡ r.number
 keeps_res (ResEdit.Acquire number) r = refl

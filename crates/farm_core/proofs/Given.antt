@@ -1,9 +1,7 @@
 -- The queues once a claim was given its boards.
-use Rattle.std.proofs.Common.{◌≡◌, ◌∙◌, ◌==◌, ◌||◌, ◌-◌, ◌+◌, ◌++◌, ℕ, List, [], ◌∷◌, length, take, drop, Bool, true, false, cond, not, Option, Some, None, refl, sym, ap, arith}
+use Rattle.std.proofs.Common.{◌≡◌, ◌∙◌, ◌==◌, ◌||◌, ℕ, List, [], ◌∷◌, Bool, true, false, cond, not, Option, Some, None, refl, sym, ap, arith}
 use Rattle.std.specs.List.{filter, list_any}
 use Rattle.std.specs.Option.{option_map, option_map_or}
-use Rattle.std.proofs.Math.Seq.{drop-append_seam}
-use Rattle.std.proofs.lemmas.List.{length-append, take_all}
 use Rattle.std.proofs.lemmas.Bool.Decides.{nat_tests}
 use Rattle.farm_types.specs.Farm.{Farm}
 use Rattle.farm_types.specs.Pass.{pass_over}
@@ -67,10 +65,3 @@ without_each (r ∷ rows) claims =
     without_each rows (filter (λ (x : Queued). not (x.claim.number == r.number)) claims)
     ∙ taken_more (λ (x : Queued). x.claim.number == r.number) (λ (x : Queued). list_any (λ (q : ResRow). q.number == x.claim.number) rows) (λ (x : Queued). list_any (λ (q : ResRow). q.number == x.claim.number) (r ∷ rows))
     (λ x. ap (λ v. v || list_any (λ (q : ResRow). q.number == x.claim.number) rows) (same_back r.number x.claim.number)) claims
-
--- what was logged behind a place
-pub logged_behind : {A : Type 0} (n : ℕ) (old now ys : List A) → n ≡ length old → now ≡ old ++ ys → take (length now - n) (drop n now) ≡ ys
-logged_behind n old now ys at is =
-    let long : length now ≡ length old + length ys = ap length is ∙ length-append old ys in
-    let rest : drop n now ≡ ys = (λ i. drop (at i) (is i)) ∙ drop-append_seam old ys in
-    ap (take (length now - n)) rest ∙ take_all (length now - n) ys (omega (arith, at, long))

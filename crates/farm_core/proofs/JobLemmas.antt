@@ -1,7 +1,7 @@
 -- The commands on jobs, from their edits.
 use Rattle.std.proofs.Common.{◌≡◌, ℕ, zero, suc, ◌+◌, ◌-◌, ◌<◌, ◌≤◌, ◌==◌, List, [], ◌∷◌, length, get_or, take, drop, Bool, true, false, cond, Some, refl, sym, ap, ◌∙◌, arith, length-drop, Bor, Option, None, IfSome}
 use Rattle.std.proofs.lemmas.List.{get_or-drop}
-use Rattle.std.specs.List.{AllByRecursion, find, filter}
+use Rattle.std.specs.List.{find, filter}
 use Rattle.std.specs.Option.{option_map_or, option_copied}
 use Rattle.std.specs.Prelude.{if◌then◌else◌}
 use Rattle.std.proofs.lemmas.Bool.Decides.{nat_tests}
@@ -14,7 +14,8 @@ use Rattle.farm_types.specs.declared.calls.Cmd.{Cmd}
 use Rattle.farm_types.specs.declared.rows.Outcome.{Outcome}
 use Rattle.farm_types.specs.declared.rows.BoardRow.{BoardRow}
 use Rattle.farm_types.specs.declared.rows.JobRow.{JobRow}
-use Rattle.farm_types.proofs.Put.{found_has, found_passes}
+use Rattle.farm_types.proofs.Put.{found_passes}
+use Rattle.farm_table.specs.Near.{IsFitJob}
 use Rattle.farm_core.specs.declared.job_edit.JobEdit.{JobEdit}
 use Rattle.farm_core.specs.Edits.{job_passes, job_changed, board_after, fate_of_board, outcome_of}
 use Rattle.farm_core.proofs.EditLemmas.{jobs_alone}
@@ -41,10 +42,10 @@ finished F H n j named found same made =
     ∙ ap (done_with n) (sym (made ∙ (λ i. change_jobs (λ m. m.number == sym same i) (job_changed (JobEdit.Finish n (outcome_of j named))) (λ b. after_is j.checking (outcome_of j named) F.clock b i) F)))
 
 -- a job that is found has the number, and small numbers
-pub job_found : (jobs : List JobRow) (n : ℕ) (j : JobRow) → AllByRecursion IsSmallJob jobs → find (λ r. r.number == n) jobs ≡ Some j → (j.number ≡ n) × IsSmallJob j
-job_found jobs n j small found =
+pub number_found : (jobs : List JobRow) (n : ℕ) (j : JobRow) → find (λ r. r.number == n) jobs ≡ Some j → j.number ≡ n
+number_found jobs n j found =
     let passes = found_passes (λ (r : JobRow). r.number == n) j jobs found in
-    (grind (arith, nat_tests), found_has IsSmallJob (λ r. r.number == n) j jobs small found)
+    grind (arith, nat_tests)
 
 -- rows that fail in front and behind are not missed
 module _ {R : Type 0} (test : R → Bool) where
@@ -77,6 +78,6 @@ module _ {R : Type 0} (test : R → Bool) where
       filter_take (end - start) (drop start rows) (λ k d more low. rw (get_or-drop start rows k d) (behind (start + k) d (omega arith) (omega (arith, length-drop start rows))))
       ∙ filter_drop start rows before (omega arith)
 
-pub small_found : (o : Option (Bor JobRow)) (jobs : List JobRow) (n : ℕ) → AllByRecursion IsSmallJob jobs → option_copied o ≡ find (λ r. r.number == n) jobs → IfSome o (λ job. (job.now.number ≡ n) × IsSmallJob job.now)
-small_found None jobs n small found = tt
-small_found (Some job) jobs n small found = job_found jobs n job.now small (sym found)
+pub small_found : (o : Option (Bor JobRow)) (jobs : List JobRow) (n : ℕ) → IfSome o (λ job. IsFitJob job.now) → option_copied o ≡ find (λ r. r.number == n) jobs → IfSome o (λ job. (job.now.number ≡ n) × IsSmallJob job.now)
+small_found None jobs n fit found = tt
+small_found (Some job) jobs n fit found = (number_found jobs n job.now (sym found), fit.small)

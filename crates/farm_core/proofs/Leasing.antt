@@ -1,5 +1,5 @@
 -- The leases that are noted, and the end of the reservations that are dead.
-use Rattle.std.proofs.Common.{◌≡◌, ◌∙◌, ◌==◌, ◌||◌, ◌&&◌, ◌<◌, ◌≤◌, ◌+◌, ℕ, zero, suc, List, [], ◌∷◌, length, map, filter, take, get_or, add-one, nat_le, slice_get, IsSome, IfSome, Bool, true, false, cond, not, Option, Some, None, refl, sym, ap, subst, arith}
+use Rattle.std.proofs.Common.{◌≡◌, ◌∙◌, ◌==◌, ◌||◌, ◌&&◌, ◌<◌, ◌≤◌, ◌+◌, ℕ, zero, suc, List, [], ◌∷◌, length, filter, take, get_or, add-one, nat_le, slice_get, set, IsSome, IfSome, Bool, true, false, cond, not, Option, Some, None, refl, sym, ap, subst, arith}
 use mathlib.Core.Bool.{true≢false, false≢true}
 use Rattle.std.specs.BTreeSet.{BTreeSet, IsLowerBound}
 use Rattle.std.specs.Cmp.{tied_then}
@@ -12,12 +12,12 @@ use Rattle.std.specs.declared.cmp.Ordering.TheVariants.{Equal, Greater, Less}
 use Rattle.std.proofs.lemmas.Bool.Decides.{nat_tests}
 use Rattle.std.proofs.lemmas.Cmp.{ranked}
 use Rattle.farm_types.specs.Pass.{is_dead}
-use Rattle.farm_types.specs.Small.{IsSmall, IsSmallRes}
-use Rattle.farm_types.specs.Table.{change_where, res_cmp}
+use Rattle.farm_types.specs.Table.{change_where, put, res_cmp}
 use Rattle.farm_types.specs.declared.rows.ResRow.{ResRow}
 use Rattle.farm_types.specs.declared.rows.ResState.{ResState}
-use Rattle.farm_types.proofs.Put.{AllByRecursion-weaker}
+use Rattle.farm_types.proofs.Put.{AllByRecursion-put, AllByRecursion-weaker}
 use Rattle.farm_types.proofs.Searched.{same_numbers}
+use Rattle.farm_sound.proofs.Add.{res_total}
 use Rattle.farm_sound.proofs.Lists.{none_pass}
 use Rattle.farm_sound.proofs.Own.{itself}
 use Rattle.farm_sound.proofs.Tests.{both, same_number}
@@ -26,22 +26,33 @@ use Rattle.farm_sound.specs.Place.{res_in}
 use Rattle.farm_pick.specs.Queued.{Queued}
 use Rattle.farm_core.specs.Drafted.{Drafted, without_claim}
 use Rattle.farm_core.specs.Following.{without_all}
-use Rattle.farm_core.specs.Leases.{AreNoted, Grows, IsNoted, is_dead_at, is_noted, lease_cmp, lease_of, may_end}
+use Rattle.farm_core.specs.Leases.{AreNoted, Grows, IsNoted, is_dead_at, is_noted, lease_cmp, lease_if, lease_of, may_end}
 use Rattle.farm_core.specs.declared.leases.Lease.{Lease}
 use Rattle.farm_core.proofs.Given.{taken_more}
 
 -- ---- rows that change
 
--- those that change are noted anew, the others were noted before
-pub noted_changed : (old news : BTreeSet Lease) → Grows old news → (test : ResRow → Bool) (f : ResRow → ResRow) (rows : List ResRow) → AreNoted old rows
-    → AreNoted news (map f (filter test rows)) → AreNoted news (change_where test f rows)
-noted_changed old news grows test f [] was now = tt
-noted_changed old news grows test f (r ∷ rows) was now = by (test r) now (noted_changed old news grows test f rows was.1)
-  where
-    by : (v : Bool) → AreNoted news (map f (cond v (r ∷ filter test rows) (filter test rows))) → (AreNoted news (map f (filter test rows)) → AreNoted news (change_where test f rows))
-        → AreNoted news (cond v (f r) r ∷ change_where test f rows)
-    by true now rest = (now.0, rest now.1)
-    by false now rest = ((λ may. grows (lease_of r) (was.0 may)), rest now)
+-- a lease that may end is noted if it is
+pub noted_if : (leases : BTreeSet Lease) (r : ResRow) → IfSome (lease_if r) (λ l. is_noted leases l ≡ true) → IsNoted leases r
+noted_if leases r here may = subst (λ v. IfSome (cond v (Some (lease_of r)) None) (λ l. is_noted leases l ≡ true)) may here
+
+-- those that are noted stay so as leases come
+pub noted_on : (old news : BTreeSet Lease) → Grows old news → (rows new : List ResRow) → AreNoted old rows → new ≡ rows → AreNoted news new
+noted_on old news grows rows new noted same = subst (AreNoted news) (sym same) (AllByRecursion-weaker (λ r was may. grows (lease_of r) (was may)) rows noted)
+
+-- and as one is put, or changed in its place
+pub noted_put : (old news : BTreeSet Lease) → Grows old news → (rows new : List ResRow) (row : ResRow) → AreNoted old rows → IsNoted news row → new ≡ put res_cmp rows row → AreNoted news new
+noted_put old news grows rows new row noted here is =
+    subst (AreNoted news) (sym is) (AllByRecursion-put res_cmp res_total row (IsNoted news) here rows (AllByRecursion-weaker (λ r was may. grows (lease_of r) (was may)) rows noted))
+
+noted_there : (leases : BTreeSet Lease) (rows : List ResRow) (i : ℕ) (x : ResRow) → AreNoted leases rows → IsNoted leases x → AreNoted leases (set rows i x)
+noted_there leases [] i x noted here = noted
+noted_there leases (r ∷ rows) zero x noted here = (here, noted.1)
+noted_there leases (r ∷ rows) (suc i) x noted here = (noted.0, noted_there leases rows i x noted.1 here)
+
+pub noted_set : (old news : BTreeSet Lease) → Grows old news → (rows new : List ResRow) (i : ℕ) (x : ResRow) → AreNoted old rows → IsNoted news x → new ≡ set rows i x → AreNoted news new
+noted_set old news grows rows new i x noted here is =
+    subst (AreNoted news) (sym is) (noted_there news rows i x (AllByRecursion-weaker (λ r was may. grows (lease_of r) (was may)) rows noted) here)
 
 -- a lease is noted besides the others
 pub still_noted : (same was now : Bool) → now ≡ cond same true was → was ≡ true → now ≡ true
@@ -147,19 +158,6 @@ module _ (now : ℕ) (rows : List ResRow) where
       by : (r : ResRow) → IsNoted leases r → (v : Bool) → may_end r ≡ v → is_dead now r ≡ false
       by r one true may = absurd (false≢true (ap (λ ls. is_noted (record { keys = ls }) (lease_of r)) (sym (no_keys leases.keys none)) ∙ one may))
       by r one false may = ap (λ v. v && nat_le r.deadline now) may
-
--- the number of one that is dead is small
-pub dead_small : (t n : ℕ) (rows : List ResRow) → AllByRecursion IsSmallRes rows → is_dead_at t rows n ≡ true → IsSmall n
-dead_small t n [] small dead = absurd (false≢true dead)
-dead_small t n (r ∷ rows) small dead = by (r.number == n) refl dead (λ rest. dead_small t n rows small.1 rest)
-  where
-    by : (v : Bool) → (r.number == n) ≡ v → option_map_or (is_dead t) (cond v (Some r) (res_in rows n)) false ≡ true → (is_dead_at t rows n ≡ true → IsSmall n) → IsSmall n
-    by true is dead rest = subst IsSmall (same_number r.number n is) small.0.number
-    by false is dead rest = rest dead
-
-pub if_some : {P Q : ℕ → Type 0} (o : Option ℕ) → ((n : ℕ) → P n → Q n) → IfSome o P → IfSome o Q
-if_some None so p = tt
-if_some (Some n) so p = so n p
 
 -- ---- the dead end one after the other
 

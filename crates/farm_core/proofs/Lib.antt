@@ -2,11 +2,8 @@ pub mod Small
 pub mod Replies
 pub mod Marks
 pub mod Sound
-pub mod Upto
-pub mod Edited
 pub mod Windows
 pub mod Tabled
-pub mod Puts
 pub mod EditLemmas
 pub mod JobLemmas
 pub mod AcceptedCalls

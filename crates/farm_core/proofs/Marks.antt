@@ -1,18 +1,22 @@
 -- The marks of jobs, as rows come and change.
 use Rattle.std.proofs.Common.{◌≡◌, ◌∙◌, ◌<◌, ◌≤◌, ◌+◌, ◌==◌, ◌++◌, ℕ, zero, suc, List, [], ◌∷◌, map, length, take, drop, set, get_or, slice_get, Bool, true, false, cond, Some, None, IfSome, refl, sym, ap, subst, arith}
 use Rattle.std.specs.Prelude.{option_map}
-use Rattle.std.specs.List.{insert}
+use Rattle.std.specs.List.{AllByRecursion, insert}
+use Rattle.std.specs.List.Sorted.{IsStrictlySortedBy}
 use Rattle.std.proofs.lemmas.Bool.Decides.{nat_tests}
 use Rattle.std.proofs.lemmas.List.{length-map, length-set}
 use Rattle.farm_types.specs.Limits.{most_wants}
 use Rattle.farm_types.specs.Farm.{Farm}
-use Rattle.farm_types.specs.Table.{change_where}
+use Rattle.farm_types.specs.Table.{change_where, job_cmp}
 use Rattle.farm_types.specs.declared.claims.ClaimKind.{ClaimKind}
 use Rattle.farm_types.specs.declared.rows.JobRow.{JobRow}
 use Rattle.farm_types.specs.declared.rows.Want.{Want}
 use Rattle.farm_core.specs.Edits.{job_changed}
 use Rattle.farm_core.specs.Marks.{AreMarks, IsMark, IsMarked, IsMarkedUpTo, IsNumber, IsNumbered, number_at}
-use Rattle.farm_core.specs.Orderly.{IsOrderly, IsPlaceOf}
+use Rattle.farm_table.specs.Near.{IsFitJob}
+use Rattle.farm_table.specs.Tabled.{IsPartly, upto}
+use Rattle.farm_table.proofs.Upto.{upto_long}
+use Rattle.farm_core.specs.Placed.{IsPlaceOf}
 use Rattle.farm_core.specs.Serving.{member_wants, want_at, want_in, wants_of}
 use Rattle.farm_core.proofs.EditLemmas.{keeps_job}
 use Rattle.farm_core.proofs.JobLemmas.{filter_near}
@@ -107,18 +111,25 @@ module _ (f : ℕ → Want) (last : ℕ) where
   marks_push (q ∷ rows) [] r m are low row is = (subst (λ x. IsMark f last x m) row is, tt)
   marks_push (q ∷ rows) (n ∷ marks) r m are low row is = (are.0, marks_push rows marks r m are.1 (omega arith) row is)
 
+  mark_changed : (edit : JobEdit) (r : JobRow) (m : Mark) → IsMark f last r m → (v : Bool) → IsMark f last (cond v (job_changed edit r) r) m
+  mark_changed edit r m is true = record {
+    number = is.number ∙ sym ((keeps_job edit).number r);
+    group = is.group ∙ sym ((keeps_job edit).group r);
+    want = subst (λ w. IsNumber f last w m.want) (sym (keeps_want edit r)) is.want;
+  }
+  mark_changed edit r m is false = is
+
   pub marks_change : (edit : JobEdit) (test : JobRow → Bool) (rows : List JobRow) (marks : List Mark) → AreMarks f last rows marks → AreMarks f last (change_where test (job_changed edit) rows) marks
   marks_change edit test rows [] are = tt
   marks_change edit test [] (m ∷ marks) are = absurd are
-  marks_change edit test (r ∷ rows) (m ∷ marks) are = (by (test r), marks_change edit test rows marks are.1)
-    where
-      by : (v : Bool) → IsMark f last (cond v (job_changed edit r) r) m
-      by true = record {
-        number = are.0.number ∙ sym ((keeps_job edit).number r);
-        group = are.0.group ∙ sym ((keeps_job edit).group r);
-        want = subst (λ w. IsNumber f last w m.want) (sym (keeps_want edit r)) are.0.want;
-      }
-      by false = are.0
+  marks_change edit test (r ∷ rows) (m ∷ marks) are = (mark_changed edit r m are.0 (test r), marks_change edit test rows marks are.1)
+
+  pub marks_upto : (edit : JobEdit) (test : JobRow → Bool) (n : ℕ) (rows : List JobRow) (marks : List Mark) → AreMarks f last rows marks → AreMarks f last (upto test (job_changed edit) n rows) marks
+  unfolding upto
+  marks_upto edit test zero rows marks are = are
+  marks_upto edit test (suc n) rows [] are = tt
+  marks_upto edit test (suc n) [] (m ∷ marks) are = absurd are
+  marks_upto edit test (suc n) (r ∷ rows) (m ∷ marks) are = (mark_changed edit r m are.0 (test r), marks_upto edit test n rows marks are.1)
 
   -- ---- numbers that are the same
 
@@ -152,21 +163,35 @@ pub want_dropped : (rows : List JobRow) (start group i : ℕ) → want_at (drop 
 want_dropped rows start group i = ap (want_in group) (got_dropped start rows i)
 
 -- the members of a group are among the four rows from its place on
-pub members_near : (F : Farm) (group start : ℕ) → IsOrderly F → start ≤ length F.jobs → IsPlaceOf (λ (r : JobRow). r.number) F.jobs group start
+pub members_near : (F : Farm) (group start : ℕ) → IsStrictlySortedBy job_cmp F.jobs → AllByRecursion IsFitJob F.jobs → start ≤ length F.jobs → IsPlaceOf (λ (r : JobRow). r.number) F.jobs group start
     → member_wants (take most_wants (drop start F.jobs)) group ≡ wants_of F ClaimKind.Group group
-members_near F group start orderly low place =
+members_near F group start sorted fit low place =
     ap (map (λ (m : JobRow). m.want))
-    (filter_near (λ (j : JobRow). j.group == group) 4 start F.jobs low (none_before F.jobs (JobEdit.Start group) orderly.near start low place)
-    (no_member F.jobs orderly.near group start orderly.jobs place))
+    (filter_near (λ (j : JobRow). j.group == group) 4 start F.jobs low (none_before F.jobs (JobEdit.Start group) fit start low place)
+    (no_member F.jobs fit group start sorted place))
 
 -- ---- the marks of a table
 
-pub marked_change : (last : ℕ) (edit : JobEdit) (test : JobRow → Bool) (rows : List JobRow) (marks : List Mark) → IsMarked last rows marks → IsMarked last (change_where test (job_changed edit) rows) marks
-marked_change last edit test rows marks is = record {
+pub marked_change : (last : ℕ) (edit : JobEdit) (test : JobRow → Bool) (rows new : List JobRow) (marks : List Mark) → IsMarked last rows marks → new ≡ change_where test (job_changed edit) rows → IsMarked last new marks
+marked_change last edit test rows new marks is made = rw made (record {
   all = is.all ∙ sym (length-map rows (λ r. cond (test r) (job_changed edit r) r));
   want_of = is.want_of;
   are = marks_change is.want_of last edit test rows marks is.are;
-}
+})
+
+-- also where the change has come so far, and no further
+pub marked_partly : (last : ℕ) (edit : JobEdit) (test : JobRow → Bool) (rows new : List JobRow) (marks : List Mark) → IsMarked last rows marks → IsPartly test (job_changed edit) rows new → IsMarked last new marks
+marked_partly last edit test rows new marks is partly = rw partly.1 (record {
+  all = is.all ∙ sym (upto_long test (job_changed edit) partly.0 rows);
+  want_of = is.want_of;
+  are = marks_upto is.want_of last edit test partly.0 rows marks is.are;
+})
+
+-- a want that was given a number leaves them
+pub marked_on : (last next : ℕ) (rows new : List JobRow) (marks : List Mark) (w : Want) (k : ℕ) → IsMarked last rows marks → IsNumbered rows marks last next w k → new ≡ rows → IsMarked next new marks
+marked_on last next rows new marks w k is given same =
+    let more = given is.want_of is.are in
+    rw same (record { all = is.all; want_of = more.0; are = more.1 })
 
 pub marked_set : (last next : ℕ) (rows : List JobRow) (marks : List Mark) (i : ℕ) (r : JobRow) (m : Mark) → IsMarked last rows marks → IsNumbered rows marks last next r.want m.want → m.number ≡ r.number → m.group ≡ r.group
     → IsMarked next (set rows i r) (set marks i m)

@@ -111,7 +111,3 @@ put_next rows i d row sorted low at = by_suc rows i sorted low at ∙ ap (λ n. 
         let less : kept_cmp r row ≡ Less = below r rows i sorted.0 (omega arith) at in
         let flipped : kept_cmp row r ≡ Greater = kept_total.antisymm row r ∙ ap ordering_reverse less in
         rw flipped (ap (λ rest. r ∷ rest) (by_suc rows i sorted.1 (omega arith) at))
-
-pub none_sorted : IsStrictlySortedBy kept_cmp []
-unfolding IsStrictlySortedBy
-none_sorted = tt

@@ -1,31 +1,24 @@
 -- What the program does for one claim is what the machine does.
-use Rattle.std.proofs.Common.{◌≡◌, ℕ, zero, suc, ◌+◌, ◌<◌, ◌≤◌, ◌==◌, ◌++◌, List, [], ◌∷◌, length, map, take, drop, get_or, Bool, true, false, cond, Option, Some, None, IsSomeAnd, refl, sym, ap, ◌∙◌, arith, add-one, append-nil}
+use Rattle.std.proofs.Common.{◌≡◌, ℕ, zero, suc, ◌+◌, ◌<◌, ◌==◌, ◌++◌, List, [], ◌∷◌, length, map, take, drop, get_or, Bool, true, false, cond, Option, Some, None, IsSomeAnd, refl, sym, ap, ◌∙◌, arith, add-one, append-nil}
 use Rattle.std.specs.List.{AllByRecursion, filter, fold, zip}
 use Rattle.std.specs.Prelude.{slice_get}
 use Rattle.std.specs.Option.{option_map, option_map_or}
-use Rattle.std.specs.List.Sorted.{IsStrictlySortedBy}
-use Rattle.std.specs.declared.cmp.Ordering.TheVariants.{Less}
-use Rattle.std.proofs.lemmas.Cmp.{ranked}
-use Rattle.std.proofs.lemmas.List.{take_more, map-append, length-map}
+use Rattle.std.proofs.lemmas.List.{take_more, map-append}
 use Rattle.std.proofs.lemmas.List.Elements.{filter_map-append}
-use Rattle.farm_types.specs.Limits.{most_wants}
 use Rattle.farm_types.specs.Farm.{Farm, members, res_of}
-use Rattle.farm_types.specs.Table.{job_cmp}
 use Rattle.farm_types.specs.Pass.{Served, give, give_res, give_group, give_member, pass_over, serve}
 use Rattle.farm_types.specs.Pick.{Claimed, least, is_free}
-use Rattle.farm_types.specs.Small.{IsSmall, IsSmallJob}
+use Rattle.farm_types.specs.Small.{IsSmall}
 use Rattle.farm_types.specs.declared.claims.ClaimKind.{ClaimKind}
 use Rattle.farm_types.specs.declared.rows.BoardRow.{BoardRow}
 use Rattle.farm_types.specs.declared.rows.JobRow.{JobRow}
 use Rattle.farm_types.specs.declared.rows.JobState.{JobState}
 use Rattle.farm_types.specs.declared.rows.ResRow.{ResRow}
 use Rattle.farm_types.specs.declared.rows.Want.{Want}
-use Rattle.farm_types.proofs.Put.{AllByRecursion-weaker}
 use Rattle.farm_pick.specs.Least.{boards_at}
 use Rattle.farm_sound.proofs.Lists.{filter_all}
-use Rattle.farm_sound.proofs.Tests.{same_number}
-use Rattle.farm_sound.proofs.Where.{AllByRecursion-both, AllByRecursion-map}
-use Rattle.farm_core.specs.Orderly.{IsOrderly, IsNear}
+use Rattle.farm_sound.proofs.Where.{AllByRecursion-map}
+use Rattle.farm_table.specs.Near.{IsFitJob}
 use Rattle.farm_core.specs.Drafted.{Drafted}
 use Rattle.farm_core.specs.Serving.{Asks, Serves, Tries, give_first, give_named}
 
@@ -91,41 +84,11 @@ given_named state [] bs F = refl
 given_named state (m ∷ ms) [] F = refl
 given_named state (m ∷ ms) (b ∷ bs) F = given_named state ms bs (give_member state F (m, b))
 
--- ---- a group is small
-
-rising : (rows : List JobRow) (low high : ℕ) → low ≤ high → IsStrictlySortedBy job_cmp rows → AllByRecursion (λ m. (low ≤ m.number) × (m.number < high)) rows
-    → low + length rows ≤ high
-unfolding IsStrictlySortedBy
-rising [] low high le sorted all = omega arith
-rising (m ∷ rows) low high le sorted all =
-    let rest = rising rows (m.number + 1) high (omega (arith, all.0.1)) sorted.1
-    (AllByRecursion-weaker (λ k two. (let less = ranked m.number k.number Less (sym two.0) in omega arith, two.1.1)) rows
-    (AllByRecursion-both (λ k. job_cmp m k ≡ Less) (λ k. (low ≤ k.number) × (k.number < high)) rows sorted.0 all.1)) in
-    omega (arith, rest, all.0.0)
-
-filter_sorted : (test : JobRow → Bool) (xs : List JobRow) → IsStrictlySortedBy job_cmp xs → IsStrictlySortedBy job_cmp (filter test xs)
-unfolding IsStrictlySortedBy
-filter_sorted test [] sorted = tt
-filter_sorted test (x ∷ xs) sorted = by (test x) (filter_sorted test xs sorted.1)
-  where
-    by : (v : Bool) → IsStrictlySortedBy job_cmp (filter test xs) → IsStrictlySortedBy job_cmp (cond v (x ∷ filter test xs) (filter test xs))
-    by true rest = (AllByRecursion-weaker (λ y two. two.0) (filter test xs) (filter_all (λ y. job_cmp x y ≡ Less) test xs sorted.0), rest)
-    by false rest = rest
-
-pub members_few : (F : Farm) (group : ℕ) → IsOrderly F → length (members F group) ≤ most_wants
-members_few F group orderly =
-    let near = filter_all IsNear (λ (j : JobRow). j.group == group) F.jobs orderly.near in
-    let long = rising (members F group) group (group + 4) (omega arith) (filter_sorted (λ (j : JobRow). j.group == group) F.jobs orderly.jobs)
-    (AllByRecursion-weaker (λ m two. let is = same_number m.group group two.1 in (omega (arith, two.0.0), omega (arith, two.0.1))) (members F group) near) in
-    omega (arith, long)
-
-pub wants_few : (F : Farm) (group : ℕ) (wants : List Want) → wants ≡ wants_of (members F group) → IsOrderly F → length wants ≤ most_wants
-wants_few F group wants is orderly = let few = members_few F group orderly in rw is (rw length-map few)
-
-pub numbers_small : (F : Farm) (group : ℕ) (numbers : List ℕ) → numbers ≡ numbers_of (members F group) → IsOrderly F → AllByRecursion IsSmall numbers
-numbers_small F group numbers is orderly =
-    rw is (AllByRecursion-map (λ m. IsSmallJob m × ((m.group == group) ≡ true)) IsSmall (λ (m : JobRow). m.number) (λ m two. two.0.number) (members F group)
-    (filter_all IsSmallJob (λ (j : JobRow). j.group == group) F.jobs orderly.small_jobs))
+-- the numbers of a group's members among some rows
+pub numbers_small : (rows : List JobRow) (group : ℕ) (numbers : List ℕ) → numbers ≡ numbers_of (filter (λ (j : JobRow). j.group == group) rows) → AllByRecursion IsFitJob rows → AllByRecursion IsSmall numbers
+numbers_small rows group numbers is fit =
+    rw is (AllByRecursion-map (λ m. IsFitJob m × ((m.group == group) ≡ true)) IsSmall (λ (m : JobRow). m.number) (λ m two. two.0.small.number) (filter (λ (j : JobRow). j.group == group) rows)
+    (filter_all IsFitJob (λ (j : JobRow). j.group == group) rows fit))
 
 -- ---- a claim is served, or not
 

@@ -3,7 +3,7 @@ use Rattle.std.proofs.Common.{◌≡◌, ◌≤◌, ◌==◌, ℕ, zero, suc, Li
 use Rattle.std.specs.List.{AllByRecursion, filter}
 use Rattle.std.specs.Option.{option_map_or}
 use Rattle.farm_types.specs.Farm.{Farm, job_of, res_of}
-use Rattle.farm_types.specs.Small.{IsSmall, held_by, IsSmallType, IsSmallBoard, IsSmallJob, AreSmall}
+use Rattle.farm_types.specs.Small.{IsSmall, held_by, IsSmallType, IsSmallBoard, IsSmallRes, AreSmall}
 use Rattle.farm_types.specs.Sound.{IsSound, IsBoardRow, IsHeldBy, job_hold, res_hold, shown_hold}
 use Rattle.farm_types.specs.declared.rows.Holder.{Holder}
 use Rattle.farm_types.specs.declared.rows.BoardRow.{BoardRow}
@@ -11,7 +11,7 @@ use Rattle.farm_types.specs.declared.rows.JobRow.{JobRow}
 use Rattle.farm_types.specs.declared.rows.ResRow.{ResRow}
 use Rattle.farm_types.specs.declared.rows.MetaRow.{MetaRow}
 use Rattle.farm_types.specs.declared.calls.Changes.{Changes}
-use Rattle.farm_core.specs.Orderly.{IsOrderly}
+use Rattle.farm_table.specs.Near.{IsFitJob}
 use Rattle.farm_core.specs.Tracks.{AreSmallRows}
 use Rattle.farm_core.proofs.Small.{small_frequency}
 use Rattle.farm_types.proofs.Put.{AllByRecursion-weaker}
@@ -40,31 +40,30 @@ module _ (F : Farm) (sound : IsSound F) where
     numbers = (omega (arith, is.0.since), (omega (arith, is.0.checked, sound.steady.clock), tt));
   }
 
-  -- its types and its boards can be tables
+  -- its rows can be tables
   pub small_types : AllByRecursion IsSmallType F.types
   small_types = AllByRecursion-weaker (λ r is. small_frequency r.check is.check) F.types sound.steady.types
 
   pub small_boards : AllByRecursion IsSmallBoard F.boards
   small_boards = AllByRecursion-weaker small_board F.boards (AllByRecursion-both (IsBoardRow F) (λ b. IsHeldBy F b b.holder) F.boards sound.steady.boards sound.held.boards)
 
-  pub IsOrderly-sound : IsOrderly F
-  IsOrderly-sound = record {
-    jobs = sound.steady.jobs_sorted;
-    reservations = sound.steady.reservations_sorted;
-    kept = sound.steady.kept_sorted;
-    small_jobs = AllByRecursion-weaker (λ r is. record { number = omega (arith, is.number.1, sound.steady.next.1); group = omega (arith, is.group.0, is.number.1, sound.steady.next.1) }) F.jobs sound.steady.jobs;
-    small_reservations = AllByRecursion-weaker (λ r is. record { number = omega (arith, is.number.1, sound.steady.next.1); deadline = omega (arith, is.deadline, sound.steady.clock) }) F.reservations sound.steady.reservations;
-    near = AllByRecursion-weaker (λ r is. is.group) F.jobs sound.steady.jobs;
-  }
+  pub fit_jobs : AllByRecursion IsFitJob F.jobs
+  fit_jobs = AllByRecursion-weaker (λ r is. record {
+    small = record { number = omega (arith, is.number.1, sound.steady.next.1); group = omega (arith, is.group.0, is.number.1, sound.steady.next.1) };
+    near = is.group;
+  }) F.jobs sound.steady.jobs
+
+  pub small_reservations : AllByRecursion IsSmallRes F.reservations
+  small_reservations = AllByRecursion-weaker (λ r is. record { number = omega (arith, is.number.1, sound.steady.next.1); deadline = omega (arith, is.deadline, sound.steady.clock) }) F.reservations sound.steady.reservations
 
 -- a group that has a member has a small number
-small_group : (group : ℕ) (jobs : List JobRow) → AllByRecursion IsSmallJob jobs → 1 ≤ length (filter (λ j. j.group == group) jobs) → IsSmall group
+small_group : (group : ℕ) (jobs : List JobRow) → AllByRecursion IsFitJob jobs → 1 ≤ length (filter (λ j. j.group == group) jobs) → IsSmall group
 small_group group [] all some = absurd (omega arith)
 small_group group (j ∷ jobs) all some = by (j.group == group) refl some (λ rest. small_group group jobs all.1 rest)
   where
     by : (v : Bool) → (j.group == group) ≡ v → 1 ≤ length (cond v (j ∷ filter (λ k. k.group == group) jobs) (filter (λ k. k.group == group) jobs))
         → (1 ≤ length (filter (λ k. k.group == group) jobs) → IsSmall group) → IsSmall group
-    by true is some rest = subst IsSmall (same_number j.group group is) all.0.group
+    by true is some rest = subst IsSmall (same_number j.group group is) all.0.small.group
     by false is some rest = rest some
 
 -- and so has the group that collects
@@ -75,7 +74,7 @@ small_collector F sound = by F.collector refl
     by zero is = omega (arith, is)
     by (suc n) is =
         let two = sound.collecting.several (omega (arith, is)) in
-        small_group F.collector F.jobs (IsOrderly-sound F sound).small_jobs (omega (arith, two))
+        small_group F.collector F.jobs (fit_jobs F sound) (omega (arith, two))
 
 -- the changed rows' numbers and the sound farm's own four are small
 pub AreSmall-sound : (c : Changes) (G : Farm) → AreSmallRows c → c.meta ≡ record { clock = G.clock; collector = G.collector; count = G.count; next = G.next } → IsSound G → AreSmall c

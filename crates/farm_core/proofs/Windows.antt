@@ -17,7 +17,8 @@ use Rattle.farm_types.specs.declared.rows.JobRow.{JobRow}
 use Rattle.farm_core.specs.declared.job_edit.JobEdit.{JobEdit}
 use Rattle.farm_types.specs.declared.rows.ResRow.{ResRow}
 use Rattle.farm_core.specs.Edits.{job_passes, first_of}
-use Rattle.farm_core.specs.Orderly.{IsNear, IsPlaceOf}
+use Rattle.farm_table.specs.Near.{IsFitJob, IsNear}
+use Rattle.farm_core.specs.Placed.{IsPlaceOf}
 
 same_or_less : (j k : ℕ) → j ≤ k → (j ≡ k) ⊎ (j < k)
 same_or_less j k le = grind arith
@@ -116,19 +117,19 @@ out_of_reach : (edit : JobEdit) (j : JobRow) → IsNear j → (v : Bool) → job
 out_of_reach edit j near true passes out = absurd (out (in_reach edit j near passes))
 out_of_reach edit j near false passes out = refl
 
-module _ (jobs : List JobRow) (edit : JobEdit) (near : AllByRecursion IsNear jobs) where
+module _ (jobs : List JobRow) (edit : JobEdit) (fit : AllByRecursion IsFitJob jobs) where
   pub none_before : (start : ℕ) → start ≤ length jobs → IsPlaceOf (λ (r : JobRow). r.number) jobs (first_of edit) start → (k : ℕ) (d : JobRow) → k < start → job_passes edit (get_or jobs k d) ≡ false
-  none_before start in_range place k d low = out_of_reach edit (get_or jobs k d) (all_at IsNear jobs k d near (omega arith)) _ refl (λ both. let less = place.below k d low in absurd (omega (arith, both.0)))
+  none_before start in_range place k d low = out_of_reach edit (get_or jobs k d) (all_at IsFitJob jobs k d fit (omega arith)).near _ refl (λ both. let less = place.below k d low in absurd (omega (arith, both.0)))
 
   pub none_behind : (end : ℕ) → IsPlaceOf (λ (r : JobRow). r.number) jobs (first_of edit + 4) end → (k : ℕ) (d : JobRow) → end ≤ k → k < length jobs → job_passes edit (get_or jobs k d) ≡ false
-  none_behind end place k d high low = out_of_reach edit (get_or jobs k d) (all_at IsNear jobs k d near low) _ refl (λ both. let more = place.above k d high low in absurd (omega (arith, both.1)))
+  none_behind end place k d high low = out_of_reach edit (get_or jobs k d) (all_at IsFitJob jobs k d fit low).near _ refl (λ both. let more = place.above k d high low in absurd (omega (arith, both.1)))
 
 -- none from four places behind a group's first one on is a member
-pub no_member : (jobs : List JobRow) (near : AllByRecursion IsNear jobs) (group start : ℕ) → IsStrictlySortedBy job_cmp jobs → IsPlaceOf (λ (r : JobRow). r.number) jobs group start
+pub no_member : (jobs : List JobRow) (fit : AllByRecursion IsFitJob jobs) (group start : ℕ) → IsStrictlySortedBy job_cmp jobs → IsPlaceOf (λ (r : JobRow). r.number) jobs group start
     → (k : ℕ) (d : JobRow) → start + 4 ≤ k → k < length jobs → ((get_or jobs k d).group == group) ≡ false
-no_member jobs near group start sorted place k d far low =
+no_member jobs fit group start sorted place k d far low =
     let high = far_on (λ (r : JobRow). r.number) jobs group start 4 sorted place k d far low in
-    out_of_reach (JobEdit.Start group) (get_or jobs k d) (all_at IsNear jobs k d near low) _ refl (λ both. absurd (omega (arith, both.1, high)))
+    out_of_reach (JobEdit.Start group) (get_or jobs k d) (all_at IsFitJob jobs k d fit low).near _ refl (λ both. absurd (omega (arith, both.1, high)))
 
 -- a row is found by its number
 pub found_res : (rows : List ResRow) (i number : ℕ) (x : ResRow) → IsStrictlySortedBy res_cmp rows → i < length rows → x ≡ get_or rows i x → x.number ≡ number

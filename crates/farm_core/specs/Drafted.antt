@@ -3,11 +3,10 @@
 use Rattle.std.specs.Prelude.{◌≡◌, ◌==◌, ◌+◌, ℕ, List, false, not}
 use Rattle.std.specs.List.{AllByRecursion, filter}
 use Rattle.std.specs.Option.{option_map_or}
-use Rattle.std.specs.declared.cmp.Ordering.{Ordering}
 use Rattle.farm_types.specs.Limits.{lease}
 use Rattle.farm_types.specs.Table.{put, put_all, type_cmp, board_cmp, job_cmp, res_cmp, kept_cmp}
 use Rattle.farm_types.specs.Farm.{Farm, job_of}
-use Rattle.farm_types.specs.Small.{IsSmallJob, IsSmallRes, IsSmallKept}
+use Rattle.farm_types.specs.Small.{IsSmallKept}
 use Rattle.farm_types.specs.Pick.{Claimed, res_claim}
 use Rattle.farm_types.specs.Change.{act, done_with, new_res}
 use Rattle.farm_pick.specs.Queued.{Lists, Queued, queued_of}
@@ -15,31 +14,20 @@ use Rattle.farm_pick.specs.Kept.{queued_cmp}
 use Rattle.farm_types.specs.declared.calls.Cmd.{Cmd}
 use Rattle.farm_types.specs.declared.calls.Changes.{Changes}
 use Rattle.farm_core.specs.declared.tables.Tables.{Tables}
-use Rattle.farm_core.specs.Leases.{AreNoted}
-use Rattle.farm_core.specs.Orderly.{IsOrderly}
-use Rattle.farm_core.specs.Plain.{plain_farm}
 
 pub record Drafted : Type 0 where
   pub start : Farm
   pub farm : Farm
   pub queues : Lists
 
--- the rows that were logged, put into those at the start, give those that are there, and fit
-pub record IsLogged {R : Type 0} (cmp : R → R → Ordering) (Fits : R → Type 0)
-    (start log rows : List R) : Type 0 where
-  pub leads : put_all cmp start log ≡ rows
-  pub fit : AllByRecursion Fits log
-
--- the tables are in order, the logs lead to them from the start, and the leases are noted
+-- the logs lead to the tables from the start, and what was kept since is small
 pub record IsWhole (start : Farm) (c : Changes) (t : Tables) : Type 0 where
-  pub orderly : IsOrderly (plain_farm t)
   pub types : put_all type_cmp start.types t.types.log ≡ t.types.rows
   pub boards : put_all board_cmp start.boards t.boards.log ≡ t.boards.rows
-  pub jobs : IsLogged job_cmp IsSmallJob start.jobs c.jobs.items t.jobs
-  pub reservations : IsLogged res_cmp IsSmallRes start.reservations c.reservations.items
-      t.reservations.items
-  pub kept : IsLogged kept_cmp IsSmallKept start.kept c.kept.items t.kept
-  pub noted : AreNoted t.leases t.reservations.items
+  pub jobs : put_all job_cmp start.jobs t.jobs.log ≡ t.jobs.rows
+  pub reservations : put_all res_cmp start.reservations t.reservations.log ≡ t.reservations.rows
+  pub kept : put_all kept_cmp start.kept c.kept.items ≡ t.kept
+  pub small : AllByRecursion IsSmallKept c.kept.items
 
 -- the draft, come to another farm
 abbrev pub at_farm : Farm → Drafted → Drafted

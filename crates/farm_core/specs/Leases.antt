@@ -1,5 +1,6 @@
 -- Which leases are noted: each that may yet end.
-use Rattle.std.specs.Prelude.{◌≡◌, ◌||◌, ℕ, Bool, true, false, List}
+use Rattle.std.specs.Prelude.{◌≡◌, ◌||◌, ℕ, Bool, true, false, List, Option, Some, None}
+use Rattle.std.specs.Prelude.{if◌then◌else◌}
 use Rattle.std.specs.List.{AllByRecursion}
 use Rattle.std.specs.BTreeSet.{BTreeSet, contains}
 use Rattle.std.specs.Option.{option_map_or}
@@ -31,6 +32,10 @@ IsNoted leases r = may_end r ≡ true → is_noted leases (lease_of r) ≡ true
 
 abbrev pub AreNoted : BTreeSet Lease → List ResRow → Type 0
 AreNoted leases rows = AllByRecursion (IsNoted leases) rows
+
+-- the lease of a reservation, if it may end
+abbrev pub lease_if : ResRow → Option Lease
+lease_if r = if may_end r then Some (lease_of r) else None
 
 -- no lease is lost
 abbrev pub Grows : BTreeSet Lease → BTreeSet Lease → Type 0

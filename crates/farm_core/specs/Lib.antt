@@ -1,5 +1,5 @@
 pub mod Plain
-pub mod Orderly
+pub mod Placed
 pub mod Leases
 pub mod Replies
 pub mod Marks
@@ -9,7 +9,6 @@ pub mod Came
 pub mod Following
 pub mod Edits
 pub mod Collecting
-pub mod Calls
 pub mod Serving
 pub mod Ahead
 pub mod Shown

@@ -6,8 +6,8 @@ abbrev pub plain_farm : Tables → Farm
 plain_farm t = record {
   types = t.types.rows;
   boards = t.boards.rows;
-  jobs = t.jobs;
-  reservations = t.reservations.items;
+  jobs = t.jobs.rows;
+  reservations = t.reservations.rows;
   kept = t.kept;
   clock = t.clock;
   collector = t.collector;

@@ -10,9 +10,6 @@ ghost use Rattle.farm_pick.specs.Queued.{lists_of};
 ghost use Rattle.farm_core.specs.Following.{FollowsIn};
 ghost use Rattle.farm_core.specs.Drafted.{at_farm, Acts, IsFresh};
 ghost use Rattle.farm_core.specs.Plain.{plain_farm};
-ghost use Rattle.farm_core.specs.Orderly.{IsOrderly};
-ghost use Rattle.farm_core.specs.Calls.{IsSmallCmd};
-ghost use Rattle.farm_core.specs.Leases.{AreNoted};
 ghost use Rattle.farm_core.specs.Tracks.{Tracks, AreSmallRows, IsSmallReply};
 
 use crate::draft::Draft;
@@ -29,12 +26,10 @@ impl Tables {
         requires sound { IsSound (plain_farm self.old) }
         requires accepted { None ≡ refusal (plain_farm self.old) call.now }
         requires fits { self.old.queues ≡ lists_of (plain_farm self.old) }
-        requires noted { AreNoted self.old.leases (plain_farm self.old).reservations }
         ensures farm { OnOk result
             (plain_farm self.new ≡ (change (plain_farm self.old) call.entry.now).farm) }
         ensures reply { IfOk result (λ r. r.0 ≡ (change (plain_farm self.old) call.entry.now).reply) }
         ensures queues { OnOk result (self.new.queues ≡ lists_of (plain_farm self.new)) }
-        ensures noted { OnOk result (AreNoted self.new.leases (plain_farm self.new).reservations) }
         ensures rows { IfOk result (λ r. put_rows (plain_farm self.old) r.1 ≡ plain_farm self.new) }
         ensures small { IfOk result (λ r. AreSmallRows r.1) }
         ensures meta { IfOk result (λ r. r.1.meta ≡ record {
@@ -68,7 +63,6 @@ impl Draft {
     /// What the command does.
     fn act(self, call: &Call) -> Result<(Draft, Reply), AllocError>
         requires sound { IsSound self.farm }
-        requires small { IsSmallCmd call.now.cmd }
         requires clock { self.farm.clock ≤ last_moment }
         requires next { self.farm.next ≤ numbers_end }
         requires begun { self.start ≡ self.farm }
@@ -93,7 +87,6 @@ impl Draft {
     /// What a command other than a pass does. Gives the number of its reply.
     fn act_numbered(mut self, call: &Call) -> Result<(Draft, u64), AllocError>
         requires numbered { call.now.cmd ≢ Cmd.Pass }
-        requires small { IsSmallCmd call.now.cmd }
         requires clock { self.farm.clock ≤ last_moment }
         requires next { self.farm.next ≤ numbers_end }
         requires fresh { IsFresh self.farm.next self.queues.claims }

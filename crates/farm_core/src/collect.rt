@@ -9,7 +9,6 @@ ghost use Rattle.farm_types.specs.declared.rows.JobRow.{JobRow};
 ghost use Rattle.farm_pick.specs.Queued.{idle_boards};
 ghost use Rattle.farm_core.specs.Collecting.{Collects, HasWant};
 ghost use Rattle.farm_core.specs.Drafted.{at_farm};
-ghost use Rattle.farm_core.specs.Orderly.{IsOrderly};
 ghost use Rattle.farm_core.specs.Plain.{plain_farm};
 
 use crate::draft::Draft;
@@ -25,7 +24,6 @@ impl Tables {
     /// The name of the first free board, in name order, that fits what a job wants. At most one
     /// test a free board.
     fn pick_for_job(&self, number: u64) -> Result<Option<Name>, AllocError>
-        requires orderly { IsOrderly (plain_farm self.now) }
         requires free { self.now.queues.boards ≡ idle_boards (plain_farm self.now) }
         ensures { IfOk result (λ name. (j : JobRow) → HasWant (plain_farm self.now) number j
             → name ≡ option_map (λ (b : BoardRow). b.name) (first_free (plain_farm self.now) j.want)) }

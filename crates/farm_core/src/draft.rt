@@ -1,35 +1,28 @@
-//! A draft: the tables on their way from one farm to another, and the rows that have changed so
-//! far. Each table has one edit, which logs the changed rows as well; no command writes a table
-//! otherwise.
+//! A draft: the tables on their way from one farm to another. Each table logs the rows that change;
+//! no command writes a table otherwise.
 ghost use Rattle.std.specs.Prelude.{◌≡◌, IfOk};
 ghost use Rattle.farm_types.specs.Table.{put, job_cmp};
 ghost use Rattle.farm_types.specs.Farm.{Farm, put_res, put_kept};
-ghost use Rattle.farm_types.specs.Small.{IsSmallJob, IsSmallRes};
-ghost use Rattle.farm_types.specs.Small.{IsSmallKept};
+ghost use Rattle.farm_types.specs.Small.{IsSmallJob, IsSmallRes, IsSmallKept};
 ghost use Rattle.farm_pick.specs.Kept.{queued_cmp};
 ghost use Rattle.farm_core.specs.Plain.{plain_farm};
-ghost use Rattle.farm_core.specs.Leases.{AreNoted};
-ghost use Rattle.farm_core.specs.Orderly.{IsOrderly, IsNear};
+ghost use Rattle.farm_table.specs.Near.{IsNear};
 ghost use Rattle.farm_core.specs.Tracks.{Tracks};
 ghost use Rattle.farm_core.specs.Drafted.{at_farm, without_claim, IsFresh};
 
-use crate::job_table::JobTable;
-use crate::leases::note_lease;
 use crate::tables::{Tables, no_changes};
 use farm_start::Start;
 use farm_types::calls::Changes;
 use farm_types::claims::Claim;
 use farm_types::rows::{JobRow, KeptRow, ResRow};
-use farm_types::table::upsert;
 use farm_types::words::Name;
 use std::alloc::AllocError;
 use std::marker::Model;
-use std::mem::replace;
 
-/// The tables are in order, each lease that may end is noted, and the rows that have changed since
-/// the start, put into the farm as it then was, give the tables. Types and boards log their own. A step takes the draft and gives it back: one that fails for
-/// want of memory leaves none. Tables and changes lie in boxes, since they take some 550 bytes and a
-/// draft is moved a dozen times for each claim that is served.
+/// The rows that have changed since the start, put into the farm as it then was, give the tables.
+/// Each table logs its own; kept replies are logged among the changes. A step takes the draft and
+/// gives it back: one that fails for want of memory leaves none. Tables and changes lie in boxes,
+/// since they take some 550 bytes and a draft is moved a dozen times for each claim that is served.
 #[derive(Drop)]
 pub struct Draft {
     /// The farm at the start, which only proofs read.
@@ -56,8 +49,6 @@ impl Model for Draft {
 impl Draft {
     /// A draft in which nothing has changed. It takes memory for two boxes, whatever the farm's size.
     pub fn of(mut tables: Tables) -> Result<Draft, AllocError>
-        requires orderly { IsOrderly (plain_farm tables) }
-        requires noted { AreNoted tables.leases (plain_farm tables).reservations }
         ensures { IfOk result (λ d. d ≡ record {
           start = plain_farm tables;
           farm = plain_farm tables;
@@ -68,6 +59,8 @@ impl Draft {
         let alloc = *tables.types.allocator();
         tables.types.take_changes();
         tables.boards.take_changes();
+        tables.jobs.take_changes();
+        tables.reservations.take_changes();
         Ok(Draft {
             start,
             tables: Box::new(alloc, tables)?,
@@ -80,12 +73,13 @@ impl Draft {
         ensures farm { plain_farm result.0 ≡ self.farm }
         ensures tracked { Tracks self.start result.1 self.farm }
         ensures queues { result.0.queues ≡ self.queues }
-        ensures noted { AreNoted result.0.leases self.farm.reservations }
     {
         let mut tables = Box::into_inner(self.tables);
         let mut changes = Box::into_inner(self.changes);
         changes.types = tables.types.take_changes();
         changes.boards = tables.boards.take_changes();
+        changes.jobs = tables.jobs.take_changes();
+        changes.reservations = tables.reservations.take_changes();
         (tables, changes)
     }
 
@@ -104,7 +98,7 @@ impl Draft {
     {
         let free = self.tables.queues.free_count();
         self.tables.boards.reserve(free)?;
-        self.changes.jobs.reserve(free)?;
+        self.tables.jobs.reserve(free)?;
         Ok(self)
     }
 
@@ -137,12 +131,8 @@ impl Draft {
         ensures { IfOk result
             (λ d. d ≡ at_farm (record self.farm { jobs = put job_cmp self.farm.jobs row }) self) }
     {
-        self.changes.jobs.push(row.copy()?)?;
         let tables = &mut *self.tables;
-        let none = JobTable::new(*tables.types.allocator());
-        let former = replace(&mut tables.jobs, none);
-        let jobs = former.put(row)?;
-        tables.jobs = jobs;
+        tables.jobs.put(row)?;
         Ok(self)
     }
 
@@ -151,10 +141,8 @@ impl Draft {
         requires { IsSmallRes row }
         ensures { IfOk result (λ d. d ≡ at_farm (put_res self.farm row) self) }
     {
-        self.changes.reservations.push(row.copy()?)?;
         let tables = &mut *self.tables;
-        note_lease(&mut tables.leases, &row)?;
-        upsert(&mut tables.reservations, row)?;
+        tables.reservations.put(row)?;
         Ok(self)
     }
 

@@ -1,64 +1,26 @@
-//! The edits of the tables: rows are changed in their places, and logged.
-ghost use Rattle.std.specs.Prelude.{◌≡◌, ◌++◌, ◌≤◌, ◌<◌, ◌==◌, ℕ, false, map, length, get_or, OnOk};
-ghost use Rattle.std.specs.Prelude.{IfOk};
-ghost use Rattle.std.specs.List.{filter};
-ghost use Rattle.std.specs.List.Sorted.{IsStrictlySortedBy};
-ghost use Rattle.farm_types.specs.Table.{job_cmp, res_cmp, change_where};
+//! The edits of a draft: rows are changed in their places, and logged.
+ghost use Rattle.std.specs.Prelude.{◌≡◌, ◌==◌, IfOk};
+ghost use Rattle.farm_types.specs.Table.{change_where};
 ghost use Rattle.farm_types.specs.Farm.{Farm};
 ghost use Rattle.farm_types.specs.Pass.{change_jobs, change_res};
 ghost use Rattle.farm_types.specs.Small.{IsSmall, IsSmallRes};
-ghost use Rattle.farm_types.specs.declared.rows.JobRow.{JobRow};
 ghost use Rattle.farm_types.specs.declared.rows.ResRow.{ResRow};
 ghost use Rattle.farm_core.specs.Drafted.{at_farm};
 ghost use Rattle.farm_core.specs.Plain.{plain_farm};
 ghost use Rattle.farm_core.specs.Edits.{IfAfterCheck, job_passes, job_changed, first_of};
 ghost use Rattle.farm_core.specs.Edits.{res_passes, res_changed, board_after, is_job_in, is_res_in};
-ghost use Rattle.farm_core.specs.Orderly.{IsOrderly, IsPlaceOf};
 ghost use Rattle.farm_core.specs.Tracks.{Tracks};
 
 use crate::draft::Draft;
-use crate::edit::change_rows;
 use crate::held::{Becomes, OfJobs, OfReservations};
 use crate::job_edit::JobEdit;
-use crate::job_table::JobTable;
-use crate::leases::note_leases;
 use crate::res_edit::ResEdit;
 use crate::tables::Tables;
 use farm_types::calls::Changes;
-use farm_types::limits::MOST_WANTS;
-use farm_types::rows::{JobRow, ResRow};
 use std::alloc::AllocError;
-use std::mem::replace;
-
-/// How far the numbers of a group's members reach.
-pub const GROUP_REACH: u64 = MOST_WANTS as u64;
 
 /// How many places from a guess on are looked at before a search.
 pub const GUESS_REACH: usize = 5;
-
-/// How many jobs have a smaller number, by binary search.
-pub fn place_of(jobs: &[JobRow], number: u64) -> usize
-    requires { IsStrictlySortedBy job_cmp jobs.now }
-    ensures within { result ≤ length jobs.now }
-    ensures place { IsPlaceOf (λ (r : JobRow). r.number) jobs.now number result }
-{
-    match jobs.binary_search_by(|row| row.number.cmp(&number)) {
-        Ok(at) => at,
-        Err(at) => at,
-    }
-}
-
-/// How many reservations have a smaller number, by binary search.
-pub fn res_place_of(reservations: &[ResRow], number: u64) -> usize
-    requires { IsStrictlySortedBy res_cmp reservations.now }
-    ensures within { result ≤ length reservations.now }
-    ensures place { IsPlaceOf (λ (r : ResRow). r.number) reservations.now number result }
-{
-    match reservations.binary_search_by(|row| row.number.cmp(&number)) {
-        Ok(at) => at,
-        Err(at) => at,
-    }
-}
 
 impl Draft {
     /// Changes the jobs that pass. Only the rows of the group of the edit are looked at.
@@ -72,12 +34,7 @@ impl Draft {
             }) self) }
     {
         let tables = &mut *self.tables;
-        let start = tables.jobs.place_of(edit.first());
-        let end = tables.jobs.place_near(start, edit.first() + GROUP_REACH);
-        let none = JobTable::new(*tables.types.allocator());
-        let former = replace(&mut tables.jobs, none);
-        let jobs = former.change(&mut self.changes.jobs, start, end, edit)?;
-        tables.jobs = jobs;
+        tables.jobs.edit(edit)?;
         Ok(self)
     }
 
@@ -98,7 +55,7 @@ impl Draft {
     {
         let tables = &mut *self.tables;
         let held = OfJobs {
-            jobs: tables.jobs.rows(),
+            jobs: &tables.jobs,
             edit,
             becomes,
         };
@@ -148,10 +105,8 @@ impl Draft {
         Ok(self)
     }
 
-    /// Changes one reservation, told by its number, with no change of its board. If its lease may
-    /// end it is noted.
+    /// Changes one reservation, told by its number, with no change of its board.
     pub fn edit_reservation(mut self, number: u64, edit: ResEdit<'_>) -> Result<Draft, AllocError>
-        requires number { IsSmall number }
         requires one { (r : ResRow) → res_passes edit r ≡ (r.number == number) }
         requires small { (r : ResRow) → IsSmallRes r → IsSmallRes (res_changed edit r) }
         ensures { IfOk result
@@ -162,19 +117,7 @@ impl Draft {
             }) self) }
     {
         let tables = &mut *self.tables;
-        let changes = &mut *self.changes;
-        let start = res_place_of(&tables.reservations, number);
-        let end = res_place_of(&tables.reservations, number + 1);
-        let before = changes.reservations.len();
-        change_rows(
-            &mut tables.reservations,
-            &mut changes.reservations,
-            start,
-            end,
-            &edit,
-        )?;
-        let changed = &changes.reservations[before..];
-        note_leases(&mut tables.leases, changed)?;
+        tables.reservations.edit(number, edit)?;
         Ok(self)
     }
 
@@ -185,7 +128,6 @@ impl Draft {
         edit: ResEdit<'_>,
         becomes: Becomes,
     ) -> Result<Draft, AllocError>
-        requires number { IsSmall number }
         requires one { (r : ResRow) → res_passes edit r ≡ (r.number == number) }
         requires small { (r : ResRow) → IsSmallRes r → IsSmallRes (res_changed edit r) }
         requires board { IfAfterCheck becomes }

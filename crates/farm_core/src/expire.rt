@@ -3,7 +3,6 @@ ghost use Rattle.std.specs.Prelude.{◌≡◌, ◌==◌, ◌<◌, ◌^◌, ℕ, 
 ghost use Rattle.std.specs.Prelude.{IfOk, IfSome, IfNone};
 ghost use Rattle.std.specs.List.{AllByRecursion, filter};
 ghost use Rattle.std.specs.List.Sorted.{IsStrictlySortedBy};
-ghost use Rattle.farm_types.specs.Small.{IsSmall};
 ghost use Rattle.farm_types.specs.Table.{change_where, res_cmp};
 ghost use Rattle.farm_types.specs.Pass.{expire, is_dead};
 ghost use Rattle.farm_types.specs.declared.rows.ResState.{ResState};
@@ -13,7 +12,6 @@ ghost use Rattle.farm_core.specs.Leases.{is_dead_at};
 
 use crate::draft::Draft;
 use crate::held::Becomes;
-use crate::leases;
 use crate::res_edit::ResEdit;
 use std::alloc::AllocError;
 
@@ -23,7 +21,6 @@ impl Draft {
         ensures stays { self.new ≡ self.old }
         ensures ordered { IsStrictlySortedBy res_cmp self.old.farm.reservations }
         ensures few { length self.old.farm.reservations < 2 ^ 63 }
-        ensures small { IfSome result IsSmall }
         ensures dead { IfSome result (λ number.
             is_dead_at self.old.farm.clock self.old.farm.reservations number ≡ true) }
         ensures none { IfNone result
@@ -31,12 +28,11 @@ impl Draft {
             self.old.farm.reservations) }
     {
         let tables = &mut *self.tables;
-        leases::first_dead(&mut tables.leases, &tables.reservations, tables.clock)
+        tables.reservations.first_dead(tables.clock)
     }
 
     /// The reservation of a number is expired, and its claim waits no more.
     fn end_reservation(self, number: u64) -> Result<Draft, AllocError>
-        requires { IsSmall number }
         ensures { IfOk result (λ d. d ≡ record self {
           farm = record self.farm {
             reservations = change_where (λ r. r.number == number)

@@ -78,8 +78,7 @@ impl Model for Farm {
 
     ghost view = { λ f. record { failed = f.failed; farm = plain_farm f.tables } };
 
-    ghost invariant = { λ f. IsKeptUnlessFailed f.failed (plain_farm f.tables) f.tables.queues
-        f.tables.leases };
+    ghost invariant = { λ f. IsKeptUnlessFailed f.failed (plain_farm f.tables) f.tables.queues };
 }
 
 impl Farm {
@@ -109,7 +108,6 @@ impl Farm {
         }
         let mut tables = Tables::of(rows)?;
         tables.fill_queues()?;
-        tables.fill_leases()?;
         Ok(Farm {
             tables,
             failed: false,
@@ -142,7 +140,7 @@ impl Farm {
     pub fn reservations(&self) -> &[ResRow]
         ensures { result.now ≡ self.now.farm.reservations }
     {
-        self.tables.reservations.as_slice()
+        self.tables.reservations.rows()
     }
 
     /// The job of that number, by binary search. What a failed farm shows is open.

@@ -1,36 +1,31 @@
-//! The queues and the leases of rows that were read.
+//! The queues of rows that were read.
 ghost use Rattle.std.specs.Prelude.{◌≡◌, [], OnOk};
-ghost use Rattle.std.specs.List.Sorted.{IsStrictlySortedBy};
-ghost use Rattle.farm_types.specs.Table.{job_cmp, put};
+ghost use Rattle.farm_types.specs.Table.{put};
 ghost use Rattle.farm_types.specs.Sound.{IsSound};
 ghost use Rattle.farm_pick.specs.Kept.{queued_cmp};
 ghost use Rattle.farm_pick.specs.Queued.{lists_of};
 ghost use Rattle.farm_core.specs.Drafted.{IsFresh};
 ghost use Rattle.farm_core.specs.Following.{kind_in};
-ghost use Rattle.farm_core.specs.Leases.{AreNoted};
 ghost use Rattle.farm_core.specs.Plain.{plain_farm};
 
 use crate::follow::note_boards;
-use crate::leases::note_leases;
+use crate::job_table::JobTable;
 use crate::tables::Tables;
 use farm_pick::Queues;
-use farm_sound::seek;
 use farm_types::claims::{Claim, ClaimKind};
-use farm_types::rows::JobRow;
 use std::alloc::AllocError;
 
 /// Puts a claim into its queue: that of its first member's type, or of the reservations.
-fn put_waiting(queues: &mut Queues, jobs: &[JobRow], claim: Claim) -> Result<(), AllocError>
-    requires ordered { IsStrictlySortedBy job_cmp jobs.now }
-    requires fresh { IsFresh claim.number queues.old.claims }
+fn put_waiting(queues: &mut Queues, jobs: &JobTable, claim: Claim) -> Result<(), AllocError>
+    requires { IsFresh claim.number queues.old.claims }
     ensures { OnOk result (queues.new ≡ record queues.old {
       claims = put queued_cmp queues.old.claims
-          (record { claim = claim; kind = kind_in jobs.now claim });
+          (record { claim = claim; kind = kind_in jobs.now.rows claim });
     }) }
 {
     match claim.kind {
         ClaimKind::Reservation => queues.put_claim(claim, &None),
-        ClaimKind::Group => match seek::job_of(jobs, claim.number) {
+        ClaimKind::Group => match jobs.find(claim.number) {
             Some(job) => queues.put_claim(claim, &job.want.kind),
             None => queues.put_claim(claim, &None),
         },
@@ -48,20 +43,10 @@ impl Tables {
     {
         note_boards(&mut self.queues, self.types.rows(), self.boards.rows())?;
         let alloc = *self.boards.allocator();
-        let mut claims = farm_pick::queue_of(alloc, self.jobs.rows(), &self.reservations)?;
+        let mut claims = farm_pick::queue_of(alloc, self.jobs.rows(), self.reservations.rows())?;
         while let Some(claim) = claims.pop() {
-            put_waiting(&mut self.queues, self.jobs.rows(), claim)?;
+            put_waiting(&mut self.queues, &self.jobs, claim)?;
         }
         Ok(())
-    }
-
-    /// Notes the leases of the rows. With R reservations, of which L may end, it costs O(R + L log
-    /// L).
-    pub fn fill_leases(&mut self) -> Result<(), AllocError>
-        ensures farm { plain_farm self.new ≡ plain_farm self.old }
-        ensures queues { self.new.queues ≡ self.old.queues }
-        ensures leases { OnOk result (AreNoted self.new.leases (plain_farm self.new).reservations) }
-    {
-        note_leases(&mut self.leases, &self.reservations)
     }
 }

@@ -1,16 +1,14 @@
 //! What becomes of the boards that jobs and reservations hold.
 ghost use Rattle.std.specs.Prelude.{◌≡◌, ◌≤◌, min};
-ghost use Rattle.std.specs.List.Sorted.{IsStrictlySortedBy};
-ghost use Rattle.std.proofs.Props.{props};
-ghost use Rattle.farm_types.specs.Table.{job_cmp, res_cmp};
 ghost use Rattle.farm_types.specs.Change.{graded_board, after_job, after_check};
 
 use crate::job_edit::JobEdit;
+use crate::job_table::JobTable;
 use crate::res_edit::ResEdit;
-use farm_sound::seek;
+use crate::res_table::ResTable;
 use farm_table::Edit;
 use farm_types::limits::MOST_JOBS_SINCE;
-use farm_types::rows::{BoardRow, Health, Holder, JobRow, Outcome, ResRow, State};
+use farm_types::rows::{BoardRow, Health, Holder, Outcome, State};
 use std::alloc::AllocError;
 
 /// What becomes of a board.
@@ -97,22 +95,21 @@ impl Becomes {
 /// The boards that the jobs hold that an edit changes.
 #[derive(Drop)]
 pub struct OfJobs<'a> {
-    pub jobs: &'a [JobRow],
+    pub jobs: &'a JobTable,
     pub edit: JobEdit<'a>,
     pub becomes: Becomes,
-    ghost sorted: { IsStrictlySortedBy job_cmp jobs.now } by { Prim.hlevel props },
 }
 
 impl Edit<BoardRow> for OfJobs<'_> {
     ghost use Rattle.farm_core.specs.Edits.{is_job_in, job_passes, board_after};
 
-    ghost passes = { λ e b. is_job_in e.jobs.now (job_passes e.edit) b.holder };
+    ghost passes = { λ e b. is_job_in e.jobs.now.rows (job_passes e.edit) b.holder };
 
     ghost changed = { λ e b. board_after e.becomes b };
 
     fn passes(&self, row: &BoardRow) -> bool {
         match row.holder {
-            Holder::Job(number) => match seek::job_of(self.jobs, number) {
+            Holder::Job(number) => match self.jobs.find(number) {
                 Some(job) => self.edit.passes(job),
                 None => false,
             },
@@ -129,22 +126,21 @@ impl Edit<BoardRow> for OfJobs<'_> {
 /// The boards that the reservations hold that an edit changes.
 #[derive(Drop)]
 pub struct OfReservations<'a> {
-    pub reservations: &'a [ResRow],
+    pub reservations: &'a ResTable,
     pub edit: ResEdit<'a>,
     pub becomes: Becomes,
-    ghost sorted: { IsStrictlySortedBy res_cmp reservations.now } by { Prim.hlevel props },
 }
 
 impl Edit<BoardRow> for OfReservations<'_> {
     ghost use Rattle.farm_core.specs.Edits.{is_res_in, res_passes, board_after};
 
-    ghost passes = { λ e b. is_res_in e.reservations.now (res_passes e.edit) b.holder };
+    ghost passes = { λ e b. is_res_in e.reservations.now.rows (res_passes e.edit) b.holder };
 
     ghost changed = { λ e b. board_after e.becomes b };
 
     fn passes(&self, row: &BoardRow) -> bool {
         match row.holder {
-            Holder::Res(number) => match seek::res_of(self.reservations, number) {
+            Holder::Res(number) => match self.reservations.find(number) {
                 Some(reservation) => self.edit.passes(reservation),
                 None => false,
             },

@@ -1,22 +1,26 @@
-//! The rows of the jobs, and a mark beside each.
-ghost use Rattle.std.specs.Prelude.{◌≡◌, ◌≤◌, ◌<◌, ◌++◌, ℕ, [], true, false, length, get_or, map};
-ghost use Rattle.std.specs.Prelude.{take, drop, IfOk, IfSome, OnOk};
-ghost use Rattle.std.specs.List.{filter};
+//! The table of jobs, and a mark beside each row.
+ghost use Rattle.std.specs.Prelude.{◌≡◌, ◌≤◌, ℕ, [], true, length};
+ghost use Rattle.std.specs.Prelude.{take, drop, IfOk, IfSome, OnOk, OnErr};
+ghost use Rattle.std.specs.List.{AllByRecursion};
 ghost use Rattle.std.specs.List.Sorted.{IsStrictlySortedBy};
+ghost use Rattle.std.specs.Option.{option_copied};
 ghost use Rattle.farm_types.specs.Limits.{most_wants};
+ghost use Rattle.farm_types.specs.Small.{IsSmall};
 ghost use Rattle.farm_types.specs.Table.{put, change_where, job_cmp};
 ghost use Rattle.farm_types.specs.declared.rows.JobRow.{JobRow};
 ghost use Rattle.farm_types.specs.declared.rows.Want.{Want};
-ghost use Rattle.farm_core.specs.Edits.{job_passes, job_changed};
+ghost use Rattle.farm_sound.specs.Place.{job_in};
+ghost use Rattle.farm_table.specs.Near.{IsFitJob};
+ghost use Rattle.farm_table.specs.Tabled.{Leads};
+ghost use Rattle.farm_core.specs.Edits.{job_passes, job_changed, first_of};
 ghost use Rattle.farm_core.specs.Marks.{AreMarks, IsNumber, IsNumbered, number_at};
-ghost use Rattle.farm_core.specs.Orderly.{IsPlaceOf};
+ghost use Rattle.farm_core.specs.Placed.{IsPlaceOf};
 ghost use Rattle.farm_core.specs.Serving.{member_wants};
 
-use crate::edit::change_rows;
-use crate::edits::{GUESS_REACH, place_of};
+use crate::edits::GUESS_REACH;
 use crate::job_edit::JobEdit;
 use crate::same::same_want;
-use farm_sound::seek;
+use farm_table::Table;
 use farm_types::limits::MOST_WANTS;
 use farm_types::rows::{JobRow, JobState, Want};
 use std::alloc::{AllocError, Global};
@@ -24,6 +28,9 @@ use std::marker::Model;
 
 /// How many wants are remembered.
 const MOST: usize = 8;
+
+/// How far the numbers of a group's members reach.
+const GROUP_REACH: u64 = MOST_WANTS as u64;
 
 /// What a pass compares of a job: its numbers, and a number of its want. Jobs whose wants have one
 /// number want the same, and those of two numbers may; 0 is no number. Marks take 24 bytes a job
@@ -142,43 +149,56 @@ fn same_number(first: Option<u64>, second: Option<u64>) -> bool
     }
 }
 
-/// The jobs in order of number. Contracts see the rows.
+/// How many jobs have a smaller number, by binary search.
+fn place_in(jobs: &Table<JobRow>, number: u64) -> usize
+    ensures within { result ≤ length jobs.now.rows }
+    ensures place { IsPlaceOf (λ (r : JobRow). r.number) jobs.now.rows number result }
+{
+    match jobs.place_of(&number) {
+        Ok(at) => at,
+        Err(at) => at,
+    }
+}
+
+/// The jobs in order of number, and a mark beside each. Contracts see the table.
 #[derive(Drop)]
 pub struct JobTable {
-    rows: Vec<JobRow>,
+    table: Table<JobRow>,
     /// The mark of each row, at the row's place.
     marks: Vec<Mark>,
     numbers: Numbers,
 }
 
 impl Model for JobTable {
-    ghost use Rattle.std.specs.Prelude.{List};
     ghost use Rattle.farm_types.specs.declared.rows.JobRow.{JobRow};
+    ghost use Rattle.farm_table.specs.Tabled.{Tabled};
     ghost use Rattle.farm_core.specs.Marks.{IsMarked};
 
-    ghost Value = { List JobRow };
+    ghost Value = { Tabled JobRow };
 
-    ghost view = { λ t. t.rows.items };
+    ghost view = { λ t. t.table };
 
-    ghost invariant = { λ t. IsMarked t.numbers.last t.rows.items t.marks.items };
+    ghost invariant = { λ t. IsMarked t.numbers.last t.table.rows t.marks.items };
 }
 
 impl JobTable {
     /// No jobs.
     pub fn new(alloc: Global) -> JobTable
-        ensures { result ≡ [] }
+        ensures { result ≡ record { rows = []; log = [] } }
     {
         JobTable {
-            rows: Vec::new(alloc),
+            table: Table::new(alloc),
             marks: Vec::new(alloc),
             numbers: Numbers::none(),
         }
     }
 
-    /// The jobs of some rows. It takes memory for the marks; with J jobs it costs O(J), for each
-    /// that waits a comparison with up to eight wants.
+    /// The table of rows that stand in order. It takes memory for the marks; with J jobs it costs
+    /// O(J), for each that waits a comparison with up to eight wants.
     pub fn of(alloc: Global, rows: Vec<JobRow>) -> Result<JobTable, AllocError>
-        ensures { IfOk result (λ table. table ≡ rows.items) }
+        requires sorted { IsStrictlySortedBy job_cmp rows.items }
+        requires fit { AllByRecursion IsFitJob rows.items }
+        ensures { IfOk result (λ table. table ≡ record { rows = rows.items; log = [] }) }
     {
         let mut marks = Vec::with_capacity(alloc, rows.len())?;
         let mut numbers = Numbers::none();
@@ -192,87 +212,100 @@ impl JobTable {
             })?;
         }
         Ok(JobTable {
-            rows,
+            table: Table::of(rows),
             marks,
             numbers,
         })
     }
 
+    /// Makes room in the log for so many rows more.
+    pub fn reserve(&mut self, additional: usize) -> Result<(), AllocError>
+        ensures { self.new ≡ self.old }
+    {
+        self.table.reserve(additional)
+    }
+
     /// The rows in order of number.
     pub fn rows(&self) -> &[JobRow]
-        ensures { result.now ≡ self.now }
+        ensures rows { result.now ≡ self.now.rows }
+        ensures sorted { IsStrictlySortedBy job_cmp self.now.rows }
+        ensures fit { AllByRecursion IsFitJob self.now.rows }
     {
-        &self.rows
+        self.table.rows()
     }
 
     /// How many jobs there are.
     pub fn len(&self) -> usize
-        ensures { result ≡ length self.now }
+        ensures { result ≡ length self.now.rows }
     {
-        self.rows.len()
+        self.table.len()
+    }
+
+    /// The job of that number, by binary search.
+    pub fn find(&self, number: u64) -> Option<&JobRow>
+        ensures found { option_copied result ≡ job_in self.now.rows number }
+        ensures fit { IfSome result (λ job. IsFitJob job.now) }
+    {
+        self.table.find(&number)
     }
 
     /// Puts a job. A row with the next number is added at the end, and moves none. It costs a
-    /// binary search and a comparison with up to eight wants.
-    pub fn put(mut self, row: JobRow) -> Result<JobTable, AllocError>
-        requires { IsStrictlySortedBy job_cmp self }
-        ensures { IfOk result (λ table. table ≡ put job_cmp self row) }
+    /// binary search and a comparison with up to eight wants. Where memory runs out the table is as
+    /// it was.
+    pub fn put(&mut self, row: JobRow) -> Result<(), AllocError>
+        requires { IsFitJob row }
+        ensures rows { OnOk result (self.new.rows ≡ put job_cmp self.old.rows row) }
+        ensures leads { Leads job_cmp self.old self.new }
+        ensures stays { OnErr result (self.new ≡ self.old) }
     {
-        match seek::job_at(&self.rows, row.number) {
-            Ok(at) => {
-                let want = self.numbers.give(&self.rows, &self.marks, at, &row.want);
-                self.marks[at] = Mark {
-                    number: row.number,
-                    group: row.group,
-                    want,
-                };
-                self.rows[at] = row;
-            }
-            Err(at) => {
-                let want = self.numbers.give(&self.rows, &self.marks, at, &row.want);
-                let mark = Mark {
-                    number: row.number,
-                    group: row.group,
-                    want,
-                };
-                self.marks.insert(at, mark)?;
-                self.rows.insert(at, row)?;
-            }
+        self.marks.reserve(1)?;
+        let place = self.table.place_of(&row.number);
+        let at = match place {
+            Ok(at) => at,
+            Err(at) => at,
+        };
+        let want = self
+            .numbers
+            .give(self.table.rows(), &self.marks, at, &row.want);
+        let mark = Mark {
+            number: row.number,
+            group: row.group,
+            want,
+        };
+        self.table.put_at(place, row)?;
+        match place {
+            Ok(at) => self.marks[at] = mark,
+            Err(at) => match self.marks.insert(at, mark) {
+                Ok(()) => {}
+                Err(_) => unreachable!(),
+            },
         }
-        Ok(self)
+        Ok(())
     }
 
-    /// Changes the jobs that pass, and logs each as it then is. Only the rows from `start` to `end`
-    /// are looked at.
-    pub fn change(
-        mut self,
-        log: &mut Vec<JobRow>,
-        start: usize,
-        end: usize,
-        edit: JobEdit<'_>,
-    ) -> Result<JobTable, AllocError>
-        requires start { start ≤ end }
-        requires end { end ≤ length self }
-        requires before { (k : ℕ) (d : JobRow) → k < start → job_passes edit (get_or self k d)
-            ≡ false }
-        requires behind { (k : ℕ) (d : JobRow) → end ≤ k → k < length self
-            → job_passes edit (get_or self k d) ≡ false }
-        ensures rows { IfOk result (λ table. table
-            ≡ change_where (job_passes edit.entry) (job_changed edit.entry) self) }
-        ensures log { OnOk result (log.new.items ≡ log.old.items
-            ++ map (job_changed edit.entry) (filter (job_passes edit.entry) self)) }
+    /// Changes the jobs that pass. Only the rows where those of the edit's group stand are looked
+    /// at, so with J jobs it costs O(log J). Where memory runs out the first ones are changed.
+    pub fn edit(&mut self, edit: JobEdit<'_>) -> Result<(), AllocError>
+        requires { IsSmall (first_of edit) }
+        ensures rows { OnOk result (self.new.rows ≡ change_where (job_passes edit.entry)
+            (job_changed edit.entry) self.old.rows) }
+        ensures leads { Leads job_cmp self.old self.new }
     {
-        change_rows(&mut self.rows, log, start, end, &edit)?;
-        Ok(self)
+        let start = self.place_of(edit.first());
+        let end = self.place_near(start, edit.first() + GROUP_REACH);
+        self.table.change_between(start, end, &edit)?;
+        Ok(())
     }
 
     /// How many jobs have a smaller number: where the job of that number is one of the few from a
     /// guess on by their marks alone, else by binary search.
     pub fn place_near(&self, guess: usize, number: u64) -> usize
-        requires { IsStrictlySortedBy job_cmp self.now }
-        ensures within { result ≤ length self.now }
-        ensures place { IsPlaceOf (λ (r : JobRow). r.number) self.now number result }
+        ensures within { result ≤ length self.now.rows }
+        ensures place { IsPlaceOf (λ (r : JobRow). r.number) self.now.rows number result }
+        ensures sorted { IsStrictlySortedBy job_cmp self.now.rows }
+        ensures fit { AllByRecursion IsFitJob self.now.rows }
     {
+        let _rows = self.table.rows();
         for place in guess..guess.saturating_add(GUESS_REACH) {
             if let Some(mark) = self.marks.get(place) {
                 if mark.number == number {
@@ -280,18 +313,19 @@ impl JobTable {
                 }
             }
         }
-        place_of(&self.rows, number)
+        place_in(&self.table, number)
     }
 
     /// How many jobs have a smaller number. Jobs and reservations draw their numbers from one
     /// counter, so while no reservation has drawn one since the first job a job's number tells its
     /// place; else it costs a binary search.
     pub fn place_of(&self, number: u64) -> usize
-        requires { IsStrictlySortedBy job_cmp self.now }
-        ensures within { result ≤ length self.now }
-        ensures place { IsPlaceOf (λ (r : JobRow). r.number) self.now number result }
+        ensures within { result ≤ length self.now.rows }
+        ensures place { IsPlaceOf (λ (r : JobRow). r.number) self.now.rows number result }
+        ensures sorted { IsStrictlySortedBy job_cmp self.now.rows }
+        ensures fit { AllByRecursion IsFitJob self.now.rows }
     {
-        let guess = match self.rows.first() {
+        let guess = match self.table.rows().first() {
             None => 0,
             Some(row) => number.saturating_sub(row.number) as usize,
         };
@@ -302,13 +336,13 @@ impl JobTable {
     /// same of the places from one place on each. No row is looked at. A no costs a search and
     /// nothing else, so contracts say what a yes means.
     pub fn are_alike(&self, start: usize, group: u64, other_start: usize, other: u64) -> bool
-        requires start { start ≤ length self.now }
-        requires other_start { other_start ≤ length self.now }
-        ensures { result ≡ true → member_wants (take most_wants (drop start self.now)) group
-            ≡ member_wants (take most_wants (drop other_start self.now)) other }
+        requires start { start ≤ length self.now.rows }
+        requires other_start { other_start ≤ length self.now.rows }
+        ensures { result ≡ true → member_wants (take most_wants (drop start self.now.rows)) group
+            ≡ member_wants (take most_wants (drop other_start self.now.rows)) other }
     {
         // as many as have a place, so that the sums of places don't wrap
-        let _jobs = self.rows.len();
+        let _jobs = self.table.len();
         for step in 0..MOST_WANTS {
             let first = number_at(&self.marks, start + step, group);
             let second = number_at(&self.marks, other_start + step, other);
@@ -317,5 +351,14 @@ impl JobTable {
             }
         }
         true
+    }
+
+    /// Gives the log away, and begins a new one.
+    pub fn take_changes(&mut self) -> Vec<JobRow>
+        ensures changes { result.items ≡ self.old.log }
+        ensures fit { AllByRecursion IsFitJob result.items }
+        ensures rests { self.new ≡ record { rows = self.old.rows; log = [] } }
+    {
+        self.table.take_changes()
     }
 }

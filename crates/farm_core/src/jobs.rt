@@ -1,7 +1,7 @@
 //! The commands on jobs that are there: Cancel, Start and Finish.
 ghost use Rattle.std.specs.Prelude.{◌≡◌, ◌≤◌, ◌==◌, ◌||◌, [], not, length};
 ghost use Rattle.std.specs.Prelude.{IfOk, IfSome};
-ghost use Rattle.std.specs.List.{filter, list_any};
+ghost use Rattle.std.specs.List.{AllByRecursion, filter, list_any};
 ghost use Rattle.std.specs.Option.{option_copied};
 ghost use Rattle.farm_types.specs.Limits.{most_wants};
 ghost use Rattle.farm_types.specs.Farm.{job_of, members};
@@ -11,17 +11,17 @@ ghost use Rattle.farm_types.specs.Small.{IsSmall, IsSmallJob};
 ghost use Rattle.farm_types.specs.declared.calls.Cmd.{Cmd};
 ghost use Rattle.farm_types.specs.declared.rows.JobRow.{JobRow};
 ghost use Rattle.farm_types.specs.declared.rows.JobState.{JobState};
+ghost use Rattle.farm_table.specs.Near.{IsFitJob};
 ghost use Rattle.farm_core.specs.Edits.{outcome_of};
 ghost use Rattle.farm_core.specs.Drafted.{Acts};
 ghost use Rattle.farm_core.specs.Plain.{plain_farm};
-ghost use Rattle.farm_core.specs.Orderly.{IsOrderly, IsPlaceOf};
+ghost use Rattle.farm_core.specs.Placed.{IsPlaceOf};
 
 use crate::draft::Draft;
 use crate::held::Becomes;
 use crate::job_edit::JobEdit;
 use crate::refusal::is_admin;
 use crate::tables::Tables;
-use farm_sound::seek;
 use farm_types::calls::Changes;
 use farm_types::limits::MOST_WANTS;
 use farm_types::refusal::{FORBIDDEN, NO_JOB, WRONG_STATE};
@@ -68,22 +68,21 @@ fn outcome_of(row: &JobRow, named: Outcome) -> Outcome
 impl Tables {
     /// The job of that number, by binary search.
     pub fn find_job(&self, number: u64) -> Option<&JobRow>
-        requires { IsOrderly (plain_farm self.now) }
         ensures found { option_copied result ≡ job_of (plain_farm self.now) number }
         ensures small { IfSome result (λ job. (job.now.number ≡ number) × IsSmallJob job.now) }
     {
-        seek::job_of(self.jobs.rows(), number)
+        self.jobs.find(number)
     }
 
     /// The few rows from a place on that stand where the members of a group do: no other row is a
     /// member.
     pub fn near_from(&self, group: u64, start: usize) -> &[JobRow]
-        requires orderly { IsOrderly (plain_farm self.now) }
         requires within { start ≤ length (plain_farm self.now).jobs }
         requires place { IsPlaceOf (λ (r : JobRow). r.number) (plain_farm self.now).jobs group start }
         ensures members { filter (λ j. j.group == group) result.now
             ≡ members (plain_farm self.now) group }
         ensures few { length result.now ≤ most_wants }
+        ensures fit { AllByRecursion IsFitJob result.now }
     {
         let rows = self.jobs.rows();
         let end = rows.len().min(start.saturating_add(MOST_WANTS));
@@ -92,11 +91,11 @@ impl Tables {
 
     /// The few rows that stand where the members of a group do: no other row is a member.
     pub fn near(&self, group: u64) -> &[JobRow]
-        requires orderly { IsOrderly (plain_farm self.now) }
         requires small { IsSmall group }
         ensures members { filter (λ j. j.group == group) result.now
             ≡ members (plain_farm self.now) group }
         ensures few { length result.now ≤ most_wants }
+        ensures fit { AllByRecursion IsFitJob result.now }
     {
         let start = self.jobs.place_of(group);
         self.near_from(group, start)
@@ -104,7 +103,6 @@ impl Tables {
 
     /// Whether some member of a group can be canceled.
     fn can_cancel_some(&self, group: u64) -> bool
-        requires orderly { IsOrderly (plain_farm self.now) }
         requires small { IsSmall group }
         ensures { result ≡ list_any can_cancel (members (plain_farm self.now) group) }
     {
@@ -113,7 +111,6 @@ impl Tables {
 
     /// Why a job isn't canceled.
     pub fn refuse_cancel(&self, caller: &Name, number: u64) -> Option<u16>
-        requires { IsOrderly (plain_farm self.now) }
         ensures { result ≡ first_code (cancel_reasons (plain_farm self.now) caller.now number) }
     {
         match self.find_job(number) {
@@ -132,7 +129,6 @@ impl Tables {
 
     /// Why a job's group isn't started.
     pub fn refuse_start(&self, number: u64) -> Option<u16>
-        requires { IsOrderly (plain_farm self.now) }
         ensures { result ≡ first_code (start_reasons (plain_farm self.now) number) }
     {
         match self.find_job(number) {
@@ -148,7 +144,6 @@ impl Tables {
 
     /// Why a job isn't finished.
     pub fn refuse_finish(&self, number: u64) -> Option<u16>
-        requires { IsOrderly (plain_farm self.now) }
         ensures { result ≡ first_code (finish_reasons (plain_farm self.now) number) }
     {
         match self.find_job(number) {

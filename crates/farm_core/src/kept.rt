@@ -137,9 +137,9 @@ impl Kept {
 
     /// Keeps a reply. With K replies it costs O(log K). A refused growth changes nothing.
     pub fn put(&mut self, row: &KeptRow) -> Result<(), AllocError>
-        requires { IsStrictlySortedBy kept_cmp self.old }
         ensures rows { OnOk result (self.new ≡ put kept_cmp self.old row.now) }
-        ensures sorted { OnOk result (IsStrictlySortedBy kept_cmp self.new) }
+        ensures sorted { OnOk result (IsStrictlySortedBy kept_cmp self.old
+            → IsStrictlySortedBy kept_cmp self.new) }
         ensures stays { OnErr result (self.new ≡ self.old) }
     {
         let key = KeptKey::of(&row.caller, &row.key);

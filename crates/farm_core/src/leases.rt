@@ -4,7 +4,7 @@ ghost use Rattle.std.specs.List.{AllByRecursion};
 ghost use Rattle.std.specs.List.Sorted.{IsStrictlySortedBy};
 ghost use Rattle.farm_types.specs.Pass.{is_dead};
 ghost use Rattle.farm_types.specs.Table.{res_cmp};
-ghost use Rattle.farm_core.specs.Leases.{may_end, is_dead_at, IsNoted, AreNoted, Grows};
+ghost use Rattle.farm_core.specs.Leases.{may_end, lease_if, is_dead_at, is_noted, AreNoted, Grows};
 
 use crate::res_edit::is_dead;
 use farm_sound::seek;
@@ -20,22 +20,32 @@ pub struct Lease {
 }
 
 /// Whether a reservation waits or has been allocated, so that it is dead once its lease is over.
-fn may_end(row: &ResRow) -> bool
+pub fn may_end(row: &ResRow) -> bool
     ensures { result ≡ may_end row.now }
 {
     matches!(row.state, ResState::Waiting | ResState::Allocated)
 }
 
-/// Notes the lease of a reservation, if it may end. With L leases it costs O(log L).
-pub fn note_lease(leases: &mut BTreeSet<Lease>, row: &ResRow) -> Result<(), AllocError>
-    ensures noted { OnOk result (IsNoted leases.new row.now) }
-    ensures grows { OnOk result (Grows leases.old leases.new) }
+/// The lease of a reservation, if it may end.
+pub fn lease_of(row: &ResRow) -> Option<Lease>
+    ensures { result ≡ lease_if row.now }
 {
-    if may_end(row) {
-        let lease = Lease {
-            deadline: row.deadline,
-            number: row.number,
-        };
+    if !may_end(row) {
+        return None;
+    }
+    Some(Lease {
+        deadline: row.deadline,
+        number: row.number,
+    })
+}
+
+/// Notes a lease, if there is one. With L leases it costs O(log L). No lease is lost, also where
+/// memory runs out.
+pub fn note(leases: &mut BTreeSet<Lease>, lease: Option<Lease>) -> Result<(), AllocError>
+    ensures noted { OnOk result (IfSome lease (λ l. is_noted leases.new l ≡ true)) }
+    ensures grows { Grows leases.old leases.new }
+{
+    if let Some(lease) = lease {
         let _added = leases.insert(lease)?;
     }
     Ok(())
@@ -47,7 +57,7 @@ pub fn note_leases(leases: &mut BTreeSet<Lease>, rows: &[ResRow]) -> Result<(), 
     ensures grows { OnOk result (Grows leases.old leases.new) }
 {
     for row in rows {
-        note_lease(leases, row)?;
+        note(leases, lease_of(row))?;
     }
     Ok(())
 }

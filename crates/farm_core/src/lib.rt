@@ -1,7 +1,7 @@
 //! The machine of the board farm: one farm, and one call after another.
 //!
 //! Read `specs/` in the order Plain, Shown, Answers, which say what callers see; then Replies, how
-//! kept replies are kept, and Marks, what stands beside each job; then Calls, Orderly, Leases,
+//! kept replies are kept, and Marks, what stands beside each job; then Placed, Leases,
 //! Tracks, Drafted, Came, Following, Edits, Serving, Ahead, which say what a command keeps on its
 //! way.
 #![tactic(auto)]
@@ -12,7 +12,6 @@ mod change;
 mod checks;
 mod collect;
 mod draft;
-mod edit;
 mod edits;
 mod expire;
 pub mod farm;
@@ -29,6 +28,7 @@ mod numbered;
 mod pass;
 mod refusal;
 mod res_edit;
+mod res_table;
 mod reservations;
 mod reserve;
 mod same;

@@ -5,7 +5,7 @@ ghost use Rattle.farm_types.specs.Sound.{IsSound};
 ghost use Rattle.farm_types.specs.declared.claims.ClaimKind.{ClaimKind};
 ghost use Rattle.farm_types.specs.declared.rows.JobRow.{JobRow};
 ghost use Rattle.farm_core.specs.Plain.{plain_farm};
-ghost use Rattle.farm_core.specs.Orderly.{IsOrderly, IsPlaceOf};
+ghost use Rattle.farm_core.specs.Placed.{IsPlaceOf};
 ghost use Rattle.farm_core.specs.Serving.{AreUnmet, IsLike, IsMissed, wants_of};
 
 use crate::tables::Tables;
@@ -16,7 +16,6 @@ impl Tables {
     /// Whether a group, whose first row stands at a place, wants the same as one that is
     /// remembered, by the numbers of their wants alone: no row is looked at.
     fn is_numbered_like(&self, start: usize, group: u64, known: &Option<Known>) -> bool
-        requires orderly { IsOrderly (plain_farm self.now) }
         requires within { start ≤ length (plain_farm self.now).jobs }
         requires place { IsPlaceOf (λ (r : JobRow). r.number) (plain_farm self.now).jobs group start }
         ensures { result ≡ true → IsLike (plain_farm self.now)

@@ -6,7 +6,6 @@ ghost use Rattle.farm_types.specs.Refuse.{is_admin, is_dispatcher, may_give, is_
 ghost use Rattle.farm_types.specs.Refuse.{is_reused, early_refusal, own_refusal, refusal};
 ghost use Rattle.farm_types.specs.Machine.{repeated_reply};
 ghost use Rattle.farm_core.specs.Plain.{plain_farm};
-ghost use Rattle.farm_core.specs.Orderly.{IsOrderly};
 
 use crate::tables::Tables;
 use farm_types::calls::{Call, Cmd};
@@ -100,7 +99,6 @@ impl Tables {
 
     /// Whether the reply of the call's key is kept for another command.
     fn is_reused(&self, call: &Call) -> bool
-        requires { IsOrderly (plain_farm self.now) }
         ensures { result ≡ is_reused (plain_farm self.now) call.entry.now }
     {
         match self.find_kept(call) {
@@ -111,7 +109,6 @@ impl Tables {
 
     /// The reply that is kept for the call's key and the same command, where the moment is good.
     pub fn kept_reply(&self, call: &Call) -> Option<Reply>
-        requires { IsOrderly (plain_farm self.now) }
         ensures { result ≡ repeated_reply (plain_farm self.now) call.entry.now }
     {
         if call.now > LAST_MOMENT {
@@ -127,7 +124,6 @@ impl Tables {
     /// The reasons that come first.
     #[tactic(auto, unfolding(farm_types::specs::Refuse::early_refusal))]
     fn early_refusal(&self, call: &Call) -> Option<u16>
-        requires { IsOrderly (plain_farm self.now) }
         ensures { result ≡ early_refusal (plain_farm self.now) call.entry.now }
     {
         if call.now > LAST_MOMENT {
@@ -145,7 +141,6 @@ impl Tables {
     /// The command's own reasons.
     #[tactic(auto, unfolding(farm_types::specs::Refuse::own_refusal))]
     fn own_refusal(&self, call: &Call) -> Option<u16>
-        requires { IsOrderly (plain_farm self.now) }
         ensures { result ≡ own_refusal (plain_farm self.now) call.entry.now }
     {
         let now = self.clock.max(call.now);
@@ -170,7 +165,6 @@ impl Tables {
     /// The first code that applies.
     #[tactic(auto, unfolding(farm_types::specs::Refuse::refusal))]
     pub fn refusal(&self, call: &Call) -> Option<u16>
-        requires { IsOrderly (plain_farm self.now) }
         ensures { result ≡ refusal (plain_farm self.now) call.entry.now }
     {
         if let Some(code) = self.early_refusal(call) {

@@ -9,20 +9,17 @@ ghost use Rattle.farm_types.specs.Refusals.{forbidden, reservation_expired};
 ghost use Rattle.farm_types.specs.Refusals.{wrong_reservation_state};
 ghost use Rattle.farm_types.specs.Refuse.{first_code, owned_by, is_alive};
 ghost use Rattle.farm_types.specs.Refuse.{acquire_reasons, release_reasons, alive_reasons};
-ghost use Rattle.farm_types.specs.Small.{IsSmall};
 ghost use Rattle.farm_types.specs.declared.calls.Cmd.{Cmd};
 ghost use Rattle.farm_types.specs.declared.rows.ResRow.{ResRow};
 ghost use Rattle.farm_types.specs.declared.rows.ResState.{ResState};
 ghost use Rattle.farm_core.specs.Drafted.{Acts};
 ghost use Rattle.farm_core.specs.Plain.{plain_farm};
-ghost use Rattle.farm_core.specs.Orderly.{IsOrderly};
 
 use crate::draft::Draft;
 use crate::held::Becomes;
 use crate::jobs::owned_by;
 use crate::res_edit::{ResEdit, is_dead};
 use crate::tables::Tables;
-use farm_sound::seek;
 use farm_types::calls::Changes;
 use farm_types::limits::LEASE;
 use farm_types::refusal::{EXPIRED, FORBIDDEN, NO_RESERVATION, WRONG_RESERVATION_STATE};
@@ -64,15 +61,13 @@ fn refuse_row(row: &ResRow, now: u64, mine: bool, right: bool) -> Option<u16>
 impl Tables {
     /// The reservation of that number, by binary search.
     pub fn find_reservation(&self, number: u64) -> Option<&ResRow>
-        requires { IsOrderly (plain_farm self.now) }
         ensures { option_copied result ≡ res_of (plain_farm self.now) number }
     {
-        seek::res_of(&self.reservations, number)
+        self.reservations.find(number)
     }
 
     /// Why a reservation isn't acquired: its owner alone may.
     pub fn refuse_acquire(&self, caller: &Name, now: u64, number: u64) -> Option<u16>
-        requires { IsOrderly (plain_farm self.now) }
         ensures { result ≡ first_code (acquire_reasons (plain_farm self.now) now caller.now number) }
     {
         match self.find_reservation(number) {
@@ -88,7 +83,6 @@ impl Tables {
 
     /// Why a reservation isn't released.
     pub fn refuse_release(&self, caller: &Name, now: u64, number: u64) -> Option<u16>
-        requires { IsOrderly (plain_farm self.now) }
         ensures { result ≡ first_code (release_reasons (plain_farm self.now) now caller.now number) }
     {
         match self.find_reservation(number) {
@@ -104,7 +98,6 @@ impl Tables {
 
     /// Why a reservation isn't refreshed, or canceled.
     pub fn refuse_alive(&self, caller: &Name, now: u64, number: u64) -> Option<u16>
-        requires { IsOrderly (plain_farm self.now) }
         ensures { result ≡ first_code (alive_reasons (plain_farm self.now) now caller.now number) }
     {
         match self.find_reservation(number) {
@@ -117,7 +110,6 @@ impl Tables {
 impl Draft {
     /// The reservation is acquired, and its board runs.
     pub fn acquire(self, number: u64) -> Result<(Draft, u64), AllocError>
-        requires { IsSmall number }
         ensures { IfOk result (λ r. Acts self [] (Cmd.Acquire number) r.1 r.0) }
     {
         let running = Becomes::State(State::Running);
@@ -127,8 +119,7 @@ impl Draft {
 
     /// The reservation is allocated again for a lease from now on, and its board reserved.
     pub fn release(self, number: u64) -> Result<(Draft, u64), AllocError>
-        requires small { IsSmall number }
-        requires clock { self.farm.clock ≤ last_moment }
+        requires { self.farm.clock ≤ last_moment }
         ensures { IfOk result (λ r. Acts self [] (Cmd.Release number) r.1 r.0) }
     {
         let edit = ResEdit::Release(number, self.tables.clock + LEASE);
@@ -139,8 +130,7 @@ impl Draft {
 
     /// The reservation lives for a lease from now on.
     pub fn refresh(self, number: u64) -> Result<(Draft, u64), AllocError>
-        requires small { IsSmall number }
-        requires clock { self.farm.clock ≤ last_moment }
+        requires { self.farm.clock ≤ last_moment }
         ensures { IfOk result (λ r. Acts self [] (Cmd.Refresh number) r.1 r.0) }
     {
         let edit = ResEdit::Refresh(number, self.tables.clock + LEASE);
@@ -150,7 +140,6 @@ impl Draft {
 
     /// The reservation is canceled, and its board free.
     pub fn cancel_reservation(self, number: u64) -> Result<(Draft, u64), AllocError>
-        requires { IsSmall number }
         ensures { IfOk result (λ r. Acts self [] (Cmd.CancelRes number) r.1 r.0) }
     {
         let draft = self.edit_reservation_and_board(

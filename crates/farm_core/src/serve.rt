@@ -18,7 +18,6 @@ ghost use Rattle.farm_pick.specs.Heads.{is_later, last_spot};
 ghost use Rattle.farm_pick.specs.Queued.{Queued, idle_boards, is_open, lists_of};
 ghost use Rattle.farm_core.specs.Drafted.{at_farm};
 ghost use Rattle.farm_core.specs.Plain.{plain_farm};
-ghost use Rattle.farm_core.specs.Orderly.{IsOrderly};
 ghost use Rattle.farm_core.specs.Serving.{AreUnmet, Asks, Begins, Serves, Tries, boards_for};
 ghost use Rattle.farm_core.specs.Serving.{count_after, wants_of};
 ghost use Rattle.farm_core.specs.Tracks.{Tracks};
@@ -144,7 +143,6 @@ impl Tables {
 
     /// The names of the boards for a reservation: one, or none where there is no such reservation.
     fn pick_for_reservation(&self, number: u64) -> Result<Option<Vec<Name>>, AllocError>
-        requires orderly { IsOrderly (plain_farm self.now) }
         requires free { self.now.queues.boards ≡ idle_boards (plain_farm self.now) }
         ensures { IfOk result (λ picked. (r : ResRow) → res_of (plain_farm self.now) number ≡ Some r
             → option_map (λ names. names.items) picked
@@ -161,7 +159,6 @@ impl Tables {
 impl Tables {
     /// How many boards a group waits for, if it is a claim, and else none.
     fn waits_for(&self, group: u64) -> u64
-        requires orderly { IsOrderly (plain_farm self.now) }
         requires small { IsSmall group }
         ensures { result ≡ boards_for (plain_farm self.now) group }
     {

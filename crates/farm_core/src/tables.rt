@@ -12,32 +12,26 @@ ghost use Rattle.farm_core.specs.Tracks.{Tracks};
 
 use crate::job_table::JobTable;
 use crate::kept::{Kept, KeptReply};
-use crate::leases::Lease;
+use crate::res_table::ResTable;
 use farm_pick::Queues;
 use farm_table::Table;
 use farm_types::calls::{Call, Changes, Rows};
-use farm_types::rows::{BoardRow, MetaRow, ResRow, TypeRow};
+use farm_types::rows::{BoardRow, MetaRow, TypeRow};
 use farm_types::words::Name;
 use std::alloc::{AllocError, Global};
-use std::collections::BTreeSet;
 use std::fmt;
 
-/// The nine things of a farm, its queues and its leases. Types and boards stand in name order,
-/// jobs and reservations in order of number.
+/// The nine things of a farm, and its queues. Types and boards stand in name order, jobs and
+/// reservations in order of number.
 #[derive(Drop)]
 pub struct Tables {
     pub types: Table<TypeRow>,
     pub boards: Table<BoardRow>,
     pub jobs: JobTable,
-    pub reservations: Vec<ResRow>,
+    pub reservations: ResTable,
     pub kept: Kept,
     /// Who waits, and which boards are free.
     pub queues: Queues,
-    /// Each lease that may end, and such as were over before their time: a lease that is refreshed
-    /// or released is noted anew, and what was noted before is forgotten at the first pass behind
-    /// its deadline. So there is one small entry for each lease begun since the last pass, besides
-    /// those that run.
-    pub leases: BTreeSet<Lease>,
     pub clock: u64,
     /// The number of the group that collects boards, 0 while none does.
     pub collector: u64,
@@ -53,7 +47,7 @@ impl fmt::Debug for Tables {
             .field("types", &self.types.rows())
             .field("boards", &self.boards.rows())
             .field("jobs", &self.jobs.rows())
-            .field("reservations", &self.reservations)
+            .field("reservations", &self.reservations.rows())
             .field("kept", &self.kept)
             .field("clock", &self.clock)
             .field("collector", &self.collector)
@@ -92,10 +86,9 @@ impl Tables {
             types: Table::new(alloc),
             boards: Table::new(alloc),
             jobs: JobTable::new(alloc),
-            reservations: Vec::new(alloc),
+            reservations: ResTable::new(alloc),
             kept: Kept::new(alloc),
             queues: Queues::new(alloc),
-            leases: BTreeSet::new(alloc),
             clock: 0,
             collector: 0,
             count: 0,
@@ -103,8 +96,8 @@ impl Tables {
         }
     }
 
-    /// The tables of a sound farm's rows, with empty queues and no leases. It takes memory for the kept
-    /// replies and for the marks of the jobs.
+    /// The tables of a sound farm's rows, with empty queues. It takes memory for the kept replies,
+    /// for the marks of the jobs and for the leases.
     pub fn of(rows: Rows) -> Result<Tables, AllocError>
         requires { IsSound (farm_of rows) }
         ensures farm { IfOk result (λ t. plain_farm t ≡ farm_of rows) }
@@ -113,14 +106,14 @@ impl Tables {
         let alloc = *rows.types.allocator();
         let kept = Kept::of(rows.kept)?;
         let jobs = JobTable::of(alloc, rows.jobs)?;
+        let reservations = ResTable::of(alloc, rows.reservations)?;
         Ok(Tables {
             types: Table::of(rows.types),
             boards: Table::of(rows.boards),
             jobs,
-            reservations: rows.reservations,
+            reservations,
             kept,
             queues: Queues::new(alloc),
-            leases: BTreeSet::new(alloc),
             clock: rows.meta.clock,
             collector: rows.meta.collector,
             count: rows.meta.count,

@@ -12,13 +12,13 @@ ghost use Rattle.farm_pick.specs.Heads.{is_later, last_spot};
 ghost use Rattle.farm_pick.specs.Merged.{lent_several};
 ghost use Rattle.farm_pick.specs.Queued.{lists_of};
 ghost use Rattle.farm_core.specs.Plain.{plain_farm};
-ghost use Rattle.farm_core.specs.Orderly.{IsOrderly, IsPlaceOf};
+ghost use Rattle.farm_core.specs.Placed.{IsPlaceOf};
 ghost use Rattle.farm_core.specs.Ahead.{ComesNext, Foresees, IsReached};
 ghost use Rattle.farm_core.specs.Ahead.{claim_of, coming_of, earlier_coming};
 ghost use Rattle.farm_core.specs.Serving.{AreUnmet, IsLike, IsMissed, member_wants, wants_of};
 
 use crate::ahead::{self, Coming};
-use crate::edits::{GUESS_REACH, res_place_of};
+use crate::edits::GUESS_REACH;
 use crate::same::{same_members, same_want};
 use crate::tables::Tables;
 use crate::unmet::{Known, Unmet};
@@ -61,30 +61,31 @@ impl Guess {
 
 impl Tables {
     /// Where the first row of a claim stands in its table.
-    pub fn place_of_claim(&self, kind: ClaimKind, number: u64) -> usize
-        requires { IsOrderly (plain_farm self.now) }
-    {
+    pub fn place_of_claim(&self, kind: ClaimKind, number: u64) -> usize {
         match kind {
             ClaimKind::Group => self.jobs.place_of(number),
-            ClaimKind::Reservation => res_place_of(&self.reservations, number),
+            ClaimKind::Reservation => match seek::res_at(self.reservations.rows(), number) {
+                Ok(at) => at,
+                Err(at) => at,
+            },
         }
     }
 
     /// The reservation of a number, and its place: one of the few from a guess on, else by binary
     /// search.
     fn reservation_near(&self, guess: usize, number: u64) -> Option<(usize, &ResRow)>
-        requires { IsOrderly (plain_farm self.now) }
         ensures { option_map (λ p. p.1.now) result ≡ res_of (plain_farm self.now) number }
     {
+        let rows = self.reservations.rows();
         for place in guess..guess.saturating_add(GUESS_REACH) {
-            if let Some(row) = self.reservations.get(place) {
+            if let Some(row) = rows.get(place) {
                 if row.number == number {
                     return Some((place, row));
                 }
             }
         }
-        match seek::res_at(&self.reservations, number) {
-            Ok(place) => Some((place, &self.reservations[place])),
+        match seek::res_at(rows, number) {
+            Ok(place) => Some((place, &rows[place])),
             Err(_gap) => None,
         }
     }
@@ -92,7 +93,6 @@ impl Tables {
     /// Whether a group, whose members are among some rows, wants the same as one that is
     /// remembered.
     fn is_like_group(&self, rows: &[JobRow], group: u64, known: &Option<Known>) -> bool
-        requires orderly { IsOrderly (plain_farm self.now) }
         requires few { length rows.now ≤ most_wants }
         ensures { result ≡ true → IsLike (plain_farm self.now) (member_wants rows.now group) known.now }
     {
@@ -111,7 +111,6 @@ impl Tables {
 
     /// Whether a reservation's want is that of one that is remembered.
     fn is_like_reservation(&self, want: &Want, known: &Option<Known>) -> bool
-        requires { IsOrderly (plain_farm self.now) }
         ensures { result ≡ true → IsLike (plain_farm self.now) (want.now ∷ []) known.now }
     {
         match known {

@@ -9,10 +9,10 @@ use Rattle.std.specs.declared.cmp.Ordering.{Ordering}
 use Rattle.std.proofs.lemmas.Cmp.{tied_itself, alike_right}
 use mathlib.Core.Bool.{true≢false}
 use Rattle.farm_types.specs.Table.{put, put_all, change_where}
-use Rattle.farm_types.proofs.Put.{AllByRecursion-put, AllByRecursion-weaker, put_sorted, put_at, found_passes}
+use Rattle.farm_types.proofs.Put.{AllByRecursion-put, AllByRecursion-weaker, put_sorted, put_at, put_searched, found_passes}
 use Rattle.farm_types.proofs.Searched.{found_at}
 use Rattle.farm_table.proofs.Upto.{upto_next, upto_more, upto_same, at_any}
-use Rattle.farm_table.specs.Tabled.{upto, Tabled, Leads, IsFoundAt, IsTable, by_key}
+use Rattle.farm_table.specs.Tabled.{upto, put_in, Tabled, Leads, IsFoundAt, IsTable, by_key}
 
 pub put_all_join : {R : Type 0} (cmp : R → R → Ordering) (rows xs ys : List R) → put_all cmp rows (xs ++ ys) ≡ put_all cmp (put_all cmp rows xs) ys
 put_all_join cmp rows [] ys = refl
@@ -44,6 +44,12 @@ module _ {R : Type 0} (cmp : R → R → Ordering) (total : IsTotalOrder cmp) (F
     fit = AllByRecursion-put cmp total row Fits fits rows table.fit;
     logged = all_push Fits log copy table.logged (subst Fits (sym same) fits);
   }
+
+-- a row that is put where a search for its key ended is put
+pub put_found : {R : Type 0} (cmp : R → R → Ordering) (total : IsTotalOrder cmp) (row : R) (rows : List R) → IsStrictlySortedBy cmp rows → (place : Result ℕ ℕ) → IsSearchInRange place (length rows)
+    → IsBinarySearchResult (λ r. cmp r row) rows place → put_in place row rows ≡ put cmp rows row
+put_found cmp total row rows sorted (Ok i) within is = sym (put_searched cmp total row rows sorted (Ok i) within is)
+put_found cmp total row rows sorted (Err i) within is = sym (put_searched cmp total row rows sorted (Err i) within is)
 
 pub no_table : {R : Type 0} (cmp : R → R → Ordering) (Fits : R → Type 0) (rows log : List R) → rows ≡ [] → log ≡ [] → IsTable cmp Fits rows log
 unfolding IsStrictlySortedBy

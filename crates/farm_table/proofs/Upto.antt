@@ -1,5 +1,5 @@
 -- Rows that are changed one after another from the first on.
-use Rattle.std.proofs.Common.{◌≡◌, ℕ, zero, suc, ◌<◌, List, [], ◌∷◌, length, set, get_or, Bool, true, false, cond, refl, sym, ap, arith}
+use Rattle.std.proofs.Common.{◌≡◌, ℕ, zero, suc, ◌<◌, ◌≤◌, List, [], ◌∷◌, length, set, get_or, Bool, true, false, cond, refl, sym, ap, arith}
 use Rattle.farm_types.specs.Table.{change_where}
 use Rattle.farm_table.specs.Tabled.{upto}
 
@@ -37,15 +37,23 @@ module _ {R : Type 0} (test : R → Bool) (f : R → R) where
   upto_same zero (r ∷ rows) fails = rw (fails r (omega arith))
   upto_same (suc n) (r ∷ rows) fails = ap (λ rest. cond (test r) (f r) r ∷ rest) (upto_same n rows (λ d low. fails d (omega arith)))
 
-  -- at the end all is done
-  pub upto_all : (n : ℕ) (rows : List R) → (n < length rows → ⊥) → upto test f n rows ≡ change_where test f rows
+  -- where none before passes, nothing has changed
+  pub upto_none : (n : ℕ) (rows : List R) → ((k : ℕ) (d : R) → k < n → k < length rows → test (get_or rows k d) ≡ false) → upto test f n rows ≡ rows
   unfolding upto
-  upto_all zero [] end = refl
-  upto_all zero (r ∷ rows) end = absurd (end (omega arith))
-  upto_all (suc n) [] end = refl
-  upto_all (suc n) (r ∷ rows) end = ap (λ rest. cond (test r) (f r) r ∷ rest) (upto_all n rows (λ less. end (omega arith)))
+  upto_none zero rows fails = refl
+  upto_none (suc n) [] fails = refl
+  upto_none (suc n) (r ∷ rows) fails =
+      let here : test r ≡ false = fails 0 r (omega arith) (omega arith) in
+      let rest = upto_none n rows (λ k d low in_range. fails (suc k) d (omega arith) (omega arith)) in
+      rw here (ap (λ rest. r ∷ rest) rest)
 
-  -- and at the start nothing
-  pub upto_none : (rows : List R) → upto test f 0 rows ≡ rows
+  -- where none behind passes, all is done
+  pub upto_all : (n : ℕ) (rows : List R) → ((k : ℕ) (d : R) → n ≤ k → k < length rows → test (get_or rows k d) ≡ false) → upto test f n rows ≡ change_where test f rows
   unfolding upto
-  upto_none rows = refl
+  upto_all zero [] fails = refl
+  upto_all zero (r ∷ rows) fails =
+      let here : test r ≡ false = fails 0 r (omega arith) (omega arith) in
+      rw here (ap (λ rest. r ∷ rest) (upto_all zero rows (λ k d low in_range. fails (suc k) d (omega arith) (omega arith))))
+  upto_all (suc n) [] fails = refl
+  upto_all (suc n) (r ∷ rows) fails =
+      ap (λ rest. cond (test r) (f r) r ∷ rest) (upto_all n rows (λ k d low in_range. fails (suc k) d (omega arith) (omega arith)))

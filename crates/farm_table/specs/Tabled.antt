@@ -1,8 +1,8 @@
 -- What a table is to those that use it: its rows in order of their keys, and the log of the rows
 -- that changed, each as it then was.
 use Rattle.std.specs.Prelude.{◌≡◌, ◌<◌, ℕ, zero, suc, Bool, List, [], ◌∷◌, Option, Some, None}
-use Rattle.std.specs.Prelude.{Result, length, get_or, MatchResult, if◌then◌else◌}
-use Rattle.std.specs.List.{AllByRecursion}
+use Rattle.std.specs.Prelude.{Result, Ok, Err, length, get_or, set, MatchResult, if◌then◌else◌}
+use Rattle.std.specs.List.{AllByRecursion, insert}
 use Rattle.std.specs.List.Sorted.{IsStrictlySortedBy}
 use Rattle.std.specs.declared.cmp.Ordering.{Ordering}
 use Rattle.farm_types.specs.Table.{put_all}
@@ -36,6 +36,11 @@ abbrev pub IsFoundAt : {R : Type 0} → List R → Option R → Result ℕ ℕ �
 IsFoundAt {R = R} rows found place = MatchResult place
     (λ at. (at < length rows) × ((d : R) → found ≡ Some (get_or rows at d)))
     (λ at. found ≡ None)
+
+-- a row is put where a search for its key ended
+abbrev pub put_in : {R : Type 0} → Result ℕ ℕ → R → List R → List R
+put_in (Ok at) row rows = set rows at row
+put_in (Err at) row rows = insert rows at row
 
 -- the first rows are changed where they pass
 unfoldable pub upto : {R : Type 0} → (R → Bool) → (R → R) → ℕ → List R → List R

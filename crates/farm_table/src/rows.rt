@@ -1,6 +1,6 @@
-//! Types and boards as rows of tables, by their names.
+//! Types and boards as rows of tables, by their names; jobs and reservations, by their numbers.
 use crate::row::Row;
-use farm_types::rows::{BoardRow, TypeRow};
+use farm_types::rows::{BoardRow, JobRow, ResRow, TypeRow};
 use farm_types::words::Name;
 use std::alloc::AllocError;
 use std::cmp::Ordering;
@@ -71,4 +71,72 @@ impl Row for BoardRow {
     ghost total = { nat_list_cmp_total };
 
     ghost ties = { same_names };
+}
+
+impl Row for JobRow {
+    ghost use Rattle.std.specs.Prelude.{◌==◌};
+    ghost use Rattle.std.specs.Cmp.{nat_cmp_total};
+    ghost use Rattle.std.specs.Ordering.{nat_cmp};
+    ghost use Rattle.farm_types.proofs.Searched.{same_numbers};
+    ghost use Rattle.farm_table.specs.Near.{IsFitJob};
+
+    type Key = u64;
+
+    ghost key = { λ r. r.number };
+
+    ghost key_cmp = { nat_cmp };
+
+    ghost same = { λ a b. a == b };
+
+    ghost Fits = { IsFitJob };
+
+    fn key(&self) -> &u64 {
+        &self.number
+    }
+
+    fn order(a: &u64, b: &u64) -> Ordering {
+        a.cmp(b)
+    }
+
+    fn copy(&self) -> Result<JobRow, AllocError> {
+        JobRow::copy(self)
+    }
+
+    ghost total = { nat_cmp_total };
+
+    ghost ties = { same_numbers };
+}
+
+impl Row for ResRow {
+    ghost use Rattle.std.specs.Prelude.{◌==◌};
+    ghost use Rattle.std.specs.Cmp.{nat_cmp_total};
+    ghost use Rattle.std.specs.Ordering.{nat_cmp};
+    ghost use Rattle.farm_types.specs.Small.{IsSmallRes};
+    ghost use Rattle.farm_types.proofs.Searched.{same_numbers};
+
+    type Key = u64;
+
+    ghost key = { λ r. r.number };
+
+    ghost key_cmp = { nat_cmp };
+
+    ghost same = { λ a b. a == b };
+
+    ghost Fits = { IsSmallRes };
+
+    fn key(&self) -> &u64 {
+        &self.number
+    }
+
+    fn order(a: &u64, b: &u64) -> Ordering {
+        a.cmp(b)
+    }
+
+    fn copy(&self) -> Result<ResRow, AllocError> {
+        ResRow::copy(self)
+    }
+
+    ghost total = { nat_cmp_total };
+
+    ghost ties = { same_numbers };
 }

@@ -1,12 +1,13 @@
 //! A table: rows in strict order of their keys, and a log of the rows that changed. What may fail
 //! comes first, then the edit of the row, and the log last, into room that was made for it: so a
 //! call that fails leaves a table in which the log still tells each change.
-ghost use Rattle.std.specs.Prelude.{◌≡◌, ◌<◌, [], get_or, length, set, IfSome, OnOk, OnErr};
+ghost use Rattle.std.specs.Prelude.{◌≡◌, ◌≤◌, ◌<◌, ℕ, [], false, get_or, length, set};
+ghost use Rattle.std.specs.Prelude.{IfSome, OnOk, OnErr};
 ghost use Rattle.std.specs.List.{AllByRecursion, find};
-ghost use Rattle.std.specs.List.Sorted.{IsStrictlySortedBy};
+ghost use Rattle.std.specs.List.Sorted.{IsBinarySearchResult, IsSearchInRange, IsStrictlySortedBy};
 ghost use Rattle.std.specs.Option.{option_copied};
 ghost use Rattle.farm_types.specs.Table.{put, change_where};
-ghost use Rattle.farm_table.specs.Tabled.{by_key, IsFoundAt, IsPartly, Keeps, Leads};
+ghost use Rattle.farm_table.specs.Tabled.{by_key, put_in, IsFoundAt, IsPartly, Keeps, Leads};
 
 use crate::row::{Edit, Row};
 use std::alloc::{AllocError, Global};
@@ -35,18 +36,13 @@ impl<R: Row + Drop> Model for Table<R> {
     ghost invariant = { λ t. IsTable (by_key R.key R.key_cmp) R.Fits t.rows.items t.log.items };
 }
 
-/// Puts a row in the place of the one with its key, or adds it in key order.
-fn upsert<R: Row + Drop>(rows: &mut Vec<R>, row: R) -> Result<(), AllocError>
-    requires { IsStrictlySortedBy (by_key R.key R.key_cmp) rows.old.items }
-    ensures rows { OnOk result (rows.new.items ≡ put (by_key R.key R.key_cmp) rows.old.items row) }
+/// Puts a row where a search for its key ended.
+fn put_in<R: Drop>(rows: &mut Vec<R>, place: Result<usize, usize>, row: R) -> Result<(), AllocError>
+    requires { IsSearchInRange place (length rows.old.items) }
+    ensures rows { OnOk result (rows.new.items ≡ put_in place row rows.old.items) }
     ensures stays { OnErr result (rows.new.items ≡ rows.old.items) }
 {
-    let found = rows.binary_search_by(
-        |r: &R| -> Ordering
-            ensures { result ≡ R.key_cmp (R.key r.now) (R.key row) }
-        { R::order(r.key(), row.key()) },
-    );
-    match found {
+    match place {
         Ok(at) => {
             rows[at] = row;
             Ok(())
@@ -117,8 +113,11 @@ impl<R: Row + Drop> Table<R> {
     }
 
     /// The place of the row with that key, or where it would stand, by binary search.
-    fn place_of(&self, key: &R::Key) -> Result<usize, usize>
+    pub fn place_of(&self, key: &R::Key) -> Result<usize, usize>
         ensures place { IsFoundAt self.now.rows (find (λ r. R.same (R.key r) key.now) self.now.rows)
+            result }
+        ensures within { IsSearchInRange result (length self.now.rows) }
+        ensures searched { IsBinarySearchResult (λ r. R.key_cmp (R.key r) key.now) self.now.rows
             result }
         ensures sorted { IsStrictlySortedBy (by_key R.key R.key_cmp) self.now.rows }
     {
@@ -155,23 +154,39 @@ impl<R: Row + Drop> Table<R> {
         }
     }
 
-    /// Puts a row in the place of the one with its key, or adds it in key order. Where memory runs
-    /// out the table is as it was.
+    /// Puts a row where a search for its key ended: in the place of the one with its key, or between
+    /// others. Where memory runs out the table is as it was.
+    pub fn put_at(&mut self, place: Result<usize, usize>, row: R) -> Result<(), AllocError>
+        requires fits { R.Fits row }
+        requires within { IsSearchInRange place (length self.old.rows) }
+        requires searched { IsBinarySearchResult (λ r. R.key_cmp (R.key r) (R.key row))
+            self.old.rows place }
+        ensures rows { OnOk result (self.new.rows ≡ put (by_key R.key R.key_cmp) self.old.rows row) }
+        ensures there { OnOk result (self.new.rows ≡ put_in place row self.old.rows) }
+        ensures leads { Leads (by_key R.key R.key_cmp) self.old self.new }
+        ensures stays { OnErr result (self.new ≡ self.old) }
+    {
+        let copy = row.copy()?;
+        self.log.reserve(1)?;
+        put_in(&mut self.rows, place, row)?;
+        self.log.push_reserved(copy);
+        Ok(())
+    }
+
+    /// Puts a row in the place of the one with its key, or adds it in key order, by binary search.
+    /// Where memory runs out the table is as it was.
     pub fn put(&mut self, row: R) -> Result<(), AllocError>
         requires { R.Fits row }
         ensures rows { OnOk result (self.new.rows ≡ put (by_key R.key R.key_cmp) self.old.rows row) }
         ensures leads { Leads (by_key R.key R.key_cmp) self.old self.new }
         ensures stays { OnErr result (self.new ≡ self.old) }
     {
-        let copy = row.copy()?;
-        self.log.reserve(1)?;
-        upsert(&mut self.rows, row)?;
-        self.log.push_reserved(copy);
-        Ok(())
+        let place = self.place_of(row.key());
+        self.put_at(place, row)
     }
 
-    /// Changes the row at a place.
-    fn change_at<E: Edit<R>>(&mut self, at: usize, edit: &E) -> Result<(), AllocError>
+    /// Changes the row at a place. Where memory runs out the table is as it was.
+    pub fn change_at<E: Edit<R>>(&mut self, at: usize, edit: &E) -> Result<(), AllocError>
         requires within { at < length self.old.rows }
         requires keeps { Keeps R.key R.Fits (E.changed edit.now) }
         ensures rows { OnOk result ((d : R) → self.new.rows
@@ -215,6 +230,35 @@ impl<R: Row + Drop> Table<R> {
         edit.passes(&self.rows[at])
     }
 
+    /// Changes the rows that pass, which all stand from one place up to another: only these are
+    /// looked at. Where memory runs out the first ones are changed, and the log says which.
+    pub fn change_between<E: Edit<R>>(
+        &mut self,
+        start: usize,
+        end: usize,
+        edit: &E,
+    ) -> Result<(), AllocError>
+        requires keeps { Keeps R.key R.Fits (E.changed edit.now) }
+        requires start { start ≤ end }
+        requires end { end ≤ length self.old.rows }
+        requires before { (k : ℕ) (d : R) → k < start → E.passes edit.now (get_or self.old.rows k d)
+            ≡ false }
+        requires behind { (k : ℕ) (d : R) → end ≤ k → k < length self.old.rows
+            → E.passes edit.now (get_or self.old.rows k d) ≡ false }
+        ensures rows { OnOk result (self.new.rows
+            ≡ change_where (E.passes edit.now) (E.changed edit.now) self.old.rows) }
+        ensures partly { OnErr result (IsPartly (E.passes edit.now) (E.changed edit.now)
+            self.old.rows self.new.rows) }
+        ensures leads { Leads (by_key R.key R.key_cmp) self.old self.new }
+    {
+        for at in start..end {
+            if self.passes_at(at, edit) {
+                self.change_at(at, edit)?;
+            }
+        }
+        Ok(())
+    }
+
     /// Changes the rows that pass. Each is looked at. Where memory runs out the first ones are
     /// changed, and the log says which.
     pub fn change_where<E: Edit<R>>(&mut self, edit: &E) -> Result<(), AllocError>
@@ -225,12 +269,8 @@ impl<R: Row + Drop> Table<R> {
             self.old.rows self.new.rows) }
         ensures leads { Leads (by_key R.key R.key_cmp) self.old self.new }
     {
-        for at in 0..self.len() {
-            if self.passes_at(at, edit) {
-                self.change_at(at, edit)?;
-            }
-        }
-        Ok(())
+        let end = self.len();
+        self.change_between(0, end, edit)
     }
 
     /// Gives the log away, and begins a new one.

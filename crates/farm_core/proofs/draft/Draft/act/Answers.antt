@@ -13,7 +13,6 @@ use Rattle.farm_core.proofs.draft.Draft.act.Goals as goal
 pub act_numbered-requires : goal.act_numbered-requires
 act_numbered-requires c = record {
   numbered = c.in_default.not-Pass;
-  small = c.requires.small;
   clock = c.requires.clock;
   next = c.requires.next;
   fresh = subst (λ (q : Lists). IsFresh c.args.self.farm.next q.claims) (sym c.requires.fits) (fresh_shown c.args.self.farm c.requires.sound);

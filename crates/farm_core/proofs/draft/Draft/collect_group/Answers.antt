@@ -3,11 +3,10 @@ use Rattle.std.specs.List.{AllByRecursion}
 use Rattle.farm_types.specs.Farm.{members}
 use Rattle.farm_types.specs.Small.{IsSmall}
 use Rattle.farm_core.specs.Drafted.{Drafted}
-use Rattle.farm_core.specs.Plain.{plain_farm}
 use Rattle.farm_pick.specs.Queued.{Lists, idle_boards}
 use Rattle.farm_core.proofs.Collected.{takes_begin, takes_end, takes_on}
 use Rattle.farm_core.proofs.Serving.{numbers_of, numbers_small, small_at}
-use Rattle.farm_core.proofs.Tabled.{ordered, seen}
+use Rattle.farm_core.proofs.Tabled.{seen}
 use Rattle.farm_core.proofs.draft.Draft.collect_group.Goals as goal
 
 pub loop-at-init : goal.loop-at-init
@@ -17,7 +16,7 @@ pub collect_member-requires-clause-small : goal.collect_member-requires-clause-s
 collect_member-requires-clause-small c =
     small_at c.as_slice-members.result.now c.loop-at.at
     (subst (AllByRecursion IsSmall) (sym c.as_slice-members.ensures.value)
-    (numbers_small (plain_farm c.deref-tables.result.now) c.args.group c.numbers_in-numbers.result.items (c.numbers_in-numbers.ensures ∙ ap numbers_of c.near-near.ensures.members) (ordered c.deref-tables.ensures c.self.invariant.orderly)))
+    (numbers_small c.near-near.result.now c.args.group c.numbers_in-numbers.result.items c.numbers_in-numbers.ensures c.near-near.ensures.fit))
     (omega arith)
 
 pub collect_member-requires-clause-free : goal.collect_member-requires-clause-free

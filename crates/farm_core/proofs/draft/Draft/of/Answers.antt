@@ -6,11 +6,10 @@ pub invariant_of-result : goal.invariant_of-result
 invariant_of-result c =
     let tracks = c.no_changes.ensures (plain_farm c.args.tables) in
     rw (c.note-start.ensures, c.in_ok-new.ensures.ok, c.in_ok-new-2.ensures.ok) (record {
-      orderly = c.requires.orderly;
       types = rw c.take_changes.ensures.rests refl;
       boards = rw c.take_changes-2.ensures.rests refl;
-      jobs = record { leads = tracks.jobs; fit = tracks.small.jobs };
-      reservations = record { leads = tracks.reservations; fit = tracks.small.reservations };
-      kept = record { leads = tracks.kept; fit = tracks.small.kept };
-      noted = c.requires.noted;
+      jobs = rw c.take_changes-3.ensures.rests refl;
+      reservations = rw c.take_changes-4.ensures.rests refl;
+      kept = tracks.kept;
+      small = tracks.small.kept;
     })

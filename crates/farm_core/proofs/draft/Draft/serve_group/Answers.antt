@@ -11,12 +11,12 @@ use Rattle.farm_types.specs.declared.rows.JobState.{JobState}
 use Rattle.farm_core.specs.Serving.{give_named}
 use Rattle.farm_core.proofs.Given.{queues_left}
 use Rattle.farm_core.proofs.Serving.{group_served, met, names_of, numbers_of, numbers_small, wants_of}
-use Rattle.farm_core.proofs.Tabled.{ordered, seen}
+use Rattle.farm_core.proofs.Tabled.{seen}
 use Rattle.farm_core.proofs.draft.Draft.serve_group.Goals as goal
 
 pub give_jobs-requires : goal.give_jobs-requires
 give_jobs-requires c =
-    rw c.deref.ensures.0 (numbers_small (plain_farm c.deref-tables.result.now) c.args.group _ (c.numbers_in-numbers.ensures ∙ ap numbers_of c.near-near.ensures.members) (ordered c.deref-tables.ensures c.self.invariant.orderly))
+    rw c.deref.ensures.0 (numbers_small c.near-near.result.now c.args.group _ c.numbers_in-numbers.ensures c.near-near.ensures.fit)
 
 pub returns-in_ok-draft-in-Some : goal.returns-in_ok-draft-in-Some
 returns-in_ok-draft-in-Some c = λ d of_group same asks.

@@ -1,10 +1,8 @@
 use Rattle.std.proofs.Common.{ap, sym, subst, ◌∙◌}
-use Rattle.farm_types.specs.Farm.{Farm}
 use Rattle.farm_types.specs.Sound.{IsSound}
 use Rattle.farm_pick.specs.Queued.{lists_of}
-use Rattle.farm_core.specs.Leases.{AreNoted}
 use Rattle.farm_sound.proofs.Numbers.{IsSound-empty}
 use Rattle.farm_core.proofs.farm.Farm.empty.Goals as goal
 
 pub invariant_of-result : goal.invariant_of-result
-invariant_of-result c = λ _. record { sound = subst IsSound (sym c.new.ensures.farm) IsSound-empty; fits = c.new.ensures.queues ∙ ap lists_of (sym c.new.ensures.farm); noted = subst (λ (F : Farm). AreNoted c.new.result.leases F.reservations) (sym c.new.ensures.farm) tt }
+invariant_of-result c = λ _. record { sound = subst IsSound (sym c.new.ensures.farm) IsSound-empty; fits = c.new.ensures.queues ∙ ap lists_of (sym c.new.ensures.farm) }

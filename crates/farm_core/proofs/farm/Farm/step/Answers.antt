@@ -3,7 +3,7 @@ use Rattle.farm_types.specs.Machine.{Changed}
 use Rattle.farm_core.specs.Plain.{plain_farm}
 use Rattle.farm_sound.proofs.Answered.{answers_repeated, answers_denied, answers_changed}
 use Rattle.farm_sound.proofs.Step.{IsSound-change}
-use Rattle.farm_core.proofs.Sound.{IsOrderly-sound, AreSmall-sound}
+use Rattle.farm_core.proofs.Sound.{AreSmall-sound}
 use Rattle.farm_core.proofs.farm.Farm.step.Goals as goal
 
 pub returns-in-Some-clause-answer : goal.returns-in-Some-clause-answer
@@ -32,11 +32,7 @@ invariant_of-self-2 c =
     λ _. record {
       sound = rw c.in_ok-reply.ensures.farm (IsSound-change _ c.args.call.now c.in_default-refusal.ensures (c.self.invariant c.if-self.false).sound);
       fits = c.in_ok-reply.ensures.queues;
-      noted = c.in_ok-reply.ensures.noted;
     }
-
-pub change-requires-clause-noted : goal.change-requires-clause-noted
-change-requires-clause-noted c = (c.self.invariant c.if-self.false).noted
 
 pub change-requires-clause-fits : goal.change-requires-clause-fits
 change-requires-clause-fits c = (c.self.invariant c.if-self.false).fits
@@ -52,12 +48,6 @@ returns-clause-farm c =
 pub returns-clause-sound : goal.returns-clause-sound
 returns-clause-sound c =
     rw c.in_ok-reply.ensures.farm (IsSound-change _ c.args.call.now c.in_default-refusal.ensures (c.self.invariant c.if-self.false).sound)
-
-pub kept_reply-requires : goal.kept_reply-requires
-kept_reply-requires c = IsOrderly-sound _ (c.self.invariant c.if-self.false).sound
-
-pub refusal-requires : goal.refusal-requires
-refusal-requires c = IsOrderly-sound _ (c.self.invariant c.if-self.false).sound
 
 pub change-requires-clause-sound : goal.change-requires-clause-sound
 change-requires-clause-sound c = (c.self.invariant c.if-self.false).sound

@@ -15,5 +15,5 @@ returns-clause-rows c =
     ∙ (λ i. put kept_cmp (c.self.view_is i) (record { caller = c.of-key.ensures.caller i; key = c.of-key.ensures.key i; kind = row.kind; reply = row.reply }))
 
 pub returns-clause-sorted : goal.returns-clause-sorted
-returns-clause-sorted c =
-    subst (IsStrictlySortedBy kept_cmp) (sym (returns-clause-rows c)) (put_sorted kept_cmp kept_total c.args.row.now c.args.self.now c.requires)
+returns-clause-sorted c = λ sorted.
+    subst (IsStrictlySortedBy kept_cmp) (sym (returns-clause-rows c)) (put_sorted kept_cmp kept_total c.args.row.now c.args.self.now sorted)

@@ -8,24 +8,16 @@ use Rattle.farm_types.specs.declared.calls.Call.{Call}
 use Rattle.farm_core.specs.Plain.{plain_farm}
 use Rattle.farm_core.specs.Drafted.{Drafted}
 use Rattle.farm_core.specs.declared.tables.Tables.{Tables}
-use Rattle.farm_core.proofs.AcceptedCalls.{in_time, IsSmallCmd-accepted}
-use Rattle.farm_core.proofs.Sound.{IsOrderly-sound}
+use Rattle.farm_core.proofs.AcceptedCalls.{in_time}
 use Rattle.farm_sound.proofs.Step.{acted_call, IsSound-moved_to}
 use Rattle.farm_pick.specs.Queued.{lists_of}
 use Rattle.farm_core.specs.Following.{FollowsIn}
-use Rattle.farm_core.specs.Leases.{AreNoted}
 use Rattle.farm_core.proofs.Commanded.{follows_in, kept_lists}
 use Rattle.farm_core.proofs.tables.Tables.change.Goals as goal
 
 -- the tables that are taken out are those with the clock moved
 taken : {T : Tables} (self : Tables) (call : Call) (clock : ℕ) → T ≡ record self { clock = clock } → clock ≡ moment (plain_farm self) call → plain_farm T ≡ farm_at_call (plain_farm self) call
 taken self call clock is at = ap plain_farm is ∙ (λ i. record (plain_farm self) { clock = at i })
-
-pub of-requires-clause-noted : goal.of-requires-clause-noted
-of-requires-clause-noted c = rw c.replace.ensures.value c.requires.noted
-
-pub of-requires-clause-orderly : goal.of-requires-clause-orderly
-of-requires-clause-orderly c = rw c.replace.ensures.value (IsOrderly-sound (plain_farm c.args.self.now) c.requires.sound)
 
 pub act-requires-clause-sound : goal.act-requires-clause-sound
 act-requires-clause-sound c =
@@ -52,12 +44,6 @@ returns-clause-queues c =
     ∙ ap (λ (D : Drafted). lists_of D.farm) (sym c.in_ok-draft-2.ensures.farm)
     ∙ sym (kept_lists c.in_ok-draft-2.draft.farm k c.in_ok-draft-2.reply)
     ∙ ap lists_of (sym kept)
-
-pub returns-clause-noted : goal.returns-clause-noted
-returns-clause-noted c = subst (λ (F : Farm). AreNoted c.into_parts-tables.result.0.leases F.reservations) (sym c.into_parts-tables.ensures.farm) c.into_parts-tables.ensures.noted
-
-pub act-requires-clause-small : goal.act-requires-clause-small
-act-requires-clause-small c = IsSmallCmd-accepted (plain_farm c.args.self.now) c.args.call.now c.requires.accepted c.requires.sound
 
 pub act-requires-clause-clock : goal.act-requires-clause-clock
 act-requires-clause-clock c =

@@ -1,7 +1,6 @@
-use Rattle.std.proofs.Common.{rules, ◌≡◌, ◌∙◌, [], length, refl, ap, sym, subst}
+use Rattle.std.proofs.Common.{rules, ◌≡◌, ◌∙◌, [], length, refl, ap, sym}
 use Rattle.std.specs.List.{fold}
-use Rattle.std.specs.List.Sorted.{IsStrictlySortedBy}
-use Rattle.farm_types.specs.Table.{job_cmp, put}
+use Rattle.farm_types.specs.Table.{put}
 use Rattle.farm_pick.specs.Kept.{queued_cmp}
 use Rattle.farm_core.specs.Following.{kind_in, free_boards_with}
 use Rattle.farm_core.proofs.Free.{noted_whole}
@@ -19,16 +18,12 @@ loop-claim-init c =
           (c.in_ok-note_boards.ensures
           ∙ (λ i. record (c.requires.empty i) { boards = fold (free_boards_with (c.rows.ensures.rows i)) (c.requires.empty i).boards (c.rows-2.ensures.rows i) })
           ∙ ap (λ bs. record { claims = []; boards = bs }) (noted_whole F.types F.boards c.requires.sound.steady.boards_sorted))
-          (c.in_ok-claims.ensures F c.requires.sound.steady (sym c.rows-3.ensures) (sym c.deref.ensures.value));
+          (c.in_ok-claims.ensures F c.requires.sound.steady (sym c.rows-3.ensures.rows) (sym c.rows-4.ensures.rows));
     }
 
-pub put_waiting-requires-clause-fresh : goal.put_waiting-requires-clause-fresh
-put_waiting-requires-clause-fresh c =
+pub put_waiting-requires : goal.put_waiting-requires
+put_waiting-requires c =
     fills_fresh (plain_farm c.args.self.now) c.requires.sound c.loop-claim.self.queues c.loop-claim.claims.items c.pop.new.self.items c.in-Some.claim c.in-Some.ensures.items c.loop-claim.invariant.fills
-
-pub put_waiting-requires-clause-ordered : goal.put_waiting-requires-clause-ordered
-put_waiting-requires-clause-ordered c =
-    subst (IsStrictlySortedBy job_cmp) (sym (c.rows-in-Some.ensures ∙ ap (λ (F : Farm). F.jobs) c.loop-claim.invariant.farm)) c.requires.sound.steady.jobs_sorted
 
 pub loop-claim-preserved : goal.loop-claim-preserved
 loop-claim-preserved c = record {
@@ -37,7 +32,7 @@ loop-claim-preserved c = record {
       c.put_waiting.new.queues
       (c.in_ok-put_waiting.ensures
       ∙ (λ i. record c.loop-claim.self.queues {
-        claims = put queued_cmp c.loop-claim.self.queues.claims (record { claim = c.in-Some.claim; kind = kind_in ((c.rows-in-Some.ensures ∙ ap (λ (F : Farm). F.jobs) c.loop-claim.invariant.farm) i) c.in-Some.claim });
+        claims = put queued_cmp c.loop-claim.self.queues.claims (record { claim = c.in-Some.claim; kind = kind_in ((ap (λ (F : Farm). F.jobs) c.loop-claim.invariant.farm) i) c.in-Some.claim });
       }));
 }
 

@@ -3,15 +3,8 @@ use Rattle.farm_types.specs.Pick.{is_free, least}
 use Rattle.farm_types.specs.declared.rows.JobRow.{JobRow}
 use Rattle.farm_core.specs.Plain.{plain_farm}
 use Rattle.farm_core.specs.Serving.{AreUnmet, member_wants}
-use Rattle.farm_core.proofs.Sound.{IsOrderly-sound}
 use Rattle.farm_core.proofs.Skipping.{like_unmet}
 use Rattle.farm_core.proofs.tables.Tables.is_group_unmet.Goals as goal
-
-pub near_from-rows-requires-clause-orderly : goal.near_from-rows-requires-clause-orderly
-near_from-rows-requires-clause-orderly c = IsOrderly-sound (plain_farm c.args.self.now) c.requires.sound
-
-pub is_like_group-requires-clause-orderly : goal.is_like_group-requires-clause-orderly
-is_like_group-requires-clause-orderly c = IsOrderly-sound (plain_farm c.args.self.now) c.requires.sound
 
 pub returns-then-is_like_group : goal.returns-then-is_like_group
 returns-then-is_like_group c = λ so.

@@ -7,10 +7,11 @@ use Rattle.farm_core.proofs.tables.Tables.is_numbered_like.Goals as goal
 pub returns-in-Group : goal.returns-in-Group
 returns-in-Group c = λ so.
     let F = plain_farm c.args.self.now in
-    let known = c.in-Some.known in (
+    let known = c.in-Some.known in
+    let there = c.place_near-other_start.ensures in (
       known,
       c.in-Some.is,
-      sym (members_near F c.args.group c.args.start c.requires.orderly c.requires.within c.requires.place) ∙ c.are_alike.ensures so
-          ∙ members_near F known.number c.place_near-other_start.result c.requires.orderly c.place_near-other_start.ensures.within c.place_near-other_start.ensures.place
+      sym (members_near F c.args.group c.args.start there.sorted there.fit c.requires.within c.requires.place) ∙ c.are_alike.ensures so
+          ∙ members_near F known.number c.place_near-other_start.result there.sorted there.fit there.within there.place
           ∙ ap (λ kind. wants_of F kind known.number) (sym c.in-Group.is),
     )

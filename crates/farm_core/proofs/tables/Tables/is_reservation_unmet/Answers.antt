@@ -4,12 +4,8 @@ use Rattle.farm_types.specs.Pick.{is_free, least}
 use Rattle.farm_types.specs.declared.rows.ResRow.{ResRow}
 use Rattle.farm_core.specs.Plain.{plain_farm}
 use Rattle.farm_core.specs.Serving.{AreUnmet}
-use Rattle.farm_core.proofs.Sound.{IsOrderly-sound}
 use Rattle.farm_core.proofs.Skipping.{like_unmet}
 use Rattle.farm_core.proofs.tables.Tables.is_reservation_unmet.Goals as goal
-
-pub is_like_reservation-requires : goal.is_like_reservation-requires
-is_like_reservation-requires c = IsOrderly-sound (plain_farm c.args.self.now) c.requires.sound
 
 pub returns-then-is_like_reservation : goal.returns-then-is_like_reservation
 returns-then-is_like_reservation c = λ so.

@@ -2,12 +2,8 @@ use Rattle.std.proofs.Common.{sym, subst, arith}
 use Rattle.farm_types.specs.declared.claims.ClaimKind.{ClaimKind}
 use Rattle.farm_core.specs.Plain.{plain_farm}
 use Rattle.farm_core.specs.Serving.{AreUnmet, wants_of}
-use Rattle.farm_core.proofs.Sound.{IsOrderly-sound}
 use Rattle.farm_core.proofs.Skipping.{like_unmet}
 use Rattle.farm_core.proofs.tables.Tables.is_unmet_by_numbers.Goals as goal
-
-pub is_numbered_like-requires-clause-orderly : goal.is_numbered_like-requires-clause-orderly
-is_numbered_like-requires-clause-orderly c = IsOrderly-sound (plain_farm c.args.self.now) c.requires.sound
 
 pub returns-then-is_numbered_like : goal.returns-then-is_numbered_like
 returns-then-is_numbered_like c = λ so.

@@ -1,13 +1,13 @@
 use Rattle.std.proofs.Common.{sym, ◌∙◌, arith}
 use Rattle.farm_table.specs.Tabled.{by_key}
-use Rattle.farm_table.proofs.Upto.{upto_all, upto_long, upto_none}
+use Rattle.farm_table.proofs.Upto.{upto_none, upto_all, upto_long}
 use Rattle.farm_table.proofs.Steps.{step_passes, step_fails, leads_none, leads_join}
-use Rattle.farm_table.proofs.table.Table.change_where.Goals as goal
-use Rattle.farm_table.proofs.table.Table.change_where.Goals.{then-passes_at+in_ok-change_at, else-passes_at}
+use Rattle.farm_table.proofs.table.Table.change_between.Goals as goal
+use Rattle.farm_table.proofs.table.Table.change_between.Goals.{then-passes_at+in_ok-change_at, else-passes_at}
 
 pub loop-at-init : goal.loop-at-init
 loop-at-init g c = record {
-  rows = sym (upto_none (g.E.Edit.passes c.args.edit.now) (g.E.Edit.changed c.args.edit.now) c.args.self.now.rows);
+  rows = sym (upto_none (g.E.Edit.passes c.args.edit.now) (g.E.Edit.changed c.args.edit.now) c.args.start c.args.self.now.rows (λ k d low in_range. c.requires.before k d low));
   leads = leads_none (by_key g.R.Row.key g.R.Row.key_cmp) c.args.self.now;
 }
 
@@ -33,4 +33,4 @@ loop-at-preserved g c =
 pub returns-clause-rows : goal.returns-clause-rows
 returns-clause-rows g c =
     c.loop-at.invariant.rows
-    ∙ upto_all (g.E.Edit.passes c.args.edit.now) (g.E.Edit.changed c.args.edit.now) c.loop-at.at c.args.self.now.rows (λ low. absurd (omega arith))
+    ∙ (upto_all (g.E.Edit.passes c.args.edit.now) (g.E.Edit.changed c.args.edit.now) c.loop-at.at c.args.self.now.rows (λ k d high in_range. c.requires.behind k d (omega arith) in_range))
