@@ -1,3 +1,4 @@
+//! The boards that fit a want, lent one by one.
 ghost use Rattle.std.specs.Prelude.{◌≡◌, filter};
 ghost use Rattle.std.specs.Iterator.{YieldsFirstRef, item_count};
 ghost use Rattle.farm_pick.specs.Test.{passes, is_candidate};

@@ -1,3 +1,4 @@
+//! The order in which claims are served.
 ghost use Rattle.std.specs.Prelude.{◌≡◌};
 ghost use Rattle.std.specs.Ordering.{is_lt};
 ghost use Rattle.farm_types.specs.Pick.{shown_cmp};

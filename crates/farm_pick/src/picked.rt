@@ -1,3 +1,4 @@
+//! The places of the boards that a search found.
 ghost use Rattle.std.specs.Prelude.{◌≡◌, ◌+◌, ◌<◌, ◌≤◌, [], ◌∷◌, ◌++◌, length};
 ghost use Rattle.farm_types.specs.Limits.{most_wants};
 

@@ -1,3 +1,4 @@
+//! The least list of boards that meets some wants, searched among all boards.
 ghost use Rattle.std.specs.Prelude.{◌≡◌, ◌≢◌, ◌<◌, ◌≤◌, All, AllPairs, length, map, IfSome};
 ghost use Rattle.std.specs.Prelude.{option_map};
 ghost use Rattle.std.specs.List.Sorted.{IsStrictlySortedBy};

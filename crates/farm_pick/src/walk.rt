@@ -19,7 +19,9 @@ use std::ops::Bound;
 /// Where a walk stands in a queue: at a claim, and behind it what is left of the map.
 #[derive(Drop)]
 pub struct Cursor<'a> {
+    /// The claim that comes next.
     pub claim: &'a Claim,
+    /// What is left of the map behind it.
     pub rest: Range<'a, Spot, Claim>,
 }
 

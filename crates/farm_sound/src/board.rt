@@ -1,4 +1,4 @@
-//! The lines on types and boards.
+//! The test of type rows and board rows: each by itself, and against the rows that it names.
 ghost use Rattle.std.specs.Prelude.{◌≡◌, ◌↔◌, IsTrue, Some, length};
 ghost use Rattle.std.specs.List.{filter};
 ghost use Rattle.std.specs.List.Sorted.{IsStrictlySortedBy};

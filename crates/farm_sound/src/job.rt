@@ -1,4 +1,4 @@
-//! The lines on jobs and their groups.
+//! The test of job rows: each by itself, against the rows that it names, and as one of its group.
 ghost use Rattle.std.specs.Prelude.{◌≡◌, ◌≤◌, ◌==◌, ◌↔◌, ℕ, IsTrue, length};
 ghost use Rattle.std.specs.List.{filter, AllByRecursion};
 ghost use Rattle.std.specs.List.Sorted.{IsStrictlySortedBy};

@@ -1,4 +1,4 @@
-//! The lines on reservations.
+//! The test of reservation rows: each by itself, and against the board that it names.
 ghost use Rattle.std.specs.Prelude.{◌≡◌, ◌≤◌, ◌↔◌, IsTrue};
 ghost use Rattle.std.specs.List.Sorted.{IsStrictlySortedBy};
 ghost use Rattle.farm_types.specs.Limits.{last_moment};

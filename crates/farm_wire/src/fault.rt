@@ -1,4 +1,4 @@
-//! Why a request asks nothing.
+//! The errors of reading what a request asks: a refusal, a wrong method, or no memory.
 ghost use Rattle.std.specs.Prelude.{◌≡◌};
 
 use crate::allowed::Allowed;

@@ -72,9 +72,8 @@ impl Routes {
 }
 
 impl Ask {
-    /// What one request asks, by a router of its own, which takes 15 to 20 us to build (an
-    /// optimized build on a Xeon). By a lent one, `Routes::ask`, a request without a body takes 0.2
-    /// to 0.4 us.
+    /// What one request asks, by a router of its own. To build it costs many times what a request
+    /// without a body does: for more than one request build `Routes` once and call `Routes::ask`.
     pub fn of(alloc: Global, taken: &Taken, now: u64) -> Result<Ask, AskFault>
         ensures { (request : Request) → Spells taken.now.bytes.items taken.now.head request
             → Meets shown_ask result (ask request now) }
