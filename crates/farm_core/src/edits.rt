@@ -16,7 +16,7 @@ use crate::held::{Becomes, OfJobs, OfReservations};
 use crate::job_edit::JobEdit;
 use crate::res_edit::ResEdit;
 use crate::tables::Tables;
-use farm_types::calls::Changes;
+use farm_types::Changes;
 use std::alloc::AllocError;
 
 /// How many places from a guess on are looked at before a search.

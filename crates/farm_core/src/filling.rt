@@ -12,7 +12,7 @@ use crate::follow::note_boards;
 use crate::job_table::JobTable;
 use crate::tables::Tables;
 use farm_pick::Queues;
-use farm_types::claims::{Claim, ClaimKind};
+use farm_types::{Claim, ClaimKind};
 use std::alloc::AllocError;
 
 /// Puts a claim into its queue: that of its first member's type, or of the reservations.

@@ -7,8 +7,7 @@ use crate::job_table::JobTable;
 use crate::res_edit::ResEdit;
 use crate::res_table::ResTable;
 use farm_table::Edit;
-use farm_types::limits::MOST_JOBS_SINCE;
-use farm_types::rows::{BoardRow, Health, Holder, Outcome, State};
+use farm_types::{BoardRow, Health, Holder, MOST_JOBS_SINCE, Outcome, State};
 use std::alloc::AllocError;
 
 /// What becomes of a board.

@@ -21,8 +21,7 @@ use crate::edits::GUESS_REACH;
 use crate::job_edit::JobEdit;
 use crate::same::same_want;
 use farm_table::Table;
-use farm_types::limits::MOST_WANTS;
-use farm_types::rows::{JobRow, JobState, Want};
+use farm_types::{JobRow, JobState, MOST_WANTS, Want};
 use std::alloc::{AllocError, Global};
 use std::marker::Model;
 

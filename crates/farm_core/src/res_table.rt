@@ -16,7 +16,7 @@ ghost use Rattle.farm_core.specs.Leases.{lease_if, is_dead_at};
 use crate::leases::{self, Lease, lease_of, may_end, note, note_leases};
 use crate::res_edit::ResEdit;
 use farm_table::Table;
-use farm_types::rows::ResRow;
+use farm_types::ResRow;
 use std::alloc::{AllocError, Global};
 use std::collections::BTreeSet;
 use std::marker::Model;

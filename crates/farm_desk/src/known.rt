@@ -9,19 +9,23 @@ use crate::clients::{Client, Clients};
 pub use list::KnownClients;
 use std::alloc::{AllocError, Global};
 
-/// What a client sends, the moment of its request, in seconds since 1970-01-01 00:00:00 UTC, and
-/// what it is answered in: an answer that fits its capacity is written whole.
+/// A client to come.
 #[derive(Debug, Drop)]
 pub struct Sent<'a> {
+    /// The moment of its request, in seconds since 1970-01-01 00:00:00 UTC.
     pub now: u64,
+    /// What it sends.
     pub bytes: &'a [u8],
+    /// What it is answered in: an answer that fits its capacity is written whole.
     pub answer: Vec<u8>,
 }
 
-/// What a client sent beyond its request, and what it was answered.
+/// A client that went.
 #[derive(Debug, Drop)]
 pub struct Gone<'a> {
+    /// What it sent beyond its request.
     pub rest: &'a [u8],
+    /// What it was answered.
     pub answer: Vec<u8>,
 }
 

@@ -17,8 +17,9 @@ use crate::fields::declared_among;
 use crate::input::Input;
 use crate::read_some::read_some;
 use crate::taken::Taken;
-use farm_types::limits::{LONGEST_BODY, LONGEST_HEAD, MOST_FIELDS, MOST_READS};
-use farm_types::refusal::{BAD_REQUEST, Refusal, TOO_LARGE};
+use farm_types::{
+    BAD_REQUEST, LONGEST_BODY, LONGEST_HEAD, MOST_FIELDS, MOST_READS, Refusal, TOO_LARGE,
+};
 use httparse::Status;
 use httparse::spans::{EMPTY_HEADER_SPAN, HeaderSpan, RequestSpans, parse_request};
 use std::alloc::Global;
@@ -32,9 +33,7 @@ use std::alloc::Global;
 ///
 /// Costs one growth of 73,728 bytes, one call of `read` for each byte of the head and as few as the
 /// reader allows for the body, and at each line feed of the head a parse of what came so far: its
-/// bytes times its lines. From memory a head of three lines and a short body take 8 microseconds, a
-/// head of 8,192 bytes in 64 lines 0.15 ms, and 8,192 empty lines, the dearest that can come, 35
-/// ms.
+/// bytes times its lines. The dearest head that can come is 8,192 empty lines.
 pub fn read_request<R: Input>(alloc: Global, reader: &mut R) -> Result<Taken, WireFault>
     ensures taken { IfOk result
         (λ taken. Consumes (R.remaining reader.old) (R.remaining reader.new) taken.bytes.items) }

@@ -1,10 +1,11 @@
+//! The boards that fit a want, lent one by one.
 ghost use Rattle.std.specs.Prelude.{◌≡◌, filter};
 ghost use Rattle.std.specs.Iterator.{YieldsFirstRef, item_count};
 ghost use Rattle.farm_pick.specs.Test.{passes, is_candidate};
 
 use crate::fit;
 use crate::free::Free;
-use farm_types::rows::{BoardRow, TypeRow, Want};
+use farm_types::{BoardRow, TypeRow, Want};
 use std::marker::Model;
 
 /// Lends the boards that fit a want and pass a test, in the order of the list, each once.

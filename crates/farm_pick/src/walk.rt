@@ -9,8 +9,7 @@ use crate::idle::IdleRow;
 use crate::order::before;
 use crate::spot::Spot;
 use crate::waiting;
-use farm_types::claims::Claim;
-use farm_types::words::Name;
+use farm_types::{Claim, Name};
 use std::alloc::{AllocError, Global};
 use std::collections::btree_map::Range;
 use std::collections::{BTreeMap, VecDeque};
@@ -20,7 +19,9 @@ use std::ops::Bound;
 /// Where a walk stands in a queue: at a claim, and behind it what is left of the map.
 #[derive(Drop)]
 pub struct Cursor<'a> {
+    /// The claim that comes next.
     pub claim: &'a Claim,
+    /// What is left of the map behind it.
     pub rest: Range<'a, Spot, Claim>,
 }
 

@@ -1,7 +1,6 @@
 //! Types and boards as rows of tables, by their names; jobs and reservations, by their numbers.
 use crate::row::Row;
-use farm_types::rows::{BoardRow, JobRow, ResRow, TypeRow};
-use farm_types::words::Name;
+use farm_types::{BoardRow, JobRow, Name, ResRow, TypeRow};
 use std::alloc::AllocError;
 use std::cmp::Ordering;
 

@@ -112,12 +112,16 @@ impl Cmd {
     }
 }
 
-/// A command, who gives it, at what moment, and the key under which its reply is kept.
+/// A command, and who gives it when.
 #[derive(Debug, Drop)]
 pub struct Call {
+    /// Who gives it.
     pub caller: Name,
+    /// The key under which its reply is kept; without one it is kept nowhere.
     pub key: Option<Key>,
+    /// The moment, in seconds since 1970.
     pub now: u64,
+    /// What is asked.
     pub cmd: Cmd,
     ghost proper: { IsTrue (is_proper caller key cmd) },
 }
@@ -149,22 +153,34 @@ impl Call {
 /// Whole rows, to be put one after another by their keys.
 #[derive(Debug, Drop)]
 pub struct Changes {
+    /// Device types.
     pub types: Vec<TypeRow>,
+    /// Boards.
     pub boards: Vec<BoardRow>,
+    /// Jobs.
     pub jobs: Vec<JobRow>,
+    /// Reservations.
     pub reservations: Vec<ResRow>,
+    /// Kept replies.
     pub kept: Vec<KeptRow>,
+    /// The farm's four numbers. They are put whole.
     pub meta: MetaRow,
 }
 
 /// The rows of the six tables.
 #[derive(Debug, Drop)]
 pub struct Rows {
+    /// Device types, by name.
     pub types: Vec<TypeRow>,
+    /// Boards, by name.
     pub boards: Vec<BoardRow>,
+    /// Jobs, by number.
     pub jobs: Vec<JobRow>,
+    /// Reservations, by number.
     pub reservations: Vec<ResRow>,
+    /// Kept replies, by caller and key.
     pub kept: Vec<KeptRow>,
+    /// The farm's four numbers.
     pub meta: MetaRow,
 }
 

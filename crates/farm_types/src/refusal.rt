@@ -135,6 +135,7 @@ fn line_of(code: u16) -> Option<Line>
 /// A refusal, by its number.
 #[derive(Clone, Copy, Debug, PartialEq, Eq)]
 pub struct Refusal {
+    /// Its number in the table.
     pub code: u16,
 }
 

@@ -74,56 +74,85 @@ pub enum ResState {
 /// What a claim asks of one board.
 #[derive(Debug, Drop)]
 pub struct Want {
+    /// The type that the board is to have; a reservation asks for no type.
     pub kind: Option<Name>,
+    /// The tags that the board is to carry.
     pub tags: Tags,
 }
 
 /// A device type, and how often its boards are checked.
 #[derive(Debug, Drop)]
 pub struct TypeRow {
+    /// Its name, which no other type has.
     pub name: Name,
+    /// How often its boards are checked.
     pub check: Check,
 }
 
-/// A board: one device and one place. `jobs_since` counts ordinary jobs since its last good check,
-/// `last_check` is the moment of that check in seconds since 1970.
+/// A board: one device and one place.
 #[derive(Debug, Drop)]
 pub struct BoardRow {
+    /// Its name, which no other board has.
     pub name: Name,
+    /// The name of its type.
     pub kind: Name,
+    /// What it carries, beside its own name.
     pub tags: Tags,
+    /// Its health, by which it may be given to claims or not.
     pub health: Health,
+    /// Whether it is free, given or in use.
     pub state: State,
+    /// The job or the reservation that has it.
     pub holder: Holder,
+    /// How many ordinary jobs it had since its last good check, up to `MOST_JOBS_SINCE`.
     pub jobs_since: u64,
+    /// The moment of that check, in seconds since 1970; 0 before the first one.
     pub last_check: u64,
 }
 
 /// A job. Members of a group have consecutive numbers that begin with the group's.
 #[derive(Debug, Drop)]
 pub struct JobRow {
+    /// Its number, which no other job or reservation has.
     pub number: u64,
+    /// The number of its group, which is the first member's.
     pub group: u64,
+    /// Whether it is a health check, which the farm made by itself.
     pub checking: bool,
+    /// Who submitted it; of a health check `admin`.
     pub owner: Name,
+    /// Its group's priority.
     pub priority: Priority,
+    /// What it asks of its board.
     pub want: Want,
+    /// Its part in the group, where its submission names one.
     pub role: Option<Name>,
+    /// How far it is.
     pub state: JobState,
+    /// How it ended; none before that.
     pub outcome: Option<Outcome>,
+    /// The board that it was given, also after its end.
     pub board: Option<Name>,
+    /// The text that it came with, which the farm never reads.
     pub body: Body,
 }
 
-/// A reservation of one board. Its deadline is a moment in seconds since 1970.
+/// A reservation of one board.
 #[derive(Debug, Drop)]
 pub struct ResRow {
+    /// Its number, which no other job or reservation has.
     pub number: u64,
+    /// Who asked for it.
     pub owner: Name,
+    /// Its priority in the queue.
     pub priority: Priority,
+    /// What it asks of its board.
     pub want: Want,
+    /// How far it is.
     pub state: ResState,
+    /// The moment at which a waiting or allocated one ends, in seconds since 1970.
     pub deadline: u64,
+    /// The board that it was given.
     pub board: Option<Name>,
 }
 
@@ -134,19 +163,26 @@ pub struct Reply(pub u64, pub u64, pub u64);
 /// A reply that is kept under a caller's key, for the command of that kind.
 #[derive(Debug, Drop)]
 pub struct KeptRow {
+    /// Who gave the command.
     pub caller: Name,
+    /// The key that the command came with.
     pub key: Key,
+    /// The command's number, 1 to 14, as `Cmd::kind` gives it.
     pub kind: u64,
+    /// What it was answered.
     pub reply: Reply,
 }
 
-/// The farm's four numbers: its clock, the group that collects boards (0 for none), its accepted
-/// commands, and the next free number.
+/// The farm's four numbers.
 #[derive(Clone, Copy, Debug, PartialEq, Eq)]
 pub struct MetaRow {
+    /// The latest moment of an accepted command, in seconds since 1970.
     pub clock: u64,
+    /// The group that collects boards; 0 where none does.
     pub collector: u64,
+    /// How many commands were accepted.
     pub count: u64,
+    /// The number of the next job or reservation.
     pub next: u64,
 }
 

@@ -1,9 +1,8 @@
-//! Why a request asks nothing.
+//! The errors of reading what a request asks: a refusal, a wrong method, or no memory.
 ghost use Rattle.std.specs.Prelude.{◌≡◌};
 
 use crate::allowed::Allowed;
-use farm_types::fault::WordFault;
-use farm_types::refusal::{NO_MEMORY, Refusal, WRONG_METHOD};
+use farm_types::{NO_MEMORY, Refusal, WRONG_METHOD, WordFault};
 use std::alloc::AllocError;
 use thiserror::Error;
 

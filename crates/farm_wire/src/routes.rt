@@ -20,11 +20,8 @@ use crate::route::{CommandKind, Endpoint, Route, ViewKind};
 use crate::router::all_paths;
 use crate::sender::{caller_of, key_of};
 use crate::type_body::add_type_of;
-use farm_http::parts::{Parts, parts_of};
-use farm_http::taken::Taken;
-use farm_types::calls::{Call, Cmd};
-use farm_types::fault::WordFault;
-use farm_types::refusal::{BAD_REQUEST, NO_ROUTE, Refusal};
+use farm_http::{Parts, Taken, parts_of};
+use farm_types::{BAD_REQUEST, Call, Cmd, NO_ROUTE, Refusal, WordFault};
 use matchit::Router;
 use std::alloc::{AllocError, Global};
 
@@ -75,9 +72,8 @@ impl Routes {
 }
 
 impl Ask {
-    /// What one request asks, by a router of its own, which takes 15 to 20 us to build (an
-    /// optimized build on a Xeon). By a lent one, `Routes::ask`, a request without a body takes 0.2
-    /// to 0.4 us.
+    /// What one request asks, by a router of its own. To build it costs many times what a request
+    /// without a body does: for more than one request build `Routes` once and call `Routes::ask`.
     pub fn of(alloc: Global, taken: &Taken, now: u64) -> Result<Ask, AskFault>
         ensures { (request : Request) → Spells taken.now.bytes.items taken.now.head request
             → Meets shown_ask result (ask request now) }

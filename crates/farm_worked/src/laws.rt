@@ -1,3 +1,4 @@
+//! The laws that the scripts of `specs/` come out as they were worked out by hand.
 ghost use Rattle.farm_worked.specs.Order.{OrderAsWorked};
 ghost use Rattle.farm_worked.specs.Groups.{GroupsAsWorked};
 ghost use Rattle.farm_worked.specs.Checks.{ChecksAsWorked};

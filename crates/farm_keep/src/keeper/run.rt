@@ -10,15 +10,18 @@ ghost use Rattle.farm_keep.specs.Versions.{LooksForFarm};
 
 use crate::fault::KeepFault;
 use crate::keeper::Keeper;
-use farm_types::calls::{Answer, Call};
+use farm_types::{Answer, Call};
 use sqlite::{Alter, Connection};
 use std::alloc::Global;
 
-/// How far a run went: how many calls were answered, what, and the fault that ended it, if any.
+/// How far a run over some calls went.
 #[derive(Debug, Drop)]
 pub struct RunEnd {
+    /// How many calls were answered: the first so many.
     pub done: usize,
+    /// Their answers, in order.
     pub answers: Vec<Answer>,
+    /// The fault that ended the run; none where all calls were answered.
     pub fault: Option<KeepFault>,
 }
 
