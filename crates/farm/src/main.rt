@@ -1,8 +1,7 @@
 //! The program `farm`: the desk of a board farm.
 #![tactic(auto)]
 
-use farm_desk::fault::DeskFault;
-use farm_desk::program::{WRONG_WORDS, program, tell};
+use farm_desk::{DeskFault, WRONG_WORDS, program, tell};
 use std::io::{ErrorKind, Write};
 use std::process::ExitCode;
 use std::{env, io};

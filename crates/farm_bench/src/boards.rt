@@ -1,8 +1,5 @@
 //! The boards that are measured: 256 of four types, as those of the plain pass in bench/pass.c.
-use farm_types::fault::WordFault;
-use farm_types::rows::{BoardRow, Check, Health, TypeRow};
-use farm_types::tags::{Tag, Tags};
-use farm_types::words::Name;
+use farm_types::{BoardRow, Check, Health, Name, Tag, Tags, TypeRow, WordFault};
 use std::alloc::Global;
 
 /// The most boards that a farm can have.

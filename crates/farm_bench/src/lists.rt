@@ -2,10 +2,7 @@
 use crate::boards;
 use crate::watch::Watch;
 use farm_pick::{Free, Picked, least};
-use farm_types::fault::WordFault;
-use farm_types::rows::{BoardRow, Want};
-use farm_types::table::is_sorted;
-use farm_types::wants::Wants;
+use farm_types::{BoardRow, Want, Wants, WordFault, is_sorted};
 use std::alloc::Global;
 
 /// Boards that fit: none, too few for four wants, just enough and behind all others, all.

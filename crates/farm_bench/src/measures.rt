@@ -6,9 +6,8 @@ use crate::boards;
 use crate::rows::{self, Shape};
 use crate::watch::Watch;
 use anyhow::bail;
-use farm_core::farm::{Farm, StepFault};
-use farm_types::calls::{Answer, Call, Cmd, Rows};
-use farm_types::rows::Reply;
+use farm_core::{Farm, StepFault};
+use farm_types::{Answer, Call, Cmd, Reply, Rows};
 use std::alloc::Global;
 
 /// What is done with the rows of a farm.

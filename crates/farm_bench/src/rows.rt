@@ -1,11 +1,9 @@
 //! The farms that are measured, as rows.
 use crate::boards;
-use farm_types::calls::Rows;
-use farm_types::fault::WordFault;
-use farm_types::rows::{
-    BoardRow, JobRow, JobState, MetaRow, Outcome, ResRow, ResState, TypeRow, Want,
+use farm_types::{
+    BoardRow, Body, JobRow, JobState, MetaRow, Outcome, Priority, ResRow, ResState, Rows, TypeRow,
+    Want, WordFault,
 };
-use farm_types::words::{Body, Priority};
 use std::alloc::Global;
 
 /// The clock of a farm, in seconds since 1970.

@@ -5,8 +5,7 @@ ghost use Rattle.farm_types.specs.Pick.{shown_cmp};
 ghost use Rattle.farm_pick.specs.Heads.{is_later, last_spot};
 ghost use Rattle.farm_core.specs.Ahead.{claim_of, coming_of, earlier_coming};
 
-use farm_types::claims::{Claim, ClaimKind};
-use farm_types::words::Priority;
+use farm_types::{Claim, ClaimKind, Priority};
 
 /// What a pass asks of a claim that it comes to: all but its owner's name.
 #[derive(Debug, Drop)]

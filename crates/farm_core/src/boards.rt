@@ -11,10 +11,9 @@ ghost use Rattle.farm_core.specs.Came.{CameTo, seen, seen_at};
 ghost use Rattle.farm_core.specs.Plain.{plain_farm};
 
 use crate::tables::Tables;
-use farm_types::refusal::{BOARD_EXISTS, HELD, NO_BOARD, NO_TYPE, RETIRED};
-use farm_types::rows::{BoardRow, Health, Holder};
-use farm_types::tags::Tags;
-use farm_types::words::Name;
+use farm_types::{
+    BOARD_EXISTS, BoardRow, HELD, Health, Holder, NO_BOARD, NO_TYPE, Name, RETIRED, Tags,
+};
 use std::alloc::AllocError;
 
 /// Whether a board is retired.

@@ -12,12 +12,10 @@ ghost use Rattle.farm_core.specs.Tracks.{Tracks};
 
 use crate::draft::Draft;
 use crate::tables::Tables;
-use farm_types::calls::Changes;
-use farm_types::fault::WordFault;
-use farm_types::limits::HIGHEST_PRIORITY;
-use farm_types::rows::{BoardRow, Check, Health, Holder, JobRow, JobState, Want};
-use farm_types::tags::Tags;
-use farm_types::words::{Body, Name, Priority};
+use farm_types::{
+    BoardRow, Body, Changes, Check, HIGHEST_PRIORITY, Health, Holder, JobRow, JobState, Name,
+    Priority, Tags, Want, WordFault,
+};
 use std::alloc::{AllocError, Global};
 
 /// The seconds of an hour.

@@ -17,8 +17,7 @@ use crate::held::Becomes;
 use crate::job_edit::JobEdit;
 use crate::serve::numbers_in;
 use crate::tables::Tables;
-use farm_types::rows::JobState;
-use farm_types::words::Name;
+use farm_types::{JobState, Name};
 use std::alloc::AllocError;
 
 impl Tables {

@@ -4,7 +4,7 @@ ghost use Rattle.std.specs.List.{filter};
 ghost use Rattle.farm_types.specs.Table.{change_where};
 
 use farm_table::Edit;
-use farm_types::rows::{JobRow, ResRow};
+use farm_types::{JobRow, ResRow};
 use std::alloc::AllocError;
 
 /// A row that can be copied for the log of changed rows.

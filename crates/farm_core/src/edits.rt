@@ -24,9 +24,7 @@ use crate::job_table::JobTable;
 use crate::leases::note_leases;
 use crate::res_edit::ResEdit;
 use crate::tables::Tables;
-use farm_types::calls::Changes;
-use farm_types::limits::MOST_WANTS;
-use farm_types::rows::{JobRow, ResRow};
+use farm_types::{Changes, JobRow, MOST_WANTS, ResRow};
 use std::alloc::AllocError;
 use std::mem::replace;
 

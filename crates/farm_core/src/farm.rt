@@ -8,11 +8,11 @@ ghost use Rattle.farm_types.specs.Sound.{IsSound};
 ghost use Rattle.farm_core.specs.Answers.{answer_of, Leads, Rests, AreSmallChanges, IsChange};
 
 use crate::tables::Tables;
-use farm_sound::sound::is_sound;
-use farm_types::calls::{Answer, Call, Rows};
-use farm_types::claims::{Claim, Status};
-use farm_types::refusal::{BAD_STORE, NO_MEMORY, Refusal};
-use farm_types::rows::{BoardRow, JobRow, ResRow, TypeRow};
+use farm_sound::is_sound;
+use farm_types::{
+    Answer, BAD_STORE, BoardRow, Call, Claim, JobRow, NO_MEMORY, Refusal, ResRow, Rows, Status,
+    TypeRow,
+};
 use std::alloc::{AllocError, Global};
 use std::marker::Model;
 use thiserror::Error;

@@ -15,8 +15,7 @@ use crate::leases::note_leases;
 use crate::tables::Tables;
 use farm_pick::Queues;
 use farm_sound::seek;
-use farm_types::claims::{Claim, ClaimKind};
-use farm_types::rows::JobRow;
+use farm_types::{Claim, ClaimKind, JobRow};
 use std::alloc::AllocError;
 
 /// Puts a claim into its queue: that of its first member's type, or of the reservations.

@@ -8,8 +8,7 @@ ghost use Rattle.farm_core.specs.Following.{free_of, free_boards_with, without_b
 
 use crate::draft::Draft;
 use farm_pick::Queues;
-use farm_types::rows::{BoardRow, TypeRow};
-use farm_types::words::Name;
+use farm_types::{BoardRow, Name, TypeRow};
 use std::alloc::AllocError;
 
 /// A board stands among the free ones exactly where its row says that it is free.

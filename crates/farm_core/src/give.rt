@@ -20,10 +20,7 @@ use crate::held::Hold;
 use crate::job_edit::JobEdit;
 use crate::res_edit::ResEdit;
 use crate::tables::Tables;
-use farm_types::calls::Changes;
-use farm_types::limits::LEASE;
-use farm_types::rows::{Holder, JobState};
-use farm_types::words::Name;
+use farm_types::{Changes, Holder, JobState, LEASE, Name};
 use std::alloc::AllocError;
 
 impl Tables {

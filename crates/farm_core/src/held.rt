@@ -9,8 +9,7 @@ use crate::job_edit::JobEdit;
 use crate::res_edit::ResEdit;
 use farm_sound::seek;
 use farm_table::Edit;
-use farm_types::limits::MOST_JOBS_SINCE;
-use farm_types::rows::{BoardRow, Health, Holder, JobRow, Outcome, ResRow, State};
+use farm_types::{BoardRow, Health, Holder, JobRow, MOST_JOBS_SINCE, Outcome, ResRow, State};
 use std::alloc::AllocError;
 
 /// What becomes of a board.

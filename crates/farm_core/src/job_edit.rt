@@ -3,8 +3,7 @@ ghost use Rattle.std.specs.Prelude.{◌≡◌};
 ghost use Rattle.farm_types.specs.Change.{is_unstarted};
 
 use farm_table::Edit;
-use farm_types::rows::{JobRow, JobState, Outcome};
-use farm_types::words::Name;
+use farm_types::{JobRow, JobState, Name, Outcome};
 use std::alloc::AllocError;
 
 /// A change of jobs: of members of a group, or of one job by its number.

@@ -17,8 +17,7 @@ use crate::edits::{GUESS_REACH, place_of};
 use crate::job_edit::JobEdit;
 use crate::same::same_want;
 use farm_sound::seek;
-use farm_types::limits::MOST_WANTS;
-use farm_types::rows::{JobRow, JobState, Want};
+use farm_types::{JobRow, JobState, MOST_WANTS, Want};
 use std::alloc::{AllocError, Global};
 use std::marker::Model;
 

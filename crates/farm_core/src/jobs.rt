@@ -22,11 +22,9 @@ use crate::job_edit::JobEdit;
 use crate::refusal::is_admin;
 use crate::tables::Tables;
 use farm_sound::seek;
-use farm_types::calls::Changes;
-use farm_types::limits::MOST_WANTS;
-use farm_types::refusal::{FORBIDDEN, NO_JOB, WRONG_STATE};
-use farm_types::rows::{JobRow, JobState, Outcome, State};
-use farm_types::words::Name;
+use farm_types::{
+    Changes, FORBIDDEN, JobRow, JobState, MOST_WANTS, NO_JOB, Name, Outcome, State, WRONG_STATE,
+};
 use std::alloc::AllocError;
 
 /// Whether a row's owner or the admin calls.

@@ -12,9 +12,7 @@ ghost use Rattle.farm_types.specs.Words.{text_cmp};
 ghost use Rattle.farm_core.specs.Replies.{kept_reply};
 
 use arrayvec::ArrayString;
-use farm_types::limits::{LONGEST_KEY, LONGEST_NAME};
-use farm_types::rows::{KeptRow, Reply};
-use farm_types::words::{Key, Name};
+use farm_types::{KeptRow, Key, LONGEST_KEY, LONGEST_NAME, Name, Reply};
 use std::alloc::{AllocError, Global};
 use std::cmp::Ordering;
 use std::collections::BTreeMap;

@@ -8,7 +8,7 @@ ghost use Rattle.farm_core.specs.Leases.{may_end, is_dead_at, IsNoted, AreNoted,
 
 use crate::res_edit::is_dead;
 use farm_sound::seek;
-use farm_types::rows::{ResRow, ResState};
+use farm_types::{ResRow, ResState};
 use std::alloc::AllocError;
 use std::collections::BTreeSet;
 

@@ -15,7 +15,7 @@ mod draft;
 mod edit;
 mod edits;
 mod expire;
-pub mod farm;
+mod farm;
 mod filling;
 mod follow;
 mod give;
@@ -38,3 +38,9 @@ mod tables;
 mod tried;
 mod types;
 mod unmet;
+
+// One farm, its calls and its views.
+pub use farm::Farm;
+
+// Why a step gives no answer, and why rows make no farm.
+pub use farm::{BadRows, StepFault};

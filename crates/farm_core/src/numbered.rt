@@ -10,7 +10,7 @@ ghost use Rattle.farm_core.specs.Serving.{AreUnmet, IsLike, IsMissed, wants_of};
 
 use crate::tables::Tables;
 use crate::unmet::{Known, Unmet};
-use farm_types::claims::ClaimKind;
+use farm_types::ClaimKind;
 
 impl Tables {
     /// Whether a group, whose first row stands at a place, wants the same as one that is

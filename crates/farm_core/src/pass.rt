@@ -12,9 +12,7 @@ ghost use Rattle.farm_core.specs.Tracks.{Tracks};
 
 use crate::draft::Draft;
 use crate::tables::Tables;
-use farm_types::calls::Changes;
-use farm_types::claims::Claim;
-use farm_types::rows::Reply;
+use farm_types::{Changes, Claim, Reply};
 use std::alloc::AllocError;
 
 impl Tables {

@@ -9,14 +9,11 @@ ghost use Rattle.farm_core.specs.Plain.{plain_farm};
 ghost use Rattle.farm_core.specs.Orderly.{IsOrderly};
 
 use crate::tables::Tables;
-use farm_types::calls::{Call, Cmd};
-use farm_types::limits::{
-    LAST_MOMENT, MOST_BOARDS, MOST_BOARDS_OF_TYPE, MOST_COMMANDS, MOST_JOBS, MOST_REPLIES,
-    MOST_RESERVATIONS, MOST_TYPES, NUMBERS_END,
+use farm_types::{
+    BAD_MOMENT, Call, Cmd, FORBIDDEN, FULL, KEY_REUSED, LAST_MOMENT, MOST_BOARDS,
+    MOST_BOARDS_OF_TYPE, MOST_COMMANDS, MOST_JOBS, MOST_REPLIES, MOST_RESERVATIONS, MOST_TYPES,
+    NUMBERS_END, Name, Reply,
 };
-use farm_types::refusal::{BAD_MOMENT, FORBIDDEN, FULL, KEY_REUSED};
-use farm_types::rows::Reply;
-use farm_types::words::Name;
 
 /// Whether the admin calls.
 pub fn is_admin(caller: &Name) -> bool

@@ -3,8 +3,7 @@ ghost use Rattle.std.specs.Prelude.{◌≡◌};
 ghost use Rattle.farm_types.specs.Pass.{is_dead};
 
 use farm_table::Edit;
-use farm_types::rows::{ResRow, ResState};
-use farm_types::words::Name;
+use farm_types::{Name, ResRow, ResState};
 use std::alloc::AllocError;
 
 /// A change of reservations: of one by its number, or of those that are dead.

@@ -23,11 +23,10 @@ use crate::jobs::owned_by;
 use crate::res_edit::{ResEdit, is_dead};
 use crate::tables::Tables;
 use farm_sound::seek;
-use farm_types::calls::Changes;
-use farm_types::limits::LEASE;
-use farm_types::refusal::{EXPIRED, FORBIDDEN, NO_RESERVATION, WRONG_RESERVATION_STATE};
-use farm_types::rows::{ResRow, ResState, State};
-use farm_types::words::Name;
+use farm_types::{
+    Changes, EXPIRED, FORBIDDEN, LEASE, NO_RESERVATION, Name, ResRow, ResState, State,
+    WRONG_RESERVATION_STATE,
+};
 use std::alloc::AllocError;
 
 /// Whether a reservation waits, or has been allocated or acquired.

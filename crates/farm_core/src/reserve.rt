@@ -10,12 +10,10 @@ ghost use Rattle.farm_core.specs.Plain.{plain_farm};
 
 use crate::draft::Draft;
 use crate::tables::Tables;
-use farm_types::calls::Changes;
-use farm_types::claims::{Claim, ClaimKind};
-use farm_types::limits::LEASE;
-use farm_types::refusal::NO_SUCH_BOARDS;
-use farm_types::rows::{BoardRow, Health, ResRow, ResState, Want};
-use farm_types::words::{Name, Priority, Tags};
+use farm_types::{
+    BoardRow, Changes, Claim, ClaimKind, Health, LEASE, NO_SUCH_BOARDS, Name, Priority, ResRow,
+    ResState, Tags, Want,
+};
 use std::alloc::AllocError;
 
 /// Whether a board that isn't retired has each of the tags.

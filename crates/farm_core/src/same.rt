@@ -5,9 +5,7 @@ ghost use Rattle.std.specs.Option.{option_copied};
 ghost use Rattle.farm_types.specs.Limits.{most_wants};
 ghost use Rattle.farm_core.specs.Serving.{member_wants, want_at};
 
-use farm_types::limits::MOST_WANTS;
-use farm_types::rows::{JobRow, Want};
-use farm_types::words::{Name, Tag};
+use farm_types::{JobRow, MOST_WANTS, Name, Tag, Want};
 
 /// Whether two types are one, or neither is named.
 fn same_type(first: &Option<Name>, second: &Option<Name>) -> bool

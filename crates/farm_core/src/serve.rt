@@ -27,11 +27,7 @@ use crate::draft::Draft;
 use crate::tables::Tables;
 use crate::unmet::{Known, Unmet};
 use arrayvec::ArrayVec;
-use farm_types::calls::Changes;
-use farm_types::claims::ClaimKind;
-use farm_types::limits::MOST_WANTS;
-use farm_types::rows::{JobRow, JobState, Want};
-use farm_types::words::{Name, Priority};
+use farm_types::{Changes, ClaimKind, JobRow, JobState, MOST_WANTS, Name, Priority, Want};
 use std::alloc::AllocError;
 use std::collections::VecDeque;
 

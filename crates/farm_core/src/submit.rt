@@ -18,11 +18,10 @@ ghost use Rattle.farm_core.specs.Plain.{plain_farm};
 use crate::draft::Draft;
 use crate::tables::Tables;
 use farm_pick::Free;
-use farm_types::calls::{Changes, Roles, Wants};
-use farm_types::claims::{Claim, ClaimKind};
-use farm_types::refusal::{NO_SUCH_BOARDS, NO_TYPE};
-use farm_types::rows::{JobRow, JobState, Want, copy_name};
-use farm_types::words::{Body, Name, Priority};
+use farm_types::{
+    Body, Changes, Claim, ClaimKind, JobRow, JobState, NO_SUCH_BOARDS, NO_TYPE, Name, Priority,
+    Roles, Want, Wants, copy_name,
+};
 use std::alloc::{AllocError, Global};
 
 /// The row of a new member.

@@ -23,9 +23,7 @@ use crate::same::{same_members, same_want};
 use crate::tables::Tables;
 use crate::unmet::{Known, Unmet};
 use farm_sound::seek;
-use farm_types::claims::ClaimKind;
-use farm_types::rows::{JobRow, ResRow, Want};
-use farm_types::words::Priority;
+use farm_types::{ClaimKind, JobRow, Priority, ResRow, Want};
 use std::alloc::AllocError;
 use std::collections::VecDeque;
 

@@ -7,9 +7,7 @@ ghost use Rattle.farm_core.specs.Came.{CameTo, seen, seen_at};
 ghost use Rattle.farm_core.specs.Plain.{plain_farm};
 
 use crate::tables::Tables;
-use farm_types::refusal::TYPE_EXISTS;
-use farm_types::rows::{Check, TypeRow};
-use farm_types::words::Name;
+use farm_types::{Check, Name, TYPE_EXISTS, TypeRow};
 use std::alloc::AllocError;
 
 impl Tables {

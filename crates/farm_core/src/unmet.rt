@@ -2,7 +2,7 @@
 ghost use Rattle.std.specs.Prelude.{◌≡◌, ℕ, slice_set, None, Some};
 ghost use Rattle.std.specs.List.{AllByRecursion};
 
-use farm_types::claims::ClaimKind;
+use farm_types::ClaimKind;
 use std::marker::Model;
 
 /// How many claims are remembered.

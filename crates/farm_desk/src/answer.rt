@@ -12,12 +12,10 @@ ghost use Rattle.farm_desk.specs.Made.{IsMadeOfOne, bytes_in};
 ghost use Rattle.farm_wire.specs.declared.ask.Ask.{Ask as Asking};
 
 use crate::response::Response;
-use farm_core::farm::Farm;
+use farm_core::Farm;
 use farm_keep::{KeepFault, Keeper};
-use farm_types::calls::{Answer, Call};
-use farm_types::refusal::{NO_JOB, Refusal};
-use farm_wire::answers::Out;
-use farm_wire::ask::{Ask, View};
+use farm_types::{Answer, Call, NO_JOB, Refusal};
+use farm_wire::{Ask, Out, View};
 use sqlite::Alter;
 use std::alloc::Global;
 

@@ -1,6 +1,6 @@
 //! A client's stream as what answers are written to.
 use crate::deadline_stream::DeadlineStream;
-use farm_http::output::Output;
+use farm_http::Output;
 use std::io;
 use std::io::Write;
 use std::time::Clock;

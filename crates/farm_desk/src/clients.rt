@@ -2,8 +2,7 @@
 ghost use Rattle.std.specs.Prelude.{◌≡◌, Option, MatchOption, IsSome, IsTrue};
 ghost use Rattle.farm_desk.specs.Clients.{Clientele, Brings, Goes, IsOver};
 
-use farm_http::input::Input;
-use farm_http::output::Output;
+use farm_http::{Input, Output};
 
 /// A client that came: the moment of its request, in seconds since 1970-01-01 00:00:00 UTC, what it
 /// is read by and what it is answered by.

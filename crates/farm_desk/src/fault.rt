@@ -4,7 +4,7 @@ ghost use Rattle.farm_desk.specs.Faults.{fault_number};
 
 use farm_jobfile::FileFault;
 use farm_keep::KeepFault;
-use farm_types::refusal::{NO_MEMORY, READ, Refusal, WRITE};
+use farm_types::{NO_MEMORY, READ, Refusal, WRITE};
 use thiserror::Error;
 
 /// Why a conversation or an import ended without an answer of the farm. The texts are those of the

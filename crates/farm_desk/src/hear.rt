@@ -8,11 +8,8 @@ ghost use Rattle.farm_wire.specs.Reading.{Meets};
 ghost use Rattle.farm_desk.specs.Heard.{Gives};
 
 use crate::server::Server;
-use farm_http::input::Input;
-use farm_http::taken::Taken;
-use farm_wire::ask::Ask;
-use farm_wire::fault::AskFault;
-use farm_wire::{CountedReader, WireFault, read_request_counted};
+use farm_http::{Input, Taken};
+use farm_wire::{Ask, AskFault, CountedReader, WireFault, read_request_counted};
 
 /// Why nothing is heard.
 #[derive(Clone, Copy, Debug, PartialEq, Eq)]

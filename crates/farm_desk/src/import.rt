@@ -7,8 +7,7 @@ ghost use Rattle.farm_desk.specs.Imports.{IsImport, DoesCalls};
 use crate::fault::DeskFault;
 use farm_jobfile::lab_of;
 use farm_keep::Keeper;
-use farm_types::calls::{Answer, Call};
-use farm_types::refusal::Refusal;
+use farm_types::{Answer, Call, Refusal};
 use sqlite::Alter;
 use std::alloc::Global;
 

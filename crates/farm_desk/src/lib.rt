@@ -12,28 +12,56 @@
 mod accepted;
 mod answer;
 mod client_output;
-pub mod clients;
-pub mod converse;
+mod clients;
+mod converse;
 mod deadline_stream;
-pub mod fault;
-pub mod files;
+mod fault;
+mod files;
 mod ground;
 mod hear;
-pub mod import;
-pub mod known;
-pub mod laws;
+mod import;
+mod known;
+mod laws;
 mod open_files;
-pub mod orders;
+mod orders;
 mod pending;
-pub mod program;
+mod program;
 mod report;
 mod response;
-pub mod serve;
+mod serve;
 mod server;
-pub mod upgrade;
+mod upgrade;
 
-pub use farm_http::input::Input;
-pub use farm_http::output::Output;
-pub use farm_order::fault::OrderFault;
-pub use farm_order::order::{Database, Order, Report};
-pub use farm_order::words::order_of;
+// One conversation: a request, what it asks, and its answer.
+pub use converse::{converse, converse_counted};
+pub use farm_http::{Input, Output};
+
+// A lab file's commands, given to a keeper.
+pub use import::{ImportEnd, import};
+
+// Conversations with one client after another.
+pub use clients::{Client, Clients};
+pub use known::{Gone, KnownClients, Sent};
+pub use serve::{serve, serve_on};
+
+// Farms in files.
+pub use files::{FileKeeper, make_farm, open_farm};
+pub use upgrade::migrate_farm;
+
+// The program: its words, the orders they give, and its exit statuses.
+pub use farm_order::{Database, Order, OrderFault, Report, order_of};
+pub use orders::{End, carry_out};
+pub use program::{DONE, FAILED, NO_ROOM, REFUSED, WRONG_WORDS, perform, program, tell};
+
+// What ends a conversation, an import or an order.
+pub use fault::DeskFault;
+
+// The limits of time of a client.
+pub use deadline_stream::{LIMIT_SECONDS, STALL_SECONDS};
+
+// What is proved of desks: functions that only proofs read.
+pub use laws::{
+    answered_act_as_run, conversations_join, conversations_keep_a_prefix, converse_in_memory,
+    converse_in_turn, request_told_again, serve_in_memory, statuses_agree, stopped_files_hold,
+    upgraded_files_hold,
+};

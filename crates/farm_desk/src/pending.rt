@@ -1,6 +1,6 @@
 //! Connections that wait until their requests are there.
 use crate::deadline_stream::{limit, limit_waits};
-use farm_types::limits::{LONGEST_BODY, LONGEST_HEAD};
+use farm_types::{LONGEST_BODY, LONGEST_HEAD};
 use farm_wire::{WireFault, read_request};
 use mio::event::Event;
 use mio::unix::SourceFd;

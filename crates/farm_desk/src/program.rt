@@ -9,14 +9,11 @@ ghost use Rattle.farm_desk.specs.Program.{EndsAsRead, EndsTold, EndsUnread, IsRe
 
 use crate::fault::DeskFault;
 use crate::orders::{End, carry_out};
-use farm_http::input::Input;
-use farm_http::output::Output;
+use farm_http::{Input, Output};
 use farm_jobfile::FileFault;
 use farm_keep::KeepFault;
-use farm_order::fault::OrderFault;
-use farm_order::order::Order;
-use farm_order::words::order_of;
-use farm_types::refusal::Refusal;
+use farm_order::{Order, OrderFault, order_of};
+use farm_types::Refusal;
 use farm_wire::write_whole;
 use itoa::Buffer;
 use std::alloc::Global;

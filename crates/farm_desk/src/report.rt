@@ -4,8 +4,8 @@ ghost use Rattle.farm_report.specs.Moments.{most_minutes};
 ghost use Rattle.farm_desk.specs.Reports.{Reports, seconds_ahead};
 
 use crate::fault::DeskFault;
-use farm_core::farm::Farm;
-use farm_order::order::Report;
+use farm_core::Farm;
+use farm_order::Report;
 use farm_report::{
     MOST_MINUTES, Offset, ReportFault, boards_text, queue_text, reservations_text, zone_of,
 };

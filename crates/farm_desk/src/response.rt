@@ -8,10 +8,10 @@ ghost use Rattle.farm_desk.specs.Made.{IsMadeOf, IsMadeOfNothing, bytes_in};
 
 use crate::fault::DeskFault;
 use farm_keep::KeepFault;
-use farm_wire::answers::{Out, answer_bytes};
-use farm_wire::constant::{closed_answer, no_memory_answer, store_answer};
-use farm_wire::fault::AskFault;
-use farm_wire::statuses::{METHOD_NOT_ALLOWED, OK, UNAVAILABLE};
+use farm_wire::{
+    AskFault, METHOD_NOT_ALLOWED, OK, Out, UNAVAILABLE, answer_bytes, closed_answer,
+    no_memory_answer, store_answer,
+};
 use std::alloc::Global;
 
 /// The bytes of an answer.

@@ -1,5 +1,5 @@
 //! What all connections share.
-use farm_wire::routes::Routes;
+use farm_wire::Routes;
 use std::alloc::Global;
 
 /// What all connections share: where their memory comes from, and the router of what they ask.

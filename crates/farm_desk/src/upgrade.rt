@@ -14,7 +14,7 @@ use crate::fault::DeskFault;
 use crate::files::open;
 use crate::ground::Ground;
 use farm_keep::{KeepFault, migrate};
-use farm_store::laws::opened_stands;
+use farm_store::opened_stands;
 use sqlite::{Alter, Connection, FileFrom, FileStore, Start};
 use sqlite_disk::Disk;
 use std::alloc::Global;

@@ -1,7 +1,5 @@
 //! Conversations over readers and writers that give and take little, or fail.
-use farm_desk::converse::converse_counted;
-use farm_desk::fault::DeskFault;
-use farm_desk::{Input, Output};
+use farm_desk::{DeskFault, Input, Output, converse_counted};
 use farm_keep::Keeper;
 use farm_tests::fakes::{Interrupted, Narrow, Slow, Tally};
 use farm_tests::sent::{FIRST_TYPE, request};

@@ -1,8 +1,7 @@
 //! Serving connections: clients on 127.0.0.1, whose connections wait in the system's queue until
 //! the desk takes them.
 use crate::answered::DONE;
-use farm_desk::fault::DeskFault;
-use farm_desk::serve::serve_on;
+use farm_desk::{DeskFault, serve_on};
 use farm_keep::{KeepFault, Keeper};
 use farm_tests::sent::FIRST_TYPE;
 use farm_tests::stores::{made, opened, stopping};

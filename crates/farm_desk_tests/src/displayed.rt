@@ -1,10 +1,8 @@
 //! What refusals and faults display, their numbers and their statuses.
-use farm_desk::fault::DeskFault;
-use farm_desk::program::tell;
+use farm_desk::{DeskFault, tell};
 use farm_jobfile::{FileFault, FileKind, Reason};
 use farm_keep::KeepFault;
-use farm_types::fault::WordFault;
-use farm_types::refusal::Refusal;
+use farm_types::{Refusal, WordFault};
 use std::alloc::{AllocError, Global};
 use std::test::Fail;
 

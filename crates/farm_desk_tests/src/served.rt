@@ -1,9 +1,7 @@
 //! Serving clients that are known beforehand: what each is answered, byte by byte, and the farm
 //! afterwards.
 use crate::answered::DONE;
-use farm_desk::fault::DeskFault;
-use farm_desk::known::{KnownClients, Sent};
-use farm_desk::serve::serve;
+use farm_desk::{DeskFault, KnownClients, Sent, serve};
 use farm_keep::Keeper;
 use farm_tests::sent::FIRST_TYPE;
 use farm_tests::stores::made;

@@ -3,7 +3,7 @@ ghost use Rattle.std.specs.Prelude.{◌≡◌};
 
 use crate::counted_writer::NotTaken;
 use crate::read_some::NoBytes;
-use farm_types::refusal::{NO_MEMORY, READ, Refusal, WRITE};
+use farm_types::{NO_MEMORY, READ, Refusal, WRITE};
 use thiserror::Error;
 
 /// Why no request was read, or no answer written.

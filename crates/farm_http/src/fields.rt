@@ -10,8 +10,7 @@ ghost use Rattle.farm_types.specs.Limits.{longest_body};
 ghost use Rattle.farm_http.specs.Fields.{called_lookup, field_of, declared_length, length_among};
 ghost use Rattle.farm_http.specs.Fields.{by_number};
 
-use farm_types::limits::LONGEST_BODY;
-use farm_types::refusal::{BAD_CODING, BAD_REQUEST, Refusal, TOO_LARGE};
+use farm_types::{BAD_CODING, BAD_REQUEST, LONGEST_BODY, Refusal, TOO_LARGE};
 use httparse::spans::HeaderSpan;
 
 /// More than one field has the name.

@@ -13,15 +13,39 @@
 //! reader.
 #![tactic(auto)]
 
-pub mod counted_reader;
-pub mod counted_writer;
-pub mod fault;
-pub mod fields;
-pub mod input;
-pub mod laws;
-pub mod output;
-pub mod parts;
-pub mod read_some;
-pub mod request;
-pub mod taken;
-pub mod write;
+mod counted_reader;
+mod counted_writer;
+mod fault;
+mod fields;
+mod input;
+mod laws;
+mod output;
+mod parts;
+mod read_some;
+mod request;
+mod taken;
+mod write;
+
+// One request, read from an input.
+pub use request::{read_request, read_request_counted};
+pub use taken::Taken;
+
+// The parts of a request: method, target, fields and body.
+pub use parts::{Parts, parts_of};
+
+// Bytes written whole to an output.
+pub use write::{write_whole, write_whole_counted};
+
+// What goes wrong between a desk and its client.
+pub use fault::WireFault;
+
+// Readers and writers.
+pub use input::Input;
+pub use output::Output;
+
+// A reader and a writer whose calls are counted, for proofs of what they saw.
+pub use counted_reader::CountedReader;
+pub use counted_writer::CountedWriter;
+
+// What is proved of reading and writing: functions that only proofs read.
+pub use laws::{head_is_found, read_from_memory, request_is_taken, write_to_memory};

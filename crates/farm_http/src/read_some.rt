@@ -7,7 +7,7 @@ ghost use Rattle.farm_http.specs.Counts.{reader_of, reading_of, IsSameReader, Is
 
 use crate::counted_reader::CountedReader;
 use crate::input::Input;
-use farm_types::limits::MOST_READS;
+use farm_types::MOST_READS;
 use std::io::ErrorKind;
 
 /// No byte came: the reader failed, or the calls ran out.

@@ -17,8 +17,9 @@ use crate::fields::declared_among;
 use crate::input::Input;
 use crate::read_some::read_some;
 use crate::taken::Taken;
-use farm_types::limits::{LONGEST_BODY, LONGEST_HEAD, MOST_FIELDS, MOST_READS};
-use farm_types::refusal::{BAD_REQUEST, Refusal, TOO_LARGE};
+use farm_types::{
+    BAD_REQUEST, LONGEST_BODY, LONGEST_HEAD, MOST_FIELDS, MOST_READS, Refusal, TOO_LARGE,
+};
 use httparse::Status;
 use httparse::spans::{EMPTY_HEADER_SPAN, HeaderSpan, RequestSpans, parse_request};
 use std::alloc::Global;

@@ -3,7 +3,7 @@ ghost use Rattle.std.specs.Prelude.{take};
 ghost use Rattle.farm_http.specs.Heads.{AreSpansOf};
 ghost use Rattle.farm_http.specs.Requests.{IsRequest};
 
-use farm_types::limits::MOST_FIELDS;
+use farm_types::MOST_FIELDS;
 use httparse::spans::{HeaderSpan, RequestSpans};
 
 /// One request as it came: a head, and the body that its fields declare. `parts_of` lends its

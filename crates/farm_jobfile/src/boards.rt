@@ -8,9 +8,7 @@ ghost use Rattle.farm_jobfile.specs.Lab.{entry_of, own_tags, board_in, entries_o
 use crate::call::call_of;
 use crate::fault::{FileFault, FileKind};
 use crate::fields::{name_at, name_of, table_of, tags_at};
-use farm_types::calls::{Call, Cmd};
-use farm_types::refusal::{BAD_TAG, Refusal};
-use farm_types::words::Tags;
+use farm_types::{BAD_TAG, Call, Cmd, Refusal, Tags};
 use std::alloc::Global;
 use toml::{Table, Value};
 

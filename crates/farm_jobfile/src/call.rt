@@ -8,9 +8,7 @@ ghost use Rattle.farm_jobfile.specs.declared.fault.FileFault.{FileFault};
 ghost use Rattle.farm_jobfile.specs.Lab.{given_entry, entry_of};
 
 use crate::fault::FileFault;
-use farm_types::calls::{Call, Cmd};
-use farm_types::fault::WordFault;
-use farm_types::words::{Key, Name};
+use farm_types::{Call, Cmd, Key, Name, WordFault};
 use std::alloc::Global;
 
 /// The caller who adds types and boards.

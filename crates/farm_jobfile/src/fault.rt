@@ -1,8 +1,7 @@
 //! Why a file spells nothing.
 ghost use Rattle.std.specs.Prelude.{◌≡◌};
 
-use farm_types::fault::WordFault;
-use farm_types::refusal::{BAD_JOB_FILE, BAD_LAB_FILE, NO_MEMORY, Refusal};
+use farm_types::{BAD_JOB_FILE, BAD_LAB_FILE, NO_MEMORY, Refusal, WordFault};
 use std::alloc::{AllocError, AllocFailed};
 use thiserror::Error;
 

@@ -7,8 +7,7 @@ ghost use Rattle.farm_jobfile.specs.Fields.{name_or, name_from, name_in, texts_i
 ghost use Rattle.farm_jobfile.specs.Fields.{tags_in};
 
 use crate::fault::{FileFault, FileKind, Reason};
-use farm_types::fault::WordFault;
-use farm_types::words::{Name, Tags};
+use farm_types::{Name, Tags, WordFault};
 use std::alloc::Global;
 use toml::{Table, Value};
 

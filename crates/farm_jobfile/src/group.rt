@@ -9,9 +9,7 @@ ghost use Rattle.farm_jobfile.specs.Job.{is_full_want, is_role, want_of, role_of
 
 use crate::fault::FileFault;
 use crate::member::Member;
-use farm_types::calls::{Cmd, Roles, Wants};
-use farm_types::rows::Want;
-use farm_types::words::{Body, Name, Priority, Tags};
+use farm_types::{Body, Cmd, Name, Priority, Roles, Tags, Want, Wants};
 use std::alloc::{AllocError, Global};
 
 /// The want of a board of a type that has these tags.

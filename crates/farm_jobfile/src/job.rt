@@ -12,8 +12,7 @@ use crate::group::group_of;
 use crate::member::Member;
 use crate::priority::priority_at;
 use crate::roles::roles_from;
-use farm_types::calls::Cmd;
-use farm_types::limits::LONGEST_JOB_FILE;
+use farm_types::{Cmd, LONGEST_JOB_FILE};
 use std::alloc::Global;
 use toml::Value;
 

@@ -11,8 +11,7 @@ use crate::document::{text_of, tree_of};
 use crate::fault::{FileFault, FileKind};
 use crate::fields::table_of;
 use crate::types::types_of;
-use farm_types::calls::Call;
-use farm_types::limits::LONGEST_LAB_FILE;
+use farm_types::{Call, LONGEST_LAB_FILE};
 use std::alloc::Global;
 use toml::Value;
 

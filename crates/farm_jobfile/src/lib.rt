@@ -7,20 +7,25 @@
 //! Read `specs/` in the order Reading, Document, Fields, Job, Lab.
 #![tactic(auto)]
 
-pub mod boards;
-pub mod call;
-pub mod document;
-pub mod fault;
-pub mod fields;
-pub mod group;
-pub mod job;
-pub mod lab;
-pub mod member;
-pub mod priority;
-pub mod roles;
-pub mod types;
-pub mod whole;
+mod boards;
+mod call;
+mod document;
+mod fault;
+mod fields;
+mod group;
+mod job;
+mod lab;
+mod member;
+mod priority;
+mod roles;
+mod types;
+mod whole;
 
-pub use fault::{FileFault, FileKind, Reason};
+// A job file, and the command that it spells.
 pub use job::job_of;
+
+// A lab file, and the calls that it spells.
 pub use lab::lab_of;
+
+// The first fault of a file.
+pub use fault::{FileFault, FileKind, Reason};

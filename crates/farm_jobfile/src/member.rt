@@ -1,8 +1,7 @@
 //! A member of a group, before it is a job.
 ghost use Rattle.std.specs.Prelude.{◌≡◌, IfOk};
 
-use farm_types::rows::copy_name;
-use farm_types::words::{Name, Tags};
+use farm_types::{Name, Tags, copy_name};
 use std::alloc::AllocError;
 
 /// What one job of a group asks for: a board of a type that has these tags; and the role that it

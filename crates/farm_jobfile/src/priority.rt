@@ -7,8 +7,7 @@ ghost use Rattle.farm_jobfile.specs.Job.{priority_or, named_or, priority_from, p
 
 use crate::fault::{FileFault, FileKind, Reason};
 use crate::whole::natural;
-use farm_types::refusal::{BAD_PRIORITY, Refusal};
-use farm_types::words::Priority;
+use farm_types::{BAD_PRIORITY, Priority, Refusal};
 use toml::Value;
 
 /// The priority of that number.

@@ -8,8 +8,7 @@ use crate::fault::{FileFault, FileKind, Reason};
 use crate::fields::{name_at, name_of, table_of, tags_at};
 use crate::member::Member;
 use crate::whole::natural;
-use farm_types::limits::MOST_WANTS;
-use farm_types::refusal::{BAD_COUNT, Refusal};
+use farm_types::{BAD_COUNT, MOST_WANTS, Refusal};
 use std::alloc::{AllocError, Global};
 use toml::{Table, Value};
 

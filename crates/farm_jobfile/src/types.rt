@@ -10,9 +10,7 @@ use crate::call::call_of;
 use crate::fault::{FileFault, FileKind, Reason};
 use crate::fields::{name_of, table_of};
 use crate::whole::natural;
-use farm_types::called::{CheckUnit, is_every};
-use farm_types::calls::{Call, Cmd};
-use farm_types::rows::Check;
+use farm_types::{Call, Check, CheckUnit, Cmd, is_every};
 use std::alloc::Global;
 use toml::{Table, Value};
 

@@ -2,9 +2,9 @@
 ghost use Rattle.std.specs.Prelude.{◌≡◌};
 ghost use Rattle.farm_keep.specs.Faults.{fault_code};
 
-use farm_core::farm::{BadRows, StepFault};
+use farm_core::{BadRows, StepFault};
 use farm_store::StoreFault;
-use farm_types::refusal::{BAD_STORE, CLOSED, NEW_SCHEMA, NO_MEMORY, OLD_SCHEMA, Refusal, STORE};
+use farm_types::{BAD_STORE, CLOSED, NEW_SCHEMA, NO_MEMORY, OLD_SCHEMA, Refusal, STORE};
 use thiserror::Error;
 
 /// Why a keeper gave no answer. The texts are those of the table of refusals.

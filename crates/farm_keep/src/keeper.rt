@@ -21,9 +21,9 @@ mod opening;
 mod run;
 
 use crate::fault::KeepFault;
-use farm_core::farm::Farm;
+use farm_core::Farm;
 use farm_store::put;
-use farm_types::calls::{Answer, Call};
+use farm_types::{Answer, Call};
 pub use run::RunEnd;
 use sqlite::{Alter, Connection};
 use std::alloc::Global;

@@ -22,8 +22,8 @@ ghost use Rattle.farm_keep.specs.Restarts.{Restart, run_all, calls_of, AnswersAg
 use crate::fault::KeepFault;
 use crate::migrating::migrate;
 use crate::reading::found;
-use farm_core::farm::Farm;
-use farm_store::laws::opened_stands;
+use farm_core::Farm;
+use farm_store::opened_stands;
 use sqlite::{Alter, Connection};
 use std::alloc::Global;
 

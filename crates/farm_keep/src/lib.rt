@@ -10,11 +10,24 @@
 
 mod fault;
 mod keeper;
-pub mod laws;
+mod laws;
 mod migrating;
 mod reading;
 
-pub use fault::KeepFault;
+// A farm and its store: a command's answer comes after its commit.
 pub use keeper::{Keeper, RunEnd};
-pub use migrating::migrate;
+
+// The farm that a store holds, looked at without keeping it.
 pub use reading::found;
+
+// A store of the first edition brought to the second.
+pub use migrating::migrate;
+
+// Why a command, or a store, wasn't taken.
+pub use fault::KeepFault;
+
+// What is proved of keepers: functions that only proofs read.
+pub use laws::{
+    acts_once, found_after_stop, found_after_upgrade, memory_is_clean, restarts_find_a_prefix,
+    restarts_join, runs_join,
+};

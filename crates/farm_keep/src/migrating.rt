@@ -4,7 +4,7 @@ ghost use Rattle.sqlite.specs.Held.{state};
 ghost use Rattle.farm_keep.specs.First.{Migrates};
 
 use crate::fault::KeepFault;
-use farm_sound::sound::is_sound;
+use farm_sound::is_sound;
 use farm_store::{load_first, raise};
 use sqlite::{Alter, Connection};
 use std::alloc::Global;

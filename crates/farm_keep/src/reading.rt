@@ -9,7 +9,7 @@ ghost use Rattle.farm_keep.specs.Faults.{IsFindFault};
 ghost use Rattle.farm_keep.specs.Found.{Finds};
 
 use crate::fault::KeepFault;
-use farm_core::farm::Farm;
+use farm_core::Farm;
 use farm_store::load;
 use sqlite::{Alter, Connection};
 use std::alloc::Global;

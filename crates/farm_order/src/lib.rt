@@ -6,6 +6,13 @@
 //! they name, and what a fault says of them.
 #![tactic(auto)]
 
-pub mod fault;
-pub mod order;
-pub mod words;
+mod fault;
+mod order;
+mod words;
+
+// The order that the program's words give.
+pub use order::{Database, Order, Report};
+pub use words::order_of;
+
+// Help to print, or what is wrong with the words.
+pub use fault::OrderFault;

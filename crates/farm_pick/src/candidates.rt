@@ -4,7 +4,7 @@ ghost use Rattle.farm_pick.specs.Test.{passes, is_candidate};
 
 use crate::fit;
 use crate::free::Free;
-use farm_types::rows::{BoardRow, TypeRow, Want};
+use farm_types::{BoardRow, TypeRow, Want};
 use std::marker::Model;
 
 /// Lends the boards that fit a want and pass a test, in the order of the list, each once.

@@ -9,7 +9,7 @@ ghost use Rattle.farm_pick.specs.Choice.{candidate_at};
 use crate::fit;
 use crate::free::Free;
 use crate::picked::Picked;
-use farm_types::rows::{BoardRow, TypeRow, Want};
+use farm_types::{BoardRow, TypeRow, Want};
 
 /// The first places of candidates for the want: all of them, or as many as the limit. At most one
 /// test a board.

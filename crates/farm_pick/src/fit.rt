@@ -8,9 +8,7 @@ ghost use Rattle.farm_pick.specs.Test.{carries, passes, is_candidate};
 ghost use Rattle.farm_pick.specs.Choice.{candidate_at};
 
 use crate::free::Free;
-use farm_types::rows::{BoardRow, Check, Health, Holder, TypeRow, Want};
-use farm_types::tags::Tag;
-use farm_types::words::Name;
+use farm_types::{BoardRow, Check, Health, Holder, Name, Tag, TypeRow, Want};
 
 fn is_of_kind(board: &BoardRow, kind: &Option<Name>) -> bool
     ensures { result ≡ option_map_or (λ k. bytes_eq board.now.kind k) kind.now true }

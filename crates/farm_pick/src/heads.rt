@@ -6,8 +6,7 @@ ghost use Rattle.farm_pick.specs.Heads.{AreHeads, heads_from};
 use crate::idle::IdleRow;
 use crate::spot::Spot;
 use crate::waiting;
-use farm_types::claims::Claim;
-use farm_types::words::Name;
+use farm_types::{Claim, Name};
 use std::collections::{BTreeMap, VecDeque};
 use std::marker::Model;
 

@@ -8,7 +8,7 @@ ghost use Rattle.farm_sound.specs.Place.{IsPlace};
 ghost use Rattle.farm_pick.specs.Heads.{queue_open};
 ghost use Rattle.farm_pick.specs.Kept.{idle_cmp};
 
-use farm_types::words::Name;
+use farm_types::Name;
 use std::alloc::AllocError;
 use std::collections::VecDeque;
 

@@ -16,8 +16,7 @@ use crate::idle::{self, IdleRow};
 use crate::picked::Picked;
 use crate::{choose, fit, kind};
 use farm_sound::seek;
-use farm_types::rows::{BoardRow, TypeRow, Want};
-use farm_types::words::Name;
+use farm_types::{BoardRow, Name, TypeRow, Want};
 use std::collections::VecDeque;
 
 /// How many boards are looked at one by one before a binary search.

@@ -5,7 +5,7 @@ ghost use Rattle.std.specs.Option.{option_map_or};
 ghost use Rattle.std.specs.Str.{bytes_eq};
 ghost use Rattle.farm_pick.specs.Kept.{kind_at, AreKinds};
 
-use farm_types::words::Name;
+use farm_types::Name;
 use std::alloc::AllocError;
 
 /// Whether a type is at the place.

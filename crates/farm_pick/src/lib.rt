@@ -26,17 +26,24 @@ mod spot;
 mod waiting;
 mod walk;
 
+// The least list: which boards are given to a claim.
 pub use candidates::Candidates;
 pub use fit::{carries_all, is_free};
 pub use free::Free;
+pub use picked::Picked;
+pub use search::{least, least_of};
+
+// The queue: which claim goes first.
+pub use order::{before, queue_order};
+pub use queue::queue_of;
+
+// The queues and the free boards, kept from call to call.
 pub use heads::Heads;
+pub use queues::Queues;
+pub use walk::Walk;
+
+// What is proved of them: functions that only proofs read.
 pub use laws::{
     backs_follow, checks_follow, collecting_follows, commands_follow, ends_follow, giving_follows,
     least_is_least, merging_serves, one_least, unmet_is_skipped, unmet_stays,
 };
-pub use order::{before, queue_order};
-pub use picked::Picked;
-pub use queue::queue_of;
-pub use queues::Queues;
-pub use search::{least, least_of};
-pub use walk::Walk;

@@ -2,7 +2,7 @@ ghost use Rattle.std.specs.Prelude.{◌≡◌};
 ghost use Rattle.std.specs.Ordering.{is_lt};
 ghost use Rattle.farm_types.specs.Pick.{shown_cmp};
 
-use farm_types::claims::Claim;
+use farm_types::Claim;
 use std::cmp::Ordering;
 
 /// Compares the places of two claims in the queue: as in LAVA the higher priority goes first, and

@@ -1,7 +1,7 @@
 ghost use Rattle.std.specs.Prelude.{◌≡◌, ◌+◌, ◌<◌, ◌≤◌, [], ◌∷◌, ◌++◌, length};
 ghost use Rattle.farm_types.specs.Limits.{most_wants};
 
-use farm_types::limits::MOST_WANTS;
+use farm_types::MOST_WANTS;
 use std::marker::Model;
 
 /// Up to four places in a list, counted from 0. Contracts see the list of these places.

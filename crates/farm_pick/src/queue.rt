@@ -8,9 +8,7 @@ ghost use Rattle.farm_pick.specs.Queue.{leads, most_mates, shown_group, shown_re
 ghost use Rattle.farm_pick.specs.Queue.{shown_groups};
 
 use crate::order::queue_order;
-use farm_types::claims::{Claim, ClaimKind};
-use farm_types::limits::MOST_WANTS;
-use farm_types::rows::{JobRow, JobState, ResRow, ResState};
+use farm_types::{Claim, ClaimKind, JobRow, JobState, MOST_WANTS, ResRow, ResState};
 use std::alloc::{AllocError, Global};
 use std::cmp::Ordering;
 

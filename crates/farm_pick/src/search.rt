@@ -10,8 +10,7 @@ ghost use Rattle.farm_pick.specs.Least.{boards_at};
 use crate::choose;
 use crate::free::Free;
 use crate::picked::Picked;
-use farm_types::rows::{BoardRow, TypeRow, Want};
-use farm_types::wants::Wants;
+use farm_types::{BoardRow, TypeRow, Want, Wants};
 
 /// The places of the least list of boards that meets the wants, or None where no list does. This
 /// form takes wants that are lent one by one, as those of a group's job rows; one want is

@@ -12,7 +12,7 @@ ghost use Rattle.farm_pick.specs.Several.{AreSeveral, IsFirstSeveral, IsNext, ha
 
 use crate::spot::{Place, Spot};
 use crate::waiting;
-use farm_types::claims::Claim;
+use farm_types::Claim;
 use std::alloc::AllocError;
 use std::cmp::Ordering;
 use std::collections::{BTreeMap, BTreeSet};

@@ -6,8 +6,7 @@ ghost use Rattle.std.specs.Cmp.Rules.{comparing};
 ghost use Rattle.std.specs.Ordering.{nat_cmp, on, flip_args, then_cmp, as_partial_cmp};
 ghost use Rattle.farm_pick.specs.Heads.{last_spot};
 
-use farm_types::limits::HIGHEST_PRIORITY;
-use farm_types::words::Priority;
+use farm_types::{HIGHEST_PRIORITY, Priority};
 use std::cmp::Ordering;
 
 /// A priority above that of each claim.

@@ -12,8 +12,7 @@ ghost use Rattle.farm_pick.specs.Kept.{spot_cmp, claim_at, place_at, TakesOrStay
 use crate::idle::{self, IdleRow};
 use crate::order::queue_order;
 use crate::spot::{Place, Spot};
-use farm_types::claims::Claim;
-use farm_types::words::Name;
+use farm_types::{Claim, Name};
 use std::alloc::{AllocError, Global};
 use std::cmp::Ordering;
 use std::collections::{BTreeMap, VecDeque};

@@ -2,11 +2,8 @@
 //! carry a keeper's clauses from one step to the next.
 use crate::script::{Deed, Step};
 use crate::text::{first_word, shown};
-use farm_core::farm::Farm;
-use farm_desk::converse::converse;
-use farm_desk::fault::DeskFault;
-use farm_desk::import::{ImportEnd, import};
-use farm_desk::{Input, Output};
+use farm_core::Farm;
+use farm_desk::{DeskFault, ImportEnd, Input, Output, converse, import};
 use farm_keep::{KeepFault, Keeper};
 use farm_report::{boards_text, queue_text, reservations_text, zone_of};
 use sqlite::{Alter, Connection};

@@ -8,8 +8,8 @@ ghost use Rattle.farm_report.specs.declared.fault.ReportFault.TheVariants.{BadMo
 use crate::columns::{left, push_line};
 use crate::fault::ReportFault;
 use crate::moment::check_text;
-use farm_core::farm::Farm;
-use farm_types::rows::BoardRow;
+use farm_core::Farm;
+use farm_types::BoardRow;
 use jiff::tz::Offset;
 use std::alloc::Global;
 

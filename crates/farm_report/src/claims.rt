@@ -4,8 +4,8 @@ ghost use Rattle.farm_types.specs.Pick.{queue, shown_claim};
 ghost use Rattle.farm_report.specs.Lines.{claim_line, claims_text};
 
 use crate::columns::{left, push_line, right};
-use farm_core::farm::Farm;
-use farm_types::claims::Claim;
+use farm_core::Farm;
+use farm_types::Claim;
 use std::alloc::{AllocError, Global};
 
 /// The farm's queue, in the order in which its claims are served. What a failed farm shows is open.

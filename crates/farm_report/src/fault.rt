@@ -1,5 +1,5 @@
 //! Why there is no report.
-use farm_types::refusal::{BAD_MOMENT, NO_MEMORY, Refusal};
+use farm_types::{BAD_MOMENT, NO_MEMORY, Refusal};
 use std::alloc::AllocError;
 use thiserror::Error;
 

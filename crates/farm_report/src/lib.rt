@@ -8,17 +8,25 @@
 //! the code's numbers beside theirs.
 #![tactic(auto)]
 
-pub mod boards;
-pub mod claims;
+mod boards;
+mod claims;
 mod columns;
-pub mod fault;
-pub mod laws;
-pub mod moment;
-pub mod reservations;
+mod fault;
+mod laws;
+mod moment;
+mod reservations;
 
+// The reports.
 pub use boards::boards_text;
 pub use claims::{claims_text, queue_text};
-pub use fault::ReportFault;
+pub use reservations::reservations_text;
+
+// The offset from UTC at which moments show.
 pub use jiff::tz::Offset;
 pub use moment::{MOST_MINUTES, zone_of};
-pub use reservations::reservations_text;
+
+// Why there is no report.
+pub use fault::ReportFault;
+
+// What is proved of moments: a function that only proofs read.
+pub use laws::moments_agree;

@@ -8,8 +8,8 @@ ghost use Rattle.farm_report.specs.declared.fault.ReportFault.TheVariants.{BadMo
 use crate::columns::{left, push_line, right};
 use crate::fault::ReportFault;
 use crate::moment::moment_text;
-use farm_core::farm::Farm;
-use farm_types::rows::ResRow;
+use farm_core::Farm;
+use farm_types::ResRow;
 use jiff::tz::Offset;
 use std::alloc::Global;
 

@@ -12,10 +12,9 @@ use crate::job::job_gives;
 use crate::reservation::res_gives;
 use crate::seek::{job_of, res_of, type_of};
 use crate::want::is_named;
-use farm_types::calls::Rows;
-use farm_types::limits::{MOST_BOARDS_OF_TYPE, MOST_JOBS_SINCE};
-use farm_types::rows::{BoardRow, Health, Holder, State, TypeRow};
-use farm_types::words::Name;
+use farm_types::{
+    BoardRow, Health, Holder, MOST_BOARDS_OF_TYPE, MOST_JOBS_SINCE, Name, Rows, State, TypeRow,
+};
 
 /// The lines on a type.
 pub fn is_type_row(row: &TypeRow) -> bool

@@ -11,9 +11,9 @@ ghost use Rattle.farm_sound.specs.Told.{IsJobGrouped, IsInStep, IsSaidOfJob};
 
 use crate::seek::{board_of, job_of, res_of};
 use crate::want::{names_board, names_type, tell_role, tell_want};
-use farm_types::calls::Rows;
-use farm_types::limits::{HIGHEST_PRIORITY, LONGEST_TEXT, MOST_WANTS};
-use farm_types::rows::{Holder, JobRow, JobState, State};
+use farm_types::{
+    HIGHEST_PRIORITY, Holder, JobRow, JobState, LONGEST_TEXT, MOST_WANTS, Rows, State,
+};
 
 /// The state that a job gives the board that it holds, if it holds one.
 pub fn job_gives(state: JobState) -> Option<State>

@@ -9,9 +9,7 @@ ghost use Rattle.farm_sound.specs.Told.{IsSaidOfRes};
 
 use crate::seek::board_of;
 use crate::want::{names_board, tell_want};
-use farm_types::calls::Rows;
-use farm_types::limits::LEASE;
-use farm_types::rows::{Holder, ResRow, ResState, State};
+use farm_types::{Holder, LEASE, ResRow, ResState, Rows, State};
 
 /// The state that a reservation gives the board that it holds, if it holds one.
 pub fn res_gives(state: ResState) -> Option<State>

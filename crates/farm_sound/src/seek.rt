@@ -6,8 +6,7 @@ ghost use Rattle.std.specs.Option.{option_copied};
 ghost use Rattle.farm_types.specs.Table.{type_cmp, board_cmp, job_cmp, res_cmp};
 ghost use Rattle.farm_sound.specs.Place.{IsPlace, type_in, board_in, job_in, res_in};
 
-use farm_types::rows::{BoardRow, JobRow, ResRow, TypeRow};
-use farm_types::words::Name;
+use farm_types::{BoardRow, JobRow, Name, ResRow, TypeRow};
 
 /// The place of the type with that name, or the place at which such a one is to be inserted.
 pub fn type_at(rows: &[TypeRow], name: &Name) -> Result<usize, usize>

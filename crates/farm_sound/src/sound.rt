@@ -8,13 +8,10 @@ ghost use Rattle.farm_sound.specs.Told.{IsOrdered, IsFew, IsTold};
 use crate::board::{is_board_row, is_held, is_of_few, is_type_row};
 use crate::job::{is_collecting, is_in_step, is_job_row, is_said_of_job};
 use crate::reservation::{is_res_row, is_said_of_res};
-use farm_types::calls::Rows;
-use farm_types::limits::{
-    LAST_KIND, LAST_MOMENT, MOST_BOARDS, MOST_COMMANDS, MOST_JOBS, MOST_REPLIES, MOST_RESERVATIONS,
-    MOST_TYPES, NUMBERS_END,
+use farm_types::{
+    BoardRow, JobRow, KeptRow, LAST_KIND, LAST_MOMENT, MOST_BOARDS, MOST_COMMANDS, MOST_JOBS,
+    MOST_REPLIES, MOST_RESERVATIONS, MOST_TYPES, NUMBERS_END, ResRow, Rows, TypeRow, is_sorted,
 };
-use farm_types::rows::{BoardRow, JobRow, KeptRow, ResRow, TypeRow};
-use farm_types::table::is_sorted;
 
 fn is_ordered(rows: &Rows) -> bool
     ensures { IsTrue result ↔ IsOrdered (farm_of rows.now) }

@@ -8,9 +8,7 @@ ghost use Rattle.farm_types.specs.Proper.{is_want};
 ghost use Rattle.farm_types.specs.Sound.{IsBoardOf};
 
 use crate::seek::{board_of, type_of};
-use farm_types::calls::Rows;
-use farm_types::rows::Want;
-use farm_types::words::Name;
+use farm_types::{Name, Rows, Want};
 
 /// A want names a type, if it names one, and tags.
 pub(crate) fn tell_want(want: &Want)

@@ -18,7 +18,7 @@ use crate::tables::{are_columns, is_keyed};
 use crate::upserts::rows::Upsert;
 use crate::upserts::tagged::Tagged;
 use crate::values::{name, number, text};
-use farm_types::rows::{BoardRow, Holder};
+use farm_types::{BoardRow, Holder};
 use sqlite::types::ValueRef;
 use sqlite::{Alter, Error, Row, Transaction};
 use sqlite_schema::schema::{Kind, Table};

@@ -2,7 +2,7 @@
 ghost use Rattle.std.specs.Prelude.{◌≡◌};
 ghost use Rattle.farm_store.specs.Faults.{fault_code};
 
-use farm_types::refusal::{BAD_STORE, NEW_SCHEMA, NO_MEMORY, OLD_SCHEMA, Refusal, STORE};
+use farm_types::{BAD_STORE, NEW_SCHEMA, NO_MEMORY, OLD_SCHEMA, Refusal, STORE};
 use sqlite::Error as SqlError;
 use std::alloc::{AllocError, AllocFailed};
 use thiserror::Error;

@@ -28,7 +28,7 @@ use crate::tables::{are_columns, is_numbered};
 use crate::upserts::rows::Upsert;
 use crate::upserts::tagged::Tagged;
 use crate::values::{name, name_if_any, number, text};
-use farm_types::rows::{JobRow, Want};
+use farm_types::{JobRow, Want};
 use sqlite::types::ValueRef;
 use sqlite::{Alter, Error, Row, Transaction};
 use sqlite_schema::schema::{Kind, Table};

@@ -12,7 +12,7 @@ use crate::queries::rows::Stored;
 use crate::tables::{are_columns, is_keyed};
 use crate::upserts::rows::Upsert;
 use crate::values::{name, number, text};
-use farm_types::rows::{KeptRow, Reply};
+use farm_types::{KeptRow, Reply};
 use sqlite::types::ValueRef;
 use sqlite::{Alter, Error, Row, Transaction};
 use sqlite_schema::schema::{Kind, Table};

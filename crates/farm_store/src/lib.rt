@@ -13,7 +13,7 @@ mod edition;
 mod fault;
 mod jobs;
 mod kept;
-pub mod laws;
+mod laws;
 mod meta;
 mod queries;
 mod raising;
@@ -24,8 +24,21 @@ mod types;
 mod upserts;
 mod values;
 
-pub use fault::StoreFault;
-pub use queries::{load, load_first};
-pub use raising::raise;
+// The tables, made anew, and the numbers of their editions.
 pub use schema::{FIRST_SCHEMA, SCHEMA, create};
+
+// The rows that they hold, read whole; and changed rows put.
+pub use queries::{load, load_first};
 pub use upserts::put;
+
+// Tables of the first edition made those of the second.
+pub use raising::raise;
+
+// What the store, or a file, refuses.
+pub use fault::StoreFault;
+
+// What is proved of stores and editions: functions that only proofs read.
+pub use laws::{
+    editions_are_apart, first_tables_lose_nothing, opened_stands, schemas_agree, sound_is_readable,
+    tables_lose_nothing, tables_tell,
+};

@@ -25,7 +25,7 @@ use crate::queries::cells::{is_number_at, is_text_at, number_at, text_at};
 use crate::schema::{FIRST_SCHEMA, SCHEMA};
 use crate::tables::{are_columns, is_keyed};
 use crate::values::{number, text};
-use farm_types::rows::MetaRow;
+use farm_types::MetaRow;
 use sqlite::types::ValueRef;
 use sqlite::{Alter, Error, Row, Transaction};
 use sqlite_schema::schema::{Kind, Table};

@@ -19,8 +19,7 @@ use crate::fault::StoreFault;
 use crate::meta::read_numbers;
 use crate::queries::rows::read;
 use crate::tables::is_farm_schema;
-use farm_types::calls::Rows;
-use farm_types::rows::{BoardRow, JobRow, KeptRow, MetaRow, ResRow, TypeRow};
+use farm_types::{BoardRow, JobRow, KeptRow, MetaRow, ResRow, Rows, TypeRow};
 use sqlite::{Alter, Connection, Transaction};
 use std::alloc::Global;
 

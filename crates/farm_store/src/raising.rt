@@ -13,7 +13,7 @@ use crate::fault::StoreFault;
 use crate::jobs::raise_jobs;
 use crate::meta::put_number;
 use crate::schema::SCHEMA;
-use farm_types::calls::Rows;
+use farm_types::Rows;
 use sqlite::{Alter, Connection, Error, Transaction};
 
 /// The rows of jobs, and then the two numbers.

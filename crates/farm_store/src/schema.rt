@@ -14,7 +14,7 @@ use crate::fault::StoreFault;
 use crate::meta::{put_number, put_numbers};
 use crate::tables::is_no_schema;
 use crate::{boards, jobs, kept, meta, reservations, types};
-use farm_types::rows::MetaRow;
+use farm_types::MetaRow;
 use sqlite::{Alter, Connection, Error, Transaction};
 
 /// The version of the tables, which one of their numbers tells.

@@ -13,7 +13,7 @@ use crate::queries::rows::Stored;
 use crate::tables::{are_columns, is_keyed};
 use crate::upserts::rows::Upsert;
 use crate::values::{name, number};
-use farm_types::rows::{Check, TypeRow};
+use farm_types::{Check, TypeRow};
 use sqlite::types::ValueRef;
 use sqlite::{Alter, Error, Row, Transaction};
 use sqlite_schema::schema::{Kind, Table};

@@ -18,7 +18,7 @@ use crate::fault::StoreFault;
 use crate::meta::put_numbers;
 use crate::upserts::rows::put_rows;
 use crate::upserts::texts::Texts;
-use farm_types::calls::Changes;
+use farm_types::Changes;
 use sqlite::{Alter, Connection, Error, Transaction};
 use std::alloc::Global;
 

@@ -4,7 +4,7 @@ ghost use Rattle.sqlite.specs.declared.types.Value.TheVariants.{Int, Text};
 ghost use Rattle.sqlite_value.specs.Value.{owned};
 ghost use Rattle.farm_types.specs.Small.{IsSmall};
 
-use farm_types::words::Name;
+use farm_types::Name;
 use sqlite::types::ValueRef;
 
 pub(crate) fn number<'a>(n: u64) -> ValueRef<'a>

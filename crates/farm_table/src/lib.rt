@@ -8,5 +8,8 @@ mod row;
 mod rows;
 mod table;
 
-pub use row::{Edit, Row};
+// Rows in strict order of their keys, and the log of those that changed.
 pub use table::Table;
+
+// What a table asks of its rows, and of what changes them.
+pub use row::{Edit, Row};

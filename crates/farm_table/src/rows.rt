@@ -1,7 +1,6 @@
 //! Types and boards as rows of tables, by their names.
 use crate::row::Row;
-use farm_types::rows::{BoardRow, TypeRow};
-use farm_types::words::Name;
+use farm_types::{BoardRow, Name, TypeRow};
 use std::alloc::AllocError;
 use std::cmp::Ordering;
 

@@ -1,8 +1,8 @@
 //! Calls as requests spell them.
 use crate::requests::read;
 use crate::sent::request;
-use farm_types::calls::Call;
-use farm_wire::ask::Ask;
+use farm_types::Call;
+use farm_wire::Ask;
 use std::alloc::Global;
 use std::test::Fail;
 

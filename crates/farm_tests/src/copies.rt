@@ -1,8 +1,6 @@
 //! Copies that no command makes.
 use crate::rows::want;
-use farm_types::fault::WordFault;
-use farm_types::rows::Want;
-use farm_types::wants::Wants;
+use farm_types::{Want, Wants, WordFault};
 use std::alloc::Global;
 use std::test::Fail;
 

@@ -1,6 +1,6 @@
 //! The making of the tables, stopped at each call of each of the two files of a store.
 use crate::stores::{make, opened, stopping};
-use farm_core::farm::Farm;
+use farm_core::Farm;
 use farm_keep::{KeepFault, found};
 use farm_store::StoreFault;
 use sqlite::{Alter, Connection, FileStore, Files};

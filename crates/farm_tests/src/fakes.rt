@@ -1,8 +1,7 @@
 //! Readers and writers that give and take little, or fail.
 ghost use Rattle.std.specs.Prelude.{Some};
 
-use farm_http::input::Input;
-use farm_http::output::Output;
+use farm_http::{Input, Output};
 use std::alloc::Global;
 use std::io;
 use std::io::{Error, ErrorKind, Read, Write};

@@ -1,10 +1,9 @@
 //! All fourteen commands in one run of the keeper, and in a run that a store is opened for.
 use crate::asked::call;
 use crate::stores::{made, make};
-use farm_core::farm::Farm;
+use farm_core::Farm;
 use farm_keep::{KeepFault, Keeper, RunEnd};
-use farm_types::calls::{Answer, Call};
-use farm_types::rows::{Holder, JobState, Outcome, Reply, ResState, State};
+use farm_types::{Answer, Call, Holder, JobState, Outcome, Reply, ResState, State};
 use sqlite::{Alter, Connection};
 use std::alloc::Global;
 use std::process::Abort;

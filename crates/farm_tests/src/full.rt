@@ -1,10 +1,8 @@
 //! The pass of a farm that has room for no job more, and a step that is refused memory.
 use crate::asked::call;
 use crate::rows::{board, job, no_rows, type_row};
-use farm_core::farm::{Farm, StepFault};
-use farm_types::calls::{Answer, Call, Rows};
-use farm_types::priority::Priority;
-use farm_types::rows::{Check, Health, Holder, JobState, Outcome, Reply};
+use farm_core::{Farm, StepFault};
+use farm_types::{Answer, Call, Check, Health, Holder, JobState, Outcome, Priority, Reply, Rows};
 use std::alloc::Global;
 use std::test::Fail;
 

@@ -2,11 +2,7 @@
 //! are lent, and which claim goes first.
 use crate::rows::{board, name, want};
 use farm_pick::{Candidates, Free, before, least_of};
-use farm_types::claims::{Claim, ClaimKind};
-use farm_types::fault::WordFault;
-use farm_types::priority::Priority;
-use farm_types::rows::{BoardRow, Want};
-use farm_types::table::is_sorted;
+use farm_types::{BoardRow, Claim, ClaimKind, Priority, Want, WordFault, is_sorted};
 use std::alloc::Global;
 use std::test::Fail;
 

@@ -3,8 +3,7 @@ ghost use Rattle.farm_types.specs.Small.{AreSmall};
 
 use crate::stores::{make, read};
 use farm_store::{StoreFault, put};
-use farm_types::calls::Changes;
-use farm_types::rows::MetaRow;
+use farm_types::{Changes, MetaRow};
 use sqlite::{Alter, Connection, Error};
 use std::alloc::Global;
 use std::process::Abort;

@@ -1,9 +1,7 @@
 //! Queues over jobs as no farm has them, and without memory.
 use crate::rows::job;
 use farm_pick::queue_of;
-use farm_types::claims::ClaimKind;
-use farm_types::priority::Priority;
-use farm_types::rows::{JobRow, JobState};
+use farm_types::{ClaimKind, JobRow, JobState, Priority};
 use std::alloc::Global;
 use std::test::Fail;
 

@@ -1,9 +1,5 @@
 //! What readers of words refuse that no request spells, by the number of the refusal.
-use farm_types::fault::WordFault;
-use farm_types::refusal::Refusal;
-use farm_types::rows::Want;
-use farm_types::wants::Wants;
-use farm_types::words::{Priority, Tags};
+use farm_types::{Priority, Refusal, Tags, Want, Wants, WordFault};
 use std::alloc::{AllocError, Global};
 use std::test::Fail;
 

@@ -1,13 +1,8 @@
 //! Requests that are read whole or cut, from readers that are slow, fail or never end.
 use crate::fakes::{Interrupted, Slow, Tally};
 use crate::sent::FIRST_TYPE;
-use farm_http::counted_reader::CountedReader;
-use farm_http::fault::WireFault;
-use farm_http::input::Input;
-use farm_http::request::{read_request, read_request_counted};
-use farm_http::taken::Taken;
-use farm_types::limits::{LONGEST_BODY, LONGEST_HEAD};
-use farm_types::refusal::{BAD_REQUEST, Refusal};
+use farm_http::{CountedReader, Input, Taken, WireFault, read_request, read_request_counted};
+use farm_types::{BAD_REQUEST, LONGEST_BODY, LONGEST_HEAD, Refusal};
 use std::alloc::{AllocError, Global};
 use std::io::Read;
 use std::process::Abort;

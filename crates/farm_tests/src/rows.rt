@@ -1,12 +1,10 @@
 //! Rows that are made by hand.
 ghost use Rattle.std.specs.Prelude.{◌≡◌, IfOk};
 
-use farm_types::calls::Rows;
-use farm_types::fault::WordFault;
-use farm_types::priority::Priority;
-use farm_types::rows::{BoardRow, Check, Health, JobRow, JobState, MetaRow, TypeRow, Want};
-use farm_types::tags::Tags;
-use farm_types::words::{Body, Name};
+use farm_types::{
+    BoardRow, Body, Check, Health, JobRow, JobState, MetaRow, Name, Priority, Rows, Tags, TypeRow,
+    Want, WordFault,
+};
 use std::alloc::Global;
 
 pub(crate) fn name(alloc: Global, text: &str) -> Result<Name, WordFault> {

@@ -1,10 +1,7 @@
 //! The least list beside a plain search through all lists of boards, on many small farms.
 use crate::rows::{board, type_row, want};
 use farm_pick::{Free, least};
-use farm_types::fault::WordFault;
-use farm_types::rows::{BoardRow, Check, Health, Holder, TypeRow, Want};
-use farm_types::table::is_sorted;
-use farm_types::wants::Wants;
+use farm_types::{BoardRow, Check, Health, Holder, TypeRow, Want, Wants, WordFault, is_sorted};
 use std::alloc::Global;
 use std::test::Fail;
 

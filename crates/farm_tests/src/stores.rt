@@ -1,7 +1,7 @@
 //! Stores with the tables of a farm, and stores in files that are stopped.
 use farm_keep::Keeper;
 use farm_store::{StoreFault, create, load};
-use farm_types::calls::Rows;
+use farm_types::Rows;
 use sqlite::{Alter, Connection, FileStore, Files, Options};
 use sqlite_disk::{Disk, Fuse, Memory};
 use std::alloc::Global;

@@ -7,13 +7,10 @@ ghost use Rattle.farm_types.specs.Small.{IsSmallKept, AreSmall};
 use crate::puts::write;
 use crate::rows::{board, job, name, tags, type_row};
 use crate::stores::{make, read};
-use farm_types::calls::{Changes, Rows};
-use farm_types::priority::Priority;
-use farm_types::rows::{
-    BoardRow, Check, Health, Holder, JobRow, JobState, KeptRow, MetaRow, Outcome, Reply, ResRow,
-    ResState, State, TypeRow, Want,
+use farm_types::{
+    BoardRow, Body, Changes, Check, Health, Holder, JobRow, JobState, KeptRow, Key, MetaRow,
+    Outcome, Priority, Reply, ResRow, ResState, Rows, State, TypeRow, Want,
 };
-use farm_types::words::{Body, Key};
 use sqlite::{Alter, Connection};
 use std::alloc::{AllocError, Global};
 use std::process::Abort;

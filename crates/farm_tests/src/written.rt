@@ -1,7 +1,6 @@
 //! Answers that are written whole, or as far as the writer takes them.
 use crate::fakes::{Narrow, Tally};
-use farm_http::counted_writer::CountedWriter;
-use farm_http::write::{write_whole, write_whole_counted};
+use farm_http::{CountedWriter, write_whole, write_whole_counted};
 use std::io::Write;
 use std::process::Abort;
 use std::test::Fail;

@@ -11,9 +11,7 @@ use crate::shown::{Listing, Shown};
 use crate::sink::Counter;
 use crate::small_shown::ReplyTo;
 use crate::statuses::{METHOD_NOT_ALLOWED, OK, UNAVAILABLE};
-use farm_types::claims::{Claim, Status};
-use farm_types::refusal::{Refusal, WRONG_METHOD};
-use farm_types::rows::{BoardRow, JobRow, Reply, ResRow, TypeRow};
+use farm_types::{BoardRow, Claim, JobRow, Refusal, Reply, ResRow, Status, TypeRow, WRONG_METHOD};
 use std::alloc::{AllocError, Global};
 
 /// An answer, whose rows are lent.

@@ -1,5 +1,5 @@
 //! What a request asks.
-use farm_types::calls::Call;
+use farm_types::Call;
 
 /// What a request asks: a call of the farm, or one of its views.
 #[derive(Debug, Drop)]

@@ -10,11 +10,7 @@ ghost use Rattle.farm_wire.specs.Commands.{new_tags_in, add_board, set_tags, set
 use crate::fields::{board_tags, name_of, tags_from, tags_of, text_of};
 use crate::object::object_of;
 use crate::parameter::board_of;
-use farm_types::calls::Cmd;
-use farm_types::fault::WordFault;
-use farm_types::refusal::{BAD_REQUEST, Refusal};
-use farm_types::rows::Health;
-use farm_types::words::Tags;
+use farm_types::{BAD_REQUEST, Cmd, Health, Refusal, Tags, WordFault};
 use serde_json::Value;
 use std::alloc::Global;
 

@@ -3,7 +3,7 @@
 use crate::part::{Part, put_object};
 use crate::shown::Shown;
 use crate::sink::Sink;
-use farm_types::rows::BoardRow;
+use farm_types::BoardRow;
 use std::alloc::AllocError;
 
 impl Shown for BoardRow {

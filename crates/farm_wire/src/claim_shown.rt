@@ -3,8 +3,7 @@
 use crate::part::{Part, put_object};
 use crate::shown::Shown;
 use crate::sink::Sink;
-use farm_types::claims::Claim;
-use farm_types::rows::ResRow;
+use farm_types::{Claim, ResRow};
 use std::alloc::AllocError;
 
 impl Shown for Claim {

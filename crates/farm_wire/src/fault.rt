@@ -2,8 +2,7 @@
 ghost use Rattle.std.specs.Prelude.{◌≡◌};
 
 use crate::allowed::Allowed;
-use farm_types::fault::WordFault;
-use farm_types::refusal::{NO_MEMORY, Refusal, WRONG_METHOD};
+use farm_types::{NO_MEMORY, Refusal, WRONG_METHOD, WordFault};
 use std::alloc::AllocError;
 use thiserror::Error;
 

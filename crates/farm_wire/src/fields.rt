@@ -6,9 +6,7 @@ ghost use Rattle.farm_types.specs.Reads.{Reads};
 ghost use Rattle.farm_wire.specs.Fields.{text_in, name_in, texts_in, tags_from, tags_in};
 ghost use Rattle.farm_wire.specs.Fields.{board_tags};
 
-use farm_types::fault::WordFault;
-use farm_types::refusal::{BAD_REQUEST, BAD_TAG, Refusal};
-use farm_types::words::{Name, Tags};
+use farm_types::{BAD_REQUEST, BAD_TAG, Name, Refusal, Tags, WordFault};
 use serde_json::Value;
 use std::alloc::Global;
 

@@ -2,7 +2,7 @@
 ghost use Rattle.std.specs.Prelude.{◌≡◌, IfOk, string_bytes};
 ghost use Rattle.farm_wire.specs.Replies.{head_text};
 
-use farm_types::refusal::reason_of;
+use farm_types::reason_of;
 use std::alloc::{AllocError, Global};
 
 /// The head of an answer, with further fields and the length of its body.

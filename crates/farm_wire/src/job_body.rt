@@ -14,10 +14,7 @@ use crate::fields::text_of;
 use crate::object::object_of;
 use crate::parameter::job_of;
 use farm_jobfile::FileFault;
-use farm_types::calls::Cmd;
-use farm_types::fault::WordFault;
-use farm_types::refusal::{BAD_REQUEST, Refusal};
-use farm_types::rows::Outcome;
+use farm_types::{BAD_REQUEST, Cmd, Outcome, Refusal, WordFault};
 use std::alloc::Global;
 
 /// The outcome that a word names. A job is canceled by a command of its own, not by its end.

@@ -6,7 +6,7 @@ ghost use Rattle.farm_wire.specs.Shown.{job_kind};
 use crate::part::{Part, put_object};
 use crate::shown::Shown;
 use crate::sink::Sink;
-use farm_types::rows::{JobRow, Outcome};
+use farm_types::{JobRow, Outcome};
 use std::alloc::AllocError;
 
 /// Whether a job is a check.

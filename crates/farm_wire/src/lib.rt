@@ -8,40 +8,55 @@
 //! Shown, Keys, Plain, Joins, Parts, Replies, Agreed.
 #![tactic(auto)]
 
-pub mod allowed;
-pub mod answers;
-pub mod ask;
-pub mod board_body;
-pub mod board_shown;
-pub mod claim_shown;
-pub mod constant;
-pub mod fault;
-pub mod fields;
-pub mod head;
-pub mod job_body;
-pub mod job_shown;
-pub mod laws;
-pub mod object;
-pub mod parameter;
-pub mod part;
-pub mod reserve_body;
-pub mod route;
-pub mod router;
-pub mod routes;
-pub mod sender;
-pub mod shown;
-pub mod sink;
-pub mod small_shown;
-pub mod statuses;
-pub mod text;
-pub mod type_body;
-pub mod type_shown;
+mod allowed;
+mod answers;
+mod ask;
+mod board_body;
+mod board_shown;
+mod claim_shown;
+mod constant;
+mod fault;
+mod fields;
+mod head;
+mod job_body;
+mod job_shown;
+mod laws;
+mod object;
+mod parameter;
+mod part;
+mod reserve_body;
+mod route;
+mod router;
+mod routes;
+mod sender;
+mod shown;
+mod sink;
+mod small_shown;
+mod statuses;
+mod text;
+mod type_body;
+mod type_shown;
 
-pub use farm_http::counted_reader::CountedReader;
-pub use farm_http::counted_writer::CountedWriter;
-pub use farm_http::fault::WireFault;
-pub use farm_http::input::Input;
-pub use farm_http::output::Output;
-pub use farm_http::request::{read_request, read_request_counted};
-pub use farm_http::taken::Taken;
-pub use farm_http::write::{write_whole, write_whole_counted};
+// One request, read from an input; and bytes written whole to an output.
+pub use farm_http::{
+    CountedReader, CountedWriter, Input, Output, Taken, WireFault, read_request,
+    read_request_counted, write_whole, write_whole_counted,
+};
+
+// What a request asks: a call or a view, by the desk's routes.
+pub use ask::{Ask, View};
+pub use fault::AskFault;
+pub use routes::Routes;
+
+// The bytes of an answer.
+pub use allowed::Allowed;
+pub use answers::{Out, answer_bytes};
+
+// The answers that take no memory.
+pub use constant::{closed_answer, no_memory_answer, store_answer};
+
+// The HTTP statuses that the table of refusals doesn't have.
+pub use statuses::{METHOD_NOT_ALLOWED, OK, UNAVAILABLE};
+
+// What is proved of paths, statuses and keys: functions that only proofs read.
+pub use laws::{keys_in_order, other_paths, parameters, paths_with_a_parameter, statuses_agree};

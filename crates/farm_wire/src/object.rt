@@ -3,8 +3,7 @@ ghost use Rattle.serde_json.specs.View.{view};
 ghost use Rattle.farm_types.specs.Reads.{Reads};
 ghost use Rattle.farm_wire.specs.Fields.{object_in};
 
-use farm_types::fault::WordFault;
-use farm_types::refusal::{BAD_REQUEST, Refusal};
+use farm_types::{BAD_REQUEST, Refusal, WordFault};
 use serde_json::Value;
 use std::alloc::Global;
 

@@ -9,10 +9,7 @@ ghost use Rattle.farm_types.specs.Reads.{Reads};
 ghost use Rattle.farm_wire.specs.Parameters.{parameter, begins_with_zero, is_number, number_in};
 ghost use Rattle.farm_wire.specs.Parameters.{board_in, job_in, reservation_in};
 
-use farm_types::fault::WordFault;
-use farm_types::limits::NUMBERS_END;
-use farm_types::refusal::{BAD_REQUEST, Refusal};
-use farm_types::words::Name;
+use farm_types::{BAD_REQUEST, NUMBERS_END, Name, Refusal, WordFault};
 use std::alloc::Global;
 
 /// What stands behind the first bytes.

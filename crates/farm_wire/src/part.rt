@@ -11,8 +11,7 @@ ghost use Rattle.farm_wire.specs.Shown.{fields};
 use crate::shown::{put_comma, put_number, put_rows};
 use crate::sink::Sink;
 use crate::text::{put_escaped, put_text, put_word};
-use farm_types::rows::Holder;
-use farm_types::words::{Name, Tags};
+use farm_types::{Holder, Name, Tags};
 use itoa::Buffer;
 use std::alloc::AllocError;
 

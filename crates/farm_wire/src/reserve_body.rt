@@ -9,10 +9,7 @@ ghost use Rattle.farm_wire.specs.Commands.{reserve};
 
 use crate::fields::tags_of;
 use crate::object::object_of;
-use farm_types::calls::Cmd;
-use farm_types::fault::WordFault;
-use farm_types::refusal::{BAD_PRIORITY, BAD_REQUEST, Refusal};
-use farm_types::words::Priority;
+use farm_types::{BAD_PRIORITY, BAD_REQUEST, Cmd, Priority, Refusal, WordFault};
 use serde_json::Value;
 use std::alloc::Global;
 

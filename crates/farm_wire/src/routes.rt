@@ -20,11 +20,8 @@ use crate::route::{CommandKind, Endpoint, Route, ViewKind};
 use crate::router::all_paths;
 use crate::sender::{caller_of, key_of};
 use crate::type_body::add_type_of;
-use farm_http::parts::{Parts, parts_of};
-use farm_http::taken::Taken;
-use farm_types::calls::{Call, Cmd};
-use farm_types::fault::WordFault;
-use farm_types::refusal::{BAD_REQUEST, NO_ROUTE, Refusal};
+use farm_http::{Parts, Taken, parts_of};
+use farm_types::{BAD_REQUEST, Call, Cmd, NO_ROUTE, Refusal, WordFault};
 use matchit::Router;
 use std::alloc::{AllocError, Global};
 

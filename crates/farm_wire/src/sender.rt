@@ -3,10 +3,8 @@ ghost use Rattle.std.specs.Prelude.{◌≡◌, Err, IsOk};
 ghost use Rattle.farm_types.specs.Reads.{Reads};
 ghost use Rattle.farm_wire.specs.Sender.{caller_in, key_in};
 
-use farm_http::parts::Parts;
-use farm_types::fault::WordFault;
-use farm_types::refusal::{BAD_REQUEST, Refusal};
-use farm_types::words::{Key, Name};
+use farm_http::Parts;
+use farm_types::{BAD_REQUEST, Key, Name, Refusal, WordFault};
 use std::alloc::Global;
 
 /// The name in the field `x-user`, which must stand there once; memory is wanted only where there

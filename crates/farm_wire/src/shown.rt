@@ -8,7 +8,7 @@ ghost use Rattle.farm_wire.specs.Shown.{listing};
 
 use crate::sink::Sink;
 use crate::text::{put_text, put_word};
-use farm_types::words::Tag;
+use farm_types::Tag;
 use itoa::Buffer;
 use std::alloc::AllocError;
 

@@ -3,9 +3,7 @@
 use crate::part::{Part, put_object};
 use crate::shown::Shown;
 use crate::sink::Sink;
-use farm_types::claims::Status;
-use farm_types::refusal::Refusal;
-use farm_types::rows::Reply;
+use farm_types::{Refusal, Reply, Status};
 use std::alloc::AllocError;
 
 /// The number of the command whose reply counts checks, expired reservations and served claims.

@@ -8,11 +8,7 @@ ghost use Rattle.farm_wire.specs.Commands.{unit_in, every_in, check_in, add_type
 
 use crate::fields::name_of;
 use crate::object::object_of;
-use farm_types::called::{CheckUnit, is_every};
-use farm_types::calls::Cmd;
-use farm_types::fault::WordFault;
-use farm_types::refusal::{BAD_REQUEST, Refusal};
-use farm_types::rows::Check;
+use farm_types::{BAD_REQUEST, Check, CheckUnit, Cmd, Refusal, WordFault, is_every};
 use serde_json::Value;
 use std::alloc::Global;
 

@@ -5,7 +5,7 @@ ghost use Rattle.farm_types.specs.Small.{every_of};
 use crate::part::{Part, put_object};
 use crate::shown::Shown;
 use crate::sink::Sink;
-use farm_types::rows::{Check, TypeRow};
+use farm_types::{Check, TypeRow};
 use std::alloc::AllocError;
 
 /// A check's frequency, and 0 without a check.

@@ -9,6 +9,7 @@
 
 mod laws;
 
+// The scripts, computed: functions that only proofs read.
 pub use laws::{
     book_as_worked, checks_as_worked, full_as_worked, groups_as_worked, kept_as_worked,
     limits_as_worked, order_as_worked, reservations_as_worked, words_as_worked,

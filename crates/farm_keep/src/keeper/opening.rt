@@ -21,7 +21,7 @@ ghost use Rattle.farm_keep.specs.Versions.{LooksForFarm};
 use crate::fault::KeepFault;
 use crate::keeper::Keeper;
 use crate::reading::found;
-use farm_core::farm::Farm;
+use farm_core::Farm;
 use farm_store::create;
 use sqlite::{Alter, Connection};
 use std::alloc::Global;

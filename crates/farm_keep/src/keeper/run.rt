@@ -10,7 +10,7 @@ ghost use Rattle.farm_keep.specs.Versions.{LooksForFarm};
 
 use crate::fault::KeepFault;
 use crate::keeper::Keeper;
-use farm_types::calls::{Answer, Call};
+use farm_types::{Answer, Call};
 use sqlite::{Alter, Connection};
 use std::alloc::Global;
 

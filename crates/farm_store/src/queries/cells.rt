@@ -15,9 +15,9 @@ ghost use Rattle.farm_store.specs.Reading.{ReadsAs};
 
 use crate::edition::Edition;
 use crate::fault::StoreFault;
-use farm_types::fault::WordFault;
-use farm_types::rows::{Health, JobState, Outcome, ResState, State};
-use farm_types::words::{Body, Key, Name, Priority, Tags};
+use farm_types::{
+    Body, Health, JobState, Key, Name, Outcome, Priority, ResState, State, Tags, WordFault,
+};
 use sqlite::Row;
 use sqlite::types::ValueRef;
 use std::alloc::Global;

@@ -2,8 +2,7 @@
 ghost use Rattle.std.specs.Prelude.{◌≡◌, string_bytes};
 ghost use Rattle.farm_types.specs.Tags.{tags_text};
 
-use farm_types::rows::{BoardRow, JobRow, ResRow};
-use farm_types::words::Tags;
+use farm_types::{BoardRow, JobRow, ResRow, Tags};
 
 /// A row that has tags.
 pub(crate) trait HasTags {

@@ -3,8 +3,7 @@ ghost use Rattle.std.specs.Prelude.{IfOk};
 ghost use Rattle.farm_store.specs.Texts.{AreBeside};
 
 use crate::upserts::tagged::{HasTags, Tagged};
-use farm_types::calls::Changes;
-use farm_types::rows::{BoardRow, JobRow, ResRow};
+use farm_types::{BoardRow, Changes, JobRow, ResRow};
 use std::alloc::{AllocError, Global};
 
 /// Each row beside the text of its tags.
