@@ -1,8 +1,8 @@
 """The library's surface: the public names of each crate, read from its sources.
 
-python3 tests/surface.py           compares the names with tests/surface.txt and the page with
+python3 tests/gate/surface.py           compares the names with tests/gate/surface.txt and the page with
                                    docs/LIBRARY.md; where they differ it shows how, and ends with 1
-python3 tests/surface.py --write   writes both anew
+python3 tests/gate/surface.py --write   writes both anew
 """
 from __future__ import annotations
 
@@ -12,8 +12,8 @@ import re
 import sys
 from dataclasses import dataclass, field
 
-TOP = pathlib.Path(__file__).resolve().parent.parent
-NAMES = TOP / "tests/surface.txt"
+TOP = pathlib.Path(__file__).resolve().parents[2]
+NAMES = TOP / "tests/gate/surface.txt"
 PAGE = TOP / "docs/LIBRARY.md"
 
 ITEM = re.compile(r"^pub (?:const )?(fn|struct|enum|trait|const|type) (\w+)", re.M)
@@ -280,7 +280,7 @@ def page(crates: dict[str, Crate]) -> str:
     """The page of the library: each crate, its groups, its names."""
     lines = ["# The library", "",
              "Each crate's public names, grouped as its root groups them: the signature without its contract,",
-             "and what the comment says first. Made by `python3 tests/surface.py --write` from the sources.",
+             "and what the comment says first. Made by `python3 tests/gate/surface.py --write` from the sources.",
              "A field `..` stands for those that are private. Contracts stand beside the code.", ""]
     for crate in crates.values():
         groups = groups_of(crate, crates)
