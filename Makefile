@@ -7,17 +7,17 @@
 .PHONY: run bin test wrong deb bench
 
 run:
-	@sh tests/day.sh
+	@sh tests/gate/day.sh
 
 bin:
-	@python3 tests/build.py
+	@python3 tests/gate/build.py
 
 test:
-	@sh tests/all.sh
+	@sh tests/gate/all.sh
 
 wrong:
-	@python3 tests/waves_test.py
-	@python3 tests/waves.py
+	@python3 tests/gate/waves_test.py
+	@python3 tests/gate/waves.py
 
 deb:
 	@sh packaging/build.sh bin/farm bin

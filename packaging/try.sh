@@ -25,7 +25,7 @@ chmod 755 "$room"
 mkdir "$root/srv/packages"
 cp "$packages"/fizgruk*.deb "$packages"/python3-fizgruk*.deb "$root/srv/packages"
 cp "$old" "$root/srv/old.deb"
-cp -r "$here/inside.sh" "$here/../tests/first_edition" "$root/srv"
+cp -r "$here/inside.sh" "$here/../tests/shared/first_edition" "$root/srv"
 cp /etc/resolv.conf "$root/etc/resolv.conf"
 chroot "$root" sh -c 'apt-get update -qq && DEBIAN_FRONTEND=noninteractive apt-get install -qq -y --no-install-recommends \
     systemd systemd-sysv lintian curl adduser python3' > "$room/log" 2>&1 || { tail -n 5 "$room/log"; exit 1; }

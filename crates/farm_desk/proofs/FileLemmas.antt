@@ -15,6 +15,7 @@ use Rattle.sqlite_wal.specs.Recovery.{Image}
 use Rattle.farm_store.specs.Columns.{Tables, rows_of}
 use Rattle.farm_store.specs.Holds.{Holds, Stands}
 use Rattle.farm_store.specs.Schema.{farm_schema, no_schema}
+use Rattle.farm_store.proofs.Listed.{lists_one}
 use Rattle.farm_keep.specs.Headline.{Adopts, Denies}
 use Rattle.farm_keep.specs.Kept.{Kept}
 use Rattle.farm_keep.specs.declared.fault.KeepFault.{KeepFault}
@@ -84,8 +85,16 @@ pub found_in : {D : Type 0} {g : Ghosts D} (image : Image) (conn : Held (FileSto
     → HasCleanDisk (file_state conn) → IsFoundIn image (file_state conn).now
 found_in image conn shows clean =
     let open_now = shows.opened clean in
+    let sound = (open_now.1 open_now.0.is_open).1 in
     subst (λ (d : Database). IsFoundIn image d) (sym open_now.0.clean)
-    (record { found = (shows.found clean).reads; ours = (shows.found clean).holds; sound = (open_now.1 open_now.0.is_open).1 })
+    (record {
+      found = (shows.found clean).reads;
+      ours = (shows.found clean).holds;
+      sound = sound;
+      only = λ schema listed.
+          let db = (file_state conn).committed in
+          lists_one (db.trees catalog_tree) schema db.schema listed sound.lists.listed;
+    })
 
 -- the files of a connection on which a farm was found hold that farm
 are_farms : {D : Type 0} {g : Ghosts D} (image : Image) (conn : Held (FileStore D g)) (k : Kept (FileStore D g))

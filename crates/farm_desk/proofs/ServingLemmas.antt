@@ -224,9 +224,3 @@ serves_within g old new n max (Err DeskFault.NoMemory) less serves = absurd serv
 serves_within g old new n max (Err DeskFault.Read) less serves = absurd serves
 serves_within g old new n max (Err DeskFault.Write) less serves = absurd serves
 serves_within g old new n max (Err (DeskFault.File fault)) less serves = absurd serves
-
--- of a keeper that was open the fault is never that it was closed
-pub never_closed : {S A : Type 0} (g : Ghosts S) (old new : Kept S) (max : ℕ) (end : Result A DeskFault) → old.is_open ≡ true
-    → ServesUntil g old new max end → (end ≡ Err (DeskFault.Keep KeepFault.Closed) ↔ old.is_open ≡ false)
-never_closed g old new max end opened serves =
-    (λ e. (subst (ServesUntil g old new max) e serves).was_closed, λ shut. absurd (cc))

@@ -70,17 +70,6 @@ visits_begin g Sure known k Whole = record {
   all = λ _. inl refl;
 }
 
--- nobody comes
-pub visits_none : {S : Type 0} (g : Ghosts S) (Sure : Type 0) (before after : Option Clientele) (k : Kept S) (Whole : Type 0)
-    → after ≡ before → IsOver before → ServesInTurn g Sure before after k k 1 Whole
-visits_none g Sure before after k Whole same over = record {
-  visits = [];
-  few = omega arith;
-  in_turn = refl;
-  clients = subst (λ a. AreOf before a []) (sym same) (of_none before);
-  all = λ _. inr (subst IsOver (sym same) over);
-}
-
 of_one : (before mid after : Option Clientele) (visit : Visit) → Comes before mid visit.came → Goes mid after visit.went → AreOf before after (visit ∷ [])
 of_one None mid after visit comes goes = subst (λ m. Goes m after visit.went) comes goes
 of_one (Some before) None after visit comes goes = absurd comes

@@ -9,6 +9,7 @@ use Rattle.sqlite.specs.State.{HasCleanDisk, IsLive, Opens}
 use Rattle.sqlite.specs.Tree.{Trees}
 use Rattle.sqlite_catalog.specs.Listing.{AreListed}
 use Rattle.sqlite_disk.specs.declared.Disk.{Ghosts}
+use Rattle.sqlite.specs.Schema.{Schema}
 use Rattle.sqlite_store.specs.declared.store.FileStore.{FileStore}
 use Rattle.sqlite_store.specs.FileStore as files
 use Rattle.sqlite_trees.specs.View.{IsClean, doubt}
@@ -113,11 +114,12 @@ GivesReason {D} {g} image result = IsAlwaysClean (over_files {D = D} {g = g})
 -- ---- which version they tell
 
 -- an open finds this database in the files: its trees are what they recover to, and whatever
--- database they hold, and these list its schema
+-- database they hold, and these list its schema and no other
 pub record IsFoundIn (image : Image) (db : Database) : Type 0 where
   pub found : AreFoundIn image db.trees
   pub ours : (trees : Trees) → HoldsDatabase image trees → db.trees ≡ trees
   pub sound : IsDatabase db
+  pub only : (schema : Schema) → AreListed (db.trees catalog_tree) schema → schema ≡ db.schema
 
 -- the keeper's fault, where there is one
 abbrev pub keep_fault : {A : Type 0} → Result A DeskFault → Option KeepFault

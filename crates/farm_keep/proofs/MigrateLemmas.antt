@@ -74,9 +74,6 @@ IsAnother f = (f ≢ StoreFault.NoMemory) × (f ≢ StoreFault.Store)
 pub bad_is_another : IsAnother StoreFault.BadStore
 bad_is_another = (λ is. let e = is in cc, λ is. let e = is in cc)
 
-pub old_is_another : IsAnother StoreFault.OldSchema
-old_is_another = (λ is. let e = is in cc, λ is. let e = is in cc)
-
 pub new_is_another : IsAnother StoreFault.NewSchema
 new_is_another = (λ is. let e = is in cc, λ is. let e = is in cc)
 

@@ -39,20 +39,6 @@ kept (p ∷ ps) F = kept ps (give_member S F (p.0, p.1))
 collected_jobs : (F : Farm) (group : ℕ) → (collect F group).jobs ≡ map (given S (pairs_for F (members F group))) F.jobs
 collected_jobs F group = ap (λ (G : Farm). G.jobs) (collect_is (members F group) F) ∙ jobs_given S (pairs_for F (members F group)) F
 
--- no member of any group wants something else
-pub wants_stay : (F : Farm) (c : Claimed) (n : ℕ) → map (λ (m : JobRow). m.want) (members (pass_over F c) n) ≡ map (λ (m : JobRow). m.want) (members F n)
-wants_stay F c n = by_cases (λ (G : Farm). map (λ (m : JobRow). m.want) (members G n) ≡ map (λ (m : JobRow). m.want) (members F n))
-    (may_collect F c) (collect F c.number) F (λ _. collected) (λ _. refl)
-  where
-    ps : List (JobRow × BoardRow)
-    ps = pairs_for F (members F c.number)
-
-    collected : map (λ (m : JobRow). m.want) (members (collect F c.number) n) ≡ map (λ (m : JobRow). m.want) (members F n)
-    collected =
-        ap (λ jobs. map (λ (m : JobRow). m.want) (filter (λ (r : JobRow). r.group == n) jobs)) (collected_jobs F c.number)
-        ∙ seen_same (given S ps) (λ (r : JobRow). r.group == n) (λ (m : JobRow). m.want) F.jobs
-        (AllByRecursion-weaker (λ m _. (ap (λ g. g == n) (given_group S ps m), λ _. (given_same S ps m).2)) F.jobs (all_true F.jobs))
-
 module _ (F : Farm) (sound : IsSound F) where
   group_stays : (c : Claimed) (j : JobRow) → IsGroupClaim F c j → queue (collect F j.group) ≡ queue F
   group_stays c j is = queue_stays F (collect F j.group) (given S ps) (λ r. r)

@@ -4,7 +4,6 @@ pub mod Meeting
 pub mod Unique
 pub mod Lists
 pub mod Answering
-pub mod BoardsAt
 pub mod Ordered
 pub mod Queued
 pub mod Closed
@@ -23,7 +22,6 @@ pub mod Sieved
 pub mod Walking
 pub mod Listed
 pub mod Bridge
-pub mod Former
 pub mod Spots
 pub mod Groups
 pub mod Taking

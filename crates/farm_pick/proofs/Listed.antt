@@ -176,13 +176,6 @@ module _ (kinds : List (List ℕ)) (rows : List IdleRow) (boards : List BoardRow
     pub part : IsShortlistBelow test limit at xs
     pub rest : map (shown_idle kinds) (drop k rows) ≡ map idle_board (filter free (drop at boards))
 
-  pub none_listed : map (shown_idle kinds) rows ≡ map idle_board (filter free boards) → (xs : List ℕ) → xs ≡ [] → IsListed 0 xs
-  none_listed is xs none = rw none (record {
-    at = 0;
-    part = record { short = omega arith; ascends = tt; pass = tt; below = tt; first = λ x less passes. absurd (omega arith) };
-    rest = is;
-  })
-
   test_free : (o : Option BoardRow) → ((c : BoardRow) → o ≡ Some c → free c ≡ false) → option_map_or (λ c. fits c want && free c) o false ≡ false
   test_free None none = refl
   test_free (Some c) none = ap (λ v. fits c want && v) (none c refl) ∙ and_none (fits c want)

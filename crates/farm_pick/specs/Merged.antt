@@ -69,21 +69,10 @@ UnmetIsSkipped = (t : ℕ) (s : Served) (c : Claimed)
 
 -- ---- what the queues lend
 
--- the first claim after a place of the queues that are open
-abbrev pub lent_open : Lists → Option (ℕ × ℕ) → Option Claim
-lent_open lists after = option_map (λ x. x.claim)
-    (find (λ x. is_later (last_spot after) x.claim && is_open lists.boards x.kind) lists.claims)
-
 -- and that of two boards or more, of all queues
 abbrev pub lent_several : Lists → Option (ℕ × ℕ) → Option Claim
 lent_several lists after = option_map (λ x. x.claim)
     (find (λ x. is_later (last_spot after) x.claim && nat_le 2 x.claim.boards) lists.claims)
-
--- while nobody collects the one that goes first
-abbrev pub lent_claim : Bool → Lists → Option (ℕ × ℕ) → Option Claim
-lent_claim nobody lists after =
-    if nobody then earlier_of (lent_open lists after) (lent_several lists after)
-    else lent_open lists after
 
 -- it is the next claim, `former`'s among them, that may change the farm
 abbrev pub next_lent : Farm → Option Claimed → Option Claimed

@@ -1,6 +1,9 @@
--- A list of objects that lists the farm's schema lists no other.
-use Rattle.std.proofs.Common.{◌≡◌, ◌≢◌, ◌⊎◌, inl, inr, ℕ, pos, ◌+◌, ◌<◌, List, [], ◌∷◌, ◌++◌, codes, filter, slice_get, slice_index_or, Bool, true, false, None, Some, Ok, refl, sym, ap, subst, ◌∙◌, arith}
+-- A list of objects lists one schema at most.
+use Rattle.std.proofs.Common.{MatchBool, Option, ◌≡◌, ◌≢◌, ◌⊎◌, inl, inr, ℕ, pos, ◌+◌, ◌<◌, List, [], ◌∷◌, ◌++◌, codes, filter, slice_get, slice_index_or, Bool, true, false, None, Some, Ok, refl, sym, ap, subst, ◌∙◌, arith}
+use Rattle.std.specs.Fmt.{decimal}
 use Rattle.std.specs.List.{AllZip}
+use Rattle.std.proofs.lemmas.Fmt.{decimal_injective}
+use Rattle.std.proofs.lemmas.List.{append_cancel_left}
 use Rattle.sqlite.specs.declared.types.Value.{Value}
 use Rattle.sqlite.specs.declared.types.Value.TheVariants.{Null, Int, Real, Text, Blob}
 use Rattle.sqlite.specs.Order.{Row}
@@ -10,8 +13,9 @@ use Rattle.sqlite_schema.specs.Names.{same_name}
 use Rattle.sqlite_schema.specs.declared.schema.Table.{Table}
 use Rattle.sqlite_schema.specs.declared.schema.Index.{Index}
 use Rattle.sqlite_schema.specs.declared.schema.Schema.{Schema}
+use Rattle.sqlite_schema.specs.declared.schema.View.{View}
 use Rattle.sqlite_rules.specs.Lists.{Has}
-use Rattle.sqlite_catalog.specs.Listing.{IsTableRow, IsIndexRow, IsViewRow, IsDefined, AreListed, automatic, is_table_row, is_index_row, is_view_row}
+use Rattle.sqlite_catalog.specs.Listing.{AreListed, IsAside, IsDefined, IsForeign, IsIndexRow, IsReadable, IsTableRow, IsViewRow, automatic, is_table_row, is_index_row, is_view_row}
 use Rattle.sqlite_resolve.specs.Compile.{table_defined_by}
 use Rattle.sqlite_rules.proofs.ListLemmas.{all_has}
 use Rattle.std.proofs.Common.{zero, suc}
@@ -45,31 +49,6 @@ zip_same R one (r ∷ rows) [] ys a b = absurd a
 zip_same R one (r ∷ rows) (x ∷ xs) [] a b = absurd b
 zip_same R one (r ∷ rows) (x ∷ xs) (y ∷ ys) a b = let first = one r x y a.0 b.0 in let more = zip_same R one rows xs ys a.1 b.1 in cc
 
-none_left : {X : Type 0} (R : Row → X → Type 0) (rows : List Row) (xs : List X) → AllZip R rows [] → AllZip R rows xs → xs ≡ []
-none_left R [] [] a b = refl
-none_left R [] (x ∷ xs) a b = absurd b
-none_left R (r ∷ rows) xs a b = absurd a
-
-single : (k : List ℕ) (at : ℕ) (key : List ℕ) → slice_get (k ∷ []) at ≡ Some key → at ≡ 0
-single k zero key is = refl
-single k (suc at) key is = absurd (let e = is in cc)
-
-abbrev no_keys : List (List ℕ)
-no_keys = []
-
-empty : (at : ℕ) (key : List ℕ) → slice_get no_keys at ≡ Some key → at ≡ 0
-empty at key is = absurd (let e = is in cc)
-
--- each table of the farm has one key at most
-one_key : (t : Table) → Has farm_schema.tables t → (at : ℕ) (key : List ℕ) → slice_get t.uniques at ≡ Some key → at ≡ 0
-one_key t (inl e) at key is = single (1 ∷ []) at key (subst (λ (u : Table). slice_get u.uniques at ≡ Some key) e is)
-one_key t (inr (inl e)) at key is = single (1 ∷ []) at key (subst (λ (u : Table). slice_get u.uniques at ≡ Some key) e is)
-one_key t (inr (inr (inl e))) at key is = empty at key (subst (λ (u : Table). slice_get u.uniques at ≡ Some key) e is)
-one_key t (inr (inr (inr (inl e)))) at key is = empty at key (subst (λ (u : Table). slice_get u.uniques at ≡ Some key) e is)
-one_key t (inr (inr (inr (inr (inl e))))) at key is = single (1 ∷ 2 ∷ []) at key (subst (λ (u : Table). slice_get u.uniques at ≡ Some key) e is)
-one_key t (inr (inr (inr (inr (inr (inl e)))))) at key is = single (1 ∷ []) at key (subst (λ (u : Table). slice_get u.uniques at ≡ Some key) e is)
-one_key t (inr (inr (inr (inr (inr (inr e)))))) at key is = absurd e
-
 -- no two tables have one name
 one_name : (tables : List Table) → IsAscending (λ s t. same_name s.name t.name ≡ false) tables → (s t : Table) → Has tables s → Has tables t → s.name ≡ t.name → s ≡ t
 one_name [] named s t h k same = absurd h
@@ -82,38 +61,109 @@ one_name (u ∷ tables) named s t (inr h) (inl k) same =
     let name : u.name ≡ s.name = ap (λ (v : Table). v.name) (sym k) ∙ sym same in absurd (let e = sym (same_itself s.name) ∙ ap (λ n. same_name n s.name) (sym name) ∙ apart in cc)
 one_name (u ∷ tables) named s t (inr h) (inr k) same = one_name tables named.1 s t h k same
 
-same_index : IsAscending (λ s t. same_name s.name t.name ≡ false) farm_schema.tables → (row : Row) (i j : Index) → IsIndexRow farm_schema.tables row i → IsIndexRow farm_schema.tables row j → i ≡ j
-same_index named row i j a b =
+-- the name of an index that SQLite makes tells which UNIQUE of its table it is for
+same_unique : (name : List ℕ) (m n : ℕ) → m < 65536 → n < 65536
+    → codes "sqlite_autoindex_" ++ (name ++ (codes "_" ++ decimal (m + 1))) ≡ codes "sqlite_autoindex_" ++ (name ++ (codes "_" ++ decimal (n + 1))) → m ≡ n
+same_unique name m n low high same =
+    let behind = append_cancel_left (codes "sqlite_autoindex_") (name ++ (codes "_" ++ decimal (m + 1))) (name ++ (codes "_" ++ decimal (n + 1))) same in
+    let last = append_cancel_left name (codes "_" ++ decimal (m + 1)) (codes "_" ++ decimal (n + 1)) behind in
+    let number = append_cancel_left (codes "_") (decimal (m + 1)) (decimal (n + 1)) last in
+    let next : m + 1 ≡ n + 1 = decimal_injective (m + 1) (n + 1) (omega (arith, low)) (omega (arith, high)) number in
+    omega (arith, next)
+
+same_index : (tables : List Table) → IsAscending (λ s t. same_name s.name t.name ≡ false) tables → (row : Row) (i j : Index) → IsIndexRow tables row i → IsIndexRow tables row j → i ≡ j
+same_index tables named row i j a b =
     let owner : a.table.name ≡ b.table.name = (let e = sym a.described.owner_is ∙ b.described.owner_is in cc) in
-    let table = one_name farm_schema.tables named a.table b.table a.listed b.listed owner in
+    let table = one_name tables named a.table b.table a.listed b.listed owner in
     let tree = same_id row i.tree j.tree a.described.id b.described.id in
-    by (column row 4) (a.defined) (subst (λ t. IsDefined t j (column row 4)) (sym table) b.defined) tree
+    let name : i.name ≡ j.name = (let e = sym a.described.name_is ∙ b.described.name_is in cc) in
+    by (column row 4) a.defined (subst (λ t. IsDefined t j (column row 4)) (sym table) b.defined) tree name
   where
-    by : (v : Value) → IsDefined a.table i v → IsDefined a.table j v → i.tree ≡ j.tree → i ≡ j
-    by Null p q tree =
-        let first = one_key a.table a.listed p.0 p.1 p.2 in let second = one_key a.table a.listed q.0 q.1 q.2 in
-        let at : p.0 ≡ q.0 = first ∙ sym second in
+    by : (v : Value) → IsDefined a.table i v → IsDefined a.table j v → i.tree ≡ j.tree → i.name ≡ j.name → i ≡ j
+    by Null p q tree name =
+        let at : p.0 ≡ q.0 = same_unique a.table.name p.0 q.0 p.4 q.4 (sym (ap (λ (x : Index). x.name) p.3) ∙ name ∙ ap (λ (x : Index). x.name) q.3) in
         let key : p.1 ≡ q.1 = (let e = sym p.2 ∙ ap (slice_get a.table.uniques) at ∙ q.2 in cc) in
         p.3 ∙ ap (λ n. automatic a.table n p.1 i.tree) at ∙ ap (λ k. automatic a.table q.0 k i.tree) key ∙ ap (automatic a.table q.0 q.1) tree ∙ sym q.3
-    by (Int n) p q tree = absurd p
-    by (Real x) p q tree = absurd p
-    by (Text sql) p q tree =
+    by (Int n) p q tree name = absurd p
+    by (Real x) p q tree name = absurd p
+    by (Text sql) p q tree name =
         let made : p.0 ≡ q.0 = same_ok (sym p.1 ∙ q.1) in
         p.2 ∙ ap (λ (m : Index). record m { tree = i.tree; table = a.table.tree }) made ∙ ap (λ (n : ℕ). record q.0 { tree = n; table = a.table.tree }) tree ∙ sym q.2
-    by (Blob x) p q tree = absurd p
+    by (Blob x) p q tree name = absurd p
 
-pub lists_one : (objects : List Row) (schema : Schema) → AreListed objects farm_schema → AreListed objects schema → schema ≡ farm_schema
-lists_one objects schema ours it =
-    let tables = zip_same IsTableRow same_table (filter is_table_row objects) schema.tables farm_schema.tables it.tables ours.tables in
-    let indexes = zip_same (IsIndexRow farm_schema.tables) (same_index ours.named) (filter is_index_row objects) schema.indexes farm_schema.indexes (subst (λ ts. AllZip (IsIndexRow ts) (filter is_index_row objects) schema.indexes) tables it.indexes) ours.indexes in
-    let views = none_left IsViewRow (filter is_view_row objects) schema.views ours.views it.views in
-    ap (λ ts. record schema { tables = ts }) tables ∙ ap (λ is. record schema { tables = farm_schema.tables; indexes = is }) indexes ∙ ap (λ vs. record farm_schema { views = vs }) views
+-- ---- views, and what stands beside as it is
+
+abbrev first_code : List ℕ → ℕ
+first_code word = slice_index_or word 0 0
+
+-- words of different first letters
+apart : (a b : List ℕ) → first_code a ≢ first_code b → a ≢ b
+apart a b differ same = differ (ap first_code same)
+
+same_bound : (R : Type 0) (b c : Bool) → MatchBool b R (¬ R) → MatchBool c R (¬ R) → b ≡ c
+same_bound R true true p q = refl
+same_bound R true false p q = absurd (q p)
+same_bound R false true p q = absurd (p q)
+same_bound R false false p q = refl
+
+same_foreign : (row : Row) (u v : View) (kind : List ℕ) (code : ℕ) → IsForeign row u kind code → IsForeign row v kind code → (u.binds ≡ v.binds) × (u.is_bound ≡ v.is_bound)
+same_foreign row u v kind code (inl p) (inl q) = (p.2 ∙ sym q.2, same_bound (IsReadable row) u.is_bound v.is_bound p.3 q.3)
+same_foreign row u v kind code (inl p) (inr (inl q)) = absurd (apart (codes "table") (codes "index") (λ e. omega (arith, e)) (sym p.0 ∙ q.0))
+same_foreign row u v kind code (inl p) (inr (inr q)) = absurd (let c = p.1 in let d = q.1 in elim c [ inl is ↦ omega (arith, is, d) | inr is ↦ omega (arith, is, d) ])
+same_foreign row u v kind code (inr (inl p)) (inl q) = absurd (apart (codes "table") (codes "index") (λ e. omega (arith, e)) (sym q.0 ∙ p.0))
+same_foreign row u v kind code (inr (inl p)) (inr (inl q)) = (p.2 ∙ sym q.2, p.3 ∙ sym q.3)
+same_foreign row u v kind code (inr (inl p)) (inr (inr q)) = absurd (let c = p.1 in let d = q.1 in omega (arith, c, d))
+same_foreign row u v kind code (inr (inr p)) (inl q) = absurd (let c = q.1 in let d = p.1 in elim c [ inl is ↦ omega (arith, is, d) | inr is ↦ omega (arith, is, d) ])
+same_foreign row u v kind code (inr (inr p)) (inr (inl q)) = absurd (let c = q.1 in let d = p.1 in omega (arith, c, d))
+same_foreign row u v kind code (inr (inr p)) (inr (inr q)) = (p.2 ∙ sym q.2, p.3 ∙ sym q.3)
+
+-- a view has no table of its own, and all else has one
+no_view : (row : Row) (v : View) (kind : List ℕ) (code : ℕ) → kind ≡ codes "view" → ¬ IsForeign row v kind code
+no_view row v kind code is (inl p) = apart (codes "view") (codes "table") (λ e. omega (arith, e)) (sym is ∙ p.0)
+no_view row v kind code is (inr (inl p)) = apart (codes "view") (codes "index") (λ e. omega (arith, e)) (sym is ∙ p.0)
+no_view row v kind code is (inr (inr p)) = apart (codes "view") (codes "trigger") (λ e. omega (arith, e)) (sym is ∙ p.0)
+
+view_is : (u v : View) → u.name ≡ v.name → u.tree ≡ v.tree → u.sql ≡ v.sql → u.foreign ≡ v.foreign → u.binds ≡ v.binds → u.is_bound ≡ v.is_bound → u ≡ v
+view_is u v name tree sql foreign binds bound =
+    λ i. record { name = name i; tree = tree i; sql = sql i; foreign = foreign i; binds = binds i; is_bound = bound i }
+
+same_aside : (row : Row) (u v : View) (kind owner : List ℕ) (code : ℕ) (f g : Option (List ℕ)) → u.foreign ≡ f → v.foreign ≡ g → u.name ≡ v.name → u.tree ≡ v.tree
+    → IsAside row u kind owner code f → IsAside row v kind owner code g → u ≡ v
+same_aside row u v kind owner code None None none also name tree p q =
+    let sql : u.sql ≡ v.sql = (let e = sym p.3 ∙ q.3 in cc) in
+    view_is u v name tree sql (none ∙ sym also) (p.6 ∙ sym q.6) (p.7 ∙ sym q.7)
+same_aside row u v kind owner code None (Some t) none also name tree p q = absurd (no_view row v kind code p.0 q.2)
+same_aside row u v kind owner code (Some s) None none also name tree p q = absurd (no_view row u kind code q.0 p.2)
+same_aside row u v kind owner code (Some s) (Some t) one other name tree p q =
+    let beside = same_foreign row u v kind code p.2 q.2 in
+    view_is u v name tree (p.1 ∙ sym q.1) (one ∙ ap Some (sym p.0 ∙ q.0) ∙ sym other) beside.0 beside.1
+
+same_view : (row : Row) (u v : View) → IsViewRow row u → IsViewRow row v → u ≡ v
+same_view row u v a b =
+    let kind : a.kind ≡ b.kind = (let e = sym a.described.kind_is ∙ b.described.kind_is in cc) in
+    let owner : a.owner ≡ b.owner = (let e = sym a.described.owner_is ∙ b.described.owner_is in cc) in
+    let code : a.code ≡ b.code = sym a.described.shape_is ∙ b.described.shape_is in
+    let name : u.name ≡ v.name = (let e = sym a.described.name_is ∙ b.described.name_is in cc) in
+    let tree = same_id row u.tree v.tree a.described.id b.described.id in
+    same_aside row u v b.kind b.owner b.code u.foreign v.foreign refl refl name tree
+    (subst (λ k. IsAside row u k b.owner b.code u.foreign) kind
+    (subst (λ o. IsAside row u a.kind o b.code u.foreign) owner
+    (subst (λ c. IsAside row u a.kind a.owner c u.foreign) code a.aside))) b.aside
+
+-- ---- the schema
+
+pub lists_one : (objects : List Row) (s t : Schema) → AreListed objects s → AreListed objects t → s ≡ t
+lists_one objects s t a b =
+    let tables : s.tables ≡ t.tables = zip_same IsTableRow same_table (filter is_table_row objects) s.tables t.tables a.tables b.tables in
+    let indexes : s.indexes ≡ t.indexes = zip_same (IsIndexRow t.tables) (same_index t.tables b.named) (filter is_index_row objects) s.indexes t.indexes (subst (λ ts. AllZip (IsIndexRow ts) (filter is_index_row objects) s.indexes) tables a.indexes) b.indexes in
+    let views : s.views ≡ t.views = zip_same IsViewRow same_view (filter is_view_row objects) s.views t.views a.views b.views in
+    λ i. record { tables = tables i; indexes = indexes i; views = views i }
 
 -- a connection that was just opened on trees that hold the tables stands for them, since an open one leaves its last commit alone
 pub opened_stands : (s : State) → Opens s → IsLive s → ((db : Trees) → s.may_leave db → db ≡ s.committed.trees) → (T : Tables) → Holds s.committed.trees T → Stands s T
 opened_stands s opens live settled T holds =
     let sound = (live opens.is_open).1 in
-    let schema = lists_one (s.committed.trees catalog_tree) s.committed.schema holds.listed sound.lists.listed in
+    let schema = lists_one (s.committed.trees catalog_tree) s.committed.schema farm_schema sound.lists.listed holds.listed in
     record {
       autocommit = opens.autocommit;
       same = λ shown. opens.clean;

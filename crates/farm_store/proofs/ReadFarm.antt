@@ -179,15 +179,3 @@ reads_edition e r s read schema version = record {
   schema = schema;
   version = version;
 }
-
--- no tables stand in a store with another schema, so rows that were read there are refused as bad
-pub not_ours : (e : Edition) (rows : Rows) (s : State) → IsTrue s.is_open → s.now.schema ≢ farm_schema → ReadsEdition e (Ok rows) s → ReadsEdition e (Err BadStore) s
-not_ours e rows s is_open others told = record {
-  rows = tt;
-  readable = tt;
-  farm = tt;
-  bad = λ _ F good at. others (at.shown is_open).schema;
-  other = λ _ T at. absurd (others (at.shown is_open).schema);
-  schema = λ T at. absurd (others (at.shown is_open).schema);
-  version = read_on e rows (Err BadStore) s.now told.version (λ is. cc, λ is. cc);
-}

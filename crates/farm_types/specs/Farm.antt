@@ -55,9 +55,6 @@ put_type F row = record F { types = put type_cmp F.types row }
 abbrev pub put_board : Farm → BoardRow → Farm
 put_board F row = record F { boards = put board_cmp F.boards row }
 
-abbrev pub put_boards : Farm → List BoardRow → Farm
-put_boards F rows = record F { boards = put_all board_cmp F.boards rows }
-
 abbrev pub put_jobs : Farm → List JobRow → Farm
 put_jobs F rows = record F { jobs = put_all job_cmp F.jobs rows }
 

@@ -1,0 +1,135 @@
+#!/bin/sh
+# Builds the Debian packages of a built program and looks into them: sh tests/program/package.sh bin/farm
+# What each has and does at its installation, that its tools say their help, each file's sum, each man page of
+# docs/, each document that is named, and what lintian says where that is there.
+# Ends with status 77 where they can't be built. packaging/try.sh installs them in a clean Debian.
+set -eu
+program=$(realpath "$1")
+cd "$(dirname "$0")/../.."
+folder=$(mktemp -d)
+trap 'rm -r "$folder"' EXIT
+fail() {
+    echo "package: $*"
+    exit 1
+}
+status=0
+built=$(sh packaging/build.sh "$program" "$folder") || status=$?
+[ "$status" = 0 ] || { echo "$built"; exit "$status"; }
+tree=$folder/tree
+for deb in $built; do
+    dpkg-deb -x "$deb" "$tree"
+    name=$(dpkg-deb -f "$deb" Package)
+    dpkg-deb -e "$deb" "$folder/$name"
+    (cd "$tree" && md5sum --quiet -c "$folder/$name/md5sums") || fail "the sums of $name"
+    dpkg-deb --fsys-tarfile "$deb" | tar -t > "$folder/$name/files"
+    for script in preinst postinst prerm postrm; do
+        [ ! -e "$folder/$name/$script" ] || sh -n "$folder/$name/$script" || fail "$name's $script is no script"
+    done
+done
+[ "$(echo "$built" | wc -l)" = 4 ] || fail "it builds $built"
+
+# ---- what each package has and needs
+field() { dpkg-deb -f "$folder"/"$1"_*.deb "$2"; }
+[ "$(field fizgruk-desk Architecture)" = all ] || fail "the client's architecture"
+! grep -E '^./(lib|etc|usr/bin/farm)' "$folder/fizgruk-desk/files" || fail "the client's package has more than the client"
+! grep -l 'systemctl\|deb-systemd\|adduser' "$folder"/fizgruk-desk/*inst || fail "the client's package starts something"
+for file in lib/systemd/system/farm.service lib/systemd/system/farm-dispatch.service usr/bin/farm usr/bin/farm-dispatch \
+    lib/systemd/system/farm-watch.service usr/bin/farm-watch \
+    lib/systemd/system/farm-backup.timer lib/systemd/system/farm-metrics.timer \
+    usr/share/fizgruk/page/farm.html etc/nginx/sites-available/farm etc/farm/run-job etc/farm/check-board \
+    etc/farm/run-job-labgrid etc/farm/run-job-lava; do
+    grep -qx "./$file" "$folder/fizgruk-farm/files" || fail "fizgruk-farm has no $file"
+done
+for name in fizgruk-desk fizgruk-farm; do
+    field fizgruk Depends | grep -q "$name (>= " || fail "2.0 isn't upgraded to $name"
+    [ "$(field $name Breaks)$(field $name Replaces)" = 'fizgruk (<< 2.0-1~)fizgruk (<< 2.0-1~)' ] ||
+        fail "$name doesn't take the files of 2.0"
+done
+field fizgruk-farm Depends | grep -q 'fizgruk-desk (= .*python3' || fail "what fizgruk-farm depends on"
+
+# ---- the Python package stands alone, and is the one that docs/PYTHON.md installs
+[ "$(field python3-fizgruk Architecture)" = all ] || fail "the Python package's architecture"
+! field python3-fizgruk Depends | grep fizgruk || fail "the Python package needs others"
+! grep -vE '^./(usr/(lib/(python3/(dist-packages/(fizgruk.*)?)?)?|share/(doc/(python3-fizgruk/.*)?)?)?)?$' \
+    "$folder/python3-fizgruk/files" || fail "the Python package has more than its modules and documents"
+modules=$tree/usr/lib/python3/dist-packages
+for file in python/src/fizgruk/*.py python/src/fizgruk/py.typed; do
+    cmp -s "$file" "$modules/fizgruk/${file##*/}" || fail "python3-fizgruk has no $file"
+done
+said=$(PYTHONPATH=$modules /usr/bin/python3 -c 'import importlib.metadata as it; print(it.version("fizgruk"))')
+[ "$said-1" = "$(field python3-fizgruk Version)" ] || fail "the Python package's version $said"
+if /usr/bin/python3 -c 'import pytest' 2> /dev/null; then
+    (cd "$folder" && PYTHONPATH=$modules /usr/bin/python3 -m pytest --help) > "$folder/help"
+    grep -q '^  --farm=TAGS' "$folder/help" || fail "pytest doesn't find the plugin"
+fi
+for name in gitlab-ci.yml Jenkinsfile with-board.sh; do
+    cmp -s "examples/$name" "$tree/usr/share/doc/fizgruk-desk/examples/$name" || fail "there is no example $name"
+done
+cmp -s docs/PYTHON.md "$tree/usr/share/doc/python3-fizgruk/PYTHON.md" || fail "python3-fizgruk has no PYTHON.md"
+
+architecture=$(dpkg --print-architecture)
+for name in $(grep -oh 'bin/[a-z3-]*fizgruk[^ ]*[.]deb' docs/USING.md docs/PYTHON.md | sed "s,bin/,,; s,amd64,$architecture," | sort -u); do
+    [ -e "$folder/$name" ] || fail "docs/USING.md or docs/PYTHON.md names $name"
+done
+
+# ---- its units: enabled at the first installation alone, by what keeps an admin's choice
+for unit in farm farm-dispatch farm-watch; do
+    grep -q "was-enabled '$unit.service'" "$folder/fizgruk-farm/postinst" || fail "$unit isn't enabled"
+done
+for unit in farm-backup farm-metrics; do
+    # (such a unit is enabled again where the admin had enabled it, and by nothing else)
+    grep -q "debian-installed '$unit.timer'" "$folder/fizgruk-farm/postinst" || fail "$unit.timer is enabled"
+done
+! grep 'systemctl.* enable\|systemctl.* disable' "$folder"/fizgruk-farm/p* || fail "it enables what an admin disabled"
+# (2.0 kept no note of what was disabled: it is made by the one of the two that comes first)
+for name in fizgruk fizgruk-farm; do
+    grep -q 'deb-systemd-helper update-state' "$folder/$name/preinst" || fail "$name forgets what was disabled in 2.0"
+done
+for line in StartLimitIntervalSec=0 Restart=on-failure LimitNOFILE=2048; do
+    grep -qx "$line" "$tree/lib/systemd/system/farm.service" || fail "farm.service doesn't say $line"
+done
+# (nginx's user goes through the dispatcher's folder to the history and the logs)
+grep -qx StateDirectoryMode=0711 "$tree/lib/systemd/system/farm-dispatch.service" || fail "who gets to the history"
+grep -q '0711 /var/lib/farm-dispatch$' "$folder/fizgruk-farm/postinst" || fail "who gets to the history at first"
+grep -q 'root /var/lib/farm-dispatch;' "$tree/etc/nginx/sites-available/farm" || fail "nginx serves no history"
+if grep -rn /usr/local "$tree/lib" "$tree/etc"; then fail "names of an installation by hand"; fi
+if command -v systemd-analyze > /dev/null; then
+    cp "$tree"/lib/systemd/system/*.timer "$folder"
+    for unit in farm farm-dispatch farm-watch farm-backup farm-metrics; do
+        sed "s,/usr/bin/,$tree/usr/bin/,; s,/etc/farm,$tree/etc/farm,g" "$tree/lib/systemd/system/$unit.service" > "$folder/$unit.service"
+    done
+    systemd-analyze --man=no verify "$folder"/*.service "$folder"/*.timer > "$folder/said" 2>&1 || :
+    ! grep "$folder.*\(service\|timer\):" "$folder/said" || fail "its units"
+fi
+
+# ---- programs and documents
+for name in farm $(cd tools && ls -d desk farm-*); do
+    "$tree/usr/bin/$name" --help > "$folder/help" || fail "$name --help"
+    grep -qi "^usage: $name" "$folder/help" || fail "$name --help prints '$(cat "$folder/help")'"
+done
+said=$("$tree/usr/bin/farm" --version)
+version=$(field fizgruk-farm Version)
+[ "$said" = "farm ${version%-*}" ] || fail "farm --version printed '$said'"
+docs=/usr/share/doc/fizgruk-desk
+for page in docs/*.[18]; do
+    sed "s,docs/\([A-Z]*[.]md\),$docs/\1,g" "$page" > "$folder/page"
+    gunzip -c "$tree/usr/share/man/man${page##*.}/$(basename "$page").gz" | cmp -s - "$folder/page" || fail "$page isn't in it"
+done
+mkdir "$folder/pages"
+for page in "$tree"/usr/share/man/man?/*.gz; do
+    gunzip -c "$page" > "$folder/pages/$(basename "$page" .gz)"
+done
+for page in "$tree$docs"/*.md "$folder"/pages/* "$tree"/etc/farm/* "$tree/etc/nginx/sites-available/farm" "$tree"/lib/systemd/system/*; do
+    named=$(sed 's,[a-z/]*[A-Z]*[.]md of the source,,g' "$page" |
+        grep -Eo '[a-z/-]*[A-Z]+[.]md|docs/[a-z.-]+[0-9]|docs/[a-z]+[.]png|openapi[.]json' | sort -u)
+    for name in $named; do
+        name=$(basename "$name")
+        [ -e "$tree$docs/$name" ] || [ -e "$tree/usr/share/man/man${name##*.}/$name.gz" ] ||
+            fail "$(basename "$page") names $name, which isn't in it"
+    done
+done
+if command -v lintian > /dev/null; then
+    # shellcheck disable=SC2086
+    lintian --allow-root --fail-on error,warning $built > "$folder/said" 2>&1 || fail "lintian says $(cat "$folder/said")"
+fi
+echo "package: client, server and Python package apart, units that an admin may disable, the tools, man pages and each document that is named"

@@ -1,0 +1,325 @@
+"""What the rows of tests/tools/watch.py share: farms that farm-watch looks at, a sendmail and a webhook
+of the tests' own, and a door in front of a desk."""
+import email
+import email.policy
+import http.client
+import http.server
+import json
+import os
+import re
+import signal
+import subprocess
+import tempfile
+import threading
+import time
+
+from desks import write
+from served import Farm, Tool, demand, read, wait_until
+
+HOUR = 3600
+BOARDS = [("b1", "bbb", ["hdmi"]), ("b2", "bbb", []), ("b3", "ccc", [])]
+SENDMAIL = """#!/bin/sh
+# A sendmail that keeps what it is given, or refuses it, or kills a process then.
+set -e
+here=$(dirname "$0")
+new=$(mktemp "$here/new.XXXXXX")
+echo "$*" > "$new"
+cat >> "$new"
+if [ -e "$here/refuse" ]; then
+    echo "no room today" >&2
+    mv "$new" "$here/refused.${new##*.}"
+    exit 75
+fi
+mv "$new" "$here/mail.${new##*.}"
+if mv "$here/kill" "$here/killing" 2> /dev/null; then
+    kill -9 "$(cat "$here/killing")" || :
+fi
+"""
+
+
+def reply(handler, status, body):
+    """Answers a request, where its client lives still."""
+    try:
+        handler.send_response(status)
+        handler.send_header("content-length", str(len(body)))
+        handler.end_headers()
+        handler.wfile.write(body)
+    except OSError:
+        pass
+
+
+def hours(subject):
+    """A subject without the minutes of an age, which a slow machine adds."""
+    return re.sub(r"( hours) [0-9]+ minutes?", r"\1", subject)
+
+
+class Mailbox:
+    """A sendmail, and the mails that it took."""
+
+    def __init__(self, folder):
+        self.folder = tempfile.mkdtemp(dir=folder)
+        self.sendmail = write(self.folder, "sendmail", SENDMAIL, 0o755)
+
+    def refuse(self, refuses):
+        """Lets it refuse mails, or take them again."""
+        if refuses:
+            write(self.folder, "refuse", "")
+        else:
+            os.unlink(os.path.join(self.folder, "refuse"))
+
+    def kill(self, process):
+        """Lets it kill this process once it has taken a mail; None lets it kill nobody."""
+        if process is not None:
+            os.replace(write(self.folder, "to-kill", str(process)),
+                       os.path.join(self.folder, "kill"))
+        elif os.path.exists(os.path.join(self.folder, "kill")):
+            os.unlink(os.path.join(self.folder, "kill"))
+
+    def texts(self, kind="mail"):
+        """What was brought, each time."""
+        found = []
+        for name in os.listdir(self.folder):
+            if name.startswith(f"{kind}."):
+                with open(os.path.join(self.folder, name), encoding="utf-8") as file:
+                    found.append(file.read())
+        return found
+
+    def mails(self):
+        """Those that were taken, by their Message-ID: one that came again is dropped, and has to be
+        the same to the byte."""
+        found = {}
+        for text in self.texts():
+            words, _, mail = text.partition("\n")
+            demand("sendmail's words", "-t -i", words)
+            read = email.message_from_string(mail, policy=email.policy.default)
+            kept, _ = found.setdefault(read["message-id"], (mail, read))
+            demand("a mail that came again", kept, mail)
+        return [read for _, read in found.values()]
+
+    def told(self, kind=None):
+        """Whom which subjects went to, in order; of ages the hours alone."""
+        return sorted(
+            (it["to"], hours(it["subject"]))
+            for it in self.mails()
+            if kind in (None, it["x-farm-event"])
+        )
+
+
+class Hook:
+    """A webhook, and what was posted to it."""
+
+    def __init__(self):
+        self.posted = []
+        self.answer = 200
+        self.hangs = False
+        self.to_kill = None
+        hook = self
+
+        class Handler(http.server.BaseHTTPRequestHandler):
+            def do_POST(self):
+                body = self.rfile.read(int(self.headers["content-length"]))
+                hook.take(self, body)
+
+            def log_message(self, *_):
+                pass
+
+        self.server = http.server.ThreadingHTTPServer(("127.0.0.1", 0), Handler)
+        self.server.daemon_threads = True
+        self.url = f"http://127.0.0.1:{self.server.server_port}/hook?room=1"
+        threading.Thread(target=self.server.serve_forever, daemon=True).start()
+
+    def take(self, handler, body):
+        if self.hangs:
+            handler.send_response_only(200)
+            for _ in range(600):  # a byte now and then, so that no wait for bytes ends it
+                time.sleep(0.5)
+                try:
+                    handler.wfile.write(b"x")
+                except OSError:
+                    return
+            return
+        if self.answer == 200:
+            self.posted.append((handler.path, dict(handler.headers.items()), body))
+        if self.to_kill is not None:
+            process, self.to_kill = self.to_kill, None
+            os.kill(process, signal.SIGKILL)
+        reply(handler, self.answer, b"")
+
+    def messages(self):
+        """What was taken, by its id: one that came again is dropped, and has to be the same."""
+        found = {}
+        for _, _, body in list(self.posted):
+            said = json.loads(body)
+            demand("a message that came again", body, found.setdefault(said["id"], body))
+        return [json.loads(body) for body in found.values()]
+
+    def told(self, kind=None):
+        return sorted(
+            (it["owner"], hours(it["subject"]))
+            for it in self.messages()
+            if kind in (None, it["event"])
+        )
+
+
+class Door:
+    """What stands in front of a desk, notes what is asked of it, and may change its answers."""
+
+    def __init__(self, farm):
+        self.asked = []
+        self.change = {}
+        self.serves = {}  # what it serves beside the desk
+        self.is_full = False  # it refuses keys, as a farm that has no room for replies
+        self.before = None  # what is called in the place of a command,
+        self.after = None  # and after one, before its answer
+        door = self
+
+        class Handler(http.server.BaseHTTPRequestHandler):
+            def do_GET(self):
+                door.pass_on(self, farm)
+
+            do_POST = do_GET
+
+            def log_message(self, *_):
+                pass
+
+        self.server = http.server.ThreadingHTTPServer(("127.0.0.1", 0), Handler)
+        self.server.daemon_threads = True
+        self.address = f"http://127.0.0.1:{self.server.server_port}"
+        threading.Thread(target=self.server.serve_forever, daemon=True).start()
+
+    def pass_on(self, handler, farm):
+        self.asked.append((handler.command, handler.path))
+        if handler.path in self.serves:
+            reply(handler, 200, self.serves[handler.path])
+            return
+        user, key = handler.headers["x-user"], handler.headers["x-key"]
+        if self.is_full and key:
+            reply(handler, 409, b'{"code":4,"text":"full"}')
+            return
+        if self.before is not None and handler.command == "POST":
+            self.before()
+            return
+        try:
+            status, said = farm.ask(user, handler.command, handler.path, key=key)
+        except (OSError, http.client.HTTPException):
+            return  # no desk is there
+        if self.after is not None and handler.command == "POST":
+            self.after()
+        if status == 200:
+            said = {**said, **self.change.get(handler.path, {})}
+        reply(handler, status, json.dumps(said).encode())
+
+    def looks(self):
+        return self.asked.count(("GET", "/status"))
+
+    def count(self, path):
+        return self.asked.count(("GET", path))
+
+
+class Watched:
+    """A farm, its rules, and who is told."""
+
+    def __init__(self, program, room, rules, boards=BOARDS, mail=True, hook=True):
+        self.folder = tempfile.mkdtemp(dir=room)
+        self.farm = Farm(program, self.folder, list(boards))
+        self.door = Door(self.farm)
+        self.mailbox = Mailbox(self.folder)
+        self.hook = Hook()
+        self.place = os.path.join(self.folder, "watch")
+        self.write_rules(rules, mail, hook)
+        self.tool = None
+
+    def write_rules(self, rules, mail=True, hook=True):
+        heads = [
+            f"[desk]\nserver = '{self.door.address}'\n",
+            "[mail]\nfrom = 'farm@lab.example'\nto = '{owner}@lab.example'\n"
+            f"admin = 'lab@lab.example'\nsendmail = '{self.mailbox.sendmail}'\n" if mail else "",
+            f"[webhook]\nurl = '{self.hook.url}'\n" if hook else "",
+        ]
+        self.file = write(self.folder, "watch.toml", "".join(heads) + rules)
+
+    def words(self, *more):
+        return ["farm-watch", "--every", "0.2", "--folder", self.place, *more, self.file]
+
+    def start(self, *more):
+        """Watches. Returns once it has looked."""
+        seen = read(os.path.join(self.folder, "output")).count("sees ")
+        self.tool = Tool(self.words(*more), self.folder)
+        wait_until("a first look", lambda: self.tool.output().count("sees ") > seen)
+
+    def looked(self, count=1):
+        """Waits for whole looks that begin from now on."""
+        begun = self.door.looks()
+        wait_until("looks", lambda: self.door.looks() > begun + count)
+
+    def stop(self):
+        self.tool.send(signal.SIGTERM)
+        demand("its status", 0, self.tool.ends())
+
+    def end(self):
+        self.stop()
+        self.farm.kill()
+
+    def mails(self, wanted, kind=None):
+        """Waits until these mails are there: no more, and none of them twice."""
+        wait_until(f"the mails {wanted}", lambda: self.mailbox.told(kind) == sorted(wanted))
+
+    # ---- what happens at the farm
+
+    def passes(self):
+        return self.farm.tell("dispatcher", "/pass")
+
+    def starts(self, number):
+        self.farm.tell("dispatcher", f"/jobs/{number}/start")
+
+    def finishes(self, number, outcome="Complete"):
+        self.farm.tell("dispatcher", f"/jobs/{number}/finish", {"outcome": outcome})
+
+    def runs(self, *words, outcome="Complete", **more):
+        """A job that is submitted, and has ended when this returns."""
+        number = self.farm.submit(*words, **more)
+        self.passes()
+        self.starts(number)
+        self.finishes(number, outcome)
+        return number
+
+    def reserves(self, user="ann", board="b1"):
+        return self.farm.tell(user, "/reservations", {"tags": [f"name={board}"]})["number"]
+
+    def holds(self, user="ann", board="b1"):
+        number = self.reserves(user, board)
+        self.passes()
+        self.farm.tell(user, f"/reservations/{number}/acquire")
+        return number
+
+    def held_since(self, moments):
+        """A farm whose boards have been held since these moments of the past, by these users: the
+        numbers of the reservations. Its clock hasn't got beyond the last of them."""
+        self.farm.kill()
+        numbers = []
+        first = moments[0][0]
+        self.at(first, "admin", "/types", b'{"name":"old"}')
+        for _, _, board in moments:
+            body = json.dumps({"name": board, "type": "old"}).encode()
+            self.at(first, "admin", "/boards", body)
+            self.at(first, "admin", f"/boards/{board}/health", b'{"health":"Good"}')
+        for moment, user, board in moments:
+            body = json.dumps({"tags": [f"name={board}"]}).encode()
+            number = self.at(moment, user, "/reservations", body)["number"]
+            self.at(moment, "dispatcher", "/pass")
+            self.at(moment, user, f"/reservations/{number}/acquire")
+            numbers.append(number)
+        self.farm.start()
+        return numbers
+
+    def at(self, moment, user, path, body=b""):
+        head = f"POST {path} HTTP/1.1\r\nx-user: {user}\r\ncontent-length: {len(body)}\r\n\r\n"
+        ran = subprocess.run(
+            [self.farm.program, "once", "--db", self.farm.db, "--at", str(int(moment))],
+            input=head.encode() + body,
+            check=True,
+            capture_output=True,
+        )
+        return json.loads(ran.stdout.partition(b"\r\n\r\n")[2])
+
+
