@@ -56,9 +56,6 @@ pub use program::{DONE, FAILED, NO_ROOM, REFUSED, WRONG_WORDS, perform, program,
 // What ends a conversation, an import or an order.
 pub use fault::DeskFault;
 
-// The limits of time of a client.
-pub use deadline_stream::{LIMIT_SECONDS, STALL_SECONDS};
-
 // What is proved of desks: functions that only proofs read.
 pub use laws::{
     answered_act_as_run, conversations_join, conversations_keep_a_prefix, converse_in_memory,

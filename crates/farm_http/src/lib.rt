@@ -31,6 +31,7 @@ pub use request::{read_request, read_request_counted};
 pub use taken::Taken;
 
 // The parts of a request: method, target, fields and body.
+pub use fields::Repeated;
 pub use parts::{Parts, parts_of};
 
 // Bytes written whole to an output.

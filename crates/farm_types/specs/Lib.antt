@@ -16,9 +16,3 @@ pub mod Change
 pub mod Machine
 pub mod Sound
 pub mod Agreed
-pub mod Worked
-pub mod WorkedJobs
-pub mod WorkedCollecting
-pub mod WorkedChecks
-pub mod WorkedReservations
-pub mod WorkedWhole

@@ -13,11 +13,6 @@ ghost use Rattle.farm_types.specs.declared.rows.Outcome.{Outcome};
 ghost use Rattle.farm_types.specs.declared.rows.ResState.{ResState};
 ghost use Rattle.farm_types.specs.Farm.{Farm};
 ghost use Rattle.farm_types.specs.Machine.{run};
-ghost use Rattle.farm_types.specs.WorkedJobs.{AllJobsAsWorked};
-ghost use Rattle.farm_types.specs.WorkedChecks.{AllChecksAsWorked};
-ghost use Rattle.farm_types.specs.WorkedReservations.{AllReservationsAsWorked};
-ghost use Rattle.farm_types.specs.WorkedWhole.{AllAsWorked};
-ghost use Rattle.farm_types.specs.WorkedCollecting.{AllCollectingAsWorked};
 
 /// A run of no calls stays.
 pub fn nothing_runs()
@@ -48,29 +43,4 @@ pub fn tags_read_back()
     ensures back { (tags : List (List ℕ)) → IsTags tags → tags_read (tags_text tags) ≡ Ok tags }
     ensures only { (tags : List (List ℕ)) (text : List ℕ) → tags_read text ≡ Ok tags
         → tags_text tags ≡ text }
-{}
-
-/// The scripts of jobs, groups and the plain pass answer and leave what was worked out by hand.
-pub fn jobs_as_worked()
-    ensures { AllJobsAsWorked }
-{}
-
-/// The scripts of health checks answer and leave what was worked out by hand.
-pub fn checks_as_worked()
-    ensures { AllChecksAsWorked }
-{}
-
-/// The scripts of reservations answer and leave what was worked out by hand.
-pub fn reservations_as_worked()
-    ensures { AllReservationsAsWorked }
-{}
-
-/// The scripts of the whole machine answer and leave what was worked out by hand.
-pub fn all_as_worked()
-    ensures { AllAsWorked }
-{}
-
-/// The scripts of groups that collect boards answer and leave what was worked out by hand.
-pub fn collecting_as_worked()
-    ensures { AllCollectingAsWorked }
 {}

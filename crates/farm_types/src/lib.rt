@@ -1,9 +1,7 @@
 //! The words, rows, calls and refusals of the board farm, and in `specs/` the whole machine.
 //!
 //! Read `specs/` in the order Limits, Words, Table, Reads, Tags, Codes, Called, Refusals, Proper,
-//! Farm, Pick, Pass, Refuse, Change, Machine, Sound, Small, Agreed; then the scripts that are
-//! computed from them: Worked, WorkedJobs, WorkedCollecting, WorkedChecks, WorkedReservations,
-//! WorkedWhole.
+//! Farm, Pick, Pass, Refuse, Change, Machine, Sound, Small, Agreed.
 #![tactic(auto)]
 
 mod called;
@@ -83,7 +81,4 @@ pub use limits::{
 };
 
 // What is proved of the definitions and of the numbers here: functions that only proofs read.
-pub use laws::{
-    all_as_worked, checks_as_worked, codes_read_back, collecting_as_worked, jobs_as_worked,
-    limits_agree, nothing_runs, refusals_agree, reservations_as_worked, tags_read_back,
-};
+pub use laws::{codes_read_back, limits_agree, nothing_runs, refusals_agree, tags_read_back};

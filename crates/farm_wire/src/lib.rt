@@ -1,8 +1,8 @@
 //! What HTTP requests ask of the farm, and the bytes of its answers.
 //!
-//! A request becomes a call of the farm or a view (`ask`), an answer becomes a status line, fields
-//! and JSON text (`answers`). Reading requests and writing answers whole is `farm_http`'s; its
-//! public names stand here again, so that a server needs this crate alone.
+//! A request becomes a call of the farm or a view (`Routes::ask`), an answer becomes a status line,
+//! fields and JSON text (`answer_bytes`). Reading requests and writing answers whole is
+//! `farm_http`'s; its public names stand here again, so that a server needs this crate alone.
 //!
 //! Read `specs/` in the order Reading, Routes, Sender, Fields, Parameters, Commands, Asked; then
 //! Shown, Keys, Plain, Joins, Parts, Replies, Agreed.

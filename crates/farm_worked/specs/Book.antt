@@ -17,7 +17,7 @@ use Rattle.farm_types.specs.Machine.{Denied, run}
 use Rattle.farm_types.specs.Change.{reply_of}
 use Rattle.farm_types.specs.Sound.{holds, IsHeldOnce, IsWhole}
 use Rattle.farm_types.specs.Small.{IsSmall, every_of, held_by}
-use Rattle.farm_types.specs.Worked.{answers, a_board}
+use Rattle.farm_worked.specs.Worked.{answers, a_board}
 use Rattle.farm_types.specs.declared.rows.Check.{Check}
 use Rattle.farm_types.specs.declared.rows.Health.{Health}
 use Rattle.farm_types.specs.declared.rows.State.{State}

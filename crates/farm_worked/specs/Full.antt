@@ -8,7 +8,7 @@ use Rattle.farm_types.specs.Farm.{Farm, empty_farm}
 use Rattle.farm_types.specs.Pass.{checks}
 use Rattle.farm_types.specs.Machine.{Denied, Repeated, run}
 use Rattle.farm_types.specs.Change.{reply_of}
-use Rattle.farm_types.specs.Worked.{answers, did, by_admin, by_ann, new_type, a_board, pair, any_board}
+use Rattle.farm_worked.specs.Worked.{answers, did, by_admin, by_ann, new_type, a_board, pair, any_board}
 use Rattle.farm_types.specs.declared.rows.Check.{Check}
 use Rattle.farm_types.specs.declared.rows.Health.{Health}
 use Rattle.farm_types.specs.declared.rows.JobState.{JobState}

@@ -6,7 +6,7 @@ use Rattle.farm_types.specs.Proper.{is_proper, is_proper_cmd}
 use Rattle.farm_types.specs.Farm.{empty_farm}
 use Rattle.farm_types.specs.Machine.{Denied, Repeated, run}
 use Rattle.farm_types.specs.Change.{reply_of}
-use Rattle.farm_types.specs.Worked.{answers, did, passed, by_admin, new_type, new_board, set, single, any_board}
+use Rattle.farm_worked.specs.Worked.{answers, did, passed, by_admin, new_type, new_board, set, single, any_board}
 use Rattle.farm_types.specs.declared.rows.Check.{Check}
 use Rattle.farm_types.specs.declared.rows.Health.{Health}
 use Rattle.farm_types.specs.declared.rows.Outcome.{Outcome}

@@ -1,3 +1,9 @@
+pub mod Worked
+pub mod WorkedJobs
+pub mod WorkedCollecting
+pub mod WorkedChecks
+pub mod WorkedReservations
+pub mod WorkedWhole
 pub mod Order
 pub mod Groups
 pub mod Checks

@@ -7,7 +7,7 @@ use Rattle.farm_types.specs.Proper.{is_proper_cmd}
 use Rattle.farm_types.specs.Farm.{Farm, empty_farm}
 use Rattle.farm_types.specs.Machine.{Denied, run}
 use Rattle.farm_types.specs.Change.{new_board as board_row, reply_of}
-use Rattle.farm_types.specs.Worked.{answers, board_shows, res_shows, did, passed, by_admin, by_dispatcher, by_ann, new_type, a_board, single, any_board}
+use Rattle.farm_worked.specs.Worked.{answers, board_shows, res_shows, did, passed, by_admin, by_dispatcher, by_ann, new_type, a_board, single, any_board}
 use Rattle.farm_types.specs.declared.rows.Check.{Check}
 use Rattle.farm_types.specs.declared.rows.Health.{Health}
 use Rattle.farm_types.specs.declared.rows.State.{State}

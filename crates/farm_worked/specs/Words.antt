@@ -2,7 +2,7 @@
 use Rattle.std.specs.Prelude.{◌≡◌, ◌++◌, ℕ, List, [], ◌∷◌, map, Some, None, codes, true, false}
 use Rattle.std.specs.List.{range_with_len}
 use Rattle.farm_types.specs.Proper.{is_proper, is_proper_cmd}
-use Rattle.farm_types.specs.Worked.{new_type, a_board, single}
+use Rattle.farm_worked.specs.Worked.{new_type, a_board, single}
 use Rattle.farm_types.specs.declared.rows.Check.{Check}
 use Rattle.farm_types.specs.declared.rows.Outcome.{Outcome}
 use Rattle.farm_types.specs.declared.calls.Cmd.{Cmd}

@@ -1,4 +1,9 @@
 //! The laws that the scripts of `specs/` come out as they were worked out by hand.
+ghost use Rattle.farm_worked.specs.WorkedJobs.{AllJobsAsWorked};
+ghost use Rattle.farm_worked.specs.WorkedChecks.{AllChecksAsWorked};
+ghost use Rattle.farm_worked.specs.WorkedReservations.{AllReservationsAsWorked};
+ghost use Rattle.farm_worked.specs.WorkedWhole.{AllAsWorked};
+ghost use Rattle.farm_worked.specs.WorkedCollecting.{AllCollectingAsWorked};
 ghost use Rattle.farm_worked.specs.Order.{OrderAsWorked};
 ghost use Rattle.farm_worked.specs.Groups.{GroupsAsWorked};
 ghost use Rattle.farm_worked.specs.Checks.{ChecksAsWorked};
@@ -12,6 +17,31 @@ ghost use Rattle.farm_worked.specs.Book.{BookOfCodes, BookOfCalled, BookOfRefusa
 ghost use Rattle.farm_worked.specs.Book.{BookOfPicks, BookOfPasses, BookOfReasons, BookOfSound};
 ghost use Rattle.farm_worked.specs.Book.{BookOfSmall};
 
+/// The scripts of jobs, groups and the plain pass answer and leave what was worked out by hand.
+pub fn jobs_as_worked()
+    ensures { AllJobsAsWorked }
+{}
+
+/// The scripts of health checks answer and leave what was worked out by hand.
+pub fn checks_as_worked()
+    ensures { AllChecksAsWorked }
+{}
+
+/// The scripts of reservations answer and leave what was worked out by hand.
+pub fn reservations_as_worked()
+    ensures { AllReservationsAsWorked }
+{}
+
+/// The scripts of the whole machine answer and leave what was worked out by hand.
+pub fn all_as_worked()
+    ensures { AllAsWorked }
+{}
+
+/// The scripts of groups that collect boards answer and leave what was worked out by hand.
+pub fn collecting_as_worked()
+    ensures { AllCollectingAsWorked }
+{}
+
 /// Rows that are added out of order, and the numbers of a group of four.
 pub fn order_as_worked()
     ensures { OrderAsWorked }
@@ -23,12 +53,12 @@ pub fn groups_as_worked()
 {}
 
 /// The rows of checks, and of the board that they check.
-pub fn checks_as_worked()
+pub fn check_rows_as_worked()
     ensures { ChecksAsWorked }
 {}
 
 /// The rows of reservations beside jobs, and their deadlines.
-pub fn reservations_as_worked()
+pub fn reservation_rows_as_worked()
     ensures { ReservationsAsWorked }
 {}
 

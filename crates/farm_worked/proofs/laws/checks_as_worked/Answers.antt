@@ -4,18 +4,16 @@ use Rattle.farm_types.specs.Pick.{least}
 use Rattle.farm_types.specs.Refuse.{refusal, early_refusal, own_refusal}
 use Rattle.farm_types.specs.Change.{change}
 use Rattle.farm_types.specs.Machine.{answer, step}
-use Rattle.farm_worked.specs.Checks.{check_is_made, check_ends_well, lab_fault, board_is_retired}
+use Rattle.farm_worked.specs.WorkedChecks.{check_goes_first, hours_since_the_last_check, jobs_since_the_last_check, check_in_maintenance}
 use Rattle.farm_worked.proofs.laws.checks_as_worked.Goals as goal
 
 pub returns : goal.returns
-unfolding check_is_made check_ends_well lab_fault board_is_retired is_word is_tag is_tags least refusal early_refusal own_refusal change answer step
+unfolding check_goes_first hours_since_the_last_check jobs_since_the_last_check check_in_maintenance is_word is_tag is_tags least refusal early_refusal own_refusal change answer step
 returns c = record {
-  check_is_made_answers = refl;
-  check_is_made_leaves = refl;
-  check_ends_well_answers = refl;
-  check_ends_well_leaves = refl;
-  lab_fault_answers = refl;
-  lab_fault_leaves = refl;
-  board_is_retired_answers = refl;
-  board_is_retired_leaves = refl;
+  check_goes_first_answers = refl;
+  check_goes_first_board__b1 = refl;
+  hours_since_the_last_check_answers = refl;
+  jobs_since_the_last_check_answers = refl;
+  jobs_since_the_last_check_board__b1 = refl;
+  check_in_maintenance_board__b1 = refl;
 }

@@ -5,7 +5,7 @@ use Rattle.farm_types.specs.Pass.{checks}
 use Rattle.farm_types.specs.Refuse.{refusal, early_refusal, own_refusal}
 use Rattle.farm_types.specs.Change.{change, reply_of}
 use Rattle.farm_types.specs.Machine.{Denied, Repeated, run, answer, step}
-use Rattle.farm_types.specs.Worked.{answers, did}
+use Rattle.farm_worked.specs.Worked.{answers, did}
 use Rattle.farm_worked.specs.Full.{with_jobs, with_due_board, with_reservations, with_kept, one_more_group, one_more_reservation, one_more_key, first_key, without_a_key}
 use Rattle.farm_worked.proofs.laws.full_as_worked.Goals as goal
 

@@ -4,20 +4,26 @@ use Rattle.farm_types.specs.Pick.{least}
 use Rattle.farm_types.specs.Refuse.{refusal, early_refusal, own_refusal}
 use Rattle.farm_types.specs.Change.{change}
 use Rattle.farm_types.specs.Machine.{answer, step}
-use Rattle.farm_worked.specs.Reservations.{one_counter, lease_begins, one_is_acquired, lease_goes_on, lease_is_over}
+use Rattle.farm_worked.specs.WorkedReservations.{reservation_before_job, lease_ends, acquire_at_deadline, clock_never_falls_back, acquired_outlives_deadline, refreshed_too_late, canceled_and_expired, cancel_an_acquired_one}
 use Rattle.farm_worked.proofs.laws.reservations_as_worked.Goals as goal
 
 pub returns : goal.returns
-unfolding one_counter lease_begins one_is_acquired lease_goes_on lease_is_over is_word is_tag is_tags least refusal early_refusal own_refusal change answer step
+unfolding reservation_before_job lease_ends acquire_at_deadline clock_never_falls_back acquired_outlives_deadline refreshed_too_late canceled_and_expired cancel_an_acquired_one is_word is_tag is_tags least refusal early_refusal own_refusal change answer step
 returns c = record {
-  one_counter_answers = refl;
-  one_counter_leaves = refl;
-  lease_begins_answers = refl;
-  lease_begins_leaves = refl;
-  one_is_acquired_answers = refl;
-  one_is_acquired_leaves = refl;
-  lease_goes_on_answers = refl;
-  lease_goes_on_leaves = refl;
-  lease_is_over_answers = refl;
-  lease_is_over_leaves = refl;
+  reservation_before_job_reservation_1 = refl;
+  reservation_before_job_job_2 = refl;
+  lease_ends_answers = refl;
+  lease_ends_reservation_1 = refl;
+  lease_ends_board__b1 = refl;
+  acquire_at_deadline_answers = refl;
+  acquire_at_deadline_number_clock = refl;
+  acquire_at_deadline_reservation_1 = refl;
+  clock_never_falls_back_reservation_1 = refl;
+  clock_never_falls_back_number_clock = refl;
+  acquired_outlives_deadline_answers = refl;
+  acquired_outlives_deadline_reservation_1 = refl;
+  refreshed_too_late_answers = refl;
+  canceled_and_expired_answers = refl;
+  cancel_an_acquired_one_reservation_1 = refl;
+  cancel_an_acquired_one_board__b1 = refl;
 }

@@ -4,8 +4,8 @@ use Rattle.farm_types.specs.Pick.{least}
 use Rattle.farm_types.specs.Refuse.{refusal, early_refusal, own_refusal}
 use Rattle.farm_types.specs.Change.{change}
 use Rattle.farm_types.specs.Machine.{answer, step}
-use Rattle.farm_types.specs.WorkedWhole.{all_fourteen_commands, pass_on_empty_farm, same_type_twice, keyed_type_twice, last_moment}
-use Rattle.farm_types.proofs.laws.all_as_worked.Goals as goal
+use Rattle.farm_worked.specs.WorkedWhole.{all_fourteen_commands, pass_on_empty_farm, same_type_twice, keyed_type_twice, last_moment}
+use Rattle.farm_worked.proofs.laws.all_as_worked.Goals as goal
 
 pub returns : goal.returns
 unfolding all_fourteen_commands pass_on_empty_farm same_type_twice keyed_type_twice last_moment is_word is_tag is_tags least refusal early_refusal own_refusal change answer step

@@ -6,7 +6,7 @@ use Rattle.farm_types.specs.Proper.{is_proper_cmd}
 use Rattle.farm_types.specs.Farm.{empty_farm}
 use Rattle.farm_types.specs.Machine.{Repeated, Denied, run}
 use Rattle.farm_types.specs.Change.{reply_of}
-use Rattle.farm_types.specs.Worked.{with_key, answers, job_shows, res_shows, board_shows, did, passed, by_admin, by_dispatcher, by_ann, new_type, new_board, set, a_board, any_board}
+use Rattle.farm_worked.specs.Worked.{with_key, answers, job_shows, res_shows, board_shows, did, passed, by_admin, by_dispatcher, by_ann, new_type, new_board, set, a_board, any_board}
 use Rattle.farm_types.specs.declared.rows.Check.{Check}
 use Rattle.farm_types.specs.declared.rows.Health.{Health}
 use Rattle.farm_types.specs.declared.rows.State.{State}

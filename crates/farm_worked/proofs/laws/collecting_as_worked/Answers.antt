@@ -4,8 +4,8 @@ use Rattle.farm_types.specs.Pick.{least}
 use Rattle.farm_types.specs.Refuse.{refusal, early_refusal, own_refusal}
 use Rattle.farm_types.specs.Change.{change}
 use Rattle.farm_types.specs.Machine.{answer, step}
-use Rattle.farm_types.specs.WorkedCollecting.{group_collects, collector_is_served, higher_group_collects_next, collector_is_canceled, one_pass_more, collector_is_not_started, collector_swaps, types_collect, types_are_served}
-use Rattle.farm_types.proofs.laws.collecting_as_worked.Goals as goal
+use Rattle.farm_worked.specs.WorkedCollecting.{group_collects, collector_is_served, higher_group_collects_next, collector_is_canceled, one_pass_more, collector_is_not_started, collector_swaps, types_collect, types_are_served}
+use Rattle.farm_worked.proofs.laws.collecting_as_worked.Goals as goal
 
 pub returns : goal.returns
 unfolding group_collects collector_is_served higher_group_collects_next collector_is_canceled one_pass_more collector_is_not_started collector_swaps types_collect types_are_served is_word is_tag is_tags least refusal early_refusal own_refusal change answer step

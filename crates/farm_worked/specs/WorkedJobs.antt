@@ -5,7 +5,7 @@ use Rattle.farm_types.specs.Words.{is_word, is_tag, is_tags}
 use Rattle.farm_types.specs.Proper.{is_proper_cmd}
 use Rattle.farm_types.specs.Farm.{empty_farm}
 use Rattle.farm_types.specs.Machine.{Denied, run}
-use Rattle.farm_types.specs.Worked.{answers, job_shows, board_shows, did, passed, by_admin, by_dispatcher, by_ann, by_bob, new_type, new_board, set, a_board, single, pair}
+use Rattle.farm_worked.specs.Worked.{answers, job_shows, board_shows, did, passed, by_admin, by_dispatcher, by_ann, by_bob, new_type, new_board, set, a_board, single, pair}
 use Rattle.farm_types.specs.declared.rows.Check.{Check}
 use Rattle.farm_types.specs.declared.rows.Health.{Health}
 use Rattle.farm_types.specs.declared.rows.State.{State}
