@@ -187,12 +187,6 @@ marked_partly last edit test rows new marks is partly = rw partly.1 (record {
   are = marks_upto is.want_of last edit test partly.0 rows marks is.are;
 })
 
--- a want that was given a number leaves them
-pub marked_on : (last next : ℕ) (rows new : List JobRow) (marks : List Mark) (w : Want) (k : ℕ) → IsMarked last rows marks → IsNumbered rows marks last next w k → new ≡ rows → IsMarked next new marks
-marked_on last next rows new marks w k is given same =
-    let more = given is.want_of is.are in
-    rw same (record { all = is.all; want_of = more.0; are = more.1 })
-
 pub marked_set : (last next : ℕ) (rows : List JobRow) (marks : List Mark) (i : ℕ) (r : JobRow) (m : Mark) → IsMarked last rows marks → IsNumbered rows marks last next r.want m.want → m.number ≡ r.number → m.group ≡ r.group
     → IsMarked next (set rows i r) (set marks i m)
 marked_set last next rows marks i r m is given number group =

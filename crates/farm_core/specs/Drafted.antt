@@ -12,7 +12,7 @@ use Rattle.farm_types.specs.Change.{act, done_with, new_res}
 use Rattle.farm_pick.specs.Queued.{Lists, Queued, queued_of}
 use Rattle.farm_pick.specs.Kept.{queued_cmp}
 use Rattle.farm_types.specs.declared.calls.Cmd.{Cmd}
-use Rattle.farm_types.specs.declared.calls.Changes.{Changes}
+use Rattle.farm_types.specs.declared.rows.KeptRow.{KeptRow}
 use Rattle.farm_core.specs.declared.tables.Tables.{Tables}
 
 pub record Drafted : Type 0 where
@@ -21,13 +21,13 @@ pub record Drafted : Type 0 where
   pub queues : Lists
 
 -- the logs lead to the tables from the start, and what was kept since is small
-pub record IsWhole (start : Farm) (c : Changes) (t : Tables) : Type 0 where
+pub record IsWhole (start : Farm) (kept_rows : List KeptRow) (t : Tables) : Type 0 where
   pub types : put_all type_cmp start.types t.types.log ≡ t.types.rows
   pub boards : put_all board_cmp start.boards t.boards.log ≡ t.boards.rows
   pub jobs : put_all job_cmp start.jobs t.jobs.log ≡ t.jobs.rows
   pub reservations : put_all res_cmp start.reservations t.reservations.log ≡ t.reservations.rows
-  pub kept : put_all kept_cmp start.kept c.kept.items ≡ t.kept
-  pub small : AllByRecursion IsSmallKept c.kept.items
+  pub kept : put_all kept_cmp start.kept kept_rows ≡ t.kept
+  pub small : AllByRecursion IsSmallKept kept_rows
 
 -- the draft, come to another farm
 abbrev pub at_farm : Farm → Drafted → Drafted

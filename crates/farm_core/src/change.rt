@@ -13,8 +13,9 @@ ghost use Rattle.farm_core.specs.Plain.{plain_farm};
 ghost use Rattle.farm_core.specs.Tracks.{Tracks, AreSmallRows, IsSmallReply};
 
 use crate::draft::Draft;
-use crate::tables::{Tables, no_changes};
-use farm_types::{Call, Changes, Cmd, KeptRow, MetaRow, Reply};
+use crate::tables::Tables;
+use farm_types::calls::{Call, Changes, Cmd};
+use farm_types::rows::{KeptRow, MetaRow, Reply};
 use std::alloc::AllocError;
 use std::mem::replace;
 

@@ -10,22 +10,26 @@ ghost use Rattle.farm_table.specs.Near.{IsNear};
 ghost use Rattle.farm_core.specs.Tracks.{Tracks};
 ghost use Rattle.farm_core.specs.Drafted.{at_farm, without_claim, IsFresh};
 
-use crate::tables::{Tables, no_changes};
+use crate::tables::Tables;
 use farm_start::Start;
-use farm_types::{Changes, Claim, JobRow, KeptRow, Name, ResRow};
+use farm_types::calls::Changes;
+use farm_types::claims::Claim;
+use farm_types::rows::{JobRow, KeptRow, MetaRow, ResRow};
+use farm_types::words::Name;
 use std::alloc::AllocError;
 use std::marker::Model;
 
 /// The rows that have changed since the start, put into the farm as it then was, give the tables.
-/// Each table logs its own; kept replies are logged among the changes. A step takes the draft and
-/// gives it back: one that fails for want of memory leaves none. Tables and changes lie in boxes,
-/// since they take some 550 bytes and a draft is moved a dozen times for each claim that is served.
+/// Each table logs its own; the replies that were kept stand beside. A step takes the draft and
+/// gives it back: one that fails for want of memory leaves none. The tables lie in a box, since a
+/// draft is moved a dozen times for each claim that is served.
 #[derive(Drop)]
 pub struct Draft {
     /// The farm at the start, which only proofs read.
     pub start: Start<Tables>,
     pub tables: Box<Tables>,
-    pub changes: Box<Changes>,
+    /// The replies that were kept since the start.
+    pub kept: Vec<KeptRow>,
 }
 
 impl Model for Draft {
@@ -40,11 +44,11 @@ impl Model for Draft {
       queues = d.tables.value.queues;
     } };
 
-    ghost invariant = { λ d. IsWhole (plain_farm d.start.value) d.changes.value d.tables.value };
+    ghost invariant = { λ d. IsWhole (plain_farm d.start.value) d.kept.items d.tables.value };
 }
 
 impl Draft {
-    /// A draft in which nothing has changed. It takes memory for two boxes, whatever the farm's size.
+    /// A draft in which nothing has changed. It takes memory for a box, whatever the farm's size.
     pub fn of(mut tables: Tables) -> Result<Draft, AllocError>
         ensures { IfOk result (λ d. d ≡ record {
           start = plain_farm tables;
@@ -61,22 +65,30 @@ impl Draft {
         Ok(Draft {
             start,
             tables: Box::new(alloc, tables)?,
-            changes: Box::new(alloc, no_changes(alloc))?,
+            kept: Vec::new(alloc),
         })
     }
 
-    /// The tables, and the rows that have changed.
+    /// The tables, and the rows that have changed, with the tables' four numbers.
     pub fn into_parts(self) -> (Tables, Changes)
         ensures farm { plain_farm result.0 ≡ self.farm }
         ensures tracked { Tracks self.start result.1 self.farm }
         ensures queues { result.0.queues ≡ self.queues }
     {
         let mut tables = Box::into_inner(self.tables);
-        let mut changes = Box::into_inner(self.changes);
-        changes.types = tables.types.take_changes();
-        changes.boards = tables.boards.take_changes();
-        changes.jobs = tables.jobs.take_changes();
-        changes.reservations = tables.reservations.take_changes();
+        let changes = Changes {
+            types: tables.types.take_changes(),
+            boards: tables.boards.take_changes(),
+            jobs: tables.jobs.take_changes(),
+            reservations: tables.reservations.take_changes(),
+            kept: self.kept,
+            meta: MetaRow {
+                clock: tables.clock,
+                collector: tables.collector,
+                count: tables.count,
+                next: tables.next,
+            },
+        };
         (tables, changes)
     }
 
@@ -150,7 +162,7 @@ impl Draft {
         ensures { IfOk result (λ d. d ≡ at_farm (put_kept self.farm row) self) }
     {
         self.tables.kept.put(&row)?;
-        self.changes.kept.push(row)?;
+        self.kept.push(row)?;
         Ok(self)
     }
 }

@@ -1,14 +1,16 @@
-//! The edits of a draft: rows are changed in their places, and logged.
-ghost use Rattle.std.specs.Prelude.{◌≡◌, ◌==◌, IfOk};
+//! The edits of jobs and reservations, and of the boards that they hold: rows are changed in their
+//! places, and logged.
+ghost use Rattle.std.specs.Prelude.{◌≡◌, ◌==◌, IfOk, OnOk};
 ghost use Rattle.farm_types.specs.Table.{change_where};
 ghost use Rattle.farm_types.specs.Farm.{Farm};
 ghost use Rattle.farm_types.specs.Pass.{change_jobs, change_res};
 ghost use Rattle.farm_types.specs.Small.{IsSmall, IsSmallRes};
 ghost use Rattle.farm_types.specs.declared.rows.ResRow.{ResRow};
+ghost use Rattle.farm_core.specs.Came.{CameTo, seen, seen_at};
 ghost use Rattle.farm_core.specs.Drafted.{at_farm};
 ghost use Rattle.farm_core.specs.Plain.{plain_farm};
 ghost use Rattle.farm_core.specs.Edits.{IfAfterCheck, job_passes, job_changed, first_of};
-ghost use Rattle.farm_core.specs.Edits.{res_passes, res_changed, board_after, is_job_in, is_res_in};
+ghost use Rattle.farm_core.specs.Edits.{res_passes, res_changed, board_after, is_res_in};
 ghost use Rattle.farm_core.specs.Tracks.{Tracks};
 
 use crate::draft::Draft;
@@ -21,6 +23,58 @@ use std::alloc::AllocError;
 
 /// How many places from a guess on are looked at before a search.
 pub const GUESS_REACH: usize = 5;
+
+impl Tables {
+    /// Changes the jobs that pass and the boards that they hold. Each board is looked at, in name
+    /// order: with B boards and J jobs it costs O(B log J).
+    fn edit_jobs_and_boards(
+        &mut self,
+        edit: JobEdit<'_>,
+        becomes: Becomes,
+    ) -> Result<(), AllocError>
+        requires first { IsSmall (first_of edit) }
+        requires small { IfAfterCheck becomes }
+        ensures { OnOk result (CameTo self.old (seen_at (change_jobs (job_passes edit.entry)
+            (job_changed edit.entry) (board_after becomes) (plain_farm self.old))
+            (seen self.old)) self.new) }
+    {
+        // The boards first: the jobs as they were tell which change.
+        let held = OfJobs {
+            jobs: &self.jobs,
+            edit,
+            becomes,
+        };
+        self.boards.change_where(&held)?;
+        self.jobs.edit(edit)?;
+        Ok(())
+    }
+
+    /// Changes one reservation, told by its number, and the board that it holds. Each board is
+    /// looked at, in name order: with B boards and R reservations it costs O(B log R).
+    fn edit_reservation_and_board(
+        &mut self,
+        number: u64,
+        edit: ResEdit<'_>,
+        becomes: Becomes,
+    ) -> Result<(), AllocError>
+        requires one { (r : ResRow) → res_passes edit r ≡ (r.number == number) }
+        requires small { (r : ResRow) → IsSmallRes r → IsSmallRes (res_changed edit r) }
+        requires board { IfAfterCheck becomes }
+        ensures { OnOk result (CameTo self.old (seen_at (change_res (res_passes edit.entry)
+            (res_changed edit.entry) (board_after becomes) (plain_farm self.old))
+            (seen self.old)) self.new) }
+    {
+        // The board first: the reservations as they were tell which changes.
+        let held = OfReservations {
+            reservations: &self.reservations,
+            edit,
+            becomes,
+        };
+        self.boards.change_where(&held)?;
+        self.reservations.edit(number, edit)?;
+        Ok(())
+    }
+}
 
 impl Draft {
     /// Changes the jobs that pass. Only the rows of the group of the edit are looked at.
@@ -38,34 +92,9 @@ impl Draft {
         Ok(self)
     }
 
-    /// Changes the boards that the jobs hold that pass. Each board is looked at, in name order.
-    fn edit_boards_of_jobs(
-        mut self,
-        edit: JobEdit<'_>,
-        becomes: Becomes,
-    ) -> Result<Draft, AllocError>
-        requires { IfAfterCheck becomes }
-        ensures { IfOk result
-            (λ d. d ≡ at_farm
-            (record self.farm {
-              boards = change_where
-                  (λ b. is_job_in self.farm.jobs (job_passes edit.entry) b.holder)
-                  (board_after becomes) self.farm.boards;
-            }) self) }
-    {
-        let tables = &mut *self.tables;
-        let held = OfJobs {
-            jobs: &tables.jobs,
-            edit,
-            becomes,
-        };
-        tables.boards.change_where(&held)?;
-        Ok(self)
-    }
-
     /// Changes the jobs that pass and the boards that they hold.
     pub fn edit_jobs_and_boards(
-        self,
+        mut self,
         edit: JobEdit<'_>,
         becomes: Becomes,
     ) -> Result<Draft, AllocError>
@@ -75,9 +104,8 @@ impl Draft {
             (λ d. d ≡ at_farm (change_jobs (job_passes edit.entry) (job_changed edit.entry)
             (board_after becomes) self.farm) self) }
     {
-        // The boards first: the jobs as they were tell which change.
-        let draft = self.edit_boards_of_jobs(edit, becomes)?;
-        draft.edit_jobs(edit)
+        self.tables.edit_jobs_and_boards(edit, becomes)?;
+        Ok(self)
     }
 
     /// Changes the boards that the reservations hold that pass. Each board is looked at, in name
@@ -123,7 +151,7 @@ impl Draft {
 
     /// Changes one reservation, told by its number, and the board that it holds.
     pub fn edit_reservation_and_board(
-        self,
+        mut self,
         number: u64,
         edit: ResEdit<'_>,
         becomes: Becomes,
@@ -135,8 +163,8 @@ impl Draft {
             (λ d. d ≡ at_farm (change_res (res_passes edit.entry) (res_changed edit.entry)
             (board_after becomes) self.farm) self) }
     {
-        // The board first: the reservations as they were tell which changes.
-        let draft = self.edit_boards_of_reservations(edit, becomes)?;
-        draft.edit_reservation(number, edit)
+        self.tables
+            .edit_reservation_and_board(number, edit, becomes)?;
+        Ok(self)
     }
 }

@@ -304,6 +304,7 @@ impl JobTable {
         ensures sorted { IsStrictlySortedBy job_cmp self.now.rows }
         ensures fit { AllByRecursion IsFitJob self.now.rows }
     {
+        // no row is read: it tells proofs that they are in order
         let _rows = self.table.rows();
         for place in guess..guess.saturating_add(GUESS_REACH) {
             if let Some(mark) = self.marks.get(place) {

@@ -1,9 +1,9 @@
 //! The machine of the board farm: one farm, and one call after another.
 //!
 //! Read `specs/` in the order Plain, Shown, Answers, which say what callers see; then Replies, how
-//! kept replies are kept, and Marks, what stands beside each job; then Placed, Leases,
-//! Tracks, Drafted, Came, Following, Edits, Serving, Ahead, which say what a command keeps on its
-//! way.
+//! kept replies are kept, Marks, what stands beside each job, and Leases, beside each reservation;
+//! then Placed, Tracks, Drafted, Came, Following, Edits, Serving, Ahead, which say what a command
+//! keeps on its way.
 #![tactic(auto)]
 
 mod ahead;

@@ -1,21 +1,22 @@
 //! The tables of a farm, and what is looked up in them.
 ghost use Rattle.std.specs.Prelude.{◌≡◌, [], IfOk, IfSome, option_map};
 ghost use Rattle.std.specs.Option.{option_copied};
-ghost use Rattle.farm_types.specs.Farm.{Farm, empty_farm, farm_of, type_of, board_of};
+ghost use Rattle.farm_types.specs.Farm.{empty_farm, farm_of, type_of, board_of};
 ghost use Rattle.farm_types.specs.Refuse.{kept_for};
 ghost use Rattle.farm_types.specs.Small.{IsSmallBoard};
 ghost use Rattle.farm_types.specs.Sound.{IsSound};
 ghost use Rattle.farm_pick.specs.Queued.{lists_of};
 ghost use Rattle.farm_core.specs.Plain.{plain_farm};
 ghost use Rattle.farm_core.specs.Replies.{kept_reply};
-ghost use Rattle.farm_core.specs.Tracks.{Tracks};
 
 use crate::job_table::JobTable;
 use crate::kept::{Kept, KeptReply};
 use crate::res_table::ResTable;
 use farm_pick::Queues;
 use farm_table::Table;
-use farm_types::{BoardRow, Call, Changes, MetaRow, Name, Rows, TypeRow};
+use farm_types::calls::{Call, Rows};
+use farm_types::rows::{BoardRow, TypeRow};
+use farm_types::words::Name;
 use std::alloc::{AllocError, Global};
 use std::fmt;
 
@@ -52,25 +53,6 @@ impl fmt::Debug for Tables {
             .field("count", &self.count)
             .field("next", &self.next)
             .finish()
-    }
-}
-
-/// No changed rows.
-pub fn no_changes(alloc: Global) -> Changes
-    ensures { (F : Farm) → Tracks F result F }
-{
-    Changes {
-        types: Vec::new(alloc),
-        boards: Vec::new(alloc),
-        jobs: Vec::new(alloc),
-        reservations: Vec::new(alloc),
-        kept: Vec::new(alloc),
-        meta: MetaRow {
-            clock: 0,
-            collector: 0,
-            count: 0,
-            next: 1,
-        },
     }
 }
 
