@@ -14,8 +14,7 @@ ghost use Rattle.farm_core.specs.Tracks.{Tracks, AreSmallRows, IsSmallReply};
 
 use crate::draft::Draft;
 use crate::tables::Tables;
-use farm_types::calls::{Call, Changes, Cmd};
-use farm_types::rows::{KeptRow, MetaRow, Reply};
+use farm_types::{Call, Changes, Cmd, KeptRow, MetaRow, Reply};
 use std::alloc::AllocError;
 use std::mem::replace;
 

@@ -12,10 +12,7 @@ ghost use Rattle.farm_core.specs.Drafted.{at_farm, without_claim, IsFresh};
 
 use crate::tables::Tables;
 use farm_start::Start;
-use farm_types::calls::Changes;
-use farm_types::claims::Claim;
-use farm_types::rows::{JobRow, KeptRow, MetaRow, ResRow};
-use farm_types::words::Name;
+use farm_types::{Changes, Claim, JobRow, KeptRow, MetaRow, Name, ResRow};
 use std::alloc::AllocError;
 use std::marker::Model;
 

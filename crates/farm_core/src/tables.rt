@@ -14,9 +14,7 @@ use crate::kept::{Kept, KeptReply};
 use crate::res_table::ResTable;
 use farm_pick::Queues;
 use farm_table::Table;
-use farm_types::calls::{Call, Rows};
-use farm_types::rows::{BoardRow, TypeRow};
-use farm_types::words::Name;
+use farm_types::{BoardRow, Call, Name, Rows, TypeRow};
 use std::alloc::{AllocError, Global};
 use std::fmt;
 
