@@ -1,11 +1,10 @@
 -- Claims that want what was found unmet are passed over.
-use Rattle.std.proofs.Common.{◌≡◌, ◌∙◌, ◌==◌, ◌+◌, ◌<◌, ◌++◌, ℕ, zero, suc, List, [], ◌∷◌, add-one, append_assoc, map, length, take, slice_set, get_or, Bool, true, false, cond, not, Option, Some, None, IsSomeAnd, inl, inr, refl, sym, ap, subst, arith}
+use Rattle.std.proofs.Common.{◌≡◌, ◌∙◌, ◌==◌, ◌+◌, ◌≤◌, ◌<◌, ◌++◌, ℕ, zero, suc, List, [], ◌∷◌, add-one, append_assoc, map, length, take, get_or, Bool, true, false, cond, not, Option, Some, None, IsSomeAnd, inl, inr, refl, sym, ap, subst, arith}
 use Rattle.std.specs.List.{filter}
 use Rattle.std.specs.Option.{option_map_or, option_to_list}
-use Rattle.std.specs.Str.{bytes_eq}
-use Rattle.std.proofs.lemmas.List.{take_more}
-use Rattle.std.proofs.lemmas.Slice.Eq.{bytes_eq-Decides}
+use Rattle.std.proofs.lemmas.List.{take_all}
 use Rattle.farm_types.specs.Farm.{Farm, res_of}
+use Rattle.farm_types.specs.Limits.{most_wants}
 use Rattle.farm_types.specs.Pass.{Served, give, pass_over, serve}
 use Rattle.farm_types.specs.Pick.{IsAmong, Claimed, is_free, least, queue, shown_claim}
 use Rattle.farm_types.specs.Sound.{EachTwo, IsSound}
@@ -24,26 +23,8 @@ use Rattle.farm_pick.proofs.Later.{among_later}
 use Rattle.farm_pick.proofs.Merging.{unmet_stays}
 use Rattle.farm_core.specs.Drafted.{Drafted}
 use Rattle.farm_core.specs.declared.unmet.Known.{Known}
-use Rattle.farm_core.specs.Serving.{AreUnmet, Asks, IfUnmet, IsLike, IsMissed, IsUnmet, Serves, count_after, member_wants, want_at, want_in, wants_of}
+use Rattle.farm_core.specs.Serving.{AreUnmet, Asks, IfUnmet, IsLike, IsMissed, IsUnmet, Serves, WantAlike, count_after, member_wants, want_at, want_in, wants_of}
 use Rattle.farm_core.proofs.Passing.{asks_claim}
-
--- ---- equal lists
-
--- one more item of a list
-taken_one : {A : Type 0} (xs : List A) (i : ℕ) (x : A) → i < length xs → x ≡ get_or xs i x → take (i + 1) xs ≡ take i xs ++ (x ∷ [])
-taken_one xs i x low is = take_more xs i x low ∙ ap (λ y. take i xs ++ (y ∷ [])) (sym is)
-
-pub same_more : {A : Type 0} (xs ys : List A) (i : ℕ) (x y : A) → i < length xs → i < length ys → x ≡ get_or xs i x → y ≡ get_or ys i y
-    → take i xs ≡ take i ys → x ≡ y → take (i + 1) xs ≡ take (i + 1) ys
-same_more xs ys i x y low less here there so same = taken_one xs i x low here ∙ (λ k. so k ++ (same k ∷ [])) ∙ sym (taken_one ys i y less there)
-
--- two texts that are compared
-pub same_text : (a b x y : List ℕ) → a ≡ x → b ≡ y → false ≡ not (bytes_eq a b) → x ≡ y
-same_text a b x y one two same = sym one ∙ (bytes_eq-Decides a b).0 (by (bytes_eq a b) same) ∙ two
-  where
-    by : (v : Bool) → false ≡ not v → v ≡ true
-    by true is = refl
-    by false is = cc
 
 -- ---- the wants of members, one by one
 
@@ -75,6 +56,22 @@ pub same_members_more : (first second : List JobRow) (group other place : ℕ) �
 same_members_more first second group other place so same =
     ap (λ n. member_wants (take n first) group) (add-one place) ∙ members_more first group place ∙ (λ i. so i ++ option_to_list (same i)) ∙ sym (members_more second other place)
     ∙ sym (ap (λ n. member_wants (take n second) other) (add-one place))
+
+-- at the first places the same, and so over rows that have no other places
+alike_below : (first second : List JobRow) (group other n : ℕ) → ((place : ℕ) → place < n → want_at first group place ≡ want_at second other place)
+    → member_wants (take n first) group ≡ member_wants (take n second) other
+alike_below first second group other zero alike = refl
+alike_below first second group other (suc n) alike =
+    sym (ap (λ k. member_wants (take k first) group) (add-one n))
+    ∙ same_members_more first second group other n (alike_below first second group other n (λ place low. alike place (omega arith))) (alike n (omega arith))
+    ∙ ap (λ k. member_wants (take k second) other) (add-one n)
+
+pub alike_wants : (first second : List JobRow) (group other : ℕ) → length first ≤ most_wants → length second ≤ most_wants → WantAlike first group second other
+    → member_wants first group ≡ member_wants second other
+alike_wants first second group other few few_others alike =
+    ap (λ rows. member_wants rows group) (sym (take_all most_wants first few))
+    ∙ alike_below first second group other most_wants alike
+    ∙ ap (λ rows. member_wants rows other) (take_all most_wants second few_others)
 
 -- ---- what a claim wants, by its rows
 
@@ -219,10 +216,11 @@ module _ (F G : Farm) (c : Claimed) (served : Bool) (sound : IsSound F) (at : Is
 
 -- ---- the places
 
-pub all_set : (F : Farm) (places : List (Option Known)) (i : ℕ) (k : Known) → AreUnmet F places → IsUnmet F k.kind k.number → AreUnmet F (slice_set places i (Some k))
-all_set F [] i k all new = tt
-all_set F (p ∷ places) zero k all new = (new, all.1)
-all_set F (p ∷ places) (suc i) k all new = (all.0, all_set F places i k all.1 new)
+all_taken : (F : Farm) (places : List (Option Known)) (n : ℕ) → AreUnmet F places → AreUnmet F (take n places)
+all_taken F [] zero all = tt
+all_taken F [] (suc n) all = tt
+all_taken F (p ∷ places) zero all = tt
+all_taken F (p ∷ places) (suc n) all = (all.0, all_taken F places n all.1)
 
 -- ---- a claim that is tried
 
@@ -231,7 +229,8 @@ module _ (D E : Drafted) (c : Claimed) (served : Bool) (sound : IsSound D.farm) 
   pub known_on : AreUnmet E.farm places
   known_on = all_on D.farm E.farm c served sound at serves.0 places all
 
-  pub known_more : served ≡ false → (k : Known) → (shown_claim c).kind ≡ k.kind → c.number ≡ k.number → (place : ℕ) → AreUnmet E.farm (slice_set places place (Some k))
-  known_more unmet k is same place =
-      all_set E.farm places place k known_on
-      (subst (λ n. IsUnmet E.farm k.kind n) same (subst (λ kind. IsUnmet E.farm kind c.number) is (not_met D.farm E.farm c served sound at serves.0 unmet)))
+  pub known_more : served ≡ false → (k : Known) → (shown_claim c).kind ≡ k.kind → c.number ≡ k.number → AreUnmet E.farm (Some k ∷ take 7 places)
+  known_more unmet k is same = (
+    subst (λ n. IsUnmet E.farm k.kind n) same (subst (λ kind. IsUnmet E.farm kind c.number) is (not_met D.farm E.farm c served sound at serves.0 unmet)),
+    all_taken E.farm places 7 known_on,
+  )

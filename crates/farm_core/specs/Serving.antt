@@ -1,5 +1,5 @@
 -- What the program does for one claim of a pass.
-use Rattle.std.specs.Prelude.{◌≡◌, ◌≤◌, ◌==◌, ◌+◌, ℕ, Bool, true, false, List, [], ◌∷◌}
+use Rattle.std.specs.Prelude.{◌≡◌, ◌≤◌, ◌<◌, ◌==◌, ◌+◌, ℕ, Bool, true, false, List, [], ◌∷◌}
 use Rattle.std.specs.Prelude.{length, map, not, slice_get}
 use Rattle.std.specs.Prelude.{IsSomeAnd, Option, Some, None}
 use Rattle.std.specs.Prelude.{if◌then◌else◌}
@@ -7,6 +7,7 @@ use Rattle.std.specs.List.{AllByRecursion, filter, fold}
 use Rattle.std.specs.Option.{option_map_or}
 use Rattle.std.specs.Ordering.{is_lt}
 use Rattle.std.specs.Str.{bytes_eq}
+use Rattle.farm_types.specs.Limits.{most_wants}
 use Rattle.farm_types.specs.Table.{change_where}
 use Rattle.farm_types.specs.Farm.{Farm, job_of, members, res_of}
 use Rattle.farm_types.specs.Pass.{allocated_reservation, held_board, is_group, pass_over, placed_job, serve}
@@ -65,6 +66,12 @@ want_in group (Some row) = if row.group == group then Some row.want else None
 abbrev pub want_at : List JobRow → ℕ → ℕ → Option Want
 want_at rows group place = want_in group (slice_get rows place)
 
+-- at each of the places that four rows have, a member of the one group and one of the other want
+-- the same, or neither group has a member there
+abbrev pub WantAlike : List JobRow → ℕ → List JobRow → ℕ → Type 0
+WantAlike first group second other =
+    (place : ℕ) → place < most_wants → want_at first group place ≡ want_at second other place
+
 -- no free boards meet what a claim wants
 abbrev pub IsMissed : Farm → ClaimKind → ℕ → Type 0
 IsMissed F kind number = least F.boards (is_free F.types) (wants_of F kind number) ≡ None
@@ -84,6 +91,10 @@ IfUnmet F (Some known) = IsUnmet F known.kind known.number
 
 abbrev pub AreUnmet : Farm → List (Option Known) → Type 0
 AreUnmet F places = AllByRecursion (IfUnmet F) places
+
+-- where the first place is empty, all are
+abbrev pub AreFilledInTurn : List (Option Known) → Type 0
+AreFilledInTurn places = slice_get places 0 ≡ Some None → AllByRecursion (λ o. o ≡ None) places
 
 -- a claim with some wants wants the same as one that is remembered
 abbrev pub IsLike : Farm → List Want → Option Known → Type 0

@@ -1,15 +1,14 @@
-//! Whether two claims want the same. A no costs a search and nothing else, so contracts say what a
-//! yes means.
-ghost use Rattle.std.specs.Prelude.{◌≡◌, ◌≤◌, true, length};
+//! Whether two claims want the same.
+ghost use Rattle.std.specs.Prelude.{◌≡◌, ◌≤◌, ◌↔◌, true, length, IsTrue};
 ghost use Rattle.std.specs.Option.{option_copied};
 ghost use Rattle.farm_types.specs.Limits.{most_wants};
-ghost use Rattle.farm_core.specs.Serving.{member_wants, want_at};
+ghost use Rattle.farm_core.specs.Serving.{member_wants, want_at, WantAlike};
 
 use farm_types::{JobRow, MOST_WANTS, Name, Tag, Want};
 
 /// Whether two types are one, or neither is named.
 fn same_type(first: &Option<Name>, second: &Option<Name>) -> bool
-    ensures { result ≡ true → first.now ≡ second.now }
+    ensures { IsTrue result ↔ (first.now ≡ second.now) }
 {
     match (first, second) {
         (None, None) => true,
@@ -18,24 +17,29 @@ fn same_type(first: &Option<Name>, second: &Option<Name>) -> bool
     }
 }
 
+/// Whether two tags are one.
+fn same_tag(first: &Tag, second: &Tag) -> bool
+    ensures { IsTrue result ↔ (first.now ≡ second.now) }
+{
+    first.as_str() == second.as_str()
+}
+
 /// Whether two lists have the same tags.
 fn same_tags(first: &[Tag], second: &[Tag]) -> bool
-    ensures { result ≡ true → first.now ≡ second.now }
+    ensures { IsTrue result ↔ (first.now ≡ second.now) }
 {
-    if first.len() != second.len() {
-        return false;
-    }
-    for at in 0..first.len() {
-        if first[at].as_str() != second[at].as_str() {
-            return false;
+    match (first, second) {
+        ([], []) => true,
+        ([tag, first @ ..], [other, second @ ..]) => {
+            same_tag(tag, other) && same_tags(first, second)
         }
+        _ => false,
     }
-    true
 }
 
 /// Whether two wants ask for the same type and the same tags.
 pub fn same_want(first: &Want, second: &Want) -> bool
-    ensures { result ≡ true → first.now ≡ second.now }
+    ensures { IsTrue result ↔ (first.now ≡ second.now) }
 {
     same_type(&first.kind, &second.kind) && same_tags(first.tags.items(), second.tags.items())
 }
@@ -58,7 +62,7 @@ fn want_at(rows: &[JobRow], place: usize, group: u64) -> Option<&Want>
 
 /// Whether two wants are the same, or neither is there.
 fn same_option(first: Option<&Want>, second: Option<&Want>) -> bool
-    ensures { result ≡ true → option_copied first.entry ≡ option_copied second.entry }
+    ensures { IsTrue result ↔ (option_copied first.entry ≡ option_copied second.entry) }
 {
     match (first, second) {
         (None, None) => true,
@@ -67,12 +71,13 @@ fn same_option(first: Option<&Want>, second: Option<&Want>) -> bool
     }
 }
 
-/// Whether the members of two groups want the same, member for member, where the rows are at most
-/// four and the members stand at the same places.
+/// Whether the members of two groups want the same, member for member, and stand at the same of at
+/// most four places.
 pub fn same_members(first: &[JobRow], group: u64, second: &[JobRow], other: u64) -> bool
     requires few { length first.now ≤ most_wants }
     requires few_others { length second.now ≤ most_wants }
-    ensures { result ≡ true → member_wants first.now group ≡ member_wants second.now other }
+    ensures alike { IsTrue result ↔ WantAlike first.now group second.now other }
+    ensures wants { result ≡ true → member_wants first.now group ≡ member_wants second.now other }
 {
     for place in 0..MOST_WANTS {
         if !same_option(want_at(first, place, group), want_at(second, place, other)) {

@@ -1,5 +1,5 @@
 //! The claims that a pass has found unmet.
-ghost use Rattle.std.specs.Prelude.{◌≡◌, ℕ, slice_set, None, Some};
+ghost use Rattle.std.specs.Prelude.{◌≡◌, ◌↔◌, ◌∷◌, IsTrue, None, Some, take};
 ghost use Rattle.std.specs.List.{AllByRecursion};
 
 use farm_types::ClaimKind;
@@ -16,24 +16,23 @@ pub struct Known {
     pub place: usize,
 }
 
-/// The last eight claims that were found unmet in a pass. It takes no memory. Contracts see the
-/// eight places.
+/// The last eight claims that were found unmet in a pass, the newest first. It takes no memory.
+/// Contracts see the eight places.
 #[derive(Drop)]
 pub struct Unmet {
     claims: [Option<Known>; MOST],
-    /// The place for the next one.
-    next: usize,
 }
 
 impl Model for Unmet {
-    ghost use Rattle.std.specs.Prelude.{◌<◌, List, Option};
+    ghost use Rattle.std.specs.Prelude.{List, Option};
+    ghost use Rattle.farm_core.specs.Serving.{AreFilledInTurn};
     ghost use Rattle.farm_core.specs.declared.unmet.Known.{Known};
 
     ghost Value = { List (Option Known) };
 
     ghost view = { λ u. u.claims };
 
-    ghost invariant = { λ u. u.next < 8 };
+    ghost invariant = { λ u. AreFilledInTurn u.claims };
 }
 
 impl Unmet {
@@ -43,7 +42,6 @@ impl Unmet {
     {
         Unmet {
             claims: [None; MOST],
-            next: 0,
         }
     }
 
@@ -54,16 +52,27 @@ impl Unmet {
         &self.claims
     }
 
-    /// Whether no claim is remembered: the first place is the first one that is taken.
-    pub fn is_empty(&self) -> bool {
+    /// Whether no claim is remembered.
+    pub fn is_empty(&self) -> bool
+        ensures { IsTrue result ↔ AllByRecursion (λ o. o ≡ None) self.now }
+    {
         self.claims[0].is_none()
     }
 
-    /// Remembers a claim, in the place of the oldest one.
+    /// Remembers a claim, and forgets the oldest of eight.
     pub fn note(&mut self, claim: Known)
-        ensures { (place : ℕ) × (self.new ≡ slice_set self.old place (Some claim)) }
+        ensures { self.new ≡ Some claim ∷ take 7 self.old }
     {
-        self.claims[self.next] = Some(claim);
-        self.next = (self.next + 1) % MOST;
+        let [first, second, third, fourth, fifth, sixth, seventh, _] = self.claims;
+        self.claims = [
+            Some(claim),
+            first,
+            second,
+            third,
+            fourth,
+            fifth,
+            sixth,
+            seventh,
+        ];
     }
 }

@@ -1,8 +1,8 @@
-use Rattle.std.proofs.Common.{◌∙◌, sym}
-use Rattle.farm_core.proofs.Skipping.{same_members_more}
+use Rattle.std.proofs.Common.{arith}
+use Rattle.farm_core.proofs.Skipping.{alike_wants}
 use Rattle.farm_core.proofs.same.same_members.Goals as goal
 
-pub loop-place-preserved : goal.loop-place-preserved
-loop-place-preserved c =
-    same_members_more c.args.first.now c.args.second.now c.args.group c.args.other c.loop-place.place c.loop-place.invariant
-    (sym c.want_at.ensures ∙ c.same_option.ensures c.if-not-same_option.false ∙ c.want_at-in-loop-place.ensures)
+pub returns-clause-wants : goal.returns-clause-wants
+returns-clause-wants c = λ yes.
+    alike_wants c.args.first.now c.args.second.now c.args.group c.args.other c.requires.few c.requires.few_others
+    (λ place low. c.loop-place.invariant place (omega arith))

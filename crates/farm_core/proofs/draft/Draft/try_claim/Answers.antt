@@ -38,8 +38,8 @@ returns-clause-serves c =
 pub returns-clause-known : goal.returns-clause-known
 returns-clause-known c =
     let it = c.requires.waits in
-    subst (AreUnmet c.in_ok-draft-2.draft.farm) (sym c.note.ensures.1)
+    subst (AreUnmet c.in_ok-draft-2.draft.farm) (sym c.note.ensures)
     (known_more c.args.self c.in_ok-draft-2.draft it.0 false c.requires.sound it.1
     (passed_serves c.args.self c.args.kind c.args.number c.args.boards c.requires.sound it c.in_ok-draft.draft c.in_ok-draft.served c.in_ok-draft.ensures c.if-served.false
     c.in_ok-draft-2.draft c.in_ok-draft-2.ensures it.0 it.2 it.3 it.1)
-    c.args.unmet.now c.requires.known refl (record { kind = c.args.kind; number = c.args.number; place = c.place_of_claim-place.result }) it.2 it.3 c.note.ensures.0)
+    c.args.unmet.now c.requires.known refl (record { kind = c.args.kind; number = c.args.number; place = c.place_of_claim-place.result }) it.2 it.3)
