@@ -11,8 +11,8 @@ use Rattle.farm_types.specs.declared.rows.Outcome.{Outcome}
 use Rattle.farm_types.specs.declared.rows.JobRow.{JobRow}
 use Rattle.farm_types.specs.declared.rows.ResRow.{ResRow}
 use Rattle.farm_types.specs.declared.rows.BoardRow.{BoardRow}
-use Rattle.farm_core.specs.declared.job_edit.JobEdit.{JobEdit}
-use Rattle.farm_core.specs.declared.res_edit.ResEdit.{ResEdit}
+use Rattle.farm_core.specs.declared.command.job_edit.JobEdit.{JobEdit}
+use Rattle.farm_core.specs.declared.command.res_edit.ResEdit.{ResEdit}
 use Rattle.farm_core.specs.declared.held.Becomes.{Becomes}
 use Rattle.farm_table.specs.Near.{IsFitJob}
 use Rattle.farm_core.specs.Edits.{IfAfterCheck, job_changed, res_changed, board_after}

@@ -16,7 +16,7 @@ use Rattle.farm_types.specs.declared.rows.BoardRow.{BoardRow}
 use Rattle.farm_types.specs.declared.rows.JobRow.{JobRow}
 use Rattle.farm_types.proofs.Put.{found_passes}
 use Rattle.farm_table.specs.Near.{IsFitJob}
-use Rattle.farm_core.specs.declared.job_edit.JobEdit.{JobEdit}
+use Rattle.farm_core.specs.declared.command.job_edit.JobEdit.{JobEdit}
 use Rattle.farm_core.specs.Edits.{job_passes, job_changed, board_after, fate_of_board, outcome_of}
 use Rattle.farm_core.proofs.EditLemmas.{jobs_alone}
 

@@ -21,7 +21,7 @@ use Rattle.farm_core.specs.Serving.{member_wants, want_at, want_in, wants_of}
 use Rattle.farm_core.proofs.EditLemmas.{keeps_job}
 use Rattle.farm_core.proofs.JobLemmas.{filter_near}
 use Rattle.farm_core.proofs.Windows.{no_member, none_before}
-use Rattle.farm_core.specs.declared.job_edit.JobEdit.{JobEdit}
+use Rattle.farm_core.specs.declared.command.job_edit.JobEdit.{JobEdit}
 use Rattle.farm_core.specs.declared.job_table.Mark.{Mark}
 
 -- ---- numbers of wants

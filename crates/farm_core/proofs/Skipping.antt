@@ -22,7 +22,7 @@ use Rattle.farm_pick.proofs.Collects.{collecting_follows}
 use Rattle.farm_pick.proofs.Later.{among_later}
 use Rattle.farm_pick.proofs.Merging.{unmet_stays}
 use Rattle.farm_core.specs.Drafted.{Drafted}
-use Rattle.farm_core.specs.declared.unmet.Known.{Known}
+use Rattle.farm_core.specs.declared.pass.lookahead.unsatisfiable.Known.{Known}
 use Rattle.farm_core.specs.Serving.{AreUnmet, Asks, IfUnmet, IsLike, IsMissed, IsUnmet, Serves, WantAlike, count_after, member_wants, want_at, want_in, wants_of}
 use Rattle.farm_core.proofs.Passing.{asks_claim}
 

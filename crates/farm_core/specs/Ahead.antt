@@ -8,7 +8,7 @@ use Rattle.farm_types.specs.Pick.{IsAmong, Claimed, queue, shown_claim, shown_cm
 use Rattle.farm_types.specs.declared.claims.Claim.{Claim}
 use Rattle.farm_pick.specs.Heads.{is_later, last_spot}
 use Rattle.farm_core.specs.Serving.{IsMissed, IsNext}
-use Rattle.farm_core.specs.declared.ahead.Coming.{Coming}
+use Rattle.farm_core.specs.declared.pass.lookahead.Coming.{Coming}
 
 -- what a pass asks of a claim, and the claim of an owner of which just this is asked
 abbrev pub coming_of : Claim → Coming

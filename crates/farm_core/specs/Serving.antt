@@ -14,7 +14,7 @@ use Rattle.farm_types.specs.Pass.{allocated_reservation, held_board, is_group, p
 use Rattle.farm_types.specs.Pick.{IsAmong, Claimed, is_free, leads_claim, least, queue}
 use Rattle.farm_types.specs.Pick.{shown_claim, shown_cmp}
 use Rattle.farm_pick.specs.Heads.{is_later, last_spot}
-use Rattle.farm_pick.specs.Queued.{Lists, idle_boards, lists_of}
+use Rattle.farm_pick.specs.Queued.{QueueLists, idle_boards, queue_lists}
 use Rattle.farm_types.specs.declared.rows.Holder.{Holder}
 use Rattle.farm_types.specs.declared.rows.JobState.{JobState}
 use Rattle.farm_types.specs.declared.rows.State.{State}
@@ -25,7 +25,7 @@ use Rattle.farm_types.specs.declared.rows.JobRow.{JobRow}
 use Rattle.farm_types.specs.declared.rows.Want.{Want}
 use Rattle.farm_core.specs.Drafted.{Drafted}
 use Rattle.farm_core.specs.Following.{without_boards}
-use Rattle.farm_core.specs.declared.unmet.Known.{Known}
+use Rattle.farm_core.specs.declared.pass.lookahead.unsatisfiable.Known.{Known}
 
 -- a job, told by its number, is in a state and holds the board of a name
 abbrev pub give_named : JobState → Farm → ℕ × List ℕ → Farm
@@ -119,7 +119,7 @@ abbrev pub count_after : ℕ → Bool → ℕ
 count_after n served = if served then n + 1 else n
 
 -- the queues once a claim was given the boards that meet it, if some do, and else perhaps collects
-abbrev pub queues_given : Farm → Claimed → Lists → Lists
+abbrev pub queues_given : Farm → Claimed → QueueLists → QueueLists
 queues_given F c lists = option_map_or (λ bs. record {
   claims = filter (λ x. not (x.claim.number == c.number)) lists.claims;
   boards = without_boards (map (λ (b : BoardRow). b.name) bs) lists.boards;
@@ -149,4 +149,4 @@ pub record Begins (D : Drafted) (former count : ℕ) (E : Drafted) : Type 0 wher
   pub serves : fold (serve D.farm.clock) (record { farm = D.farm; claims = 0 })
       (filter (is_group former) (queue D.farm)) ≡ record { farm = E.farm; claims = count }
   pub start : E.start ≡ D.start
-  pub fits : E.queues ≡ lists_of E.farm
+  pub fits : E.queues ≡ queue_lists E.farm

@@ -13,10 +13,10 @@ ghost use Rattle.farm_core.specs.Edits.{IfAfterCheck, job_passes, job_changed, f
 ghost use Rattle.farm_core.specs.Edits.{res_passes, res_changed, board_after, is_res_in};
 ghost use Rattle.farm_core.specs.Tracks.{Tracks};
 
+use crate::command::job_edit::JobEdit;
+use crate::command::res_edit::ResEdit;
 use crate::draft::Draft;
 use crate::held::{Becomes, OfJobs, OfReservations};
-use crate::job_edit::JobEdit;
-use crate::res_edit::ResEdit;
 use crate::tables::Tables;
 use farm_types::Changes;
 use std::alloc::AllocError;

@@ -2,9 +2,9 @@
 ghost use Rattle.std.specs.Prelude.{◌≡◌, ◌≤◌, min};
 ghost use Rattle.farm_types.specs.Change.{graded_board, after_job, after_check};
 
-use crate::job_edit::JobEdit;
+use crate::command::job_edit::JobEdit;
+use crate::command::res_edit::ResEdit;
 use crate::job_table::JobTable;
-use crate::res_edit::ResEdit;
 use crate::res_table::ResTable;
 use farm_table::Edit;
 use farm_types::{BoardRow, Health, Holder, MOST_JOBS_SINCE, Outcome, State};

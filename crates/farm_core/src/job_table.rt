@@ -17,9 +17,9 @@ ghost use Rattle.farm_core.specs.Marks.{AreMarks, IsNumber, IsNumbered, number_a
 ghost use Rattle.farm_core.specs.Placed.{IsPlaceOf};
 ghost use Rattle.farm_core.specs.Serving.{member_wants};
 
+use crate::command::job_edit::JobEdit;
 use crate::edits::GUESS_REACH;
-use crate::job_edit::JobEdit;
-use crate::same::same_want;
+use crate::pass::lookahead::same_wants::same_want;
 use farm_table::Table;
 use farm_types::{JobRow, JobState, MOST_WANTS, Want};
 use std::alloc::{AllocError, Global};

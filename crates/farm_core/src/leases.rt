@@ -6,7 +6,7 @@ ghost use Rattle.farm_types.specs.Pass.{is_dead};
 ghost use Rattle.farm_types.specs.Table.{res_cmp};
 ghost use Rattle.farm_core.specs.Leases.{may_end, lease_if, is_dead_at, is_noted, AreNoted, Grows};
 
-use crate::res_edit::is_dead;
+use crate::command::res_edit::is_dead;
 use farm_sound::seek;
 use farm_types::{ResRow, ResState};
 use std::alloc::AllocError;

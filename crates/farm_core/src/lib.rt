@@ -6,38 +6,20 @@
 //! keeps on its way.
 #![tactic(auto)]
 
-mod ahead;
-mod boards;
 mod change;
-mod checks;
-mod collect;
+mod command;
 mod draft;
 mod edits;
-mod expire;
 mod farm;
-mod filling;
-mod follow;
-mod give;
 mod held;
-mod job_edit;
 mod job_table;
-mod jobs;
 mod kept;
 mod leases;
-mod numbered;
 mod pass;
+mod rebuild;
 mod refusal;
-mod res_edit;
 mod res_table;
-mod reservations;
-mod reserve;
-mod same;
-mod serve;
-mod submit;
 mod tables;
-mod tried;
-mod types;
-mod unmet;
 
 // One farm, its calls and its views.
 pub use farm::Farm;

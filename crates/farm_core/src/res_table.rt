@@ -13,8 +13,8 @@ ghost use Rattle.farm_table.specs.Tabled.{Leads};
 ghost use Rattle.farm_core.specs.Edits.{res_passes, res_changed};
 ghost use Rattle.farm_core.specs.Leases.{lease_if, is_dead_at};
 
+use crate::command::res_edit::ResEdit;
 use crate::leases::{self, Lease, lease_of, may_end, note, note_leases};
-use crate::res_edit::ResEdit;
 use farm_table::Table;
 use farm_types::ResRow;
 use std::alloc::{AllocError, Global};

@@ -3,7 +3,7 @@ use Rattle.farm_types.specs.Farm.{job_of}
 use Rattle.farm_types.specs.Pass.{change_jobs}
 use Rattle.farm_core.specs.Drafted.{Drafted}
 use Rattle.farm_core.specs.Edits.{job_passes, job_changed, board_after, fate_of_board, outcome_of}
-use Rattle.farm_core.specs.declared.job_edit.JobEdit.{JobEdit}
+use Rattle.farm_core.specs.declared.command.job_edit.JobEdit.{JobEdit}
 use Rattle.farm_core.proofs.JobLemmas.{finished}
 use Rattle.farm_core.proofs.Tabled.{seen}
 use Rattle.farm_core.proofs.draft.Draft.finish.Goals as goal

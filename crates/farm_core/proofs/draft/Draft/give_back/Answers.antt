@@ -2,7 +2,7 @@ use Rattle.std.proofs.Common.{◌≡◌, ◌∙◌, ap, sym, subst}
 use Rattle.farm_types.specs.Farm.{Farm}
 use Rattle.farm_types.specs.Pass.{change_jobs, freed_board}
 use Rattle.farm_types.specs.Small.{IsSmall}
-use Rattle.farm_core.specs.declared.job_edit.JobEdit.{JobEdit}
+use Rattle.farm_core.specs.declared.command.job_edit.JobEdit.{JobEdit}
 use Rattle.farm_core.specs.Drafted.{Drafted, at_farm}
 use Rattle.farm_core.specs.Edits.{job_changed, job_passes}
 use Rattle.farm_core.proofs.Collected.{back_of_none}

@@ -5,7 +5,7 @@ use Rattle.farm_types.specs.declared.rows.ResRow.{ResRow}
 use Rattle.farm_types.specs.declared.rows.State.{State}
 use Rattle.farm_core.specs.Drafted.{Drafted}
 use Rattle.farm_core.specs.Edits.{res_changed}
-use Rattle.farm_core.specs.declared.res_edit.ResEdit.{ResEdit}
+use Rattle.farm_core.specs.declared.command.res_edit.ResEdit.{ResEdit}
 use Rattle.farm_core.proofs.Tabled.{seen}
 use Rattle.farm_core.proofs.draft.Draft.release.Goals as goal
 

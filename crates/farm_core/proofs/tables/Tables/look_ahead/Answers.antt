@@ -1,7 +1,7 @@
 use Rattle.std.proofs.Common.{◌∙◌, ◌++◌, ◌∷◌, [], append_assoc, ap, subst, sym}
 use Rattle.farm_core.specs.Plain.{plain_farm}
 use Rattle.farm_core.specs.Serving.{IsMissed}
-use Rattle.farm_core.specs.declared.ahead.Coming.{Coming}
+use Rattle.farm_core.specs.declared.pass.lookahead.Coming.{Coming}
 use Rattle.farm_core.proofs.Foreseen.{Notes, none_reached, noted_after, notes_foresee, notes_missed, notes_more}
 use Rattle.farm_core.proofs.Next.{lent_after}
 use Rattle.farm_core.proofs.tables.Tables.look_ahead.Goals as goal

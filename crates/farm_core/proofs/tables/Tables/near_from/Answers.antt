@@ -1,6 +1,6 @@
 use Rattle.std.proofs.Common.{◌≡◌, ◌≤◌, ◌==◌, length, ap, arith}
 use Rattle.farm_types.specs.declared.rows.JobRow.{JobRow}
-use Rattle.farm_core.specs.declared.job_edit.JobEdit.{JobEdit}
+use Rattle.farm_core.specs.declared.command.job_edit.JobEdit.{JobEdit}
 use Rattle.farm_core.proofs.Windows.{no_member, none_before}
 use Rattle.farm_core.proofs.JobLemmas.{filter_between}
 use Rattle.farm_core.proofs.tables.Tables.near_from.Goals as goal

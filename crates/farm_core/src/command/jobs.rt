@@ -1,0 +1,206 @@
+//! The commands on jobs that are there: Cancel, Start and Finish.
+ghost use Rattle.std.specs.Prelude.{◌≡◌, ◌≤◌, ◌==◌, ◌||◌, [], not, length};
+ghost use Rattle.std.specs.Prelude.{IfOk, IfSome};
+ghost use Rattle.std.specs.List.{AllByRecursion, filter, list_any};
+ghost use Rattle.std.specs.Option.{option_copied};
+ghost use Rattle.farm_types.specs.Limits.{most_wants};
+ghost use Rattle.farm_types.specs.Farm.{job_of, members};
+ghost use Rattle.farm_types.specs.Refuse.{first_code, owned_by, can_cancel, cancel_reasons};
+ghost use Rattle.farm_types.specs.Refuse.{start_reasons, finish_reasons};
+ghost use Rattle.farm_types.specs.Small.{IsSmall, IsSmallJob};
+ghost use Rattle.farm_types.specs.declared.calls.Cmd.{Cmd};
+ghost use Rattle.farm_types.specs.declared.rows.JobRow.{JobRow};
+ghost use Rattle.farm_types.specs.declared.rows.JobState.{JobState};
+ghost use Rattle.farm_table.specs.Near.{IsFitJob};
+ghost use Rattle.farm_core.specs.Edits.{outcome_of};
+ghost use Rattle.farm_core.specs.Drafted.{Acts};
+ghost use Rattle.farm_core.specs.Plain.{plain_farm};
+ghost use Rattle.farm_core.specs.Placed.{IsPlaceOf};
+
+use crate::command::job_edit::JobEdit;
+use crate::draft::Draft;
+use crate::held::Becomes;
+use crate::refusal::is_admin;
+use crate::tables::Tables;
+use farm_types::{
+    Changes, FORBIDDEN, JobRow, JobState, MOST_WANTS, NO_JOB, Name, Outcome, State, WRONG_STATE,
+};
+use std::alloc::AllocError;
+
+/// Whether a row's owner or the admin calls.
+pub fn owned_by(caller: &Name, owner: &Name) -> bool
+    ensures { result ≡ owned_by caller.now owner.now }
+{
+    caller.is(owner) || is_admin(caller)
+}
+
+/// Whether a job can be canceled.
+fn can_cancel(row: &JobRow) -> bool
+    ensures { result ≡ can_cancel row.now }
+{
+    matches!(
+        row.state,
+        JobState::Submitted | JobState::Scheduling | JobState::Scheduled | JobState::Running
+    )
+}
+
+/// Whether some member of a group, among some rows, can be canceled.
+fn some_can_cancel(rows: &[JobRow], group: u64) -> bool
+    ensures { result ≡ list_any can_cancel (filter (λ j. j.group == group) rows.now) }
+{
+    rows.iter()
+        .filter(|row| row.group == group)
+        .any(|row| can_cancel(row))
+}
+
+/// The outcome of a job: one that is being canceled ends as canceled, whatever is named.
+fn outcome_of(row: &JobRow, named: Outcome) -> Outcome
+    ensures { result ≡ outcome_of row.now named }
+{
+    if matches!(row.state, JobState::Canceling) {
+        return Outcome::Canceled;
+    }
+    named
+}
+
+impl Tables {
+    /// The job of that number, by binary search.
+    pub fn find_job(&self, number: u64) -> Option<&JobRow>
+        ensures found { option_copied result ≡ job_of (plain_farm self.now) number }
+        ensures small { IfSome result (λ job. (job.now.number ≡ number) × IsSmallJob job.now) }
+    {
+        self.jobs.find(number)
+    }
+
+    /// The few rows from a place on that stand where the members of a group do: no other row is a
+    /// member.
+    pub fn near_from(&self, group: u64, start: usize) -> &[JobRow]
+        requires within { start ≤ length (plain_farm self.now).jobs }
+        requires place { IsPlaceOf (λ (r : JobRow). r.number) (plain_farm self.now).jobs group start }
+        ensures members { filter (λ j. j.group == group) result.now
+            ≡ members (plain_farm self.now) group }
+        ensures few { length result.now ≤ most_wants }
+        ensures fit { AllByRecursion IsFitJob result.now }
+    {
+        let rows = self.jobs.rows();
+        let end = rows.len().min(start.saturating_add(MOST_WANTS));
+        &rows[start..end]
+    }
+
+    /// The few rows that stand where the members of a group do: no other row is a member.
+    pub fn near(&self, group: u64) -> &[JobRow]
+        requires small { IsSmall group }
+        ensures members { filter (λ j. j.group == group) result.now
+            ≡ members (plain_farm self.now) group }
+        ensures few { length result.now ≤ most_wants }
+        ensures fit { AllByRecursion IsFitJob result.now }
+    {
+        let start = self.jobs.place_of(group);
+        self.near_from(group, start)
+    }
+
+    /// Whether some member of a group can be canceled.
+    fn can_cancel_some(&self, group: u64) -> bool
+        requires small { IsSmall group }
+        ensures { result ≡ list_any can_cancel (members (plain_farm self.now) group) }
+    {
+        some_can_cancel(self.near(group), group)
+    }
+
+    /// Why a job isn't canceled.
+    pub fn refuse_cancel(&self, caller: &Name, number: u64) -> Option<u16>
+        ensures { result ≡ first_code (cancel_reasons (plain_farm self.now) caller.now number) }
+    {
+        match self.find_job(number) {
+            None => Some(NO_JOB),
+            Some(job) => {
+                if !owned_by(caller, &job.owner) {
+                    return Some(FORBIDDEN);
+                }
+                if !self.can_cancel_some(job.group) {
+                    return Some(WRONG_STATE);
+                }
+                None
+            }
+        }
+    }
+
+    /// Why a job's group isn't started.
+    pub fn refuse_start(&self, number: u64) -> Option<u16>
+        ensures { result ≡ first_code (start_reasons (plain_farm self.now) number) }
+    {
+        match self.find_job(number) {
+            None => Some(NO_JOB),
+            Some(job) => {
+                if !matches!(job.state, JobState::Scheduled) {
+                    return Some(WRONG_STATE);
+                }
+                None
+            }
+        }
+    }
+
+    /// Why a job isn't finished.
+    pub fn refuse_finish(&self, number: u64) -> Option<u16>
+        ensures { result ≡ first_code (finish_reasons (plain_farm self.now) number) }
+    {
+        match self.find_job(number) {
+            None => Some(NO_JOB),
+            Some(job) => {
+                if !matches!(job.state, JobState::Running | JobState::Canceling) {
+                    return Some(WRONG_STATE);
+                }
+                None
+            }
+        }
+    }
+}
+
+impl Draft {
+    /// Cancels a job's whole group: the members that were not started end, and their boards are
+    /// free; those that run are being canceled; it collects no more. Gives the group's number.
+    pub fn cancel(self, number: u64) -> Result<(Draft, u64), AllocError>
+        ensures { IfOk result (λ r. Acts self [] (Cmd.Cancel number) r.1 r.0) }
+    {
+        let group = match self.tables.find_job(number) {
+            None => return Ok((self, 0)),
+            Some(job) => job.group,
+        };
+        let draft = self.edit_jobs_and_boards(JobEdit::End(group), Becomes::Idle)?;
+        let draft = draft.collects_no_more(group);
+        let draft = draft.edit_jobs(JobEdit::Cancel(group))?;
+        Ok((draft.take_claim(group), group))
+    }
+
+    /// Starts a job's whole group: its members run, and so do their boards. Gives the group's
+    /// number.
+    pub fn start(self, number: u64) -> Result<(Draft, u64), AllocError>
+        ensures { IfOk result (λ r. Acts self [] (Cmd.Start number) r.1 r.0) }
+    {
+        let group = match self.tables.find_job(number) {
+            None => return Ok((self, 0)),
+            Some(job) => job.group,
+        };
+        let running = Becomes::State(State::Running);
+        let draft = self.edit_jobs_and_boards(JobEdit::Start(group), running)?;
+        Ok((draft, group))
+    }
+
+    /// Finishes a job: it ends, and its board is free and has the health that the outcome of a job
+    /// or a check leaves. Gives the job's number.
+    pub fn finish(self, number: u64, named: Outcome) -> Result<(Draft, u64), AllocError>
+        requires { IsSmall self.farm.clock }
+        ensures { IfOk result (λ r. Acts self [] (Cmd.Finish number named) r.1 r.0) }
+    {
+        let tables = &*self.tables;
+        let (outcome, becomes) = match tables.find_job(number) {
+            None => return Ok((self, 0)),
+            Some(job) => {
+                let outcome = outcome_of(job, named);
+                (outcome, Becomes::after(job.checking, outcome, tables.clock))
+            }
+        };
+        let draft = self.edit_jobs_and_boards(JobEdit::Finish(number, outcome), becomes)?;
+        Ok((draft, number))
+    }
+}

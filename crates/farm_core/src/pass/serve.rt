@@ -1,0 +1,331 @@
+//! Claims are served: each is given the least list of free boards that meets it.
+ghost use Rattle.std.specs.Prelude.{◌≡◌, ◌≤◌, ◌==◌, ◌∷◌, [], ℕ, true, false, None, Some, map};
+ghost use Rattle.std.specs.Prelude.{◌&&◌, ◌||◌, length, nat_le, take};
+ghost use Rattle.std.specs.Prelude.{OnOk, IfOk, option_map};
+ghost use Rattle.std.specs.List.{filter, find, list_all};
+ghost use Rattle.std.specs.Option.{option_copied};
+ghost use Rattle.farm_types.specs.Limits.{last_moment, most_wants};
+ghost use Rattle.farm_types.specs.Farm.{Farm, members, res_of};
+ghost use Rattle.farm_types.specs.Pass.{is_group, serve, serve_all};
+ghost use Rattle.farm_types.specs.Pick.{IsAmong, Claimed, least, is_free, queue, shown_claim};
+ghost use Rattle.farm_types.specs.Pick.{waits};
+ghost use Rattle.farm_types.specs.Small.{IsSmall};
+ghost use Rattle.farm_types.specs.Sound.{IsSound};
+ghost use Rattle.farm_types.specs.declared.rows.BoardRow.{BoardRow};
+ghost use Rattle.farm_types.specs.declared.rows.ResRow.{ResRow};
+ghost use Rattle.farm_pick.specs.Least.{boards_at};
+ghost use Rattle.farm_pick.specs.Heads.{is_later, last_spot};
+ghost use Rattle.farm_pick.specs.Queued.{Queued, idle_boards, is_open, queue_lists};
+ghost use Rattle.farm_core.specs.Drafted.{at_farm};
+ghost use Rattle.farm_core.specs.Plain.{plain_farm};
+ghost use Rattle.farm_core.specs.Serving.{AreUnmet, Asks, Begins, Serves, Tries, boards_for};
+ghost use Rattle.farm_core.specs.Serving.{count_after, wants_of};
+ghost use Rattle.farm_core.specs.Tracks.{Tracks};
+
+use crate::draft::Draft;
+use crate::pass::lookahead::unsatisfiable::{Known, Unmet};
+use crate::tables::Tables;
+use arrayvec::ArrayVec;
+use farm_types::{Changes, ClaimKind, JobRow, JobState, MOST_WANTS, Name, Priority, Want};
+use std::alloc::AllocError;
+use std::collections::VecDeque;
+
+/// The numbers of a group's members among a few rows.
+pub fn numbers_in(rows: &[JobRow], group: u64) -> ArrayVec<u64, MOST_WANTS>
+    requires { length rows.now ≤ most_wants }
+    ensures { result.items ≡ map (λ j. j.number) (filter (λ j. j.group == group) rows.now) }
+{
+    let mut numbers = ArrayVec::new();
+    for row in rows {
+        if row.group == group {
+            numbers.push(row.number);
+        }
+    }
+    numbers
+}
+
+/// Whether a group's members all wait for boards, among some rows.
+fn all_wait(rows: &[JobRow], group: u64) -> bool
+    ensures { result ≡ list_all waits (filter (λ j. j.group == group) rows.now) }
+{
+    rows.iter().filter(|row| row.group == group).all(|row| matches!(
+        row.state,
+        JobState::Submitted | JobState::Scheduling
+    ))
+}
+
+/// How many members a group has among some rows.
+fn count_in(rows: &[JobRow], group: u64) -> u64
+    ensures { result ≡ length (filter (λ j. j.group == group) rows.now) }
+{
+    rows.iter().filter(|row| row.group == group).count() as u64
+}
+
+/// What a group's members want, among a few rows, and how many these are; behind them another want
+/// fills the places.
+fn wants_in<'a>(rows: &'a [JobRow], group: u64, other: &'a Want) -> ([&'a Want; MOST_WANTS], usize)
+    requires { length rows.now ≤ most_wants }
+    ensures few { result.1 ≤ most_wants }
+    ensures wants { map (λ w. w.now) (take result.1 result.0) ≡ map (λ j. j.want)
+        (filter (λ j. j.group == group) rows.now) }
+{
+    let mut wants = [other; MOST_WANTS];
+    let mut count = 0;
+    for row in rows {
+        if row.group == group {
+            wants[count] = &row.want;
+            count += 1;
+        }
+    }
+    (wants, count)
+}
+
+/// Whether a claim, told by its kind and its number, is that of a group.
+fn is_of_group(kind: ClaimKind, number: u64, group: u64) -> bool
+    ensures { (c : Claimed) → (shown_claim c).kind ≡ kind → c.number ≡ number
+        → is_group group c ≡ result }
+{
+    matches!(kind, ClaimKind::Group) && number == group
+}
+
+impl Tables {
+    /// The names of the boards at some places.
+    fn names_at(&self, places: &[usize]) -> Result<Vec<Name>, AllocError>
+        ensures { IfOk result (λ names. names.items ≡ map (λ b. b.name)
+            (boards_at (plain_farm self.now).boards places.now)) }
+    {
+        let mut names = Vec::new(*self.boards.allocator());
+        for place in places {
+            if let Some(board) = self.boards.rows().get(*place) {
+                names.push(board.name.copy()?)?;
+            }
+        }
+        Ok(names)
+    }
+
+    /// The names of the least list of free boards that meets some wants. At most 4 tests a free
+    /// board.
+    pub fn pick(&self, wants: &[&Want]) -> Result<Option<Vec<Name>>, AllocError>
+        requires free { self.now.queues.boards ≡ idle_boards (plain_farm self.now) }
+        requires few { length wants.now ≤ most_wants }
+        ensures { IfOk result (λ picked. option_map (λ names. names.items) picked
+            ≡ option_map (map (λ (b : BoardRow). b.name))
+            (least (plain_farm self.now).boards (is_free (plain_farm self.now).types)
+            (map (λ w. w.now) wants.now))) }
+    {
+        let (boards, types) = (self.boards.rows(), self.types.rows());
+        match self.queues.least_of(boards, types, wants) {
+            None => Ok(None),
+            Some(picked) => Ok(Some(self.names_at(picked.places())?)),
+        }
+    }
+
+    /// The names of the boards for a group, whose members are among some rows.
+    fn pick_for_group(&self, near: &[JobRow], group: u64) -> Result<Option<Vec<Name>>, AllocError>
+        requires near { filter (λ j. j.group == group) near.now ≡ members (plain_farm self.now) group }
+        requires few { length near.now ≤ most_wants }
+        requires free { self.now.queues.boards ≡ idle_boards (plain_farm self.now) }
+        ensures { IfOk result (λ picked. option_map (λ names. names.items) picked
+            ≡ option_map (map (λ (b : BoardRow). b.name))
+            (least (plain_farm self.now).boards (is_free (plain_farm self.now).types)
+            (map (λ m. m.want) (members (plain_farm self.now) group)))) }
+    {
+        let Some(first) = near.first() else {
+            return self.pick(&[]);
+        };
+        let (wants, count) = wants_in(near, group, &first.want);
+        self.pick(&wants[..count])
+    }
+
+    /// The names of the boards for a reservation: one, or none where there is no such reservation.
+    fn pick_for_reservation(&self, number: u64) -> Result<Option<Vec<Name>>, AllocError>
+        requires free { self.now.queues.boards ≡ idle_boards (plain_farm self.now) }
+        ensures { IfOk result (λ picked. (r : ResRow) → res_of (plain_farm self.now) number ≡ Some r
+            → option_map (λ names. names.items) picked
+            ≡ option_map (map (λ (b : BoardRow). b.name))
+            (least (plain_farm self.now).boards (is_free (plain_farm self.now).types) (r.want ∷ []))) }
+    {
+        match self.find_reservation(number) {
+            None => Ok(None),
+            Some(row) => self.pick(&[&row.want]),
+        }
+    }
+}
+
+impl Tables {
+    /// How many boards a group waits for, if it is a claim, and else none.
+    fn waits_for(&self, group: u64) -> u64
+        requires small { IsSmall group }
+        ensures { result ≡ boards_for (plain_farm self.now) group }
+    {
+        let near = self.near(group);
+        match self.find_job(group) {
+            Some(job) if job.group == group && all_wait(near, group) => count_in(near, group),
+            _ => 0,
+        }
+    }
+}
+
+impl Draft {
+    /// Gives a group its boards, where free ones meet it.
+    fn serve_group(self, group: u64) -> Result<(Draft, bool), AllocError>
+        requires small { IsSmall group }
+        requires free { self.queues.boards ≡ idle_boards self.farm }
+        ensures { IfOk result (λ r. (c : Claimed) → c.reservation ≡ false → c.number ≡ group
+            → Asks false self.farm c → Tries self c r.1 r.0) }
+    {
+        let tables = &*self.tables;
+        let near = tables.near(group);
+        match tables.pick_for_group(near, group)? {
+            None => Ok((self, false)),
+            Some(names) => {
+                let numbers = numbers_in(near, group);
+                let draft = self.give_jobs(&numbers, &names)?;
+                Ok((draft.take_given(group, &names), true))
+            }
+        }
+    }
+
+    /// Gives a reservation its board, where a free one meets it.
+    fn serve_reservation(self, number: u64) -> Result<(Draft, bool), AllocError>
+        requires small { IsSmall number }
+        requires clock { self.farm.clock ≤ last_moment }
+        requires free { self.queues.boards ≡ idle_boards self.farm }
+        ensures { IfOk result (λ r. (c : Claimed) → c.reservation ≡ true → c.number ≡ number
+            → Asks true self.farm c → Tries self c r.1 r.0) }
+    {
+        let tables = &*self.tables;
+        match tables.pick_for_reservation(number)? {
+            None => Ok((self, false)),
+            Some(names) => {
+                let draft = self.give_first(number, &names)?;
+                Ok((draft.take_given(number, &names), true))
+            }
+        }
+    }
+
+    /// Serves a claim, told by its kind and its number, where free boards meet it.
+    fn serve_claim(self, kind: ClaimKind, number: u64) -> Result<(Draft, bool), AllocError>
+        requires small { IsSmall number }
+        requires clock { self.farm.clock ≤ last_moment }
+        requires free { self.queues.boards ≡ idle_boards self.farm }
+        ensures { IfOk result (λ r. (c : Claimed) → (shown_claim c).kind ≡ kind
+            → c.number ≡ number → Asks c.reservation self.farm c → Tries self c r.1 r.0) }
+    {
+        let served = match kind {
+            ClaimKind::Reservation => self.serve_reservation(number)?,
+            ClaimKind::Group => self.serve_group(number)?,
+        };
+        Ok(served)
+    }
+
+    /// A claim that isn't met stays; a group of two members or more collects, where none does yet.
+    fn pass_over(self, kind: ClaimKind, number: u64, boards: u64) -> Result<Draft, AllocError>
+        requires sound { IsSound self.farm }
+        requires small { IsSmall number }
+        requires free { self.queues.boards ≡ idle_boards self.farm }
+        ensures { IfOk result (λ d. (c : Claimed) → (shown_claim c).kind ≡ kind → c.number ≡ number
+            → length c.wants ≡ boards
+            → least self.farm.boards (is_free self.farm.types) c.wants ≡ None
+            → Serves self c false d) }
+    {
+        if self.tables.collector == 0 && kind == ClaimKind::Group && boards >= 2 {
+            self.collect_group(number)
+        } else {
+            Ok(self)
+        }
+    }
+
+    /// Tries a claim. One that isn't met is remembered, since where boards are only taken away,
+    /// what was unmet stays so; and it may collect.
+    fn try_claim(
+        self,
+        unmet: &mut Unmet,
+        kind: ClaimKind,
+        number: u64,
+        boards: u64,
+    ) -> Result<(Draft, bool), AllocError>
+        requires sound { IsSound self.farm }
+        requires waits { (c : Claimed) × IsAmong c (queue self.farm) × ((shown_claim c).kind ≡ kind)
+            × (c.number ≡ number) × (length c.wants ≡ boards) }
+        requires small { IsSmall number }
+        requires clock { self.farm.clock ≤ last_moment }
+        requires free { self.queues.boards ≡ idle_boards self.farm }
+        requires known { AreUnmet self.farm unmet.old }
+        ensures serves { IfOk result (λ r. (c : Claimed) → (shown_claim c).kind ≡ kind
+            → c.number ≡ number → IsAmong c (queue self.farm) → Serves self c r.1 r.0) }
+        ensures known { IfOk result (λ r. AreUnmet r.0.farm unmet.new) }
+    {
+        let (mut draft, served) = self.serve_claim(kind, number)?;
+        if served {
+            return Ok((draft, true));
+        }
+        let place = draft.tables.place_of_claim(kind, number);
+        unmet.note(Known {
+            kind,
+            number,
+            place,
+        });
+        draft = draft.pass_over(kind, number, boards)?;
+        Ok((draft, false))
+    }
+
+    /// Tries the group that collected before, if it is still a claim: it goes first. Gives how many
+    /// were served, one or none.
+    fn serve_former(self, unmet: &mut Unmet, former: u64) -> Result<(Draft, u64), AllocError>
+        requires sound { IsSound self.farm }
+        requires small { IsSmall former }
+        requires fits { self.queues ≡ queue_lists self.farm }
+        requires known { AreUnmet self.farm unmet.old }
+        ensures begun { IfOk result (λ r. Begins self former r.1 r.0) }
+        ensures known { IfOk result (λ r. AreUnmet r.0.farm unmet.new) }
+    {
+        let boards = self.tables.waits_for(former);
+        if boards == 0 {
+            return Ok((self, 0));
+        }
+        let (draft, served) = self.try_claim(unmet, ClaimKind::Group, former, boards)?;
+        Ok((draft, u64::from(served)))
+    }
+
+    /// Serves the claims, first that of the group that collected before and then the others of the
+    /// open queues, one after the other in the order of the whole queue, each where free boards
+    /// meet it: one that waits holds up none behind it. While nobody collects, the first group of
+    /// two members or more that isn't met does, be its queue open or not. Gives how many were
+    /// served.
+    ///
+    /// A single claim whose queue has no free board isn't looked at, and one that wants the same as
+    /// one of the last eight that were found unmet is passed over, unless it may collect. With K
+    /// queues, C claims in open ones, J jobs and F free boards it costs O(K) for each of the C
+    /// claims, O(K log C) more for each few that are looked at ahead, and O(log C + log J + F) for
+    /// each for which boards are searched.
+    pub fn serve(self, former: u64) -> Result<(Draft, u64), AllocError>
+        requires sound { IsSound self.farm }
+        requires nobody { self.farm.collector ≡ 0 }
+        requires small { IsSmall former }
+        requires fits { self.queues ≡ queue_lists self.farm }
+        ensures farm { IfOk result (λ r. r.0 ≡ record self {
+          farm = (serve_all self.farm former self.farm.clock).farm;
+          queues = queue_lists (serve_all self.farm former self.farm.clock).farm;
+        }) }
+        ensures count { IfOk result
+            (λ r. r.1 ≡ (serve_all self.farm former self.farm.clock).claims) }
+    {
+        let mut unmet = Unmet::none();
+        let (mut draft, mut count) = self.serve_former(&mut unmet, former)?;
+        let mut ahead = VecDeque::new(*draft.tables.boards.allocator());
+        let mut last = None;
+        while let Some(claim) = draft.tables.next_claim(&mut ahead, &unmet, last)? {
+            let (kind, number, boards) = (claim.kind, claim.number, claim.boards);
+            last = Some((claim.priority, number));
+            if !is_of_group(kind, number, former) {
+                let (next, served) = draft.try_claim(&mut unmet, kind, number, boards)?;
+                draft = next;
+                if served {
+                    count += 1;
+                }
+            }
+        }
+        Ok((draft, count))
+    }
+}
