@@ -4,13 +4,13 @@ use Rattle.std.proofs.lemmas.Bool.Decides.{nat_tests}
 use Rattle.farm_types.specs.Limits.{last_moment}
 use Rattle.farm_types.specs.Refusals.{bad_moment, forbidden, key_reused}
 use Rattle.farm_types.specs.Farm.{Farm}
-use Rattle.farm_types.specs.Refuse.{refusal, early_refusal, is_late, is_reused, may_give, first_code, Reason}
+use Rattle.farm_types.specs.Refuse.{refusal, early_refusal, is_late, is_reused, may_give, first_code, RefusalTest}
 use Rattle.farm_types.specs.Change.{farm_at_call}
 use Rattle.farm_types.specs.Sound.{IsSound}
 use Rattle.farm_types.specs.declared.calls.Call.{Call}
 use Rattle.farm_sound.proofs.Answered.{unrefused}
 
-clear_first : (test : Bool) (code : ℕ) (rest : List Reason) → first_code ((test, code) ∷ rest) ≡ None → test ≡ false
+clear_first : (test : Bool) (code : ℕ) (rest : List RefusalTest) → first_code ((test, code) ∷ rest) ≡ None → test ≡ false
 clear_first true code rest is = cc
 clear_first false code rest is = refl
 

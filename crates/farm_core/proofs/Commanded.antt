@@ -12,7 +12,7 @@ use Rattle.farm_types.specs.declared.rows.JobRow.{JobRow}
 use Rattle.farm_types.specs.declared.rows.Reply.{Reply}
 use Rattle.farm_sound.proofs.Step.{IsAccepted-moved, IsSound-moved_to, accepted}
 use Rattle.farm_pick.specs.Follow.{queue_after, queue_without}
-use Rattle.farm_pick.specs.Queued.{Lists, lists_of, queued_of}
+use Rattle.farm_pick.specs.Queued.{QueueLists, queue_lists, queued_of}
 use Rattle.farm_pick.proofs.Commands.{commands_follow}
 use Rattle.farm_pick.proofs.Filling.{queued_filter, queued_put}
 use Rattle.farm_core.specs.Drafted.{queues_after, without_claim}
@@ -20,12 +20,12 @@ use Rattle.farm_core.specs.Following.{FollowsIn}
 use Rattle.farm_core.proofs.Free.{free_after}
 
 -- no command but a pass touches the free boards before they follow
-pub boards_stay : (F : Farm) (caller : List ℕ) (cmd : Cmd) (lists : Lists) → (queues_after F caller cmd lists).boards ≡ lists.boards
+pub boards_stay : (F : Farm) (caller : List ℕ) (cmd : Cmd) (lists : QueueLists) → (queues_after F caller cmd lists).boards ≡ lists.boards
 boards_stay F caller (Cmd.Submit priority wants roles body) lists = refl
 boards_stay F caller (Cmd.Reserve priority tags) lists = refl
 boards_stay F caller (Cmd.Cancel number) lists = by (job_of F number)
   where
-    by : (o : Option JobRow) → (option_map_or {U = Lists} (λ j. without_claim j.group lists) o lists).boards ≡ lists.boards
+    by : (o : Option JobRow) → (option_map_or {U = QueueLists} (λ j. without_claim j.group lists) o lists).boards ≡ lists.boards
     by None = refl
     by (Some j) = refl
 boards_stay F caller (Cmd.CancelRes number) lists = refl
@@ -41,12 +41,12 @@ boards_stay F caller (Cmd.Refresh number) lists = refl
 boards_stay F caller Cmd.Pass lists = refl
 
 -- the claims are put and taken as in the queue
-claims_follow : (F : Farm) (caller : List ℕ) (cmd : Cmd) → (queues_after F caller cmd (lists_of F)).claims ≡ map queued_of (queue_after F caller cmd)
+claims_follow : (F : Farm) (caller : List ℕ) (cmd : Cmd) → (queues_after F caller cmd (queue_lists F)).claims ≡ map queued_of (queue_after F caller cmd)
 claims_follow F caller (Cmd.Submit priority wants roles body) = sym (queued_put (queue F) (record { reservation = false; number = F.next; owner = caller; priority = priority; wants = wants }))
 claims_follow F caller (Cmd.Reserve priority tags) = sym (queued_put (queue F) (res_claim (new_res F.next caller priority tags (F.clock + 60))))
 claims_follow F caller (Cmd.Cancel number) = by (job_of F number)
   where
-    by : (o : Option JobRow) → (option_map_or {U = Lists} (λ j. without_claim j.group (lists_of F)) o (lists_of F)).claims ≡ map queued_of (option_map_or (λ j. queue_without j.group (queue F)) o (queue F))
+    by : (o : Option JobRow) → (option_map_or {U = QueueLists} (λ j. without_claim j.group (queue_lists F)) o (queue_lists F)).claims ≡ map queued_of (option_map_or (λ j. queue_without j.group (queue F)) o (queue F))
     by None = refl
     by (Some j) = sym (queued_filter (λ n. not (n == j.group)) (queue F))
 claims_follow F caller (Cmd.CancelRes number) = sym (queued_filter (λ n. not (n == number)) (queue F))
@@ -69,9 +69,9 @@ follows_in F call sound clear = record {
 }
 
 -- a kept reply changes neither
-pub kept_lists : (F : Farm) (call : Call) (reply : Reply) → lists_of (keep call reply F) ≡ lists_of F
+pub kept_lists : (F : Farm) (call : Call) (reply : Reply) → queue_lists (keep call reply F) ≡ queue_lists F
 kept_lists F call reply = by call.key
   where
-    by : (o : Option (List ℕ)) → lists_of (option_map_or {U = Farm} (λ key. put_kept F (record { caller = call.caller; key = key; kind = kind_of call.cmd; reply = reply })) o F) ≡ lists_of F
+    by : (o : Option (List ℕ)) → queue_lists (option_map_or {U = Farm} (λ key. put_kept F (record { caller = call.caller; key = key; kind = kind_of call.cmd; reply = reply })) o F) ≡ queue_lists F
     by None = refl
     by (Some key) = refl

@@ -11,7 +11,7 @@ use Rattle.farm_types.specs.declared.claims.Claim.{Claim}
 use Rattle.farm_types.specs.declared.claims.ClaimKind.{ClaimKind}
 use Rattle.farm_types.specs.declared.rows.JobRow.{JobRow}
 use Rattle.farm_pick.specs.Kept.{queued_cmp}
-use Rattle.farm_pick.specs.Queued.{Lists, idle_boards, lists_of, queue_kind, queued_of}
+use Rattle.farm_pick.specs.Queued.{QueueLists, idle_boards, queue_lists, queue_kind, queued_of}
 use Rattle.farm_pick.proofs.Filling.{fresh_before, last_put}
 use Rattle.farm_pick.proofs.Leading.{lead_of, of_reservation}
 use Rattle.farm_sound.proofs.Claims.{IsClaim, queue_claims}
@@ -39,7 +39,7 @@ at_seam [] ys y d = refl
 at_seam (x ∷ xs) ys y d = at_seam xs ys y d
 
 -- these claims are still to be put, and those behind them stand in the queues
-pub record Fills (F : Farm) (queues : Lists) (shown : List Claim) : Type 0 where
+pub record Fills (F : Farm) (queues : QueueLists) (shown : List Claim) : Type 0 where
   pub left : shown ++ map shown_claim (drop (length shown) (queue F)) ≡ map shown_claim (queue F)
   pub put : queues.claims ≡ map queued_of (drop (length shown) (queue F))
   pub boards : queues.boards ≡ idle_boards F
@@ -59,17 +59,17 @@ module _ (F : Farm) (sound : IsSound F) where
 
   -- ---- filling
 
-  pub fills_begin : (queues : Lists) (shown : List Claim) → queues ≡ record { claims = []; boards = idle_boards F } → shown ≡ map shown_claim (queue F) → Fills F queues shown
+  pub fills_begin : (queues : QueueLists) (shown : List Claim) → queues ≡ record { claims = []; boards = idle_boards F } → shown ≡ map shown_claim (queue F) → Fills F queues shown
   fills_begin queues shown begin all =
       let long : length shown ≡ length (queue F) = ap length all ∙ length-map (queue F) shown_claim in
       let none : drop (length shown) (queue F) ≡ [] = drop_all (length shown) (queue F) (omega (arith, long)) in
       record {
         left = ap (λ cs. shown ++ map shown_claim cs) none ∙ append-nil shown ∙ all;
-        put = ap (λ (q : Lists). q.claims) begin ∙ sym (ap (map queued_of) none);
-        boards = ap (λ (q : Lists). q.boards) begin;
+        put = ap (λ (q : QueueLists). q.claims) begin ∙ sym (ap (map queued_of) none);
+        boards = ap (λ (q : QueueLists). q.boards) begin;
       }
 
-  module _ (queues : Lists) (shown rest : List Claim) (claim : Claim) (last : shown ≡ rest ++ (claim ∷ [])) (fills : Fills F queues shown) where
+  module _ (queues : QueueLists) (shown rest : List Claim) (claim : Claim) (last : shown ≡ rest ++ (claim ∷ [])) (fills : Fills F queues shown) where
     long : length shown ≡ suc (length rest)
     long = ap length last ∙ length-append rest (claim ∷ []) ∙ add-one (length rest)
 
@@ -101,16 +101,16 @@ module _ (F : Farm) (sound : IsSound F) where
         subst (λ cs. IsFresh claim.number cs) (sym behind)
         (subst (λ (k : Claim). IsFresh k.number (map queued_of (drop (length rest + 1) (queue F)))) same (fresh_before F (length rest) here.claimed sound low here.at))
 
-    pub fills_on : (news : Lists) → news ≡ record queues { claims = put queued_cmp queues.claims (record { claim = claim; kind = kind_in F.jobs claim }) } → Fills F news rest
+    pub fills_on : (news : QueueLists) → news ≡ record queues { claims = put queued_cmp queues.claims (record { claim = claim; kind = kind_in F.jobs claim }) } → Fills F news rest
     fills_on news made = record {
       left = ap (λ cs. rest ++ map shown_claim cs) here.rest ∙ ap (λ k. rest ++ (k ∷ map shown_claim (drop (suc (length rest)) (queue F)))) same ∙ whole;
-      put = ap (λ (q : Lists). q.claims) made
+      put = ap (λ (q : QueueLists). q.claims) made
           ∙ (λ i. put queued_cmp (behind i) (record { claim = sym same i; kind = (ap (kind_in F.jobs) (sym same) ∙ kind_found here.claimed here.is) i }))
           ∙ last_put F (length rest) here.claimed low here.at;
-      boards = ap (λ (q : Lists). q.boards) made ∙ fills.boards;
+      boards = ap (λ (q : QueueLists). q.boards) made ∙ fills.boards;
     }
 
-  pub fills_end : (queues : Lists) (shown : List Claim) → shown ≡ [] → Fills F queues shown → queues ≡ lists_of F
+  pub fills_end : (queues : QueueLists) (shown : List Claim) → shown ≡ [] → Fills F queues shown → queues ≡ queue_lists F
   fills_end queues shown none fills =
       let claims = fills.put ∙ ap (λ cs. map queued_of (drop (length cs) (queue F))) none in
       λ i. record { claims = claims i; boards = fills.boards i }

@@ -17,7 +17,7 @@ use Rattle.farm_sound.proofs.Claims.{queue_sorted}
 use Rattle.farm_sound.proofs.Lists.{among_has}
 use Rattle.farm_sound.proofs.Tests.{both}
 use Rattle.farm_pick.specs.Heads.{is_later, last_spot, rank_cmp}
-use Rattle.farm_pick.specs.Queued.{Queued, idle_boards, is_open, lists_of, queued_of}
+use Rattle.farm_pick.specs.Queued.{Queued, idle_boards, is_open, queue_lists, queued_of}
 use Rattle.farm_pick.specs.declared.spot.Spot.{Spot}
 use Rattle.farm_pick.proofs.Filling.{numbers_differ}
 use Rattle.farm_pick.proofs.First.{rank_total}
@@ -114,7 +114,7 @@ none_noted F (d ∷ cs) (c ∷ seen) is (inl two) e at =
     by (inr there) more = more there
 none_noted F (d ∷ cs) (c ∷ seen) is (inr three) e at = let none : ◌≡◌ {A = List Coming} [] (coming_of c ∷ three.0) = three.1 in cc
 
-module _ (F : Farm) (sound : IsSound F) (place : Option (ℕ × ℕ)) (seen rest : List Claim) (xs : List Coming) (is : lent_after (lists_of F) place ≡ seen ++ rest)
+module _ (F : Farm) (sound : IsSound F) (place : Option (ℕ × ℕ)) (seen rest : List Claim) (xs : List Coming) (is : lent_after (queue_lists F) place ≡ seen ++ rest)
     (notes : Notes F seen xs) where
   abbrev lends : Claimed → Bool
   lends d = is_later (last_spot place) (shown_claim d) && is_open (idle_boards F) (queued_of d).kind
@@ -147,7 +147,7 @@ module _ (F : Farm) (sound : IsSound F) (place : Option (ℕ × ℕ)) (seen rest
       by e at later false closed = missed_ahead F e (closed_missed F sound place e at closed) xs
 
 -- all claims were seen, and none was noted
-pub none_reached : (F : Farm) (sound : IsSound F) (place : Option (ℕ × ℕ)) (seen : List Claim) → lent_after (lists_of F) place ≡ seen ++ [] → Notes F seen [] → IsReached F place None
+pub none_reached : (F : Farm) (sound : IsSound F) (place : Option (ℕ × ℕ)) (seen : List Claim) → lent_after (queue_lists F) place ≡ seen ++ [] → Notes F seen [] → IsReached F place None
 none_reached F sound place seen is notes e at later = by (is_open (idle_boards F) (queued_of e).kind) refl
   where
     by : (v : Bool) → is_open (idle_boards F) (queued_of e).kind ≡ v → IsMissed F (shown_claim e).kind e.number

@@ -9,13 +9,13 @@ use Rattle.farm_types.specs.Pick.{Claimed, is_free, least}
 use Rattle.farm_types.specs.declared.rows.BoardRow.{BoardRow}
 use Rattle.farm_types.specs.declared.rows.ResRow.{ResRow}
 use Rattle.farm_types.specs.declared.rows.Want.{Want}
-use Rattle.farm_pick.specs.Queued.{Lists, Queued, idle_boards}
+use Rattle.farm_pick.specs.Queued.{QueueLists, Queued, idle_boards}
 use Rattle.farm_core.specs.Following.{without_all, without_boards}
 use Rattle.farm_core.specs.Serving.{queues_given}
 use Rattle.farm_core.proofs.Serving.{names_of}
 
-module _ (F : Farm) (c : Claimed) (wants : List Want) (asks : c.wants ≡ wants) (lists : Lists) where
-  abbrev given : Option (List BoardRow) → Lists
+module _ (F : Farm) (c : Claimed) (wants : List Want) (asks : c.wants ≡ wants) (lists : QueueLists) where
+  abbrev given : Option (List BoardRow) → QueueLists
   given o = option_map_or (λ bs. record {
     claims = filter (λ (x : Queued). not (x.claim.number == c.number)) lists.claims;
     boards = without_boards (names_of bs) lists.boards;

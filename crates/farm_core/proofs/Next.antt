@@ -19,7 +19,7 @@ use Rattle.farm_sound.proofs.Lists.{among_has, filter_all}
 use Rattle.farm_sound.proofs.Own.{itself}
 use Rattle.farm_sound.proofs.Tests.{both}
 use Rattle.farm_pick.specs.Heads.{earlier_of, is_later, last_spot}
-use Rattle.farm_pick.specs.Queued.{Lists, Queued, idle_boards, is_open, lists_of, queue_kind, queued_of}
+use Rattle.farm_pick.specs.Queued.{QueueLists, Queued, idle_boards, is_open, queue_lists, queue_kind, queued_of}
 use Rattle.farm_pick.specs.Merged.{lent_several}
 use Rattle.farm_pick.specs.Walked.{claims_after}
 use Rattle.farm_pick.proofs.Closed.{closed_is_unmet}
@@ -249,7 +249,7 @@ module _ (F : Farm) (sound : IsSound F) (place : Option (ℕ × ℕ)) where
 -- ---- what the queues lend
 
 -- what they lend after a place, all of it
-abbrev pub lent_after : Lists → Option (ℕ × ℕ) → List Claim
+abbrev pub lent_after : QueueLists → Option (ℕ × ℕ) → List Claim
 lent_after queues place = claims_after (λ k. false || is_open queues.boards k) (last_spot place) queues.claims
 
 -- the claim that was reached
@@ -288,7 +288,7 @@ comes_next F place None next = next
 comes_next F place (Some c) next = (c.owner, next)
 
 -- the queues are those of the farm
-pub next_lent : (F : Farm) (sound : IsSound F) (place : Option (ℕ × ℕ)) (queues : Lists) → queues ≡ lists_of F → (o : Option Coming) → IsReached F place o
+pub next_lent : (F : Farm) (sound : IsSound F) (place : Option (ℕ × ℕ)) (queues : QueueLists) → queues ≡ queue_lists F → (o : Option Coming) → IsReached F place o
     → ComesNext F place (if F.collector == 0 then earlier_coming o (option_map coming_of (lent_several queues place)) else o)
 next_lent F sound place queues fits o reached = by (F.collector == 0) refl
   where
@@ -298,7 +298,7 @@ next_lent F sound place queues fits o reached = by (F.collector == 0) refl
     by : (v : Bool) → (F.collector == 0) ≡ v → ComesNext F place (cond v (earlier_coming o (option_map coming_of (lent_several queues place))) o)
     by true nobody =
         let next : IsNext F place (earlier_of (lent_of F place o reached) (lent_several queues place)) = next_of_both F sound place (lent_of F place o reached) (lent_several queues place) first
-        (first_several F sound place (lent_several queues place) (ap (λ (l : Lists). lent_several l place) fits)) in
+        (first_several F sound place (lent_several queues place) (ap (λ (l : QueueLists). lent_several l place) fits)) in
         subst (ComesNext F place)
         (earlier_same (lent_of F place o reached) (lent_several queues place) ∙ ap (λ p. earlier_coming p (option_map coming_of (lent_several queues place))) (lent_is F place o reached))
         (comes_next F place (earlier_of (lent_of F place o reached) (lent_several queues place)) next)

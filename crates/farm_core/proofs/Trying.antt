@@ -34,7 +34,7 @@ use Rattle.farm_sound.proofs.Tests.{both, same_number}
 use Rattle.farm_sound.proofs.Where.{by_cases}
 use Rattle.farm_pick.specs.Heads.{is_later, last_spot}
 use Rattle.farm_pick.specs.Merged.{comes_after, rest}
-use Rattle.farm_pick.specs.Queued.{IdleBoard, Lists, Queued, idle_boards, lists_of, queued_of}
+use Rattle.farm_pick.specs.Queued.{IdleBoard, QueueLists, Queued, idle_boards, queue_lists, queued_of}
 use Rattle.farm_pick.proofs.Apart.{same_bytes_back}
 use Rattle.farm_pick.proofs.Bridge.{later_same, place_of}
 use Rattle.farm_pick.proofs.Collects.{collecting_follows}
@@ -72,15 +72,15 @@ without_named (b ∷ bs) xs =
     ∙ taken_more (λ (x : IdleBoard). bytes_eq x.name b.name) (λ (x : IdleBoard). list_any (λ (d : BoardRow). bytes_eq d.name x.name) bs) (λ (x : IdleBoard). list_any (λ (d : BoardRow). bytes_eq d.name x.name) (b ∷ bs))
     (λ x. ap (λ v. v || list_any (λ (d : BoardRow). bytes_eq d.name x.name) bs) (same_names_back b.name x.name)) xs
 
-pub given_fits : (F : Farm) (c : Claimed) (n : ℕ) → IsSound F → IsAmong c (queue F) → queues_given F c (lists_of F) ≡ lists_of (serve F.clock (record { farm = F; claims = n }) c).farm
+pub given_fits : (F : Farm) (c : Claimed) (n : ℕ) → IsSound F → IsAmong c (queue F) → queues_given F c (queue_lists F) ≡ queue_lists (serve F.clock (record { farm = F; claims = n }) c).farm
 given_fits F c n sound among = by (least F.boards (is_free F.types) c.wants) refl
   where
     by : (o : Option (List BoardRow)) → least F.boards (is_free F.types) c.wants ≡ o
-        → option_map_or {U = Lists} (λ bs. record {
-          claims = filter (λ (x : Queued). not (x.claim.number == c.number)) (lists_of F).claims;
-          boards = without_boards (names_of bs) (lists_of F).boards;
-        }) o (record (lists_of F) { boards = idle_boards (pass_over F c) })
-        ≡ lists_of (option_map_or {U = Served} (λ bs. record { farm = give F c bs F.clock; claims = n + 1 }) o (record { farm = pass_over F c; claims = n })).farm
+        → option_map_or {U = QueueLists} (λ bs. record {
+          claims = filter (λ (x : Queued). not (x.claim.number == c.number)) (queue_lists F).claims;
+          boards = without_boards (names_of bs) (queue_lists F).boards;
+        }) o (record (queue_lists F) { boards = idle_boards (pass_over F c) })
+        ≡ queue_lists (option_map_or {U = Served} (λ bs. record { farm = give F c bs F.clock; claims = n + 1 }) o (record { farm = pass_over F c; claims = n })).farm
     by None is = λ i. record { claims = map queued_of (sym (collecting_follows F sound c among) i); boards = idle_boards (pass_over F c) }
     by (Some bs) is =
         let two = giving_follows F c bs F.clock sound (omega arith) among is in
@@ -141,17 +141,17 @@ abbrev come_to : Farm → ℕ → Served
 come_to G count = record { farm = G; claims = count }
 
 -- what the pass has come to, and the claim tried last
-pub record Trying (F : Farm) (former : ℕ) (G : Farm) (queues : Lists) (count : ℕ) (place : Option (ℕ × ℕ)) : Type 0 where
+pub record Trying (F : Farm) (former : ℕ) (G : Farm) (queues : QueueLists) (count : ℕ) (place : Option (ℕ × ℕ)) : Type 0 where
   pub last : Option Claimed
   pub tried : place ≡ place_of last
   pub on : IsTrying former F.clock (come_to G count) last
   pub folds : serve_all F former F.clock ≡ fold (serve F.clock) (come_to G count) (rest former last G)
   pub few : count + length (later last (queue G)) ≤ length (queue F)
   pub clock : G.clock ≡ F.clock
-  pub fits : queues ≡ lists_of G
+  pub fits : queues ≡ queue_lists G
 
 -- so many claims are left
-abbrev pub left : Lists → Option (ℕ × ℕ) → ℕ
+abbrev pub left : QueueLists → Option (ℕ × ℕ) → ℕ
 left queues place = length (filter (λ (x : Queued). is_later (last_spot place) x.claim) queues.claims)
 
 length_mapped : (p : Queued → Bool) (q : Claimed → Bool) (P : Claimed → Type 0) → ((c : Claimed) → P c → p (queued_of c) ≡ q c) → (cs : List Claimed) → AllByRecursion P cs
@@ -164,7 +164,7 @@ length_mapped p q P same (c ∷ cs) all =
     by true rest = omega (arith, rest)
     by false rest = omega (arith, rest)
 
-pub left_is : (F : Farm) (former : ℕ) (G : Farm) (queues : Lists) (count : ℕ) (place : Option (ℕ × ℕ)) (trying : Trying F former G queues count place)
+pub left_is : (F : Farm) (former : ℕ) (G : Farm) (queues : QueueLists) (count : ℕ) (place : Option (ℕ × ℕ)) (trying : Trying F former G queues count place)
     → left queues place ≡ length (later trying.last (queue G))
 left_is F former G queues count place trying =
     (λ i. left (trying.fits i) (trying.tried i))
@@ -209,7 +209,7 @@ is_true false is = absurd (true≢false is)
 
 -- ---- one turn of the pass
 
-module _ (F : Farm) (former : ℕ) (G : Farm) (queues : Lists) (count : ℕ) (place : Option (ℕ × ℕ)) (trying : Trying F former G queues count place) where
+module _ (F : Farm) (former : ℕ) (G : Farm) (queues : QueueLists) (count : ℕ) (place : Option (ℕ × ℕ)) (trying : Trying F former G queues count place) where
   sound : IsSound G
   sound = trying.on.sound
 
@@ -290,7 +290,7 @@ module _ (F : Farm) (former : ℕ) (G : Farm) (queues : Lists) (count : ℕ) (pl
     at_it : here ≡ place_of (Some it)
     at_it = sym (ap (λ (k : Claim). Some (k.priority, k.number)) next.2)
 
-    module _ (H : Farm) (news : Lists) (more : ℕ) (went : Went (come_to H more)) (high : more ≤ count + 1) (clock : H.clock ≡ G.clock) (fits : news ≡ lists_of H) where
+    module _ (H : Farm) (news : QueueLists) (more : ℕ) (went : Went (come_to H more)) (high : more ≤ count + 1) (clock : H.clock ≡ G.clock) (fits : news ≡ queue_lists H) where
       pub goes_on : Trying F former H news more here
       goes_on = record {
         last = Some it;
@@ -392,9 +392,9 @@ module _ (F : Farm) (former : ℕ) (D : Drafted) (count : ℕ) (place : Option (
     clock : E.farm.clock ≡ D.farm.clock
     clock = ap (λ (u : Served). u.farm.clock) (sym (serves.0 count)) ∙ served_clock D.farm.clock (come_to D.farm count) next.0
 
-    fits : E.queues ≡ lists_of E.farm
+    fits : E.queues ≡ queue_lists E.farm
     fits = serves.2 ∙ ap (queues_given D.farm next.0) trying.fits ∙ given_fits D.farm next.0 count trying.on.sound next.1
-        ∙ ap (λ (u : Served). lists_of u.farm) (serves.0 count)
+        ∙ ap (λ (u : Served). queue_lists u.farm) (serves.0 count)
 
     pub tried_on : (v : Bool) → served ≡ v → Trying F former E.farm E.queues (count_after count v) (place_after claim)
     tried_on v so = subst (λ v. Trying F former E.farm E.queues (count_after count v) (place_after claim)) so
@@ -449,7 +449,7 @@ trying_begins D E former count sound none first = by (find (is_group former) (qu
 -- ---- the group that collected before
 
 -- where it is no claim, there is nothing to serve
-pub none_first : (D : Drafted) (former : ℕ) → IsSound D.farm → D.queues ≡ lists_of D.farm → boards_for D.farm former ≡ 0 → FirstServed D former 0 D
+pub none_first : (D : Drafted) (former : ℕ) → IsSound D.farm → D.queues ≡ queue_lists D.farm → boards_for D.farm former ≡ 0 → FirstServed D former 0 D
 none_first D former sound fits none = record {
   serves = ap (fold (serve D.farm.clock) (come_to D.farm 0))
       (none_pass (is_group former) (queue D.farm) (all_from (λ d. is_group former d ≡ false) (queue D.farm) (λ d at. by d at (is_group former d) refl)));
@@ -505,13 +505,13 @@ former_waits F former boards sound are some = by (job_of F former) refl (are, so
             )
 
 -- it was tried
-pub one_first : (D E : Drafted) (former : ℕ) (served : Bool) (c : Claimed) → IsSound D.farm → D.queues ≡ lists_of D.farm → IsAmong c (queue D.farm)
+pub one_first : (D E : Drafted) (former : ℕ) (served : Bool) (c : Claimed) → IsSound D.farm → D.queues ≡ queue_lists D.farm → IsAmong c (queue D.farm)
     → (shown_claim c).kind ≡ ClaimKind.Group → c.number ≡ former → Serves D c served E → FirstServed D former (count_after 0 served) E
 one_first D E former served c sound fits at kind number serves = record {
   serves = ap (fold (serve D.farm.clock) (come_to D.farm 0))
       (one_group former (queue D.farm) (numbers_differ D.farm sound) ∙ by (find (is_group former) (queue D.farm)) refl) ∙ serves.0 0;
   start = serves.1;
-  fits = serves.2 ∙ ap (queues_given D.farm c) fits ∙ given_fits D.farm c 0 sound at ∙ ap (λ (u : Served). lists_of u.farm) (serves.0 0);
+  fits = serves.2 ∙ ap (queues_given D.farm c) fits ∙ given_fits D.farm c 0 sound at ∙ ap (λ (u : Served). queue_lists u.farm) (serves.0 0);
 }
   where
     own : is_group former c ≡ true

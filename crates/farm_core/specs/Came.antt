@@ -2,7 +2,7 @@
 use Rattle.std.specs.Prelude.{◌≡◌}
 use Rattle.farm_types.specs.Table.{type_cmp, board_cmp, job_cmp, res_cmp}
 use Rattle.farm_types.specs.Farm.{Farm}
-use Rattle.farm_pick.specs.Queued.{Lists}
+use Rattle.farm_pick.specs.Queued.{QueueLists}
 use Rattle.farm_table.specs.Tabled.{Leads}
 use Rattle.farm_core.specs.Plain.{plain_farm}
 use Rattle.farm_core.specs.declared.tables.Tables.{Tables}
@@ -10,7 +10,7 @@ use Rattle.farm_core.specs.declared.tables.Tables.{Tables}
 -- what commands are said of: the farm and its queues
 pub record Seen : Type 0 where
   pub farm : Farm
-  pub queues : Lists
+  pub queues : QueueLists
 
 abbrev pub seen : Tables → Seen
 seen t = record { farm = plain_farm t; queues = t.queues }

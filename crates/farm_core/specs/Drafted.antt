@@ -9,7 +9,7 @@ use Rattle.farm_types.specs.Farm.{Farm, job_of}
 use Rattle.farm_types.specs.Small.{IsSmallKept}
 use Rattle.farm_types.specs.Pick.{Claimed, res_claim}
 use Rattle.farm_types.specs.Change.{act, done_with, new_res}
-use Rattle.farm_pick.specs.Queued.{Lists, Queued, queued_of}
+use Rattle.farm_pick.specs.Queued.{QueueLists, Queued, queued_of}
 use Rattle.farm_pick.specs.Kept.{queued_cmp}
 use Rattle.farm_types.specs.declared.calls.Cmd.{Cmd}
 use Rattle.farm_types.specs.declared.calls.Changes.{Changes}
@@ -18,7 +18,7 @@ use Rattle.farm_core.specs.declared.tables.Tables.{Tables}
 pub record Drafted : Type 0 where
   pub start : Farm
   pub farm : Farm
-  pub queues : Lists
+  pub queues : QueueLists
 
 -- the logs lead to the tables from the start, and what was kept since is small
 pub record IsWhole (start : Farm) (c : Changes) (t : Tables) : Type 0 where
@@ -34,10 +34,10 @@ abbrev pub at_farm : Farm → Drafted → Drafted
 at_farm F D = record D { farm = F }
 
 -- the queues with a claim more, and without the claim of a number
-abbrev pub with_claim : Claimed → Lists → Lists
+abbrev pub with_claim : Claimed → QueueLists → QueueLists
 with_claim c lists = record lists { claims = put queued_cmp lists.claims (queued_of c) }
 
-abbrev pub without_claim : ℕ → Lists → Lists
+abbrev pub without_claim : ℕ → QueueLists → QueueLists
 without_claim number lists = record lists {
   claims = filter (λ x. not (x.claim.number == number)) lists.claims;
 }
@@ -48,7 +48,7 @@ IsFresh number claims = AllByRecursion (λ x. x.claim.number ≡ number → ⊥)
 
 -- a new group and a new reservation come into the queues, a canceled one leaves them; no other
 -- command but a pass changes who waits
-abbrev pub queues_after : Farm → List ℕ → Cmd → Lists → Lists
+abbrev pub queues_after : Farm → List ℕ → Cmd → QueueLists → QueueLists
 queues_after F caller (Cmd.Submit priority wants roles body) lists = with_claim (record {
   reservation = false;
   number = F.next;

@@ -16,7 +16,7 @@ use Rattle.farm_types.specs.declared.rows.ResRow.{ResRow}
 use Rattle.farm_types.specs.declared.claims.Claim.{Claim}
 use Rattle.farm_types.specs.declared.claims.ClaimKind.{ClaimKind}
 use Rattle.farm_sound.specs.Place.{job_in}
-use Rattle.farm_pick.specs.Queued.{IdleBoard, Queued, idle_board, idle_boards, lists_of}
+use Rattle.farm_pick.specs.Queued.{IdleBoard, Queued, idle_board, idle_boards, queue_lists}
 use Rattle.farm_pick.specs.Kept.{named_cmp}
 use Rattle.farm_core.specs.Drafted.{queues_after}
 
@@ -45,8 +45,8 @@ without_all rows claims =
 -- by a type that is added
 pub record FollowsIn (F : Farm) (caller : List ℕ) (cmd : Cmd) : Type 0 where
   pub claims : cmd ≢ Cmd.Pass
-      → (queues_after F caller cmd (lists_of F)).claims
-      ≡ (lists_of (act F caller cmd).farm).claims
+      → (queues_after F caller cmd (queue_lists F)).claims
+      ≡ (queue_lists (act F caller cmd).farm).claims
   pub free : cmd ≢ Cmd.Pass → free_of (act F caller cmd).farm.types F.boards ≡ idle_boards F
 
 -- the type in whose queue a claim stands, by the rows of jobs: its first member's

@@ -13,7 +13,7 @@ use Rattle.farm_types.specs.Pass.{allocated_reservation, held_board, is_group, p
 use Rattle.farm_types.specs.Pick.{IsAmong, Claimed, is_free, leads_claim, least, queue}
 use Rattle.farm_types.specs.Pick.{shown_claim, shown_cmp}
 use Rattle.farm_pick.specs.Heads.{is_later, last_spot}
-use Rattle.farm_pick.specs.Queued.{Lists, idle_boards, lists_of}
+use Rattle.farm_pick.specs.Queued.{QueueLists, idle_boards, queue_lists}
 use Rattle.farm_types.specs.declared.rows.Holder.{Holder}
 use Rattle.farm_types.specs.declared.rows.JobState.{JobState}
 use Rattle.farm_types.specs.declared.rows.State.{State}
@@ -108,7 +108,7 @@ abbrev pub count_after : ℕ → Bool → ℕ
 count_after n served = if served then n + 1 else n
 
 -- the queues once a claim was given the boards that meet it, if some do, and else perhaps collects
-abbrev pub queues_given : Farm → Claimed → Lists → Lists
+abbrev pub queues_given : Farm → Claimed → QueueLists → QueueLists
 queues_given F c lists = option_map_or (λ bs. record {
   claims = filter (λ x. not (x.claim.number == c.number)) lists.claims;
   boards = without_boards (map (λ (b : BoardRow). b.name) bs) lists.boards;
@@ -138,4 +138,4 @@ pub record Begins (D : Drafted) (former count : ℕ) (E : Drafted) : Type 0 wher
   pub serves : fold (serve D.farm.clock) (record { farm = D.farm; claims = 0 })
       (filter (is_group former) (queue D.farm)) ≡ record { farm = E.farm; claims = count }
   pub start : E.start ≡ D.start
-  pub fits : E.queues ≡ lists_of E.farm
+  pub fits : E.queues ≡ queue_lists E.farm

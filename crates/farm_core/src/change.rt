@@ -6,7 +6,7 @@ ghost use Rattle.farm_types.specs.Refuse.{refusal};
 ghost use Rattle.farm_types.specs.Change.{act, done_with, keep, change};
 ghost use Rattle.farm_types.specs.Sound.{IsSound};
 ghost use Rattle.farm_types.specs.declared.calls.Cmd.{Cmd};
-ghost use Rattle.farm_pick.specs.Queued.{lists_of};
+ghost use Rattle.farm_pick.specs.Queued.{queue_lists};
 ghost use Rattle.farm_core.specs.Following.{FollowsIn};
 ghost use Rattle.farm_core.specs.Drafted.{at_farm, Acts, IsFresh};
 ghost use Rattle.farm_core.specs.Plain.{plain_farm};
@@ -24,11 +24,11 @@ impl Tables {
     pub fn change(&mut self, call: &Call) -> Result<(Reply, Changes), AllocError>
         requires sound { IsSound (plain_farm self.old) }
         requires accepted { None ≡ refusal (plain_farm self.old) call.now }
-        requires fits { self.old.queues ≡ lists_of (plain_farm self.old) }
+        requires fits { self.old.queues ≡ queue_lists (plain_farm self.old) }
         ensures farm { OnOk result
             (plain_farm self.new ≡ (change (plain_farm self.old) call.entry.now).farm) }
         ensures reply { IfOk result (λ r. r.0 ≡ (change (plain_farm self.old) call.entry.now).reply) }
-        ensures queues { OnOk result (self.new.queues ≡ lists_of (plain_farm self.new)) }
+        ensures queues { OnOk result (self.new.queues ≡ queue_lists (plain_farm self.new)) }
         ensures rows { IfOk result (λ r. put_rows (plain_farm self.old) r.1 ≡ plain_farm self.new) }
         ensures small { IfOk result (λ r. AreSmallRows r.1) }
         ensures meta { IfOk result (λ r. r.1.meta ≡ record {
@@ -65,11 +65,11 @@ impl Draft {
         requires clock { self.farm.clock ≤ last_moment }
         requires next { self.farm.next ≤ numbers_end }
         requires begun { self.start ≡ self.farm }
-        requires fits { self.queues ≡ lists_of self.farm }
+        requires fits { self.queues ≡ queue_lists self.farm }
         requires follow { FollowsIn self.farm call.now.caller call.now.cmd }
         ensures farm { IfOk result (λ r. r.0 ≡ record self {
           farm = (act self.farm call.entry.now.caller call.entry.now.cmd).farm;
-          queues = lists_of (act self.farm call.entry.now.caller call.entry.now.cmd).farm;
+          queues = queue_lists (act self.farm call.entry.now.caller call.entry.now.cmd).farm;
         }) }
         ensures reply { IfOk result
             (λ r. r.1 ≡ (act self.farm call.entry.now.caller call.entry.now.cmd).reply) }

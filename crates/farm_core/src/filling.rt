@@ -3,7 +3,7 @@ ghost use Rattle.std.specs.Prelude.{◌≡◌, [], OnOk};
 ghost use Rattle.farm_types.specs.Table.{put};
 ghost use Rattle.farm_types.specs.Sound.{IsSound};
 ghost use Rattle.farm_pick.specs.Kept.{queued_cmp};
-ghost use Rattle.farm_pick.specs.Queued.{lists_of};
+ghost use Rattle.farm_pick.specs.Queued.{queue_lists};
 ghost use Rattle.farm_core.specs.Drafted.{IsFresh};
 ghost use Rattle.farm_core.specs.Following.{kind_in};
 ghost use Rattle.farm_core.specs.Plain.{plain_farm};
@@ -39,7 +39,7 @@ impl Tables {
         requires sound { IsSound (plain_farm self.old) }
         requires empty { self.old.queues ≡ record { claims = []; boards = [] } }
         ensures farm { plain_farm self.new ≡ plain_farm self.old }
-        ensures queues { OnOk result (self.new.queues ≡ lists_of (plain_farm self.old)) }
+        ensures queues { OnOk result (self.new.queues ≡ queue_lists (plain_farm self.old)) }
     {
         note_boards(&mut self.queues, self.types.rows(), self.boards.rows())?;
         let alloc = *self.boards.allocator();

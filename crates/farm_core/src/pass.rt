@@ -5,7 +5,7 @@ ghost use Rattle.farm_types.specs.Pick.{queue, shown_claim};
 ghost use Rattle.farm_types.specs.Change.{act};
 ghost use Rattle.farm_types.specs.Sound.{IsSound};
 ghost use Rattle.farm_types.specs.declared.calls.Cmd.{Cmd};
-ghost use Rattle.farm_pick.specs.Queued.{lists_of};
+ghost use Rattle.farm_pick.specs.Queued.{queue_lists};
 ghost use Rattle.farm_core.specs.Plain.{plain_farm};
 ghost use Rattle.farm_core.specs.Tracks.{Tracks};
 
@@ -17,7 +17,7 @@ use std::alloc::AllocError;
 impl Tables {
     /// The claims that wait, in the order in which they are served.
     pub fn queue(&self) -> Result<Vec<Claim>, AllocError>
-        ensures { IfOk result (λ claims. self.now.queues ≡ lists_of (plain_farm self.now)
+        ensures { IfOk result (λ claims. self.now.queues ≡ queue_lists (plain_farm self.now)
             → claims.items ≡ map shown_claim (queue (plain_farm self.now))) }
     {
         let claims = self.queues.claims()?;
@@ -33,10 +33,10 @@ impl Draft {
     pub fn pass(self) -> Result<(Draft, Reply), AllocError>
         requires sound { IsSound self.farm }
         requires begun { self.start ≡ self.farm }
-        requires fits { self.queues ≡ lists_of self.farm }
+        requires fits { self.queues ≡ queue_lists self.farm }
         ensures farm { IfOk result (λ r. r.0 ≡ record self {
           farm = (act self.farm [] Cmd.Pass).farm;
-          queues = lists_of (act self.farm [] Cmd.Pass).farm;
+          queues = queue_lists (act self.farm [] Cmd.Pass).farm;
         }) }
         ensures reply { IfOk result (λ r. r.1 ≡ (act self.farm [] Cmd.Pass).reply) }
     {

@@ -15,7 +15,7 @@ ghost use Rattle.farm_types.specs.declared.rows.BoardRow.{BoardRow};
 ghost use Rattle.farm_types.specs.declared.rows.ResRow.{ResRow};
 ghost use Rattle.farm_pick.specs.Least.{boards_at};
 ghost use Rattle.farm_pick.specs.Heads.{is_later, last_spot};
-ghost use Rattle.farm_pick.specs.Queued.{Queued, idle_boards, is_open, lists_of};
+ghost use Rattle.farm_pick.specs.Queued.{Queued, idle_boards, is_open, queue_lists};
 ghost use Rattle.farm_core.specs.Drafted.{at_farm};
 ghost use Rattle.farm_core.specs.Plain.{plain_farm};
 ghost use Rattle.farm_core.specs.Serving.{AreUnmet, Asks, Begins, Serves, Tries, boards_for};
@@ -275,7 +275,7 @@ impl Draft {
     fn serve_former(self, unmet: &mut Unmet, former: u64) -> Result<(Draft, u64), AllocError>
         requires sound { IsSound self.farm }
         requires small { IsSmall former }
-        requires fits { self.queues ≡ lists_of self.farm }
+        requires fits { self.queues ≡ queue_lists self.farm }
         requires known { AreUnmet self.farm unmet.old }
         ensures begun { IfOk result (λ r. Begins self former r.1 r.0) }
         ensures known { IfOk result (λ r. AreUnmet r.0.farm unmet.new) }
@@ -303,10 +303,10 @@ impl Draft {
         requires sound { IsSound self.farm }
         requires nobody { self.farm.collector ≡ 0 }
         requires small { IsSmall former }
-        requires fits { self.queues ≡ lists_of self.farm }
+        requires fits { self.queues ≡ queue_lists self.farm }
         ensures farm { IfOk result (λ r. r.0 ≡ record self {
           farm = (serve_all self.farm former self.farm.clock).farm;
-          queues = lists_of (serve_all self.farm former self.farm.clock).farm;
+          queues = queue_lists (serve_all self.farm former self.farm.clock).farm;
         }) }
         ensures count { IfOk result
             (λ r. r.1 ≡ (serve_all self.farm former self.farm.clock).claims) }

@@ -5,7 +5,7 @@ ghost use Rattle.farm_types.specs.Farm.{Farm, empty_farm, farm_of, type_of, boar
 ghost use Rattle.farm_types.specs.Refuse.{kept_for};
 ghost use Rattle.farm_types.specs.Small.{IsSmallBoard};
 ghost use Rattle.farm_types.specs.Sound.{IsSound};
-ghost use Rattle.farm_pick.specs.Queued.{lists_of};
+ghost use Rattle.farm_pick.specs.Queued.{queue_lists};
 ghost use Rattle.farm_core.specs.Plain.{plain_farm};
 ghost use Rattle.farm_core.specs.Replies.{kept_reply};
 ghost use Rattle.farm_core.specs.Tracks.{Tracks};
@@ -78,7 +78,7 @@ impl Tables {
     /// No rows.
     pub fn new(alloc: Global) -> Tables
         ensures farm { plain_farm result ≡ empty_farm }
-        ensures queues { result.queues ≡ lists_of empty_farm }
+        ensures queues { result.queues ≡ queue_lists empty_farm }
     {
         Tables {
             types: Table::new(alloc),

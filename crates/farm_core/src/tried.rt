@@ -10,7 +10,7 @@ ghost use Rattle.farm_types.specs.declared.claims.ClaimKind.{ClaimKind};
 ghost use Rattle.farm_types.specs.declared.rows.JobRow.{JobRow};
 ghost use Rattle.farm_pick.specs.Heads.{is_later, last_spot};
 ghost use Rattle.farm_pick.specs.Merged.{lent_several};
-ghost use Rattle.farm_pick.specs.Queued.{lists_of};
+ghost use Rattle.farm_pick.specs.Queued.{queue_lists};
 ghost use Rattle.farm_core.specs.Plain.{plain_farm};
 ghost use Rattle.farm_core.specs.Placed.{IsPlaceOf};
 ghost use Rattle.farm_core.specs.Ahead.{ComesNext, Foresees, IsReached};
@@ -205,7 +205,7 @@ impl Tables {
         last: Option<(Priority, u64)>,
     ) -> Result<(), AllocError>
         requires sound { IsSound (plain_farm self.now) }
-        requires fits { self.now.queues ≡ lists_of (plain_farm self.now) }
+        requires fits { self.now.queues ≡ queue_lists (plain_farm self.now) }
         requires known { AreUnmet (plain_farm self.now) unmet.now }
         requires none { ahead.old.items ≡ [] }
         ensures foreseen { OnOk result (Foresees (plain_farm self.now) last ahead.new.items) }
@@ -263,7 +263,7 @@ impl Tables {
         last: Option<(Priority, u64)>,
     ) -> Result<Option<Coming>, AllocError>
         requires sound { IsSound (plain_farm self.now) }
-        requires fits { self.now.queues ≡ lists_of (plain_farm self.now) }
+        requires fits { self.now.queues ≡ queue_lists (plain_farm self.now) }
         requires known { AreUnmet (plain_farm self.now) unmet.now }
         requires foreseen { Foresees (plain_farm self.now) last ahead.old.items }
         ensures foreseen { OnOk result (Foresees (plain_farm self.now) last ahead.new.items) }
@@ -310,7 +310,7 @@ impl Tables {
         last: Option<(Priority, u64)>,
     ) -> Result<Option<Coming>, AllocError>
         requires sound { IsSound (plain_farm self.now) }
-        requires fits { self.now.queues ≡ lists_of (plain_farm self.now) }
+        requires fits { self.now.queues ≡ queue_lists (plain_farm self.now) }
         requires known { AreUnmet (plain_farm self.now) unmet.now }
         requires foreseen { Foresees (plain_farm self.now) last ahead.old.items }
         ensures foreseen { OnOk result (Foresees (plain_farm self.now) last ahead.new.items) }

@@ -16,7 +16,7 @@ use Rattle.farm_store.specs.Columns.{Tables, rows_of}
 use Rattle.farm_store.specs.Holds.{Holds, Stands}
 use Rattle.farm_store.specs.Schema.{farm_schema, no_schema}
 use Rattle.farm_store.proofs.Listed.{lists_one}
-use Rattle.farm_keep.specs.Headline.{Adopts, Denies}
+use Rattle.farm_keep.specs.Headline.{Adopts, GivesNoKeeper}
 use Rattle.farm_keep.specs.Kept.{Kept}
 use Rattle.farm_keep.specs.declared.fault.KeepFault.{KeepFault}
 use Rattle.farm_desk.specs.InFiles.{AreFarms, AreFree, DeniesFarm, DeniesTables, FindsFarm, FindsTables, HoldsTables, IsFoundIn, ListFarm, ListNothing, MakesFarm, MakesTables, OpensTables, ShowsFiles}
@@ -44,7 +44,7 @@ finds_tables g conn k standing made = record {
 }
 
 -- a store that gives none was opened on no such tables
-pub denies_tables : {S : Type 0} (g : store.Ghosts S) (conn : Held S) (fault : KeepFault) → IsStanding g conn → Denies (state g conn) fault
+pub denies_tables : {S : Type 0} (g : store.Ghosts S) (conn : Held S) (fault : KeepFault) → IsStanding g conn → GivesNoKeeper (state g conn) fault
     → DeniesTables g conn (DeskFault.Keep fault)
 denies_tables g conn KeepFault.BadStore standing denied = λ F sound on. denied F sound (stands_on g conn (rows_of F) standing on)
 denies_tables g conn KeepFault.OldSchema standing denied = λ T on. denied T (stands_on g conn T standing on)

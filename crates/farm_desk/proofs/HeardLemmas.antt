@@ -3,16 +3,16 @@ use Rattle.std.proofs.Common.{◌≡◌, ℕ, List, drop, refl, Ok, Err, inl, in
 use Rattle.std.specs.Prelude.{Option, Some, None, Result, IfSome}
 use Rattle.farm_types.specs.declared.refusal.Refusal.{Refusal}
 use Rattle.farm_http.specs.Request.{Request, request_of}
-use Rattle.farm_http.specs.Requests.{IsRequest, Spells}
+use Rattle.farm_http.specs.Requests.{IsRequest, ParsesTo}
 use Rattle.farm_http.specs.Faults.{FailsAfter, TakesFrom}
 use Rattle.farm_http.specs.declared.taken.Taken.{Taken}
 use Rattle.farm_http.specs.declared.fault.WireFault.{WireFault}
 use Rattle.farm_http.specs.declared.fault.WireFault.TheVariants.{NoMemory, Read, Write, Refused}
 use Rattle.farm_wire.specs.Asked.{ask}
-use Rattle.farm_wire.specs.Reading.{Denial, Denies, refused, other_methods}
+use Rattle.farm_wire.specs.Reading.{Denial, FaultOrNoMemory, refused, other_methods}
 use Rattle.farm_wire.specs.declared.ask.Ask.{Ask}
 use Rattle.farm_wire.specs.declared.fault.AskFault.{AskFault}
-use Rattle.farm_desk.specs.Heard.{plain_ask, reason_unheard, IsMeant, Asks, Hears, HearsWhole, Gives}
+use Rattle.farm_desk.specs.Heard.{plain_ask, reason_unheard, IsMeant, Asks, Hears, HearsWhole, HearsResult}
 use Rattle.farm_desk.specs.declared.hear.Unheard.{Unheard}
 
 -- what the reader says of an input that it tells
@@ -28,21 +28,21 @@ asks_meant used AtEnd now (Err (other_methods allowed)) meant = meant
 -- the bytes of a request mean what it means
 pub meant_of : (used : List ℕ) (taken : Taken) (now : ℕ) (what : Result Ask Denial)
     → used ≡ taken.bytes.items → IsRequest used taken.head
-    → ((request : Request) → Spells taken.bytes.items taken.head request → ask request now ≡ plain_ask what)
+    → ((request : Request) → ParsesTo taken.bytes.items taken.head request → ask request now ≡ plain_ask what)
     → IsMeant used now what
 meant_of used taken now what same whole means =
     let request : Request = request_of whole.0 (drop taken.head used) in
-    let spells : Spells used taken.head request = (whole.0, whole.1, refl) in
+    let spells : ParsesTo used taken.head request = (whole.0, whole.1, refl) in
     record {
       head = taken.head;
       request = request;
       spells = spells;
-      means = means request (subst (λ bytes. Spells bytes taken.head request) same spells);
+      means = means request (subst (λ bytes. ParsesTo bytes taken.head request) same spells);
     }
 
 pub hears_meant : (input rest : Option (List ℕ)) (now : ℕ) (Spent : Type 0) (taken : Taken) (what : Result Ask Denial)
     → Known input rest Spent (Ok taken)
-    → ((request : Request) → Spells taken.bytes.items taken.head request → ask request now ≡ plain_ask what)
+    → ((request : Request) → ParsesTo taken.bytes.items taken.head request → ask request now ≡ plain_ask what)
     → Hears input rest now what
 hears_meant None rest now Spent taken what known means = tt
 hears_meant (Some bytes) rest now Spent taken what known means =
@@ -70,7 +70,7 @@ hears_nothing (Some bytes) rest Spent known = record { used = known.0; taken = k
 
 -- no request was read
 pub gives_unread : (input rest : Option (List ℕ)) (now : ℕ) (Spent : Type 0) (fault : WireFault)
-    → Known input rest Spent (Err fault) → FailsAfter input rest Spent fault → Gives input rest now Spent (Err (reason_unheard fault))
+    → Known input rest Spent (Err fault) → FailsAfter input rest Spent fault → HearsResult input rest now Spent (Err (reason_unheard fault))
 gives_unread input rest now Spent NoMemory known fails = hears_nothing input rest Spent known
 gives_unread input rest now Spent Read known fails = fails.2
 gives_unread input rest now Spent Write known fails = absurd fails.2
@@ -79,8 +79,8 @@ gives_unread input rest now Spent (Refused refusal) known fails = hears_refused 
 -- one was read, and it asks nothing
 pub gives_unasked : (input rest : Option (List ℕ)) (now : ℕ) (Spent : Type 0) (taken : Taken) (fault : AskFault)
     → Known input rest Spent (Ok taken)
-    → ((request : Request) → Spells taken.bytes.items taken.head request → Denies fault (ask request now))
-    → Gives input rest now Spent (Err (Unheard.Unasked fault))
+    → ((request : Request) → ParsesTo taken.bytes.items taken.head request → FaultOrNoMemory fault (ask request now))
+    → HearsResult input rest now Spent (Err (Unheard.Unasked fault))
 gives_unasked input rest now Spent taken AskFault.NoMemory known means = hears_whole input rest Spent taken known
 gives_unasked input rest now Spent taken (AskFault.Refused refusal) known means =
     hears_meant input rest now Spent taken (Err (refused refusal.code)) known means

@@ -18,7 +18,7 @@ use Rattle.farm_keep.specs.declared.fault.KeepFault.{KeepFault}
 use Rattle.farm_keep.proofs.RunLemmas.{answers_more, next_change, run_more}
 use Rattle.farm_desk.specs.declared.fault.DeskFault.{DeskFault}
 use Rattle.farm_desk.specs.declared.import.ImportEnd.{ImportEnd}
-use Rattle.farm_desk.specs.Imports.{Counts, EndsBy, IsCounted, IsStopped, IsWhole, Reaches, is_accepted, is_kept}
+use Rattle.farm_desk.specs.Imports.{Counts, EndsBy, IsCounted, IsStopped, ImportsAll, Reaches, is_accepted, is_kept}
 
 -- ---- one more call
 
@@ -147,7 +147,7 @@ stopped_at g old mid new calls i done call code turn same opened stands rests =
 -- all calls were done
 pub whole_at : {S : Type 0} (g : Ghosts S) (old new : Kept S) (calls : List Call) (i done : ℕ) → length calls ≤ i → done ≡ i → done ≤ length calls
     → new.is_open ≡ old.is_open → new.farm.farm ≡ run old.farm.farm (take i calls) → (Keeps g old → Keeps g new)
-    → IsWhole g old new calls done
+    → ImportsAll g old new calls done
 whole_at g old new calls i done far same within opened farm stands = record {
   all = omega (arith, far, same, within);
   reaches = record { opened = opened; farm = farm ∙ ap (run old.farm.farm) (take_all i calls far); stands = stands };

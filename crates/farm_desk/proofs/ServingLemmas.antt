@@ -14,14 +14,14 @@ use Rattle.farm_wire.specs.Reading.{Denial}
 use Rattle.farm_wire.specs.declared.ask.Ask.{Ask}
 use Rattle.farm_desk.specs.Answers.{Answers}
 use Rattle.farm_desk.specs.Response.{Closes, ClosesIfAsked, IsResponse, IsResponseTo, RestsOrIsDone}
-use Rattle.farm_desk.specs.Ends.{IsTold}
-use Rattle.farm_desk.specs.Serving.{ClosesAfter, PassesOn, Serves, ServesUntil}
+use Rattle.farm_desk.specs.Ends.{WritesAnswer}
+use Rattle.farm_desk.specs.Serving.{ServingCloses, PassesOn, ServesClients, ServesUntil}
 use Rattle.farm_desk.specs.declared.fault.DeskFault.{DeskFault}
 
 -- ---- one connection
 
 -- nothing is done
-pub serves_none : {S : Type 0} (g : Ghosts S) (k : Kept S) (max : ℕ) → k.is_open ≡ true → Serves g k k max
+pub serves_none : {S : Type 0} (g : Ghosts S) (k : Kept S) (max : ℕ) → k.is_open ≡ true → ServesClients g k k max
 serves_none g k max opened = record {
   was_open = opened;
   calls = [];
@@ -29,12 +29,12 @@ serves_none g k max opened = record {
   reaches = record { opened = refl; farm = refl; stands = λ keeps. keeps };
 }
 
-rests : {S : Type 0} (g : Ghosts S) (old new : Kept S) (max : ℕ) → old.is_open ≡ true → new ≡ old → Serves g old new max
-rests g old new max opened same = subst (λ k. Serves g old k max) (sym same) (serves_none g old max opened)
+rests : {S : Type 0} (g : Ghosts S) (old new : Kept S) (max : ℕ) → old.is_open ≡ true → new ≡ old → ServesClients g old new max
+rests g old new max opened same = subst (λ k. ServesClients g old k max) (sym same) (serves_none g old max opened)
 
 -- a call is done
 serves_call : {S : Type 0} (g : Ghosts S) (old new : Kept S) (call : Call) → old.is_open ≡ true → new.is_open ≡ old.is_open
-    → new.farm.farm ≡ step old.farm.farm call → (Keeps g old → Keeps g new) → Serves g old new 1
+    → new.farm.farm ≡ step old.farm.farm call → (Keeps g old → Keeps g new) → ServesClients g old new 1
 serves_call g old new call opened stays farm stands = record {
   was_open = opened;
   calls = call ∷ [];
@@ -43,14 +43,14 @@ serves_call g old new call opened stays farm stands = record {
 }
 
 answered : {S : Type 0} (g : Ghosts S) (old new : Kept S) (what : Result Ask Denial) (bytes : List ℕ) (status : ℕ)
-    → old.is_open ≡ true → Answers g old new what bytes status → Serves g old new 1
+    → old.is_open ≡ true → Answers g old new what bytes status → ServesClients g old new 1
 answered g old new (Err why) bytes status opened response = rests g old new 1 opened response.rests
 answered g old new (Ok (Ask.Call call)) bytes status opened response =
     serves_call g old new call opened (response.stays_open ∙ sym response.was_open) response.farm response.stands
 answered g old new (Ok (Ask.View view)) bytes status opened response = rests g old new 1 opened response.rests
 
 ran_out : {S : Type 0} (g : Ghosts S) (old new : Kept S) (what : Result Ask Denial)
-    → old.is_open ≡ true → new.is_open ≡ old.is_open → RestsOrIsDone g old new what → Serves g old new 1
+    → old.is_open ≡ true → new.is_open ≡ old.is_open → RestsOrIsDone g old new what → ServesClients g old new 1
 ran_out g old new (Err why) opened stays same = rests g old new 1 opened same
 ran_out g old new (Ok (Ask.Call call)) opened stays (inl same) = rests g old new 1 opened same
 ran_out g old new (Ok (Ask.Call call)) opened stays (inr done) = serves_call g old new call opened stays done.farm done.stands
@@ -129,7 +129,7 @@ response_serves g old new input rest now bytes end told opened passes (inr short
 pub conversation_serves : {S A : Type 0} (g : Ghosts S) (old new : Kept S) (input rest : Option (List ℕ)) (now : ℕ) (Room : ℕ → Type 0) (failed : _) (held holds : Option (List ℕ))
     (end : Result ℕ DeskFault) (told : Result A DeskFault)
     → old.is_open ≡ true → PassesOn end told
-    → (end ≢ Err DeskFault.Read → IsTold (IsResponse g old new input rest now) Room failed held holds end)
+    → (end ≢ Err DeskFault.Read → WritesAnswer (IsResponse g old new input rest now) Room failed held holds end)
     → (end ≡ Err DeskFault.Read → new ≡ old)
     → ServesUntil g old new 1 told
 conversation_serves g old new input rest now Room failed held holds (Err DeskFault.Read) (Ok done) opened passes tells unread =
@@ -152,9 +152,9 @@ run_on : (F G : Farm) (before calls : List Call) → G ≡ run F before → run 
 run_on F G before calls farm = ap (λ H. run H calls) farm ∙ sym (fold-append step F before calls)
 
 closes_on : {S : Type 0} (g : Ghosts S) (old mid new : Kept S) (n : ℕ) (Leaves Leaves' : List Call → Call → Type 0)
-    → (first : Serves g old mid n) → ClosesAfter g mid new 1 Leaves
+    → (first : ServesClients g old mid n) → ServingCloses g mid new 1 Leaves
     → ((calls : List Call) (call : Call) → Leaves calls call → Leaves' (first.calls ++ calls) call)
-    → ClosesAfter g old new (n + 1) Leaves'
+    → ServingCloses g old new (n + 1) Leaves'
 closes_on g old mid new n Leaves Leaves' first last further = record {
   was_open = first.was_open;
   is_closed = last.is_closed;
@@ -167,7 +167,7 @@ closes_on g old mid new n Leaves Leaves' first last further = record {
 
 -- one more connection is served
 pub serves_next : {S A : Type 0} (g : Ghosts S) (old mid new : Kept S) (n : ℕ) (end : Result A DeskFault)
-    → Serves g old mid n → ServesUntil g mid new 1 end → ServesUntil g old new (n + 1) end
+    → ServesClients g old mid n → ServesUntil g mid new 1 end → ServesUntil g old new (n + 1) end
 serves_next g old mid new n (Ok done) first last = record {
   was_open = first.was_open;
   calls = first.calls ++ last.calls;
@@ -196,7 +196,7 @@ serves_next g old mid new n (Err DeskFault.Write) first last = absurd last
 serves_next g old mid new n (Err (DeskFault.File fault)) first last = absurd last
 
 closes_within : {S : Type 0} (g : Ghosts S) (old new : Kept S) (n max : ℕ) (Leaves : List Call → Call → Type 0) → n ≤ max
-    → ClosesAfter g old new n Leaves → ClosesAfter g old new max Leaves
+    → ServingCloses g old new n Leaves → ServingCloses g old new max Leaves
 closes_within g old new n max Leaves less closes = record {
   was_open = closes.was_open;
   is_closed = closes.is_closed;

@@ -17,7 +17,7 @@ use Rattle.farm_types.specs.Farm.{Farm}
 use Rattle.farm_keep.specs.First.{IsSoundFirst}
 use Rattle.farm_keep.specs.declared.fault.KeepFault.{KeepFault}
 use Rattle.farm_desk.specs.InFiles.{ShowsFiles}
-use Rattle.farm_desk.specs.Upgrades.{AreFirst, DeniesRaise, DeniesUpgrade, HoldsEither, RaisesFarm, RaisesTables}
+use Rattle.farm_desk.specs.Upgrades.{AreFirst, DeniesRaise, DeniesUpgrade, FilesHoldEither, RaisesFarm, RaisesTables}
 use Rattle.farm_desk.specs.declared.fault.DeskFault.{DeskFault}
 use Rattle.farm_desk.proofs.FileLemmas.{IsStanding, opens_tables, stands_on}
 
@@ -80,6 +80,6 @@ denies_upgrade image conn (DeskFault.File fault) clean denied shows = tt
 -- ---- after a stop
 
 pub either_held : (image : Image) (F : Farm) (db : Trees) → HoldsDatabase image db → Holds db (first_rows_of F) ⊎ Holds db (rows_of F)
-    → HoldsEither image F
+    → FilesHoldEither image F
 either_held image F db database (inl old) = inl (record { trees = db; database = database; holds = old })
 either_held image F db database (inr new) = inr (record { trees = db; database = database; holds = new })

@@ -7,7 +7,7 @@ use Rattle.farm_keep.specs.Kept.{Kept}
 use Rattle.farm_desk.specs.Clients.{Brings, Came, Clientele, Comes, Goes, HasRoom, IsOver, Went}
 use Rattle.farm_desk.specs.Conversations.{ConversesOnce, Desk, IsHeardOut, desk}
 use Rattle.farm_desk.specs.Response.{IsResponse}
-use Rattle.farm_desk.specs.Ends.{IsTold, IsUnread}
+use Rattle.farm_desk.specs.Ends.{WritesAnswer, IsUnread}
 use Rattle.farm_desk.specs.Visits.{AreOf, ServesInTurn, Visit, VisitInTurn}
 use Rattle.farm_desk.specs.declared.fault.DeskFault.{DeskFault}
 use Rattle.farm_desk.proofs.ConverseLemmas.{told_in_part, told_too_long, told_whole}
@@ -22,7 +22,7 @@ never_response g old new input rest now bytes (inr short) = let e = short.fault 
 
 -- a conversation ends as it was told, and where the writer failed as unwritten
 pub conversation : {S : Type 0} (g : Ghosts S) (old new : Desk S) (now : ℕ) (Sure : Type 0) (Room : ℕ → Type 0) (failed : Bool) (end : Result ℕ DeskFault)
-    → (end ≢ Err DeskFault.Read → IsTold (IsResponse g old.keeper new.keeper old.input new.input now) Room failed old.output new.output end)
+    → (end ≢ Err DeskFault.Read → WritesAnswer (IsResponse g old.keeper new.keeper old.input new.input now) Room failed old.output new.output end)
     → (end ≡ Err DeskFault.Read → IsUnread old.keeper new.keeper old.output new.output) → (end ≡ Err DeskFault.Read → failed ≡ false)
     → (Sure → end ≢ Err DeskFault.Read)
     → ConversesOnce g old new now Sure Room

@@ -4,6 +4,6 @@ use Rattle.farm_desk.specs.Faults.{done, failed, no_room, refused, wrong_words}
 use Rattle.farm_desk.specs.declared.program.TheConstants.{DONE, FAILED, NO_ROOM, REFUSED}
 use Rattle.farm_desk.specs.declared.program.TheConstants.{WRONG_WORDS}
 
-abbrev pub StatusesAgree : Type 0
-StatusesAgree = (DONE ∷ WRONG_WORDS ∷ REFUSED ∷ FAILED ∷ NO_ROOM ∷ [])
+abbrev pub ExitStatusesAgree : Type 0
+ExitStatusesAgree = (DONE ∷ WRONG_WORDS ∷ REFUSED ∷ FAILED ∷ NO_ROOM ∷ [])
     ≡ (done ∷ wrong_words ∷ refused ∷ failed ∷ no_room ∷ [])

@@ -81,7 +81,7 @@ pub record Says (out : Out) (bytes : List ℕ) (status : ℕ) : Type 0 where
   pub status_is : status ≡ http_status out
 
 -- the request is denied, and the keeper stays as it was
-pub record Refuses {S : Type 0} (old new : Kept S) (why : Denial) (bytes : List ℕ) (status : ℕ)
+pub record AnswersRefusal {S : Type 0} (old new : Kept S) (why : Denial) (bytes : List ℕ) (status : ℕ)
     : Type 0 where
   pub says : Says (out_of_denial why) bytes status
   pub rests : new ≡ old
@@ -108,6 +108,6 @@ pub record Shows {S : Type 0} (old new : Kept S) (view : View) (bytes : List ℕ
 -- what was asked is answered
 abbrev pub Answers : {S : Type 0} → Ghosts S → Kept S → Kept S → Result Ask Denial → List ℕ → ℕ
     → Type 0
-Answers g old new (Err why) bytes status = Refuses old new why bytes status
+Answers g old new (Err why) bytes status = AnswersRefusal old new why bytes status
 Answers g old new (Ok (Ask.Call call)) bytes status = Does g old new call bytes status
 Answers g old new (Ok (Ask.View view)) bytes status = Shows old new view bytes status

@@ -18,7 +18,7 @@ use Rattle.farm_wire.specs.declared.answers.Out.{Out}
 use Rattle.farm_desk.specs.Heard.{Asks, Hears}
 use Rattle.farm_desk.specs.Answers.{Says, IsView, out_of_denial, out_of_answer}
 use Rattle.farm_desk.specs.Response.{IsResponse}
-use Rattle.farm_desk.specs.Ends.{IsAnswered, IsUnwritten, IsUnread, IsToldBy, IsTooLong}
+use Rattle.farm_desk.specs.Ends.{IsAnswered, IsUnwritten, IsUnread, IsToldBy, HasNoRoom}
 use Rattle.farm_desk.specs.Faults.{ended_order}
 use Rattle.farm_desk.specs.Imports.{Reaches}
 use Rattle.farm_desk.specs.declared.fault.DeskFault.{DeskFault}
@@ -47,7 +47,7 @@ pub record IsHeardOut {S : Type 0} (g : Ghosts S) (old new : Desk S) (now : ℕ)
     (Room : ℕ → Type 0) (end : Result ℕ DeskFault) : Type 0 where
   pub heard : Sure → end ≢ Err DeskFault.Read
   pub answered : end ≡ Err DeskFault.Write
-      → IsTooLong (IsResponse g old.keeper new.keeper old.input new.input now) Room
+      → HasNoRoom (IsResponse g old.keeper new.keeper old.input new.input now) Room
 
 -- one conversation at this moment, however it ends
 pub record ConversesOnce {S : Type 0} (g : Ghosts S) (old new : Desk S) (now : ℕ) (Sure : Type 0)

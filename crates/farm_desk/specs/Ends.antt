@@ -27,14 +27,14 @@ Gains Room false held holds bytes = Appends held holds bytes
 Gains Room true held holds bytes = WritesPrefix held holds bytes × (¬ Room (length bytes))
 
 -- the writer gained the answer that was due, or where it failed a part of it
-pub record IsTold (Response : List ℕ → Result ℕ DeskFault → Type 0) (Room : ℕ → Type 0)
+pub record WritesAnswer (Response : List ℕ → Result ℕ DeskFault → Type 0) (Room : ℕ → Type 0)
     (failed : Bool) (held holds : Option (List ℕ)) (end : Result ℕ DeskFault) : Type 0 where
   pub bytes : List ℕ
   pub response : Response bytes end
   pub written : Gains Room failed held holds bytes
 
 -- the writer had no room for the answer that was due
-pub record IsTooLong (Response : List ℕ → Result ℕ DeskFault → Type 0) (Room : ℕ → Type 0)
+pub record HasNoRoom (Response : List ℕ → Result ℕ DeskFault → Type 0) (Room : ℕ → Type 0)
     : Type 0 where
   pub bytes : List ℕ
   pub end : Result ℕ DeskFault

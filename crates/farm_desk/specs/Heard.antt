@@ -2,7 +2,7 @@
 use Rattle.std.specs.Prelude.{◌≡◌, ℕ, ◌⊎◌, List, [], Option, Some, None, Result, Ok, Err, ⊤}
 use Rattle.std.specs.Io.KnownBytes.{Consumes}
 use Rattle.farm_http.specs.Request.{Request}
-use Rattle.farm_http.specs.Requests.{IsRefused, IsRequest, Spells}
+use Rattle.farm_http.specs.Requests.{IsRefused, IsRequest, ParsesTo}
 use Rattle.farm_http.specs.declared.fault.WireFault.{WireFault}
 use Rattle.farm_wire.specs.Asked.{Asked, ask, shown_ask}
 use Rattle.farm_wire.specs.Reading.{Denial, refused, other_methods}
@@ -19,7 +19,7 @@ plain_ask (Err denial) = Err denial
 pub record IsMeant (used : List ℕ) (now : ℕ) (what : Result Ask Denial) : Type 0 where
   pub head : ℕ
   pub request : Request
-  pub spells : Spells used head request
+  pub spells : ParsesTo used head request
   pub means : ask request now ≡ plain_ask what
 
 -- the bytes ask this at that moment: they are refused as no request, or they are a request that
@@ -69,7 +69,7 @@ reason_unheard WireFault.Read = Unheard.Read
 reason_unheard WireFault.Write = Unheard.Read
 
 -- what hearing a request gives
-abbrev pub Gives : Option (List ℕ) → Option (List ℕ) → ℕ → Type 0 → Result Ask Unheard → Type 0
-Gives input rest now Spent (Ok what) = Hears input rest now (Ok what)
-Gives input rest now Spent (Err Unheard.Read) = Spent
-Gives input rest now Spent (Err (Unheard.Unasked fault)) = HearsNothing input rest now fault
+abbrev pub HearsResult : Option (List ℕ) → Option (List ℕ) → ℕ → Type 0 → Result Ask Unheard → Type 0
+HearsResult input rest now Spent (Ok what) = Hears input rest now (Ok what)
+HearsResult input rest now Spent (Err Unheard.Read) = Spent
+HearsResult input rest now Spent (Err (Unheard.Unasked fault)) = HearsNothing input rest now fault

@@ -11,7 +11,7 @@ use Rattle.farm_types.specs.declared.refusal.Refusal.{Refusal}
 use Rattle.farm_keep.specs.Kept.{Kept, Keeps, KeepsFarm, KeepsEither}
 use Rattle.farm_keep.specs.Runs.{answers_of, IsNextChange}
 use Rattle.farm_keep.specs.declared.fault.KeepFault.{KeepFault}
-use Rattle.farm_jobfile.specs.Reading.{Faults}
+use Rattle.farm_jobfile.specs.Reading.{FaultOrNoMemory}
 use Rattle.farm_jobfile.specs.Lab.{entry_of, lab}
 use Rattle.farm_jobfile.specs.declared.fault.FileFault.{FileFault}
 use Rattle.farm_desk.specs.declared.fault.DeskFault.{DeskFault}
@@ -59,7 +59,7 @@ pub record Reaches {S : Type 0} (g : Ghosts S) (old new : Kept S) (calls : List 
   pub stands : Keeps g old → Keeps g new
 
 -- all calls were done
-pub record IsWhole {S : Type 0} (g : Ghosts S) (old new : Kept S) (calls : List Call) (done : ℕ)
+pub record ImportsAll {S : Type 0} (g : Ghosts S) (old new : Kept S) (calls : List Call) (done : ℕ)
     : Type 0 where
   pub all : done ≡ length calls
   pub reaches : Reaches g old new calls
@@ -101,7 +101,7 @@ pub record WasShut {S : Type 0} (old new : Kept S) (done : ℕ) : Type 0 where
 -- how it ended, by its refusal or its fault
 abbrev pub EndsBy : {S : Type 0} → Ghosts S → Kept S → Kept S → List Call → ℕ → Option (ℕ × Refusal)
     → Option DeskFault → Type 0
-EndsBy g old new calls done None None = IsWhole g old new calls done
+EndsBy g old new calls done None None = ImportsAll g old new calls done
 EndsBy g old new calls done (Some stop) None = IsStopped g old new calls done stop.0 stop.1.code
 EndsBy g old new calls done None (Some (DeskFault.Keep KeepFault.NoMemory)) =
     LacksMemoryFor g old new calls done
@@ -126,9 +126,9 @@ pub record Imports {S : Type 0} (g : Ghosts S) (old new : Kept S) (text : List �
   pub does : DoesCalls g old new calls end
 
 -- the text spells none, or there was no memory to read it: nothing was done
-pub record IsRefused {S : Type 0} (old new : Kept S) (text : List ℕ) (now : ℕ) (fault : FileFault)
+pub record IsFileRefused {S : Type 0} (old new : Kept S) (text : List ℕ) (now : ℕ) (fault : FileFault)
     (end : ImportEnd) : Type 0 where
-  pub fault_is : Faults fault (lab text now)
+  pub fault_is : FaultOrNoMemory fault (lab text now)
   pub nothing : done_by end ≡ 0
   pub never_began : end.stopped ≡ None
   pub rests : new ≡ old
@@ -136,7 +136,7 @@ pub record IsRefused {S : Type 0} (old new : Kept S) (text : List ℕ) (now : �
 abbrev pub ImportsBy : {S : Type 0} → Ghosts S → Kept S → Kept S → List ℕ → ℕ → ImportEnd
     → Option DeskFault → Type 0
 ImportsBy g old new text now end (Some (DeskFault.File fault)) =
-    IsRefused old new text now fault end
+    IsFileRefused old new text now fault end
 ImportsBy g old new text now end fault = Imports g old new text now end
 
 -- what an import of that text does at that moment

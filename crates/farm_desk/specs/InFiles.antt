@@ -26,7 +26,7 @@ use Rattle.farm_types.specs.declared.calls.Call.{Call}
 use Rattle.farm_keep.specs.Faults.{IsFindFault}
 use Rattle.farm_keep.specs.Headline.{IsAlwaysClean, Runs}
 use Rattle.farm_keep.specs.Kept.{Kept, Keeps, KeepsFarm}
-use Rattle.farm_keep.specs.Lives.{IsDone}
+use Rattle.farm_keep.specs.Lives.{LeavesDone}
 use Rattle.farm_keep.specs.Versions.{LooksForFarm}
 use Rattle.farm_keep.specs.declared.fault.KeepFault.{KeepFault}
 use Rattle.farm_keep.specs.declared.keeper.run.RunEnd.{RunEnd}
@@ -191,7 +191,7 @@ DeniesTables g conn other = ⊤
 -- they hold the farm after so many of the calls as a stop after this run leaves done
 pub record HoldsRun (image : Image) (F : Farm) (end : RunEnd) (calls : List Call) : Type 0 where
   pub done : ℕ
-  pub counts : IsDone end done
+  pub counts : LeavesDone end done
   pub holds : HoldsFarm image (run F (take done calls))
 
 -- what a stop leaves of the files of this store, which the keeper had: each holds the farm after

@@ -2,7 +2,7 @@
 use Rattle.std.specs.Prelude.{◌≡◌, ℕ, List, [], ◌∷◌, ◌++◌, codes, decimal, Option, Some, None}
 use Rattle.std.specs.Prelude.{Result, Ok, Err}
 use Rattle.std.specs.Io.KnownBytes.{Appends, Keeps}
-use Rattle.farm_types.specs.Refusals.{text_of}
+use Rattle.farm_types.specs.Refusals.{refusal_text}
 use Rattle.farm_types.specs.declared.refusal.Refusal.{Refusal}
 use Rattle.farm_desk.specs.Faults.{fault_number}
 use Rattle.farm_desk.specs.declared.fault.DeskFault.{DeskFault}
@@ -21,14 +21,14 @@ port_line port = (codes "listening " ++ decimal port) ++ 10 ∷ []
 -- a fault of this number
 abbrev pub fault_line : ℕ → List ℕ
 fault_line code =
-    codes "farm: " ++ (decimal code ++ (codes " " ++ (text_of code ++ 10 ∷ [])))
+    codes "farm: " ++ (decimal code ++ (codes " " ++ (refusal_text code ++ 10 ∷ [])))
 
 -- a refusal of this number, at that place of a lab file
 abbrev pub refusal_line : ℕ → ℕ → List ℕ
 refusal_line code place =
     codes "farm: "
     ++ (decimal code
-    ++ (codes " " ++ (text_of code ++ (codes " at " ++ (decimal place ++ 10 ∷ [])))))
+    ++ (codes " " ++ (refusal_text code ++ (codes " at " ++ (decimal place ++ 10 ∷ [])))))
 
 -- what is told beside the output of an order that ended so
 abbrev pub told_of : Result End DeskFault → List ℕ

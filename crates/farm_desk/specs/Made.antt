@@ -13,19 +13,19 @@ bytes_in (Bytes.Made bytes) = bytes.items
 bytes_in (Bytes.Constant bytes) = bytes.now
 
 -- there is no memory for the answer, and the bytes say so
-pub record IsShort (bytes : List ℕ) (fault : DeskFault) : Type 0 where
+pub record SaysNoMemory (bytes : List ℕ) (fault : DeskFault) : Type 0 where
   pub fault_is : fault ≡ DeskFault.NoMemory
   pub bytes_are : bytes ≡ reply_bytes (refusal no_memory)
 
 -- the bytes say it, or that there is no memory to say it
 abbrev pub IsMadeOf : Out → List ℕ → Result ℕ DeskFault → Type 0
 IsMadeOf out bytes (Ok status) = Says out bytes status
-IsMadeOf out bytes (Err fault) = IsShort bytes fault
+IsMadeOf out bytes (Err fault) = SaysNoMemory bytes fault
 
 -- the bytes say one of some answers, or that there is no memory to say it
 abbrev pub IsMadeOfOne : (Out → Type 0) → List ℕ → Result ℕ DeskFault → Type 0
 IsMadeOfOne P bytes (Ok status) = (out : Out) × P out × Says out bytes status
-IsMadeOfOne P bytes (Err fault) = IsShort bytes fault
+IsMadeOfOne P bytes (Err fault) = SaysNoMemory bytes fault
 
 -- the bytes say why nothing was asked
 abbrev pub IsMadeOfNothing : AskFault → List ℕ → Result ℕ DeskFault → Type 0

@@ -18,14 +18,14 @@ use Rattle.farm_desk.specs.Heard.{Hears, HearsWhole}
 -- ---- no memory for the answer
 
 -- the call was done by an open keeper, though nobody is told
-pub record IsDone {S : Type 0} (g : Ghosts S) (old new : Kept S) (call : Call) : Type 0 where
+pub record IsDoneUntold {S : Type 0} (g : Ghosts S) (old new : Kept S) (call : Call) : Type 0 where
   pub was_open : old.is_open ≡ true
   pub farm : new.farm.farm ≡ step old.farm.farm call
   pub stands : Keeps g old → Keeps g new
 
 -- the keeper stayed as it was, or a call was done
 abbrev pub RestsOrIsDone : {S : Type 0} → Ghosts S → Kept S → Kept S → Result Ask Denial → Type 0
-RestsOrIsDone g old new (Ok (Ask.Call call)) = (new ≡ old) ⊎ IsDone g old new call
+RestsOrIsDone g old new (Ok (Ask.Call call)) = (new ≡ old) ⊎ IsDoneUntold g old new call
 RestsOrIsDone g old new what = new ≡ old
 
 -- a keeper that was asked anything was open

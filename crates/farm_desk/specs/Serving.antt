@@ -13,14 +13,14 @@ use Rattle.farm_desk.specs.Imports.{Reaches}
 
 -- an open keeper stays open: it has the farm after some calls, at most one a connection, and its
 -- store keeps that farm
-pub record Serves {S : Type 0} (g : Ghosts S) (old new : Kept S) (max : ℕ) : Type 0 where
+pub record ServesClients {S : Type 0} (g : Ghosts S) (old new : Kept S) (max : ℕ) : Type 0 where
   pub was_open : old.is_open ≡ true
   pub calls : List Call
   pub few : length calls ≤ max
   pub reaches : Reaches g old new calls
 
 -- some calls were done, and the change of one more closed the keeper
-pub record ClosesAfter {S : Type 0} (g : Ghosts S) (old new : Kept S) (max : ℕ) (Leaves : List Call
+pub record ServingCloses {S : Type 0} (g : Ghosts S) (old new : Kept S) (max : ℕ) (Leaves : List Call
     → Call → Type 0) : Type 0 where
   pub was_open : old.is_open ≡ true
   pub is_closed : new.is_open ≡ false
@@ -33,18 +33,18 @@ pub record ClosesAfter {S : Type 0} (g : Ghosts S) (old new : Kept S) (max : ℕ
 -- there was no memory for that change: the store keeps the farm before it
 abbrev pub LacksMemoryAfter : {S : Type 0} → Ghosts S → Kept S → Kept S → ℕ → Type 0
 LacksMemoryAfter g old new max =
-    ClosesAfter g old new max (λ calls call. KeepsFarm g new (run old.farm.farm calls))
+    ServingCloses g old new max (λ calls call. KeepsFarm g new (run old.farm.farm calls))
 
 -- the store refused that change: a stop leaves the farm before it or after it
 abbrev pub LosesStoreAfter : {S : Type 0} → Ghosts S → Kept S → Kept S → ℕ → Type 0
-LosesStoreAfter g old new max = ClosesAfter g old new max
+LosesStoreAfter g old new max = ServingCloses g old new max
     (λ calls call. KeepsEither g new (run old.farm.farm calls)
     (step (run old.farm.farm calls) call))
 
 -- what serving at most so many connections makes of a keeper, by how it ends
 abbrev pub ServesUntil : {S A : Type 0} → Ghosts S → Kept S → Kept S → ℕ → Result A DeskFault
     → Type 0
-ServesUntil g old new max (Ok done) = Serves g old new max
+ServesUntil g old new max (Ok done) = ServesClients g old new max
 ServesUntil g old new max (Err (DeskFault.Keep KeepFault.NoMemory)) = LacksMemoryAfter g old new max
 ServesUntil g old new max (Err (DeskFault.Keep KeepFault.Store)) = LosesStoreAfter g old new max
 ServesUntil g old new max (Err (DeskFault.Keep KeepFault.Closed)) = WasClosed old new

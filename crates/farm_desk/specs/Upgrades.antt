@@ -27,8 +27,8 @@ abbrev pub HoldsFirst : Image → Farm → Type 0
 HoldsFirst image F = HoldsTables image (first_rows_of F)
 
 -- they hold the farm's tables, of the first edition or of this one
-abbrev pub HoldsEither : Image → Farm → Type 0
-HoldsEither image F = HoldsFirst image F ⊎ HoldsFarm image F
+abbrev pub FilesHoldEither : Image → Farm → Type 0
+FilesHoldEither image F = HoldsFirst image F ⊎ HoldsFarm image F
 
 -- these tables are those of a sound farm in the first edition
 abbrev pub AreFirst : Tables → Type 0
@@ -98,4 +98,4 @@ LeavesEitherFile conn it =
     IsClean (files.view it) → (F : Farm)
     → LeavesEither (file_state conn) (first_rows_of F) (rows_of F)
     → (image : Image) → (files.state it).may_leave image
-    → ∥ HoldsEither image F ∥₁
+    → ∥ FilesHoldEither image F ∥₁

@@ -5,8 +5,8 @@ ghost use Rattle.sqlite_trees.specs.View.{doubt};
 ghost use Rattle.farm_http.specs.Counts.{nothing_read, nothing_written, reader_of, reading_of, writer_of};
 ghost use Rattle.farm_http.specs.Counts.{writing_of, IsSameReader, IsSameWriter, IsSpent};
 ghost use Rattle.farm_desk.specs.Response.{IsResponse};
-ghost use Rattle.farm_desk.specs.Ends.{IsAnswered, IsUnwritten, IsUnread, IsTold, IsToldBy};
-ghost use Rattle.farm_desk.specs.Ends.{IsTooLong};
+ghost use Rattle.farm_desk.specs.Ends.{IsAnswered, IsUnwritten, IsUnread, WritesAnswer, IsToldBy};
+ghost use Rattle.farm_desk.specs.Ends.{HasNoRoom};
 ghost use Rattle.farm_desk.specs.Made.{bytes_in};
 
 use crate::answer::response_to;
@@ -56,7 +56,7 @@ pub fn converse<R: Input, W: Output, S: Alter>(
     // A reader that never fails, as bytes in memory, gives a request or bytes that are refused; a
     // writer with room for the answer that is due, as a vector, takes it.
     ensures heard { R.never_fails → result ≢ Err DeskFault.Read }
-    ensures taken { result ≡ Err DeskFault.Write → IsTooLong
+    ensures taken { result ≡ Err DeskFault.Write → HasNoRoom
         (IsResponse S.Store keeper.old keeper.new (R.remaining reader.old)
         (R.remaining reader.new) now) (W.has_room writer.old) }
     ensures clean { doubt (state S.Store keeper.old.conn).is_clean ≤ doubt
@@ -99,7 +99,7 @@ pub fn converse_counted<R: Input, W: Output, S: Alter>(
 
     // With a reader that never fails, and a writer with room, neither comes.
     ensures heard { R.never_fails → result ≢ Err DeskFault.Read }
-    ensures taken { result ≡ Err DeskFault.Write → IsTooLong
+    ensures taken { result ≡ Err DeskFault.Write → HasNoRoom
         (IsResponse S.Store keeper.old keeper.new (R.remaining (reader_of reader.old))
         (R.remaining (reader_of reader.new)) now) (W.has_room (writer_of writer.old)) }
 
@@ -133,7 +133,7 @@ impl Server {
         ensures same_writer { IsSameWriter writer.old writer.new }
 
         // The answer that is due was written, or where the writer failed a part of it.
-        ensures told { result ≢ Err DeskFault.Read → IsTold
+        ensures told { result ≢ Err DeskFault.Read → WritesAnswer
             (IsResponse S.Store keeper.old keeper.new (R.remaining (reader_of reader.old))
             (R.remaining (reader_of reader.new)) now) (W.has_room (writer_of writer.old))
             (writing_of writer.new).failed (W.contents (writer_of writer.old))

@@ -2,10 +2,10 @@
 ghost use Rattle.std.specs.Prelude.{◌≡◌, ◌≢◌, Err};
 ghost use Rattle.farm_http.specs.Counts.{nothing_read, reader_of, reading_of, IsSameReader, IsSpent};
 ghost use Rattle.farm_http.specs.Request.{Request};
-ghost use Rattle.farm_http.specs.Requests.{Spells};
+ghost use Rattle.farm_http.specs.Requests.{ParsesTo};
 ghost use Rattle.farm_wire.specs.Asked.{ask, shown_ask};
-ghost use Rattle.farm_wire.specs.Reading.{Meets};
-ghost use Rattle.farm_desk.specs.Heard.{Gives};
+ghost use Rattle.farm_wire.specs.Reading.{OrNoMemory};
+ghost use Rattle.farm_desk.specs.Heard.{HearsResult};
 
 use crate::server::Server;
 use farm_http::{Input, Taken};
@@ -53,7 +53,7 @@ impl Server {
     ) -> Result<Ask, Unheard>
         requires { reading_of reader.old ≡ nothing_read }
         ensures same { IsSameReader reader.old reader.new }
-        ensures gives { Gives (R.remaining (reader_of reader.old))
+        ensures gives { HearsResult (R.remaining (reader_of reader.old))
             (R.remaining (reader_of reader.new)) now
             (IsSpent (reading_of reader.new)) result }
         ensures sure { R.never_fails → result ≢ Err Unheard.Read }
@@ -64,8 +64,8 @@ impl Server {
 
     /// What a request asks at a moment.
     fn asked_of(&self, taken: &Taken, now: u64) -> Result<Ask, AskFault>
-        ensures { (request : Request) → Spells taken.now.bytes.items taken.now.head request
-            → Meets shown_ask result (ask request now) }
+        ensures { (request : Request) → ParsesTo taken.now.bytes.items taken.now.head request
+            → OrNoMemory shown_ask result (ask request now) }
     {
         match &self.routes {
             Some(routes) => routes.ask(self.alloc, taken, now),

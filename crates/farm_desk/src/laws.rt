@@ -3,11 +3,11 @@ ghost use Rattle.std.specs.Prelude.{◌≡◌, ◌≢◌, ◌≤◌, ◌+◌, �
 ghost use Rattle.std.specs.Prelude.{OnOk, IfErr, vec_capacity, ⊤};
 ghost use Rattle.sqlite.specs.Held.{state};
 ghost use Rattle.sqlite_trees.specs.View.{doubt};
-ghost use Rattle.farm_desk.specs.Agreed.{StatusesAgree};
+ghost use Rattle.farm_desk.specs.Agreed.{ExitStatusesAgree};
 ghost use Rattle.farm_desk.specs.Conversations.{Desk, Talk, ConverseInTurn, ConverseApart, desk};
 ghost use Rattle.farm_desk.specs.Conversations.{AnswersAll, StopsAt, AnsweredActAsRun, IsToldAgain};
 ghost use Rattle.farm_desk.specs.Conversations.{OpenKeepsDone, ClosedKeepsPrefix};
-ghost use Rattle.farm_desk.specs.Ends.{IsAnswered, IsToldBy, IsTooLong};
+ghost use Rattle.farm_desk.specs.Ends.{IsAnswered, IsToldBy, HasNoRoom};
 ghost use Rattle.farm_desk.specs.InFiles.{LeavesFiles};
 ghost use Rattle.farm_desk.specs.Known.{clientele_of};
 ghost use Rattle.farm_desk.specs.Response.{IsResponse};
@@ -65,7 +65,7 @@ pub fn converse_in_memory<S: Alter>(
     ensures answered { IsToldBy result → IsAnswered
         (IsResponse S.Store keeper.old keeper.new (Some reader.old.now) (Some reader.new.now) now)
         (Some writer.old.items) (Some writer.new.items) result }
-    ensures taken { result ≡ Err DeskFault.Write → IsTooLong
+    ensures taken { result ≡ Err DeskFault.Write → HasNoRoom
         (IsResponse S.Store keeper.old keeper.new (Some reader.old.now) (Some reader.new.now) now)
         (λ n. length writer.old.items + n ≤ vec_capacity writer.old) }
 {
@@ -135,5 +135,5 @@ pub fn upgraded_files_hold<D: Disk + Drop>(conn: Connection<FileStore<D>>) -> Fi
 
 /// The exit statuses that the code gives are those of the definitions.
 pub fn statuses_agree()
-    ensures { StatusesAgree }
+    ensures { ExitStatusesAgree }
 {}

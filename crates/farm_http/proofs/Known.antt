@@ -3,7 +3,7 @@ use Rattle.std.proofs.Common.{◌≡◌, ℕ, List, ◌++◌, ap, sym, ◌∙◌
 use Rattle.std.specs.Prelude.{Option, Some, None, Result, IfOk, IfErr, IfSome}
 use Rattle.std.specs.Io.KnownBytes.{Consumes, IsAtEnd}
 use Rattle.farm_http.specs.Requests.{IsRefused, IsRequest}
-use Rattle.farm_http.specs.Faults.{Fails, FailsAfter, Gives}
+use Rattle.farm_http.specs.Faults.{Fails, FailsAfter, TakesBytes}
 use Rattle.farm_http.specs.declared.taken.Taken.{Taken}
 use Rattle.farm_http.specs.declared.fault.WireFault.{WireFault}
 use Rattle.farm_http.specs.declared.fault.WireFault.TheVariants.{NoMemory, Read, Write, Refused}
@@ -31,7 +31,7 @@ ended input used (Some rest) c e = sym (c ∙ ap (λ l. used ++ l) e ∙ append-
 -- what holds at every reader says it of one that tells its bytes
 pub known_gives : (a b : Option (List ℕ)) (Spent : Type 0) (r : Result Taken WireFault)
     → IfOk r (λ t. IsRequest t.bytes.items t.head) → IfOk r (λ t. Consumes a b t.bytes.items) → IfErr r (FailsAfter a b Spent)
-    → IfSome a (λ input. (used : List ℕ) × Consumes (Some input) b used × Gives input used Spent r)
+    → IfSome a (λ input. (used : List ℕ) × Consumes (Some input) b used × TakesBytes input used Spent r)
 known_gives None b Spent r whole taken err = tt
 known_gives (Some input) b Spent (Ok t) whole taken err = (t.bytes.items, taken, (refl, whole))
 known_gives (Some input) b Spent (Err e) whole taken err =
@@ -42,12 +42,12 @@ pub fails_after : (a b : Option (List ℕ)) (Spent : Type 0) (r : Result Taken W
 fails_after a b Spent (Ok t) err = err
 fails_after a b Spent (Err e) err = (err.0, err.1, fails_map (IsAtEnd b) (IsAtEnd b) Spent (Unit {0}) (λ end. end) (λ _. tt) err.0 e err.2)
 
-gives_map : (input used : List ℕ) (Spent : Type 0) (r : Result Taken WireFault) → Gives input used Spent r → Gives input used (Unit {0}) r
+gives_map : (input used : List ℕ) (Spent : Type 0) (r : Result Taken WireFault) → TakesBytes input used Spent r → TakesBytes input used (Unit {0}) r
 gives_map input used Spent (Ok t) gives = gives
 gives_map input used Spent (Err e) gives = fails_map (used ≡ input) (used ≡ input) Spent (Unit {0}) (λ end. end) (λ _. tt) used e gives
 
 pub known_without_count : (a b : Option (List ℕ)) (Spent : Type 0) (r : Result Taken WireFault)
-    → IfSome a (λ input. (used : List ℕ) × Consumes (Some input) b used × Gives input used Spent r)
-    → IfSome a (λ input. (used : List ℕ) × Consumes (Some input) b used × Gives input used (Unit {0}) r)
+    → IfSome a (λ input. (used : List ℕ) × Consumes (Some input) b used × TakesBytes input used Spent r)
+    → IfSome a (λ input. (used : List ℕ) × Consumes (Some input) b used × TakesBytes input used (Unit {0}) r)
 known_without_count None b Spent r known = tt
 known_without_count (Some input) b Spent r known = (known.0, known.1, gives_map input known.0 Spent r known.2)

@@ -7,7 +7,7 @@ use Rattle.httparse.proofs.GrammarLemmas.{request_unique}
 use Rattle.farm_http.specs.Fields.{body_length}
 use Rattle.farm_http.specs.Heads.{IsHead, HasNoHead}
 use Rattle.farm_http.specs.Requests.{IsRequestOf, IsRequest, IsRefused}
-use Rattle.farm_http.specs.Faults.{Gives, IsTaken}
+use Rattle.farm_http.specs.Faults.{TakesBytes, IsTaken}
 use Rattle.farm_http.specs.declared.taken.Taken.{Taken}
 use Rattle.farm_http.specs.declared.fault.WireFault.{WireFault}
 use Rattle.farm_http.specs.declared.fault.WireFault.TheVariants.{NoMemory, Read, Write, Refused}
@@ -75,7 +75,7 @@ not_refused bytes rest used more head code (h, is) e (inr (inr cut)) =
     absurd (omega (arith, printed, declared, taken, given, request, cut.short))
 
 pub request_is_taken : (bytes rest used more : List ℕ) (head : ℕ) (Spent : Type 0) (r : Result Taken WireFault) → IsRequest bytes head → bytes ++ rest ≡ used ++ more
-    → Gives (bytes ++ rest) used Spent r → IsTaken bytes head Spent r
+    → TakesBytes (bytes ++ rest) used Spent r → IsTaken bytes head Spent r
 request_is_taken bytes rest used more head Spent (Ok taken) request e (all, is) =
     let one = one_request bytes rest used more head taken.head request is e in
     (sym all ∙ one.0, one.1)

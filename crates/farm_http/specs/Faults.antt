@@ -42,9 +42,9 @@ FailsAfter old new Spent fault = (used : List ℕ) × Consumes old new used
     × Fails used (IsAtEnd new) Spent fault
 
 -- of a known input these bytes are taken, with this result
-abbrev pub Gives : List ℕ → List ℕ → Type 0 → Result Taken WireFault → Type 0
-Gives input used Spent (Ok taken) = (used ≡ taken.bytes.items) × IsRequest used taken.head
-Gives input used Spent (Err fault) = Fails used (used ≡ input) Spent fault
+abbrev pub TakesBytes : List ℕ → List ℕ → Type 0 → Result Taken WireFault → Type 0
+TakesBytes input used Spent (Ok taken) = (used ≡ taken.bytes.items) × IsRequest used taken.head
+TakesBytes input used Spent (Err fault) = Fails used (used ≡ input) Spent fault
 
 -- a writer gains a part of the bytes from their front, and not all of them
 abbrev pub WritesPrefix : Option (List ℕ) → Option (List ℕ) → List ℕ → Type 0
@@ -53,7 +53,7 @@ WritesPrefix old new bytes = (n : ℕ) × (n < length bytes) × Appends old new 
 -- a reader with this input loses the bytes that reading takes, with this result
 abbrev pub TakesFrom : List ℕ → Option (List ℕ) → Type 0 → Result Taken WireFault → Type 0
 TakesFrom input new Spent result = (used : List ℕ) × Consumes (Some input) new used
-    × Gives input used Spent result
+    × TakesBytes input used Spent result
 
 -- that request is taken, unless memory is refused or the reader spent
 abbrev pub IsTaken : List ℕ → ℕ → Type 0 → Result Taken WireFault → Type 0

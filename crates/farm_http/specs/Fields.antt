@@ -73,6 +73,6 @@ abbrev pub body_length : RequestHead → Result ℕ ℕ
 body_length h = length_among (fields_of h)
 
 -- a result with its refusal by number
-abbrev pub by_number : {A : Type 0} → Result A Refusal → Result A ℕ
-by_number (Ok a) = Ok a
-by_number (Err refusal) = Err refusal.code
+abbrev pub refusal_by_number : {A : Type 0} → Result A Refusal → Result A ℕ
+refusal_by_number (Ok a) = Ok a
+refusal_by_number (Err refusal) = Err refusal.code

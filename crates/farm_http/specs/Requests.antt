@@ -18,8 +18,8 @@ abbrev pub IsRequest : List ℕ → ℕ → Type 0
 IsRequest bytes head = (h : RequestHead) × IsRequestOf bytes head h
 
 -- the same, and the bytes say that
-abbrev pub Spells : List ℕ → ℕ → Request → Type 0
-Spells bytes head request =
+abbrev pub ParsesTo : List ℕ → ℕ → Request → Type 0
+ParsesTo bytes head request =
     (h : RequestHead) × IsRequestOf bytes head h × (request ≡ request_of h (drop head bytes))
 
 -- the head's fields are refused

@@ -8,7 +8,7 @@ ghost use Rattle.std.specs.Str.Parse.{digits_value};
 ghost use Rattle.httparse.specs.Spans.{IsHeaderWithin, header_bytes};
 ghost use Rattle.farm_types.specs.Limits.{longest_body};
 ghost use Rattle.farm_http.specs.Fields.{called_lookup, field_of, declared_length, length_among};
-ghost use Rattle.farm_http.specs.Fields.{by_number};
+ghost use Rattle.farm_http.specs.Fields.{refusal_by_number};
 
 use farm_types::{BAD_CODING, BAD_REQUEST, LONGEST_BODY, Refusal, TOO_LARGE};
 use httparse::spans::HeaderSpan;
@@ -51,7 +51,7 @@ fn is_named(buf: &[u8], header: &HeaderSpan, name: &[u8]) -> bool
 /// any transfer coding, and a `content-length` that stands twice, is no number or is above that.
 pub(crate) fn declared_among(head: &[u8], headers: &[HeaderSpan]) -> Result<usize, Refusal>
     requires { All (IsHeaderWithin (length head.now)) headers.now }
-    ensures length { by_number result ≡ length_among (map (header_bytes head.now) headers.now) }
+    ensures length { refusal_by_number result ≡ length_among (map (header_bytes head.now) headers.now) }
     ensures small { IfOk result (λ n. n ≤ longest_body) }
 {
     let Ok(None) = find(head, headers, b"transfer-encoding") else {
@@ -66,7 +66,7 @@ pub(crate) fn declared_among(head: &[u8], headers: &[HeaderSpan]) -> Result<usiz
 
 /// The number that a `content-length` declares: decimal digits alone, leading zeros too.
 fn declared(value: &[u8]) -> Result<usize, Refusal>
-    ensures number { by_number result ≡ declared_length value.now }
+    ensures number { refusal_by_number result ≡ declared_length value.now }
     ensures small { IfOk result (λ n. n ≤ longest_body) }
 {
     if !is_number(value) {

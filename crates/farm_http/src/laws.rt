@@ -8,7 +8,7 @@ ghost use Rattle.farm_http.specs.declared.taken.Taken.{Taken};
 ghost use Rattle.farm_http.specs.Heads.{HasNoHead};
 ghost use Rattle.farm_http.specs.Counts.{Reading, IsSpent};
 ghost use Rattle.farm_http.specs.Requests.{IsRequest};
-ghost use Rattle.farm_http.specs.Faults.{Gives, IsTaken, TakesFrom};
+ghost use Rattle.farm_http.specs.Faults.{TakesBytes, IsTaken, TakesFrom};
 
 use crate::fault::WireFault;
 use crate::request::read_request;
@@ -30,7 +30,7 @@ pub fn request_is_taken()
     ensures { (request rest used more : List ℕ) (head : ℕ) (count : Reading)
         → (taken : Result Taken WireFault)
         → IsRequest request head → request ++ rest ≡ used ++ more
-        → Gives (request ++ rest) used (IsSpent count) taken
+        → TakesBytes (request ++ rest) used (IsSpent count) taken
         → IsTaken request head (IsSpent count) taken }
 {}
 

@@ -5,7 +5,7 @@ ghost use Rattle.httparse.specs.Spans.{IsRequestAt, IsRequestWithin, span_bytes,
 ghost use Rattle.farm_http.specs.Fields.{called_lookup, field_of};
 ghost use Rattle.farm_http.specs.Heads.{IsHead};
 ghost use Rattle.farm_http.specs.Request.{Request};
-ghost use Rattle.farm_http.specs.Requests.{Spells};
+ghost use Rattle.farm_http.specs.Requests.{ParsesTo};
 
 use crate::fields::{Repeated, find};
 use crate::taken::Taken;
@@ -40,7 +40,7 @@ impl<'a> Model for Parts<'a> {
 
 /// The parts of what was taken. Reads none of its bytes.
 pub fn parts_of(taken: &Taken) -> Parts<'_>
-    ensures { (request : Request) → Spells taken.now.bytes.items taken.now.head request
+    ensures { (request : Request) → ParsesTo taken.now.bytes.items taken.now.head request
         → result ≡ request }
 {
     let (head, body) = taken.bytes.as_slice().split_at(taken.head);

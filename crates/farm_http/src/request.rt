@@ -5,7 +5,7 @@ ghost use Rattle.std.specs.Prelude.{OnOk, OnErr, IsErrOf};
 ghost use Rattle.std.specs.Io.KnownBytes.{Consumes, IsAtEnd, Keeps};
 ghost use Rattle.httparse.specs.Grammar.{RequestHead};
 ghost use Rattle.farm_types.specs.Limits.{longest_body, longest_head, most_fields, most_reads};
-ghost use Rattle.farm_http.specs.Fields.{body_length, by_number};
+ghost use Rattle.farm_http.specs.Fields.{body_length, refusal_by_number};
 ghost use Rattle.farm_http.specs.Faults.{HeadFails, BodyFails, FailsAfter, TakesFrom};
 ghost use Rattle.farm_http.specs.Heads.{IsHead, IsHopeless, IsOpenBelow, TellsHead, AreSpansOf};
 ghost use Rattle.farm_http.specs.Counts.{nothing_read, reader_of, reading_of, IsSameReader, IsSpent};
@@ -234,7 +234,7 @@ fn spans_of(bytes: &[u8], headers: &mut [HeaderSpan]) -> Result<Option<RequestSp
 /// How long the body is that follows a head with these parts.
 fn length_after(head: &[u8], headers: &[HeaderSpan], spans: RequestSpans) -> Result<usize, Refusal>
     requires { AreSpansOf head.now headers.now spans }
-    ensures length { (h : RequestHead) → IsHead head.now h → by_number result ≡ body_length h }
+    ensures length { (h : RequestHead) → IsHead head.now h → refusal_by_number result ≡ body_length h }
     ensures small { IfOk result (λ n. n ≤ longest_body) }
 {
     declared_among(head, &headers[..spans.headers])

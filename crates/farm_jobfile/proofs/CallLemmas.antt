@@ -11,12 +11,12 @@ use Rattle.farm_types.specs.declared.fault.WordFault.{WordFault}
 use Rattle.farm_types.specs.declared.fault.WordFault.TheVariants.{Refused, NoMemory}
 use Rattle.farm_types.specs.declared.refusal.Refusal.{Refusal}
 use Rattle.farm_types.proofs.WordLemmas.{and_parts}
-use Rattle.farm_types.specs.Reads.{◌>>=◌, Refuses}
+use Rattle.farm_types.specs.Reads.{◌>>=◌, FaultOrNoMemory}
 use Rattle.farm_jobfile.specs.Reading.{Fault}
-use Rattle.farm_jobfile.specs.Lab.{Entry, entries_of}
+use Rattle.farm_jobfile.specs.Lab.{LabCall, entries_of}
 
 -- a word is not refused
-pub word_taken : (most : ℕ) (text : List ℕ) (code : ℕ) (fault : WordFault) (refusal : Refusal) → fault ≡ Refused refusal → is_word most text ≡ true → Refuses fault (word_or (is_word most text) text code) → ⊥
+pub word_taken : (most : ℕ) (text : List ℕ) (code : ℕ) (fault : WordFault) (refusal : Refusal) → fault ≡ Refused refusal → is_word most text ≡ true → FaultOrNoMemory fault (word_or (is_word most text) text code) → ⊥
 word_taken most text code NoMemory refusal e is h = cc
 word_taken most text code (Refused r) refusal e is h = by (is_word most text) is h
   where
@@ -45,10 +45,10 @@ key_is_word prefix name short bytes is =
     at_most n p k sum short h = grind (arith, nat_tests)
 
 -- one more member of a table is read
-pub each_turn : (read : List ℕ → Data → Result Entry Fault) (name : List ℕ) (d : Data) (rest : Members) (entry : Entry) (done : List Entry) (whole : Result (List Entry) Fault) → read name d ≡ Ok entry → whole ≡ (entries_of read (member name d rest) >>= λ more. Ok (done ++ more)) → whole ≡ (entries_of read rest >>= λ more. Ok ((done ++ entry ∷ []) ++ more))
+pub each_turn : (read : List ℕ → Data → Result LabCall Fault) (name : List ℕ) (d : Data) (rest : Members) (entry : LabCall) (done : List LabCall) (whole : Result (List LabCall) Fault) → read name d ≡ Ok entry → whole ≡ (entries_of read (member name d rest) >>= λ more. Ok (done ++ more)) → whole ≡ (entries_of read rest >>= λ more. Ok ((done ++ entry ∷ []) ++ more))
 each_turn read name d rest entry done whole here is =
     is ∙ (ap (λ r. (r >>= λ e. entries_of read rest >>= λ es. Ok (e ∷ es)) >>= λ more. Ok (done ++ more)) here ∙ by (entries_of read rest))
   where
-    by : (r : Result (List Entry) Fault) → ((r >>= λ es. Ok (entry ∷ es)) >>= λ more. Ok (done ++ more)) ≡ (r >>= λ more. Ok ((done ++ entry ∷ []) ++ more))
+    by : (r : Result (List LabCall) Fault) → ((r >>= λ es. Ok (entry ∷ es)) >>= λ more. Ok (done ++ more)) ≡ (r >>= λ more. Ok ((done ++ entry ∷ []) ++ more))
     by (Ok more) = ap Ok (sym (append_assoc done (entry ∷ []) more))
     by (Err e) = refl

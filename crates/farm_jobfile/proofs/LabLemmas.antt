@@ -7,9 +7,9 @@ use Rattle.toml.specs.Data.{Data, Members, no_members, member, get, as_table}
 use Rattle.farm_types.specs.declared.calls.Call.{Call}
 use Rattle.farm_types.specs.declared.calls.Cmd.{Cmd}
 use Rattle.farm_types.specs.Reads.{◌>>=◌}
-use Rattle.farm_jobfile.specs.Reading.{Fault, Spells, kind_or}
+use Rattle.farm_jobfile.specs.Reading.{Fault, OrNoMemory, kind_or}
 use Rattle.farm_jobfile.specs.Fields.{name_or, name_in, tags_in}
-use Rattle.farm_jobfile.specs.Lab.{Entry, entry_of, given_entry, check_in, own_tags, type_in, board_in, entries_of, section, calls_in, IsAddition}
+use Rattle.farm_jobfile.specs.Lab.{LabCall, entry_of, given_entry, check_in, own_tags, type_in, board_in, entries_of, section, calls_in, IsAddition}
 use Rattle.farm_jobfile.specs.declared.fault.FileKind.TheVariants.{LabFile}
 use Rattle.farm_jobfile.specs.declared.fault.FileFault.{FileFault}
 
@@ -18,10 +18,10 @@ first_ok : {A B : Type 0} (r : Result A Fault) (f : A → Result B Fault) (y : B
 first_ok (Ok x) f y e = (x, refl, e)
 first_ok (Err fault) f y e = absurd (cc)
 
-abbrev Adds : Entry → Type 0
+abbrev Adds : LabCall → Type 0
 Adds e = IsAddition e.cmd
 
-abbrev AllAdd : List Entry → Type 0
+abbrev AllAdd : List LabCall → Type 0
 AllAdd = AllByRecursion Adds
 
 -- what was read is a value
@@ -31,10 +31,10 @@ Read A = Result A Fault
 value_of : {A : Type 0} (r : Read A) (x y : A) → r ≡ Ok x → r ≡ Ok y → x ≡ y
 value_of r x y e h = cc
 
-adds_as : (r : Read Entry) (e f : Entry) → r ≡ Ok e → r ≡ Ok f → Adds e → Adds f
+adds_as : (r : Read LabCall) (e f : LabCall) → r ≡ Ok e → r ≡ Ok f → Adds e → Adds f
 adds_as r e f h k a = subst Adds (value_of r e f h k) a
 
-type_adds : (now : ℕ) (name : List ℕ) (d : Data) (e : Entry) → type_in now name d ≡ Ok e → Adds e
+type_adds : (now : ℕ) (name : List ℕ) (d : Data) (e : LabCall) → type_in now name d ≡ Ok e → Adds e
 unfolding type_in
 type_adds now name d e h =
     let (kind, _, h1) = first_ok (name_or name) _ e h in
@@ -42,7 +42,7 @@ type_adds now name d e h =
     let (check, _, h3) = first_ok (check_in d) _ e h2 in
     adds_as (Ok (given_entry (codes "type.") kind now (Cmd.AddType kind check))) _ e refl h3 tt
 
-board_adds : (now : ℕ) (name : List ℕ) (d : Data) (e : Entry) → board_in now name d ≡ Ok e → Adds e
+board_adds : (now : ℕ) (name : List ℕ) (d : Data) (e : LabCall) → board_in now name d ≡ Ok e → Adds e
 unfolding board_in
 board_adds now name d e h =
     let (board, _, h1) = first_ok (name_or name) _ e h in
@@ -52,29 +52,29 @@ board_adds now name d e h =
     let (own, _, h5) = first_ok (own_tags tags) _ e h4 in
     adds_as (Ok (given_entry (codes "board.") board now (Cmd.AddBoard board kind own))) _ e refl h5 tt
 
-all_as : (r : Read (List Entry)) (es fs : List Entry) → r ≡ Ok es → r ≡ Ok fs → AllAdd es → AllAdd fs
+all_as : (r : Read (List LabCall)) (es fs : List LabCall) → r ≡ Ok es → r ≡ Ok fs → AllAdd es → AllAdd fs
 all_as r es fs h k a = subst AllAdd (value_of r es fs h k) a
 
-each_adds : (read : List ℕ → Data → Read Entry) → ((name : List ℕ) (d : Data) (e : Entry) → read name d ≡ Ok e → Adds e)
-    → (ms : Members) (es : List Entry) → entries_of read ms ≡ Ok es → AllAdd es
+each_adds : (read : List ℕ → Data → Read LabCall) → ((name : List ℕ) (d : Data) (e : LabCall) → read name d ≡ Ok e → Adds e)
+    → (ms : Members) (es : List LabCall) → entries_of read ms ≡ Ok es → AllAdd es
 each_adds read one no_members es h = all_as (Ok []) [] es refl h tt
 each_adds read one (member name d rest) es h =
     let (e, here, h1) = first_ok (read name d) _ es h in
     let (more, there, h2) = first_ok (entries_of read rest) _ es h1 in
     all_as (Ok (e ∷ more)) (e ∷ more) es refl h2 (one name d e here, each_adds read one rest more there)
 
-section_adds : (read : List ℕ → Data → Read Entry) → ((name : List ℕ) (d : Data) (e : Entry) → read name d ≡ Ok e → Adds e)
-    → (field : Option Data) (es : List Entry) → section read field ≡ Ok es → AllAdd es
+section_adds : (read : List ℕ → Data → Read LabCall) → ((name : List ℕ) (d : Data) (e : LabCall) → read name d ≡ Ok e → Adds e)
+    → (field : Option Data) (es : List LabCall) → section read field ≡ Ok es → AllAdd es
 section_adds read one None es h = all_as (Ok []) [] es refl h tt
 section_adds read one (Some d) es h =
     let (ms, _, h1) = first_ok (kind_or LabFile (as_table d)) _ es h in
     each_adds read one ms es h1
 
-both_add : (es fs : List Entry) → AllAdd es → AllAdd fs → AllAdd (es ++ fs)
+both_add : (es fs : List LabCall) → AllAdd es → AllAdd fs → AllAdd (es ++ fs)
 both_add [] fs h k = k
 both_add (e ∷ es) fs h k = (h.0, both_add es fs h.1 k)
 
-entries_add : (now : ℕ) (d : Data) (es : List Entry) → calls_in now d ≡ Ok es → AllAdd es
+entries_add : (now : ℕ) (d : Data) (es : List LabCall) → calls_in now d ≡ Ok es → AllAdd es
 unfolding calls_in
 entries_add now d es h =
     let (types, t, h1) = first_ok (section (type_in now) (get (codes "types") d)) _ es h in
@@ -88,7 +88,7 @@ calls_add (call ∷ calls) h = All-cons (λ (c : Call). IsAddition c.cmd) call c
 
 -- each call that a tree spells adds a type or a board
 pub calls_in_add : (now : ℕ) (d : Data) (result : Result (Vec Call Global) FileFault)
-    → Spells (λ (calls : Vec Call Global). map entry_of calls.items) result (calls_in now d)
+    → OrNoMemory (λ (calls : Vec Call Global). map entry_of calls.items) result (calls_in now d)
     → IfOk result (λ calls. All (λ call. IsAddition call.cmd) calls.items)
 calls_in_add now d (Ok calls) h = calls_add calls.items (entries_add now d (map entry_of calls.items) h)
 calls_in_add now d (Err fault) h = tt

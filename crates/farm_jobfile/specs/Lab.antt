@@ -18,18 +18,18 @@ use Rattle.farm_jobfile.specs.declared.fault.FileKind.TheVariants.{LabFile}
 use Rattle.farm_jobfile.specs.declared.fault.Reason.{Reason}
 
 -- who gives a command, at what moment, and the key under which its reply is kept
-pub record Entry : Type 0 where
+pub record LabCall : Type 0 where
   pub caller : List ℕ
   pub key : Option (List ℕ)
   pub now : ℕ
   pub cmd : Cmd
 
 -- what a call says
-abbrev pub entry_of : Call → Entry
+abbrev pub entry_of : Call → LabCall
 entry_of call = record { caller = call.caller; key = call.key; now = call.now; cmd = call.cmd }
 
 -- the call of a lab file's command: an admin gives it, under a key of its own
-abbrev pub given_entry : List ℕ → List ℕ → ℕ → Cmd → Entry
+abbrev pub given_entry : List ℕ → List ℕ → ℕ → Cmd → LabCall
 given_entry prefix name now cmd = record {
   caller = codes "admin";
   key = Some (prefix ++ name);
@@ -65,7 +65,7 @@ unfoldable pub check_in : Data → Result Check Fault
 check_in d = unit_in d >>= λ unit. check_by unit (every_in d)
 
 -- the type of a name
-unfoldable pub type_in : ℕ → List ℕ → Data → Result Entry Fault
+unfoldable pub type_in : ℕ → List ℕ → Data → Result LabCall Fault
 type_in now name d = do
   kind ← name_or name
   table ← kind_or LabFile (as_table d)
@@ -79,7 +79,7 @@ abbrev pub own_tags : List (List ℕ) → Result (List (List ℕ)) Fault
 own_tags tags = if has_no_name_tag tags then Ok tags else Err (word bad_tag)
 
 -- the board of a name
-unfoldable pub board_in : ℕ → List ℕ → Data → Result Entry Fault
+unfoldable pub board_in : ℕ → List ℕ → Data → Result LabCall Fault
 board_in now name d = do
   board ← name_or name
   table ← kind_or LabFile (as_table d)
@@ -92,25 +92,25 @@ board_in now name d = do
 
 -- what each member of a table spells, in the order of the tree, which is the byte order of the
 -- names
-abbrev pub entries_of : (List ℕ → Data → Result Entry Fault) → Members → Result (List Entry) Fault
+abbrev pub entries_of : (List ℕ → Data → Result LabCall Fault) → Members → Result (List LabCall) Fault
 entries_of read no_members = Ok []
 entries_of read (member name d rest) = read name d >>= λ entry. entries_of read rest >>= λ entries.
     Ok (entry ∷ entries)
 
 -- an absent table has no members
-abbrev pub section : (List ℕ → Data → Result Entry Fault) → Option Data → Result (List Entry) Fault
+abbrev pub section : (List ℕ → Data → Result LabCall Fault) → Option Data → Result (List LabCall) Fault
 section read None = Ok []
 section read (Some d) = kind_or LabFile (as_table d) >>= entries_of read
 
 -- the calls that a tree spells at a moment: each type is added, then each board
-unfoldable pub calls_in : ℕ → Data → Result (List Entry) Fault
+unfoldable pub calls_in : ℕ → Data → Result (List LabCall) Fault
 calls_in now d = do
   types ← section (type_in now) (get (codes "types") d)
   boards ← section (board_in now) (get (codes "boards") d)
   Ok (types ++ boards)
 
 -- the calls that a lab file spells at a moment
-unfoldable pub lab : List ℕ → ℕ → Result (List Entry) Fault
+unfoldable pub lab : List ℕ → ℕ → Result (List LabCall) Fault
 lab bytes now = do
   text ← text_in LabFile longest_lab_file bytes
   d ← tree_in LabFile text

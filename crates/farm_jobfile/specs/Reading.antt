@@ -27,9 +27,9 @@ pub data Fault : Type 0 where
   word : ℕ → Fault
 
 -- its number in the table of refusals
-abbrev pub number_of : Fault → ℕ
-number_of (bad file reason) = code_of_kind file
-number_of (word code) = code
+abbrev pub fault_code_of : Fault → ℕ
+fault_code_of (bad file reason) = code_of_kind file
+fault_code_of (word code) = code
 
 -- the refusal of a word, or of a count, is a fault of the file
 abbrev pub or_word : {A : Type 0} → Result A ℕ → Result A Fault
@@ -47,12 +47,12 @@ kind_or file None = Err (bad file Reason.WrongKind)
 kind_or file (Some x) = Ok x
 
 -- the fault is the text's, unless memory ran out
-abbrev pub Faults : {Y : Type 0} → FileFault → Result Y Fault → Type 0
-Faults FileFault.NoMemory spelled = Unit {0}
-Faults (FileFault.Word refusal) spelled = spelled ≡ Err (word refusal.code)
-Faults (FileFault.Bad kind reason) spelled = spelled ≡ Err (bad kind reason)
+abbrev pub FaultOrNoMemory : {Y : Type 0} → FileFault → Result Y Fault → Type 0
+FaultOrNoMemory FileFault.NoMemory spelled = Unit {0}
+FaultOrNoMemory (FileFault.Word refusal) spelled = spelled ≡ Err (word refusal.code)
+FaultOrNoMemory (FileFault.Bad kind reason) spelled = spelled ≡ Err (bad kind reason)
 
 -- what a reader returned, seen by `view`, is what the text spells: a value, or its first fault
-abbrev pub Spells : {X Y : Type 0} → (X → Y) → Result X FileFault → Result Y Fault → Type 0
-Spells view (Ok x) spelled = spelled ≡ Ok (view x)
-Spells view (Err fault) spelled = Faults fault spelled
+abbrev pub OrNoMemory : {X Y : Type 0} → (X → Y) → Result X FileFault → Result Y Fault → Type 0
+OrNoMemory view (Ok x) spelled = spelled ≡ Ok (view x)
+OrNoMemory view (Err fault) spelled = FaultOrNoMemory fault spelled

@@ -16,10 +16,10 @@ mod group;
 mod job;
 mod lab;
 mod member;
+mod natural;
 mod priority;
 mod roles;
 mod types;
-mod whole;
 
 // A job file, and the command that it spells.
 pub use job::job_of;

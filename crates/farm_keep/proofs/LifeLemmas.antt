@@ -17,17 +17,17 @@ use Rattle.farm_core.specs.Shown.{Shown}
 use Rattle.farm_store.specs.Columns.{IsOfSchema, Tables, first_schema, rows_of}
 use Rattle.farm_store.specs.Holds.{Holds, Stands}
 use Rattle.farm_keep.specs.Faults.{IsFindFault}
-use Rattle.farm_keep.specs.Headline.{Denies, LeavesRun}
+use Rattle.farm_keep.specs.Headline.{GivesNoKeeper, LeavesRun}
 use Rattle.farm_keep.specs.Kept.{Kept, Keeps}
-use Rattle.farm_keep.specs.Lives.{AreLived, GivesFarm, IsDone, IsLived, IsRestart, Life}
-use Rattle.farm_keep.specs.Restarts.{Restart, calls_of}
+use Rattle.farm_keep.specs.Lives.{AreLived, GivesFarm, LeavesDone, IsLived, IsRestart, Life}
+use Rattle.farm_keep.specs.Restarts.{Restart, calls_of_restarts}
 use Rattle.farm_keep.specs.declared.keeper.run.RunEnd.{RunEnd}
 use Rattle.farm_keep.specs.declared.fault.KeepFault.{KeepFault}
 
 -- why a store gave no farm
 pub denies : (s : State) (fault : KeepFault) (result : Result Shown KeepFault) → result ≡ Err fault
     → (result ≡ Err KeepFault.BadStore → (F : Farm) → IsSound F → ¬ Stands s (rows_of F))
-    → (result ≡ Err KeepFault.OldSchema → (T : Tables) → Stands s T → IsOfSchema first_schema T) → Denies s fault
+    → (result ≡ Err KeepFault.OldSchema → (T : Tables) → Stands s T → IsOfSchema first_schema T) → GivesNoKeeper s fault
 denies s KeepFault.NoMemory result is bad ours = tt
 denies s KeepFault.Store result is bad ours = tt
 denies s KeepFault.BadStore result is bad ours = bad is
@@ -55,7 +55,7 @@ gives_farm (Err KeepFault.Closed) old F sound at exact bad ours may = absurd may
 
 pub record LeftRun (db : Trees) (F : Farm) (end : RunEnd) (calls : List Call) : Type 0 where
   pub done : ℕ
-  pub counts : IsDone end done
+  pub counts : LeavesDone end done
   pub holds : Holds db (rows_of (run F (take done calls)))
 
 pub left_run : {S : Type 0} (g : Ghosts S) (k : Kept S) (end : RunEnd) (F : Farm) (calls : List Call) (db : Trees)
@@ -85,8 +85,8 @@ one_life g stands life first last F sound holds it =
 pub record LeftLives {S : Type 0} (db : Trees) (F : Farm) (lives : List (Life S)) : Type 0 where
   pub restarts : List Restart
   pub each : AllZip IsRestart lives restarts
-  pub sound : IsSound (run F (calls_of restarts))
-  pub holds : Holds db (rows_of (run F (calls_of restarts)))
+  pub sound : IsSound (run F (calls_of_restarts restarts))
+  pub holds : Holds db (rows_of (run F (calls_of_restarts restarts)))
 
 pub all_lives : {S : Type 0} (g : Ghosts S) → StandsOpened g → (lives : List (Life S)) (first last : Trees) (F : Farm)
     → IsSound F → Holds first (rows_of F) → AreLived g lives first last → LeftLives last F lives
@@ -97,7 +97,7 @@ all_lives g stands (life ∷ lives) first last F sound holds lived =
     let done = take one.done life.calls in
     let rest = all_lives g stands lives lived.0 last (run F done) (IsSound-run done F sound) one.holds lived.2 in
     let restart : Restart = record { calls = life.calls; done = one.done } in
-    let same : run (run F done) (calls_of rest.restarts) ≡ run F (calls_of (restart ∷ rest.restarts)) = sym (fold-append step F done (calls_of rest.restarts)) in
+    let same : run (run F done) (calls_of_restarts rest.restarts) ≡ run F (calls_of_restarts (restart ∷ rest.restarts)) = sym (fold-append step F done (calls_of_restarts rest.restarts)) in
     record {
       restarts = restart ∷ rest.restarts;
       each = (record { calls = refl; done = one.counts }, rest.each);

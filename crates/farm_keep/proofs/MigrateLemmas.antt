@@ -19,8 +19,8 @@ use Rattle.farm_store.specs.Readable.{IsReadableFirst}
 use Rattle.farm_store.specs.declared.fault.StoreFault.{StoreFault}
 use Rattle.farm_store.proofs.EditionLemmas.{editions_apart, first_rows_are_old, rows_are_new}
 use Rattle.farm_store.proofs.SoundReadable.{sound_is_readable}
-use Rattle.farm_keep.specs.Faults.{IsMigrateFault, IsOwnFault, store_fault}
-use Rattle.farm_keep.specs.First.{HoldsEither, IsSoundFirst}
+use Rattle.farm_keep.specs.Faults.{IsMigrateFault, IsOwnFault, fault_of_store}
+use Rattle.farm_keep.specs.First.{HoldsEitherEdition, IsSoundFirst}
 use Rattle.farm_keep.specs.Versions.{LooksAtVersion}
 use Rattle.farm_keep.specs.declared.fault.KeepFault.{KeepFault}
 
@@ -50,14 +50,14 @@ back KeepFault.BadStore = StoreFault.BadStore
 back KeepFault.OldSchema = StoreFault.OldSchema
 back KeepFault.NewSchema = StoreFault.NewSchema
 
-back_is : (e : StoreFault) → back (store_fault e) ≡ e
+back_is : (e : StoreFault) → back (fault_of_store e) ≡ e
 back_is StoreFault.NoMemory = refl
 back_is StoreFault.Store = refl
 back_is StoreFault.BadStore = refl
 back_is StoreFault.OldSchema = refl
 back_is StoreFault.NewSchema = refl
 
-pub same_store_fault : (e f : StoreFault) → store_fault e ≡ store_fault f → e ≡ f
+pub same_store_fault : (e f : StoreFault) → fault_of_store e ≡ fault_of_store f → e ≡ f
 same_store_fault e f is = sym (back_is e) ∙ ap back is ∙ back_is f
 
 same_err : {A E : Type 0} (r : Result A E) (e f : E) → r ≡ Err e → r ≡ Err f → e ≡ f
@@ -77,19 +77,19 @@ bad_is_another = (λ is. let e = is in cc, λ is. let e = is in cc)
 pub new_is_another : IsAnother StoreFault.NewSchema
 new_is_another = (λ is. let e = is in cc, λ is. let e = is in cc)
 
-module _ {A B : Type 0} (r : Result A StoreFault) (s : Result B KeepFault) (fault : StoreFault) (was : r ≡ Err fault) (told : IsErrAnd s (λ f. f ≡ store_fault fault)) where
-  is_told : s ≡ Err (store_fault fault)
+module _ {A B : Type 0} (r : Result A StoreFault) (s : Result B KeepFault) (fault : StoreFault) (was : r ≡ Err fault) (told : IsErrAnd s (λ f. f ≡ fault_of_store fault)) where
+  is_told : s ≡ Err (fault_of_store fault)
   is_told = let p = err_from_is_err_and s told in p.1 ∙ ap Err p.2
 
   -- what is told is the store's fault
-  pub from_told : (f : StoreFault) → s ≡ Err (store_fault f) → r ≡ Err f
-  from_told f is = was ∙ ap Err (same_store_fault fault f (same_err s (store_fault fault) (store_fault f) is_told is))
+  pub from_told : (f : StoreFault) → s ≡ Err (fault_of_store f) → r ≡ Err f
+  from_told f is = was ∙ ap Err (same_store_fault fault f (same_err s (fault_of_store fault) (fault_of_store f) is_told is))
 
   -- the store's fault is told
-  pub as_told : (f : StoreFault) → r ≡ Err f → s ≡ Err (store_fault f)
-  as_told f is = is_told ∙ ap (λ e. Err (store_fault e)) (same_err r fault f was is)
+  pub as_told : (f : StoreFault) → r ≡ Err f → s ≡ Err (fault_of_store f)
+  as_told f is = is_told ∙ ap (λ e. Err (fault_of_store e)) (same_err r fault f was is)
 
-  pub one_told : (f g : StoreFault) → (r ≡ Err f) ⊎ (r ≡ Err g) → (s ≡ Err (store_fault f)) ⊎ (s ≡ Err (store_fault g))
+  pub one_told : (f g : StoreFault) → (r ≡ Err f) ⊎ (r ≡ Err g) → (s ≡ Err (fault_of_store f)) ⊎ (s ≡ Err (fault_of_store g))
   one_told f g (inl is) = inl (as_told f is)
   one_told f g (inr is) = inr (as_told g is)
 
@@ -98,14 +98,14 @@ module _ {A B : Type 0} (r : Result A StoreFault) (s : Result B KeepFault) (faul
   only_memory (inl is) other = was ∙ ap Err is
   only_memory (inr is) other = absurd (other (as_told StoreFault.Store (was ∙ ap Err is)))
 
-  pub never_told : (f : StoreFault) → IsAnother f → (fault ≡ StoreFault.NoMemory) ⊎ (fault ≡ StoreFault.Store) → s ≢ Err (store_fault f)
+  pub never_told : (f : StoreFault) → IsAnother f → (fault ≡ StoreFault.NoMemory) ⊎ (fault ≡ StoreFault.Store) → s ≢ Err (fault_of_store f)
   never_told f another which is = by which (same_err r fault f was (from_told f is))
     where
       by : (fault ≡ StoreFault.NoMemory) ⊎ (fault ≡ StoreFault.Store) → fault ≡ f → ⊥
       by (inl memory) same = another.0 (sym same ∙ memory)
       by (inr store) same = another.1 (sym same ∙ store)
 
-  pub told_so : (P : KeepFault → Type 0) → P (store_fault fault) → IfErr s P
+  pub told_so : (P : KeepFault → Type 0) → P (fault_of_store fault) → IfErr s P
   told_so P p = subst (λ r. IfErr r P) (sym is_told) p
 
 -- ---- the version that a store's `meta` tells
@@ -122,39 +122,39 @@ either_err s f g (inl is) = inl (some_err s f is)
 either_err s f g (inr is) = inr (some_err s g is)
 
 -- it was refused by its version, or failed, and so it is told
-pub looks_so : {A B : Type 0} (r : Result A StoreFault) (s : Result B KeepFault) (fault : StoreFault) → r ≡ Err fault → IsErrAnd s (λ f. f ≡ store_fault fault)
+pub looks_so : {A B : Type 0} (r : Result A StoreFault) (s : Result B KeepFault) (fault : StoreFault) → r ≡ Err fault → IsErrAnd s (λ f. f ≡ fault_of_store fault)
     → (own other : ℕ) (refusal : StoreFault) (db : Database) → (r ≡ Err refusal → MayTell other db)
     → (Tells other db → (r ≡ Err refusal) ⊎ (r ≡ Err StoreFault.Store))
     → (¬ MayTell other db → ¬ MayTell own db → (r ≡ Err StoreFault.BadStore) ⊎ (r ≡ Err StoreFault.Store))
-    → LooksAtVersion own other (store_fault refusal) (result_err s) db
+    → LooksAtVersion own other (fault_of_store refusal) (result_err s) db
 looks_so r s fault was told own other refusal db only is neither = record {
-  told = λ e. only (from_told r s fault was told refusal (was_err s (store_fault refusal) e));
-  tells = λ t. either_err s (store_fault refusal) KeepFault.Store (one_told r s fault was told refusal StoreFault.Store (is t));
+  told = λ e. only (from_told r s fault was told refusal (was_err s (fault_of_store refusal) e));
+  tells = λ t. either_err s (fault_of_store refusal) KeepFault.Store (one_told r s fault was told refusal StoreFault.Store (is t));
   neither = λ a b. either_err s KeepFault.BadStore KeepFault.Store (one_told r s fault was told StoreFault.BadStore StoreFault.Store (neither a b));
 }
 
 -- it was read, so it has the version that is wanted
 pub looks_read : {A B : Type 0} (r : Result A StoreFault) (a : A) (s : Result B KeepFault) → r ≡ Ok a
-    → (own other : ℕ) (refusal : StoreFault) (db : Database) → s ≢ Err (store_fault refusal)
+    → (own other : ℕ) (refusal : StoreFault) (db : Database) → s ≢ Err (fault_of_store refusal)
     → (Tells other db → (r ≡ Err refusal) ⊎ (r ≡ Err StoreFault.Store))
     → (¬ MayTell other db → ¬ MayTell own db → (r ≡ Err StoreFault.BadStore) ⊎ (r ≡ Err StoreFault.Store))
-    → LooksAtVersion own other (store_fault refusal) (result_err s) db
+    → LooksAtVersion own other (fault_of_store refusal) (result_err s) db
 looks_read r a s was own other refusal db never is neither = record {
-  told = λ e. absurd (never (was_err s (store_fault refusal) e));
+  told = λ e. absurd (never (was_err s (fault_of_store refusal) e));
   tells = λ t. absurd (ok_is_no_err r a refusal StoreFault.Store was (is t));
   neither = λ x y. absurd (ok_is_no_err r a StoreFault.BadStore StoreFault.Store was (neither x y));
 }
 
 -- ---- what may come of a migration
 
-pub migrate_fault : (e : StoreFault) → e ≢ StoreFault.OldSchema → IsMigrateFault (store_fault e)
+pub migrate_fault : (e : StoreFault) → e ≢ StoreFault.OldSchema → IsMigrateFault (fault_of_store e)
 migrate_fault StoreFault.NoMemory never = tt
 migrate_fault StoreFault.Store never = tt
 migrate_fault StoreFault.BadStore never = tt
 migrate_fault StoreFault.NewSchema never = tt
 migrate_fault StoreFault.OldSchema never = absurd (never refl)
 
-pub raise_fault : (e : StoreFault) → (e ≡ StoreFault.NoMemory) ⊎ (e ≡ StoreFault.Store) → IsMigrateFault (store_fault e)
+pub raise_fault : (e : StoreFault) → (e ≡ StoreFault.NoMemory) ⊎ (e ≡ StoreFault.Store) → IsMigrateFault (fault_of_store e)
 raise_fault e which = migrate_fault e (by which)
   where
     by : (e ≡ StoreFault.NoMemory) ⊎ (e ≡ StoreFault.Store) → e ≡ StoreFault.OldSchema → ⊥
@@ -184,7 +184,7 @@ on_err (Err e) P p = p
 abbrev pub StandsEither : State → Farm → Type 0
 StandsEither s F = Stands s (first_rows_of F) ⊎ Stands s (rows_of F)
 
-pub stands_either : (s : State) (left : Trees) (F : Farm) → ((T : Tables) → Holds s.committed.trees T → Stands s T) → s.committed.trees ≡ left → HoldsEither left F → StandsEither s F
+pub stands_either : (s : State) (left : Trees) (F : Farm) → ((T : Tables) → Holds s.committed.trees T → Stands s T) → s.committed.trees ≡ left → HoldsEitherEdition left F → StandsEither s F
 stands_either s left F opened on (inl first) = inl (opened (first_rows_of F) (subst (λ (t : Trees). Holds t (first_rows_of F)) (sym on) first))
 stands_either s left F opened on (inr second) = inr (opened (rows_of F) (subst (λ (t : Trees). Holds t (rows_of F)) (sym on) second))
 
@@ -195,7 +195,7 @@ no_first F G is = editions_apart F G
 module _ (old mid : State) (F : Farm) (sound : IsSoundFirst F)
     (stop : (G : Farm) → IsSoundFirst G → Stands old (first_rows_of G) → LeavesEither mid (first_rows_of G) (rows_of G))
     (others : (T : Tables) → Stands old T → ((G : Farm) → IsSoundFirst G → T ≢ first_rows_of G) → Stands mid T) where
-  pub left_either : StandsEither old F → (db : Trees) → mid.may_leave db → HoldsEither db F
+  pub left_either : StandsEither old F → (db : Trees) → mid.may_leave db → HoldsEitherEdition db F
   left_either (inl first) db may = stop F sound first db may
   left_either (inr second) db may = inr ((others (rows_of F) second (no_first F)).left db may)
 

@@ -7,16 +7,16 @@ use Rattle.farm_types.specs.Machine.{Changed, Repeated, Denied, answer, step, ru
 use Rattle.farm_types.specs.declared.rows.Reply.{Reply}
 use Rattle.farm_types.specs.declared.calls.Call.{Call}
 use Rattle.farm_keep.specs.Runs.{answers_of}
-use Rattle.farm_keep.specs.Restarts.{Restart, done_calls, run_all, calls_of}
+use Rattle.farm_keep.specs.Restarts.{Restart, done_calls, run_all, calls_of_restarts}
 
 pub answers_of-append : (F : Farm) (first second : List Call) → answers_of F (first ++ second) ≡ answers_of F first ++ answers_of (run F first) second
 answers_of-append F [] second = refl
 answers_of-append F (call ∷ first) second = ap (λ l. answer F call ∷ l) (answers_of-append (step F call) first second)
 
-pub run_all-joined : (F : Farm) (restarts : List Restart) → run_all F restarts ≡ run F (calls_of restarts)
+pub run_all-joined : (F : Farm) (restarts : List Restart) → run_all F restarts ≡ run F (calls_of_restarts restarts)
 run_all-joined F [] = refl
 run_all-joined F (restart ∷ restarts) =
-    run_all-joined (run F (done_calls restart)) restarts ∙ sym (fold-append step F (done_calls restart) (calls_of restarts))
+    run_all-joined (run F (done_calls restart)) restarts ∙ sym (fold-append step F (done_calls restart) (calls_of_restarts restarts))
 
 -- what is answered again is no change
 pub again_no_change : (late same : Bool) (reply other : Reply) → cond late (Denied bad_moment) (cond same (Repeated reply) (Denied key_reused)) ≡ Changed other → ⊥

@@ -2,7 +2,7 @@
 -- them may come.
 use Rattle.std.specs.Prelude.{ℕ, ⊤}
 use Rattle.farm_types.specs.Refusals.{bad_store, closed, new_schema, no_memory, old_schema}
-use Rattle.farm_types.specs.Refusals.{store_fault as failed_store}
+use Rattle.farm_types.specs.Refusals.{fault_of_store as failed_store}
 use Rattle.farm_core.specs.declared.farm.BadRows.{BadRows}
 use Rattle.farm_store.specs.declared.fault.StoreFault.{StoreFault}
 use Rattle.farm_keep.specs.declared.fault.KeepFault.{KeepFault}
@@ -15,12 +15,12 @@ fault_code KeepFault.BadStore = bad_store
 fault_code KeepFault.OldSchema = old_schema
 fault_code KeepFault.NewSchema = new_schema
 
-abbrev pub store_fault : StoreFault → KeepFault
-store_fault StoreFault.NoMemory = KeepFault.NoMemory
-store_fault StoreFault.Store = KeepFault.Store
-store_fault StoreFault.BadStore = KeepFault.BadStore
-store_fault StoreFault.OldSchema = KeepFault.OldSchema
-store_fault StoreFault.NewSchema = KeepFault.NewSchema
+abbrev pub fault_of_store : StoreFault → KeepFault
+fault_of_store StoreFault.NoMemory = KeepFault.NoMemory
+fault_of_store StoreFault.Store = KeepFault.Store
+fault_of_store StoreFault.BadStore = KeepFault.BadStore
+fault_of_store StoreFault.OldSchema = KeepFault.OldSchema
+fault_of_store StoreFault.NewSchema = KeepFault.NewSchema
 
 -- rows that are no sound farm's are a bad store's
 abbrev pub rows_fault : BadRows → KeepFault

@@ -19,8 +19,8 @@ pub record IsSoundFirst (F : Farm) : Type 0 where
   pub none : F.collector ≡ 0
 
 -- the trees hold the farm's tables of the first edition, or those of this one
-abbrev pub HoldsEither : Trees → Farm → Type 0
-HoldsEither db F = Holds db (first_rows_of F) ⊎ Holds db (rows_of F)
+abbrev pub HoldsEitherEdition : Trees → Farm → Type 0
+HoldsEitherEdition db F = Holds db (first_rows_of F) ⊎ Holds db (rows_of F)
 
 -- what a migration makes of a store, and what it tells of it
 pub record Migrates {A : Type 0} (old new : State) (result : Result A KeepFault) : Type 0 where

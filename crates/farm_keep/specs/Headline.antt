@@ -49,10 +49,10 @@ IsAlwaysClean {S} g = (h : Held S) → HasCleanDisk (state g h)
 
 -- why a store gives no keeper: it is bad only where no sound farm stands there, and its schema old
 -- only where the tables are of the first edition
-abbrev pub Denies : State → KeepFault → Type 0
-Denies s KeepFault.BadStore = (F : Farm) → IsSound F → ¬ Stands s (rows_of F)
-Denies s KeepFault.OldSchema = (T : Tables) → Stands s T → IsOfSchema first_schema T
-Denies s other = ⊤
+abbrev pub GivesNoKeeper : State → KeepFault → Type 0
+GivesNoKeeper s KeepFault.BadStore = (F : Farm) → IsSound F → ¬ Stands s (rows_of F)
+GivesNoKeeper s KeepFault.OldSchema = (T : Tables) → Stands s T → IsOfSchema first_schema T
+GivesNoKeeper s other = ⊤
 
 -- how the run of a closed keeper ends: for want of memory, at its first call, or without a fault
 -- where there is none

@@ -25,7 +25,7 @@ kept_code {S} store =
     (λ _. refl)
 
 -- no transaction is begun, and an open keeper's farm works and is sound
-pub record IsKept {S : Type 0} (conn : Held S) (farm : Shown) (is_open : Bool) : Type 0 where
+pub record KeeperInvariant {S : Type 0} (conn : Held S) (farm : Shown) (is_open : Bool) : Type 0 where
   pub autocommit : conn.in_transaction ≡ false
   pub working : is_open ≡ true → farm.failed ≡ false
   pub sound : is_open ≡ true → IsSound farm.farm

@@ -12,7 +12,7 @@ use Rattle.farm_types.specs.declared.calls.Call.{Call}
 use Rattle.farm_keep.specs.Faults.{IsOwnFault}
 use Rattle.farm_keep.specs.Kept.{Kept}
 use Rattle.farm_keep.specs.Headline.{Resumes}
-use Rattle.farm_keep.specs.Restarts.{Restart, calls_of}
+use Rattle.farm_keep.specs.Restarts.{Restart, calls_of_restarts}
 use Rattle.farm_keep.specs.declared.keeper.run.RunEnd.{RunEnd}
 use Rattle.farm_keep.specs.declared.fault.KeepFault.{KeepFault}
 
@@ -24,8 +24,8 @@ pub record OpensOn (s : State) (db : Trees) : Type 0 where
 
 -- a stop after a run leaves so many of its calls done: those that were answered or, after a fault
 -- of the store, perhaps one more
-abbrev pub IsDone : RunEnd → ℕ → Type 0
-IsDone end n = (n ≡ end.done) ⊎ ((end.fault ≡ Some KeepFault.Store) × (n ≡ end.done + 1))
+abbrev pub LeavesDone : RunEnd → ℕ → Type 0
+LeavesDone end n = (n ≡ end.done) ⊎ ((end.fault ≡ Some KeepFault.Store) × (n ≡ end.done + 1))
 
 -- the store gives this very farm, memory and its own faults aside
 pub record GivesFarm (result : Result Shown KeepFault) (F : Farm) : Type 0 where
@@ -36,7 +36,7 @@ pub record GivesFarm (result : Result Shown KeepFault) (F : Farm) : Type 0 where
 pub record GivesRun (result : Result Shown KeepFault) (F : Farm) (end : RunEnd) (calls : List Call)
     : Type 0 where
   pub done : ℕ
-  pub counts : IsDone end done
+  pub counts : LeavesDone end done
   pub gives : GivesFarm result (run F (take done calls))
 
 -- one life: the connection, the keeper that it ends with, how its run ended, and its calls
@@ -62,11 +62,11 @@ AreLived g (life ∷ lives) first last = (db : Trees) × IsLived g life first db
 -- a life as a restart of the machine
 pub record IsRestart {S : Type 0} (life : Life S) (restart : Restart) : Type 0 where
   pub calls : restart.calls ≡ life.calls
-  pub done : IsDone life.end restart.done
+  pub done : LeavesDone life.end restart.done
 
 -- the farm after the calls that were done in all lives, one after another
 pub record GivesRestarts {S : Type 0} (result : Result Shown KeepFault) (F : Farm)
     (lives : List (Life S)) : Type 0 where
   pub restarts : List Restart
   pub each : AllZip IsRestart lives restarts
-  pub gives : GivesFarm result (run F (calls_of restarts))
+  pub gives : GivesFarm result (run F (calls_of_restarts restarts))

@@ -21,8 +21,8 @@ done_calls restart = take restart.done restart.calls
 abbrev pub run_all : Farm → List Restart → Farm
 run_all F restarts = fold (λ G restart. run G (done_calls restart)) F restarts
 
-abbrev pub calls_of : List Restart → List Call
-calls_of restarts = flat_map done_calls restarts
+abbrev pub calls_of_restarts : List Restart → List Call
+calls_of_restarts restarts = flat_map done_calls restarts
 
 -- what a call is answered whose caller and key were those of an accepted call with this reply
 abbrev pub answer_again : Call → Reply → Call → Answered
@@ -34,7 +34,7 @@ answer_again first reply call =
 -- the first is accepted
 pub record IsRepeated (F : Farm) (restarts : List Restart) (before between after : List Call)
     (first call : Call) (key : List ℕ) (reply : Reply) : Type 0 where
-  pub in_list : calls_of restarts ≡ before ++ first ∷ (between ++ call ∷ after)
+  pub in_list : calls_of_restarts restarts ≡ before ++ first ∷ (between ++ call ∷ after)
   pub keyed : first.key ≡ Some key
   pub same_key : call.key ≡ Some key
   pub same_caller : call.caller ≡ first.caller

@@ -73,9 +73,9 @@ impl From<BadRows> for KeepFault {
 
 impl From<StoreFault> for KeepFault {
     ghost use Rattle.std.specs.Prelude.{◌≡◌};
-    ghost use Rattle.farm_keep.specs.Faults.{store_fault};
+    ghost use Rattle.farm_keep.specs.Faults.{fault_of_store};
 
-    ghost from_gives = { λ cause fault. fault ≡ store_fault cause };
+    ghost from_gives = { λ cause fault. fault ≡ fault_of_store cause };
 
     fn from(cause: StoreFault) -> KeepFault {
         match cause {

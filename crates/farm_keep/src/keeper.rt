@@ -14,7 +14,7 @@ ghost use Rattle.farm_store.specs.Holds.{LeavesEither, Stands, StandsFor};
 ghost use Rattle.farm_store.specs.Schema.{no_schema};
 ghost use Rattle.farm_keep.specs.Faults.{IsActFault, IsFindFault, IsOwnFault};
 ghost use Rattle.farm_keep.specs.Kept.{Keeps, KeepsEither, IfNoChange};
-ghost use Rattle.farm_keep.specs.Headline.{Adopts, Denies, IsAlwaysClean};
+ghost use Rattle.farm_keep.specs.Headline.{Adopts, GivesNoKeeper, IsAlwaysClean};
 ghost use Rattle.farm_keep.specs.Versions.{LooksForFarm};
 
 mod opening;
@@ -40,7 +40,7 @@ pub struct Keeper<S: Alter> {
 }
 
 impl<S: Alter> Model for Keeper<S> {
-    ghost use Rattle.farm_keep.specs.Kept.{Kept, kept_code, IsKept};
+    ghost use Rattle.farm_keep.specs.Kept.{Kept, kept_code, KeeperInvariant};
 
     ghost Value = { Kept S };
 
@@ -48,7 +48,7 @@ impl<S: Alter> Model for Keeper<S> {
 
     ghost view = { λ k. record { conn = k.conn; farm = k.farm; is_open = k.is_open } };
 
-    ghost invariant = { λ k. IsKept k.conn k.farm k.is_open };
+    ghost invariant = { λ k. KeeperInvariant k.conn k.farm k.is_open };
 }
 
 impl<S: Alter + Drop> Keeper<S> {
@@ -81,7 +81,7 @@ impl<S: Alter + Drop> Keeper<S> {
     pub fn adopt(alloc: Global, conn: Connection<S>) -> Result<Keeper<S>, KeepFault>
         requires { conn.in_transaction ≡ false }
         ensures adopted { IfOk result (λ k. Adopts S.Store conn k) }
-        ensures refused { IsAlwaysClean S.Store → IfErr result (Denies (state S.Store conn)) }
+        ensures refused { IsAlwaysClean S.Store → IfErr result (GivesNoKeeper (state S.Store conn)) }
         ensures version { IsAlwaysClean S.Store
             → LooksForFarm (result_err result) (state S.Store conn).now }
         ensures fault { IfErr result IsFindFault }

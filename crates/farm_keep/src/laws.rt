@@ -8,7 +8,7 @@ ghost use Rattle.farm_store.specs.Columns.{rows_of};
 ghost use Rattle.farm_store.specs.Holds.{Holds};
 ghost use Rattle.farm_types.specs.Farm.{Farm as Plain};
 ghost use Rattle.farm_types.specs.Sound.{IsSound};
-ghost use Rattle.farm_keep.specs.First.{HoldsEither, IsSoundFirst};
+ghost use Rattle.farm_keep.specs.First.{HoldsEitherEdition, IsSoundFirst};
 ghost use Rattle.farm_keep.specs.Headline.{IsAlwaysClean, Runs};
 ghost use Rattle.farm_keep.specs.Kept.{Kept, Keeps};
 ghost use Rattle.farm_keep.specs.Lives.{Life, AreLived, GivesFarm, GivesRestarts, GivesRun};
@@ -17,7 +17,7 @@ ghost use Rattle.farm_keep.specs.declared.keeper.run.RunEnd.{RunEnd as End};
 ghost use Rattle.farm_types.specs.Machine.{run};
 ghost use Rattle.farm_types.specs.declared.calls.Call.{Call};
 ghost use Rattle.farm_keep.specs.Runs.{answers_of};
-ghost use Rattle.farm_keep.specs.Restarts.{Restart, run_all, calls_of, AnswersAgain, ActsOnce};
+ghost use Rattle.farm_keep.specs.Restarts.{Restart, run_all, calls_of_restarts, AnswersAgain, ActsOnce};
 
 use crate::fault::KeepFault;
 use crate::migrating::migrate;
@@ -37,7 +37,7 @@ pub fn runs_join()
 
 /// Restarts one after another are one run over the calls that were done.
 pub fn restarts_join()
-    ensures { (F : Plain) (restarts : List Restart) → run_all F restarts ≡ run F (calls_of restarts) }
+    ensures { (F : Plain) (restarts : List Restart) → run_all F restarts ≡ run F (calls_of_restarts restarts) }
 {}
 
 /// A store in memory always returns what was written: whatever else is said of a clean disk holds
@@ -101,11 +101,11 @@ pub fn found_after_upgrade<S: Alter>(
 ) -> Result<Farm, KeepFault>
     requires { conn.old.in_transaction ≡ false }
     ensures gives { HasCleanDisk (state S.Store conn.new) → (F : Plain) (left : Trees)
-        → IsSoundFirst F → HoldsEither left F → OpensOn (state S.Store conn.old) left
+        → IsSoundFirst F → HoldsEitherEdition left F → OpensOn (state S.Store conn.old) left
         → GivesFarm result F }
     ensures left { HasCleanDisk (state S.Store conn.new) → (F : Plain) (left : Trees)
-        → IsSoundFirst F → HoldsEither left F → OpensOn (state S.Store conn.old) left
-        → (db : Trees) → (state S.Store conn.new).may_leave db → HoldsEither db F }
+        → IsSoundFirst F → HoldsEitherEdition left F → OpensOn (state S.Store conn.old) left
+        → (db : Trees) → (state S.Store conn.new).may_leave db → HoldsEitherEdition db F }
 {
     opened_stands(conn);
     match migrate(alloc, conn) {

@@ -14,7 +14,7 @@ use Rattle.clap.specs.declared.builder.value_parser.Reading.{Reading}
 use Rattle.clap.specs.declared.builder.value_parser.Reading.TheVariants.{AsWritten}
 use Rattle.clap.specs.declared.builder.value_parser.ValueParser.TheVariants as vp
 use Rattle.clap.proofs.ValueTestLemmas.{accepts-Accepts, Accepts-accepts}
-use Rattle.farm_order.specs.Orders.{Form, IsInBounds, DatabaseForm, leaves_choice, minutes_of, number_of, once, order_named, database_in, port_in, report, serve, text_of, u16_of, u64_in, which_in}
+use Rattle.farm_order.specs.Orders.{Form, IsInBounds, DatabaseForm, leaves_choice, minutes_of, argument_number, once, order_named, database_in, port_in, report, serve, argument_text, u16_of, u64_in, which_in}
 use Rattle.farm_order.specs.declared.order.Report.{Report}
 use Rattle.farm_order.proofs.Kept.{AllKeep, AreGood, HasPassing, IsGood, help, help_keeps, memory, memory_keeps, value_keeps, value_rule}
 use Rattle.farm_order.proofs.Walked.{is_missing}
@@ -52,11 +52,11 @@ found_value c a id (r ∷ rs) found good = go (bytes_eq r.id id) refl (found_val
 
 -- the value of an argument that was given
 given_value : (c : List Rule) (a : Rule) (id : Text) (rows : List Row) → arg_by_id c id ≡ Some a → AreGood c rows → is_given id rows ≡ true
-    → (v : Text) × (text_of id rows ≡ Some v) × (one_of id rows ≡ Some v) × (value_passes a v ≡ true)
+    → (v : Text) × (argument_text id rows ≡ Some v) × (one_of id rows ≡ Some v) × (value_passes a v ≡ true)
 given_value c a id rows found good given = go (find (has_id id) rows) refl (found_value c a id rows found good)
   where
     go : (o : Option Row) → find (has_id id) rows ≡ o → IfSome o (HasValue a)
-        → (v : Text) × (text_of id rows ≡ Some v) × (one_of id rows ≡ Some v) × (value_passes a v ≡ true)
+        → (v : Text) × (argument_text id rows ≡ Some v) × (one_of id rows ≡ Some v) × (value_passes a v ≡ true)
     go None e h = let bad : false ≡ true = rw e at given in cc
     go (Some r) e h =
         (h.0, ap (option_and_then (λ (x : Row). slice_get x.values 0)) e ∙ h.1, ap (option_and_then row_text) e ∙ h.2, h.3)
@@ -76,7 +76,7 @@ in_range low high v passes =
 -- the number of an argument that was given
 given_number : (c : List Rule) (id : Text) (required : Bool) (low high : ℕ) (rows : List Row)
     → arg_by_id c id ≡ Some (value_rule id (Some id) required None (vp.Unsigned low high)) → AreGood c rows → is_given id rows ≡ true
-    → (n : ℕ) × (number_of id rows ≡ Some n) × (low ≤ n) × (n ≤ high)
+    → (n : ℕ) × (argument_number id rows ≡ Some n) × (low ≤ n) × (n ≤ high)
 given_number c id required low high rows found good given =
     let g = given_value c (value_rule id (Some id) required None (vp.Unsigned low high)) id rows found good given in
     let r = in_range low high g.0 g.3 in
@@ -225,7 +225,7 @@ Settles name rows = IsSettled (order_named name rows) (leaves_choice (Some (name
 pub once_settles : (rows : List Row) → AreWhole once_rules rows → Settles (codes "once") rows
 once_settles rows whole =
     let n = given_number once_rules (codes "at") true 0 18446744073709551615 rows refl whole.0 (one_given (is_given (codes "at") rows) whole.1) in
-    go (database_in rows) (number_of (codes "at") rows) n.0 n.1
+    go (database_in rows) (argument_number (codes "at") rows) n.0 n.1
   where
     go : (place : Option DatabaseForm) (at : Option ℕ) (n : ℕ) → at ≡ Some n
         → IsSettled (option_and_then (λ p. option_map (λ t. once p t) at) place) ((true && not (is_some place)) || (false && not (is_some (which_in rows))))
@@ -261,8 +261,8 @@ serve_settles rows whole =
     let f = given_value serve_rules (db true) (codes "db") rows refl whole.0 given.0 in
     let p = given_number serve_rules (codes "port") true 1 65535 rows refl whole.0 given.1 in
     let m = given_number serve_rules (codes "max") true 0 18446744073709551615 rows refl whole.0 given.2 in
-    go (text_of (codes "db") rows) (port_in rows) (number_of (codes "max") rows) f.0 p.0 m.0 f.1
-    (small_port (number_of (codes "port") rows) p.0 p.1 p.3) m.1 p.2 p.3
+    go (argument_text (codes "db") rows) (port_in rows) (argument_number (codes "max") rows) f.0 p.0 m.0 f.1
+    (small_port (argument_number (codes "port") rows) p.0 p.1 p.3) m.1 p.2 p.3
   where
     go : (file : Option Text) (port max : Option ℕ) (f : Text) (p m : ℕ) → file ≡ Some f → port ≡ Some p → max ≡ Some m → 1 ≤ p → p ≤ 65535
         → IsSettled (option_and_then (λ x. option_and_then (λ y. option_map (λ z. serve x y z) max) port) file) false
@@ -272,7 +272,7 @@ pub report_settles : (rows : List Row) → AreWhole report_rules rows → Settle
 report_settles rows whole =
     let given = two_given (is_given (codes "db") rows) (is_given (codes "which") rows) whole.1 in
     let f = given_value report_rules (db true) (codes "db") rows refl whole.0 given.0 in
-    go (text_of (codes "db") rows) (which_in rows) f.0 f.1
+    go (argument_text (codes "db") rows) (which_in rows) f.0 f.1
     (minutes_small report_rules (codes "east") rows refl whole.0) (minutes_small report_rules (codes "west") rows refl whole.0)
   where
     go : (file : Option Text) (which : Option Report) (f : Text) → file ≡ Some f

@@ -61,8 +61,8 @@ abbrev pub has_flag : Text → List Row → Bool
 has_flag id rows = option_map_or (λ text. bytes_eq text (codes "true")) (one_of id rows) false
 
 -- the text that an argument has
-abbrev pub text_of : Text → List Row → Option Text
-text_of = first_of
+abbrev pub argument_text : Text → List Row → Option Text
+argument_text = first_of
 
 -- the `u64` that a text writes in decimal digits
 abbrev pub u64_in : Text → Option ℕ
@@ -70,20 +70,20 @@ u64_in text = if is_unsigned_in 0 18446744073709551615 text
     then Some (digits_value 10 (without_leading_plus text)) else None
 
 -- the number that an argument has
-abbrev pub number_of : Text → List Row → Option ℕ
-number_of id rows = option_and_then u64_in (one_of id rows)
+abbrev pub argument_number : Text → List Row → Option ℕ
+argument_number id rows = option_and_then u64_in (one_of id rows)
 
 -- just one of `--memory` and `--db FILE`
 abbrev pub database_in : List Row → Option DatabaseForm
 database_in rows = if has_flag (codes "memory") rows
-    then (if is_some (text_of (codes "db") rows) then None else Some None)
-    else option_map (λ file. Some file) (text_of (codes "db") rows)
+    then (if is_some (argument_text (codes "db") rows) then None else Some None)
+    else option_map (λ file. Some file) (argument_text (codes "db") rows)
 
 abbrev pub u16_of : ℕ → Option ℕ
 u16_of n = if nat_lt n 65536 then Some n else None
 
 abbrev pub port_in : List Row → Option ℕ
-port_in rows = option_and_then u16_of (number_of (codes "port") rows)
+port_in rows = option_and_then u16_of (argument_number (codes "port") rows)
 
 -- the report of this name
 abbrev pub report_of : Text → Option Report
@@ -92,38 +92,38 @@ report_of name = if bytes_eq name (codes "queue") then Some Queue
     else (if bytes_eq name (codes "reservations") then Some Reservations else None))
 
 abbrev pub which_in : List Row → Option Report
-which_in rows = option_and_then report_of (text_of (codes "which") rows)
+which_in rows = option_and_then report_of (argument_text (codes "which") rows)
 
 -- the minutes of an offset, 0 where it wasn't given
 abbrev pub minutes_of : Text → List Row → ℕ
-minutes_of id rows = unwrap_or (number_of id rows) 0
+minutes_of id rows = unwrap_or (argument_number id rows) 0
 
 -- ---- the order of each subcommand
 
 abbrev pub once_in : List Row → Option Form
 once_in rows = option_and_then (λ database. option_map (λ at. once database at)
-    (number_of (codes "at") rows)) (database_in rows)
+    (argument_number (codes "at") rows)) (database_in rows)
 
 abbrev pub init_in : List Row → Option Form
-init_in rows = option_map (λ file. init file) (text_of (codes "db") rows)
+init_in rows = option_map (λ file. init file) (argument_text (codes "db") rows)
 
 abbrev pub migrate_in : List Row → Option Form
-migrate_in rows = option_map (λ file. migrate file) (text_of (codes "db") rows)
+migrate_in rows = option_map (λ file. migrate file) (argument_text (codes "db") rows)
 
 abbrev pub import_in : List Row → Option Form
 import_in rows = option_and_then (λ file. option_and_then (λ at. option_map (λ lab.
-    import file at lab) (text_of (codes "lab") rows)) (number_of (codes "at") rows))
-    (text_of (codes "db") rows)
+    import file at lab) (argument_text (codes "lab") rows)) (argument_number (codes "at") rows))
+    (argument_text (codes "db") rows)
 
 abbrev pub serve_in : List Row → Option Form
 serve_in rows = option_and_then (λ file. option_and_then (λ port. option_map (λ max.
-    serve file port max) (number_of (codes "max") rows)) (port_in rows))
-    (text_of (codes "db") rows)
+    serve file port max) (argument_number (codes "max") rows)) (port_in rows))
+    (argument_text (codes "db") rows)
 
 abbrev pub report_in : List Row → Option Form
 report_in rows = option_and_then (λ file. option_map (λ which.
     report file (minutes_of (codes "east") rows) (minutes_of (codes "west") rows) which)
-    (which_in rows)) (text_of (codes "db") rows)
+    (which_in rows)) (argument_text (codes "db") rows)
 
 -- the order of a subcommand with its values
 abbrev pub order_named : Text → List Row → Option Form

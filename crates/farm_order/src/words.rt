@@ -9,9 +9,9 @@ ghost use Rattle.farm_order.specs.App.{offset_rule, once_app};
 ghost use Rattle.farm_order.specs.App.{port_rule, positional_rule, report_app, serve_app};
 ghost use Rattle.farm_order.specs.Faults.{IsFaultAmong, open_text};
 ghost use Rattle.farm_order.specs.Orders.{IsInBounds, form_of, has_flag, import_in, init_in};
-ghost use Rattle.farm_order.specs.Orders.{leaves_choice, migrate_in, number_of, once_in, order_in};
+ghost use Rattle.farm_order.specs.Orders.{leaves_choice, migrate_in, argument_number, once_in, order_in};
 ghost use Rattle.farm_order.specs.Orders.{database_form, database_in, port_in, report_in};
-ghost use Rattle.farm_order.specs.Orders.{report_of, serve_in, text_of, which_in};
+ghost use Rattle.farm_order.specs.Orders.{report_of, serve_in, argument_text, which_in};
 ghost use Rattle.farm_order.specs.declared.fault.OrderFault.TheVariants.{NoMemory};
 
 use crate::fault::{OrderFault, fault_of};
@@ -208,7 +208,7 @@ fn flag(given: &ArgMatches<'_>, id: &str) -> bool
 
 /// The number that an argument has.
 fn number(given: &ArgMatches<'_>, id: &str) -> Option<u64>
-    ensures { result ≡ number_of id.now (rows_of (found_of given.now)) }
+    ensures { result ≡ argument_number id.now (rows_of (found_of given.now)) }
 {
     given.get_one::<u64>(id)
 }
@@ -222,7 +222,7 @@ fn port(given: &ArgMatches<'_>) -> Option<u16>
 /// The text that an argument has.
 fn text(alloc: Global, given: &ArgMatches<'_>, id: &str) -> Result<Option<String>, AllocError>
     ensures { IfOk result (λ text.
-        option_map string_bytes text ≡ text_of id.now (rows_of (found_of given.now))) }
+        option_map string_bytes text ≡ argument_text id.now (rows_of (found_of given.now))) }
 {
     match given.get_str(id) {
         Some(text) => Ok(Some(String::from_str(alloc, text)?)),

@@ -6,7 +6,7 @@ use Rattle.std.specs.BTreeMap.{insert_entry}
 use Rattle.std.specs.Ordering.{is_eq, nat_cmp}
 use Rattle.farm_types.specs.Table.{put}
 use Rattle.farm_types.specs.declared.claims.Claim.{Claim}
-use Rattle.farm_pick.specs.Queued.{Queued, Lists}
+use Rattle.farm_pick.specs.Queued.{Queued, QueueLists}
 use Rattle.farm_pick.specs.Kept.{spot_cmp, queued_cmp, kind_at, shown_claims, claim_at, place_at, AreQueues, AreKinds, AreIdle, IsIdle, IsWell, shown_idle, TakesOrStays, idle_cmp, named_cmp}
 use Rattle.farm_pick.specs.declared.spot.Spot.{Spot}
 use Rattle.farm_pick.specs.declared.spot.Place.{Place}
@@ -24,7 +24,7 @@ use Rattle.std.specs.declared.cmp.Ordering.{Ordering}
 use Rattle.std.specs.declared.cmp.Ordering.TheVariants.{Equal, Greater, Less}
 use Rattle.farm_pick.proofs.Keeping.{are_more, kind_more, long, shown_more, no_place, no_claim, after_put, shown_put, none_taken, after_take, shown_take}
 
-abbrev shows : List (List ℕ) → List (Spot × Claim) → List IdleRow → Lists
+abbrev shows : List (List ℕ) → List (Spot × Claim) → List IdleRow → QueueLists
 shows kinds es rows = record { claims = shown_claims kinds es; boards = map (shown_idle kinds) rows }
 
 idle_total : IsTotalOrder idle_cmp
@@ -81,10 +81,10 @@ module _ (kinds : List (List ℕ)) (es : List (Spot × Claim)) (ps : List (ℕ �
       });
     }
 
-    pub taken_shown : (seen : Lists) → shows kinds es rows ≡ seen → shows kinds es news ≡ record { claims = seen.claims; boards = filter (λ b. not (bytes_eq b.name name)) seen.boards }
+    pub taken_shown : (seen : QueueLists) → shows kinds es rows ≡ seen → shows kinds es news ≡ record { claims = seen.claims; boards = filter (λ b. not (bytes_eq b.name name)) seen.boards }
     taken_shown seen view =
         ap (shows kinds es) is ∙ ap (λ bs. record { claims = shown_claims kinds es; boards = bs }) (filter_shown rows)
-        ∙ ap (λ (l : Lists). record { claims = l.claims; boards = filter (λ b. not (bytes_eq b.name name)) l.boards }) view
+        ∙ ap (λ (l : QueueLists). record { claims = l.claims; boards = filter (λ b. not (bytes_eq b.name name)) l.boards }) view
 
   -- some types more
   module _ (more_kinds : List (List ℕ)) (grows : (more : List (List ℕ)) × (more_kinds ≡ kinds ++ more)) (apart : AreKinds kinds → AreKinds more_kinds) where
@@ -106,7 +106,7 @@ module _ (kinds : List (List ℕ)) (es : List (Spot × Claim)) (ps : List (ℕ �
     pub refused_well : IsWell more_kinds es ps rows
     refused_well = record { queues = grown; free = idle_grown }
 
-    pub refused_kind : {A E : Type 0} (r : Result A E) (seen : Lists) → shows kinds es rows ≡ seen → OnErr r (shows more_kinds es rows ≡ seen)
+    pub refused_kind : {A E : Type 0} (r : Result A E) (seen : QueueLists) → shows kinds es rows ≡ seen → OnErr r (shows more_kinds es rows ≡ seen)
     refused_kind (Ok x) seen is = tt
     refused_kind (Err e) seen is = both_grown ∙ is
 
@@ -137,7 +137,7 @@ module _ (kinds : List (List ℕ)) (es : List (Spot × Claim)) (ps : List (ℕ �
           }
           by (Err x) is stays = subst (AreIdle more_kinds) (sym stays) idle_grown
 
-      pub board_ok : (seen : Lists) → shows kinds es rows ≡ seen → OnOk r (shows more_kinds es news ≡ record { claims = seen.claims; boards = put named_cmp seen.boards (record { name = row.name; kind = kind }) })
+      pub board_ok : (seen : QueueLists) → shows kinds es rows ≡ seen → OnOk r (shows more_kinds es news ≡ record { claims = seen.claims; boards = put named_cmp seen.boards (record { name = row.name; kind = kind }) })
       board_ok seen view = by r added
         where
           by : (o : Result A E) → OnOk o (news ≡ put idle_cmp rows row)
@@ -146,21 +146,21 @@ module _ (kinds : List (List ℕ)) (es : List (Spot × Claim)) (ps : List (ℕ �
               ap (shows more_kinds es) is
               ∙ ap (λ bs. record { claims = shown_claims more_kinds es; boards = bs }) (map_put row rows
               ∙ ap (λ k. put named_cmp (map (shown_idle more_kinds) rows) (record { name = row.name; kind = unwrap_or k [] })) queue.1)
-              ∙ ap (λ (l : Lists). record { claims = l.claims; boards = put named_cmp l.boards (record { name = row.name; kind = kind }) }) (both_grown ∙ view)
+              ∙ ap (λ (l : QueueLists). record { claims = l.claims; boards = put named_cmp l.boards (record { name = row.name; kind = kind }) }) (both_grown ∙ view)
           by (Err x) is = tt
 
-      pub board_err : (seen : Lists) → shows kinds es rows ≡ seen → OnErr r (shows more_kinds es news ≡ seen)
+      pub board_err : (seen : QueueLists) → shows kinds es rows ≡ seen → OnErr r (shows more_kinds es news ≡ seen)
       board_err seen view = by r stay
         where
           by : (o : Result A E) → OnErr o (news ≡ rows) → OnErr o (shows more_kinds es news ≡ seen)
           by (Ok x) is = tt
           by (Err x) is = ap (shows more_kinds es) is ∙ both_grown ∙ view
 
-    module _ (spot : Spot) (claim : Claim) (seen : Lists) (view : shows kinds es rows ≡ seen) (number : spot.number ≡ claim.number) (priority : spot.priority ≡ claim.priority)
+    module _ (spot : Spot) (claim : Claim) (seen : QueueLists) (view : shows kinds es rows ≡ seen) (number : spot.number ≡ claim.number) (priority : spot.priority ≡ claim.priority)
         (kind : Option (List ℕ)) (queue : (spot.queue ≤ length more_kinds) × (kind_at more_kinds spot.queue ≡ kind))
         (absent : AllByRecursion (λ (x : Queued). x.claim.number ≡ claim.number → ⊥) seen.claims) where
       absent_grown : AllByRecursion (λ (x : Queued). x.claim.number ≡ claim.number → ⊥) (shown_claims more_kinds es)
-      absent_grown = subst (AllByRecursion (λ (x : Queued). x.claim.number ≡ claim.number → ⊥)) (sym (shown_grown ∙ ap (λ (l : Lists). l.claims) view)) absent
+      absent_grown = subst (AllByRecursion (λ (x : Queued). x.claim.number ≡ claim.number → ⊥)) (sym (shown_grown ∙ ap (λ (l : QueueLists). l.claims) view)) absent
 
       pub no_claim_there : claim_at es spot ≡ None
       no_claim_there = no_claim more_kinds es ps grown spot claim number priority (queue.0) absent_grown
@@ -195,7 +195,7 @@ module _ (kinds : List (List ℕ)) (es : List (Spot × Claim)) (ps : List (ℕ �
                 ∙ ap (λ xs. put queued_cmp xs (record { claim = claim; kind = kind_at more_kinds spot.queue })) shown_grown
                 ∙ ap (λ k. put queued_cmp (shown_claims kinds es) (record { claim = claim; kind = k })) (queue.1))
                 ∙ ap (λ bs. record { claims = put queued_cmp (shown_claims kinds es) (record { claim = claim; kind = kind }); boards = bs }) boards_grown
-                ∙ ap (λ (l : Lists). record { claims = put queued_cmp l.claims (record { claim = claim; kind = kind }); boards = l.boards }) view
+                ∙ ap (λ (l : QueueLists). record { claims = put queued_cmp l.claims (record { claim = claim; kind = kind }); boards = l.boards }) view
             by (Err x) a b c = tt
 
         pub put_err : OnErr r (shows more_kinds fs rows ≡ seen)

@@ -11,7 +11,7 @@ use Rattle.std.proofs.lemmas.Cmp.{tied_itself}
 use Rattle.farm_types.specs.Pick.{IsAmong, shown_cmp}
 use Rattle.farm_types.specs.declared.claims.Claim.{Claim}
 use Rattle.farm_pick.specs.Kept.{spot_cmp, claim_at, IsKeyed}
-use Rattle.farm_pick.specs.Heads.{IsHead, IsFirst, rank_cmp}
+use Rattle.farm_pick.specs.Heads.{IsFirstBehind, IsFirst, rank_cmp}
 use Rattle.farm_pick.specs.declared.spot.Spot.{Spot}
 use Rattle.farm_pick.proofs.Keeping.{tied}
 
@@ -83,7 +83,7 @@ module _ (kinds : List (List ℕ)) (es : List (Spot × Claim)) (keyed : AllByRec
 
   -- the head of one queue, where no other passes
   module _ (m : ℕ) (low : n < m) (alone : (q : ℕ) → test q ≡ true → q ≡ n) where
-    pub first_alone : (h : Option Claim) → test n ≡ true → IsHead es here h → IsFirst es test m last h
+    pub first_alone : (h : Option Claim) → test n ≡ true → IsFirstBehind es here h → IsFirst es test m last h
     first_alone None open_here g = λ t below is after. g t (alone t.queue is) (comes_here t (alone t.queue is) after)
     first_alone (Some b) open_here g = (
       g.0,

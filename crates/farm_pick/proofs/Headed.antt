@@ -7,9 +7,9 @@ use Rattle.farm_types.specs.declared.claims.Claim.{Claim}
 use Rattle.farm_sound.proofs.Own.{differs_more, itself}
 use Rattle.farm_sound.proofs.Tests.{both, same_number}
 use Rattle.farm_sound.proofs.Where.{AllByRecursion-map}
-use Rattle.farm_pick.specs.Queued.{AreKindsOf, Lists, Queued, head_of, is_open, same_kind}
+use Rattle.farm_pick.specs.Queued.{AreKindsOf, QueueLists, Queued, head_of, is_open, same_kind}
 use Rattle.farm_pick.specs.Kept.{IsKeyed, IsWell, kind_at, queued_cmp, shown_claims, shown_entry, shown_idle}
-use Rattle.farm_pick.specs.Heads.{AreHeads, IsHead, head_in, heads_from, is_later, queue_open}
+use Rattle.farm_pick.specs.Heads.{AreHeads, IsFirstBehind, head_in, heads_from, is_later, queue_open}
 use Rattle.farm_pick.specs.declared.idle.IdleRow.{IdleRow}
 use Rattle.farm_pick.specs.declared.spot.Place.{Place}
 use Rattle.farm_pick.specs.declared.spot.Spot.{Spot}
@@ -37,7 +37,7 @@ module _ (kinds : List (List ℕ)) (es : List (Spot × Claim)) (rows : List Idle
   alone : (q : ℕ) → looked_at q ≡ true → q ≡ last.queue
   alone q is = same_number q last.queue (both (all || queue_open rows q) (q == last.queue) is).1
 
-  pub head_seen : (o : Option Claim) → (all || queue_open rows last.queue) ≡ true → IsHead es last o → o ≡ head_in kinds es rows all last
+  pub head_seen : (o : Option Claim) → (all || queue_open rows last.queue) ≡ true → IsFirstBehind es last o → o ≡ head_in kinds es rows all last
   head_seen o is head =
       first_shown kinds es are.keyed are.apart last looked_at opens same_test o
       (first_alone kinds es are.keyed looked_at last last.queue (length kinds + 1) (omega arith) alone o
@@ -117,12 +117,12 @@ heads_well kinds es ps rows well ks kinds_are rs rows_are =
     subst (λ k. AreHeads k es rs) (sym kinds_are) (subst (λ xs. AreHeads kinds es xs) (sym rows_are) (heads_of_well kinds es ps rows well))
 
 -- what the heads of queues show, as callers see it
-abbrev ShowsHeads : Lists → Bool → Spot → List Claim → Type 0
+abbrev ShowsHeads : QueueLists → Bool → Spot → List Claim → Type 0
 ShowsHeads seen all last heads =
     (kinds : List (Option (List ℕ))) × AreKindsOf seen.claims kinds
     × (heads ≡ filter_map (head_of (is_later last) (λ k. all || is_open seen.boards k) seen.claims) kinds)
 
-pub heads_seen : (kinds : List (List ℕ)) (es : List (Spot × Claim)) (ps : List (ℕ × Place)) (rows : List IdleRow) → IsWell kinds es ps rows → (all : Bool) (seen : Lists)
+pub heads_seen : (kinds : List (List ℕ)) (es : List (Spot × Claim)) (ps : List (ℕ × Place)) (rows : List IdleRow) → IsWell kinds es ps rows → (all : Bool) (seen : QueueLists)
     → record { claims = shown_claims kinds es; boards = map (shown_idle kinds) rows } ≡ seen → (r last : Spot) → r ≡ last → (ks : List (List ℕ)) → ks ≡ kinds
     → (rs : List IdleRow) → rs ≡ rows → (o : List Claim) → o ≡ heads_from ks es rs all r 0 → ShowsHeads seen all last o
 heads_seen kinds es ps rows well all seen view r last is ks kinds_are rs rows_are o heads =

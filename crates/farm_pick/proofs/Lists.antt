@@ -9,7 +9,7 @@ use Rattle.std.specs.declared.cmp.Ordering.{Ordering}
 use Rattle.std.specs.declared.cmp.Ordering.TheVariants.{Less}
 use Rattle.std.proofs.lemmas.Bool.{true≢false, cases_Bool}
 use Rattle.farm_types.specs.Table.{board_cmp}
-use Rattle.farm_types.specs.Pick.{IsAmong, AreAmong, meets, names_cmp, lists_of, least, IsLeast}
+use Rattle.farm_types.specs.Pick.{IsAmong, AreAmong, meets, names_cmp, board_lists, least, IsLeast}
 use Rattle.farm_types.specs.declared.rows.Want.{Want}
 use Rattle.farm_types.specs.declared.rows.BoardRow.{BoardRow}
 use Rattle.farm_pick.proofs.Places.{AreInNameOrder, board_cmp-self}
@@ -124,24 +124,24 @@ sorted_with ls (b ∷ boards) s ordered =
 -- ---- all lists of n of the boards
 
 module _ (boards : List BoardRow) where
-  listed : (n : ℕ) (bs : List BoardRow) → AreAmong boards bs → length bs ≡ n → IsAmong bs (lists_of n boards)
+  listed : (n : ℕ) (bs : List BoardRow) → AreAmong boards bs → length bs ≡ n → IsAmong bs (board_lists n boards)
   listed zero [] known e = inl refl
   listed zero (b ∷ bs) known e = absurd (omega arith)
   listed (suc n) [] known e = absurd (omega arith)
   listed (suc n) (b ∷ bs) known e =
       let fewer : length bs ≡ n = omega arith in
-      with_board b bs (lists_of n boards) boards known.0 (listed n bs known.1 fewer)
+      with_board b bs (board_lists n boards) boards known.0 (listed n bs known.1 fewer)
 
-  known_of : (n : ℕ) (bs : List BoardRow) → IsAmong bs (lists_of n boards) → AreAmong boards bs
+  known_of : (n : ℕ) (bs : List BoardRow) → IsAmong bs (board_lists n boards) → AreAmong boards bs
   known_of zero bs h = elim h [ inl same ↦ rw same tt | inr none ↦ absurd none ]
   known_of (suc n) bs h =
-      let part = parts_of (lists_of n boards) boards bs h in
+      let part = parts_of (board_lists n boards) boards bs h in
       rw part.is (part.known, known_of n part.others part.rest)
 
-  sorted_lists : AreInNameOrder boards → (n : ℕ) → IsStrictlySortedBy names_cmp (lists_of n boards)
+  sorted_lists : AreInNameOrder boards → (n : ℕ) → IsStrictlySortedBy names_cmp (board_lists n boards)
   unfolding IsStrictlySortedBy
   sorted_lists ordered zero = (tt, tt)
-  sorted_lists ordered (suc n) = sorted_with (lists_of n boards) boards (sorted_lists ordered n) ordered
+  sorted_lists ordered (suc n) = sorted_with (board_lists n boards) boards (sorted_lists ordered n) ordered
 
 -- ---- the first that passes
 
@@ -209,11 +209,11 @@ module _ (boards : List BoardRow) (test : BoardRow → Bool) (ws : List Want) (o
   abbrev pub IsAnswer : Option (List BoardRow) → Type 0
   IsAnswer r = MatchOption r ((bs : List BoardRow) → AreAmong boards bs → meets test ws bs ≡ true → ⊥) (IsLeast boards test ws)
 
-  found : (r : Option (List BoardRow)) → find (meets test ws) (lists_of (length ws) boards) ≡ r → IsAnswer r
+  found : (r : Option (List BoardRow)) → find (meets test ws) (board_lists (length ws) boards) ≡ r → IsAnswer r
   found None e = λ bs known m.
-      none_passes names_cmp names_total (meets test ws) (lists_of (length ws) boards) e bs (listed boards (length ws) bs known (length-meets test ws bs m)) m
+      none_passes names_cmp names_total (meets test ws) (board_lists (length ws) boards) e bs (listed boards (length ws) bs known (length-meets test ws bs m)) m
   found (Some bs) e =
-      let first = is_first names_cmp names_total (meets test ws) (lists_of (length ws) boards) bs (sorted_lists boards ordered (length ws)) e in
+      let first = is_first names_cmp names_total (meets test ws) (board_lists (length ws) boards) bs (sorted_lists boards ordered (length ws)) e in
       record {
         among = known_of boards (length ws) bs first.among;
         meeting = first.passes;
@@ -222,4 +222,4 @@ module _ (boards : List BoardRow) (test : BoardRow → Bool) (ws : List Want) (o
 
   pub least_answers : IsAnswer (least boards test ws)
   unfolding least
-  least_answers = found (find (meets test ws) (lists_of (length ws) boards)) refl
+  least_answers = found (find (meets test ws) (board_lists (length ws) boards)) refl

@@ -11,7 +11,7 @@ use Rattle.farm_types.specs.Sound.{EachTwo}
 use Rattle.farm_types.specs.declared.claims.Claim.{Claim}
 use Rattle.farm_sound.proofs.Queue.{put_all_permutes}
 use Rattle.farm_sound.proofs.Where.{AllByRecursion-map}
-use Rattle.farm_pick.specs.Queued.{Lists, Queued}
+use Rattle.farm_pick.specs.Queued.{QueueLists, Queued}
 use Rattle.farm_pick.specs.Kept.{IsWell, queued_cmp, shown_claims, shown_entry, shown_idle}
 use Rattle.farm_pick.specs.declared.idle.IdleRow.{IdleRow}
 use Rattle.farm_pick.specs.declared.spot.Place.{Place}
@@ -48,8 +48,8 @@ module _ (kinds : List (List ℕ)) (es : List (Spot × Claim)) (apart : EachTwo 
       (IsPermutation-sym (map (λ (e : Spot × Claim). e.1) es) (claims_of (shown_claims kinds es)) permuted) permutes) in_order
 
 -- as callers see them
-pub claims_seen : (kinds : List (List ℕ)) (es : List (Spot × Claim)) (ps : List (ℕ × Place)) (rows : List IdleRow) → IsWell kinds es ps rows → (seen : Lists)
+pub claims_seen : (kinds : List (List ℕ)) (es : List (Spot × Claim)) (ps : List (ℕ × Place)) (rows : List IdleRow) → IsWell kinds es ps rows → (seen : QueueLists)
     → record { claims = shown_claims kinds es; boards = map (shown_idle kinds) rows } ≡ seen → (sorted : List Claim) → IsPermutation (map (λ (e : Spot × Claim). e.1) es) sorted
     → IsSortedBy (λ a b. is_lt (shown_cmp a b)) sorted → sorted ≡ map (λ (x : Queued). x.claim) seen.claims
 claims_seen kinds es ps rows well seen view sorted permutes in_order =
-    sorted_claims kinds es well.queues.apart sorted permutes in_order ∙ ap (λ (l : Lists). claims_of l.claims) view
+    sorted_claims kinds es well.queues.apart sorted permutes in_order ∙ ap (λ (l : QueueLists). claims_of l.claims) view

@@ -15,10 +15,10 @@ use Rattle.farm_sound.proofs.Lists.{among_has}
 use Rattle.farm_sound.proofs.Tests.{both}
 use Rattle.farm_pick.specs.Heads.{is_later, rank_cmp, rank_of_claim}
 use Rattle.farm_pick.specs.Kept.{IsKeyed, IsWell, claim_at, queued_cmp, shown_claims, shown_entry, shown_idle, spot_cmp}
-use Rattle.farm_pick.specs.Queued.{Lists, Queued}
-use Rattle.farm_pick.specs.Several.{IsFirstSeveral, IsNext, is_several, ranked_cmp}
+use Rattle.farm_pick.specs.Queued.{QueueLists, Queued}
+use Rattle.farm_pick.specs.Several.{IsFirstSeveral, IsNextSpot, is_several, ranked_cmp}
 use Rattle.farm_pick.specs.declared.idle.IdleRow.{IdleRow}
-use Rattle.farm_pick.specs.declared.several.Rank.{Rank}
+use Rattle.farm_pick.specs.declared.multi_board.Rank.{Rank}
 use Rattle.farm_pick.specs.declared.spot.Place.{Place}
 use Rattle.farm_pick.specs.declared.spot.Spot.{Spot}
 use Rattle.farm_pick.proofs.First.{IsRanked, found_entry, ranked_at, shown_rank}
@@ -28,7 +28,7 @@ use Rattle.farm_pick.proofs.Shown.{IsSome-at, entry_of, find_first, find_none, l
 -- ---- the set of spots
 
 pub next_some : (s : BTreeSet Rank) (last : Spot) (k : Rank) (found more : List Rank)
-    → IsKeyRangeOf ranked_cmp (Excluded (record { spot = last })) Unbounded s found → found ≡ k ∷ more → IsNext s.keys last (Some k.spot)
+    → IsKeyRangeOf ranked_cmp (Excluded (record { spot = last })) Unbounded s found → found ≡ k ∷ more → IsNextSpot s.keys last (Some k.spot)
 next_some s last k found more range is =
     let from = subst (IsKeyRangeOf ranked_cmp (Excluded (record { spot = last })) Unbounded s) is range in
     (from.1.0.0, from.1.1, λ t less has. from.2 (record { spot = t }) (less, tt) has)
@@ -126,9 +126,9 @@ module _ (kinds : List (List ℕ)) (es : List (Spot × Claim)) (keyed : AllByRec
           ∙ ap (λ (y : Queued). queued_cmp y (shown_entry kinds e.0)) d.2 ∙ less)
 
 -- what a call of `first` finds, as callers see it
-pub several_seen : (kinds : List (List ℕ)) (es : List (Spot × Claim)) (ps : List (ℕ × Place)) (rows : List IdleRow) → IsWell kinds es ps rows → (seen : Lists)
+pub several_seen : (kinds : List (List ℕ)) (es : List (Spot × Claim)) (ps : List (ℕ × Place)) (rows : List IdleRow) → IsWell kinds es ps rows → (seen : QueueLists)
     → record { claims = shown_claims kinds es; boards = map (shown_idle kinds) rows } ≡ seen → (r last : Spot) → r ≡ last → (o : Option Claim) → IsFirstSeveral es r o
     → o ≡ option_map (λ (x : Queued). x.claim) (find (λ x. is_later last x.claim && nat_le 2 x.claim.boards) seen.claims)
 several_seen kinds es ps rows well seen view r last is o first =
     several_shown kinds es well.queues.keyed well.queues.apart last o (subst (λ l. IsFirstSeveral es l o) is first)
-    ∙ ap (λ (l : Lists). option_map (λ (x : Queued). x.claim) (find (λ x. is_later last x.claim && nat_le 2 x.claim.boards) l.claims)) view
+    ∙ ap (λ (l : QueueLists). option_map (λ (x : Queued). x.claim) (find (λ x. is_later last x.claim && nat_le 2 x.claim.boards) l.claims)) view

@@ -15,10 +15,10 @@ use Rattle.farm_pick.specs.Queued.{head_of, is_open}
 use Rattle.farm_pick.specs.declared.spot.Spot.{Spot}
 use Rattle.farm_pick.specs.declared.idle.IdleRow.{IdleRow}
 
-abbrev pub IsHead : List (Spot × Claim) → Spot → Option Claim → Type 0
-IsHead es last None = (t : Spot) → t.queue ≡ last.queue → spot_cmp last t ≡ Less
+abbrev pub IsFirstBehind : List (Spot × Claim) → Spot → Option Claim → Type 0
+IsFirstBehind es last None = (t : Spot) → t.queue ≡ last.queue → spot_cmp last t ≡ Less
     → claim_at es t ≡ None
-IsHead es last (Some c) =
+IsFirstBehind es last (Some c) =
     (s : Spot) × (s.queue ≡ last.queue) × (spot_cmp last s ≡ Less) × (claim_at es s ≡ Some c)
     × ((t : Spot) → t.queue ≡ last.queue → spot_cmp last t ≡ Less → IsSome (claim_at es t)
     → is_gt (spot_cmp s t) ≡ false)

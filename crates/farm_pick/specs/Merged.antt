@@ -12,7 +12,7 @@ use Rattle.farm_types.specs.declared.claims.Claim.{Claim}
 use Rattle.farm_types.specs.declared.rows.Want.{Want}
 use Rattle.farm_types.specs.Sound.{IsSound}
 use Rattle.farm_pick.specs.Heads.{earlier_of, is_later, last_spot}
-use Rattle.farm_pick.specs.Queued.{Lists, idle_boards, is_open, queue_kind}
+use Rattle.farm_pick.specs.Queued.{QueueLists, idle_boards, is_open, queue_kind}
 
 -- whether a claim comes after the one tried last, if one was
 abbrev pub comes_after : Option Claimed → Claimed → Bool
@@ -70,7 +70,7 @@ UnmetIsSkipped = (t : ℕ) (s : Served) (c : Claimed)
 -- ---- what the queues lend
 
 -- and that of two boards or more, of all queues
-abbrev pub lent_several : Lists → Option (ℕ × ℕ) → Option Claim
+abbrev pub lent_several : QueueLists → Option (ℕ × ℕ) → Option Claim
 lent_several lists after = option_map (λ x. x.claim)
     (find (λ x. is_later (last_spot after) x.claim && nat_le 2 x.claim.boards) lists.claims)
 

@@ -21,7 +21,7 @@ pub record IdleBoard : Type 0 where
   pub kind : List ℕ
 
 -- the two lists: the claims in the order of the queue, the boards in name order
-pub record Lists : Type 0 where
+pub record QueueLists : Type 0 where
   pub claims : List Queued
   pub boards : List IdleBoard
 
@@ -43,8 +43,8 @@ idle_board b = record { name = b.name; kind = b.kind }
 abbrev pub idle_boards : Farm → List IdleBoard
 idle_boards F = map idle_board (filter (is_free F.types) F.boards)
 
-abbrev pub lists_of : Farm → Lists
-lists_of F = record { claims = map queued_of (queue F); boards = idle_boards F }
+abbrev pub queue_lists : Farm → QueueLists
+queue_lists F = record { claims = map queued_of (queue F); boards = idle_boards F }
 
 -- a queue is open where a board of its type is free; that of the reservations where any board is
 abbrev pub is_open : List IdleBoard → Option (List ℕ) → Bool

@@ -9,7 +9,7 @@ use Rattle.farm_types.specs.declared.claims.Claim.{Claim}
 use Rattle.farm_pick.specs.Heads.{rank_cmp}
 use Rattle.farm_pick.specs.Kept.{IsWell, claim_at}
 use Rattle.farm_pick.specs.declared.idle.IdleRow.{IdleRow}
-use Rattle.farm_pick.specs.declared.several.Rank.{Rank}
+use Rattle.farm_pick.specs.declared.multi_board.Rank.{Rank}
 use Rattle.farm_pick.specs.declared.spot.Place.{Place}
 use Rattle.farm_pick.specs.declared.spot.Spot.{Spot}
 
@@ -34,9 +34,9 @@ abbrev pub AreSeveral : List (Spot × Claim) → List Rank → Type 0
 AreSeveral es ranks = (s : Spot) → has_spot ranks s ≡ is_several es s
 
 -- the first spot behind a spot
-abbrev pub IsNext : List Rank → Spot → Option Spot → Type 0
-IsNext ranks last None = (t : Spot) → spots_cmp last t ≡ Less → has_spot ranks t ≡ false
-IsNext ranks last (Some s) = (spots_cmp last s ≡ Less) × (has_spot ranks s ≡ true)
+abbrev pub IsNextSpot : List Rank → Spot → Option Spot → Type 0
+IsNextSpot ranks last None = (t : Spot) → spots_cmp last t ≡ Less → has_spot ranks t ≡ false
+IsNextSpot ranks last (Some s) = (spots_cmp last s ≡ Less) × (has_spot ranks s ≡ true)
     × ((t : Spot) → spots_cmp last t ≡ Less → has_spot ranks t ≡ true
     → is_gt (spots_cmp s t) ≡ false)
 
@@ -48,7 +48,7 @@ IsFirstSeveral es last (Some c) =
     × ((t : Spot) → rank_cmp last t ≡ Less → is_several es t ≡ true → rank_cmp t s ≡ Less → ⊥)
 
 -- how all is kept
-pub record IsKept (kinds : List (List ℕ)) (claims : List (Spot × Claim)) (places : List (ℕ × Place))
+pub record QueuesInvariant (kinds : List (List ℕ)) (claims : List (Spot × Claim)) (places : List (ℕ × Place))
     (ranks : List Rank) (idle : List IdleRow) : Type 0 where
   pub well : IsWell kinds claims places idle
   pub several : AreSeveral claims ranks

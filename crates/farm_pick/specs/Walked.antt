@@ -9,7 +9,7 @@ use Rattle.std.specs.Ordering.{is_gt, is_lt}
 use Rattle.std.specs.declared.cmp.Ordering.TheVariants.{Less}
 use Rattle.farm_types.specs.Pick.{shown_cmp}
 use Rattle.farm_types.specs.declared.claims.Claim.{Claim}
-use Rattle.farm_pick.specs.Heads.{AreHeads, IsHead, is_later, queue_open}
+use Rattle.farm_pick.specs.Heads.{AreHeads, IsFirstBehind, is_later, queue_open}
 use Rattle.farm_pick.specs.Kept.{claim_at, shown_claims, shown_idle, spot_cmp}
 use Rattle.farm_pick.specs.Queued.{Queued, is_open}
 use Rattle.farm_pick.specs.declared.idle.IdleRow.{IdleRow}
@@ -43,12 +43,12 @@ pub record IsAt (es : List (Spot × Claim)) (last : Spot) (x : Cursor) : Type 0 
 
 -- where a walk stands in the queue of a spot, after the spot
 abbrev pub StandsIn : List (Spot × Claim) → Spot → Option Cursor → Type 0
-StandsIn es last None = IsHead es last None
+StandsIn es last None = IsFirstBehind es last None
 StandsIn es last (Some x) = IsAt es last x
 
 -- and in a queue that may be closed
 abbrev pub IsCursor : List (Spot × Claim) → (ℕ → Bool) → Spot → Option Cursor → Type 0
-IsCursor es test last None = test last.queue ≡ true → IsHead es last None
+IsCursor es test last None = test last.queue ≡ true → IsFirstBehind es last None
 IsCursor es test last (Some x) = (test last.queue ≡ true) × IsAt es last x
 
 -- where it stands in each of the first n queues, after a spot

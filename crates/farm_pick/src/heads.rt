@@ -3,9 +3,9 @@ ghost use Rattle.std.specs.Prelude.{◌≡◌};
 ghost use Rattle.std.specs.Iterator.{YieldsFirstRef, item_count};
 ghost use Rattle.farm_pick.specs.Heads.{AreHeads, heads_from};
 
+use crate::claim_index;
 use crate::idle::IdleRow;
 use crate::spot::Spot;
-use crate::waiting;
 use farm_types::{Claim, Name};
 use std::collections::{BTreeMap, VecDeque};
 use std::marker::Model;
@@ -75,7 +75,7 @@ impl<'a> Iterator for Heads<'a> {
                 ..self.last
             };
             self.queue += 1;
-            if let Some(claim) = waiting::seen_head(
+            if let Some(claim) = claim_index::seen_head(
                 self.kinds,
                 self.claims,
                 self.idle,

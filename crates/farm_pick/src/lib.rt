@@ -9,6 +9,7 @@
 
 mod candidates;
 mod choose;
+mod claim_index;
 mod fit;
 mod free;
 mod heads;
@@ -16,14 +17,13 @@ mod idle;
 mod idle_search;
 mod kind;
 mod laws;
+mod multi_board;
 mod order;
 mod picked;
 mod queue;
 mod queues;
 mod search;
-mod several;
 mod spot;
-mod waiting;
 mod walk;
 
 // The least list: which boards are given to a claim.

@@ -17,11 +17,11 @@ ghost use Rattle.farm_pick.specs.Kept.{queued_cmp, named_cmp};
 
 use crate::heads::Heads;
 use crate::idle::{self, IdleRow};
+use crate::multi_board::{self, Rank};
 use crate::picked::Picked;
-use crate::several::{self, Rank};
 use crate::spot::{self, Place, Spot};
 use crate::walk::Walk;
-use crate::{idle_search, kind, waiting};
+use crate::{claim_index, idle_search, kind};
 use farm_types::{BoardRow, Claim, Name, Priority, TypeRow, Want, Wants};
 use std::alloc::{AllocError, Global};
 use std::collections::{BTreeMap, BTreeSet, VecDeque};
@@ -55,18 +55,18 @@ pub struct Queues {
 
 impl Model for Queues {
     ghost use Rattle.std.specs.Prelude.{map};
-    ghost use Rattle.farm_pick.specs.Queued.{Lists};
+    ghost use Rattle.farm_pick.specs.Queued.{QueueLists};
     ghost use Rattle.farm_pick.specs.Kept.{shown_claims, shown_idle};
-    ghost use Rattle.farm_pick.specs.Several.{IsKept};
+    ghost use Rattle.farm_pick.specs.Several.{QueuesInvariant};
 
-    ghost Value = { Lists };
+    ghost Value = { QueueLists };
 
     ghost view = { λ q. record {
       claims = shown_claims q.kinds.items q.claims.entries;
       boards = map (shown_idle q.kinds.items) q.idle.items;
     } };
 
-    ghost invariant = { λ q. IsKept q.kinds.items q.claims.entries q.places.entries q.several.keys
+    ghost invariant = { λ q. QueuesInvariant q.kinds.items q.claims.entries q.places.entries q.several.keys
         q.idle.items };
 }
 
@@ -102,7 +102,7 @@ impl Queues {
             priority: claim.priority.get(),
             number: claim.number,
         };
-        several::put(
+        multi_board::put(
             &mut self.claims,
             &mut self.places,
             &mut self.several,
@@ -121,7 +121,7 @@ impl Queues {
                   self.old.claims;
             } }
     {
-        several::take(
+        multi_board::take(
             &mut self.claims,
             &mut self.places,
             &mut self.several,
@@ -171,7 +171,7 @@ impl Queues {
     pub fn claims(&self) -> Result<Vec<Claim>, AllocError>
         ensures { IfOk result (λ claims. claims.items ≡ map (λ x. x.claim) self.now.claims) }
     {
-        let claims = waiting::in_order(*self.kinds.allocator(), &self.claims)?;
+        let claims = claim_index::in_order(*self.kinds.allocator(), &self.claims)?;
         Ok(claims)
     }
 
@@ -213,7 +213,7 @@ impl Queues {
             (find (λ x. is_later (last_spot after) x.claim && nat_le 2 x.claim.boards)
             self.now.claims) }
     {
-        several::first(&self.claims, &self.several, spot::last_spot(after))
+        multi_board::first(&self.claims, &self.several, spot::last_spot(after))
     }
 
     /// The places of the least list of boards that meets the wants, out of the free boards that are

@@ -5,10 +5,10 @@ ghost use Rattle.farm_pick.specs.Heads.{AreHeads, queue_open};
 ghost use Rattle.farm_pick.specs.Walked.{AreCursors, IsCursor, IsLeastOf, StandsIn, StepsTo};
 ghost use Rattle.farm_pick.specs.Walked.{earlier_place, walk_from};
 
+use crate::claim_index;
 use crate::idle::IdleRow;
 use crate::order::before;
 use crate::spot::Spot;
-use crate::waiting;
 use farm_types::{Claim, Name};
 use std::alloc::{AllocError, Global};
 use std::collections::btree_map::Range;
@@ -61,7 +61,7 @@ fn seen_cursor<'a>(
 ) -> Option<Cursor<'a>>
     ensures { IsCursor claims.now.entries (λ q. all || queue_open rows.now.items q) last result }
 {
-    if waiting::is_seen(rows, last.queue, all) {
+    if claim_index::is_seen(rows, last.queue, all) {
         cursor_after(claims, last)
     } else {
         None

@@ -6,7 +6,7 @@ use Rattle.std.specs.Option.{option_map, option_map_or}
 use Rattle.std.specs.Str.{bytes_eq}
 use Rattle.farm_types.specs.Farm.{Farm, job_of}
 use Rattle.farm_types.specs.Pass.{change_jobs, held_board, is_job_so}
-use Rattle.farm_types.specs.Sound.{IsBoardRow, IsHeldByKeys, IsJobRow, IsSound, IsCollecting, IsSteady, IsWhole, hold_of, job_hold, shown_hold}
+use Rattle.farm_types.specs.Sound.{IsBoardRow, IsHeldByKeys, IsJobRow, IsSound, IsCollecting, IsSteady, AreGroupsInPhase, hold_of, job_hold, shown_hold}
 use Rattle.farm_types.specs.Table.{change_where}
 use Rattle.farm_types.specs.declared.rows.BoardRow.{BoardRow}
 use Rattle.farm_types.specs.declared.rows.Holder.{Holder}
@@ -117,7 +117,7 @@ module _ (F : Farm) (test : JobRow → Bool) (f : JobRow → JobRow) (g : BoardR
       }) refl held_board
 
   -- the collector may become another, or none
-  pub IsSound-change_jobs : (c : ℕ) → ChangesJobs → IsWhole (change_jobs test f g F) → IsCollecting c (change_where test f F.jobs) → IsSound F
+  pub IsSound-change_jobs : (c : ℕ) → ChangesJobs → AreGroupsInPhase (change_jobs test f g F) → IsCollecting c (change_where test f F.jobs) → IsSound F
       → IsSound (record (change_jobs test f g F) { collector = c })
   IsSound-change_jobs c ch whole collecting sound = record {
     steady = IsSteady-collector (change_jobs test f g F) c (IsSteady-change_jobs ch sound.steady);

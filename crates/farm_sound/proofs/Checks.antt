@@ -38,7 +38,7 @@ use Rattle.farm_sound.proofs.Mapped.{IsSteady-mapped, same_job}
 use Rattle.farm_sound.proofs.Own.{fresh_job, fresh_res, itself, only_board, own_board}
 use Rattle.farm_sound.proofs.Tests.{both, nobody_from, same_number}
 use Rattle.farm_sound.proofs.Where.{AllByRecursion-both, all_true, by_cases, map_id}
-use Rattle.farm_sound.proofs.Whole.{IsWhole-add}
+use Rattle.farm_sound.proofs.Whole.{AreGroupsInPhase-add}
 
 -- ---- one check
 
@@ -137,7 +137,7 @@ module _ (F : Farm) (b : BoardRow) (free : IsFreeBoard F b) (sound : IsSound F) 
           rows = refl;
         })
         sound.held;
-    whole = IsWhole-add F row (AllByRecursion-weaker (λ m is same. absurd (omega (arith, is.number.1, is.group.0, same))) F.jobs sound.steady.jobs) sound.whole;
+    whole = AreGroupsInPhase-add F row (AllByRecursion-weaker (λ m is same. absurd (omega (arith, is.number.1, is.group.0, same))) F.jobs sound.steady.jobs) sound.whole;
     collecting = IsCollecting-add F row sound.steady refl (λ e. cc)
         (λ low same. absurd (next_collects_not F sound.steady sound.collecting low same)) sound.collecting;
   }

@@ -28,7 +28,7 @@ use Rattle.farm_sound.proofs.Own.{differs_more, itself, own_board, own_job}
 use Rattle.farm_sound.proofs.Tests.{both, nobody_from, same_number}
 use Rattle.farm_sound.proofs.Unmet.{IsUnmet, IsUnmet-shrinks, Shrinks, fold_shrinks}
 use Rattle.farm_sound.proofs.Where.{AllByRecursion-both, AllByRecursion-map, count_map, find_map}
-use Rattle.farm_sound.proofs.Whole.{Alike, IsWhole-map_by}
+use Rattle.farm_sound.proofs.Whole.{Alike, AreGroupsInPhase-map_by}
 
 -- ---- the boards that are taken
 
@@ -217,7 +217,7 @@ module _ (F : Farm) (j : JobRow) (sound : IsSound F) (none : F.collector ≡ 0) 
       record {
         steady = IsSteady-collector (fold collect_member F (members F group)) group both_held.0;
         held = IsHeldByKeys-collector (fold collect_member F (members F group)) group both_held.1;
-        whole = subst (λ l. AllByRecursion (λ j. AllByRecursion (Alike j) l) l) (sym jobs_collected) (IsWhole-map_by F Part after parts alike_after sound.whole);
+        whole = subst (λ l. AllByRecursion (λ j. AllByRecursion (Alike j) l) l) (sym jobs_collected) (AreGroupsInPhase-map_by F Part after parts alike_after sound.whole);
         collecting = subst (IsCollecting group) (sym jobs_collected) collecting_after;
       }
 

@@ -20,7 +20,7 @@ use Rattle.farm_sound.proofs.Own.{only_job}
 use Rattle.farm_sound.proofs.Rows.{hold_nothing, job_row_in, left_off}
 use Rattle.farm_sound.proofs.Tests.{same_number}
 use Rattle.farm_sound.proofs.Where.{all_true, by_cases}
-use Rattle.farm_sound.proofs.Whole.{Alike, IsWhole-map_by}
+use Rattle.farm_sound.proofs.Whole.{Alike, AreGroupsInPhase-map_by}
 
 -- ---- the board afterwards
 
@@ -122,7 +122,7 @@ module _ (F : Farm) (n : ℕ) (j : JobRow) (named : Outcome) (there : job_of F n
         none = λ m so p is. hold_nothing (Holder.Job m.number) m.board;
         left = λ m b so p is. left_off (Holder.Job m.number) m.board (freed_board (after b)) refl refl;
       })
-      (IsWhole-map_by F (λ m. m.number ≡ j.number → m ≡ j) (λ m. cond (m.number == j.number) (over m) m) only alike_over sound.whole)
+      (AreGroupsInPhase-map_by F (λ m. m.number ≡ j.number → m ≡ j) (λ m. cond (m.number == j.number) (over m) m) only alike_over sound.whole)
       (IsCollecting-map F.collector (λ m. m.number ≡ j.number → m ≡ j) (λ m. cond (m.number == j.number) (over m) m) F.jobs only
       (λ m. by_cases (λ (k : JobRow). k.group ≡ m.group) (m.number == j.number) (over m) m (λ _. refl) (λ _. refl))
       (λ m p. by_cases (λ (k : JobRow). k.state ≡ JobState.Scheduling → m.state ≡ JobState.Scheduling) (m.number == j.number) (over m) m (λ _ e. cc) (λ _ e. e))

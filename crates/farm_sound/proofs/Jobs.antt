@@ -20,7 +20,7 @@ use Rattle.farm_sound.proofs.Own.{itself}
 use Rattle.farm_sound.proofs.Rows.{board_row_in, hold_none, hold_nothing, job_row_at, job_row_in, left_off, left_on, left_same, still_none}
 use Rattle.farm_sound.proofs.Tests.{both, running_from, same_number, scheduling_from}
 use Rattle.farm_sound.proofs.Where.{AllByRecursion-map, all_true, by_cases}
-use Rattle.farm_sound.proofs.Whole.{Alike, Alike-kept, Alike-where, IsWhole-map}
+use Rattle.farm_sound.proofs.Whole.{Alike, Alike-kept, Alike-where, AreGroupsInPhase-map}
 
 scheduled_at : (s : JobState) → phase s ≡ 1 → s ≡ JobState.Scheduled
 scheduled_at JobState.Submitted is = absurd (omega arith)
@@ -66,7 +66,7 @@ IsSound-start F n j there ready sound =
           left_on (Holder.Job m.number) m.board State.Reserved State.Running b
           (subst (λ x. hold (Holder.Job m.number) m.board (job_gives x) ≡ Some (shown_hold b)) s is);
     })
-    (IsWhole-map F (change_where test f F.jobs) (λ m. cond (test m) (f m) m) refl
+    (AreGroupsInPhase-map F (change_where test f F.jobs) (λ m. cond (test m) (f m) m) refl
     (Alike-where test f (λ m. refl) (λ m k so same. refl) (λ m k same _. ap (λ g. g == j.group) same)) sound.whole)
     (IsCollecting-map F.collector P (λ m. cond (test m) (f m) m) F.jobs
     (AllByRecursion-weaker (λ m is same. scheduled_at m.state (is same ∙ ap phase ready)) F.jobs alike)
@@ -149,7 +149,7 @@ cancel_unstarted F group sound =
       none = λ m so p is. hold_nothing (Holder.Job m.number) m.board;
       left = λ m b so p is. left_off (Holder.Job m.number) m.board (freed_board b) refl refl;
     })
-    (IsWhole-map F (change_where test f F.jobs) (λ m. cond (test m) (f m) m) refl
+    (AreGroupsInPhase-map F (change_where test f F.jobs) (λ m. cond (test m) (f m) m) refl
     (Alike-where test f (λ m. refl) (λ m k so same. refl)
     (λ m k same phased. (λ i. (same i == group) && is_unstarted k)
     ∙ ap (λ v. (m.group == group) && v) (unstarted_phase k.state ∙ ap (λ p. nat_lt p 2) phased ∙ sym (unstarted_phase m.state)))) sound.whole)
@@ -179,7 +179,7 @@ cancel_running F group sound =
       left = λ m b so p is. left_same (hold (Holder.Job m.number) m.board (Some State.Running)) b
           (subst (λ x. hold (Holder.Job m.number) m.board (job_gives x) ≡ Some (shown_hold b)) (running m so) is);
     })
-    (IsWhole-map F (change_where test f F.jobs) (λ m. cond (test m) (f m) m) refl
+    (AreGroupsInPhase-map F (change_where test f F.jobs) (λ m. cond (test m) (f m) m) refl
     (Alike-kept test f (λ m. refl) (λ m so. ap phase (sym (running m so)))) sound.whole)
     (IsCollecting-map F.collector (λ m. Unit {0}) (λ m. cond (test m) (f m) m) F.jobs (all_true F.jobs)
     (λ m. by_cases (λ (k : JobRow). k.group ≡ m.group) (test m) (f m) m (λ _. refl) (λ _. refl))
@@ -214,7 +214,7 @@ IsSound-back F sound =
       none = λ m so p is. refl;
       left = λ m b so p is. left_off (Holder.Job m.number) None (freed_board b) refl refl;
     })
-    (IsWhole-map F (change_where test unplaced_job F.jobs) (λ m. cond (test m) (unplaced_job m) m) refl
+    (AreGroupsInPhase-map F (change_where test unplaced_job F.jobs) (λ m. cond (test m) (unplaced_job m) m) refl
     (Alike-kept test unplaced_job (λ m. refl) (λ m so. ap phase (sym (scheduling m so)))) sound.whole)
     (none_collects (change_where test unplaced_job F.jobs)
     (AllByRecursion-map (λ j. j.state ≡ JobState.Scheduling → (1 ≤ F.collector) × (j.group ≡ F.collector)) (λ j. j.state ≡ JobState.Scheduling → ⊥)

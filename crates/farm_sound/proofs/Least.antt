@@ -8,7 +8,7 @@ use Rattle.std.specs.List.Sorted.{IsStrictlySortedBy}
 use Rattle.std.specs.Ordering.{is_lt, ordering_reverse}
 use Rattle.std.specs.declared.cmp.Ordering.TheVariants.{Less}
 use Rattle.std.proofs.lemmas.Cmp.{tied_itself}
-use Rattle.farm_types.specs.Pick.{IsAmong, AreAmong, IsLeast, are_apart, fits, least, lists_of, meets, names_cmp}
+use Rattle.farm_types.specs.Pick.{IsAmong, AreAmong, IsLeast, are_apart, fits, least, board_lists, meets, names_cmp}
 use Rattle.farm_types.specs.Table.{board_cmp}
 use Rattle.farm_types.specs.declared.rows.BoardRow.{BoardRow}
 use Rattle.farm_types.specs.declared.rows.Want.{Want}
@@ -40,13 +40,13 @@ among_flat f x z (y ∷ ys) (inl same) here = among_left z (f y) (flat_map f ys)
 among_flat f x z (y ∷ ys) (inr at) here = among_right z (f y) (flat_map f ys) (among_flat f x z ys at here)
 
 -- each list of so many of the boards is one of the lists
-pub among_lists : (boards : List BoardRow) (n : ℕ) (cs : List BoardRow) → length cs ≡ n → AllByRecursion (λ c. IsAmong c boards) cs → IsAmong cs (lists_of n boards)
+pub among_lists : (boards : List BoardRow) (n : ℕ) (cs : List BoardRow) → length cs ≡ n → AllByRecursion (λ c. IsAmong c boards) cs → IsAmong cs (board_lists n boards)
 among_lists boards zero [] long all = inl refl
 among_lists boards zero (c ∷ cs) long all = absurd (omega arith)
 among_lists boards (suc n) [] long all = absurd (omega arith)
 among_lists boards (suc n) (c ∷ cs) long all =
-    among_flat (λ b. map (λ bs. b ∷ bs) (lists_of n boards)) c (c ∷ cs) boards all.0
-    (among_map (λ bs. c ∷ bs) cs (lists_of n boards) (among_lists boards n cs (omega arith) all.1))
+    among_flat (λ b. map (λ bs. b ∷ bs) (board_lists n boards)) c (c ∷ cs) boards all.0
+    (among_map (λ bs. c ∷ bs) cs (board_lists n boards) (among_lists boards n cs (omega arith) all.1))
 
 module _ {A : Type 0} (cmp : A → A → Ordering) (total : IsTotalOrder cmp) where
   -- the first that passes is the least that passes
@@ -112,10 +112,10 @@ flat_sorted rest sorted (b ∷ boards) bs =
     (λ c less. all_map (λ y. names_cmp (b ∷ xs) y ≡ Less) (λ bs. c ∷ bs) rest (λ cs. rw less))))
 
 -- all lists of so many boards in name order are in order
-pub lists_sorted : (boards : List BoardRow) → IsStrictlySortedBy board_cmp boards → (n : ℕ) → IsStrictlySortedBy names_cmp (lists_of n boards)
+pub lists_sorted : (boards : List BoardRow) → IsStrictlySortedBy board_cmp boards → (n : ℕ) → IsStrictlySortedBy names_cmp (board_lists n boards)
 unfolding IsStrictlySortedBy
 lists_sorted boards sorted zero = (tt, tt)
-lists_sorted boards sorted (suc n) = flat_sorted (lists_of n boards) (lists_sorted boards sorted n) boards sorted
+lists_sorted boards sorted (suc n) = flat_sorted (board_lists n boards) (lists_sorted boards sorted n) boards sorted
 
 long_as_wants : (test : BoardRow → Bool) (wants : List Want) (cs : List BoardRow) → meets test wants cs ≡ true → length cs ≡ length wants
 long_as_wants test wants cs is =
@@ -127,7 +127,7 @@ pub least_is_least : (boards : List BoardRow) (test : BoardRow → Bool) (wants 
     → is_lt (names_cmp cs bs) ≡ false
 unfolding least
 least_is_least boards test wants bs cs sorted found among meeting =
-    first_is_least names_cmp (lists_total board_total) (meets test wants) bs cs (lists_of (length wants) boards)
+    first_is_least names_cmp (lists_total board_total) (meets test wants) bs cs (board_lists (length wants) boards)
     (lists_sorted boards sorted (length wants)) found
     (among_lists boards (length wants) cs (long_as_wants test wants cs meeting) among) meeting
 
@@ -145,7 +145,7 @@ pub none_meets : (boards : List BoardRow) (test : BoardRow → Bool) (wants : Li
     → AllByRecursion (λ c. IsAmong c boards) cs → meets test wants cs ≡ true → ⊥
 unfolding least
 none_meets boards test wants cs none among meeting =
-    none_found (meets test wants) cs (lists_of (length wants) boards) none
+    none_found (meets test wants) cs (board_lists (length wants) boards) none
     (among_lists boards (length wants) cs (long_as_wants test wants cs meeting) among) meeting
 
 all_self : {A : Type 0} (xs : List A) → AllByRecursion (λ x. IsAmong x xs) xs
@@ -157,18 +157,18 @@ all_map_from : {A B : Type 0} (Q : A → Type 0) (P : B → Type 0) (f : A → B
 all_map_from Q P f each [] all = tt
 all_map_from Q P f each (x ∷ xs) all = (each x all.0, all_map_from Q P f each xs all.1)
 
-lists_among : (boards : List BoardRow) (n : ℕ) → AllByRecursion (AreAmong boards) (lists_of n boards)
+lists_among : (boards : List BoardRow) (n : ℕ) → AllByRecursion (AreAmong boards) (board_lists n boards)
 lists_among boards zero = (tt, tt)
 lists_among boards (suc n) =
-    all_flat (AreAmong boards) (λ b. IsAmong b boards) (λ b. map (λ bs. b ∷ bs) (lists_of n boards)) boards (all_self boards)
-    (λ b at. all_map_from (AreAmong boards) (AreAmong boards) (λ bs. b ∷ bs) (λ bs all. (at, all)) (lists_of n boards) (lists_among boards n))
+    all_flat (AreAmong boards) (λ b. IsAmong b boards) (λ b. map (λ bs. b ∷ bs) (board_lists n boards)) boards (all_self boards)
+    (λ b at. all_map_from (AreAmong boards) (AreAmong boards) (λ bs. b ∷ bs) (λ bs all. (at, all)) (board_lists n boards) (lists_among boards n))
 
 -- what is found is the least list
 pub IsLeast-least : (boards : List BoardRow) (test : BoardRow → Bool) (wants : List Want) (bs : List BoardRow) → IsStrictlySortedBy board_cmp boards
     → least boards test wants ≡ Some bs → IsLeast boards test wants bs
 unfolding least
 IsLeast-least boards test wants bs sorted found = record {
-  among = found_has (AreAmong boards) (meets test wants) bs (lists_of (length wants) boards) (lists_among boards (length wants)) found;
-  meeting = found_passes (meets test wants) bs (lists_of (length wants) boards) found;
+  among = found_has (AreAmong boards) (meets test wants) bs (board_lists (length wants) boards) (lists_among boards (length wants)) found;
+  meeting = found_passes (meets test wants) bs (board_lists (length wants) boards) found;
   least = λ cs among meeting. least_is_least boards test wants bs cs sorted found among meeting;
 }

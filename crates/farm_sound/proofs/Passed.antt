@@ -18,7 +18,7 @@ use Rattle.farm_types.specs.declared.rows.ResRow.{ResRow}
 use Rattle.farm_types.specs.declared.rows.State.{State}
 use Rattle.farm_types.specs.declared.rows.Want.{Want}
 use Rattle.farm_types.proofs.Put.{AllByRecursion-weaker, found_has}
-use Rattle.farm_sound.specs.Served.{IsServed, IsShort}
+use Rattle.farm_sound.specs.Served.{IsServed, IsCollectorUnmet}
 use Rattle.farm_sound.proofs.Checks.{IsSound-checks, check_clock}
 use Rattle.farm_sound.proofs.Claims.{IsClaim, IsGroupClaim, IsOpen, IsResClaim, all_claims, leads}
 use Rattle.farm_sound.proofs.Free.{free_boards}
@@ -29,7 +29,7 @@ use Rattle.farm_sound.proofs.Lists.{among_append, filter_back}
 use Rattle.farm_sound.proofs.Own.{itself}
 use Rattle.farm_sound.proofs.Queue.{among_queue}
 use Rattle.farm_sound.proofs.Reservations.{IsSound-expire}
-use Rattle.farm_sound.proofs.Short.{IsShort-give, IsShort-pass_over}
+use Rattle.farm_sound.proofs.Short.{IsCollectorUnmet-give, IsCollectorUnmet-pass_over}
 use Rattle.farm_sound.proofs.Serve.{AreApartClaims, IsOpen-give, IsOver, IsSound-give, as_many, filter_given, give_clock, over, res_kept, taken_apart, taken_open}
 use Rattle.farm_sound.proofs.Tests.{same_number, waiting_from}
 use Rattle.farm_sound.proofs.Unmet.{IsUnmet, IsUnmet-give}
@@ -170,12 +170,12 @@ record IsServing (t : ℕ) (cs : List Claimed) (F : Farm) : Type 0 where
   pub coming : AllByRecursion (IsOpen F) cs
   pub low : t ≤ F.clock
   pub sound : IsSound F
-  pub short : IsShort F
+  pub short : IsCollectorUnmet F
   pub left : (d : Claimed) → IsClaim F d → IsLeft F cs d
 
 pub record IsAllServed (H : Farm) : Type 0 where
   pub sound : IsSound H
-  pub short : IsShort H
+  pub short : IsCollectorUnmet H
   pub unmet : (d : Claimed) → IsClaim H d → IsUnmet H d.wants
 
 served : (t : ℕ) (cs : List Claimed) (s : Served) → IsServing t cs s.farm → IsAllServed (fold (serve t) s cs).farm
@@ -190,7 +190,7 @@ served t (c ∷ cs) s is =
           (AllByRecursion-both (IsOpen s.farm) (λ d. c ≡ d → ⊥) cs is.coming.1 is.apart.0);
       low = (let l = is.low in let k = after.clock in omega arith);
       sound = after.sound;
-      short = IsShort-pass_over s.farm c is.coming.0 is.sound none after.sound is.short;
+      short = IsCollectorUnmet-pass_over s.farm c is.coming.0 is.sound none after.sound is.short;
       left = λ d claim. left_unserved s.farm (pass_over s.farm c) c d cs after.unmet none (is.left d (after.was d claim));
     }))
     (λ bs found.
@@ -201,7 +201,7 @@ served t (c ∷ cs) s is =
           (AllByRecursion-both (IsOpen s.farm) (λ d. c ≡ d → ⊥) cs is.coming.1 is.apart.0);
       low = (let l = is.low in omega (arith, give_clock s.farm c bs t));
       sound = sound;
-      short = IsShort-give s.farm c bs t is.coming.0 found is.sound sound is.short;
+      short = IsCollectorUnmet-give s.farm c bs t is.coming.0 found is.sound sound is.short;
       left = λ d claim. let old = IsOld-give s.farm c d bs t is.coming.0 found is.sound claim in left_served s.farm c d cs bs t sound old.1 (is.left d old.0);
     }))
   where
@@ -271,7 +271,7 @@ pub IsSound-pass : (F : Farm) → IsSound F → IsSound (serve_all (checks (expi
 IsSound-pass F sound = (pass_leaves F sound).sound
 
 -- the group that collects after a pass isn't met by the free boards and its own together
-pub pass_is_short : (F : Farm) → IsSound F → IsShort (serve_all (checks (expire (giving_back F) F.clock) F.clock) F.collector F.clock).farm
+pub pass_is_short : (F : Farm) → IsSound F → IsCollectorUnmet (serve_all (checks (expire (giving_back F) F.clock) F.clock) F.collector F.clock).farm
 pass_is_short F sound = (pass_leaves F sound).short
 
 -- no claim of the farm after a pass is met by boards free in it

@@ -10,7 +10,7 @@ use Rattle.farm_types.specs.declared.calls.Call.{Call}
 use Rattle.farm_types.specs.declared.calls.Cmd.{Cmd}
 use Rattle.farm_types.specs.declared.rows.KeptRow.{KeptRow}
 use Rattle.farm_types.specs.declared.rows.Reply.{Reply}
-use Rattle.farm_sound.specs.Served.{IsServed, IsShort}
+use Rattle.farm_sound.specs.Served.{IsServed, IsCollectorUnmet}
 use Rattle.farm_sound.proofs.Answered.{answers_changed, answers_denied, answers_repeated}
 use Rattle.farm_sound.proofs.Step.{IsSound-moved_to}
 use Rattle.farm_sound.proofs.Passed.{pass_is_short, pass_serves}
@@ -46,5 +46,5 @@ module _ (P : Farm → Type 0) (stays : (F : Farm) (kept : List KeptRow) (count 
 pub IsServed-step : (F : Farm) (call : Call) (reply : Reply) → call.cmd ≡ Cmd.Pass → answer F call ≡ Changed reply → IsSound F → IsServed (step F call)
 IsServed-step = left_stepped IsServed (λ F kept count is. is) (λ F caller sound. pass_serves F sound)
 
-pub IsShort-step : (F : Farm) (call : Call) (reply : Reply) → call.cmd ≡ Cmd.Pass → answer F call ≡ Changed reply → IsSound F → IsShort (step F call)
-IsShort-step = left_stepped IsShort (λ F kept count is. is) (λ F caller sound. pass_is_short F sound)
+pub IsCollectorUnmet-step : (F : Farm) (call : Call) (reply : Reply) → call.cmd ≡ Cmd.Pass → answer F call ≡ Changed reply → IsSound F → IsCollectorUnmet (step F call)
+IsCollectorUnmet-step = left_stepped IsCollectorUnmet (λ F kept count is. is) (λ F caller sound. pass_is_short F sound)

@@ -18,7 +18,7 @@ use Rattle.farm_types.specs.declared.rows.JobState.{JobState}
 use Rattle.farm_types.specs.declared.rows.State.{State}
 use Rattle.farm_types.specs.declared.rows.TypeRow.{TypeRow}
 use Rattle.farm_types.proofs.Put.{AllByRecursion-weaker, found_has}
-use Rattle.farm_sound.specs.Served.{IsShort}
+use Rattle.farm_sound.specs.Served.{IsCollectorUnmet}
 use Rattle.farm_sound.proofs.Claims.{IsOpen, IsOpenGroup}
 use Rattle.farm_sound.proofs.Collect.{Part, collect_shrinks, first_is_free, job_after, map_same, members_after, pairs_for, parts as parts_collected, ready as ready_collected, rest_ready}
 use Rattle.farm_sound.proofs.Free.{free_boards}
@@ -109,7 +109,7 @@ was_idle F b free steady holds = AllByRecursion-weaker
 
 short_step : (F G : Farm) → IsSound G → G.types ≡ F.types → G.collector ≡ F.collector
     → (1 ≤ F.collector → map (λ m. m.want) (members G F.collector) ≡ map (λ m. m.want) (members F F.collector))
-    → Shrinks F.types (giving_back F).boards (giving_back G).boards → IsShort F → IsShort G
+    → Shrinks F.types (giving_back F).boards (giving_back G).boards → IsCollectorUnmet F → IsCollectorUnmet G
 short_step F G sound types collector wants shrinks short low =
     let low_too : 1 ≤ F.collector = subst (λ n. 1 ≤ n) collector low in
     let ws = ap (λ n. map (λ m. m.want) (members G n)) collector ∙ wants low_too in
@@ -117,9 +117,9 @@ short_step F G sound types collector wants shrinks short low =
     ∙ unmet_shrinks F.types (giving_back F).boards (giving_back G).boards (map (λ m. m.want) (members F F.collector)) (IsSound-back G sound).steady.boards_sorted shrinks (short low_too)
 
 -- a reservation is served
-pub IsShort-give_res : (F : Farm) (n : ℕ) (bs : List BoardRow) (t : ℕ) → IsSound (give_res F n bs t) → IsShort F → IsShort (give_res F n bs t)
-IsShort-give_res F n [] t sound short = short
-IsShort-give_res F n (b ∷ bs) t sound short =
+pub IsCollectorUnmet-give_res : (F : Farm) (n : ℕ) (bs : List BoardRow) (t : ℕ) → IsSound (give_res F n bs t) → IsCollectorUnmet F → IsCollectorUnmet (give_res F n bs t)
+IsCollectorUnmet-give_res F n [] t sound short = short
+IsCollectorUnmet-give_res F n (b ∷ bs) t sound short =
     short_step F (give_res F n (b ∷ bs) t) sound refl refl (λ _. refl) (given_freed F.types (owned F) (Holder.Res n) b.name refl refl F.boards) short
 
 and_false : (v : Bool) → (v && false) ≡ false
@@ -192,7 +192,7 @@ module _ (F : Farm) (c : Claimed) (j : JobRow) (bs : List BoardRow) (is : IsOpen
       ∙ owned_by after (collects F.collector) (collects G.collector) (job_of F n)
       (λ m there. collects_still m (found_has Share (λ r. r.number == n) m F.jobs shares there))
 
-  pub IsShort-give_group : IsSound G → IsShort F → IsShort G
+  pub IsShort-give_group : IsSound G → IsCollectorUnmet F → IsCollectorUnmet G
   IsShort-give_group after_sound short =
       short_step F G after_sound (fold_shrinks JobState.Scheduled ps F).0 (collector_kept JobState.Scheduled ps F)
       (λ low. ap (map (λ (m : JobRow). m.want))
@@ -205,12 +205,12 @@ module _ (F : Farm) (c : Claimed) (j : JobRow) (bs : List BoardRow) (is : IsOpen
       apart low false other = other
       apart low true same = absurd (is.other low (same_number F.collector j.group same))
 
-pub IsShort-give : (F : Farm) (c : Claimed) (bs : List BoardRow) (t : ℕ) → IsOpen F c → least F.boards (is_free F.types) c.wants ≡ Some bs → IsSound F
-    → IsSound (give F c bs t) → IsShort F → IsShort (give F c bs t)
-IsShort-give F c bs t (inl (r, is)) found sound after short =
-    subst (λ e. IsShort (give F e bs t)) (sym is.2) (IsShort-give_res F r.number bs t (subst (λ e. IsSound (give F e bs t)) is.2 after) short)
-IsShort-give F c bs t (inr (j, is)) found sound after short =
-    subst (λ e. IsShort (give F e bs t)) (sym is.claim.2)
+pub IsCollectorUnmet-give : (F : Farm) (c : Claimed) (bs : List BoardRow) (t : ℕ) → IsOpen F c → least F.boards (is_free F.types) c.wants ≡ Some bs → IsSound F
+    → IsSound (give F c bs t) → IsCollectorUnmet F → IsCollectorUnmet (give F c bs t)
+IsCollectorUnmet-give F c bs t (inl (r, is)) found sound after short =
+    subst (λ e. IsCollectorUnmet (give F e bs t)) (sym is.2) (IsCollectorUnmet-give_res F r.number bs t (subst (λ e. IsSound (give F e bs t)) is.2 after) short)
+IsCollectorUnmet-give F c bs t (inr (j, is)) found sound after short =
+    subst (λ e. IsCollectorUnmet (give F e bs t)) (sym is.claim.2)
     (IsShort-give_group F c j bs is found sound (subst (λ e. IsSound (give F e bs t)) is.claim.2 after) short)
 
 -- ---- a group collects
@@ -271,7 +271,7 @@ module _ (F : Farm) (j : JobRow) (sound : IsSound F) (none : F.collector ≡ 0) 
       (collect_freed (owned H) refl (members F j.group) F (ready_collected F j sound none there lead submitted several)
       (filter_sorted (λ r. r.group == j.group) F.jobs sound.steady.jobs_sorted) sound.steady sound.held)
 
-  pub IsShort-collect : IsSound H → IsUnmet F (map (λ m. m.want) (members F j.group)) → IsShort H
+  pub IsShort-collect : IsSound H → IsUnmet F (map (λ m. m.want) (members F j.group)) → IsCollectorUnmet H
   IsShort-collect after unmet low =
       let types = (collect_shrinks F j sound none there lead submitted several).0 in
       let ws = ap (map (λ (m : JobRow). m.want)) (members_after F j sound none there lead submitted several j.group)
@@ -279,15 +279,15 @@ module _ (F : Farm) (j : JobRow) (sound : IsSound F) (none : F.collector ≡ 0) 
       (λ i. least (giving_back H).boards (is_free (types i)) (ws i))
       ∙ unmet_shrinks F.types F.boards (giving_back H).boards (map (λ m. m.want) (members F j.group)) (IsSound-back H after).steady.boards_sorted freed_boards unmet
 
-collected : (F : Farm) (c : Claimed) → IsOpen F c → IsSound F → may_collect F c ≡ true → IsUnmet F c.wants → IsSound (collect F c.number) → IsShort (collect F c.number)
+collected : (F : Farm) (c : Claimed) → IsOpen F c → IsSound F → may_collect F c ≡ true → IsUnmet F c.wants → IsSound (collect F c.number) → IsCollectorUnmet (collect F c.number)
 collected F c (inl (r, is)) sound may unmet = absurd (res_collects_not F c r is may)
 collected F c (inr (j, is)) sound may unmet =
     let two = group_collects F c j is may in
-    subst (λ n. IsSound (collect F n) → IsShort (collect F n)) (ap (λ (d : Claimed). d.number) (sym is.claim.2))
+    subst (λ n. IsSound (collect F n) → IsCollectorUnmet (collect F n)) (ap (λ (d : Claimed). d.number) (sym is.claim.2))
     (λ after. IsShort-collect F j sound two.0 is.claim.0 is.claim.1 is.submitted two.1 after
     (subst (IsUnmet F) (ap (λ (d : Claimed). d.wants) is.claim.2) unmet))
 
 -- a claim that isn't met is passed over
-pub IsShort-pass_over : (F : Farm) (c : Claimed) → IsOpen F c → IsSound F → IsUnmet F c.wants → IsSound (pass_over F c) → IsShort F → IsShort (pass_over F c)
-IsShort-pass_over F c has sound unmet after short =
-    by_cases (λ G. IsSound G → IsShort G) (may_collect F c) (collect F c.number) F (λ may. collected F c has sound may unmet) (λ _ _. short) after
+pub IsCollectorUnmet-pass_over : (F : Farm) (c : Claimed) → IsOpen F c → IsSound F → IsUnmet F c.wants → IsSound (pass_over F c) → IsCollectorUnmet F → IsCollectorUnmet (pass_over F c)
+IsCollectorUnmet-pass_over F c has sound unmet after short =
+    by_cases (λ G. IsSound G → IsCollectorUnmet G) (may_collect F c) (collect F c.number) F (λ may. collected F c has sound may unmet) (λ _ _. short) after

@@ -6,7 +6,7 @@ use Rattle.std.proofs.lemmas.Bool.Decides.{nat_tests}
 use Rattle.std.proofs.lemmas.Slice.Eq.{bytes_eq-Decides}
 use Rattle.farm_types.specs.Limits.{most_boards_of_type}
 use Rattle.farm_types.specs.Farm.{Farm, job_of}
-use Rattle.farm_types.specs.Sound.{Follows, IsJobRow, IsWhole, phase}
+use Rattle.farm_types.specs.Sound.{Follows, IsJobRow, AreGroupsInPhase, phase}
 use Rattle.farm_types.specs.declared.rows.BoardRow.{BoardRow}
 use Rattle.farm_types.specs.declared.rows.JobRow.{JobRow}
 use Rattle.farm_types.proofs.Put.{AllByRecursion-weaker, found_has, found_passes}
@@ -23,7 +23,7 @@ module _ (F : Farm) where
       let f : Follows F j = row.follows apart in
       rw f.there (found_has (λ m. m.group ≡ j.group → phase m.state ≡ phase j.state) (λ r. r.number == j.number - 1) f.previous F.jobs whole f.there f.group)
 
-  pub steps_from_whole : AllByRecursion (IsJobRow F) F.jobs → IsWhole F → AllByRecursion (IsInStep F) F.jobs
+  pub steps_from_whole : AllByRecursion (IsJobRow F) F.jobs → AreGroupsInPhase F → AllByRecursion (IsInStep F) F.jobs
   steps_from_whole rows whole =
       AllByRecursion-weaker (λ j two. step_at j two.0 two.1) F.jobs
       (AllByRecursion-both (IsJobRow F) (λ j. AllByRecursion (λ m. m.group ≡ j.group → phase m.state ≡ phase j.state) F.jobs) F.jobs rows whole)
@@ -78,7 +78,7 @@ module _ (F : Farm) where
       by (Some first) a b = sym b ∙ a
 
   pub whole_from_steps : AllByRecursion (λ j. job_of F j.number ≡ Some j) F.jobs → AllByRecursion (IsJobRow F) F.jobs
-      → AllByRecursion (IsInStep F) F.jobs → IsWhole F
+      → AllByRecursion (IsInStep F) F.jobs → AreGroupsInPhase F
   whole_from_steps own rows steps =
       let all : AllByRecursion IsMember F.jobs =
       AllByRecursion-weaker (λ j two. record { row = two.0.0; step = two.0.1; itself = two.1 }) F.jobs

@@ -17,7 +17,7 @@ use Rattle.farm_types.proofs.Put.{AllByRecursion-put, AllByRecursion-weaker, len
 use Rattle.farm_sound.proofs.Add.{IsHeldByKeys-add_job, IsSteady-add_job, add_job, job_of-add, job_total}
 use Rattle.farm_sound.proofs.Collecting.{IsCollecting-add}
 use Rattle.farm_sound.proofs.Own.{differs_more, fresh_res, itself}
-use Rattle.farm_sound.proofs.Whole.{IsWhole-add}
+use Rattle.farm_sound.proofs.Whole.{AreGroupsInPhase-add}
 
 -- what holds before a member with the farm's next number is added
 pub record Next (F : Farm) (group : ℕ) (owner : List ℕ) (priority : ℕ) (body : List ℕ) : Type 0 where
@@ -82,7 +82,7 @@ module _ (F : Farm) (group : ℕ) (owner : List ℕ) (priority : ℕ) (want : Wa
   member_sound room numbers = record {
     steady = IsSteady-add_job F row refl room numbers member_row sound.steady;
     held = IsHeldByKeys-add_job F row sound.steady refl refl sound.held;
-    whole = IsWhole-add F row (AllByRecursion-weaker (λ m is same. ap phase (is same)) F.jobs next.waits) sound.whole;
+    whole = AreGroupsInPhase-add F row (AllByRecursion-weaker (λ m is same. ap phase (is same)) F.jobs next.waits) sound.whole;
     collecting = IsCollecting-add F row sound.steady refl (λ e. cc) (λ _ _. refl) sound.collecting;
   }
 

@@ -2,13 +2,13 @@
 use Rattle.farm_types.specs.Farm.{Farm}
 use Rattle.farm_types.specs.Sound.{IsBoardRow, IsJobRow, IsResRow, IsSound, IsSteady}
 use Rattle.farm_types.proofs.Put.{AllByRecursion-weaker}
-use Rattle.farm_sound.specs.Told.{IsInStep, IsNamedBy, IsSaidOfJob, IsSaidOfRes, IsTold}
+use Rattle.farm_sound.specs.Told.{IsInStep, IsNamedBy, IsSaidOfJob, IsSaidOfRes, IsSoundByRows}
 use Rattle.farm_sound.proofs.Own.{own_job, own_res}
 use Rattle.farm_sound.proofs.Said.{held_from_said, jobs_from_keys, named_from_keys, reservations_from_keys}
 use Rattle.farm_sound.proofs.Steps.{few_of_kinds, steps_from_whole, whole_from_steps}
 use Rattle.farm_sound.proofs.Where.{AllByRecursion-both}
 
-steady_from_told : (F : Farm) → IsTold F → IsSteady F
+steady_from_told : (F : Farm) → IsSoundByRows F → IsSteady F
 steady_from_told F is = record {
   types_sorted = is.ordered.types;
   boards_sorted = is.ordered.boards;
@@ -31,7 +31,7 @@ steady_from_told F is = record {
   next = is.few.next;
 }
 
-pub sound_from_told : (F : Farm) → IsTold F → IsSound F
+pub sound_from_told : (F : Farm) → IsSoundByRows F → IsSound F
 sound_from_told F is =
     let steady = steady_from_told F is in
     record {
@@ -42,7 +42,7 @@ sound_from_told F is =
       collecting = is.collecting;
     }
 
-pub told_from_sound : (F : Farm) → IsSound F → IsTold F
+pub told_from_sound : (F : Farm) → IsSound F → IsSoundByRows F
 told_from_sound F is =
     let steady = is.steady in
     let jobs = AllByRecursion-both (IsInStep F) (IsSaidOfJob F) F.jobs (steps_from_whole F steady.jobs is.whole)

@@ -4,7 +4,7 @@ use mathlib.Core.Bool.{true≢false}
 use Rattle.std.specs.Cmp.{nat_cmp_total, on_total}
 use Rattle.std.specs.List.{AllByRecursion}
 use Rattle.farm_types.specs.Farm.{Farm}
-use Rattle.farm_types.specs.Sound.{IsWhole, phase}
+use Rattle.farm_types.specs.Sound.{AreGroupsInPhase, phase}
 use Rattle.farm_types.specs.Table.{job_cmp, put}
 use Rattle.farm_types.specs.declared.rows.JobRow.{JobRow}
 use Rattle.farm_types.proofs.Put.{AllByRecursion-put, AllByRecursion-weaker}
@@ -15,9 +15,9 @@ abbrev pub Alike : JobRow → JobRow → Type 0
 Alike j m = m.group ≡ j.group → phase m.state ≡ phase j.state
 
 -- a change that keeps this of each two keeps it of all
-pub IsWhole-map : (F : Farm) (J : List JobRow) (f : JobRow → JobRow) → J ≡ map f F.jobs → ((j m : JobRow) → Alike j m → Alike (f j) (f m)) → IsWhole F
-    → IsWhole (record F { jobs = J })
-IsWhole-map F J f is alike whole =
+pub AreGroupsInPhase-map : (F : Farm) (J : List JobRow) (f : JobRow → JobRow) → J ≡ map f F.jobs → ((j m : JobRow) → Alike j m → Alike (f j) (f m)) → AreGroupsInPhase F
+    → AreGroupsInPhase (record F { jobs = J })
+AreGroupsInPhase-map F J f is alike whole =
     subst (λ l. AllByRecursion (λ j. AllByRecursion (λ m. m.group ≡ j.group → phase m.state ≡ phase j.state) l) l) (sym is)
     (AllByRecursion-map (λ j. AllByRecursion (λ m. m.group ≡ j.group → phase m.state ≡ phase j.state) F.jobs)
     (λ j. AllByRecursion (λ m. m.group ≡ j.group → phase m.state ≡ phase j.state) (map f F.jobs)) f
@@ -47,18 +47,18 @@ Alike-kept test f groups kept j m alike =
     (λ _. by_cases (λ n. Alike j n) (test m) (f m) m (λ mso same. kept m mso ∙ alike (sym (groups m) ∙ same)) (λ _. alike))
 
 -- the same with what is known of each job
-pub IsWhole-map_by : (F : Farm) (P : JobRow → Type 0) (f : JobRow → JobRow) → AllByRecursion P F.jobs
-    → ((j m : JobRow) → P j → P m → Alike j m → Alike (f j) (f m)) → IsWhole F
+pub AreGroupsInPhase-map_by : (F : Farm) (P : JobRow → Type 0) (f : JobRow → JobRow) → AllByRecursion P F.jobs
+    → ((j m : JobRow) → P j → P m → Alike j m → Alike (f j) (f m)) → AreGroupsInPhase F
     → AllByRecursion (λ j. AllByRecursion (Alike j) (map f F.jobs)) (map f F.jobs)
-IsWhole-map_by F P f all alike whole = AllByRecursion-map (λ j. P j × AllByRecursion (Alike j) F.jobs) (λ j. AllByRecursion (Alike j) (map f F.jobs)) f
+AreGroupsInPhase-map_by F P f all alike whole = AllByRecursion-map (λ j. P j × AllByRecursion (Alike j) F.jobs) (λ j. AllByRecursion (Alike j) (map f F.jobs)) f
     (λ j two. AllByRecursion-map (λ m. P m × Alike j m) (Alike (f j)) f (λ m three. alike j m two.0 three.0 three.1) F.jobs
     (AllByRecursion-both P (Alike j) F.jobs all two.1))
     F.jobs (AllByRecursion-both P (λ j. AllByRecursion (Alike j) F.jobs) F.jobs all whole)
 
 -- a new job that is in one phase with those of its group
-pub IsWhole-add : (F : Farm) (row : JobRow) → AllByRecursion (λ m. m.group ≡ row.group → phase m.state ≡ phase row.state) F.jobs → IsWhole F
+pub AreGroupsInPhase-add : (F : Farm) (row : JobRow) → AllByRecursion (λ m. m.group ≡ row.group → phase m.state ≡ phase row.state) F.jobs → AreGroupsInPhase F
     → AllByRecursion (λ j. AllByRecursion (Alike j) (put job_cmp F.jobs row)) (put job_cmp F.jobs row)
-IsWhole-add F row alike whole =
+AreGroupsInPhase-add F row alike whole =
     let total = on_total (λ (r : JobRow). r.number) nat_cmp_total in
     AllByRecursion-put job_cmp total row (λ j. AllByRecursion (Alike j) (put job_cmp F.jobs row))
     (AllByRecursion-put job_cmp total row (Alike row) (λ same. refl) F.jobs alike) F.jobs

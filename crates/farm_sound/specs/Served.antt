@@ -11,6 +11,6 @@ IsServed F = AllByRecursion (λ c. least F.boards (is_free F.types) c.wants ≡ 
 
 -- the group that collects isn't met even by the free boards and its own together: those that are
 -- free when it gives its own back
-abbrev pub IsShort : Farm → Type 0
-IsShort F = 1 ≤ F.collector → least (giving_back F).boards (is_free F.types)
+abbrev pub IsCollectorUnmet : Farm → Type 0
+IsCollectorUnmet F = 1 ≤ F.collector → least (giving_back F).boards (is_free F.types)
     (map (λ m. m.want) (members F F.collector)) ≡ None

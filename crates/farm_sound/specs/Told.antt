@@ -111,7 +111,7 @@ pub record IsResTold (F : Farm) (r : ResRow) : Type 0 where
   pub row : IsResRow F r
   pub said : IsSaidOfRes F r
 
-pub record IsTold (F : Farm) : Type 0 where
+pub record IsSoundByRows (F : Farm) : Type 0 where
   pub ordered : IsOrdered F
   pub few : IsFew F
   pub types : AllByRecursion IsTypeRow F.types

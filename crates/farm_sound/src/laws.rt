@@ -29,7 +29,7 @@ ghost use Rattle.farm_types.specs.declared.rows.ResRow.{ResRow};
 ghost use Rattle.farm_types.specs.declared.rows.ResState.{ResState};
 ghost use Rattle.farm_types.specs.declared.rows.TypeRow.{TypeRow};
 ghost use Rattle.farm_types.specs.declared.rows.Want.{Want};
-ghost use Rattle.farm_sound.specs.Served.{IsServed, IsShort};
+ghost use Rattle.farm_sound.specs.Served.{IsServed, IsCollectorUnmet};
 
 /// Every call leaves a sound farm.
 pub fn step_is_sound()
@@ -57,10 +57,10 @@ pub fn pass_serves_all()
 /// free boards and its own together.
 pub fn collector_is_short()
     ensures pass { (F : Farm) (caller : List ℕ) → IsSound F
-        → IsShort (act F caller Cmd.Pass).farm }
+        → IsCollectorUnmet (act F caller Cmd.Pass).farm }
     ensures step { (F : Farm) (call : Call) (reply : Reply) → call.cmd ≡ Cmd.Pass
         → answer F call ≡ Changed reply
-        → IsSound F → IsShort (step F call) }
+        → IsSound F → IsCollectorUnmet (step F call) }
 {}
 
 /// The queue is the claims, each once, in their order.

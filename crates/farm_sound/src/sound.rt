@@ -3,7 +3,7 @@ ghost use Rattle.std.specs.Prelude.{◌≡◌, ◌↔◌, IsTrue};
 ghost use Rattle.std.specs.List.{AllByRecursion};
 ghost use Rattle.farm_types.specs.Farm.{farm_of};
 ghost use Rattle.farm_types.specs.Sound.{IsSound, IsKeptRow};
-ghost use Rattle.farm_sound.specs.Told.{IsOrdered, IsFew, IsTold};
+ghost use Rattle.farm_sound.specs.Told.{IsOrdered, IsFew, IsSoundByRows};
 
 use crate::board::{is_board_row, is_held, is_of_few, is_type_row};
 use crate::job::{is_collecting, is_in_step, is_job_row, is_said_of_job};
@@ -131,7 +131,7 @@ fn are_told<R: Told>(rows: &Rows, list: &[R]) -> bool
 
 /// Whether the rows are those of a sound farm, row by row.
 fn is_farm_told(rows: &Rows) -> bool
-    ensures { IsTrue result ↔ IsTold (farm_of rows.now) }
+    ensures { IsTrue result ↔ IsSoundByRows (farm_of rows.now) }
 {
     is_few(rows)
         && is_ordered(rows)

@@ -2,7 +2,7 @@
 use Rattle.std.proofs.Common.{refl, ◌≡◌, ℕ, zero, suc, [], ◌∷◌, length, ap, ap₂, sym, ◌∙◌, arith}
 use Rattle.sqlite.specs.Order.{Row}
 use Rattle.sqlite_value.specs.Order.{column}
-use Rattle.farm_store.specs.Reading.{Spells}
+use Rattle.farm_store.specs.Reading.{HasColumns}
 use Rattle.farm_store.specs.Stored.{IsWide, row_less_rowid, with_number}
 
 abbrev pub columns_from : ℕ → ℕ → Row → Row
@@ -20,11 +20,11 @@ whole zero (v ∷ r) wide = absurd (omega (arith, wide))
 whole (suc n) [] wide = absurd (omega (arith, wide))
 whole (suc n) (v ∷ r) wide = ap (λ l. v ∷ l) (shifted 0 n (v ∷ r) ∙ whole n r (omega (arith, wide)))
 
-spelled : (row : Row) (at : ℕ) (vs : Row) → Spells row at vs → columns_from at (length vs) row ≡ vs
+spelled : (row : Row) (at : ℕ) (vs : Row) → HasColumns row at vs → columns_from at (length vs) row ≡ vs
 spelled row at [] all = refl
 spelled row at (v ∷ vs) all = ap₂ ◌∷◌ all.0 (spelled row (suc at) vs all.1)
 
-spells : (row : Row) (at : ℕ) (vs : Row) → columns_from at (length vs) row ≡ vs → Spells row at vs
+spells : (row : Row) (at : ℕ) (vs : Row) → columns_from at (length vs) row ≡ vs → HasColumns row at vs
 spells row at [] same = tt
 spells row at (v ∷ vs) same =
     let first : column row at ≡ v = cc in
@@ -32,10 +32,10 @@ spells row at (v ∷ vs) same =
     (first, spells row (suc at) vs more)
 
 -- a row is the one of its width whose columns it has
-pub is_spelled : (row vs : Row) → length row ≡ length vs → Spells row 0 vs → row ≡ vs
+pub is_spelled : (row vs : Row) → length row ≡ length vs → HasColumns row 0 vs → row ≡ vs
 is_spelled row vs wide all = sym (whole (length vs) row wide) ∙ spelled row 0 vs all
 
-pub spells_itself : (row vs : Row) → row ≡ vs → Spells row 0 vs
+pub spells_itself : (row vs : Row) → row ≡ vs → HasColumns row 0 vs
 spells_itself row vs same = spells row 0 vs (ap (columns_from 0 (length vs)) same ∙ whole (length vs) vs refl)
 
 -- less the rowid

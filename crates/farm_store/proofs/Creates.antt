@@ -23,8 +23,8 @@ use Rattle.farm_store.specs.Schema.{farm_schema, no_schema, types_table, boards_
 use Rattle.farm_store.specs.Columns.{Tables, no_rows}
 use Rattle.farm_store.specs.Edits.{HasRun}
 use Rattle.farm_store.specs.Holds.{IsInside}
-use Rattle.farm_store.specs.Places.{Place, of_types, of_boards, of_jobs, of_reservations, of_kept, of_meta}
-use Rattle.farm_store.specs.Stored.{Lists}
+use Rattle.farm_store.specs.Places.{TableSlot, of_types, of_boards, of_jobs, of_reservations, of_kept, of_meta}
+use Rattle.farm_store.specs.Stored.{ListsRows}
 use Rattle.sqlite_catalog.specs.Listing.{AreListed}
 use Rattle.sqlite_trees.specs.Objects.{catalog_tree}
 use Rattle.std.proofs.Common.{Ordering}
@@ -100,11 +100,11 @@ pub makes_meta : (old new : State) → old.now.schema ≡ schema_5 → HasRun MA
 unfolding understood everything
 makes_meta old new has ran = makes old new MAKE_META.now schema_5 meta_table refl refl (refl, refl) refl refl has ran
 
-no_rows_there : (cmp : Row → Row → Ordering) (show : Row → Row) (width : ℕ) (raws : List Row) → raws ≡ [] → Lists cmp show width raws []
+no_rows_there : (cmp : Row → Row → Ordering) (show : Row → Row) (width : ℕ) (raws : List Row) → raws ≡ [] → ListsRows cmp show width raws []
 no_rows_there cmp show width [] is = record { ordered = tt; keyed = tt; apart = tt; strict = tt; wide = tt; sound = λ r none. absurd none; complete = λ raw none. absurd none }
 no_rows_there cmp show width (r ∷ raws) is = absurd (let e = is in cc)
 
-none_at : (p : Place) (db : Trees) → db p.tree ≡ [] → Lists p.cmp p.show p.width (db p.tree) []
+none_at : (p : TableSlot) (db : Trees) → db p.tree ≡ [] → ListsRows p.cmp p.show p.width (db p.tree) []
 none_at p db is = no_rows_there p.cmp p.show p.width (db p.tree) is
 
 -- the six tables are made, and have no rows

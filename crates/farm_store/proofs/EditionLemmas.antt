@@ -6,37 +6,37 @@ use Rattle.farm_types.specs.declared.rows.JobRow.{JobRow}
 use Rattle.farm_types.specs.declared.rows.MetaRow.{MetaRow}
 use Rattle.farm_types.proofs.Put.{AllByRecursion-weaker}
 use Rattle.farm_store.specs.Columns.{IsOfSchema, Tables, tells, rows_of, first_rows_of, type_columns, board_columns, res_columns, kept_columns, numbers_of, second_schema}
-use Rattle.farm_store.specs.Editions.{IsCollectorIn, IsReadableIn, IsReadableJobIn, IsStateIn, job_columns_in, meta_rows_in, other_edition, rows_in, schema_of, told_as}
+use Rattle.farm_store.specs.Editions.{IsCollectorIn, IsReadableIn, IsReadableJobIn, IsStateIn, job_columns_in, meta_rows_in, other_edition, rows_in, schema_of, version_fault}
 use Rattle.farm_store.specs.Readable.{IsReadable, IsReadableJob}
 use Rattle.farm_store.specs.Reading.{TellsNoVersion}
 use Rattle.farm_store.specs.declared.edition.Edition.{Edition}
 use Rattle.farm_store.specs.declared.fault.StoreFault.{StoreFault}
 use Rattle.farm_store.specs.declared.fault.StoreFault.TheVariants.{BadStore, Store}
 
-pub no_version : (e : Edition) (fault : StoreFault) → TellsNoVersion fault → fault ≢ told_as e
+pub no_version : (e : Edition) (fault : StoreFault) → TellsNoVersion fault → fault ≢ version_fault e
 no_version Edition.First fault none = none.0
 no_version Edition.Second fault none = none.1
 
-pub not_store : (e : Edition) → Store ≢ told_as e
+pub not_store : (e : Edition) → Store ≢ version_fault e
 not_store Edition.First is = cc
 not_store Edition.Second is = cc
 
-pub not_bad : (e : Edition) → BadStore ≢ told_as e
+pub not_bad : (e : Edition) → BadStore ≢ version_fault e
 not_bad Edition.First is = cc
 not_bad Edition.Second is = cc
 
-pub not_own : (e : Edition) → told_as (other_edition e) ≢ told_as e
+pub not_own : (e : Edition) → version_fault (other_edition e) ≢ version_fault e
 not_own Edition.First is = cc
 not_own Edition.Second is = cc
 
 -- a fault that is handed on
-pub never_handed : {A : Type 0} (e : Edition) (r : Result A StoreFault) (fault : StoreFault) → IsErrAnd r (λ f. f ≡ fault) → fault ≢ told_as e → r ≢ Err (told_as e)
+pub never_handed : {A : Type 0} (e : Edition) (r : Result A StoreFault) (fault : StoreFault) → IsErrAnd r (λ f. f ≡ fault) → fault ≢ version_fault e → r ≢ Err (version_fault e)
 never_handed e (Ok a) fault is never same = absurd is
-never_handed e (Err f) fault is never same = let x : f ≡ told_as e = cc in never (sym is ∙ x)
+never_handed e (Err f) fault is never same = let x : f ≡ version_fault e = cc in never (sym is ∙ x)
 
-pub never_told : {A : Type 0} (e : Edition) (r : Result A StoreFault) → IfErr r TellsNoVersion → r ≢ Err (told_as e)
+pub never_told : {A : Type 0} (e : Edition) (r : Result A StoreFault) → IfErr r TellsNoVersion → r ≢ Err (version_fault e)
 never_told e (Ok a) none same = let x = same in cc
-never_told e (Err f) none same = let x : f ≡ told_as e = cc in no_version e f none x
+never_told e (Err f) none same = let x : f ≡ version_fault e = cc in no_version e f none x
 
 -- ---- the farms that an edition spells
 

@@ -9,7 +9,7 @@ use Rattle.sqlite_trees.specs.Tree.{IsAscending}
 use Rattle.sqlite_rules.specs.Lists.{Has}
 use Rattle.sqlite_rules.proofs.ListLemmas.{all_has}
 use Rattle.sqlite_rules.proofs.ProbeLemmas.{has_mapped, mapped_has}
-use Rattle.farm_store.specs.Stored.{IsStrict, Differ, Lists}
+use Rattle.farm_store.specs.Stored.{IsStrict, Differ, ListsRows}
 use Rattle.farm_store.proofs.Sorted.{tie_same}
 use Rattle.farm_store.proofs.Order.{permuted, tied, at_most_one, strictly, same_rows}
 
@@ -35,7 +35,7 @@ module _ {O : Type 0} {cmp : Row → Row → Ordering} (total : IsTotalOrder cmp
     shown_apart raws up.1 (λ a b h k. same a b (inr h) (inr k)),
   )
 
-  pub answers : (raws rows : List Row) (ordered : List O) → Lists cmp show width raws rows → IsPermutation (map P raws) ordered → IsSorted c ordered → ordered ≡ map Q rows
+  pub answers : (raws rows : List Row) (ordered : List O) → ListsRows cmp show width raws rows → IsPermutation (map P raws) ordered → IsSorted c ordered → ordered ≡ map Q rows
   answers raws rows ordered it same sorted =
       let apart = shown_apart raws it.apart (λ a b h k tie.
       let e : cmp (show a) (show b) ≡ Equal = sym (keeps (show a) (show b)) ∙ ap (λ q. c q (Q (show b))) (sym (shows a)) ∙ ap (c (P a)) (sym (shows b)) ∙ tie in

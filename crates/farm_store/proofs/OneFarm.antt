@@ -26,7 +26,7 @@ use Rattle.farm_types.specs.declared.rows.KeptRow.{KeptRow}
 use Rattle.farm_types.proofs.SortedTags.{tags_read_back}
 use Rattle.farm_types.specs.Tags.{tags_read}
 use Rattle.farm_types.specs.declared.rows.MetaRow.{MetaRow}
-use Rattle.farm_store.specs.Columns.{rows_of, unit_of, holder_of, checking_code, first_state_code, type_columns, board_columns, res_columns, kept_columns, numbers_of}
+use Rattle.farm_store.specs.Columns.{rows_of, unit_code, holder_of, checking_code, first_state_code, type_columns, board_columns, res_columns, kept_columns, numbers_of}
 use Rattle.farm_store.specs.Editions.{IsCollectorIn, IsReadableIn, IsReadableJobIn, IsStateIn, job_columns_in, meta_rows_in, rows_in, state_code_in}
 use Rattle.farm_store.specs.Readable.{IsReadable, IsReadableType, IsReadableBoard, IsReadableRes, IsReadableKept}
 use Rattle.farm_store.specs.declared.edition.Edition.{Edition}
@@ -90,7 +90,7 @@ res_state_back ResState.Canceled = refl
 same_code : {X : Type 0} (code : X → ℕ) (with_code : ℕ → Option X) → ((x : X) → with_code (code x) ≡ Some x) → (a b : X) → code a ≡ code b → a ≡ b
 same_code code with_code back a b e = same_some a b (sym (back a) ∙ ap with_code e ∙ back b)
 
-same_check : (a b : Check) → unit_of a ≡ unit_of b → every_of a ≡ every_of b → a ≡ b
+same_check : (a b : Check) → unit_code a ≡ unit_code b → every_of a ≡ every_of b → a ≡ b
 same_check Check.Never Check.Never unit every = refl
 same_check (Check.Hours m) (Check.Hours n) unit every = ap (λ k. Check.Hours k) every
 same_check (Check.Jobs m) (Check.Jobs n) unit every = ap (λ k. Check.Jobs k) every

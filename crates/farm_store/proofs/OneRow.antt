@@ -27,19 +27,19 @@ use Rattle.sqlite_catalog.specs.Listing.{AreListed}
 use Rattle.sqlite_trees.specs.Objects.{catalog_tree}
 use Rattle.farm_types.specs.Table.{put}
 use Rattle.farm_store.specs.Schema.{farm_schema, strict_table}
-use Rattle.farm_store.specs.Places.{Place}
-use Rattle.farm_store.specs.Stored.{HasInt, IsWide, Lists}
+use Rattle.farm_store.specs.Places.{TableSlot}
+use Rattle.farm_store.specs.Stored.{HasInt, IsWide, ListsRows}
 use Rattle.farm_store.proofs.Replace.{does}
 use Rattle.farm_store.proofs.PutLemmas.{lists_put}
 
 -- the row is put at one place, and the other trees stay
-pub record Upserted (p : Place) (old new : State) (x : Row) : Type 0 where
+pub record Upserted (p : TableSlot) (old new : State) (x : Row) : Type 0 where
   pub schema : new.now.schema ≡ farm_schema
   pub listed : AreListed (new.now.trees catalog_tree) farm_schema
   pub others : AllByRecursion (λ t. t.tree ≢ p.tree → new.now.trees t.tree ≡ old.now.trees t.tree) farm_schema.tables
-  pub lists : (rows : List Row) → Lists p.cmp p.show p.width (old.now.trees p.tree) rows → Lists p.cmp p.show p.width (new.now.trees p.tree) (put p.cmp rows x)
+  pub lists : (rows : List Row) → ListsRows p.cmp p.show p.width (old.now.trees p.tree) rows → ListsRows p.cmp p.show p.width (new.now.trees p.tree) (put p.cmp rows x)
 
-module _ (p : Place) (total : IsTotalOrder p.cmp) (name : List ℕ) (columns : List Column) (key : Option ℕ) (primary : List ℕ) (uniques : List (List ℕ)) (orders : List Order)
+module _ (p : TableSlot) (total : IsTotalOrder p.cmp) (name : List ℕ) (columns : List Column) (key : Option ℕ) (primary : List ℕ) (uniques : List (List ℕ)) (orders : List Order)
     (at : ℕ) (still : (keys : Keys) (olds news : List Row) → works farm_schema keys 0 p.tree olds news ≡ []) where
   abbrev table : Table
   table = strict_table name p.tree columns key primary uniques orders
@@ -49,7 +49,7 @@ module _ (p : Place) (total : IsTotalOrder p.cmp) (name : List ℕ) (columns : L
     pub upserted : (old new : State) (params source row x : Row) → value_rows (params ++ []) wide (length terms / wide) terms ≡ source ∷ []
         → with_rowid Chosen (old.now.trees p.tree) (cast_row table (mended Replace table source)) ≡ row → cast_row table row ≡ row → HasInt row → p.show row ≡ x → IsWide p.width x
         → ((raw : Row) → Has (old.now.trees p.tree) raw → conflicts None farm_schema.indexes table row raw ≡ is_eq (p.cmp (p.show raw) x))
-        → old.now.schema ≡ farm_schema → (count : ℕ) → Executes text params old new (Ok count) → (now : List Row) → Lists p.cmp p.show p.width (old.now.trees p.tree) now
+        → old.now.schema ≡ farm_schema → (count : ℕ) → Executes text params old new (Ok count) → (now : List Row) → ListsRows p.cmp p.show p.width (old.now.trees p.tree) now
         → Upserted p old new x
     upserted old new params source row x source_is row_is stays own shown wide_enough clash has count h now it =
         let db = old.now.trees in

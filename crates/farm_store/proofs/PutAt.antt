@@ -11,37 +11,37 @@ use Rattle.sqlite_catalog.specs.Listing.{AreListed}
 use Rattle.sqlite_trees.specs.Objects.{catalog_tree}
 use Rattle.farm_store.specs.Columns.{Tables}
 use Rattle.farm_store.specs.Holds.{Holds, ShowsTables, IsInside}
-use Rattle.farm_store.specs.Places.{Place, IsPlace, HoldsAt, put_at, of_types, of_boards, of_jobs, of_reservations, of_kept, of_meta}
+use Rattle.farm_store.specs.Places.{TableSlot, IsPlace, HoldsAt, put_at, of_types, of_boards, of_jobs, of_reservations, of_kept, of_meta}
 use Rattle.farm_store.specs.Schema.{farm_schema}
-use Rattle.farm_store.specs.Stored.{Lists}
+use Rattle.farm_store.specs.Stored.{ListsRows}
 use Rattle.farm_store.proofs.Keys.{first_total, two_total}
 use Rattle.farm_store.proofs.OneRow.{Upserted}
 
-abbrev places : List Place
+abbrev places : List TableSlot
 places = of_types ∷ of_boards ∷ of_jobs ∷ of_reservations ∷ of_kept ∷ of_meta ∷ []
 
 -- the six in their order
-six : (P : Place → Type 0) → P of_types → P of_boards → P of_jobs → P of_reservations → P of_kept → P of_meta → AllByRecursion P places
+six : (P : TableSlot → Type 0) → P of_types → P of_boards → P of_jobs → P of_reservations → P of_kept → P of_meta → AllByRecursion P places
 six P types boards jobs reservations kept meta = (types, (boards, (jobs, (reservations, (kept, (meta, tt))))))
 
 apart_trees : (m n : ℕ) → (m == n) ≡ false → m ≢ n
 apart_trees m n apart same = grind (arith, nat_tests)
 
 -- another place has another tree, and keeps its rows
-abbrev IsOther : Place → Place → Type 0
+abbrev IsOther : TableSlot → TableSlot → Type 0
 IsOther p q = (q.tree ≢ p.tree) × ((T : Tables) (rows : List Row) → q.rows (p.replaced T rows) ≡ q.rows T)
 
 -- one of the six places
-pub record IsKnown (p : Place) : Type 0 where
+pub record IsKnown (p : TableSlot) : Type 0 where
   pub is : IsPlace p
   pub total : IsTotalOrder p.cmp
   pub find : (db : Trees) (T : Tables) → Holds db T → HoldsAt p db T
   pub others : AllByRecursion (λ q. (q ≡ p) ⊎ IsOther p q) places
 
-other : {p q : Place} → (q.tree == p.tree) ≡ false → ((T : Tables) (rows : List Row) → q.rows (p.replaced T rows) ≡ q.rows T) → (q ≡ p) ⊎ IsOther p q
+other : {p q : TableSlot} → (q.tree == p.tree) ≡ false → ((T : Tables) (rows : List Row) → q.rows (p.replaced T rows) ≡ q.rows T) → (q ≡ p) ⊎ IsOther p q
 other {p} {q} apart keeps = inr ((λ same. apart_trees q.tree p.tree apart same), keeps)
 
-abbrev is_place : {p : Place} → ((T : Tables) (rows : List Row) → p.rows (p.replaced T rows) ≡ rows) → ((T : Tables) (rows more : List Row) → p.replaced (p.replaced T rows) more ≡ p.replaced T more)
+abbrev is_place : {p : TableSlot} → ((T : Tables) (rows : List Row) → p.rows (p.replaced T rows) ≡ rows) → ((T : Tables) (rows more : List Row) → p.replaced (p.replaced T rows) more ≡ p.replaced T more)
     → ((T : Tables) → p.replaced T (p.rows T) ≡ T) → IsPlace p
 is_place own over same = record { own = own; over = over; same = same }
 
@@ -94,20 +94,20 @@ meta_known = record {
 }
 
 -- one place has these rows now, and the other trees stay
-pub record Rewritten (p : Place) (old new : State) (rows : List Row) : Type 0 where
+pub record Rewritten (p : TableSlot) (old new : State) (rows : List Row) : Type 0 where
   pub schema : new.now.schema ≡ farm_schema
   pub listed : AreListed (new.now.trees catalog_tree) farm_schema
   pub others : AllByRecursion (λ t. t.tree ≢ p.tree → new.now.trees t.tree ≡ old.now.trees t.tree) farm_schema.tables
-  pub lists : Lists p.cmp p.show p.width (new.now.trees p.tree) rows
+  pub lists : ListsRows p.cmp p.show p.width (new.now.trees p.tree) rows
 
-module _ (p : Place) (known : IsKnown p) (old new : State) (T : Tables) (rows : List Row) (did : Rewritten p old new rows) where
-  after : (q : Place) → (q ≡ p) ⊎ IsOther p q → (q.tree ≢ p.tree → new.now.trees q.tree ≡ old.now.trees q.tree) → HoldsAt q old.now.trees T → HoldsAt q new.now.trees (p.replaced T rows)
+module _ (p : TableSlot) (known : IsKnown p) (old new : State) (T : Tables) (rows : List Row) (did : Rewritten p old new rows) where
+  after : (q : TableSlot) → (q ≡ p) ⊎ IsOther p q → (q.tree ≢ p.tree → new.now.trees q.tree ≡ old.now.trees q.tree) → HoldsAt q old.now.trees T → HoldsAt q new.now.trees (p.replaced T rows)
   after q (inl same) still here =
       let own : HoldsAt p new.now.trees (p.replaced T rows) = rw (known.is.own T rows) did.lists in
-      subst (λ (k : Place). HoldsAt k new.now.trees (p.replaced T rows)) (sym same) own
+      subst (λ (k : TableSlot). HoldsAt k new.now.trees (p.replaced T rows)) (sym same) own
   after q (inr apart) still here = rw (still apart.0, apart.1 T rows) here
 
-  all_after : (qs : List Place) → AllByRecursion (λ q. (q ≡ p) ⊎ IsOther p q) qs → AllByRecursion (λ q. q.tree ≢ p.tree → new.now.trees q.tree ≡ old.now.trees q.tree) qs
+  all_after : (qs : List TableSlot) → AllByRecursion (λ q. (q ≡ p) ⊎ IsOther p q) qs → AllByRecursion (λ q. q.tree ≢ p.tree → new.now.trees q.tree ≡ old.now.trees q.tree) qs
       → AllByRecursion (λ q. HoldsAt q old.now.trees T) qs → AllByRecursion (λ q. HoldsAt q new.now.trees (p.replaced T rows)) qs
   all_after [] others still here = tt
   all_after (q ∷ qs) others still here = (after q others.0 still.0 here.0, all_after qs others.1 still.1 here.1)
@@ -124,7 +124,7 @@ module _ (p : Place) (known : IsKnown p) (old new : State) (T : Tables) (rows : 
         };
       }
 
-pub stands_put : (p : Place) (known : IsKnown p) (old new : State) (T : Tables) (x : Row) → Upserted p old new x → ShowsTables old.now T → IsTrue new.in_transaction → IsInside new (put_at p T (x ∷ []))
+pub stands_put : (p : TableSlot) (known : IsKnown p) (old new : State) (T : Tables) (x : Row) → Upserted p old new x → ShowsTables old.now T → IsTrue new.in_transaction → IsInside new (put_at p T (x ∷ []))
 stands_put p known old new T x did at =
     stands_rewritten p known old new T (put p.cmp (p.rows T) x) (record {
       schema = did.schema;
@@ -135,7 +135,7 @@ stands_put p known old new T x did at =
 
 -- ---- one row after another
 
-module _ {X : Type 0} (p : Place) (is : IsPlace p) (columns : X → Row) where
+module _ {X : Type 0} (p : TableSlot) (is : IsPlace p) (columns : X → Row) where
   one_more : (rows : List X) (i : ℕ) (d : X) (now : List Row) → i < length rows
       → put_all p.cmp now (map columns (take (suc i) rows)) ≡ put p.cmp (put_all p.cmp now (map columns (take i rows))) (columns (get_or rows i d))
   one_more [] i d now low = absurd (omega arith)

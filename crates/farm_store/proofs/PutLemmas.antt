@@ -17,7 +17,7 @@ use Rattle.sqlite_rules.specs.Keys.{conflicts}
 use Rattle.sqlite_rules.proofs.ListLemmas.{all_from}
 use Rattle.farm_types.specs.Table.{put}
 use Rattle.farm_store.specs.Replaces.{Replaces}
-use Rattle.farm_store.specs.Stored.{Differ, IsWide, Lists}
+use Rattle.farm_store.specs.Stored.{Differ, IsWide, ListsRows}
 use Rattle.farm_store.proofs.Sorted.{all_put, put_strict, put_adds, put_keeps, put_has}
 
 -- a row that differs from each is put among them
@@ -43,7 +43,7 @@ module _ {cmp : Row → Row → Ordering} (total : IsTotalOrder cmp) (show : Row
   tied : (raw : Row) → Has (db table.tree) raw → conflicts None schema.indexes table new raw ≡ true → cmp (show raw) x ≡ Equal
   tied raw h clashes = eq_is _ (sym (clash raw h) ∙ clashes)
 
-  pub lists_put : (rows : List Row) → Lists cmp show width (db table.tree) rows → Replaces show schema table new db next → Lists cmp show width (next table.tree) (put cmp rows x)
+  pub lists_put : (rows : List Row) → ListsRows cmp show width (db table.tree) rows → Replaces show schema table new db next → ListsRows cmp show width (next table.tree) (put cmp rows x)
   lists_put rows old went = record {
     ordered = went.ordered;
     keyed = went.keyed;

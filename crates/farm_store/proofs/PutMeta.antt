@@ -59,7 +59,7 @@ use Rattle.farm_store.specs.Columns.{Tables, by_first, meta_row}
 use Rattle.farm_store.specs.Holds.{IsInside}
 use Rattle.farm_store.specs.Places.{of_meta, put_at}
 use Rattle.farm_store.specs.Replaces.{Replaces}
-use Rattle.farm_store.specs.Stored.{Differ, HasInt, Lists, row_less_rowid}
+use Rattle.farm_store.specs.Stored.{Differ, HasInt, ListsRows, row_less_rowid}
 use Rattle.farm_store.proofs.Sorted.{tie_same}
 use Rattle.farm_store.proofs.Order.{permuted}
 use Rattle.farm_store.proofs.Keys.{first_total, by_next, or_false, equal_is_tied, agree_one, agree_next}
@@ -174,7 +174,7 @@ second : (r : Row) → column r 1 ≡ column (row_less_rowid r) 0
 second [] = refl
 second (v ∷ rest) = refl
 
-module _ (mode : Mode) (limit : Option ℕ) (db : Trees) (rows : List Row) (it : Lists by_first row_less_rowid 2 (db 8) rows) (name : List ℕ) (value : ℕ) where
+module _ (mode : Mode) (limit : Option ℕ) (db : Trees) (rows : List Row) (it : ListsRows by_first row_less_rowid 2 (db 8) rows) (name : List ℕ) (value : ℕ) where
   abbrev x : Row
   x = meta_row name value
 

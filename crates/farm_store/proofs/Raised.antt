@@ -6,10 +6,10 @@ use Rattle.farm_types.specs.Farm.{Farm}
 use Rattle.farm_types.specs.declared.rows.MetaRow.{MetaRow}
 use Rattle.farm_store.specs.declared.edition.Edition.{Edition}
 use Rattle.farm_store.specs.Columns.{by_first, first_meta_rows, first_rows_of, meta_row, meta_rows, numbers_of, rows_of, second_schema}
-use Rattle.farm_store.specs.Editions.{with_jobs}
+use Rattle.farm_store.specs.Editions.{tables_with_jobs}
 use Rattle.farm_store.specs.Places.{of_meta, put_at}
 
-pub first_is : (F : Farm) → first_rows_of F ≡ with_jobs Edition.First F.jobs (first_rows_of F)
+pub first_is : (F : Farm) → first_rows_of F ≡ tables_with_jobs Edition.First F.jobs (first_rows_of F)
 unfolding first_rows_of
 first_is F = refl
 
@@ -17,7 +17,7 @@ numbers_over : (m : MetaRow) → put_all by_first (put_all by_first (first_meta_
 numbers_over m = simp value_cmp-Text
 
 pub raised : (F : Farm) → F.collector ≡ 0
-    → put_at of_meta (put_at of_meta (with_jobs Edition.Second F.jobs (first_rows_of F)) (meta_row (codes "collector") 0 ∷ [])) (meta_row (codes "schema") second_schema ∷ []) ≡ rows_of F
+    → put_at of_meta (put_at of_meta (tables_with_jobs Edition.Second F.jobs (first_rows_of F)) (meta_row (codes "collector") 0 ∷ [])) (meta_row (codes "schema") second_schema ∷ []) ≡ rows_of F
 unfolding rows_of first_rows_of
 raised F none =
     let collector : record (numbers_of F) { collector = 0 } ≡ numbers_of F = ap (λ c. record (numbers_of F) { collector = c }) (sym none) in

@@ -57,7 +57,7 @@ use Rattle.farm_store.specs.Holds.{IsInside}
 use Rattle.farm_store.specs.Places.{of_jobs}
 use Rattle.farm_store.specs.Raising.{columns_below, edition_below, raised_below}
 use Rattle.farm_store.specs.Schema.{farm_schema, strict_table, jobs_table}
-use Rattle.farm_store.specs.Stored.{Differ, HasInt, IsStrict, IsWide, Lists, with_number}
+use Rattle.farm_store.specs.Stored.{Differ, HasInt, IsStrict, IsWide, ListsRows, with_number}
 use Rattle.farm_store.proofs.Order.{permuted}
 use Rattle.farm_store.proofs.PutAt.{jobs_known, stands_rewritten}
 use Rattle.farm_store.proofs.Replace.{went, same_value, cast_int, has_own, left_lacks, left_table}
@@ -358,7 +358,7 @@ module _ (from to : ℕ) (fits : from ≤ to) where
 
   -- ---- the table after
 
-  module _ (db : Trees) (jobs : List JobRow) (it : Lists by_first with_number 12 (db 4) (map (columns_below from) jobs)) (out : List Row) (a : IsAnswer query (overlay db []) bounds out)
+  module _ (db : Trees) (jobs : List JobRow) (it : ListsRows by_first with_number 12 (db 4) (map (columns_below from) jobs)) (out : List Row) (a : IsAnswer query (overlay db []) bounds out)
       (fresh : are_fresh (left db out a it.ordered it.keyed) (news db out a it.ordered it.keyed) ≡ true) where
     abbrev rest : List Row
     rest = left db out a it.ordered it.keyed
@@ -402,7 +402,7 @@ module _ (from to : ℕ) (fits : from ≤ to) where
     ordered : IsTable rows
     ordered = all_up new rest (left_table (ids_of out) (db 4) it.ordered it.keyed).0
 
-    pub lists_raised : Lists by_first with_number 12 rows (map (columns_below to) jobs)
+    pub lists_raised : ListsRows by_first with_number 12 rows (map (columns_below to) jobs)
     lists_raised = record {
       ordered = ordered;
       keyed = all_keyed new rest (all_from HasInt new (λ y h. subst HasInt (sym (new_is y h).2) refl)) (left_table (ids_of out) (db 4) it.ordered it.keyed).1;
@@ -442,7 +442,7 @@ raises old new count from to T jobs fits at ran =
       schema = ap (λ (d : Database). d.schema) now;
       listed = subst (AreListed (new.now.trees catalog_tree)) (ap (λ (d : Database). d.schema) now) run.sound.lists.listed;
       others = subst (λ (t : Trees). AllByRecursion (λ u. u.tree ≢ 4 → t u.tree ≡ db u.tree) farm_schema.tables) (sym trees) applied.tables;
-      lists = subst (λ l. Lists by_first with_number 12 l (map (columns_below to) jobs)) (sym rows) (lists_raised from to fits db jobs it out a fresh);
+      lists = subst (λ l. ListsRows by_first with_number 12 l (map (columns_below to) jobs)) (sym rows) (lists_raised from to fits db jobs it out a fresh);
     }) see ran.1.mode
 
 pub raises_window : (old new : State) (count from to : ℕ) (params : Row) (T : Tables) (jobs : List JobRow) → params ≡ Int (pos from) ∷ Int (pos to) ∷ [] → from ≤ to → IsInside old (raised_below from jobs T) → ExecutesInside 0 RAISE.now params old new (Ok count) → IsInside new (raised_below to jobs T)

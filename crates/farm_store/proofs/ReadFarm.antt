@@ -7,7 +7,7 @@ use Rattle.farm_types.specs.Farm.{Farm, farm_of}
 use Rattle.farm_types.specs.declared.calls.Rows.{Rows}
 use Rattle.farm_types.specs.declared.rows.MetaRow.{MetaRow}
 use Rattle.farm_store.specs.Columns.{IsOfSchema, Tables, tells, type_columns, board_columns, res_columns, kept_columns}
-use Rattle.farm_store.specs.Editions.{IsCollectorIn, IsReadableIn, IsReadableJobIn, job_columns_in, meta_rows_in, other_edition, rows_in, schema_of, told_as}
+use Rattle.farm_store.specs.Editions.{IsCollectorIn, IsReadableIn, IsReadableJobIn, job_columns_in, meta_rows_in, other_edition, rows_in, schema_of, version_fault}
 use Rattle.farm_store.specs.Readable.{IsReadableType, IsReadableBoard, IsReadableRes, IsReadableKept}
 use Rattle.sqlite.specs.State.{State}
 use Rattle.farm_store.specs.Holds.{Stands}
@@ -21,7 +21,7 @@ use Rattle.farm_store.proofs.OneFarm.{one_farm_in}
 use Rattle.farm_store.proofs.EditionLemmas.{is_in, never_told, no_version, not_bad, not_store, numbers_are_own, numbers_tell, states_of, whole_in, words_of}
 
 -- a table that was refused refuses them all
-pub refuses_farm : (e : Edition) (r : Result Rows StoreFault) (T : Tables) (fault : StoreFault) → IsErrAnd r (λ f. f ≡ fault) → (fault ≡ told_as (other_edition e) → IsOfSchema (schema_of (other_edition e)) T)
+pub refuses_farm : (e : Edition) (r : Result Rows StoreFault) (T : Tables) (fault : StoreFault) → IsErrAnd r (λ f. f ≡ fault) → (fault ≡ version_fault (other_edition e) → IsOfSchema (schema_of (other_edition e)) T)
     → (fault ≡ BadStore → (F : Farm) → IsReadableIn e F → rows_in e F ≢ T) → ReadsFarm e r T
 refuses_farm e (Ok rows) T fault is known none = absurd is
 refuses_farm e (Err f) T fault is known none = (λ told. known (sym is ∙ told), λ bad. none (sym is ∙ bad))
@@ -50,9 +50,9 @@ pub never_bad : (e : Edition) (r : Result Rows StoreFault) (F : Farm) → r ≡ 
 never_bad e (Ok rows) F bad good read = let x = bad in cc
 never_bad e (Err f) F bad good read = read.1 (let same : f ≡ BadStore = cc in same) F good refl
 
-pub tells_other : (e : Edition) (r : Result Rows StoreFault) (T : Tables) → r ≡ Err (told_as (other_edition e)) → ReadsFarm e r T → IsOfSchema (schema_of (other_edition e)) T
+pub tells_other : (e : Edition) (r : Result Rows StoreFault) (T : Tables) → r ≡ Err (version_fault (other_edition e)) → ReadsFarm e r T → IsOfSchema (schema_of (other_edition e)) T
 tells_other e (Ok rows) T told read = absurd (let x = told in cc)
-tells_other e (Err f) T told read = read.0 (let same : f ≡ told_as (other_edition e) = cc in same)
+tells_other e (Err f) T told read = read.0 (let same : f ≡ version_fault (other_edition e) = cc in same)
 
 -- ---- the version
 
@@ -72,7 +72,7 @@ reads_numbers e (Err f) T rows are read = (λ told. absurd (no_version (other_ed
 
 -- tables of another version are refused as what they are
 abbrev pub IsVersionFault : Edition → StoreFault → List Row → Type 0
-IsVersionFault e fault rows = ((fault ≡ told_as (other_edition e)) × IsTrue (list_any (tells (schema_of (other_edition e))) rows))
+IsVersionFault e fault rows = ((fault ≡ version_fault (other_edition e)) × IsTrue (list_any (tells (schema_of (other_edition e))) rows))
     ⊎ ((fault ≡ BadStore) × ¬ IsTrue (list_any (tells (schema_of (other_edition e))) rows) × ¬ IsTrue (list_any (tells (schema_of e)) rows))
 
 pub refuses_version : (e : Edition) (r : Result MetaRow StoreFault) (T : Tables) (fault : StoreFault) → IsErrAnd r (λ f. f ≡ fault) → IsVersionFault e fault T.meta → ReadsNumbers e r T
@@ -96,7 +96,7 @@ same_fault r (Err g) fault f was told is = let x : Err fault ≡ Err f = sym was
 pub looks_again : {A B : Type 0} (e : Edition) (r : Result A StoreFault) (s : Result B StoreFault) (T : Tables) (fault : StoreFault) → r ≡ Err fault → IsErrAnd s (λ f. f ≡ fault)
     → LooksAtSchema e r T → LooksAtSchema e s T
 looks_again {A} {B} e r s T fault was told first = record {
-  known = λ is. one (told_as (other_edition e)) Store (first.known is);
+  known = λ is. one (version_fault (other_edition e)) Store (first.known is);
   other = λ is none. one BadStore Store (first.other is none);
 }
   where
@@ -110,7 +110,7 @@ looks_again {A} {B} e r s T fault was told first = record {
 pub failed_first : {A : Type 0} (e : Edition) (r : Result A StoreFault) (db : Database) → IsErrAnd r (λ f. f ≡ Store) → LooksFirst e r db
 failed_first e (Ok a) db is = absurd is
 failed_first e (Err f) db is = record {
-  told = λ told. absurd (not_store (other_edition e) (let same : f ≡ told_as (other_edition e) = cc in sym is ∙ same));
+  told = λ told. absurd (not_store (other_edition e) (let same : f ≡ version_fault (other_edition e) = cc in sym is ∙ same));
   known = λ _. inr (ap Err is);
   neither = λ _ _. inr (ap Err is);
 }
@@ -124,7 +124,7 @@ refused_first e (Err f) db rows fault is shows (inl (told, other)) = record {
   neither = λ none. absurd (none (rows, shows, other));
 }
 refused_first e (Err f) db rows fault is shows (inr (bad, not_other, none)) = record {
-  told = λ told. absurd (not_bad (other_edition e) (let same : f ≡ told_as (other_edition e) = cc in sym bad ∙ sym is ∙ same));
+  told = λ told. absurd (not_bad (other_edition e) (let same : f ≡ version_fault (other_edition e) = cc in sym bad ∙ sym is ∙ same));
   known = λ tells. absurd (not_other (tells rows shows));
   neither = λ _ _. inl (ap Err (is ∙ bad));
 }
@@ -141,7 +141,7 @@ known_first e a db rows shows not_other own = record {
 pub read_on : {A B : Type 0} (e : Edition) (a : A) (r : Result B StoreFault) (db : Database) → LooksFirst e (Ok a) db → IfErr r TellsNoVersion → LooksFirst e r db
 read_on {A} {B} e a r db first none = record {
   told = λ told. absurd (never_told (other_edition e) r none told);
-  known = λ all. absurd (by (Ok a) refl (told_as (other_edition e)) Store (first.known all));
+  known = λ all. absurd (by (Ok a) refl (version_fault (other_edition e)) Store (first.known all));
   neither = λ not_other not_own. absurd (by (Ok a) refl BadStore Store (first.neither not_other not_own));
 }
   where
@@ -153,7 +153,7 @@ read_on {A} {B} e a r db first none = record {
 pub first_again : {A B : Type 0} (e : Edition) (r : Result A StoreFault) (s : Result B StoreFault) (db : Database) (fault : StoreFault) → r ≡ Err fault → IsErrAnd s (λ f. f ≡ fault) → LooksFirst e r db → LooksFirst e s db
 first_again {A} {B} e r s db fault was told first = record {
   told = λ is. first.told (back s told is);
-  known = λ all. one (told_as (other_edition e)) Store (first.known all);
+  known = λ all. one (version_fault (other_edition e)) Store (first.known all);
   neither = λ not_other not_own. one BadStore Store (first.neither not_other not_own);
 }
   where

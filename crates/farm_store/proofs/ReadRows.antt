@@ -3,7 +3,7 @@ use Rattle.std.proofs.Common.{◌≡◌, ◌≢◌, ℕ, zero, suc, ◌+◌, ◌
 use Rattle.std.specs.List.{AllByRecursion}
 use Rattle.std.proofs.lemmas.List.{take_more, map-append}
 use Rattle.sqlite.specs.Order.{Row}
-use Rattle.farm_store.specs.Reading.{ReadsAll, ReadsRow, Spells, TellsNoVersion}
+use Rattle.farm_store.specs.Reading.{ReadsAll, ReadsRow, HasColumns, TellsNoVersion}
 use Rattle.farm_store.specs.declared.fault.StoreFault.{StoreFault}
 use Rattle.farm_store.specs.declared.fault.StoreFault.TheVariants.{BadStore}
 
@@ -46,6 +46,6 @@ refuses (Err e) items IsGood columns rows fault is known none = (subst TellsNoVe
 
 -- a column that was refused refuses the row
 pub refuses_row : {X : Type 0} (r : Result X StoreFault) (IsGood : X → Type 0) (columns : X → Row) (row : Row) (fault : StoreFault) → IsErrAnd r (λ e. e ≡ fault) → TellsNoVersion fault
-    → (fault ≡ BadStore → (x : X) → IsGood x → ¬ Spells row 0 (columns x)) → ReadsRow r IsGood columns row
+    → (fault ≡ BadStore → (x : X) → IsGood x → ¬ HasColumns row 0 (columns x)) → ReadsRow r IsGood columns row
 refuses_row (Ok a) IsGood columns row fault is known none = absurd is
 refuses_row (Err e) IsGood columns row fault is known none = (subst TellsNoVersion (sym is) known, λ bad. none (sym is ∙ bad))

@@ -42,7 +42,7 @@ use Rattle.farm_store.specs.declared.kept.TheConstants.{PUT as PUT_KEPT}
 use Rattle.farm_store.specs.Schema.{farm_schema, strict_table, types_table, boards_table, jobs_table, reservations_table, kept_table}
 use Rattle.farm_store.specs.Columns.{Tables, type_columns, board_columns, job_columns, res_columns, kept_columns}
 use Rattle.farm_store.specs.Holds.{IsInside}
-use Rattle.farm_store.specs.Places.{Place, put_at, of_types, of_boards, of_jobs, of_reservations, of_kept}
+use Rattle.farm_store.specs.Places.{TableSlot, put_at, of_types, of_boards, of_jobs, of_reservations, of_kept}
 use Rattle.farm_store.specs.Stored.{HasInt, IsWide}
 use Rattle.farm_store.proofs.Replace.{cast_int, cast_null}
 use Rattle.farm_store.proofs.Keys.{by_next, by_next_two, by_rowid}
@@ -73,10 +73,10 @@ all_stay (c ∷ cs) [] fit = refl
 all_stay (c ∷ cs) (v ∷ vs) fit = let both = and_parts (fits c.kind v) (all_fit cs vs) fit in ap₂ ◌∷◌ (stays c.kind v both.0) (all_stay cs vs both.1)
 
 -- the text puts such a row at the place
-abbrev Puts : Place → List ℕ → Row → Type 1
+abbrev Puts : TableSlot → List ℕ → Row → Type 1
 Puts p text x = (old new : State) (count : ℕ) (T : Tables) → IsInside old T → ExecutesInside 0 text x old new (Ok count) → IsInside new (put_at p T (x ∷ []))
 
-module _ (p : Place) (known : IsKnown p) (still : (keys : Keys) (olds news : List Row) → works farm_schema keys 0 p.tree olds news ≡ []) (name : List ℕ) (columns : List Column) (at : ℕ) (text : List ℕ) (terms : List Term)
+module _ (p : TableSlot) (known : IsKnown p) (still : (keys : Keys) (olds news : List Row) → works farm_schema keys 0 p.tree olds news ≡ []) (name : List ℕ) (columns : List Column) (at : ℕ) (text : List ℕ) (terms : List Term)
     (plain : IsPlain (understood farm_schema text)) where
   -- a table that is keyed by columns: the store chooses the rowid
   module _ (key : List ℕ) (x : Row) where
@@ -127,13 +127,13 @@ params at zero = []
 params at (suc n) = col 0 at ∷ params (suc at) n
 
 -- the row that is put, behind a rowid that is to be chosen, and behind its first column
-abbrev keyed_terms : Place → List Term
+abbrev keyed_terms : TableSlot → List Term
 keyed_terms p = lit Null ∷ params 0 p.width
 
-abbrev numbered_terms : Place → List Term
+abbrev numbered_terms : TableSlot → List Term
 numbered_terms p = col 0 0 ∷ lit Null ∷ params 1 (p.width - 1)
 
-abbrev IsPut : ℕ → Place → List Term → List ℕ → Type 0
+abbrev IsPut : ℕ → TableSlot → List Term → List ℕ → Type 0
 IsPut at p terms text = (command_of (understood farm_schema text) ≡ InsertOr at Replace (Values terms (suc p.width)) []) × IsPlain (understood farm_schema text)
 
 types_is : IsPut 0 of_types (keyed_terms of_types) PUT_TYPES.now

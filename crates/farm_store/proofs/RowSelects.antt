@@ -32,7 +32,7 @@ use Rattle.farm_store.specs.declared.meta.TheConstants.{READ as READ_META}
 use Rattle.farm_store.specs.Schema.{farm_schema, types_table, boards_table, jobs_table, reservations_table, kept_table, meta_table}
 use Rattle.farm_store.specs.Columns.{Tables, by_first, by_two}
 use Rattle.farm_store.specs.Holds.{IsInside, ShowsTables}
-use Rattle.farm_store.specs.Places.{Place, of_types, of_boards, of_jobs, of_reservations, of_kept, of_meta}
+use Rattle.farm_store.specs.Places.{TableSlot, of_types, of_boards, of_jobs, of_reservations, of_kept, of_meta}
 use Rattle.farm_store.specs.Reading.{CommitShows}
 use Rattle.farm_store.specs.Stored.{IsWide, row_less_rowid, with_number}
 use Rattle.farm_store.proofs.ColumnsFrom.{columns_from, whole, of_unnumbered, of_numbered}
@@ -66,10 +66,10 @@ abbrev IsQuery : List ℕ → Query → List (List ℕ) → Type 0
 IsQuery text query names = (command_of (understood farm_schema text) ≡ Select (record { lets = []; body = query }) names) × (reads_listing farm_schema text ≡ false) × IsPlain (understood farm_schema text)
 
 -- the text shows the rows of the place
-abbrev Shows : Place → List ℕ → Query → Type 1
+abbrev Shows : TableSlot → List ℕ → Query → Type 1
 Shows p text query = (old new : State) (rows : List Row) (T : Tables) → IsInside old T → Shown text [] old new rows → (rows ≡ p.rows T) × AllByRecursion (IsWide p.width) rows × Selected query old new T rows
 
-module _ (p : Place) (text : List ℕ) {query : Query} (shows_rows : Shows p text query) (old new : State) (rows : List Row) (T : Tables) (at : IsInside old T) (shown : Shown text [] old new rows) where
+module _ (p : TableSlot) (text : List ℕ) {query : Query} (shows_rows : Shows p text query) (old new : State) (rows : List Row) (T : Tables) (at : IsInside old T) (shown : Shown text [] old new rows) where
   pub rows_shown : (rows ≡ p.rows T) × AllByRecursion (IsWide p.width) rows × IsInside new T
   rows_shown = let got = shows_rows old new rows T at shown in (got.0, got.1, got.2.inside)
 
@@ -86,13 +86,13 @@ abbrev names_of : Table → List (List ℕ)
 names_of t = map (λ (c : Column). c.name) t.columns
 
 -- the queries of a place that is keyed by its first column, by its first two, and by its rowid
-abbrev by_key : Place → Query
+abbrev by_key : TableSlot → Query
 by_key p = query_of p.tree (cols 1 p.width) (first_key 1)
 
-abbrev by_keys : Place → Query
+abbrev by_keys : TableSlot → Query
 by_keys p = query_of p.tree (cols 1 p.width) two_keys
 
-abbrev by_number : Place → Query
+abbrev by_number : TableSlot → Query
 by_number p = query_of p.tree (col 1 0 ∷ cols 2 (p.width - 1)) (first_key 0)
 
 first_is : (a b : Row) → output_cmp (query_of 0 [] (first_key 0)) (column a 0 ∷ [], a) (column b 0 ∷ [], b) ≡ by_first a b
@@ -105,7 +105,7 @@ behind : (at : ℕ) (r : Row) → column r (suc at) ≡ column (row_less_rowid r
 behind at [] = refl
 behind at (v ∷ r) = refl
 
-module _ (p : Place) (known : IsKnown p) (alone : (db : Trees) → overlay db [] p.tree ≡ db p.tree) (text : List ℕ) (names : List (List ℕ)) where
+module _ (p : TableSlot) (known : IsKnown p) (alone : (db : Trees) → overlay db [] p.tree ≡ db p.tree) (text : List ℕ) (names : List (List ℕ)) where
   -- what the query puts out of a raw row, and of the row that it shows
   by_output : (project : List Term) (order : List (Term × Key)) (P Q : Row → Output) → IsQuery text (query_of p.tree project order) names → ((raw : Row) → P raw ≡ Q (p.show raw))
       → ((a b : Row) → output_cmp (query_of p.tree project order) (Q a) (Q b) ≡ p.cmp a b) → ((r : Row) → IsWide p.width r → (Q r).1 ≡ r) → ((r : Row) → output (query_of p.tree project order) ([] ∷ r ∷ []) ≡ P r)

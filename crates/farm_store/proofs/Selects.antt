@@ -20,7 +20,7 @@ use Rattle.farm_store.specs.Schema.{farm_schema}
 use Rattle.farm_store.specs.Columns.{Tables}
 use Rattle.farm_store.specs.Holds.{IsInside, ShowsTables}
 use Rattle.farm_store.specs.Reading.{CommitShows}
-use Rattle.farm_store.specs.Stored.{IsWide, Lists}
+use Rattle.farm_store.specs.Stored.{IsWide, ListsRows}
 use Rattle.farm_store.proofs.Loads.{answers}
 
 -- a query that answered found the connection open
@@ -103,7 +103,7 @@ module _ {cmp : Row → Row → Ordering} (total : IsTotalOrder cmp) (show : Row
   seconds (r ∷ rows) wide = let first = fits r wide.0 in let more = seconds rows wide.1 in cc
 
   pub rows_are : (raws found rows : List Row) (kept ordered : List Output) → kept ≡ map (output query) (flat_map (λ r. ([] ∷ r ∷ []) ∷ []) raws) → IsPermutation kept ordered → Rattle.std.specs.List.Sorted.IsSorted (output_cmp query) ordered
-      → rows ≡ page query [] (map (λ (o : Output). o.1) ordered) → Lists cmp show width raws found → rows ≡ found
+      → rows ≡ page query [] (map (λ (o : Output). o.1) ordered) → ListsRows cmp show width raws found → rows ≡ found
   rows_are raws found rows kept ordered kept_is same sorted shown it =
       let in_order = answers total (output_cmp_total query) show width P Q shows keeps raws found ordered it (subst (λ k. IsPermutation k ordered) (kept_is ∙ outputs raws) same) sorted in
       shown ∙ paged (map (λ (o : Output). o.1) ordered) ∙ ap (map (λ (o : Output). o.1)) in_order ∙ seconds found it.wide

@@ -11,9 +11,9 @@ use Rattle.farm_types.specs.declared.rows.JobState.{JobState}
 use Rattle.farm_types.specs.declared.rows.Outcome.{Outcome}
 use Rattle.farm_types.specs.declared.rows.ResState.{ResState}
 use Rattle.farm_types.specs.declared.rows.State.{State}
-use Rattle.farm_store.specs.Columns.{first_state_code, unit_of, holder_of}
+use Rattle.farm_store.specs.Columns.{first_state_code, unit_code, holder_of}
 
-pub unit_is_small : (c : Check) → IsSmall (unit_of c)
+pub unit_is_small : (c : Check) → IsSmall (unit_code c)
 unit_is_small Check.Never = omega arith
 unit_is_small (Check.Hours n) = omega arith
 unit_is_small (Check.Jobs n) = omega arith

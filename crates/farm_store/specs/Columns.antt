@@ -39,14 +39,14 @@ abbrev pub number : {R : Type 0} → List ℕ → (R → ℕ) → Field R
 number name f = record { name = name; kind = Kind.Integer; value = λ r. Int (pos (f r)) }
 
 -- the row that stands for a thing
-abbrev pub values_of : {R : Type 0} → List (Field R) → R → Row
-values_of fields r = map (λ f. f.value r) fields
+abbrev pub row_values : {R : Type 0} → List (Field R) → R → Row
+row_values fields r = map (λ f. f.value r) fields
 
 -- the unit of a check's frequency: none, hours or jobs
-abbrev pub unit_of : Check → ℕ
-unit_of Check.Never = 0
-unit_of (Check.Hours n) = 1
-unit_of (Check.Jobs n) = 2
+abbrev pub unit_code : Check → ℕ
+unit_code Check.Never = 0
+unit_code (Check.Hours n) = 1
+unit_code (Check.Jobs n) = 2
 
 -- who holds a board: nobody, a job or a reservation
 abbrev pub holder_of : Holder → ℕ
@@ -61,7 +61,7 @@ checking_code checking = if checking then 1 else 0
 
 abbrev pub type_fields : List (Field TypeRow)
 type_fields = text (codes "name") (λ r. r.name)
-    ∷ number (codes "unit") (λ r. unit_of r.check)
+    ∷ number (codes "unit") (λ r. unit_code r.check)
     ∷ number (codes "every") (λ r. every_of r.check) ∷ []
 
 abbrev pub board_fields : List (Field BoardRow)
@@ -111,19 +111,19 @@ kept_fields = text (codes "caller") (λ r. r.caller)
     ∷ number (codes "c") (λ r. r.reply.2) ∷ []
 
 abbrev pub type_columns : TypeRow → Row
-type_columns = values_of type_fields
+type_columns = row_values type_fields
 
 abbrev pub board_columns : BoardRow → Row
-board_columns = values_of board_fields
+board_columns = row_values board_fields
 
 abbrev pub job_columns : JobRow → Row
-job_columns = values_of job_fields
+job_columns = row_values job_fields
 
 abbrev pub res_columns : ResRow → Row
-res_columns = values_of res_fields
+res_columns = row_values res_fields
 
 abbrev pub kept_columns : KeptRow → Row
-kept_columns = values_of kept_fields
+kept_columns = row_values kept_fields
 
 abbrev pub meta_row : List ℕ → ℕ → Row
 meta_row name value = Text name ∷ Int (pos value) ∷ []
@@ -183,7 +183,7 @@ first_state_code JobState.Finished = 4
 first_state_code JobState.Scheduling = 5
 
 abbrev pub first_job_columns : JobRow → Row
-first_job_columns = values_of (job_fields_by first_state_code)
+first_job_columns = row_values (job_fields_by first_state_code)
 
 abbrev pub first_meta_rows : MetaRow → List Row
 first_meta_rows m = meta_row (codes "clock") m.clock ∷ meta_row (codes "count") m.count

@@ -8,7 +8,7 @@ use Rattle.farm_types.specs.declared.rows.JobState.{JobState}
 use Rattle.farm_types.specs.declared.rows.MetaRow.{MetaRow}
 use Rattle.farm_store.specs.Columns.{Tables, first_meta_rows, first_rows_of, first_schema}
 use Rattle.farm_store.specs.Columns.{first_state_code, job_fields_by, meta_rows, rows_of}
-use Rattle.farm_store.specs.Columns.{second_schema, values_of}
+use Rattle.farm_store.specs.Columns.{second_schema, row_values}
 use Rattle.farm_store.specs.Readable.{IsReadable, IsReadableFirst, IsReadableJob}
 use Rattle.farm_store.specs.declared.edition.Edition.{Edition}
 use Rattle.farm_store.specs.declared.fault.StoreFault.{StoreFault}
@@ -24,9 +24,9 @@ schema_of Edition.First = first_schema
 schema_of Edition.Second = second_schema
 
 -- how its tables are refused where those of the other edition are wanted
-abbrev pub told_as : Edition → StoreFault
-told_as Edition.First = OldSchema
-told_as Edition.Second = NewSchema
+abbrev pub version_fault : Edition → StoreFault
+version_fault Edition.First = OldSchema
+version_fault Edition.Second = NewSchema
 
 -- ---- how it spells
 
@@ -35,7 +35,7 @@ state_code_in Edition.First = first_state_code
 state_code_in Edition.Second = job_state_code
 
 abbrev pub job_columns_in : Edition → JobRow → Row
-job_columns_in edition = values_of (job_fields_by (state_code_in edition))
+job_columns_in edition = row_values (job_fields_by (state_code_in edition))
 
 abbrev pub meta_rows_in : Edition → MetaRow → List Row
 meta_rows_in Edition.First = first_meta_rows
@@ -46,8 +46,8 @@ rows_in Edition.First = first_rows_of
 rows_in Edition.Second = rows_of
 
 -- the tables with these jobs, as it spells them
-abbrev pub with_jobs : Edition → List JobRow → Tables → Tables
-with_jobs edition jobs T = record T { jobs = map (job_columns_in edition) jobs }
+abbrev pub tables_with_jobs : Edition → List JobRow → Tables → Tables
+tables_with_jobs edition jobs T = record T { jobs = map (job_columns_in edition) jobs }
 
 -- ---- what it can spell: in the first edition no job is Scheduling, and no group collects
 

@@ -9,11 +9,11 @@ use Rattle.farm_store.specs.Columns.{Tables, by_first, by_two, type_columns, boa
 use Rattle.farm_store.specs.Columns.{job_columns, res_columns, kept_columns, number_rows}
 use Rattle.farm_store.specs.Schema.{types_table, boards_table, jobs_table, reservations_table}
 use Rattle.farm_store.specs.Schema.{kept_table, meta_table}
-use Rattle.farm_store.specs.Stored.{Lists, row_less_rowid, with_number}
+use Rattle.farm_store.specs.Stored.{ListsRows, row_less_rowid, with_number}
 
 -- one of the six tables: its tree, what a raw row of it shows, how wide that is, the order of its
 -- rows, which rows they are, and the tables with other rows there
-pub record Place : Type 0 where
+pub record TableSlot : Type 0 where
   pub tree : ℕ
   pub show : Row → Row
   pub width : ℕ
@@ -21,7 +21,7 @@ pub record Place : Type 0 where
   pub rows : Tables → List Row
   pub replaced : Tables → List Row → Tables
 
-abbrev pub of_types : Place
+abbrev pub of_types : TableSlot
 of_types = record {
   tree = 0;
   show = row_less_rowid;
@@ -31,7 +31,7 @@ of_types = record {
   replaced = λ T rows. record T { types = rows };
 }
 
-abbrev pub of_boards : Place
+abbrev pub of_boards : TableSlot
 of_boards = record {
   tree = 2;
   show = row_less_rowid;
@@ -41,7 +41,7 @@ of_boards = record {
   replaced = λ T rows. record T { boards = rows };
 }
 
-abbrev pub of_jobs : Place
+abbrev pub of_jobs : TableSlot
 of_jobs = record {
   tree = 4;
   show = with_number;
@@ -51,7 +51,7 @@ of_jobs = record {
   replaced = λ T rows. record T { jobs = rows };
 }
 
-abbrev pub of_reservations : Place
+abbrev pub of_reservations : TableSlot
 of_reservations = record {
   tree = 5;
   show = with_number;
@@ -61,7 +61,7 @@ of_reservations = record {
   replaced = λ T rows. record T { reservations = rows };
 }
 
-abbrev pub of_kept : Place
+abbrev pub of_kept : TableSlot
 of_kept = record {
   tree = 6;
   show = row_less_rowid;
@@ -71,7 +71,7 @@ of_kept = record {
   replaced = λ T rows. record T { kept = rows };
 }
 
-abbrev pub of_meta : Place
+abbrev pub of_meta : TableSlot
 of_meta = record {
   tree = 8;
   show = row_less_rowid;
@@ -82,12 +82,12 @@ of_meta = record {
 }
 
 -- the tree has the rows that the tables have at this place
-abbrev pub HoldsAt : Place → Trees → Tables → Type 0
-HoldsAt p db T = Lists p.cmp p.show p.width (db p.tree) (p.rows T)
+abbrev pub HoldsAt : TableSlot → Trees → Tables → Type 0
+HoldsAt p db T = ListsRows p.cmp p.show p.width (db p.tree) (p.rows T)
 
 -- the tables with rows put at this place: each in the place of the row with its key, or added in
 -- order of the keys
-abbrev pub put_at : Place → Tables → List Row → Tables
+abbrev pub put_at : TableSlot → Tables → List Row → Tables
 put_at p T rows = p.replaced T (put_all p.cmp (p.rows T) rows)
 
 -- the tables with all changed rows and the four numbers put
@@ -102,7 +102,7 @@ put_tables T c =
 
 -- rows put at this place are those that stand there, also over others; those that stand there
 -- already change nothing
-pub record IsPlace (p : Place) : Type 0 where
+pub record IsPlace (p : TableSlot) : Type 0 where
   pub own : (T : Tables) (rows : List Row) → p.rows (p.replaced T rows) ≡ rows
   pub over : (T : Tables) (rows more : List Row) → p.replaced (p.replaced T rows) more
       ≡ p.replaced T more

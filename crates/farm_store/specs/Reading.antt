@@ -11,7 +11,7 @@ use Rattle.farm_types.specs.declared.calls.Rows.{Rows}
 use Rattle.farm_types.specs.declared.rows.MetaRow.{MetaRow}
 use Rattle.farm_store.specs.Columns.{IsOfSchema, Tables}
 use Rattle.farm_store.specs.Editions.{IsCollectorIn, IsReadableIn, meta_rows_in, other_edition}
-use Rattle.farm_store.specs.Editions.{rows_in, schema_of, told_as}
+use Rattle.farm_store.specs.Editions.{rows_in, schema_of, version_fault}
 use Rattle.farm_store.specs.Holds.{ShowsTables, Stands}
 use Rattle.farm_store.specs.Versions.{MayTell, Tells}
 use Rattle.farm_store.specs.declared.edition.Edition.{Edition}
@@ -31,15 +31,15 @@ ReadsAs result IsGood spelled value =
     × (fault ≡ BadStore → (x : _) → IsGood x → value ≢ spelled x))
 
 -- these are the row's columns from one place on
-abbrev pub Spells : Row → ℕ → Row → Type 0
-Spells row at [] = ⊤
-Spells row at (v ∷ vs) = (column row at ≡ v) × Spells row (suc at) vs
+abbrev pub HasColumns : Row → ℕ → Row → Type 0
+HasColumns row at [] = ⊤
+HasColumns row at (v ∷ vs) = (column row at ≡ v) × HasColumns row (suc at) vs
 
 -- the same of a row, column by column
 abbrev pub ReadsRow : {X : Type 0} → Result X StoreFault → (X → Type 0) → (X → Row) → Row → Type 0
 ReadsRow result IsGood columns row =
-    MatchResult result (λ x. IsGood x × Spells row 0 (columns x)) (λ fault. TellsNoVersion fault
-    × (fault ≡ BadStore → (x : _) → IsGood x → ¬ Spells row 0 (columns x)))
+    MatchResult result (λ x. IsGood x × HasColumns row 0 (columns x)) (λ fault. TellsNoVersion fault
+    × (fault ≡ BadStore → (x : _) → IsGood x → ¬ HasColumns row 0 (columns x)))
 
 -- the same of all rows of a table
 abbrev pub ReadsAll : {A X : Type 0} → Result A StoreFault → (A → List X) → (X → Type 0) → (X → Row)
@@ -58,7 +58,7 @@ CommitShows s T = IsTrue s.is_open → ShowsTables s.committed T
 pub record LooksAtSchema {A : Type 0} (edition : Edition) (result : Result A StoreFault)
     (T : Tables) : Type 0 where
   pub known : IsOfSchema (schema_of (other_edition edition)) T
-      → (result ≡ Err (told_as (other_edition edition))) ⊎ (result ≡ Err Store)
+      → (result ≡ Err (version_fault (other_edition edition))) ⊎ (result ≡ Err Store)
   pub other : ¬ IsOfSchema (schema_of (other_edition edition)) T
       → ¬ IsOfSchema (schema_of edition) T
       → (result ≡ Err BadStore) ⊎ (result ≡ Err Store)
@@ -68,10 +68,10 @@ pub record LooksAtSchema {A : Type 0} (edition : Edition) (result : Result A Sto
 -- `meta` tells it; where it tells neither the store is bad. Or the store failed
 pub record LooksFirst {A : Type 0} (edition : Edition) (result : Result A StoreFault)
     (db : Database) : Type 0 where
-  pub told : result ≡ Err (told_as (other_edition edition))
+  pub told : result ≡ Err (version_fault (other_edition edition))
       → MayTell (schema_of (other_edition edition)) db
   pub known : Tells (schema_of (other_edition edition)) db
-      → (result ≡ Err (told_as (other_edition edition))) ⊎ (result ≡ Err Store)
+      → (result ≡ Err (version_fault (other_edition edition))) ⊎ (result ≡ Err Store)
   pub neither : ¬ MayTell (schema_of (other_edition edition)) db
       → ¬ MayTell (schema_of edition) db
       → (result ≡ Err BadStore) ⊎ (result ≡ Err Store)
@@ -81,7 +81,7 @@ pub record LooksFirst {A : Type 0} (edition : Edition) (result : Result A StoreF
 abbrev pub ReadsNumbers : Edition → Result MetaRow StoreFault → Tables → Type 0
 ReadsNumbers edition result T =
     MatchResult result (λ m. IsCollectorIn edition m.collector × (T.meta ≡ meta_rows_in edition m))
-    (λ fault. (fault ≡ told_as (other_edition edition)
+    (λ fault. (fault ≡ version_fault (other_edition edition)
     → IsOfSchema (schema_of (other_edition edition)) T)
     × (fault ≡ BadStore → (m : MetaRow) → IsCollectorIn edition m.collector
     → T.meta ≢ meta_rows_in edition m))
@@ -93,7 +93,7 @@ abbrev pub ReadsFarm : Edition → Result Rows StoreFault → Tables → Type 0
 ReadsFarm edition result T =
     MatchResult result
     (λ rows. IsReadableIn edition (farm_of rows) × (rows_in edition (farm_of rows) ≡ T))
-    (λ fault. (fault ≡ told_as (other_edition edition)
+    (λ fault. (fault ≡ version_fault (other_edition edition)
     → IsOfSchema (schema_of (other_edition edition)) T)
     × (fault ≡ BadStore → (F : Farm) → IsReadableIn edition F → rows_in edition F ≢ T))
 
@@ -110,7 +110,7 @@ pub record ReadsEdition (edition : Edition) (result : Result Rows StoreFault) (s
   -- version
   pub bad : result ≡ Err BadStore → (F : Farm) → IsReadableIn edition F
       → ¬ Stands s (rows_in edition F)
-  pub other : result ≡ Err (told_as (other_edition edition)) → (T : Tables) → Stands s T
+  pub other : result ≡ Err (version_fault (other_edition edition)) → (T : Tables) → Stands s T
       → IsOfSchema (schema_of (other_edition edition)) T
   -- the version is looked at before anything else: of our tables, and of any store
   pub schema : (T : Tables) → Stands s T → LooksAtSchema edition result T

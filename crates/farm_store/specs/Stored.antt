@@ -24,7 +24,7 @@ abbrev pub IsWide : ℕ → Row → Type 0
 IsWide width r = length r ≡ width
 
 -- what the table's raw rows show are these rows in strict order, each as wide as the table
-pub record Lists (cmp : Row → Row → Ordering) (show : Row → Row) (width : ℕ) (raws rows : List Row)
+pub record ListsRows (cmp : Row → Row → Ordering) (show : Row → Row) (width : ℕ) (raws rows : List Row)
     : Type 0 where
   -- the rowids are integers that rise
   pub ordered : IsTable raws

@@ -1,6 +1,6 @@
 //! The two editions of the tables.
 ghost use Rattle.std.specs.Prelude.{◌≡◌};
-ghost use Rattle.farm_store.specs.Editions.{other_edition, schema_of, told_as};
+ghost use Rattle.farm_store.specs.Editions.{other_edition, schema_of, version_fault};
 
 use crate::fault::StoreFault;
 use crate::schema::{FIRST_SCHEMA, SCHEMA};
@@ -35,7 +35,7 @@ impl Edition {
 
     /// How its tables are refused where those of the other edition are wanted.
     pub(crate) fn refusal(self) -> StoreFault
-        ensures { result ≡ told_as self }
+        ensures { result ≡ version_fault self }
     {
         match self {
             Edition::First => StoreFault::OldSchema,

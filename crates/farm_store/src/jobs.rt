@@ -11,7 +11,7 @@ ghost use Rattle.sqlite.specs.Values.{bound};
 ghost use Rattle.farm_types.specs.Small.{IsSmallJob};
 ghost use Rattle.farm_types.specs.Tags.{tags_text};
 ghost use Rattle.farm_store.specs.Columns.{Tables, job_columns};
-ghost use Rattle.farm_store.specs.Editions.{with_jobs};
+ghost use Rattle.farm_store.specs.Editions.{tables_with_jobs};
 ghost use Rattle.farm_store.specs.Edits.{GoesOn};
 ghost use Rattle.farm_store.specs.Holds.{IsInside};
 ghost use Rattle.farm_store.specs.Raising.{raised_below};
@@ -152,8 +152,8 @@ pub(crate) fn raise_jobs<S: Alter>(
     ensures goes_on { GoesOn S.Store tx.old tx.new }
     ensures raised { HasCleanDisk (state S.Store tx.new.conn.now)
         → OnOk result ((T : Tables)
-        → IsInside (state S.Store tx.old.conn.now) (with_jobs Edition.First rows.now T)
-        → IsInside (state S.Store tx.new.conn.now) (with_jobs Edition.Second rows.now T)) }
+        → IsInside (state S.Store tx.old.conn.now) (tables_with_jobs Edition.First rows.now T)
+        → IsInside (state S.Store tx.new.conn.now) (tables_with_jobs Edition.Second rows.now T)) }
 {
     let mut from = 0;
     for (at, row) in rows.iter().enumerate() {

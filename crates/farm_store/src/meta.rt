@@ -9,7 +9,7 @@ ghost use Rattle.farm_types.specs.Small.{IsSmall};
 ghost use Rattle.farm_store.specs.Columns.{Tables, first_meta_rows, meta_row, meta_rows};
 ghost use Rattle.farm_store.specs.Columns.{number_rows, tells};
 ghost use Rattle.farm_store.specs.Editions.{IsCollectorIn, meta_rows_in, other_edition, schema_of};
-ghost use Rattle.farm_store.specs.Editions.{told_as};
+ghost use Rattle.farm_store.specs.Editions.{version_fault};
 ghost use Rattle.farm_store.specs.Edits.{ChangesTables, GoesOn, StaysOpen};
 ghost use Rattle.farm_store.specs.Holds.{IsInside};
 ghost use Rattle.farm_store.specs.Places.{of_meta, put_at};
@@ -192,7 +192,7 @@ fn look_at_schema(rows: &[Row], edition: Edition) -> Result<(), StoreFault>
     ensures { MatchResult result
         (λ _. ¬ IsTrue (list_any (tells (schema_of (other_edition edition))) rows.now)
         × IsTrue (list_any (tells (schema_of edition)) rows.now))
-        (λ fault. ((fault ≡ told_as (other_edition edition))
+        (λ fault. ((fault ≡ version_fault (other_edition edition))
         × IsTrue (list_any (tells (schema_of (other_edition edition))) rows.now))
         ⊎ ((fault ≡ StoreFault.BadStore)
         × ¬ IsTrue (list_any (tells (schema_of (other_edition edition))) rows.now)
@@ -241,7 +241,7 @@ pub(crate) fn read_numbers<S: Alter>(
     ensures looked { HasCleanDisk (state S.Store tx.new.conn.now)
         → LooksFirst edition result (state S.Store tx.old.conn.now).now }
     ensures collector { IfOk result (λ m. IsCollectorIn edition m.collector) }
-    ensures fault { result ≢ Err (told_as edition) }
+    ensures fault { result ≢ Err (version_fault edition) }
     ensures inside { HasCleanDisk (state S.Store tx.new.conn.now)
         → OnOk result ((T : Tables) → IsInside (state S.Store tx.old.conn.now) T
         → IsInside (state S.Store tx.new.conn.now) T) }

@@ -6,7 +6,7 @@ ghost use Rattle.std.specs.Prelude.{◌≡◌, ◌≢◌, false, Err, IfErr, IfO
 ghost use Rattle.sqlite.specs.Held.{state};
 ghost use Rattle.sqlite.specs.State.{HasCleanDisk};
 ghost use Rattle.farm_store.specs.Columns.{Tables};
-ghost use Rattle.farm_store.specs.Editions.{IsCollectorIn, meta_rows_in, told_as};
+ghost use Rattle.farm_store.specs.Editions.{IsCollectorIn, meta_rows_in, version_fault};
 ghost use Rattle.farm_store.specs.Edits.{GoesOn};
 ghost use Rattle.farm_store.specs.Holds.{IsInside, ReadsOnly};
 ghost use Rattle.farm_store.specs.Reading.{CommitShows, LooksAtSchema, LooksFirst, ReadsEdition};
@@ -70,7 +70,7 @@ fn read_all<S: Alter>(
     ensures looked { HasCleanDisk (state S.Store tx.new.conn.now)
         → LooksFirst edition result (state S.Store tx.old.conn.now).now }
     ensures collector { IfOk result (λ rows. IsCollectorIn edition rows.meta.collector) }
-    ensures fault { result ≢ Err (told_as edition) }
+    ensures fault { result ≢ Err (version_fault edition) }
     ensures opened { HasCleanDisk (state S.Store tx.new.conn.now)
         → OnOk result (IsTrue (state S.Store tx.old.conn.now).is_open) }
     ensures kept { HasCleanDisk (state S.Store tx.new.conn.now) → (T : Tables)
@@ -95,7 +95,7 @@ fn read_any<S: Alter>(
     ensures opened { HasCleanDisk (state S.Store conn.new)
         → OnOk result (IsTrue (state S.Store conn.old).is_open) }
     ensures collector { IfOk result (λ rows. IsCollectorIn edition rows.meta.collector) }
-    ensures fault { result ≢ Err (told_as edition) }
+    ensures fault { result ≢ Err (version_fault edition) }
 {
     let mut tx = conn.transaction();
     let rows = read_all(alloc, &mut tx, edition);
@@ -115,7 +115,7 @@ fn read_edition<S: Alter>(
     ensures reads { HasCleanDisk (state S.Store conn.new)
         → ReadsEdition edition result (state S.Store conn.old) }
     ensures collector { IfOk result (λ rows. IsCollectorIn edition rows.meta.collector) }
-    ensures fault { result ≢ Err (told_as edition) }
+    ensures fault { result ≢ Err (version_fault edition) }
 {
     let is_ours = is_farm_schema(conn.schema());
     match read_any(alloc, conn, edition) {

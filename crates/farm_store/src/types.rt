@@ -3,7 +3,7 @@ ghost use Rattle.std.specs.Prelude.{◌≡◌, ◌↔◌, IsTrue, MatchOption};
 ghost use Rattle.sqlite.specs.Values.{bound};
 ghost use Rattle.farm_types.specs.Small.{IsSmallType, every_of};
 ghost use Rattle.farm_types.specs.declared.rows.Check.{Check};
-ghost use Rattle.farm_store.specs.Columns.{type_columns, unit_of};
+ghost use Rattle.farm_store.specs.Columns.{type_columns, unit_code};
 ghost use Rattle.farm_store.specs.Schema.{types_table};
 
 use crate::edition::Edition;
@@ -44,7 +44,7 @@ pub(crate) fn is_types(table: &Table) -> bool
 
 /// The unit of a check's frequency, and how many of it.
 fn unit_and_every(check: Check) -> (u64, u64)
-    ensures { result ≡ (unit_of check, every_of check) }
+    ensures { result ≡ (unit_code check, every_of check) }
 {
     match check {
         Check::Never => (0, 0),
@@ -56,8 +56,8 @@ fn unit_and_every(check: Check) -> (u64, u64)
 /// The frequency with that unit and that number.
 fn check_of(unit: u64, every: u64) -> Option<Check>
     ensures { MatchOption result ((check : Check)
-        → ¬ ((unit ≡ unit_of check) × (every ≡ every_of check)))
-        (λ check. (unit ≡ unit_of check) × (every ≡ every_of check)) }
+        → ¬ ((unit ≡ unit_code check) × (every ≡ every_of check)))
+        (λ check. (unit ≡ unit_code check) × (every ≡ every_of check)) }
 {
     match (unit, every) {
         (0, 0) => Some(Check::Never),

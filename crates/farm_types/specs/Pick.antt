@@ -82,13 +82,13 @@ pub record IsLeast (boards : List BoardRow) (test : BoardRow → Bool) (wants : 
   pub least : (cs : List BoardRow) → AreAmong boards cs → IsTrue (meets test wants cs) → is_lt (names_cmp cs bs) ≡ false
 
 -- all lists of n of the boards; of boards in name order, the lists that come before stand before
-abbrev pub lists_of : ℕ → List BoardRow → List (List BoardRow)
-lists_of zero boards = [] ∷ []
-lists_of (suc n) boards = flat_map (λ b. map (λ bs. b ∷ bs) (lists_of n boards)) boards
+abbrev pub board_lists : ℕ → List BoardRow → List (List BoardRow)
+board_lists zero boards = [] ∷ []
+board_lists (suc n) boards = flat_map (λ b. map (λ bs. b ∷ bs) (board_lists n boards)) boards
 
 -- the least list, if any list meets the wants
 unfoldable pub least : List BoardRow → (BoardRow → Bool) → List Want → Option (List BoardRow)
-least boards test wants = find (meets test wants) (lists_of (length wants) boards)
+least boards test wants = find (meets test wants) (board_lists (length wants) boards)
 
 -- a waiting reservation, or a group whose members all wait for boards
 pub record Claimed : Type 0 where

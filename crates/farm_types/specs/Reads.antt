@@ -10,11 +10,11 @@ abbrev pub ◌>>=◌ : {A B E : Type 0} → Result A E → (A → Result B E) �
 (Err e) >>= f = Err e
 
 -- the refusal is the spelled one, unless memory ran out
-abbrev pub Refuses : {Y : Type 0} → WordFault → Result Y ℕ → Type 0
-Refuses NoMemory spelled = Unit {0}
-Refuses (Refused refusal) spelled = spelled ≡ Err refusal.code
+abbrev pub FaultOrNoMemory : {Y : Type 0} → WordFault → Result Y ℕ → Type 0
+FaultOrNoMemory NoMemory spelled = Unit {0}
+FaultOrNoMemory (Refused refusal) spelled = spelled ≡ Err refusal.code
 
 -- what a reader returned, seen by `view`, is what the text spells: a value, or the code of its refusal
-abbrev pub Reads : {X Y : Type 0} → (X → Y) → Result X WordFault → Result Y ℕ → Type 0
-Reads view (Ok word) spelled = spelled ≡ Ok (view word)
-Reads view (Err fault) spelled = Refuses fault spelled
+abbrev pub OrNoMemory : {X Y : Type 0} → (X → Y) → Result X WordFault → Result Y ℕ → Type 0
+OrNoMemory view (Ok word) spelled = spelled ≡ Ok (view word)
+OrNoMemory view (Err fault) spelled = FaultOrNoMemory fault spelled

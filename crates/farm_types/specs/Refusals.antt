@@ -125,20 +125,20 @@ write_fault = 81
 
 -- ---- the table
 
-pub record Entry : Type 0 where
+pub record RefusalLine : Type 0 where
   pub code : ℕ
   pub status : Option ℕ
   pub text : List ℕ
 
-abbrev pub entry : ℕ → ℕ → List ℕ → Entry
+abbrev pub entry : ℕ → ℕ → List ℕ → RefusalLine
 entry code status text = record { code = code; status = Some status; text = text }
 
 -- a fault that is never answered over HTTP
-abbrev pub fault : ℕ → List ℕ → Entry
+abbrev pub fault : ℕ → List ℕ → RefusalLine
 fault code text = record { code = code; status = None; text = text }
 
-abbrev pub table : List Entry
-table =
+abbrev pub refusal_table : List RefusalLine
+refusal_table =
     entry no_memory 503 (codes "no memory")
     ∷ entry bad_moment 400 (codes "bad moment")
     ∷ entry forbidden 403 (codes "forbidden")
@@ -179,13 +179,13 @@ table =
 
 -- the status and the text of a number, where the table has it
 abbrev pub line_of : ℕ → Option (Option ℕ × List ℕ)
-line_of code = option_map (λ e. (e.status, e.text)) (find (λ e. e.code == code) table)
+line_of code = option_map (λ e. (e.status, e.text)) (find (λ e. e.code == code) refusal_table)
 
-abbrev pub text_of : ℕ → List ℕ
-text_of code = option_map_or (λ line. line.1) (line_of code) []
+abbrev pub refusal_text : ℕ → List ℕ
+refusal_text code = option_map_or (λ line. line.1) (line_of code) []
 
-abbrev pub status_of : ℕ → Option ℕ
-status_of code = option_map_or (λ line. line.0) (line_of code) None
+abbrev pub http_status_of : ℕ → Option ℕ
+http_status_of code = option_map_or (λ line. line.0) (line_of code) None
 
 -- the reason phrase of a status
 abbrev pub reason_of : ℕ → List ℕ

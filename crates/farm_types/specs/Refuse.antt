@@ -22,10 +22,10 @@ use Rattle.farm_types.specs.declared.calls.Cmd.{Cmd}
 use Rattle.farm_types.specs.declared.calls.Call.{Call}
 
 -- a test, and the code where it holds
-abbrev pub Reason : Type 0
-Reason = Bool × ℕ
+abbrev pub RefusalTest : Type 0
+RefusalTest = Bool × ℕ
 
-abbrev pub first_code : List Reason → Option ℕ
+abbrev pub first_code : List RefusalTest → Option ℕ
 first_code [] = None
 first_code (reason ∷ reasons) = if reason.0 then Some reason.1 else first_code reasons
 
@@ -91,7 +91,7 @@ abbrev pub is_alive : ResRow → Bool
 is_alive r = same_res_state r.state ResState.Waiting || same_res_state r.state ResState.Allocated || same_res_state r.state ResState.Acquired
 
 -- the four commands on a reservation are refused alike: it isn't there, another's, past its deadline, or in the wrong state
-abbrev pub res_reasons : Farm → ℕ → ℕ → (ResRow → Bool) → (ResRow → Bool) → List Reason
+abbrev pub res_reasons : Farm → ℕ → ℕ → (ResRow → Bool) → (ResRow → Bool) → List RefusalTest
 res_reasons F t number mine right =
     (is_none (res_of F number), no_reservation)
     ∷ (not (res_is F number mine), forbidden)
@@ -104,59 +104,59 @@ owned_by caller owner = bytes_eq caller owner || is_admin caller
 
 -- ---- each command's own reasons, in their order
 
-abbrev pub add_type_reasons : Farm → List ℕ → List Reason
+abbrev pub add_type_reasons : Farm → List ℕ → List RefusalTest
 add_type_reasons F name = (is_some (type_of F name), type_exists) ∷ []
 
-abbrev pub add_board_reasons : Farm → List ℕ → List ℕ → List Reason
+abbrev pub add_board_reasons : Farm → List ℕ → List ℕ → List RefusalTest
 add_board_reasons F name kind = (is_none (type_of F kind), no_type) ∷ (is_some (board_of F name), board_exists) ∷ []
 
-abbrev pub set_tags_reasons : Farm → List ℕ → List Reason
+abbrev pub set_tags_reasons : Farm → List ℕ → List RefusalTest
 set_tags_reasons F name = (is_none (board_of F name), no_board) ∷ (board_is F name is_retired, board_is_retired) ∷ []
 
-abbrev pub set_health_reasons : Farm → List ℕ → Health → List Reason
+abbrev pub set_health_reasons : Farm → List ℕ → Health → List RefusalTest
 set_health_reasons F name health =
     (is_none (board_of F name), no_board)
     ∷ (board_is F name is_retired, board_is_retired)
     ∷ (same_health health Health.Retired && board_is F name (λ b. not (is_nobody b.holder)), board_is_held)
     ∷ []
 
-abbrev pub submit_reasons : Farm → List Want → List Reason
+abbrev pub submit_reasons : Farm → List Want → List RefusalTest
 submit_reasons F wants =
     (list_any (λ w. option_map_or (λ kind. is_none (type_of F kind)) w.kind false) wants, no_type)
     ∷ (is_none (least F.boards not_retired wants), no_such_boards)
     ∷ []
 
-abbrev pub cancel_reasons : Farm → List ℕ → ℕ → List Reason
+abbrev pub cancel_reasons : Farm → List ℕ → ℕ → List RefusalTest
 cancel_reasons F caller number =
     (is_none (job_of F number), no_job)
     ∷ (not (job_is F number (λ j. owned_by caller j.owner)), forbidden)
     ∷ (not (job_is F number (λ j. list_any can_cancel (members F j.group))), wrong_job_state)
     ∷ []
 
-abbrev pub start_reasons : Farm → ℕ → List Reason
+abbrev pub start_reasons : Farm → ℕ → List RefusalTest
 start_reasons F number =
     (is_none (job_of F number), no_job) ∷ (not (job_is F number (λ j. same_job_state j.state JobState.Scheduled)), wrong_job_state) ∷ []
 
-abbrev pub finish_reasons : Farm → ℕ → List Reason
+abbrev pub finish_reasons : Farm → ℕ → List RefusalTest
 finish_reasons F number =
     (is_none (job_of F number), no_job)
     ∷ (not (job_is F number (λ j. same_job_state j.state JobState.Running || same_job_state j.state JobState.Canceling)), wrong_job_state)
     ∷ []
 
-abbrev pub reserve_reasons : Farm → List (List ℕ) → List Reason
+abbrev pub reserve_reasons : Farm → List (List ℕ) → List RefusalTest
 reserve_reasons F tags = (is_none (least F.boards not_retired (record { kind = None; tags = tags } ∷ [])), no_such_boards) ∷ []
 
-abbrev pub acquire_reasons : Farm → ℕ → List ℕ → ℕ → List Reason
+abbrev pub acquire_reasons : Farm → ℕ → List ℕ → ℕ → List RefusalTest
 acquire_reasons F t caller number = res_reasons F t number (λ r. bytes_eq caller r.owner) (λ r. same_res_state r.state ResState.Allocated)
 
-abbrev pub release_reasons : Farm → ℕ → List ℕ → ℕ → List Reason
+abbrev pub release_reasons : Farm → ℕ → List ℕ → ℕ → List RefusalTest
 release_reasons F t caller number = res_reasons F t number (λ r. owned_by caller r.owner) (λ r. same_res_state r.state ResState.Acquired)
 
 -- of Refresh and CancelRes
-abbrev pub alive_reasons : Farm → ℕ → List ℕ → ℕ → List Reason
+abbrev pub alive_reasons : Farm → ℕ → List ℕ → ℕ → List RefusalTest
 alive_reasons F t caller number = res_reasons F t number (λ r. owned_by caller r.owner) is_alive
 
-abbrev pub reasons : Farm → ℕ → List ℕ → Cmd → List Reason
+abbrev pub reasons : Farm → ℕ → List ℕ → Cmd → List RefusalTest
 reasons F t caller (Cmd.AddType name check) = add_type_reasons F name
 reasons F t caller (Cmd.AddBoard name kind tags) = add_board_reasons F name kind
 reasons F t caller (Cmd.SetTags name tags) = set_tags_reasons F name

@@ -96,8 +96,8 @@ phase JobState.Scheduled = 1
 phase state = 2
 
 -- no group is half started
-abbrev pub IsWhole : Farm → Type 0
-IsWhole F = AllByRecursion (λ j. AllByRecursion (λ m. m.group ≡ j.group → phase m.state ≡ phase j.state) F.jobs) F.jobs
+abbrev pub AreGroupsInPhase : Farm → Type 0
+AreGroupsInPhase F = AllByRecursion (λ j. AllByRecursion (λ m. m.group ≡ j.group → phase m.state ≡ phase j.state) F.jobs) F.jobs
 
 -- only the collector's members are Scheduling, and it is a group of two or more members that wait
 pub record IsCollecting (collector : ℕ) (jobs : List JobRow) : Type 0 where
@@ -215,5 +215,5 @@ pub record IsSteady (F : Farm) : Type 0 where
 pub record IsSound (F : Farm) : Type 0 where
   pub steady : IsSteady F
   pub held : IsHeldByKeys F
-  pub whole : IsWhole F
+  pub whole : AreGroupsInPhase F
   pub collecting : IsCollecting F.collector F.jobs

@@ -1,7 +1,7 @@
 //! The one table of refusals and faults: number, HTTP status and text.
 ghost use Rattle.std.specs.Prelude.{◌≡◌};
 ghost use Rattle.std.specs.Option.{option_map};
-ghost use Rattle.farm_types.specs.Refusals.{line_of, text_of, status_of, reason_of};
+ghost use Rattle.farm_types.specs.Refusals.{line_of, refusal_text, http_status_of, reason_of};
 
 use std::fmt;
 
@@ -142,7 +142,7 @@ pub struct Refusal {
 impl Refusal {
     /// What went wrong, in two or three words; empty for a number that the table lacks.
     pub fn text(self) -> &'static str
-        ensures { result.now ≡ text_of self.code }
+        ensures { result.now ≡ refusal_text self.code }
     {
         match line_of(self.code) {
             Some(line) => line.text,
@@ -152,7 +152,7 @@ impl Refusal {
 
     /// The HTTP status of its answer, if it is ever answered over HTTP.
     pub fn status(self) -> Option<u16>
-        ensures { result ≡ status_of self.code }
+        ensures { result ≡ http_status_of self.code }
     {
         match line_of(self.code) {
             Some(line) => line.status,
@@ -163,9 +163,9 @@ impl Refusal {
 
 impl fmt::Display for Refusal {
     ghost use Rattle.std.specs.Prelude.{Some};
-    ghost use Rattle.farm_types.specs.Refusals.{text_of};
+    ghost use Rattle.farm_types.specs.Refusals.{refusal_text};
 
-    ghost output = { λ refusal. Some (text_of refusal.code) };
+    ghost output = { λ refusal. Some (refusal_text refusal.code) };
 
     fn fmt<W: fmt::Write>(&self, f: &mut fmt::Formatter<W>) -> fmt::Result {
         f.write_str(self.text())

@@ -6,7 +6,7 @@ ghost use Rattle.std.specs.String.{string_bytes};
 ghost use Rattle.farm_types.specs.Words.{IsName, IsKey, IsText, is_word, is_name_byte, text_cmp};
 ghost use Rattle.farm_types.specs.Words.{word_or};
 ghost use Rattle.farm_types.specs.Limits.{longest_key, longest_name};
-ghost use Rattle.farm_types.specs.Reads.{Reads};
+ghost use Rattle.farm_types.specs.Reads.{OrNoMemory};
 
 use crate::fault::WordFault;
 use crate::limits::{LONGEST_KEY, LONGEST_NAME};
@@ -76,7 +76,7 @@ impl Name {
     /// The name that a text spells; refused as a bad name, or for memory where it spells one.
     #[tactic(auto, using(crate::proofs::WordLemmas::IsUtf8_of_word))]
     pub fn parse(alloc: Global, text: &[u8]) -> Result<Name, WordFault>
-        ensures reads { Reads (λ name. name) result
+        ensures reads { OrNoMemory (λ name. name) result
             (word_or (is_word longest_name text.now) text.now BAD_NAME) }
         ensures memory { result ≡ Err WordFault.NoMemory → IsTrue (is_word longest_name text.now) }
     {
@@ -142,7 +142,7 @@ impl Key {
     /// The key that a text spells; refused as a bad key, or for memory where it spells one.
     #[tactic(auto, using(crate::proofs::WordLemmas::IsUtf8_of_word))]
     pub fn parse(alloc: Global, text: &[u8]) -> Result<Key, WordFault>
-        ensures reads { Reads (λ key. key) result
+        ensures reads { OrNoMemory (λ key. key) result
             (word_or (is_word longest_key text.now) text.now BAD_KEY) }
         ensures memory { result ≡ Err WordFault.NoMemory → IsTrue (is_word longest_key text.now) }
     {

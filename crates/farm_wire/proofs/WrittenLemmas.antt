@@ -13,8 +13,8 @@ use Rattle.std.specs.Borrow.{Bor}
 use Rattle.std.proofs.lemmas.Grind.{flat_map-append}
 use Rattle.serde_json.specs.Written.{compact_text, comma_if, members_text}
 use Rattle.farm_wire.specs.Parts.{part_data, member_of, has_plain_key}
-use Rattle.farm_wire.specs.Shown.{members}
-use Rattle.farm_wire.specs.declared.part.Part.{Part}
+use Rattle.farm_wire.specs.Shown.{object_members}
+use Rattle.farm_wire.specs.declared.json_value.JsonValue.{JsonValue}
 
 pub escape_more : (xs : List ℕ) (i : ℕ) → i < length xs → escape (take i xs) ++ escape_byte (get_or xs i 0) ≡ escape (take (i + 1) xs)
 escape_more xs i within = flat_map_more escape_byte [] (take i xs) (get_or xs i 0) ∙ ap escape (sym (take_more xs i 0 within))
@@ -36,17 +36,17 @@ pub quoted_both : (word number : List ℕ) → 34 ∷ (escape word ++ (escape nu
 quoted_both word number = ap (λ l. 34 ∷ l) (sym (append_assoc (escape word) (escape number) (34 ∷ [])) ∙ ap (λ l. l ++ 34 ∷ []) (sym (flat_map-append escape_byte word number)))
 
 -- a comma, a member, and the members that are left
-pub members_next : (later : Bool) (ms : List (Bor (List ℕ) × Part)) (i : ℕ) (m : Bor (List ℕ) × Part) → i < length ms → m ≡ get_or ms i m
-    → comma_if later ++ ((quoted m.0.now ++ 58 ∷ compact_text (part_data m.1)) ++ members_text true (members (map member_of (drop (i + 1) ms))))
-    ≡ members_text later (members (map member_of (drop i ms)))
+pub members_next : (later : Bool) (ms : List (Bor (List ℕ) × JsonValue)) (i : ℕ) (m : Bor (List ℕ) × JsonValue) → i < length ms → m ≡ get_or ms i m
+    → comma_if later ++ ((quoted m.0.now ++ 58 ∷ compact_text (part_data m.1)) ++ members_text true (object_members (map member_of (drop (i + 1) ms))))
+    ≡ members_text later (object_members (map member_of (drop i ms)))
 members_next later ms i m within is =
     let rest = drop (i + 1) ms in
     let next : drop i ms ≡ m ∷ rest = drop_more ms i m within ∙ ap (λ x. x ∷ rest) (sym is) in
-    ap (λ l. comma_if later ++ l) (append_assoc (quoted m.0.now) (58 ∷ compact_text (part_data m.1)) (members_text true (members (map member_of rest))))
-    ∙ ap (λ xs. members_text later (members (map member_of xs))) (sym next)
+    ap (λ l. comma_if later ++ l) (append_assoc (quoted m.0.now) (58 ∷ compact_text (part_data m.1)) (members_text true (object_members (map member_of rest))))
+    ∙ ap (λ xs. members_text later (object_members (map member_of xs))) (sym next)
 
 -- where all keys show as they are, each does
-pub plain_at : (ms : List (Bor (List ℕ) × Part)) (i : ℕ) (m : Bor (List ℕ) × Part) → i < length ms → m ≡ get_or ms i m → IsTrue (list_all has_plain_key ms)
+pub plain_at : (ms : List (Bor (List ℕ) × JsonValue)) (i : ℕ) (m : Bor (List ℕ) × JsonValue) → i < length ms → m ≡ get_or ms i m → IsTrue (list_all has_plain_key ms)
     → IsTrue (has_plain_key m)
 plain_at ms i m within is all = by (has_plain_key m) refl
   where

@@ -12,7 +12,7 @@ use Rattle.farm_types.specs.declared.calls.Cmd.{Cmd}
 use Rattle.farm_types.specs.Refusals.{bad_request, bad_priority}
 use Rattle.farm_jobfile.specs.Job.{job}
 use Rattle.farm_types.specs.Reads.{◌>>=◌}
-use Rattle.farm_wire.specs.Reading.{by_number}
+use Rattle.farm_wire.specs.Reading.{fault_by_number}
 use Rattle.farm_wire.specs.Fields.{there_or, object_in, text_in, name_in, tags_from, tags_in}
 use Rattle.farm_wire.specs.Fields.{board_tags}
 use Rattle.farm_wire.specs.Parameters.{board_in, job_in, reservation_in}
@@ -92,7 +92,7 @@ set_health path body = do
 
 -- the jobs that a body submits, which is a job file
 unfoldable pub submit : List ℕ → Result Cmd ℕ
-submit body = by_number (job body)
+submit body = fault_by_number (job body)
 
 -- the end of the job that a path names
 unfoldable pub finish : List ℕ → List ℕ → Result Cmd ℕ

@@ -17,14 +17,14 @@ begins_with_zero [] = false
 begins_with_zero (x ∷ text) = x == 48
 
 -- digits that begin with 1 to 9
-abbrev pub is_number : List ℕ → Bool
-is_number text =
+abbrev pub is_number_text : List ℕ → Bool
+is_number_text text =
     nat_lt 0 (length text) && (not (begins_with_zero text) && list_all is_ascii_digit text)
 
 -- one to nine digits that begin with 1 to 9
 unfoldable pub number_in : List ℕ → Result ℕ ℕ
 number_in text =
-    if is_number text && nat_lt (digits_value 10 text) numbers_end then Ok (digits_value 10 text)
+    if is_number_text text && nat_lt (digits_value 10 text) numbers_end then Ok (digits_value 10 text)
     else Err bad_request
 
 -- the board that a path names, and the job, and the reservation

@@ -1,15 +1,15 @@
 -- What reading a request gives: a value, or why it asks nothing.
 use Rattle.std.specs.Prelude.{◌≡◌, ℕ, Result, Ok, Err}
 use Rattle.farm_types.specs.declared.fault.WordFault.{WordFault}
-use Rattle.farm_jobfile.specs.Reading.{Fault, code_of_kind, number_of}
+use Rattle.farm_jobfile.specs.Reading.{Fault, code_of_kind, fault_code_of}
 use Rattle.farm_jobfile.specs.declared.fault.FileFault.{FileFault}
 use Rattle.farm_wire.specs.declared.allowed.Allowed.{Allowed}
 use Rattle.farm_wire.specs.declared.fault.AskFault.{AskFault}
 
 -- a fault of a file by its number alone
-abbrev pub by_number : {A : Type 0} → Result A Fault → Result A ℕ
-by_number (Ok x) = Ok x
-by_number (Err fault) = Err (number_of fault)
+abbrev pub fault_by_number : {A : Type 0} → Result A Fault → Result A ℕ
+fault_by_number (Ok x) = Ok x
+fault_by_number (Err fault) = Err (fault_code_of fault)
 
 -- the number of a refusal, or the methods that the path has in place of the one asked
 pub data Denial : Type 0 where
@@ -33,12 +33,12 @@ fault_of_word (WordFault.Refused refusal) = AskFault.Refused refusal
 fault_of_word WordFault.NoMemory = AskFault.NoMemory
 
 -- the fault is that denial, unless memory ran out
-abbrev pub Denies : {Y : Type 0} → AskFault → Result Y Denial → Type 0
-Denies AskFault.NoMemory asked = Unit {0}
-Denies (AskFault.Refused refusal) asked = asked ≡ Err (refused refusal.code)
-Denies (AskFault.Method allowed) asked = asked ≡ Err (other_methods allowed)
+abbrev pub FaultOrNoMemory : {Y : Type 0} → AskFault → Result Y Denial → Type 0
+FaultOrNoMemory AskFault.NoMemory asked = Unit {0}
+FaultOrNoMemory (AskFault.Refused refusal) asked = asked ≡ Err (refused refusal.code)
+FaultOrNoMemory (AskFault.Method allowed) asked = asked ≡ Err (other_methods allowed)
 
 -- what a call returned, seen by `view`, is what the request asks, or why it asks nothing
-abbrev pub Meets : {X Y : Type 0} → (X → Y) → Result X AskFault → Result Y Denial → Type 0
-Meets view (Ok x) asked = asked ≡ Ok (view x)
-Meets view (Err fault) asked = Denies fault asked
+abbrev pub OrNoMemory : {X Y : Type 0} → (X → Y) → Result X AskFault → Result Y Denial → Type 0
+OrNoMemory view (Ok x) asked = asked ≡ Ok (view x)
+OrNoMemory view (Err fault) asked = FaultOrNoMemory fault asked

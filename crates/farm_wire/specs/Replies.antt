@@ -2,7 +2,7 @@
 use Rattle.std.specs.Prelude.{ℕ, List, [], ◌++◌, length, map, codes, decimal, unwrap_or}
 use Rattle.serde_json.specs.Data.{Data}
 use Rattle.serde_json.specs.Written.{compact_text}
-use Rattle.farm_types.specs.Refusals.{status_of, reason_of}
+use Rattle.farm_types.specs.Refusals.{http_status_of, reason_of}
 use Rattle.farm_types.specs.Refusals.{wrong_method}
 use Rattle.farm_wire.specs.Routes.{allow_text}
 use Rattle.farm_wire.specs.Shown.{listing, reply_data, refusal_data, type_data, board_data}
@@ -37,7 +37,7 @@ plain_answer status json = answer_text status [] (compact_text json)
 
 -- the status of a refusal
 abbrev pub status_or : ℕ → ℕ
-status_or code = unwrap_or (status_of code) unavailable_status
+status_or code = unwrap_or (http_status_of code) unavailable_status
 
 -- a wrong method, with a field that names the right ones
 abbrev pub method_text : Allowed → List ℕ

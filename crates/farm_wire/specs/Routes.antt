@@ -19,8 +19,8 @@ use Rattle.farm_wire.specs.declared.route.Endpoint.{Endpoint}
 use Rattle.farm_wire.specs.declared.route.ViewKind.{ViewKind}
 
 -- each path with its route
-abbrev pub table : List (List ℕ × Route)
-table =
+abbrev pub route_table : List (List ℕ × Route)
+route_table =
     (codes "/types", Route.GetPost ViewKind.Types CommandKind.AddType)
     ∷ (codes "/boards", Route.GetPost ViewKind.Boards CommandKind.AddBoard)
     ∷ (codes "/boards/{name}/tags", Route.Post CommandKind.SetTags)
@@ -59,7 +59,7 @@ with_routes (route ∷ routes) old = with_routes routes (with_route (parse_route
 
 -- the rows of a router of all the paths
 unfoldable pub rows : RowsOf (RouteOf Route)
-rows = with_routes table []
+rows = with_routes route_table []
 
 -- where a path leads
 abbrev pub route_at : List ℕ → Option Route

@@ -9,7 +9,7 @@ use Rattle.farm_types.specs.Called.{unit_of, unit_word, holder_text, claim_word}
 use Rattle.farm_types.specs.Codes.{health_word, state_word, job_state_word, outcome_word}
 use Rattle.farm_types.specs.Codes.{res_state_word}
 use Rattle.farm_types.specs.Small.{every_of}
-use Rattle.farm_types.specs.Refusals.{text_of}
+use Rattle.farm_types.specs.Refusals.{refusal_text}
 use Rattle.farm_types.specs.declared.rows.TypeRow.{TypeRow}
 use Rattle.farm_types.specs.declared.rows.BoardRow.{BoardRow}
 use Rattle.farm_types.specs.declared.rows.Reply.{Reply}
@@ -19,12 +19,12 @@ use Rattle.farm_types.specs.declared.claims.Claim.{Claim}
 use Rattle.farm_types.specs.declared.claims.Status.{Status}
 
 -- an object with these members
-abbrev pub members : List (List ℕ × Data) → Members
-members [] = no_members
-members (m ∷ ms) = member m.0 m.1 (members ms)
+abbrev pub object_members : List (List ℕ × Data) → Members
+object_members [] = no_members
+object_members (m ∷ ms) = member m.0 m.1 (object_members ms)
 
 abbrev pub fields : List (List ℕ × Data) → Data
-fields ms = object (members ms)
+fields ms = object (object_members ms)
 
 abbrev pub count : ℕ → Data
 count n = number (unsigned n)
@@ -45,7 +45,7 @@ reply_data kind reply =
     else fields ((codes "number", count reply.0) ∷ [])
 
 abbrev pub refusal_data : ℕ → Data
-refusal_data code = fields ((codes "code", count code) ∷ (codes "text", string (text_of code)) ∷ [])
+refusal_data code = fields ((codes "code", count code) ∷ (codes "text", string (refusal_text code)) ∷ [])
 
 abbrev pub type_data : TypeRow → Data
 type_data row =

@@ -7,7 +7,7 @@ ghost use Rattle.farm_wire.specs.Shown.{listing, refusal_data};
 
 use crate::allowed::Allowed;
 use crate::head::head;
-use crate::shown::{Listing, Shown};
+use crate::shown::{Listing, ToJson};
 use crate::sink::Counter;
 use crate::small_shown::ReplyTo;
 use crate::statuses::{METHOD_NOT_ALLOWED, OK, UNAVAILABLE};
@@ -46,7 +46,7 @@ fn head_with_room(
 }
 
 /// A head and the JSON of what is shown behind it: one pass reckons the length, one prints.
-fn answer_of<T: Shown>(
+fn answer_of<T: ToJson>(
     alloc: Global,
     status: u16,
     more: &str,
@@ -63,7 +63,7 @@ fn answer_of<T: Shown>(
 }
 
 /// The answer with all rows.
-fn listing_answer<R: Shown>(alloc: Global, key: &str, rows: &[R]) -> Result<Vec<u8>, AllocError>
+fn listing_answer<R: ToJson>(alloc: Global, key: &str, rows: &[R]) -> Result<Vec<u8>, AllocError>
     ensures { IfOk result (λ b. b.items ≡ plain_answer ok_status (listing key.now (map R.json rows.now))) }
 {
     answer_of(alloc, OK, "", &Listing { key, rows })

@@ -1,42 +1,42 @@
 //! Claims and reservations as JSON.
 
-use crate::part::{Part, put_object};
+use crate::json_value::{JsonValue, put_object};
 use crate::shown::Shown;
 use crate::sink::Sink;
 use farm_types::{Claim, ResRow};
 use std::alloc::AllocError;
 
-impl Shown for Claim {
+impl ToJson for Claim {
     ghost use Rattle.farm_wire.specs.Shown.{claim_data};
 
     ghost json = { claim_data };
 
     fn print<S: Sink>(&self, sink: &mut S) -> Result<(), AllocError> {
         let members = [
-            ("boards", Part::Number(self.boards)),
-            ("kind", Part::Text(self.kind.word())),
-            ("number", Part::Number(self.number)),
-            ("owner", Part::Name(&self.owner)),
-            ("priority", Part::Number(self.priority.get())),
+            ("boards", JsonValue::Number(self.boards)),
+            ("kind", JsonValue::Text(self.kind.word())),
+            ("number", JsonValue::Number(self.number)),
+            ("owner", JsonValue::Name(&self.owner)),
+            ("priority", JsonValue::Number(self.priority.get())),
         ];
         put_object(sink, &members)
     }
 }
 
-impl Shown for ResRow {
+impl ToJson for ResRow {
     ghost use Rattle.farm_wire.specs.Shown.{res_data};
 
     ghost json = { res_data };
 
     fn print<S: Sink>(&self, sink: &mut S) -> Result<(), AllocError> {
         let members = [
-            ("board", Part::NameOrNone(&self.board)),
-            ("deadline", Part::Number(self.deadline)),
-            ("number", Part::Number(self.number)),
-            ("owner", Part::Name(&self.owner)),
-            ("priority", Part::Number(self.priority.get())),
-            ("state", Part::Text(self.state.word())),
-            ("tags", Part::Tags(&self.want.tags)),
+            ("board", JsonValue::NameOrNone(&self.board)),
+            ("deadline", JsonValue::Number(self.deadline)),
+            ("number", JsonValue::Number(self.number)),
+            ("owner", JsonValue::Name(&self.owner)),
+            ("priority", JsonValue::Number(self.priority.get())),
+            ("state", JsonValue::Text(self.state.word())),
+            ("tags", JsonValue::Tags(&self.want.tags)),
         ];
         put_object(sink, &members)
     }

@@ -3,7 +3,7 @@ ghost use Rattle.std.specs.Prelude.{◌≡◌, [], option_map, unwrap_or};
 ghost use Rattle.farm_types.specs.Codes.{outcome_word};
 ghost use Rattle.farm_wire.specs.Shown.{job_kind};
 
-use crate::part::{Part, put_object};
+use crate::json_value::{JsonValue, put_object};
 use crate::shown::Shown;
 use crate::sink::Sink;
 use farm_types::{JobRow, Outcome};
@@ -26,25 +26,25 @@ fn result_text(outcome: Option<Outcome>) -> &'static str
     }
 }
 
-impl Shown for JobRow {
+impl ToJson for JobRow {
     ghost use Rattle.farm_wire.specs.Shown.{job_data};
 
     ghost json = { job_data };
 
     fn print<S: Sink>(&self, sink: &mut S) -> Result<(), AllocError> {
         let members = [
-            ("board", Part::NameOrNone(&self.board)),
-            ("group", Part::Number(self.group)),
-            ("kind", Part::Text(job_kind(self.checking))),
-            ("number", Part::Number(self.number)),
-            ("owner", Part::Name(&self.owner)),
-            ("priority", Part::Number(self.priority.get())),
-            ("result", Part::Text(result_text(self.outcome))),
-            ("role", Part::NameOrNone(&self.role)),
-            ("state", Part::Text(self.state.word())),
-            ("tags", Part::Tags(&self.want.tags)),
-            ("text", Part::Text(self.body.as_str())),
-            ("type", Part::NameOrNone(&self.want.kind)),
+            ("board", JsonValue::NameOrNone(&self.board)),
+            ("group", JsonValue::Number(self.group)),
+            ("kind", JsonValue::Text(job_kind(self.checking))),
+            ("number", JsonValue::Number(self.number)),
+            ("owner", JsonValue::Name(&self.owner)),
+            ("priority", JsonValue::Number(self.priority.get())),
+            ("result", JsonValue::Text(result_text(self.outcome))),
+            ("role", JsonValue::NameOrNone(&self.role)),
+            ("state", JsonValue::Text(self.state.word())),
+            ("tags", JsonValue::Tags(&self.want.tags)),
+            ("text", JsonValue::Text(self.body.as_str())),
+            ("type", JsonValue::NameOrNone(&self.want.kind)),
         ];
         put_object(sink, &members)
     }

@@ -14,16 +14,15 @@ mod ask;
 mod board_body;
 mod board_shown;
 mod claim_shown;
-mod constant;
 mod fault;
 mod fields;
 mod head;
 mod job_body;
 mod job_shown;
+mod json_value;
 mod laws;
 mod object;
 mod parameter;
-mod part;
 mod reserve_body;
 mod route;
 mod router;
@@ -32,6 +31,7 @@ mod sender;
 mod shown;
 mod sink;
 mod small_shown;
+mod static_answers;
 mod statuses;
 mod text;
 mod type_body;
@@ -53,7 +53,7 @@ pub use allowed::Allowed;
 pub use answers::{Out, answer_bytes};
 
 // The answers that take no memory.
-pub use constant::{closed_answer, no_memory_answer, store_answer};
+pub use static_answers::{closed_answer, no_memory_answer, store_answer};
 
 // The HTTP statuses that the table of refusals doesn't have.
 pub use statuses::{METHOD_NOT_ALLOWED, OK, UNAVAILABLE};

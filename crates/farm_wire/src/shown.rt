@@ -13,7 +13,7 @@ use itoa::Buffer;
 use std::alloc::AllocError;
 
 /// What answers show as JSON.
-pub(crate) trait Shown {
+pub(crate) trait ToJson {
     ghost use Rattle.std.specs.Prelude.{OnOk};
     ghost use Rattle.serde_json.specs.Data.{Data};
     ghost use Rattle.serde_json.specs.Written.{compact_text};
@@ -41,7 +41,7 @@ pub(crate) fn put_comma<S: Sink>(sink: &mut S, later: bool) -> Result<(), AllocE
 }
 
 /// Puts the array of all rows, in order. It costs one pass over them.
-pub(crate) fn put_rows<S: Sink, R: Shown>(sink: &mut S, rows: &[R]) -> Result<(), AllocError>
+pub(crate) fn put_rows<S: Sink, R: ToJson>(sink: &mut S, rows: &[R]) -> Result<(), AllocError>
     ensures { OnOk result (S.Takes sink.old sink.new
         (compact_text (array (items_of (map R.json rows.now))))) }
 {
@@ -56,7 +56,7 @@ pub(crate) fn put_rows<S: Sink, R: Shown>(sink: &mut S, rows: &[R]) -> Result<()
 }
 
 /// Puts an object whose one member is the list of all rows.
-fn put_listing<S: Sink, R: Shown>(sink: &mut S, key: &str, rows: &[R]) -> Result<(), AllocError>
+fn put_listing<S: Sink, R: ToJson>(sink: &mut S, key: &str, rows: &[R]) -> Result<(), AllocError>
     ensures { OnOk result (S.Takes sink.old sink.new
         (compact_text (listing key.now (map R.json rows.now)))) }
 {
@@ -74,7 +74,7 @@ pub(crate) struct Listing<'a, R> {
     pub rows: &'a [R],
 }
 
-impl<'a, R: Shown> Shown for Listing<'a, R> {
+impl<'a, R: ToJson> ToJson for Listing<'a, R> {
     ghost use Rattle.std.specs.Prelude.{map};
     ghost use Rattle.farm_wire.specs.Shown.{listing};
 
@@ -92,7 +92,7 @@ fn put_tag<S: Sink>(sink: &mut S, tag: &Tag) -> Result<(), AllocError>
     put_word(sink, tag.as_str())
 }
 
-impl Shown for Tag {
+impl ToJson for Tag {
     ghost use Rattle.serde_json.specs.Data.{string};
 
     ghost json = { string };

@@ -1,6 +1,6 @@
 //! Replies, refusals and the numbers of the farm as JSON.
 
-use crate::part::{Part, put_object};
+use crate::json_value::{JsonValue, put_object};
 use crate::shown::Shown;
 use crate::sink::Sink;
 use farm_types::{Refusal, Reply, Status};
@@ -16,7 +16,7 @@ pub(crate) struct ReplyTo {
     pub reply: Reply,
 }
 
-impl Shown for ReplyTo {
+impl ToJson for ReplyTo {
     ghost use Rattle.farm_wire.specs.Shown.{reply_data};
 
     ghost json = { λ shown. reply_data shown.kind shown.reply };
@@ -25,46 +25,46 @@ impl Shown for ReplyTo {
         let Reply(first, second, third) = self.reply;
         if self.kind == PASS {
             let members = [
-                ("checks", Part::Number(first)),
-                ("expired", Part::Number(second)),
-                ("served", Part::Number(third)),
+                ("checks", JsonValue::Number(first)),
+                ("expired", JsonValue::Number(second)),
+                ("served", JsonValue::Number(third)),
             ];
             put_object(sink, &members)
         } else {
-            put_object(sink, &[("number", Part::Number(first))])
+            put_object(sink, &[("number", JsonValue::Number(first))])
         }
     }
 }
 
-impl Shown for Refusal {
+impl ToJson for Refusal {
     ghost use Rattle.farm_wire.specs.Shown.{refusal_data};
 
     ghost json = { λ refusal. refusal_data refusal.code };
 
     fn print<S: Sink>(&self, sink: &mut S) -> Result<(), AllocError> {
         let members = [
-            ("code", Part::Number(u64::from(self.code))),
-            ("text", Part::Text(self.text())),
+            ("code", JsonValue::Number(u64::from(self.code))),
+            ("text", JsonValue::Text(self.text())),
         ];
         put_object(sink, &members)
     }
 }
 
-impl Shown for Status {
+impl ToJson for Status {
     ghost use Rattle.farm_wire.specs.Shown.{status_data};
 
     ghost json = { status_data };
 
     fn print<S: Sink>(&self, sink: &mut S) -> Result<(), AllocError> {
         let members = [
-            ("boards", Part::Number(self.boards)),
-            ("clock", Part::Number(self.clock)),
-            ("collector", Part::Number(self.collector)),
-            ("count", Part::Number(self.count)),
-            ("jobs", Part::Number(self.jobs)),
-            ("next", Part::Number(self.next)),
-            ("reservations", Part::Number(self.reservations)),
-            ("types", Part::Number(self.types)),
+            ("boards", JsonValue::Number(self.boards)),
+            ("clock", JsonValue::Number(self.clock)),
+            ("collector", JsonValue::Number(self.collector)),
+            ("count", JsonValue::Number(self.count)),
+            ("jobs", JsonValue::Number(self.jobs)),
+            ("next", JsonValue::Number(self.next)),
+            ("reservations", JsonValue::Number(self.reservations)),
+            ("types", JsonValue::Number(self.types)),
         ];
         put_object(sink, &members)
     }

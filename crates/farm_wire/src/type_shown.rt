@@ -2,7 +2,7 @@
 ghost use Rattle.std.specs.Prelude.{◌≡◌};
 ghost use Rattle.farm_types.specs.Small.{every_of};
 
-use crate::part::{Part, put_object};
+use crate::json_value::{JsonValue, put_object};
 use crate::shown::Shown;
 use crate::sink::Sink;
 use farm_types::{Check, TypeRow};
@@ -18,16 +18,16 @@ fn every_of(check: Check) -> u64
     }
 }
 
-impl Shown for TypeRow {
+impl ToJson for TypeRow {
     ghost use Rattle.farm_wire.specs.Shown.{type_data};
 
     ghost json = { type_data };
 
     fn print<S: Sink>(&self, sink: &mut S) -> Result<(), AllocError> {
         let members = [
-            ("check", Part::Text(self.check.unit().word())),
-            ("every", Part::Number(every_of(self.check))),
-            ("name", Part::Name(&self.name)),
+            ("check", JsonValue::Text(self.check.unit().word())),
+            ("every", JsonValue::Number(every_of(self.check))),
+            ("name", JsonValue::Name(&self.name)),
         ];
         put_object(sink, &members)
     }

@@ -4,7 +4,7 @@ use Rattle.std.specs.Str.{is_utf8, chars}
 use Rattle.std.specs.declared.cmp.Ordering.TheVariants.{Less}
 use Rattle.farm_types.specs.Words.{is_word, is_tag, is_tags, text_cmp, word_or}
 use Rattle.farm_types.specs.Table.{put, put_all, change_where, type_cmp, kept_cmp}
-use Rattle.farm_types.specs.Reads.{Reads, ◌>>=◌}
+use Rattle.farm_types.specs.Reads.{OrNoMemory, ◌>>=◌}
 use Rattle.farm_types.specs.Tags.{tags_of, tags_text, tags_among, tags_read}
 use Rattle.farm_types.specs.Codes.{job_state_code, job_state_with, outcome_with, job_state_word}
 use Rattle.farm_types.specs.Called.{health_called, outcome_called, priority_called, holder_text}
@@ -15,7 +15,7 @@ use Rattle.farm_types.specs.Pick.{fits, serves, is_free, meets, names_cmp, least
 use Rattle.farm_types.specs.Pass.{is_due_by, claims_taken}
 use Rattle.farm_types.specs.Machine.{Denied, run}
 use Rattle.farm_types.specs.Change.{reply_of}
-use Rattle.farm_types.specs.Sound.{holds, IsHeldOnce, IsWhole}
+use Rattle.farm_types.specs.Sound.{holds, IsHeldOnce, AreGroupsInPhase}
 use Rattle.farm_types.specs.Small.{IsSmall, every_of, held_by}
 use Rattle.farm_worked.specs.Worked.{answers, a_board}
 use Rattle.farm_types.specs.declared.rows.Check.{Check}
@@ -77,7 +77,7 @@ abbrev pub name_of : List ℕ → Result (List ℕ) ℕ
 name_of text = word_or (is_word 48 text) text 5
 
 abbrev pub ReadsName : List ℕ → Result (List ℕ) WordFault → Type 0
-ReadsName text given = Reads (λ name. name) given (name_of text)
+ReadsName text given = OrNoMemory (λ name. name) given (name_of text)
 
 pub record BookOfReaders : Type 0 where
   pub name_is_read : ReadsName (codes "b1") (Ok (codes "b1"))
@@ -244,7 +244,7 @@ pub record BookOfSound : Type 0 where
   pub what_is_held : holds after_one_member_ends
       ≡ record { board = codes "b1"; holder = Holder.Job 2; state = State.Running } ∷ []
   pub held_twice : IsHeldOnce on_one_board → ⊥
-  pub started_in_part : IsWhole half_started_farm → ⊥
+  pub started_in_part : AreGroupsInPhase half_started_farm → ⊥
 
 -- ---- numbers of a store
 

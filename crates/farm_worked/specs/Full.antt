@@ -26,8 +26,8 @@ use Rattle.farm_worked.specs.Limits.{board_named}
 abbrev pub ended_job : ℕ → JobRow
 ended_job n = record { number = n; group = n; checking = false; owner = codes "ann"; priority = 50; want = a_board []; role = None; state = JobState.Finished; outcome = Some Outcome.Canceled; board = None; body = [] }
 
-abbrev pub with_jobs : ℕ → Farm
-with_jobs n = record empty_farm {
+abbrev pub farm_of_jobs : ℕ → Farm
+farm_of_jobs n = record empty_farm {
   types = record { name = codes "bbb"; check = Check.Never } ∷ [];
   boards = board_named (codes "bbb") (codes "b1") ∷ board_named (codes "bbb") (codes "b2") ∷ [];
   jobs = map ended_job (range_with_len 1 n);
@@ -43,7 +43,7 @@ one_more_group =
 
 -- a board that is due, and jobs that ended
 abbrev pub with_due_board : ℕ → Farm
-with_due_board n = record (with_jobs n) {
+with_due_board n = record (farm_of_jobs n) {
   types = record { name = codes "bbb"; check = Check.Hours 1 } ∷ [];
   boards = record (board_named (codes "bbb") (codes "b1")) { health = Health.Unknown } ∷ [];
 }
@@ -52,7 +52,7 @@ abbrev pub ended_reservation : ℕ → ResRow
 ended_reservation n = record { number = n; owner = codes "ann"; priority = 50; want = record { kind = None; tags = [] }; state = ResState.Canceled; deadline = 60; board = None }
 
 abbrev pub with_reservations : ℕ → Farm
-with_reservations n = record (with_jobs 0) { reservations = map ended_reservation (range_with_len 1 n); next = n + 1 }
+with_reservations n = record (farm_of_jobs 0) { reservations = map ended_reservation (range_with_len 1 n); next = n + 1 }
 
 unfoldable pub one_more_reservation : List Call
 unfolding is_proper_cmd is_word is_tag is_tags is_utf8 chars
@@ -94,9 +94,9 @@ without_a_key =
 
 -- what each script answers and leaves
 pub record FullAsWorked : Type 0 where
-  pub jobs_beyond : answers (with_jobs 99999) one_more_group ≡ Denied 4 ∷ []
-  pub jobs_full : answers (with_jobs 99998) one_more_group ≡ did 99999 ∷ []
-  pub jobs_full_length : length (run (with_jobs 99998) one_more_group).jobs ≡ 100000
+  pub jobs_beyond : answers (farm_of_jobs 99999) one_more_group ≡ Denied 4 ∷ []
+  pub jobs_full : answers (farm_of_jobs 99998) one_more_group ≡ did 99999 ∷ []
+  pub jobs_full_length : length (run (farm_of_jobs 99998) one_more_group).jobs ≡ 100000
   pub no_room_for_a_check : (checks (with_due_board 100000) 10).next ≡ 100001
   pub no_room_for_a_check_length : length (checks (with_due_board 100000) 10).jobs ≡ 100000
   pub room_for_one_check : (checks (with_due_board 99999) 10).next ≡ 100001

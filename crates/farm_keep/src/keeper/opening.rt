@@ -14,7 +14,7 @@ ghost use Rattle.farm_store.specs.Columns.{Tables};
 ghost use Rattle.farm_store.specs.Holds.{IsMadeIn, ReadsOnly, Stands};
 ghost use Rattle.farm_store.specs.Schema.{no_schema};
 ghost use Rattle.farm_keep.specs.Faults.{IsFindFault};
-ghost use Rattle.farm_keep.specs.Headline.{Adopts, Denies};
+ghost use Rattle.farm_keep.specs.Headline.{Adopts, GivesNoKeeper};
 ghost use Rattle.farm_keep.specs.Kept.{Keeps};
 ghost use Rattle.farm_keep.specs.Versions.{LooksForFarm};
 
@@ -86,7 +86,7 @@ pub(super) fn find<S: Alter>(alloc: Global, mut conn: Connection<S>) -> Result<K
     ensures adopted { IfOk result (λ k. Adopts S.Store conn k) }
     ensures fault { IfErr result (λ u. IsFindFault u.fault) }
     ensures denied { IfErr result (λ u. HasCleanDisk (state S.Store u.conn)
-        → Denies (state S.Store conn) u.fault) }
+        → GivesNoKeeper (state S.Store conn) u.fault) }
     ensures version { MatchResult result
         (λ k. HasCleanDisk (state S.Store k.conn) → LooksForFarm None (state S.Store conn).now)
         (λ u. HasCleanDisk (state S.Store u.conn)

@@ -5,7 +5,7 @@ ghost use Rattle.std.specs.Result.{result_err};
 ghost use Rattle.sqlite.specs.Held.{state};
 ghost use Rattle.farm_types.specs.Sound.{IsSound};
 ghost use Rattle.farm_keep.specs.Faults.{IsFindFault};
-ghost use Rattle.farm_keep.specs.Headline.{Denies, IsAlwaysClean, Resumes, Runs};
+ghost use Rattle.farm_keep.specs.Headline.{GivesNoKeeper, IsAlwaysClean, Resumes, Runs};
 ghost use Rattle.farm_keep.specs.Versions.{LooksForFarm};
 
 use crate::fault::KeepFault;
@@ -36,7 +36,7 @@ impl<S: Alter + Drop> Keeper<S> {
     ) -> Result<(Keeper<S>, RunEnd), KeepFault>
         requires autocommit { conn.in_transaction ≡ false }
         ensures resumed { IfOk result (λ r. Resumes S.Store conn r.0 r.1 calls.now) }
-        ensures refused { IsAlwaysClean S.Store → IfErr result (Denies (state S.Store conn)) }
+        ensures refused { IsAlwaysClean S.Store → IfErr result (GivesNoKeeper (state S.Store conn)) }
         ensures version { IsAlwaysClean S.Store
             → LooksForFarm (result_err result) (state S.Store conn).now }
         ensures fault { IfErr result IsFindFault }

@@ -17,11 +17,11 @@ use std::alloc::Global;
 /// What the rows of one of the tables stand for.
 pub(crate) trait Stored: Drop + Sized {
     ghost use Rattle.sqlite.specs.Order.{Row as Values};
-    ghost use Rattle.farm_store.specs.Places.{Place};
+    ghost use Rattle.farm_store.specs.Places.{TableSlot};
     ghost use Rattle.farm_store.specs.Stored.{IsWide};
     ghost use Rattle.farm_store.specs.declared.edition.Edition.{Edition};
 
-    ghost place: { Place };
+    ghost place: { TableSlot };
 
     ghost columns: { Edition → Self → Values };
 

@@ -13,9 +13,9 @@ pub(crate) trait Upsert {
     ghost use Rattle.sqlite.specs.Held.{state};
     ghost use Rattle.sqlite.specs.Order.{Row};
     ghost use Rattle.farm_store.specs.Edits.{ChangesTables, GoesOn};
-    ghost use Rattle.farm_store.specs.Places.{IsPlace, Place, put_at};
+    ghost use Rattle.farm_store.specs.Places.{IsPlace, TableSlot, put_at};
 
-    ghost place: { Place };
+    ghost place: { TableSlot };
 
     ghost columns: { Self → Row };
 

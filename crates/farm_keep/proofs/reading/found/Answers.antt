@@ -7,28 +7,28 @@ use Rattle.farm_store.specs.declared.fault.StoreFault.{StoreFault}
 use Rattle.farm_store.proofs.SoundReadable.{sound_is_readable}
 use Rattle.farm_core.specs.Shown.{Shown}
 use Rattle.farm_core.specs.declared.farm.BadRows.{BadRows}
-use Rattle.farm_keep.specs.Faults.{IsFindFault, rows_fault, store_fault}
+use Rattle.farm_keep.specs.Faults.{IsFindFault, rows_fault, fault_of_store}
 use Rattle.farm_keep.specs.declared.fault.KeepFault.{KeepFault}
 use Rattle.farm_store.specs.Columns.{first_schema, second_schema}
 use Rattle.sqlite.specs.Held.{state}
 use Rattle.farm_keep.proofs.MigrateLemmas.{looks_read, looks_so}
 use Rattle.farm_keep.proofs.reading.found.Goals as goal
 
-from_bad : (e : StoreFault) → store_fault e ≡ KeepFault.BadStore → e ≡ StoreFault.BadStore
+from_bad : (e : StoreFault) → fault_of_store e ≡ KeepFault.BadStore → e ≡ StoreFault.BadStore
 from_bad StoreFault.NoMemory is = cc
 from_bad StoreFault.Store is = cc
 from_bad StoreFault.BadStore is = refl
 from_bad StoreFault.OldSchema is = cc
 from_bad StoreFault.NewSchema is = cc
 
-from_old : (e : StoreFault) → store_fault e ≡ KeepFault.OldSchema → e ≡ StoreFault.OldSchema
+from_old : (e : StoreFault) → fault_of_store e ≡ KeepFault.OldSchema → e ≡ StoreFault.OldSchema
 from_old StoreFault.NoMemory is = cc
 from_old StoreFault.Store is = cc
 from_old StoreFault.BadStore is = cc
 from_old StoreFault.OldSchema is = refl
 from_old StoreFault.NewSchema is = cc
 
-may_come : (e : StoreFault) → e ≢ StoreFault.NewSchema → IsFindFault (store_fault e)
+may_come : (e : StoreFault) → e ≢ StoreFault.NewSchema → IsFindFault (fault_of_store e)
 may_come StoreFault.NoMemory never = tt
 may_come StoreFault.Store never = tt
 may_come StoreFault.BadStore never = tt
@@ -59,12 +59,12 @@ same_error r a b p q = cc
 
 -- a fault of reading, as the keeper tells it
 told : {T : Type 0} (r : Result T StoreFault) (e : StoreFault) → r ≡ Err e → (r ≡ Err StoreFault.OldSchema) ⊎ (r ≡ Err StoreFault.Store)
-    → (store_fault e ≡ KeepFault.OldSchema) ⊎ (store_fault e ≡ KeepFault.Store)
-told r e is (inl old) = inl (ap store_fault (same_error r e StoreFault.OldSchema is old))
-told r e is (inr store) = inr (ap store_fault (same_error r e StoreFault.Store is store))
+    → (fault_of_store e ≡ KeepFault.OldSchema) ⊎ (fault_of_store e ≡ KeepFault.Store)
+told r e is (inl old) = inl (ap fault_of_store (same_error r e StoreFault.OldSchema is old))
+told r e is (inr store) = inr (ap fault_of_store (same_error r e StoreFault.Store is store))
 
-as_told : {R : Type 0} (r : Result R KeepFault) (k : KeepFault) (e : StoreFault) → r ≡ Err k → k ≡ store_fault e
-    → (store_fault e ≡ KeepFault.OldSchema) ⊎ (store_fault e ≡ KeepFault.Store) → (r ≡ Err KeepFault.OldSchema) ⊎ (r ≡ Err KeepFault.Store)
+as_told : {R : Type 0} (r : Result R KeepFault) (k : KeepFault) (e : StoreFault) → r ≡ Err k → k ≡ fault_of_store e
+    → (fault_of_store e ≡ KeepFault.OldSchema) ⊎ (fault_of_store e ≡ KeepFault.Store) → (r ≡ Err KeepFault.OldSchema) ⊎ (r ≡ Err KeepFault.Store)
 as_told r k e is same (inl old) = inl (is ∙ ap Err (same ∙ old))
 as_told r k e is same (inr store) = inr (is ∙ ap Err (same ∙ store))
 

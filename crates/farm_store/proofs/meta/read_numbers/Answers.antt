@@ -9,7 +9,7 @@ use Rattle.farm_store.specs.Versions.{ShowsNumbers}
 use Rattle.sqlite.specs.Held.{state}
 use Rattle.std.proofs.Common.{List}
 use Rattle.sqlite.specs.Order.{Row}
-use Rattle.farm_store.specs.Editions.{other_edition, schema_of, told_as}
+use Rattle.farm_store.specs.Editions.{other_edition, schema_of, version_fault}
 use Rattle.farm_store.specs.declared.edition.Edition.{Edition}
 use Rattle.farm_store.specs.declared.fault.StoreFault.{StoreFault}
 use Rattle.farm_store.proofs.EditionLemmas.{never_handed, never_told, not_bad, not_own, not_store}
@@ -55,7 +55,7 @@ returns-in_err-look_at_schema-clause-fault g c =
     never_handed c.args.edition c.from_residual-in_err-look_at_schema.result c.in_err-look_at_schema.field-0.0 c.from_residual-in_err-look_at_schema.ensures.1
     (by c.args.edition c.in_err-look_at_schema.field-0.0 c.deref.result.now c.in_err-look_at_schema.ensures)
   where
-    by : (e : Edition) (fault : StoreFault) (rows : List Row) → IsVersionFault e fault rows → fault ≢ told_as e
+    by : (e : Edition) (fault : StoreFault) (rows : List Row) → IsVersionFault e fault rows → fault ≢ version_fault e
     by e fault rows (inl told) is = not_own e (sym told.0 ∙ is)
     by e fault rows (inr bad) is = not_bad e (sym bad.0 ∙ is)
 

@@ -2,7 +2,7 @@ use Rattle.std.proofs.Common.{sym, subst}
 use Rattle.sqlite.specs.Held.{state}
 use Rattle.farm_types.specs.Farm.{farm_of}
 use Rattle.farm_store.specs.Columns.{first_rows_of}
-use Rattle.farm_store.specs.Editions.{with_jobs}
+use Rattle.farm_store.specs.Editions.{tables_with_jobs}
 use Rattle.farm_store.specs.Holds.{IsInside}
 use Rattle.farm_store.specs.declared.edition.Edition.{Edition}
 use Rattle.farm_store.proofs.GoingOn.{was_clean}
@@ -14,9 +14,9 @@ returns-clause-raised g c clean at =
     let F = farm_of c.args.rows.now in
     let second = was_clean c.put_number-2.ensures.goes_on clean in
     let first = was_clean c.put_number.ensures.goes_on second in
-    let was : IsInside (state g.S.Store c.args.tx.now.conn.now) (with_jobs Edition.First F.jobs (first_rows_of F)) = subst (IsInside (state g.S.Store c.args.tx.now.conn.now)) (first_is F) at in
-    let lent : IsInside (state g.S.Store c.args.tx.now.conn.now) (with_jobs Edition.First c.deref.result.now (first_rows_of F)) = subst (λ jobs. IsInside (state g.S.Store c.args.tx.now.conn.now) (with_jobs Edition.First jobs (first_rows_of F))) (sym c.deref.ensures.value) was in
-    let one = subst (λ jobs. IsInside (state g.S.Store c.raise_jobs.new.tx.conn.now) (with_jobs Edition.Second jobs (first_rows_of F))) c.deref.ensures.value (c.in_ok-raise_jobs.ensures.raised first (first_rows_of F) lent) in
+    let was : IsInside (state g.S.Store c.args.tx.now.conn.now) (tables_with_jobs Edition.First F.jobs (first_rows_of F)) = subst (IsInside (state g.S.Store c.args.tx.now.conn.now)) (first_is F) at in
+    let lent : IsInside (state g.S.Store c.args.tx.now.conn.now) (tables_with_jobs Edition.First c.deref.result.now (first_rows_of F)) = subst (λ jobs. IsInside (state g.S.Store c.args.tx.now.conn.now) (tables_with_jobs Edition.First jobs (first_rows_of F))) (sym c.deref.ensures.value) was in
+    let one = subst (λ jobs. IsInside (state g.S.Store c.raise_jobs.new.tx.conn.now) (tables_with_jobs Edition.Second jobs (first_rows_of F))) c.deref.ensures.value (c.in_ok-raise_jobs.ensures.raised first (first_rows_of F) lent) in
     let two = c.in_ok-put_number.ensures.put second _ one in
     let three = c.in_ok-put_number-2.ensures.put clean _ two in
     let still = c.in_ok-put_number-2.ensures.stays_open clean two.inside in

@@ -6,18 +6,18 @@ use Rattle.farm_types.specs.Refuse.{refusal, early_refusal, own_refusal}
 use Rattle.farm_types.specs.Change.{change, reply_of}
 use Rattle.farm_types.specs.Machine.{Denied, Repeated, run, answer, step}
 use Rattle.farm_worked.specs.Worked.{answers, did}
-use Rattle.farm_worked.specs.Full.{with_jobs, with_due_board, with_reservations, with_kept, one_more_group, one_more_reservation, one_more_key, first_key, without_a_key}
+use Rattle.farm_worked.specs.Full.{farm_of_jobs, with_due_board, with_reservations, with_kept, one_more_group, one_more_reservation, one_more_key, first_key, without_a_key}
 use Rattle.farm_worked.proofs.laws.full_as_worked.Goals as goal
 
-jobs_beyond : answers (with_jobs 99999) one_more_group ≡ Denied 4 ∷ []
+jobs_beyond : answers (farm_of_jobs 99999) one_more_group ≡ Denied 4 ∷ []
 unfolding one_more_group is_word is_tag is_tags least refusal early_refusal own_refusal change answer step
 jobs_beyond = refl
 
-jobs_full : answers (with_jobs 99998) one_more_group ≡ did 99999 ∷ []
+jobs_full : answers (farm_of_jobs 99998) one_more_group ≡ did 99999 ∷ []
 unfolding one_more_group is_word is_tag is_tags least refusal early_refusal own_refusal change answer step
 jobs_full = refl
 
-jobs_full_length : length (run (with_jobs 99998) one_more_group).jobs ≡ 100000
+jobs_full_length : length (run (farm_of_jobs 99998) one_more_group).jobs ≡ 100000
 unfolding one_more_group is_word is_tag is_tags least refusal early_refusal own_refusal change answer step
 jobs_full_length = refl
 

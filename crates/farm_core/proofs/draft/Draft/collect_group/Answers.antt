@@ -3,7 +3,7 @@ use Rattle.std.specs.List.{AllByRecursion}
 use Rattle.farm_types.specs.Farm.{members}
 use Rattle.farm_types.specs.Small.{IsSmall}
 use Rattle.farm_core.specs.Drafted.{Drafted}
-use Rattle.farm_pick.specs.Queued.{Lists, idle_boards}
+use Rattle.farm_pick.specs.Queued.{QueueLists, idle_boards}
 use Rattle.farm_core.proofs.Collected.{takes_begin, takes_end, takes_on}
 use Rattle.farm_core.proofs.Serving.{numbers_of, numbers_small, small_at}
 use Rattle.farm_core.proofs.Tabled.{seen}
@@ -20,7 +20,7 @@ collect_member-requires-clause-small c =
     (omega arith)
 
 pub collect_member-requires-clause-free : goal.collect_member-requires-clause-free
-collect_member-requires-clause-free c = ap (λ (q : Lists). q.boards) c.loop-at.invariant.queues
+collect_member-requires-clause-free c = ap (λ (q : QueueLists). q.boards) c.loop-at.invariant.queues
 
 pub loop-at-preserved : goal.loop-at-preserved
 loop-at-preserved c =

@@ -6,7 +6,7 @@ use Rattle.farm_types.specs.Small.{IsSmall}
 use Rattle.farm_types.specs.Sound.{IsSound}
 use Rattle.farm_types.specs.Change.{reply_of}
 use Rattle.farm_types.specs.Table.{board_cmp}
-use Rattle.farm_pick.specs.Queued.{Lists, idle_boards, lists_of}
+use Rattle.farm_pick.specs.Queued.{QueueLists, idle_boards, queue_lists}
 use Rattle.farm_core.specs.Drafted.{Drafted}
 use Rattle.farm_core.specs.Following.{free_of, without_all}
 use Rattle.farm_core.proofs.Free.{prepared_types}
@@ -24,7 +24,7 @@ pub follow_boards-requires-clause-free : goal.follow_boards-requires-clause-free
 follow_boards-requires-clause-free c =
     let F : Farm = c.args.self.farm in
     let start = ap (λ (D : Drafted). D.start) c.in_ok-draft-3.ensures.farm ∙ ap (λ (D : Drafted). D.start) c.in_ok-draft-2.ensures.left ∙ ap (λ (D : Drafted). D.start) c.in_ok-draft.ensures ∙ c.requires.begun in
-    let boards = ap (λ (D : Drafted). D.queues.boards) c.in_ok-draft-3.ensures.farm ∙ ap (λ (D : Drafted). D.queues.boards) c.in_ok-draft-2.ensures.left ∙ ap (λ (D : Drafted). D.queues.boards) c.in_ok-draft.ensures ∙ ap (λ (q : Lists). q.boards) c.requires.fits in
+    let boards = ap (λ (D : Drafted). D.queues.boards) c.in_ok-draft-3.ensures.farm ∙ ap (λ (D : Drafted). D.queues.boards) c.in_ok-draft-2.ensures.left ∙ ap (λ (D : Drafted). D.queues.boards) c.in_ok-draft.ensures ∙ ap (λ (q : QueueLists). q.boards) c.requires.fits in
     let types = ap (λ (G : Farm). G.types)
     (is_prepared F c.in_ok-draft.draft.farm c.in_ok-draft-2.draft.farm c.in_ok-draft-3.draft.farm (ap (λ (D : Drafted). D.farm) c.in_ok-draft.ensures) (ap (λ (D : Drafted). D.farm) c.in_ok-draft-2.ensures.left) (ap (λ (D : Drafted). D.farm) c.in_ok-draft-3.ensures.farm))
     ∙ prepared_types F in
@@ -54,9 +54,9 @@ serve-requires-clause-fits c =
     let here = ap (λ (D : Drafted). D.farm) (c.in_ok-draft-4.ensures ∙ c.in_ok-follow_boards.ensures) ∙ farm in
     let claims = ap (λ (D : Drafted). D.queues.claims) (c.in_ok-draft-4.ensures ∙ c.in_ok-follow_boards.ensures) ∙ ap (λ (D : Drafted). D.queues.claims) c.in_ok-draft-3.ensures.farm ∙ ap (λ (D : Drafted). D.queues.claims) c.in_ok-draft-2.ensures.left
     ∙ ap (λ (D : Drafted). without_all (filter (is_dead D.farm.clock) D.farm.reservations) D.queues.claims) c.in_ok-draft.ensures
-    ∙ ap (λ (q : Lists). without_all (filter (is_dead F.clock) F.reservations) q.claims) c.requires.fits ∙ prepared_queue F c.requires.sound in
+    ∙ ap (λ (q : QueueLists). without_all (filter (is_dead F.clock) F.reservations) q.claims) c.requires.fits ∙ prepared_queue F c.requires.sound in
     let boards = ap (λ (D : Drafted). D.queues.boards) (c.in_ok-draft-4.ensures ∙ c.in_ok-follow_boards.ensures) ∙ ap idle_boards farm in
-    (λ i. record { claims = claims i; boards = boards i }) ∙ ap lists_of (sym here)
+    (λ i. record { claims = claims i; boards = boards i }) ∙ ap queue_lists (sym here)
 
 pub returns-clause-farm : goal.returns-clause-farm
 returns-clause-farm c =
@@ -70,7 +70,7 @@ returns-clause-farm c =
     ∙ ap (λ (D : Drafted). D.start) c.in_ok-draft.ensures in
     let served = (λ i. serve_all (followed i) (former i) (followed i).clock) ∙ served_is F c.in_ok-draft.draft.farm c.in_ok-draft-2.draft.farm c.in_ok-draft-3.draft.farm given ended checked F.collector in
     let farm = ap (λ (D : Drafted). D.farm) c.in_ok-draft-5.ensures.farm ∙ ap (λ (s : Served). s.farm) served in
-    let queues = ap (λ (D : Drafted). D.queues) c.in_ok-draft-5.ensures.farm ∙ ap (λ (s : Served). lists_of s.farm) served in
+    let queues = ap (λ (D : Drafted). D.queues) c.in_ok-draft-5.ensures.farm ∙ ap (λ (s : Served). queue_lists s.farm) served in
     λ i. record { start = start i; farm = farm i; queues = queues i }
 
 pub returns-clause-reply : goal.returns-clause-reply

@@ -1,6 +1,6 @@
 use Rattle.std.proofs.Common.{◌∙◌, ap, sym, subst, true, false, None, arith}
 use Rattle.farm_types.specs.Pass.{Served}
-use Rattle.farm_pick.specs.Queued.{lists_of}
+use Rattle.farm_pick.specs.Queued.{queue_lists}
 use Rattle.farm_core.specs.Drafted.{Drafted}
 use Rattle.farm_core.specs.Ahead.{Foresees, claim_of}
 use Rattle.farm_core.specs.Serving.{AreUnmet}
@@ -110,7 +110,7 @@ returns-clause-farm c =
     let trying = c.loop-ahead.invariant.trying in
     let end = goes_end c.args.self.farm c.args.former c.loop-ahead.draft.farm c.loop-ahead.draft.queues c.loop-ahead.count c.loop-ahead.last trying
     (none_here _ c.loop-ahead.draft (seen c.deref-in-loop-ahead.ensures c.draft-in-loop-ahead.view_is) c.loop-ahead.last c.in_ok-claim.field-0 c.in_default.is c.in_ok-claim.ensures.next) in
-    λ i. record { start = c.loop-ahead.invariant.start i; farm = (end i).farm; queues = (trying.fits ∙ ap (λ (s : Served). lists_of s.farm) end) i }
+    λ i. record { start = c.loop-ahead.invariant.start i; farm = (end i).farm; queues = (trying.fits ∙ ap (λ (s : Served). queue_lists s.farm) end) i }
 
 pub returns-clause-count : goal.returns-clause-count
 returns-clause-count c =

@@ -10,7 +10,7 @@ use Rattle.farm_core.specs.Drafted.{Drafted}
 use Rattle.farm_core.specs.declared.tables.Tables.{Tables}
 use Rattle.farm_core.proofs.AcceptedCalls.{in_time}
 use Rattle.farm_sound.proofs.Step.{acted_call, IsSound-moved_to}
-use Rattle.farm_pick.specs.Queued.{lists_of}
+use Rattle.farm_pick.specs.Queued.{queue_lists}
 use Rattle.farm_core.specs.Following.{FollowsIn}
 use Rattle.farm_core.proofs.Commanded.{follows_in, kept_lists}
 use Rattle.farm_core.proofs.tables.Tables.change.Goals as goal
@@ -27,7 +27,7 @@ act-requires-clause-sound c =
 pub act-requires-clause-fits : goal.act-requires-clause-fits
 act-requires-clause-fits c =
     let started = ap (λ (D : Drafted). D.farm) c.in_ok-draft.ensures ∙ taken c.args.self.now c.args.call.now c.max-self.result c.replace.ensures.value c.max-self.ensures in
-    ap (λ (D : Drafted). D.queues) c.in_ok-draft.ensures ∙ ap (λ (t : Tables). t.queues) c.replace.ensures.value ∙ c.requires.fits ∙ ap lists_of (sym started)
+    ap (λ (D : Drafted). D.queues) c.in_ok-draft.ensures ∙ ap (λ (t : Tables). t.queues) c.replace.ensures.value ∙ c.requires.fits ∙ ap queue_lists (sym started)
 
 pub act-requires-clause-follow : goal.act-requires-clause-follow
 act-requires-clause-follow c =
@@ -41,9 +41,9 @@ returns-clause-queues c =
     c.into_parts-tables.ensures.queues
     ∙ ap (λ (D : Drafted). D.queues) c.in_ok-draft-3.ensures
     ∙ ap (λ (D : Drafted). D.queues) c.in_ok-draft-2.ensures.farm
-    ∙ ap (λ (D : Drafted). lists_of D.farm) (sym c.in_ok-draft-2.ensures.farm)
+    ∙ ap (λ (D : Drafted). queue_lists D.farm) (sym c.in_ok-draft-2.ensures.farm)
     ∙ sym (kept_lists c.in_ok-draft-2.draft.farm k c.in_ok-draft-2.reply)
-    ∙ ap lists_of (sym kept)
+    ∙ ap queue_lists (sym kept)
 
 pub act-requires-clause-clock : goal.act-requires-clause-clock
 act-requires-clause-clock c =

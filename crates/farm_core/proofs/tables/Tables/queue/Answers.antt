@@ -1,11 +1,11 @@
 use Rattle.std.proofs.Common.{◌∙◌, map, ap}
 use Rattle.std.proofs.lemmas.Simd.{map-map}
 use Rattle.farm_types.specs.Pick.{queue}
-use Rattle.farm_pick.specs.Queued.{Lists, Queued, queued_of}
+use Rattle.farm_pick.specs.Queued.{QueueLists, Queued, queued_of}
 use Rattle.farm_core.specs.Plain.{plain_farm}
 use Rattle.farm_core.proofs.tables.Tables.queue.Goals as goal
 
 pub returns : goal.returns
 returns c = λ fits.
-    c.in_ok-claims.ensures ∙ ap (λ (q : Lists). map (λ (x : Queued). x.claim) q.claims) fits
+    c.in_ok-claims.ensures ∙ ap (λ (q : QueueLists). map (λ (x : Queued). x.claim) q.claims) fits
     ∙ map-map (λ (x : Queued). x.claim) queued_of (queue (plain_farm c.args.self.now))

@@ -1,6 +1,6 @@
 use Rattle.std.proofs.Common.{◌∙◌, ◌==◌, not, ap}
 use Rattle.std.specs.List.{filter}
-use Rattle.farm_pick.specs.Queued.{Lists}
+use Rattle.farm_pick.specs.Queued.{QueueLists}
 use Rattle.farm_pick.proofs.Calls.{took}
 use Rattle.farm_pick.proofs.queues.Queues.take_claim.Goals as goal
 
@@ -13,4 +13,4 @@ invariant_of-self c = record {
 pub returns : goal.returns
 returns c =
     (took c.self.inside.kinds.items c.self.inside.claims.entries c.self.inside.places.entries c.self.inside.idle.items c.self.invariant.well c.args.number c.take.new.claims.entries c.take.new.places.entries c.take.ensures.taken).1
-    ∙ ap (λ (l : Lists). record { claims = filter (λ x. not (x.claim.number == c.args.number)) l.claims; boards = l.boards }) c.self.view_is
+    ∙ ap (λ (l : QueueLists). record { claims = filter (λ x. not (x.claim.number == c.args.number)) l.claims; boards = l.boards }) c.self.view_is
