@@ -3,7 +3,7 @@
 
 Random bytes, requests with some bytes changed, cut, doubled or moved, fields and bodies that are wrong in one
 place or in several, bodies nested deeply, heads that are long or have many fields, two requests in one. What
-each has to be answered is worked out here, from the rules of docs/MACHINE.md and of HTTP/1.1, JSON and TOML
+each has to be answered is worked out here, from the rules of docs/MACHINE.md, docs/API.md, HTTP/1.1, JSON and TOML
 alone: a refusal of the reading with its code, status and fields, a view, or that the machine is asked, which
 may do the command or refuse it for reasons of its own. At the end the farm is what the commands that were
 answered 200 make of another farm, so what was refused changed nothing; the program has no more open files than
