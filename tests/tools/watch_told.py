@@ -33,7 +33,9 @@ sys.addaudithook(lambda name, _: name in ("socket.connect", "subprocess.Popen") 
 sys.argv = sys.argv[2:]
 runpy.run_path(sys.argv[0], run_name="__main__")
 """
-KILLS, HOLDS = 45, 10
+HOLDS = 10
+# How often it is killed, and how often at least by each way and in all.
+KILLS, EACH, ALL = (45, 8, 30) if "--full" in sys.argv[2:] else (24, 4, 16)
 
 
 def ended(number):
@@ -192,7 +194,7 @@ def killed(room):
     jobs, bad = [], []
     for turn in range(KILLS):
         by = ("place", "sendmail", "webhook")[turn % 3 if turn % 5 else 0]
-        count = 3 + turn if turn < 30 else chance.randrange(3, 120)
+        count = 3 + turn if turn < KILLS * 2 // 3 else chance.randrange(3, 120)
         tool = begun(lab, count if by == "place" else 10**9)
         if by == "sendmail":
             lab.mailbox.kill(tool.pid)
@@ -227,8 +229,8 @@ def killed(room):
     demand_told("by the webhook", told, lab.hook.told())
     mails = [(f"{owner or 'lab'}@lab.example", f"farm: {text}") for owner, text in told]
     demand_told("by mail", mails, lab.mailbox.told())
-    demand(f"that it was killed by each ({kills})", True, all(it >= 8 for it in kills.values()))
-    demand(f"that it was killed often ({kills})", True, sum(kills.values()) >= 30)
+    demand(f"that it was killed by each ({kills})", True, all(it >= EACH for it in kills.values()))
+    demand(f"that it was killed often ({kills})", True, sum(kills.values()) >= ALL)
     again = len(lab.hook.posted) + len(lab.mailbox.texts()) - 2 * len(told)
     lab.end()
     return (
