@@ -1,4 +1,4 @@
-# The scripts over a built program, in five lanes that go side by side. all.sh and check.sh read this file.
+# The scripts over a built program, in lanes that go side by side. all.sh and check.sh read this file.
 # They set `farm`, the program; `player`, the player of transcripts; and `folder`, a folder for what the scripts say.
 passed=0
 failed=0
@@ -35,26 +35,27 @@ trying() {
     done
 }
 
-# Those that run the program most, those that wait most, those of the tools, those of what stands outside, all others.
-long="faults/refused_memory.sh faults/power_cuts.py oracle/generated.py"
-short="program/words.sh program/statuses.sh program/mistakes.sh faults/moved_files.py program/upgrade.sh
-    program/examples.sh program/using.sh program/api.py program/shell.sh program/real_clients.sh
-    program/sockets.py program/crowds.py oracle/malformed.py faults/kills.py"
-patient="tools/client.py tools/watch.py"
-tools="tools/dispatch.py tools/backup.py tools/metrics.py tools/importers.py tools/boards_run.py"
-outside="tools/page.py tools/page_work.py tools/page_past.py tools/proxy.py tools/python_client.py program/openapi.py
-    tools/manual.py tools/unit.py program/package.sh"
+# A lane a line: those that run the program most, those of a moment, and those that mostly wait, one or a few a lane.
+lanes='faults/refused_memory.sh faults/power_cuts.py oracle/generated.py
+program/words.sh program/statuses.sh program/mistakes.sh faults/moved_files.py program/upgrade.sh program/examples.sh program/using.sh program/api.py program/shell.sh program/real_clients.sh program/sockets.py program/crowds.py oracle/malformed.py faults/kills.py
+tools/client.py
+tools/watch.py
+tools/dispatch.py
+tools/backup.py tools/metrics.py tools/importers.py tools/boards_run.py
+tools/page.py tools/page_work.py tools/page_past.py tools/proxy.py
+tools/python_client.py program/openapi.py tools/manual.py tools/unit.py program/package.sh'
 
 # Runs them all, prints what they said, and adds how they ended to `passed` and `failed`; `wrong` are those that failed.
 run_lanes() {
     mkdir "$folder/faults" "$folder/oracle" "$folder/program" "$folder/tools"
-    for lane in "$long" "$patient" "$tools" "$outside" "$short"; do
-        trying $lane &
-        lanes="${lanes-} $!"
-    done
-    wait $lanes
+    echo "$lanes" | {
+        while read -r lane; do
+            trying $lane < /dev/null &
+        done
+        wait
+    }
     wrong=
-    for script in $short $patient $tools $outside $long; do
+    for script in $lanes; do
         [ -e "$folder/$script.status" ] || continue
         cat "$folder/$script.said"
         case $(cat "$folder/$script.status") in

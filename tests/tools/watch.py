@@ -5,8 +5,8 @@ Each row serves a farm in a new file, prints a line and says what it saw: the en
 that went Bad or came free, holds that are reminded of and ended, passes that don't come, a farm
 that gets full, what a rules' file can't say, what is asked of the desk, messages that aren't taken,
 and farm-watch killed (kill -9) at many places, with --full at twice as many, over which each event
-has to be told once (rows of watch_told.py). Ends with status 1 at the first thing that isn't as it should be, and with 77 where
-the machine lacks what it wants. Takes five minutes.
+has to be told once (rows of watch_told.py). Ends with status 1 at the first thing that isn't as it
+should be, and with 77 where the machine lacks what it wants. Takes five minutes.
 """
 import contextlib
 import json
@@ -58,6 +58,15 @@ def ends_of_jobs(room):
     told.append(("cat", f"job {group} (two) has ended: Complete, Incomplete"))
     lab.mails([(at(owner), f"farm: {subject}") for owner, subject in told])
     wait_until("the same by the webhook", lambda: lab.hook.told() == sorted(told))
+    demand("an end before its time", [],
+           [it for it in lab.mailbox.told() if f"job {early} " in it[1]])
+    message_of_a_group(lab, group)
+    lab.end()
+    return "a job's end is told once, of a group with all members, also one between two looks"
+
+
+def message_of_a_group(lab, group):
+    """What the webhook and the mail say to cat, whose group of two has ended."""
     said = next(it for it in lab.hook.messages() if it["owner"] == "cat")
     demand(
         "a message's facts",
@@ -77,10 +86,6 @@ def ends_of_jobs(room):
         f"{group:6} Complete   b1    bbb  a",
         f"{group + 1:6} Incomplete b2    bbb  a",
     ], mail.get_content().splitlines())
-    demand("an end before its time", [],
-           [it for it in lab.mailbox.told() if f"job {early} " in it[1]])
-    lab.end()
-    return "a job's end is told once, of a group with all members, also one between two looks"
 
 
 def reasons(room):
