@@ -133,6 +133,17 @@ def check_start(db, folder, server, done, unsure):
 FIRST = 3
 
 
+def send_until_killed(server, done):
+    """Sends one command after another, until one isn't answered."""
+    while True:
+        answer = conversation(server.port, command(len(done)))
+        if answer is None:
+            return
+        if answer[0] != 200:
+            fail(f"command {len(done)} was answered {answer}")
+        done.append(answer)
+
+
 def main(kills):
     random.seed(20261124)
     folder = tempfile.mkdtemp()
@@ -144,10 +155,7 @@ def main(kills):
         if conversation(server.port, request("admin", path, body, path.replace("/", ".")))[0] != 200:
             fail(f"{path} isn't done")
     server.end()
-    done = []
-    unanswered = 0
-    lost = 0
-    unsure = 0
+    done, lost, unsure = [], 0, 0
     for turn in range(kills):
         server = Server(db, f"{db}-wal")
         lost += check_start(db, folder, server, done, unsure)
@@ -155,16 +163,8 @@ def main(kills):
             killer = server.kill_after(random.random() * 0.03)
         else:
             killer = server.kill_when_log_grows(random.randrange(1, 12))
-        unsure = 0
-        while True:
-            answer = conversation(server.port, command(len(done)))
-            if answer is None:
-                unsure = 1
-                unanswered += 1
-                break
-            if answer[0] != 200:
-                fail(f"command {len(done)} was answered {answer}")
-            done.append(answer)
+        send_until_killed(server, done)
+        unsure = 1
         killer.join()
         server.end()
     server = Server(db, f"{db}-wal")
@@ -175,7 +175,7 @@ def main(kills):
     server.end()
     shutil.rmtree(folder)
     print(
-        f"kills: {kills} of them, {len(done)} commands answered, {unanswered} not, of which {lost} had been done; "
+        f"kills: {kills} of them, {len(done)} commands answered, {kills} not, of which {lost} had been done; "
         "none that was answered is lost, and none is done twice"
     )
 

@@ -364,9 +364,11 @@ def different(life, number, chance):
             digest = hashlib.sha256(b"%d %d" % (answered, begun))
             for held in left.values():
                 digest.update(b"none" if held is None else hashlib.sha256(held).digest())
-            if len(known) < number and digest.digest() not in known:
+            if digest.digest() not in known:
                 known.add(digest.digest())
                 yield cut
+            if len(known) == number:
+                return
 
 
 def life_of_upgrading(name, folder, before):

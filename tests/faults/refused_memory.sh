@@ -1,16 +1,19 @@
 #!/bin/sh
-# Refuses each growth of memory of the program in turn, counting upwards until a run meets no refusal:
-# a request over a farm in memory, and one over a farm in a file. Each run answers as it would with
+# Refuses growths of memory of the program, one in each run, counting upwards until a run meets no refusal:
+# every eighth, or sixteenth where the player plays, of which the first is taken by chance; or each one with --full.
+# A request over a farm in memory, and one over a farm in a file. Each run answers as it would with
 # ample memory, or with 503 and code 1 (60 where the store's own growth was refused), or ends with the
 # line of that fault; and whatever was answered 200 is in the file. Then the same of an upgrade of a farm of the
 # first edition, after which the file has the old farm or the new one; of a program that serves
 # (refused_serving.py), whose keeper is closed where the growth was refused in the middle of a change; and
 # where the player of transcripts is given too, of four rows that it plays (refused_rows.py).
-#     sh tests/faults/refused_memory.sh bin/farm [crates/farm_play/out/farm_play]
+#     sh tests/faults/refused_memory.sh bin/farm [crates/farm_play/out/farm_play [--full]]
 # Wants what tests/shared/library.sh wants, and a C library whose functions can be preloaded.
 set -eu
 farm=$(realpath "$1")
 player=${2:+$(realpath "$2")}
+every=8 which="every eighth" of_rows=16
+[ "${3-}" != --full ] || every=1 which=each of_rows=1
 tests=$(cd "$(dirname "$0")/.." && pwd)
 folder=$(mktemp -d)
 trap 'rm -r "$folder"' EXIT
@@ -44,6 +47,11 @@ refuse() {
     read -r said < errors || :
 }
 
+# The growth before the first that is refused.
+before_first() {
+    echo $(($(od -An -N1 -tu1 /dev/urandom) % every + 1 - every))
+}
+
 # What the run that refused growth $1 may have printed, and with which status.
 check() {
     case "$status $said" in
@@ -59,23 +67,23 @@ check() {
 
 # Over a farm in memory.
 over_memory() {
-    number=0
+    number=$(before_first)
     while :; do
-        number=$((number + 1))
+        number=$((number + every))
         refuse $number once --memory --at 1700000000
         check $number "once --memory"
         [ -e refused.$number ] || break
     done
-    echo "refused memory: each of the $((number - 1)) growths of a request over a farm in memory"
+    echo "refused memory: $which of the growths up to $((number - 1)) of a request over a farm in memory"
 }
 
 # Over a file: afterwards the command is in it or it isn't, and it is where it was answered 200.
 over_file() {
     mkdir made
     "$farm" init --db made/farm.db > nothing_else
-    number=0
+    number=$(before_first)
     while :; do
-        number=$((number + 1))
+        number=$((number + every))
         cp made/farm.db made/farm.db-wal .
         refuse $number once --db farm.db --at 1700000000
         check $number "once --db"
@@ -87,7 +95,7 @@ over_file() {
         esac
         [ -e refused.$number ] || break
     done
-    echo "refused memory: each of the $((number - 1)) growths of a request over a farm in a file"
+    echo "refused memory: $which of the growths up to $((number - 1)) of a request over a farm in a file"
 
     # Sent again under its key after a refused growth, and once more, it is answered as if nothing had happened.
     cp made/farm.db made/farm.db-wal .
@@ -104,9 +112,9 @@ over_upgrade() {
         gunzip -c "$tests/shared/first_edition/lab.db$end.gz" > "old/farm.db$end"
     done
     sed -n '/^report boards$/,/^report queue$/p' "$tests/shared/first_edition/shown.txt" | sed '1d; $d' > boards
-    number=0
+    number=$(before_first)
     while :; do
-        number=$((number + 1))
+        number=$((number + every))
         cp old/farm.db old/farm.db-wal .
         refuse $number migrate --db farm.db
         later=0
@@ -122,15 +130,15 @@ over_upgrade() {
         "$farm" report --db farm.db boards | cmp - boards
         [ -e refused.$number ] || break
     done
-    echo "refused memory: each of the $((number - 1)) growths of an upgrade"
+    echo "refused memory: $which of the growths up to $((number - 1)) of an upgrade"
 }
 
 serving() {
-    python3 "$tests/faults/refused_serving.py" "$farm" "$folder/refuse.so"
+    python3 "$tests/faults/refused_serving.py" "$farm" "$folder/refuse.so" $every
 }
 
 rows() {
-    [ -z "$player" ] || python3 "$tests/faults/refused_rows.py" "$player" "$folder/refuse.so"
+    [ -z "$player" ] || python3 "$tests/faults/refused_rows.py" "$player" "$folder/refuse.so" $of_rows
 }
 
 # The five go side by side, each in a folder of its own; each has to end well.

@@ -1,9 +1,9 @@
 #!/usr/bin/env python3
-"""refused_serving.py PROGRAM LIBRARY: refuses growths of memory to a program that serves a farm in a file.
+"""refused_serving.py PROGRAM LIBRARY EVERY: refuses growths of memory to a program that serves a farm in a file.
 
 tests/faults/refused_memory.sh runs it, with the library that it makes of refuse.c. A client sends a command, and the
-next one looks at the status; each growth from the first client on is refused in turn, until one isn't the
-command's any more. The commands are one that adds a type, and a pass that gives two boards to a job of two roles.
+next one looks at the status; every so manyth growth from the first client on is refused, one in each run, until
+one isn't the command's any more, and each of the others where none of these ended the program in the middle. The commands are one that adds a type, and a pass that gives two boards to a job of two roles.
 
 The client of the command hears what it would hear with ample memory, or the constant answer of code 1 or 60.
 After 60 the program has ended with that fault. After 1 it goes on, or it has ended with 1: then the growth was
@@ -13,6 +13,7 @@ is answered as with ample memory, and acts once. At least one growth of each com
 with 1. For adding a type these are growths of the machine's own step, since its row asks no memory of the store.
 """
 import os
+import random
 import shutil
 import socket
 import subprocess
@@ -162,37 +163,61 @@ def closes(run, due):
     return fail(f"the answer was {run.command}, the next one {run.view}, and the program ended with {ends}")
 
 
-def try_command(served, first, path, body, view):
-    """Refuses each growth of a command in turn, and returns how many there were and how many closed the keeper."""
-    command = post("admin", path, body, "k1")
-    served.anew()
-    before = served.once(get(view), OK)
-    due = served.once(command, OK)
-    after = served.once(get(view), OK)
-    number, closed = first, 0
-    while True:
-        run = served.run(number, command)
+class Command:
+    """A command whose growths are refused: what its view shows before and after it, and its answer."""
+
+    def __init__(self, served, path, body, view):
+        self.served, self.path, self.view = served, path, view
+        self.request = post("admin", path, body, "k1")
+        served.anew()
+        self.before = served.once(get(view), OK)
+        self.due = served.once(self.request, OK)
+        self.after = served.once(get(view), OK)
+
+    def refused(self, number):
+        """Refuses a growth. Whether it was the command's, and whether the program ended in the middle of its change."""
+        served, due = self.served, self.due
+        run = served.run(number, self.request)
         is_closed = closes(run, due)
-        rows = served.once(get(view), OK)
-        if rows != after and (rows != before or run.command == due) or is_closed and rows != before:
-            fail(f"after growth {number} of {path}, answered {run.command}, the farm has {rows}")
-        if run.command != due and (served.once(command, OK) != due or served.once(get(view), OK) != after):
-            fail(f"{path} wasn't done once when it was sent again, after growth {number}")
+        rows = served.once(get(self.view), OK)
+        if rows != self.after and (rows != self.before or run.command == due) or is_closed and rows != self.before:
+            fail(f"after growth {number} of {self.path}, answered {run.command}, the farm has {rows}")
+        if run.command != due and (served.once(self.request, OK) != due or served.once(get(self.view), OK) != self.after):
+            fail(f"{self.path} wasn't done once when it was sent again, after growth {number}")
         # (a view that lacks memory is behind the last growth of the command)
-        if not run.is_refused or run.view == NO_MEMORY and run.command == due:
-            return number - first, closed
-        number, closed = number + 1, closed + is_closed
+        return run.is_refused and not (run.view == NO_MEMORY and run.command == due), is_closed
+
+    def tried(self, first, every):
+        """Refuses every so manyth growth from this one on. Behind which growth they end, how many were tried, and how
+        many ended the program in the middle."""
+        number, count, closed = first, 0, 0
+        while True:
+            is_its, is_closed = self.refused(number)
+            if not is_its:
+                return number, count, closed
+            number, count, closed = number + every, count + 1, closed + is_closed
 
 
-def main(program, library):
+def main(program, library, every):
+    every = int(every)
     with tempfile.TemporaryDirectory() as folder:
         served = Served(os.path.realpath(program), os.path.realpath(library), folder)
         first = served.first_growth()
         for path, body, view in COMMANDS:
-            growths, closed = try_command(served, first, path, body, view)
+            command = Command(served, path, body, view)
+            begins = [first + it for it in range(every)]
+            random.shuffle(begins)
+            count = closed = 0
+            while begins and not closed:
+                end, tried, closed = command.tried(begins.pop(), every)
+                count += tried
             if not closed:
                 fail(f"no growth of {path} was refused in the middle of its change")
-            print(f"refused memory: each of the {growths} growths of a served POST {path}; {closed} in the middle of its change, which ended the program")
+            print(
+                f"refused memory: {count} of the {end - first} growths of a served POST {path}; {closed} in the middle of "
+                "its change, which ended the program",
+                flush=True,
+            )
 
 
 if __name__ == "__main__":

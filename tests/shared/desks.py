@@ -1,19 +1,57 @@
 """What the tests of the client share: its calls, and farms of a row's own."""
+import functools
+import json
 import os
+import select
 import subprocess
 import sys
 import tempfile
+import threading
 
-from served import TOOLS, Farm, Tool, demand, environment
+from served import STARTED, TOOLS, Farm, Tool, demand, environment, read
 
+SHARED = os.path.dirname(os.path.abspath(__file__))
 DESK = os.path.join(TOOLS, "desk")
 BOARDS = [("b1", "bbb", ["hdmi", "serial"]), ("b2", "bbb", ["serial"]), ("c1", "ccc", [])]
 JOB = "job_name = 'one'\ndevice_type = 'bbb'\n"
 GROUP = "job_name = 'two'\n[roles.a]\ndevice_type = 'bbb'\ncount = 2\n"
 
 
+class Starter:
+    """A process that runs calls of the client in copies of itself (starter.py)."""
+
+    def __init__(self):
+        words = [os.path.join(SHARED, "starter.py"), DESK, "farm_tools.client"]
+        self.process = subprocess.Popen(
+            [sys.executable, *words], stdin=subprocess.PIPE, stdout=subprocess.PIPE, text=True,
+            env=environment(),
+        )
+        STARTED.append(self.process)
+        self.lock = threading.Lock()
+
+    def call(self, words, surroundings, given):
+        """The exit status, output and errors of a call."""
+        with self.lock, tempfile.TemporaryDirectory() as folder:
+            files = [write(folder, name, text) for name, text in (("in", given), ("out", ""), ("err", ""))]
+            self.process.stdin.write(f"{json.dumps([words, surroundings, files])}\n")
+            self.process.stdin.flush()
+            if not select.select([self.process.stdout], [], [], 60)[0]:
+                demand(f"desk {' '.join(words)}", "its end within 60 s", "none")
+            status = int(self.process.stdout.readline())
+            return status, read(files[1]), read(files[2])
+
+
+@functools.lru_cache(None)
+def starter():
+    return Starter()
+
+
 def desk(farm, *words, given="", user="ann", **more):
     """What the client comes to: its status, output and errors."""
+    surroundings = environment(DESK_SERVER=farm.server, DESK_USER=user, **more)
+    # (what Python itself reads of the environment wants a start)
+    if all(name.startswith("DESK_") for name in more):
+        return starter().call(words, surroundings, given)
     ran = subprocess.run(
         [sys.executable, DESK, *words],
         input=given,
@@ -21,7 +59,7 @@ def desk(farm, *words, given="", user="ann", **more):
         text=True,
         timeout=60,
         check=False,
-        env=environment(DESK_SERVER=farm.server, DESK_USER=user, **more),
+        env=surroundings,
     )
     return ran.returncode, ran.stdout, ran.stderr
 

@@ -12,6 +12,21 @@ import time
 TOP = os.path.realpath(os.path.join(os.path.dirname(__file__), "../.."))
 TOOLS = os.path.join(TOP, "tools")
 STARTED = []
+# Calls a tool with each of these words, as a process each would, and prints what came of it.
+CALLS = """\
+import contextlib, io, json, os, runpy, sys
+tool, calls, given = sys.argv[1], json.loads(sys.argv[2]), []
+for more, words in calls:
+    os.environ.update(more)
+    sys.argv, status, output, errors = [tool, *words], None, io.StringIO(), io.StringIO()
+    with contextlib.redirect_stdout(output), contextlib.redirect_stderr(errors):
+        try:
+            runpy.run_path(tool, run_name="__main__")
+        except SystemExit as ended:
+            status = ended.code
+    given.append([status, output.getvalue(), errors.getvalue()])
+print(json.dumps(given))
+"""
 
 
 @atexit.register
@@ -34,15 +49,16 @@ def demand(what, wanted, found):
 
 
 def wait_until(what, call, limit=40):
-    """Waits until a call gives something true, and returns that."""
-    until = time.monotonic() + limit
+    """Waits until a call gives something true, and returns that. It asks less often the longer it waits."""
+    until, pause = time.monotonic() + limit, 0.02
     while True:
         found = call()
         if found:
             return found
         if time.monotonic() > until:
             demand(f"{what}, within {limit} s", True, found)
-        time.sleep(0.02)
+        time.sleep(pause)
+        pause = min(pause * 1.2, 0.2)
 
 
 def free_port():
@@ -52,15 +68,27 @@ def free_port():
 
 
 def environment(**more):
-    """The environment without settings of the tools, and with a home that has none."""
+    """The environment without settings of the tools, and with a home that has none. The tools keep
+    their bytecode, as a user's do, since they are started some hundred times."""
     kept = {
         name: text for name, text in os.environ.items() if not name.startswith(
-            ("DESK_", "DISPATCH_", "FARM_")
+            ("DESK_", "DISPATCH_", "FARM_", "PYTHONDONTWRITEBYTECODE")
         )
     }
     return {
         **kept, "HOME": "/nonexistent", "XDG_CONFIG_HOME": "/nonexistent", "COLUMNS": "80", **more
     }
+
+
+def calls_in_one(tool, calls):
+    """What comes of calls of a tool, each of them more environment and the words: exit statuses, outputs
+    and errors. One process makes them all, since a start costs more than most of what a tool does."""
+    words = [sys.executable, "-c", CALLS, os.path.join(TOOLS, tool), json.dumps(calls)]
+    ran = subprocess.run(
+        words, capture_output=True, text=True, timeout=300, check=False, env=environment()
+    )
+    demand(f"calls of {tool}", (0, ""), (ran.returncode, ran.stderr))
+    return [tuple(it) for it in json.loads(ran.stdout)]
 
 
 class Farm:

@@ -59,6 +59,9 @@ class Mailbox:
     def __init__(self, folder):
         self.folder = tempfile.mkdtemp(dir=folder)
         self.sendmail = write(self.folder, "sendmail", SENDMAIL, 0o755)
+        self.brought = {}  # texts by the files' names
+        self.taken = {}  # mails by their Message-ID
+        self.read = {}  # messages by the texts that were brought
 
     def refuse(self, refuses):
         """Lets it refuse mails, or take them again."""
@@ -76,25 +79,24 @@ class Mailbox:
             os.unlink(os.path.join(self.folder, "kill"))
 
     def texts(self, kind="mail"):
-        """What was brought, each time."""
-        found = []
+        """What was brought, each time. (A file has its name once it is whole, and isn't read again.)"""
         for name in os.listdir(self.folder):
-            if name.startswith(f"{kind}."):
-                with open(os.path.join(self.folder, name), encoding="utf-8") as file:
-                    found.append(file.read())
-        return found
+            if name.startswith(f"{kind}.") and name not in self.brought:
+                self.brought[name] = read(os.path.join(self.folder, name))
+        return [text for name, text in self.brought.items() if name.startswith(f"{kind}.")]
 
     def mails(self):
         """Those that were taken, by their Message-ID: one that came again is dropped, and has to be
         the same to the byte."""
-        found = {}
         for text in self.texts():
+            if text in self.read:
+                continue
             words, _, mail = text.partition("\n")
             demand("sendmail's words", "-t -i", words)
-            read = email.message_from_string(mail, policy=email.policy.default)
-            kept, _ = found.setdefault(read["message-id"], (mail, read))
-            demand("a mail that came again", kept, mail)
-        return [read for _, read in found.values()]
+            message = email.message_from_string(mail, policy=email.policy.default)
+            demand("a mail that came again", mail, self.taken.setdefault(message["message-id"], mail))
+            self.read[text] = message
+        return list(self.read.values())
 
     def told(self, kind=None):
         """Whom which subjects went to, in order; of ages the hours alone."""

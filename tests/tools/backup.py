@@ -519,7 +519,7 @@ def main(copies, follows):
         try_keep(folder)
         try_faults(folder)
         try_trouble(folder)
-        try_moving(folder, max(20, copies // 5), chance)
+        try_moving(folder, max(10, copies // 5), chance)
         try_served_standby(*try_follows(folder, follows, chance))
         try_copies(folder, copies, chance)
 

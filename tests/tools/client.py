@@ -66,6 +66,12 @@ NUMBER GROUP KIND     STATE     RESULT BOARD TYPE ROLE PRIORITY OWNER TAGS
     demand(
         "a job as JSON", farm.job(2), json.loads(desk(farm, "jobs", "2", "--json")[1])["jobs"][0]
     )
+    shown_reservations(farm)
+    return "boards, queue, jobs and reservations are shown as lines and as JSON"
+
+
+def shown_reservations(farm):
+    """The reservation 4 with the time that is left, and once all has been canceled."""
     left = farm.reservation(4)["deadline"] - time.time()
     row = desk(farm, "reservations")[1].split("\n")[1].split()
     demand(
@@ -81,7 +87,6 @@ NUMBER GROUP KIND     STATE     RESULT BOARD TYPE ROLE PRIORITY OWNER TAGS
         1,
         len(json.loads(desk(farm, "reservations", "--all", "--json")[1])["reservations"]),
     )
-    return "boards, queue, jobs and reservations are shown as lines and as JSON"
 
 
 def collecting(farm, folder):
@@ -302,6 +307,12 @@ def with_a_board(farm, folder):
     tool.send(signal.SIGHUP)
     demand("one that is interrupted while it waits", 129, tool.ends())
     demand("the queue", [], farm.look("/queue")["queue"])
+    no_board_to_run_with(farm)
+    return "a command runs with a board, which is given back after an end, a kill and a signal"
+
+
+def no_board_to_run_with(farm):
+    """Where `desk with` runs no command, it leaves no reservation."""
     with open("/dev/full", "w", encoding="utf-8") as nobody:
         words = [sys.executable, DESK, "with", "hdmi", "--", "true"]
         around = environment(DESK_SERVER=farm.server, DESK_USER="ann")
@@ -317,7 +328,6 @@ def with_a_board(farm, folder):
     )
     demand("no command", 2, desk(farm, "with", "hdmi")[0])
     demand("none was reserved", [], farm.look("/queue")["queue"])
-    return "a command runs with a board, which is given back after an end, a kill and a signal"
 
 
 def desk_that_goes_away(farm, folder):
@@ -420,6 +430,12 @@ def settings(farm, folder):
     own["XDG_CONFIG_HOME"] = "/nonexistent"
     demand("the user and password of netrc", "eve:secret", authorization(environment(**own)))
     demand("no password of another's", None, authorization(environment(DESK_USER="bob", **own)))
+    bad_settings(farm, password)
+    return "server, user and password come from options, the environment, a file and netrc"
+
+
+def bad_settings(farm, password):
+    """What is refused: a password's file that others may read, files that aren't there, bad words."""
     os.chmod(password, 0o644)
     for words in (
         ["--password-file", password],
@@ -437,7 +453,6 @@ def settings(farm, folder):
         4,
         desk(farm, "--server", "http://192.0.2.1", "--password-file", password, "queue")[0],
     )
-    return "server, user and password come from options, the environment, a file and netrc"
 
 
 def owner(farm, around, *words):

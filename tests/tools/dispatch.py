@@ -1,11 +1,11 @@
 #!/usr/bin/env python3
-"""Lets farm-dispatch run jobs of a served farm: python3 tests/tools/dispatch.py bin/farm
+"""Lets farm-dispatch run jobs of a served farm: python3 tests/tools/dispatch.py bin/farm [--full]
 
 Each row serves a farm in a new file, prints a line and says what it saw: how each way to end is
 told, groups, health checks, cancels, lost processes, and dispatchers and a desk that are killed
 (kill -9) at random moments, over which each group has to run exactly once; commands that can't be
 started, time limits, misspelt settings and wrong clocks; those of dispatch_history.py, what it
-keeps of the past. Ends with status 1 at the first thing that isn't as it should be, and with 77
+keeps of the past (with --full over twice as many kills). Ends with status 1 at the first thing that isn't as it should be, and with 77
 where the machine lacks what it wants. Takes five minutes.
 """
 import argparse

@@ -41,6 +41,7 @@ for name in ("tell", "nudge"):
     setattr(calls.Desk, name, dying(getattr(calls.Desk, name)))
 sys.exit(dispatch.main())
 """
+FULL = "--full" in sys.argv[2:]
 TWO = "job_name = 'two'\nrun = 'true'\n[roles.a]\ndevice_type = 'bbb'\ncount = 2\n"
 JOB_FIELDS = [
     "kind", "job", "group", "owner", "boards", "type", "name", "submitted", "began", "ended",
@@ -119,11 +120,14 @@ def two_of(farm):
 
 def a_line_over_any_kill(lab):
     """Kills at places at which a dispatcher writes something or gives a command: some while it
-    makes the jobs' folders, and each one from the first end of a job on."""
+    makes the jobs' folders, and from the first end of a job on every second one by chance, or each
+    one with --full."""
     seed = random.randrange(10**6)
     dice, about = random.Random(seed), f"(seed {seed})"
-    places = [("start", it) for it in dice.sample(range(1, 40), 8)]
-    places += [("finish", it) for it in range(1, 19)] + [("line", it) for it in range(1, 11)]
+    places = [("start", it) for it in dice.sample(range(1, 40), 8 if FULL else 3)]
+    ends = [("finish", it) for it in range(1, 19)], [("line", it) for it in range(1, 11)]
+    for them in ends:
+        places += them if FULL else dice.sample(them, len(them) // 2)
     dice.shuffle(places)
     numbers, between = [], 0
     for phase, place in places:

@@ -476,18 +476,25 @@ def check_metrics(lab, quiet=False):
         capture_output=True, text=True, timeout=120, check=False,
         env=environment(DESK_SERVER=lab.farm.server),
     )
-    after, text = outcomes_of(lab), read(file)
+    for it in faults_of_metrics(ran.returncode, read(file), before, outcomes_of(lab), quiet):
+        lab.wrong(it)
+
+
+def faults_of_metrics(status, text, before, after, quiet):
+    """What is wrong with a text of farm-metrics beside the outcomes that the history had before it
+    and after it. While nothing is killed (quiet) the desk has to be up."""
     found = [METRIC.fullmatch(it) for it in text.splitlines() if not it.startswith("# ")]
     if None in found:
-        lab.wrong(f"farm-metrics wrote a line that isn't a metric:\n{text}")
-        return
-    values = {it[1] + (it[2] or ""): float(it[3]) for it in found}
-    if (ran.returncode, values["fizgruk_up"]) not in ((0, 1), (4, 0)) or quiet and ran.returncode:
-        lab.wrong(f"farm-metrics ended with {ran.returncode}, up {values['fizgruk_up']}")
+        return [f"farm-metrics wrote a line that isn't a metric:\n{text}"]
+    values, faults = {it[1] + (it[2] or ""): float(it[3]) for it in found}, []
+    up = values.get("fizgruk_up")
+    if (status, up) not in ((0, 1), (4, 0)) or quiet and status:
+        faults.append(f"farm-metrics ended with {status}, up {up}")
     for outcome in ("Complete", "Incomplete", "Infra", "Canceled"):
         count = values.get(f'fizgruk_jobs_ended_total{{outcome="{outcome}"}}', 0)
         if not before[outcome] <= count <= after[outcome]:
-            lab.wrong(f"farm-metrics counts {count} {outcome}, the history {after[outcome]}")
+            faults.append(f"farm-metrics counts {count} {outcome}, the history {after[outcome]}")
+    return faults
 
 
 def watches_boards(lab, _):

@@ -15,7 +15,7 @@ import sys
 import tempfile
 
 sys.path.insert(0, os.path.join(os.path.dirname(os.path.abspath(__file__)), "../shared"))
-from served import TOOLS, TOP, demand, environment  # noqa: E402
+from served import TOOLS, TOP, calls_in_one, demand, environment  # noqa: E402
 
 DOCS = os.path.join(TOP, "docs")
 COMMANDS = [
@@ -72,13 +72,23 @@ def write(text, *names):
 # ---- help
 
 
-@functools.lru_cache(None)
 def help_of(page, *command, columns=WIDE):
     """The help of a tool or of a command of it."""
-    tool = os.path.join(TOOLS, name_of(page))
-    ran = run(sys.executable, tool, *command, "--help", COLUMNS=str(columns))
-    demand(f"{page} {command} --help", (0, ""), (ran.returncode, ran.stderr))
-    return ran.stdout
+    return helps_of(page)[columns, command]
+
+
+@functools.lru_cache(None)
+def helps_of(page):
+    """The helps of a tool and of its commands, in both widths."""
+    asked = [(columns, tuple(it)) for columns in (80, WIDE) for it in ([], *([it] for it in PAGES[page]))]
+    calls = [({"COLUMNS": str(columns)}, [*command, "--help"]) for columns, command in asked]
+    found = {}
+    for key, (status, said, errors) in zip(asked, calls_in_one(name_of(page), calls)):
+        demand(f"{page} {key[1]} --help", (0, ""), (status, errors))
+        found[key] = said
+    alone = run(sys.executable, os.path.join(TOOLS, name_of(page)), "--help", COLUMNS="80")
+    demand(f"{page} --help", (0, found[80, ()], ""), (alone.returncode, alone.stdout, alone.stderr))
+    return found
 
 
 def plain(text):
@@ -227,11 +237,12 @@ def writer(folder):
             demand(f"'{it}' is told in {ran.stdout}", True, it in ran.stdout)
 
     checks(0)
-    for page in PAGES:
-        text = read(pages, page)
+    texts = {page: read(pages, page) for page in PAGES}
+    for page, text in texts.items():
         write(text.replace("Bad words", "Odd words"), pages, page)
-        checks(1, f"{page}: line ")
-        demand("it writes", 0, run(sys.executable, script).returncode)
+    checks(1, *(f"{page}: line " for page in PAGES))
+    demand("it writes", 0, run(sys.executable, script).returncode)
+    for page, text in texts.items():
         demand(f"{page} is written as it was", text, read(pages, page))
     text = read(pages, "farm-backup.8")
     write(text.replace("holds up nobody", "holds nobody up"), pages, "farm-backup.8")

@@ -235,6 +235,13 @@ def views_and_commands(farm, folder):
     ann.release(held)
     ann.cancel_reservation(held)
     demand("the status", own.look("/status"), vars(ann.status()))
+    asked_of(front, held)
+    own.kill()
+    return "each route of docs/openapi.json is asked, and answered by a value that has its type"
+
+
+def asked_of(front, held):
+    """Demands that each route of docs/openapi.json was asked, and which commands had a key."""
     with open(os.path.join(TOP, "docs", "openapi.json"), encoding="utf-8") as opened:
         paths = json.load(opened)["paths"]
     routes = {f"{method.upper()} {path}" for path, it in paths.items() for method in it}
@@ -244,8 +251,6 @@ def views_and_commands(farm, folder):
     without = [it[1] for it in front.asked if it[0] == "POST" and "x-key" not in it[2]]
     demand("without a key", {"/pass", f"/reservations/{held}/refresh"}, set(without))
     demand("keys", len(keys) - len(without), len({it for it in keys if it}))
-    own.kill()
-    return "each route of docs/openapi.json is asked, and answered by a value that has its type"
 
 
 def refusals(farm, folder):

@@ -1,12 +1,12 @@
 #!/usr/bin/env python3
-"""Lets farm-watch look at a served farm: python3 tests/tools/watch.py bin/farm
+"""Lets farm-watch look at a served farm: python3 tests/tools/watch.py bin/farm [--full]
 
 Each row serves a farm in a new file, prints a line and says what it saw: the ends of jobs, boards
 that went Bad or came free, holds that are reminded of and ended, passes that don't come, a farm
 that gets full, what a rules' file can't say, what is asked of the desk, messages that aren't taken,
-and farm-watch killed (kill -9) at many places, over which each event has to be told once (rows of
-watch_told.py). Ends with status 1 at the first thing that isn't as it should be, and with 77 where
-the machine lacks what it wants. Takes five minutes.
+and farm-watch killed (kill -9) at many places, with --full at twice as many, over which each event
+has to be told once (rows of watch_told.py). Ends with status 1 at the first thing that isn't as it
+should be, and with 77 where the machine lacks what it wants. Takes five minutes.
 """
 import contextlib
 import json
@@ -21,7 +21,7 @@ import time
 sys.path.insert(0, os.path.join(os.path.dirname(os.path.abspath(__file__)), "../shared"))
 import watch_told  # noqa: E402
 from desks import GROUP, write  # noqa: E402
-from served import TOOLS, TOP, Tool, demand, environment, free_port, wait_until  # noqa: E402
+from served import TOOLS, TOP, Tool, calls_in_one, demand, environment, free_port, wait_until  # noqa: E402
 from watched import HOUR, Watched  # noqa: E402
 
 WATCH = os.path.join(TOOLS, "farm-watch")
@@ -58,6 +58,15 @@ def ends_of_jobs(room):
     told.append(("cat", f"job {group} (two) has ended: Complete, Incomplete"))
     lab.mails([(at(owner), f"farm: {subject}") for owner, subject in told])
     wait_until("the same by the webhook", lambda: lab.hook.told() == sorted(told))
+    demand("an end before its time", [],
+           [it for it in lab.mailbox.told() if f"job {early} " in it[1]])
+    message_of_a_group(lab, group)
+    lab.end()
+    return "a job's end is told once, of a group with all members, also one between two looks"
+
+
+def message_of_a_group(lab, group):
+    """What the webhook and the mail say to cat, whose group of two has ended."""
     said = next(it for it in lab.hook.messages() if it["owner"] == "cat")
     demand(
         "a message's facts",
@@ -77,10 +86,6 @@ def ends_of_jobs(room):
         f"{group:6} Complete   b1    bbb  a",
         f"{group + 1:6} Incomplete b2    bbb  a",
     ], mail.get_content().splitlines())
-    demand("an end before its time", [],
-           [it for it in lab.mailbox.told() if f"job {early} " in it[1]])
-    lab.end()
-    return "a job's end is told once, of a group with all members, also one between two looks"
 
 
 def reasons(room):
@@ -437,10 +442,14 @@ def watch(*words, **more):
 
 
 def refused_files(room):
-    for text, told in FAULTS:
-        file = write(room, "refused.toml", text)
-        demand(text, (2, "", f"farm-watch: {file}: {told}\n"), watch("--check", file))
-        demand(text, 2, watch("--folder", room, file)[0])
+    files = [write(room, f"refused-{place}.toml", text) for place, (text, _) in enumerate(FAULTS)]
+    calls = [words for file in files for words in (["--check", file], ["--folder", room, file])]
+    given = calls_in_one("farm-watch", [({}, words) for words in calls])
+    for place, (file, (text, told)) in enumerate(zip(files, FAULTS)):
+        checked, begun = given[2 * place : 2 * place + 2]
+        demand(text, (2, "", f"farm-watch: {file}: {told}\n"), checked)
+        demand(text, 2, begun[0])
+    demand("alone", given[0], watch("--check", files[0]))
     file = write(room, "refused.toml", "[mail\n")
     status, _, told = watch(file)
     demand("no TOML", (2, True, 1), (status, "line 1" in told, told.count("\n")))

@@ -33,7 +33,9 @@ sys.addaudithook(lambda name, _: name in ("socket.connect", "subprocess.Popen") 
 sys.argv = sys.argv[2:]
 runpy.run_path(sys.argv[0], run_name="__main__")
 """
-KILLS, HOLDS = 45, 10
+HOLDS = 10
+# How often it is killed, and how often at least by each way and in all.
+KILLS, EACH, ALL = (45, 8, 30) if "--full" in sys.argv[2:] else (24, 4, 16)
 
 
 def ended(number):
@@ -177,7 +179,6 @@ def killed(room):
     """farm-watch is killed while jobs end, boards go Bad, and holds are reminded of and ended: at
     places of its own, by the sendmail that has just taken a message, by the webhook before it
     answers. Dropping what came again, each event was told once by each way."""
-    chance = random.Random(53)
     lab = Watched(FARM, room, f"{JOBS}[board]\nbad = true\n[hold]\nremind = '4h'\nend = '4h2m'\n",
                   boards=[])
     now = time.time()
@@ -188,53 +189,62 @@ def killed(room):
     lab.farm.tell("admin", "/boards/b0/health", {"health": "Good"})
     lab.start()
     lab.stop()
-    kills = {"place": 0, "sendmail": 0, "webhook": 0}
-    jobs, bad = [], []
-    for turn in range(KILLS):
-        by = ("place", "sendmail", "webhook")[turn % 3 if turn % 5 else 0]
-        count = 3 + turn if turn < 30 else chance.randrange(3, 120)
-        tool = begun(lab, count if by == "place" else 10**9)
-        if by == "sendmail":
-            lab.mailbox.kill(tool.pid)
-        elif by == "webhook":
-            lab.hook.to_kill = tool.pid
-        jobs.append(lab.runs("true"))
-        bad.append(f"x{turn}")
-        lab.farm.tell("admin", "/boards", {"name": bad[-1], "type": "bbb"})
-        lab.farm.tell("admin", f"/boards/{bad[-1]}/health", {"health": "Bad"})
-        kills[by] += was_killed(tool)
-    lab.mailbox.kill(None)
-    lab.hook.to_kill = None
+    kills, told = kill_often(lab)
     lab.start()
-    told = [("ann", ended(it)) for it in jobs]
-    told += [("", f"board {it} is Bad") for it in bad]
     for place, number in enumerate(numbers):
         told.append((
             f"user{place}", f"reservation {number} was ended: you had held h{place} for 4 hours"
         ))
     wait_until("the last end", lambda: told_of(lab.hook.told("hold-ended"), told), 300)
     lab.looked(3)
-    reminders = [
-        (f"user{place}", f"you have held h{place} for 4 hours (reservation {number})")
-        for place, number in enumerate(numbers)
-    ]
-    # (on a slow machine a hold's end may be there before the look that would have reminded of it)
-    seen = [it for it in reminders if it in in_hours(lab.hook.told("hold-reminder"))]
-    demand("reminders", True, len(seen) >= HOLDS / 2)
-    told += seen
+    told += reminders_seen(lab, numbers)
     wait_until("the webhook's messages", lambda: len(lab.hook.messages()) >= len(told), 180)
     wait_until("the mails", lambda: len(lab.mailbox.mails()) >= len(told), 180)
     demand_told("by the webhook", told, lab.hook.told())
     mails = [(f"{owner or 'lab'}@lab.example", f"farm: {text}") for owner, text in told]
     demand_told("by mail", mails, lab.mailbox.told())
-    demand(f"that it was killed by each ({kills})", True, all(it >= 8 for it in kills.values()))
-    demand(f"that it was killed often ({kills})", True, sum(kills.values()) >= 30)
+    demand(f"that it was killed by each ({kills})", True, all(it >= EACH for it in kills.values()))
+    demand(f"that it was killed often ({kills})", True, sum(kills.values()) >= ALL)
     again = len(lab.hook.posted) + len(lab.mailbox.texts()) - 2 * len(told)
     lab.end()
     return (
         f"{sum(kills.values())} kills (kill -9), {len(told)} events, each told once by each way; "
         f"{again} messages came again, under their ids"
     )
+
+
+def kill_often(lab):
+    """Kills farm-watch again and again, while a job ends and a board goes Bad beside each. Returns
+    how often by each way, and whom is told what."""
+    chance, kills, told = random.Random(53), {"place": 0, "sendmail": 0, "webhook": 0}, []
+    for turn in range(KILLS):
+        by = ("place", "sendmail", "webhook")[turn % 3 if turn % 5 else 0]
+        count = 3 + turn if turn < KILLS * 2 // 3 else chance.randrange(3, 120)
+        tool = begun(lab, count if by == "place" else 10**9)
+        if by == "sendmail":
+            lab.mailbox.kill(tool.pid)
+        elif by == "webhook":
+            lab.hook.to_kill = tool.pid
+        told.append(("ann", ended(lab.runs("true"))))
+        lab.farm.tell("admin", "/boards", {"name": f"x{turn}", "type": "bbb"})
+        lab.farm.tell("admin", f"/boards/x{turn}/health", {"health": "Bad"})
+        told.append(("", f"board x{turn} is Bad"))
+        kills[by] += was_killed(tool)
+    lab.mailbox.kill(None)
+    lab.hook.to_kill = None
+    return kills, told
+
+
+def reminders_seen(lab, numbers):
+    """The reminders of holds that were told. (On a slow machine a hold's end may be there before
+    the look that would have reminded of it.)"""
+    reminders = [
+        (f"user{place}", f"you have held h{place} for 4 hours (reservation {number})")
+        for place, number in enumerate(numbers)
+    ]
+    seen = [it for it in reminders if it in in_hours(lab.hook.told("hold-reminder"))]
+    demand("reminders", True, len(seen) >= HOLDS / 2)
+    return seen
 
 
 def begun(lab, count):

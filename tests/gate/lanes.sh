@@ -1,0 +1,76 @@
+# The scripts over a built program, in lanes that go side by side. all.sh and check.sh read this file.
+# They set `farm`, the program; `player`, the player of transcripts; and `folder`, a folder for what the scripts say.
+passed=0
+failed=0
+
+# Runs a command, and keeps what it cost under a kind.
+costing() {
+    python3 tests/gate/costs.py "$folder/costs" "$@"
+}
+
+# Runs a script, which takes seconds to minutes, for twenty minutes at most: one that waits for ever fails.
+limited() {
+    kind=$1
+    shift
+    costing "$kind" timeout -k 10 1200 "$@"
+}
+
+# Runs scripts one after another, but those in `left_out`; what each says and how it ends stands in the folder.
+# (those that go by chance are run longer by hand, as each says)
+trying() {
+    for script in "$@"; do
+        case " ${left_out-} " in *" $script "*) continue ;; esac
+        case $script in
+            oracle/generated.py) set -- python3 "tests/$script" "$player" ;;
+            faults/refused_memory.sh) set -- sh "tests/$script" "$farm" "$player" ;;
+            oracle/malformed.py) set -- python3 "tests/$script" "$farm" 5000 ;;
+            faults/kills.py) set -- python3 "tests/$script" "$farm" 100 ;;
+            tools/backup.py) set -- python3 "tests/$script" "$farm" 24 2 ;;
+            faults/power_cuts.py) set -- python3 "tests/$script" "$farm" 200 ;;
+            *.py) set -- python3 "tests/$script" "$farm" ;;
+            *) set -- sh "tests/$script" "$farm" ;;
+        esac
+        limited "scripts over the program" "$@" > "$folder/$script.said" 2>&1
+        echo $? > "$folder/$script.status"
+    done
+}
+
+# A lane a line: those that run the program most, those of a moment, and those that mostly wait, one or a few a lane.
+lanes='faults/refused_memory.sh faults/power_cuts.py oracle/generated.py
+program/words.sh program/statuses.sh program/mistakes.sh faults/moved_files.py program/upgrade.sh program/examples.sh program/using.sh program/api.py program/shell.sh program/real_clients.sh program/sockets.py program/crowds.py oracle/malformed.py faults/kills.py
+tools/client.py
+tools/watch.py
+tools/dispatch.py
+tools/backup.py tools/metrics.py tools/importers.py tools/boards_run.py
+tools/page.py tools/page_work.py tools/page_past.py tools/proxy.py
+tools/python_client.py program/openapi.py tools/manual.py tools/unit.py program/package.sh'
+
+# Runs them all, prints what they said, and adds how they ended to `passed` and `failed`; `wrong` are those that failed.
+run_lanes() {
+    mkdir "$folder/faults" "$folder/oracle" "$folder/program" "$folder/tools"
+    echo "$lanes" | {
+        while read -r lane; do
+            trying $lane < /dev/null &
+        done
+        wait
+    }
+    wrong=
+    for script in $lanes; do
+        [ -e "$folder/$script.status" ] || continue
+        cat "$folder/$script.said"
+        case $(cat "$folder/$script.status") in
+            0) passed=$((passed + 1)) ;;
+            77) ;; # it wasn't tried, as it said
+            *)
+                wrong="$wrong $script"
+                failed=$((failed + 1))
+                ;;
+        esac
+    done
+    # once more, where the end of the output stands: what each said that failed
+    for script in $wrong; do
+        echo "failed with status $(cat "$folder/$script.status"): tests/$script, which said last:"
+        tail -n 5 "$folder/$script.said"
+    done
+    [ -z "$wrong" ]
+}

@@ -1,0 +1,6 @@
+"""Where the unit tests find the tools, the scripts beside them and what these share."""
+import pathlib
+import sys
+
+TESTS = pathlib.Path(__file__).resolve().parents[2]
+sys.path[:0] = [str(TESTS / "tools"), str(TESTS / "shared"), str(TESTS.parent / "tools")]
