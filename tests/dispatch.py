@@ -79,6 +79,11 @@ class Lab:
         """How often the command was begun for a job."""
         return read(self.runs).split("\n").count(f"begin {number}")
 
+    def passes(self):
+        """How many passes the dispatchers of this lab have counted."""
+        text = read(os.path.join(self.place, "passes.json"))
+        return json.loads(text)["count"] if text else 0
+
     def begun(self, number):
         wait_until(f"job {number} is begun", lambda: self.begins(number))
 
@@ -184,6 +189,8 @@ def passes_after_a_finish(place):
         demand(f"the result of job {number}", "Complete", lab.finished(number))
     children = f"/proc/{dispatcher.process.pid}/task/{dispatcher.process.pid}/children"
     wait_until("one process is left at most", lambda: len(read(children).split()) <= 1)
+    wait_until("the passes: the first, and one after each end", lambda: lab.passes() == 5)
+    demand("the rights of their count", 0o644, os.stat(f"{lab.place}/passes.json").st_mode & 0o777)
     lab.closes(dispatcher)
     return "four jobs of one board run one after another, each after the pass at an end"
 
@@ -276,13 +283,15 @@ def killed_dispatchers(place):
     numbers = [lab.farm.submit(f"sleep 0.{dice.randrange(4)}") for _ in range(24)]
     text = "job_name = 'two'\nrun = 'sleep 0.2'\n[roles.a]\ndevice_type = 'bbb'\ncount = 2\n"
     numbers += [lab.farm.tell("ann", "/jobs", text.encode())["number"] for _ in range(4)]
-    kills = 0
+    kills = passes = 0
     dispatcher = lab.dispatch(every="0.1")
     until = time.monotonic() + 12
     while time.monotonic() < until and lab.farm.look("/queue")["queue"]:
         time.sleep(dice.uniform(0.05, 0.5))
         dispatcher.kill()
         kills += 1
+        passes, before = lab.passes(), passes
+        demand(f"passes that a kill took back (seed {seed})", True, before <= passes)
         if kills % 5 == 0:
             lab.farm.kill()
             lab.farm.start()
@@ -298,6 +307,9 @@ def killed_dispatchers(place):
     dispatch_history.one_line_each(lab, [*numbers[:-4], *members], f"(seed {seed})")
     # The last one may have come after all was done: it is told to end once it has run a job.
     demand("a job of the last", "Complete", lab.finished(lab.farm.submit("true")))
+    counted, others = lab.passes(), len(numbers) + 1
+    commands = lab.farm.look("/status")["count"]
+    demand("passes are counted, and no other command", True, passes < counted <= commands - others)
     lab.closes(dispatcher)
     return f"over {kills} killed dispatchers, {kills // 5} killed desks, each of 28 groups ran once"
 

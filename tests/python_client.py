@@ -26,8 +26,10 @@ from desks import BOARDS
 from python_front import SOURCES, Front, Passer, copied, python_with
 from served import TOOLS, TOP, STARTED, Farm, demand, environment, read, wait_until
 
-sys.path.insert(0, os.path.join(SOURCES, "src"))
+sys.path[:0] = [os.path.join(SOURCES, "src"), TOOLS]
 import fizgruk  # noqa: E402
+import fizgruk.settings  # noqa: E402
+from farm_tools import settings as command_settings  # noqa: E402
 from fizgruk import holding  # noqa: E402
 
 LEASE = 60
@@ -168,10 +170,13 @@ def settings(farm, folder):
         )
         return ran.stdout.strip() or ran.stderr.strip().split("\n")[-1]
 
-    lines = ["[desk]", "server = http://h:1", "user = bob", "[dispatch]", "most = 1"]
+    lines = ["[desk]", "server = http://h:1", "user = bob", "history = /h", "[dispatch]", "most = 1"]
     write(".config/farm/desk.ini", "\n".join(lines))
     demand("by the file", "http://h:1 bob", told(""))
     demand("by the environment", "http://g:2 bob", told("", DESK_SERVER="http://g:2"))
+    demand("the command's own", "http://h:1 bob", told("", DESK_HISTORY="/h"))
+    known = (*fizgruk.settings.WORDS, *fizgruk.settings.OF_COMMAND)
+    demand("the section's settings", command_settings.SECTIONS["desk"], known)
     given = told("server='http://f:3', user='cat'", DESK_SERVER="http://g:2")
     demand("by what is given", "http://f:3 cat", given)
     write(".netrc", "machine farm.example login ann password x\n")

@@ -6,7 +6,7 @@ import sys
 from farm_tools import (
     admin,
     calls,
-    clock,
+    clocks,
     desk_texts,
     holding,
     interrupts,
@@ -49,7 +49,7 @@ def status_of(options) -> int:
     try:
         desk = calls.Desk(settings.read_settings("desk", options, options.asks_as), PATIENCE)
         desk.tell_trouble = Trouble(desk).tell
-        options.clock = clock.Clock(desk)
+        options.clock = clocks.Watch(desk)
         status = options.does(desk, options)
         if status == 0 and not options.clock.has_looked:
             options.clock.look()

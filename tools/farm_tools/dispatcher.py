@@ -13,6 +13,7 @@ import time
 from typing import Callable, Dict, Optional, Set
 
 from farm_tools import calls, folders, limits
+from farm_tools.passes import Counter
 from farm_tools.past import Past
 from farm_tools.starts import Starts
 
@@ -40,6 +41,7 @@ class Dispatcher:
         self.others: Set[int] = set()
         self.told: Set[str] = set()
         self.past = Past(desk, place, self.open)
+        self.passes = Counter(place)
 
     def round(self, passes: bool) -> None:
         """Takes up what there is to do, after a pass where one is due, and again after each pass
@@ -48,10 +50,14 @@ class Dispatcher:
         if passes:
             self.past.look()
         if passes and not self.starts.fault:
-            self.desk.nudge("/pass")
+            self._pass()
         while self._take_up() and not self.starts.fault:
-            self.desk.nudge("/pass")
+            self._pass()
         self.starts.end_round()
+
+    def _pass(self) -> None:
+        self.desk.nudge("/pass")
+        self.passes.add()
 
     def _take_up(self) -> bool:
         """Does what each group that holds boards asks for. Returns whether a group was finished."""

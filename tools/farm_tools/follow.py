@@ -263,9 +263,7 @@ class Follower:
         self.trouble, self.as_of = "", moment
         text = time.strftime("%Y-%m-%dT%H:%M:%S", time.gmtime(moment))
         file = os.path.join(self.folder, AS_OF)
-        with open(f"{file}.new", "w", encoding="utf-8") as note:
-            note.write(f"{text}.{int(moment % 1 * 1000):03}Z\n")
-        os.replace(f"{file}.new", file)
+        folders.write_whole(file, f"{text}.{int(moment % 1 * 1000):03}Z\n")
 
     def _behind(self) -> str:
         """For how long the standby has got nothing."""

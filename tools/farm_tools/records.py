@@ -14,7 +14,6 @@ from farm_tools import folders
 
 LINES, NEWEST, HEALTHS = "history.jsonl", "history.json", "healths.json"
 MOST_SHOWN = 200
-READABLE = 0o644  # by the proxy's user too
 CHECK = "health check"  # the name of a job that the desk makes itself
 BY_ADMIN = "by the admin"
 BLOCK = 65536
@@ -180,9 +179,9 @@ def _append(file: str, rows: List[dict]) -> None:
     text = "".join(f"{json.dumps(it, ensure_ascii=False, separators=(',', ':'))}\n" for it in rows)
     left = text.encode(errors="replace")
     is_new = not os.path.exists(file)
-    opened = os.open(file, os.O_RDWR | os.O_APPEND | os.O_CREAT | os.O_CLOEXEC, READABLE)
+    opened = os.open(file, os.O_RDWR | os.O_APPEND | os.O_CREAT | os.O_CLOEXEC, folders.READABLE)
     try:
-        os.fchmod(opened, READABLE)
+        os.fchmod(opened, folders.READABLE)
         size = _mended(opened)
         try:
             while left:
@@ -218,12 +217,9 @@ def _mended(opened: int) -> int:
 
 def _write(file: str, said: object) -> bool:
     """Writes a file whole or not at all. Returns whether there was room for it."""
+    text = json.dumps(said, ensure_ascii=False, separators=(",", ":"))
     try:
-        with open(f"{file}.new", "w", encoding="utf-8", errors="replace") as new:
-            os.fchmod(new.fileno(), READABLE)
-            json.dump(said, new, ensure_ascii=False, separators=(",", ":"))
-            new.write("\n")
-        os.replace(f"{file}.new", file)
+        folders.write_whole(file, f"{text}\n")
         return True
     except OSError:
         return False

@@ -17,6 +17,8 @@ SYSTEM_FILE = "/etc/farm/desk.ini"
 SERVER = "http://127.0.0.1:8080"
 SECTION, ENVIRONMENT = "desk", "DESK_"
 WORDS = ("server", "user", "password_file", "ca_file", "timeout")
+# What the section may have besides, which is the command's alone.
+OF_COMMAND = ("history",)
 LOOPBACK = ("127.0.0.1", "localhost", "::1")
 SECONDS = "30"
 
@@ -64,7 +66,7 @@ def address_of(server: str) -> urllib.parse.SplitResult:
 
 def _environment() -> Dict[str, str]:
     """The settings in the environment."""
-    known = [f"{ENVIRONMENT}{it.upper()}" for it in (*WORDS, "config")]
+    known = [f"{ENVIRONMENT}{it.upper()}" for it in (*WORDS, *OF_COMMAND, "config")]
     found = {}
     for name in sorted(it for it in os.environ if it.startswith(ENVIRONMENT)):
         if name not in known:
@@ -88,7 +90,7 @@ def _files_read(named: Optional[str]) -> Dict[str, str]:
         if named and not done:
             raise BadSettings(f"{named} can't be read")
         for word, text in read.items(SECTION) if read.has_section(SECTION) else []:
-            if word not in WORDS:
+            if word not in (*WORDS, *OF_COMMAND):
                 raise BadSettings(f"{file}: {word} is no setting: {_meant(word, WORDS)}")
             found[word] = text
     return found
