@@ -381,6 +381,7 @@ def served_logs(lab):
     wait_until("one that goes on", lambda: read(log_of(lab, running)) == "begun\n")
     demand("who may read it", 0o644, os.stat(log_of(lab, one)).st_mode & 0o777)
     demand("who may list them", 0o711, os.stat(os.path.join(lab.place, "logs")).st_mode & 0o777)
+    wait_until("it is known to have ended", lambda: os.path.exists(lab.file(one, "finished")))
     dispatcher.kill()
     for number in (one, running):
         os.utime(log_of(lab, number), (time.time() - 3700,) * 2)
