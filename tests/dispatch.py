@@ -249,6 +249,40 @@ def cancels(place):
     return "a canceled job's command gets SIGTERM, then SIGKILL, and what it left behind is killed"
 
 
+def cancel_beside_a_clock(place):
+    """A grace isn't cut short by a clock that jumps: by the file's age the command would be killed."""
+    lab = Lab(place)
+    number = lab.farm.submit(f"trap \"touch {lab.folder}/told\" TERM; {lab.until('open')}; exit 3")
+    dispatcher = lab.dispatch("--grace", "100")
+    lab.begun(number)
+    lab.farm.tell("ann", f"/jobs/{number}/cancel")
+    wait_until("it is told", lambda: os.path.exists(f"{lab.folder}/told"))
+    os.utime(lab.file(number, "cancel"), (time.time() - 7200,) * 2)
+    passes = lab.passes()
+    wait_until("three more passes", lambda: lab.passes() >= passes + 3)
+    demand("how it ended", "", read(lab.file(number, "ended")))
+    lab.let("open")
+    demand("its result", "Canceled", lab.finished(number))
+    demand("its end", "status 3", read(lab.file(number, "ended")).strip())
+    lab.closes(dispatcher)
+    return "a canceled job has its whole grace, also where the machine's clock jumps"
+
+
+def no_room_for_the_end(place):
+    """Where a job's end can't be noted its process waits until it can."""
+    lab = Lab(place)
+    number = lab.farm.submit("mkdir $FARM_FOLDER/ended.new")
+    dispatcher = lab.dispatch()
+    wait_until("its command's end", lambda: f"end {number}" in read(lab.runs))
+    passes = lab.passes()
+    wait_until("three more passes", lambda: lab.passes() >= passes + 3)
+    demand("its state", "Running", lab.farm.job(number)["state"])
+    os.rmdir(lab.file(number, "ended.new"))
+    demand("its result", "Complete", lab.finished(number))
+    lab.closes(dispatcher)
+    return "a job that went well is Complete, also where there is no room for its end at first"
+
+
 def lost_processes(place):
     lab = Lab(place)
     alone, both, gone = (
@@ -1071,6 +1105,8 @@ ROWS = [
     group,
     health_checks,
     cancels,
+    cancel_beside_a_clock,
+    no_room_for_the_end,
     lost_processes,
     others_jobs,
     earlier_farm,

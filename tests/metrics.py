@@ -259,8 +259,10 @@ def try_no_desk(farm, folder):
     demand("what is told", 1, errors.count(f"farm-metrics: no answer from the desk at {farm.server}: "))
     farm.start()
     status, said, errors = metrics(farm.server, "--textfile", f"{folder}/none/x.prom")
-    demand("a folder that isn't there", (4, "", 1), (status, said, errors.count("\n")))
+    demand("a folder that isn't there, a line a file", (4, "", 2), (status, said, errors.count("\n")))
     demand("words", 2, metrics(farm.server, "--listen", "1", "--textfile", prom)[0])
+    status, said, errors = metrics(farm.server, "--state", f"{folder}/none/state", "--history", f"{folder}/none")
+    demand("a state that can't be kept", (4, 1.0, 1), (status, value(said, "fizgruk_up"), errors.count("\n")))
     print("metrics: no answer from the desk is a metric, too")
 
 

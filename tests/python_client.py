@@ -188,6 +188,8 @@ def settings(farm, folder):
     word = write("word", "secret\n")
     sent = f"{bad}a password isn't sent to http://h:1, which has no TLS"
     demand("no TLS", sent, told(f"password_file='{word}'"))
+    login = "a server's address has no user and no password in it: user and password_file"
+    demand("a password in the address", f"{bad}{login}", told("server='https://ann:secret@h'"))
     os.chmod(word, 0o644)
     read_by = f"{bad}{word} holds a password, and others may read it: chmod 600"
     demand("an open one", read_by, told(f"password_file='{word}'"))

@@ -55,7 +55,7 @@ def set_health(desk, options) -> int:
     status = 0
     for board in options.boards:
         try:
-            give(desk, options, f"/boards/{board}/health", {"health": options.health})
+            give(desk, options, f"/boards/{calls.part(board)}/health", {"health": options.health})
         except calls.Refused as refusal:
             if refusal.status == calls.NOT_LET_IN or refusal.code == calls.FORBIDDEN:
                 raise
@@ -67,7 +67,7 @@ def set_health(desk, options) -> int:
 def set_tags(desk, options) -> int:
     if bool(options.tags) == options.none:
         options.parser.error("give its tags, or --none")
-    return give(desk, options, f"/boards/{options.board}/tags", {"tags": options.tags})
+    return give(desk, options, f"/boards/{calls.part(options.board)}/tags", {"tags": options.tags})
 
 
 def add_type(desk, options) -> int:

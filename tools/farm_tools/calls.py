@@ -53,6 +53,11 @@ def fresh_key() -> str:
     return secrets.token_hex(16)
 
 
+def part(name: str) -> str:
+    """A name as a part of a path, also where it is none that the desk takes."""
+    return urllib.parse.quote(name, safe="", errors="surrogateescape")
+
+
 class Desk:
     """A desk at a server's address, as one user sees it."""
 
@@ -112,6 +117,8 @@ class Desk:
             answer = line.getresponse()
             if answer.status == NOTHING_BEYOND:
                 return
+            if answer.status in UNKNOWN:
+                raise NoAnswer(f"{answer.status} {answer.reason}")
             if answer.status not in (200, 206):
                 self._meaning(answer.status, answer.reason, answer.read())
             yield from _read(answer, 0 if answer.status == 206 else begin)

@@ -31,6 +31,7 @@ class Collector:
         self.seen: Dict[str, float] = dict(found.get("seen", {}))
         self.history = History(history, found.get("history", {}))
         self.trouble = ""  # why the desk isn't told of
+        self.lost = ""  # why the next process doesn't know what this one does
 
     def families(self) -> List[Family]:
         """All metrics, as of now."""
@@ -70,8 +71,12 @@ class Collector:
     def _keep(self) -> None:
         if self.state is None:
             return
+        self.lost = ""
         kept = {"count": self.count, "seen": self.seen, "history": self.history.state()}
-        folders.write_whole(self.state, json.dumps(kept), 0o600)
+        try:
+            folders.write_whole(self.state, json.dumps(kept), 0o600)
+        except OSError as fault:
+            self.lost = str(fault)
 
 
 class Passes:

@@ -321,11 +321,10 @@ class Dispatcher:
     def _cancel(self, number: int) -> None:
         """Asks for the end of a group's command: of the process that runs it, and where that was
         killed itself and doesn't answer, of all that it left."""
-        file = self._file(number, folders.CANCEL)
-        if not os.path.exists(file):
-            folders.write_synced(file, "")
+        seconds = folders.cancel(self._folder(number))
+        if seconds is None:
             self._tell(f"job {number} is told to end")
-        elif time.time() - os.stat(file).st_mtime > self.options.grace + KILLS_AFTER:
+        elif seconds > self.options.grace + KILLS_AFTER:
             folders.kill_processes_of(self._folder(number))
 
     def _finish(self, number: int, members, ended: str) -> bool:

@@ -7,7 +7,7 @@ happened.
     began         it was begun, once for all: nobody begins it again; when, by the machine's clock
                   that nobody sets, and its time limit, in seconds
     started       its command runs, or ran
-    cancel        it shall end
+    cancel        it shall end; since when, by the same clock
     late          it was killed for its time limit
     ended         how it ended
     finished      the desk knows how it ended
@@ -133,6 +133,18 @@ def begin_of(folder: str) -> Optional[Tuple[float, float]]:
             began, limit = file.read().split()
         return float(began), float(limit)
     except (OSError, ValueError):
+        return None
+
+
+def cancel(folder: str) -> Optional[float]:
+    """Asks for the job's end. Returns for how many seconds that is asked for, None where it wasn't
+    before."""
+    file = os.path.join(folder, CANCEL)
+    try:
+        with open(file, encoding="utf-8") as asked:
+            return time.monotonic() - float(asked.read())
+    except (OSError, ValueError):
+        write_synced(file, f"{time.monotonic()}\n")
         return None
 
 

@@ -238,8 +238,9 @@ class Follower:
         self._remove_former(name)
 
     def _remove_former(self, name: str) -> None:
-        """Removes the copy before this one; of earlier processes the last is left."""
-        former = self.made or copying.copies_in(self.folder)[:-2]
+        """Removes the copy before this one; of earlier processes the last is left. (Names tell
+        moments, and a clock may have been set back.)"""
+        former = self.made or [it for it in copying.copies_in(self.folder) if it != name][:-1]
         self.made = [name]
         for old in former:
             shutil.rmtree(os.path.join(self.folder, old), ignore_errors=True)

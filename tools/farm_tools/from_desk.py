@@ -182,7 +182,7 @@ def set_health(desk: calls.Desk, file: str) -> int:
         healths = healths_of(text.read())
     for board, health in healths.items():
         if health != FIRST_HEALTH:
-            desk.tell(f"/boards/{board}/health", {"health": health}, calls.fresh_key())
+            desk.tell(f"/boards/{calls.part(board)}/health", {"health": health}, calls.fresh_key())
             print(f"{board} {health}", flush=True)
     return lab_file.CARRIED
 

@@ -48,7 +48,7 @@ def main(words: Optional[Sequence[str]] = None) -> int:
             folders.write_whole(options.textfile, text)
         else:
             print(text, end="", flush=True)
-        return FAULT if metrics.collector.trouble else 0
+        return FAULT if metrics.collector.trouble or metrics.collector.lost else 0
     except interrupts.Interrupted as interrupted:
         return 0 if options.listen is not None else interrupted.status
     except (settings.BadSettings, OSError) as fault:
@@ -128,6 +128,8 @@ class Metrics:
             troubles.append(f"passes aren't counted: {self.collector.passes.trouble}")
         if self.collector.history.trouble:
             troubles.append(f"jobs aren't counted: {self.collector.history.trouble}")
+        if self.collector.lost:
+            troubles.append(f"nothing is kept for the next time: {self.collector.lost}")
         for it in troubles:
             if it not in self.told:
                 tell(it)

@@ -17,6 +17,7 @@ from typing import Sequence
 from farm_tools import commands, folders, limits
 
 LOOKS = 0.5
+RETRY = 1.0
 LOG_OPENED = os.O_WRONLY | os.O_APPEND | os.O_CREAT | os.O_CLOEXEC
 
 
@@ -32,9 +33,20 @@ def main(words) -> int:
     signal.signal(signal.SIGTERM, signal.SIG_IGN)
     signal.signal(signal.SIGHUP, signal.SIG_IGN)
     how = ran(folder, grace, limit, command, lock)
-    folders.write_synced(os.path.join(folder, folders.ENDED), f"{how}\n")
+    keep_end(folder, how)
     wake(os.path.dirname(os.path.dirname(folder)))
     return 0
+
+
+def keep_end(folder: str, how: str) -> None:
+    """Notes how the job ended. Where there is no room for it this waits until there is: without
+    the note a job that went well would be a lost one. Nobody waits where the folder was removed."""
+    while os.path.isdir(folder):
+        try:
+            folders.write_synced(os.path.join(folder, folders.ENDED), f"{how}\n")
+            return
+        except OSError:
+            time.sleep(RETRY)
 
 
 def text_of(folder: str) -> str:

@@ -16,6 +16,7 @@ from farm_tools.parsers import Parser
 
 SYSTEM_FILE, OWN_FILE = "/etc/farm/desk.ini", "~/.config/farm/desk.ini"
 SERVER = "http://127.0.0.1:8080"
+NO_LOGIN = "a server's address has no user and no password in it: --user and --password-file"
 LOOPBACK = ("127.0.0.1", "localhost", "::1")
 WORDS = ("server", "user", "password_file", "ca_file", "timeout")
 OF_DESK = ("history",)
@@ -95,7 +96,7 @@ def read_settings(section: str, options, user=None) -> Settings:
     """
     found = values_of(section, options)
     server = found["server"] or SERVER
-    address = _address(server)
+    address = address_of(server)
     login, password = _password_of(found["password_file"], address.hostname)
     asks = found["user"] or user or login or getpass.getuser()
     if not re.fullmatch("[A-Za-z0-9_.-]{1,48}", asks):
@@ -167,9 +168,13 @@ def meant(word: str, known: Sequence[str], head: str = "") -> str:
     return f"there are {', '.join(head + it for it in known)}"
 
 
-def _address(server: str):
+def address_of(server: str) -> urllib.parse.SplitResult:
+    """A server's address, part by part. One with a user in it isn't taken, nor told: it may have a
+    password, and others see words and messages."""
     try:
         address = urllib.parse.urlsplit(server)
+        if "@" in address.netloc:
+            raise BadSettings(NO_LOGIN)
         if address.scheme in ("http", "https") and address.hostname and (address.port or 1) > 0:
             return address
     except ValueError:

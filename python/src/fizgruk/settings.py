@@ -19,6 +19,7 @@ SECTION, ENVIRONMENT = "desk", "DESK_"
 WORDS = ("server", "user", "password_file", "ca_file", "timeout")
 # What the section may have besides, which is the command's alone.
 OF_COMMAND = ("history",)
+NO_LOGIN = "a server's address has no user and no password in it: user and password_file"
 LOOPBACK = ("127.0.0.1", "localhost", "::1")
 SECONDS = "30"
 
@@ -54,9 +55,12 @@ def read_settings(given: Mapping[str, Optional[str]]) -> Settings:
 
 
 def address_of(server: str) -> urllib.parse.SplitResult:
-    """A server's address, part by part."""
+    """A server's address, part by part. One with a user in it isn't taken, nor told: it may have a
+    password, and others see words and messages."""
     try:
         address = urllib.parse.urlsplit(server)
+        if "@" in address.netloc:
+            raise BadSettings(NO_LOGIN)
         if address.scheme in ("http", "https") and address.hostname and (address.port or 1) > 0:
             return address
     except ValueError:
