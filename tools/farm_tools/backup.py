@@ -142,7 +142,7 @@ def answered_at(server: str) -> Optional[int]:
     """How many commands a desk has done; None, which is told, where it gives no answer."""
     desk = calls.Desk(settings.Settings(server, PROGRAM, None, None, ANSWER), patience=0)
     try:
-        return desk.look("/status")["count"]
+        return int(desk.look("/status")["count"])
     except (calls.NoAnswer, calls.Refused) as fault:
         tell(f"the copy isn't compared with the desk at {server}: {fault}")
         return None

@@ -8,7 +8,7 @@ from typing import Any, Callable, Dict, Optional, Sequence, Set
 
 from farm_tools import calls, folders, limits
 
-# Seconds without a pass, which comes every few seconds, and seconds ahead, from which on it is told.
+# Seconds without a pass, which comes every few seconds, and seconds ahead, that aren't told yet.
 QUIET, AHEAD = 30, 60
 EVERY = 5  # seconds between a client's looks
 MINUTE, HOUR = 60, 3600

@@ -4,13 +4,14 @@ What a job comes to is the desk's to say; what became of a process is in the job
 else is needed, so a dispatcher that is killed at any moment and started again goes on where it was.
 Of what has ended it keeps a history, for people and other tools.
 """
+import argparse
 import json
 import os
 import shutil
 import subprocess
 import sys
 import time
-from typing import Callable, Dict, Optional, Set
+from typing import Any, Callable, Dict, List, Optional, Set
 
 from farm_tools import calls, folders, limits
 from farm_tools.passes import Counter
@@ -22,11 +23,14 @@ DAY = 86400
 KILLS_AFTER = 10
 LOST, NOT_BEGUN = "lost, with its folder", "not begun"
 
+Rows = List[Dict[str, Any]]  # members of a group, by their views
+Boards = Dict[str, Dict[str, Any]]  # boards that are held, by their names
+
 
 class Dispatcher:
     """The dispatcher of one desk, over a folder of its own."""
 
-    def __init__(self, desk, place: str, options):
+    def __init__(self, desk: calls.Desk, place: str, options: argparse.Namespace):
         """`options` has `command`, `check`, `grace`, `infra`, `keep`, `keep_logs`, `limit`, `most`
         and `retry`."""
         self.desk = desk
@@ -36,7 +40,7 @@ class Dispatcher:
         os.makedirs(self.jobs, mode=0o750, exist_ok=True)
         names = [it for it in os.listdir(self.jobs) if it.isdigit()]
         self.open = {int(it) for it in names if not self._has(int(it), folders.FINISHED)}
-        self.runners: Dict[int, subprocess.Popen] = {}
+        self.runners: Dict[int, "subprocess.Popen[bytes]"] = {}
         self.running: Dict[int, int] = {}
         self.others: Set[int] = set()
         self.told: Set[str] = set()
@@ -76,7 +80,7 @@ class Dispatcher:
             self._try(f"job {number}", self._close, number)
         return finished
 
-    def _try(self, about: str, call: Callable, *words) -> bool:
+    def _try(self, about: str, call: Callable[..., Any], *words: Any) -> bool:
         """Does what one group asks for. Its fault keeps none of the others waiting; it is tried
         again."""
         try:
@@ -87,7 +91,7 @@ class Dispatcher:
             self._tell_once(f"{about}: {fault}")
             return False
 
-    def _do(self, number: int, members, boards) -> bool:
+    def _do(self, number: int, members: Rows, boards: Boards) -> bool:
         """Does what a group asks for. Returns whether it was finished."""
         state = members[0]["state"]
         if state == "Scheduled":
@@ -98,10 +102,10 @@ class Dispatcher:
             self._tell_once(f"job {number} is {state}, which is left to the desk")
         return False
 
-    def _groups(self, held) -> dict:
+    def _groups(self, held: List[int]) -> Dict[int, Rows]:
         """The groups of these jobs, each with the views of its members. Of a group that runs here
         one view is enough; the others are their numbers alone."""
-        found = {}
+        found: Dict[int, Rows] = {}
         for number in held:
             if self.running.get(number) in found:
                 found[self.running[number]].append({"number": number})
@@ -113,7 +117,7 @@ class Dispatcher:
 
     # ---- a group that got its boards
 
-    def _begin(self, number: int, members, boards) -> None:
+    def _begin(self, number: int, members: Rows, boards: Boards) -> None:
         """Starts a group. Its folder is there before the desk is told, so that whoever finds it
         running finds the folder."""
         if not self.starts.may_start(number):
@@ -141,7 +145,7 @@ class Dispatcher:
             self.desk.tell(f"/jobs/{number}/start")
         return True
 
-    def _prepare(self, number: int, members, boards, ended: str = "") -> None:
+    def _prepare(self, number: int, members: Rows, boards: Boards, ended: str = "") -> None:
         """Makes the folder of a group, with its text and its boards, and how it ended, where it
         has. What stands there under its number, and was begun, is of another farm."""
         if self._has(number, folders.BEGAN):
@@ -169,7 +173,7 @@ class Dispatcher:
         folders.sync_folder(self.jobs)
         self.open.add(number)
 
-    def _launch(self, number: int, members) -> None:
+    def _launch(self, number: int, members: Rows) -> None:
         """Starts the process that runs a group's command, which it does once at most."""
         first = members[0]
         command = self.options.check if first["kind"] == "check" else self.options.command
@@ -195,7 +199,7 @@ class Dispatcher:
         boards = " ".join(it["board"] for it in members)
         self._tell(f"job {number} of {first['owner']} starts on {boards}")
 
-    def _environment(self, number: int, members) -> dict:
+    def _environment(self, number: int, members: Rows) -> Dict[str, str]:
         """A command's environment; what says how to reach the desk isn't handed on."""
         own = {name: text for name, text in os.environ.items() if not name.startswith("DISPATCH_")}
         first = members[0]
@@ -215,7 +219,7 @@ class Dispatcher:
 
     # ---- a group that runs
 
-    def _go_on(self, number: int, members, boards) -> bool:
+    def _go_on(self, number: int, members: Rows, boards: Boards) -> bool:
         """Looks after a group that the desk says runs. Returns whether it was finished."""
         if not os.path.isdir(self._folder(number)):
             return self._without_folder(number, members, boards)
@@ -237,7 +241,7 @@ class Dispatcher:
             return self._not_begun(number, members, canceled)
         return self._finish(number, members, ended or self._how_it_was_lost(number))
 
-    def _not_begun(self, number: int, members, canceled: bool) -> bool:
+    def _not_begun(self, number: int, members: Rows, canceled: bool) -> bool:
         """A group that was started, and whose command wasn't begun."""
         runner = self.runners.pop(number, None)
         if runner is not None and runner.poll():
@@ -268,7 +272,7 @@ class Dispatcher:
             return True
         return False if number in self.open else None
 
-    def _without_folder(self, number: int, members, boards) -> bool:
+    def _without_folder(self, number: int, members: Rows, boards: Boards) -> bool:
         """A group that runs and has no folder: somebody else's, or its folder was removed."""
         if number in self.others:
             return False
@@ -327,7 +331,7 @@ class Dispatcher:
         elif seconds > self.options.grace + KILLS_AFTER:
             folders.kill_processes_of(self._folder(number))
 
-    def _finish(self, number: int, members, ended: str) -> bool:
+    def _finish(self, number: int, members: Rows, ended: str) -> bool:
         """Tells the desk how a group ended, of each member that holds a board."""
         outcome = self._outcome_of(ended)
         for member in members:
@@ -356,7 +360,7 @@ class Dispatcher:
             return "Incomplete"
         return "Infra"
 
-    def _give(self, path: str, body, key: str) -> None:
+    def _give(self, path: str, body: Dict[str, Any], key: str) -> None:
         """Gives a command under its key, or without where the desk has no room for one more
         reply."""
         try:

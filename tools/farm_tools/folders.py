@@ -96,7 +96,7 @@ def note(folder: str, text: str) -> None:
         pass
 
 
-def take_lock(file: str):
+def take_lock(file: str) -> Optional[int]:
     """The open file, locked until its last copy is closed, or None where another has the lock."""
     opened = os.open(file, os.O_RDWR | os.O_CREAT | os.O_CLOEXEC, 0o640)
     try:

@@ -164,7 +164,7 @@ def listen(metrics: Metrics, port: int) -> None:
             self.end_headers()
             self.wfile.write(body)
 
-        def log_message(self, *_) -> None:
+        def log_message(self, *_: object) -> None:
             """Says nothing of a request."""
 
     with http.server.ThreadingHTTPServer(("127.0.0.1", port), Handler) as server:

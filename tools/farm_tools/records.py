@@ -8,7 +8,7 @@ import collections
 import json
 import os
 import time
-from typing import Callable, Deque, Dict, Iterable, List, NamedTuple, Optional, Set, Tuple
+from typing import Any, Callable, Deque, Dict, Iterable, List, NamedTuple, Optional, Set, Tuple
 
 from farm_tools import folders
 
@@ -43,8 +43,8 @@ class History:
         self.lines = os.path.join(place, LINES)
         self.newest = os.path.join(place, NEWEST)
         self.known = os.path.join(place, HEALTHS)
-        self.jobs: Deque[dict] = collections.deque(maxlen=MOST_SHOWN)
-        self.boards: Deque[dict] = collections.deque(maxlen=MOST_SHOWN)
+        self.jobs: Deque[Dict[str, Any]] = collections.deque(maxlen=MOST_SHOWN)
+        self.boards: Deque[Dict[str, Any]] = collections.deque(maxlen=MOST_SHOWN)
         # of groups that aren't settled: when each member began that has its line
         self.written: Dict[int, Dict[int, int]] = {}
         self.effects: Dict[str, Effect] = {}  # of jobs that ended, until the health is seen
@@ -57,7 +57,7 @@ class History:
                 self._note_written(row)
         self.show()
 
-    def add_jobs(self, rows: List[dict]) -> None:
+    def add_jobs(self, rows: List[Dict[str, Any]]) -> None:
         """Adds the lines of jobs that ended, of those that have none yet."""
         new = [
             it for it in rows if self.written.get(it["group"], {}).get(it["job"]) != it["began"]
@@ -66,14 +66,14 @@ class History:
         for row in new:
             self._note_written(row)
 
-    def _note_written(self, row: dict) -> None:
+    def _note_written(self, row: Dict[str, Any]) -> None:
         self.written.setdefault(row["group"], {})[row["job"]] = row["began"]
 
     def settle(self, group: int) -> None:
         """This group has its lines, which are never added again."""
         self.written.pop(group, None)
 
-    def see(self, boards: List[dict]) -> None:
+    def see(self, boards: List[Dict[str, Any]]) -> None:
         """Adds a line for each of these boards whose health isn't what it was when it was seen
         before."""
         now = {it["name"]: it["health"] for it in boards}
@@ -101,14 +101,14 @@ class History:
         }
         self.is_shown = _write(self.newest, newest)
 
-    def _add(self, rows: List[dict]) -> None:
+    def _add(self, rows: List[Dict[str, Any]]) -> None:
         if rows:
             _append(self.lines, rows)
             for row in rows:
                 self._take(row)
             self.show()
 
-    def _take(self, row: dict) -> None:
+    def _take(self, row: Dict[str, Any]) -> None:
         """Takes a line into what is known."""
         if row["kind"] == "health":
             self.boards.append(row)
@@ -131,12 +131,12 @@ class History:
         return BY_ADMIN
 
 
-def is_check(row: dict) -> bool:
+def is_check(row: Dict[str, Any]) -> bool:
     """Whether a job's line is of a health check."""
-    return row["name"] == CHECK and row["owner"] == "admin"
+    return (row["name"], row["owner"]) == (CHECK, "admin")
 
 
-def _effect_of(row: dict) -> Optional[Effect]:
+def _effect_of(row: Dict[str, Any]) -> Optional[Effect]:
     """What a job's end does to its board's health: the desk's rules (MACHINE.md, Finish)."""
     if row["outcome"] == "Canceled":
         return None
@@ -149,7 +149,7 @@ def _effect_of(row: dict) -> Optional[Effect]:
     return None
 
 
-def rows_of(file: str) -> Iterable[dict]:
+def rows_of(file: str) -> Iterable[Dict[str, Any]]:
     """The lines of a history, from the oldest on; what is none is passed over."""
     try:
         with open(file, "rb") as lines:
@@ -161,7 +161,7 @@ def rows_of(file: str) -> Iterable[dict]:
         return
 
 
-def row_of(line: bytes) -> Optional[dict]:
+def row_of(line: bytes) -> Optional[Dict[str, Any]]:
     """What a line of a history says, or None where it isn't one."""
     try:
         row = json.loads(line)
@@ -173,7 +173,7 @@ def row_of(line: bytes) -> Optional[dict]:
     return row if wanted and all(it in row for it in wanted) else None
 
 
-def _append(file: str, rows: List[dict]) -> None:
+def _append(file: str, rows: List[Dict[str, Any]]) -> None:
     """Adds lines to a history, all of them or none, behind its last whole one, and waits until they
     are on the disk."""
     text = "".join(f"{json.dumps(it, ensure_ascii=False, separators=(',', ':'))}\n" for it in rows)

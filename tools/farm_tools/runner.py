@@ -12,7 +12,7 @@ import signal
 import subprocess
 import sys
 import time
-from typing import Sequence
+from typing import Optional, Sequence
 
 from farm_tools import commands, folders, limits
 
@@ -21,7 +21,7 @@ RETRY = 1.0
 LOG_OPENED = os.O_WRONLY | os.O_APPEND | os.O_CREAT | os.O_CLOEXEC
 
 
-def main(words) -> int:
+def main(words: Sequence[str]) -> int:
     folder, grace, command = words[0], float(words[1]), words[4:]
     try:
         lock = lock_of(folder)
@@ -58,7 +58,7 @@ def text_of(folder: str) -> str:
         return ""
 
 
-def lock_of(folder: str):
+def lock_of(folder: str) -> Optional[int]:
     """The folder's lock, or None where another runs the job. The dispatcher, which tries whether it
     is held, lets go of it at once."""
     for _ in range(40):
@@ -93,7 +93,7 @@ def ran(
     return f"{folders.TIME_LIMIT} of {limit.words()}, {how}" if late else how
 
 
-def started(folder: str, command: Sequence[str], lock: int) -> subprocess.Popen:
+def started(folder: str, command: Sequence[str], lock: int) -> "subprocess.Popen[bytes]":
     """The command's process, once it runs. Its children have the folder's lock too. Where this
     raises OSError nothing runs."""
     fault = commands.fault_of(command)
