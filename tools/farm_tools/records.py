@@ -8,7 +8,7 @@ import collections
 import json
 import os
 import time
-from typing import Any, Callable, Deque, Dict, Iterable, List, NamedTuple, Optional, Set, Tuple
+from typing import Any, Deque, Dict, Iterable, List, NamedTuple, Optional, Set, Tuple
 
 from farm_tools import folders
 
