@@ -249,6 +249,25 @@ def cancels(place):
     return "a canceled job's command gets SIGTERM, then SIGKILL, and what it left behind is killed"
 
 
+def two_at_once(place):
+    """Of two dispatchers that begin at once on a folder one has it, until it is killed."""
+    lab = Lab(place)
+    both = [lab.dispatch(), lab.dispatch()]
+    last = wait_until("one ends", lambda: [it for it in both if it.process.poll() is not None])
+    demand("its status", [4], [it.ends() for it in last])
+    told = f"farm-dispatch: {lab.place} is in use by another farm-dispatch\n"
+    demand("what it tells", told, last[0].errors())
+    number = lab.farm.submit(lab.until("open"))
+    lab.begun(number)
+    next(it for it in both if it not in last).kill()
+    dispatcher = lab.dispatch()
+    lab.let("open")
+    demand("the next one's job", "Complete", lab.finished(number))
+    demand("how often it was begun", 1, lab.begins(number))
+    lab.closes(dispatcher)
+    return "of two dispatchers on a folder one runs, and the other says so, with status 4"
+
+
 def cancel_beside_a_clock(place):
     """A grace isn't cut short by a clock that jumps: by the file's age the command would be killed."""
     lab = Lab(place)
@@ -1105,6 +1124,7 @@ ROWS = [
     group,
     health_checks,
     cancels,
+    two_at_once,
     cancel_beside_a_clock,
     no_room_for_the_end,
     lost_processes,

@@ -395,6 +395,20 @@ def served_logs(lab):
     return "each job's log has its number in logs/, until it is old and the job has ended"
 
 
+def cut_off(lab):
+    """What a kill left of a job that was canceled then."""
+    os.makedirs(os.path.join(lab.place, "jobs", "new-7"))
+    os.makedirs(os.path.join(lab.place, "logs"))
+    for file in (os.path.join("jobs", "new-7", "job.toml"), os.path.join("logs", "7.new")):
+        with open(os.path.join(lab.place, file), "w", encoding="utf-8"):
+            pass
+    dispatcher = lab.dispatch()
+    demand("a job", "Complete", lab.finished(lab.farm.submit("true")))
+    demand("what is left", (["1"], {"1"}), (os.listdir(os.path.join(lab.place, "jobs")), logs_in(lab)))
+    lab.closes(dispatcher)
+    return "what a kill left half made is gone"
+
+
 def another_farm(lab):
     """The next farm gives the numbers of the one before again, on the same dispatcher's folder."""
     dispatcher = lab.dispatch()
@@ -434,6 +448,7 @@ ROWS = [
     moments_of_submission,
     folders_that_lack_it,
     served_logs,
+    cut_off,
     another_farm,
     a_line_over_any_kill,
 ]

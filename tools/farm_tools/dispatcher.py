@@ -21,6 +21,7 @@ from farm_tools.starts import Starts
 ROOT = os.path.dirname(os.path.dirname(os.path.abspath(__file__)))
 DAY = 86400
 KILLS_AFTER = 10
+NEW = "new-"  # how a group's folder is named until it is whole
 LOST, NOT_BEGUN = "lost, with its folder", "not begun"
 
 Rows = List[Dict[str, Any]]  # members of a group, by their views
@@ -38,6 +39,8 @@ class Dispatcher:
         self.options = options
         self.starts = Starts((options.command, options.check), options.retry)
         os.makedirs(self.jobs, mode=0o750, exist_ok=True)
+        for cut in (it for it in os.listdir(self.jobs) if it.startswith(NEW)):
+            shutil.rmtree(os.path.join(self.jobs, cut), ignore_errors=True)
         names = [it for it in os.listdir(self.jobs) if it.isdigit()]
         self.open = {int(it) for it in names if not self._has(int(it), folders.FINISHED)}
         self.runners: Dict[int, "subprocess.Popen[bytes]"] = {}
@@ -156,7 +159,7 @@ class Dispatcher:
                 f"job {number}: what an earlier farm's job of this number left is in {aside}"
             )
         self._drop(number)
-        new = os.path.join(self.jobs, f"new-{number}")
+        new = os.path.join(self.jobs, f"{NEW}{number}")
         shutil.rmtree(new, ignore_errors=True)
         os.mkdir(new, 0o750)
         rows = [{**boards[it["board"]], "job": it["number"], "role": it["role"]} for it in members]

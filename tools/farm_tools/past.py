@@ -19,6 +19,8 @@ class Past:
         """`is_open` are the groups that aren't known to have ended."""
         self.desk = desk
         self.logs = folders.made_for_all(os.path.join(place, "logs"))
+        for cut in (it for it in os.listdir(self.logs) if it.endswith(".new")):
+            os.unlink(os.path.join(self.logs, cut))
         self.history = records.History(place, is_open)
         self.submissions = Submissions(place)
 
