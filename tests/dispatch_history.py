@@ -123,7 +123,7 @@ def a_line_over_any_kill(lab):
     seed = random.randrange(10**6)
     dice, about = random.Random(seed), f"(seed {seed})"
     places = [("start", it) for it in dice.sample(range(1, 40), 8)]
-    places += [("finish", it) for it in range(1, 19)] + [("line", it) for it in range(1, 11)]
+    places += [("finish", it) for it in range(1, 22)] + [("line", it) for it in range(1, 11)]
     dice.shuffle(places)
     numbers, between = [], 0
     for phase, place in places:
