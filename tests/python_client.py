@@ -114,16 +114,17 @@ client = Client()
 client.set_health("b1", "good")  # type: ignore[arg-type]
 print(client.job(1).state == "Running", client.boards()[0].tags[0].upper())
 """)
-    ran = subprocess.run(
-        ["mypy", "--strict", "--cache-dir", os.devnull],
-        cwd=sources,
-        capture_output=True,
-        text=True,
-        check=False,
-        env={**os.environ, "MYPYPATH": "src"},
-    )
-    demand(f"mypy's status ({ran.stdout})", 0, ran.returncode)
-    return "mypy --strict finds nothing in it, nor in a program that uses it"
+    for place, words in ((sources, []), (TOOLS, ["-p", "farm_tools"])):
+        ran = subprocess.run(
+            ["mypy", "--strict", "--cache-dir", os.path.join(folder, "types"), *words],
+            cwd=place,
+            capture_output=True,
+            text=True,
+            check=False,
+            env={**os.environ, "MYPYPATH": "src"},
+        )
+        demand(f"mypy's status ({ran.stdout})", 0, ran.returncode)
+    return "mypy --strict finds nothing in it, in a program that uses it, nor in the tools"
 
 
 def oldest_python(farm, folder):
