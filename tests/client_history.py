@@ -97,6 +97,13 @@ def history_that_is_long(farm, folder):
         demand(f"the last {count}", wanted, [it["job"] for it in said])
     demand("without a number", 50, len(json.loads(
         desk(farm, "--history", past, "jobs", "--json")[1])["ended"]))
+    # more than what is read of its end, and then changes of healths alone
+    rows += [health_line("b1", "Good", "Bad", "by the admin") for _ in range(5000)]
+    past = folder_of(folder, *rows)
+    for few in (200, 30):
+        said = json.loads(desk(farm, "--history", past, "jobs", "--last", str(few), "--json")[1])["ended"]
+        demand(f"the last {few} beside many changes", [it["job"] for it in rows[:1000][::-1][:few]],
+               [it["job"] for it in said])
     return "of a long history one's own jobs are found, and as many as are asked for"
 
 

@@ -13,6 +13,10 @@ NONE_SERVED = (
 )
 
 
+# So many bytes from a history's end the newest jobs are looked for, before all of it is read.
+TAIL = 500_000
+
+
 class NoLog(Exception):
     """A job has no log here."""
 
@@ -68,8 +72,12 @@ class Kept:
 
     def newest(self) -> List[Dict[str, Any]]:
         """The lines of the newest jobs, the newest first."""
-        jobs = (it for it in self.rows() if it["kind"] == "job")
-        return list(collections.deque(jobs, records.MOST_SHOWN))[::-1]
+        for last in (TAIL, 0):
+            rows = records.rows_of(self.lines, last)
+            jobs = collections.deque((it for it in rows if it["kind"] == "job"), records.MOST_SHOWN)
+            if len(jobs) == records.MOST_SHOWN:
+                break
+        return list(jobs)[::-1]
 
     def rows(self, last: int = 0) -> Iterator[Dict[str, Any]]:
         """All lines, the oldest first."""

@@ -149,10 +149,13 @@ def _effect_of(row: Dict[str, Any]) -> Optional[Effect]:
     return None
 
 
-def rows_of(file: str) -> Iterable[Dict[str, Any]]:
-    """The lines of a history, from the oldest on; what is none is passed over."""
+def rows_of(file: str, last: int = 0) -> Iterable[Dict[str, Any]]:
+    """The lines of a history, or those of its last so many bytes, from the oldest on; what is none
+    is passed over."""
     try:
         with open(file, "rb") as lines:
+            if last:
+                lines.seek(max(0, os.fstat(lines.fileno()).st_size - last))
             for line in lines:
                 row = row_of(line)
                 if row is not None:
