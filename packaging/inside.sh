@@ -73,6 +73,11 @@ desk --user ann reserve virtual --acquire > /tmp/board 2> /dev/null || fail "the
 [ "$(tail -n 1 /tmp/board)" = qemu-01 ] || fail "the first reservation gives $(cat /tmp/board)"
 runuser -u www-data -- grep -q '"jobs":' /var/lib/farm-dispatch/history.json || fail "nginx's user reads no history"
 ! runuser -u www-data -- ls /var/lib/farm-dispatch/jobs 2> /dev/null || fail "nginx's user reads jobs' folders"
+metrics=/var/lib/prometheus/node-exporter
+mkdir -p $metrics
+systemctl start farm-metrics
+grep -q '^fizgruk_passes_total [1-9]' $metrics/fizgruk.prom || fail "no passes are counted: $(cat $metrics/fizgruk.prom)"
+rm -r /var/lib/prometheus
 echo "package: the first import and the first reservation, $((($(date +%s%N) - began) / 1000000000)) s after the installation began"
 
 # ---- a start that is refused is tried again until it isn't

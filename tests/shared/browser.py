@@ -15,6 +15,11 @@ CHROMIUM = next(
 )
 
 LONGEST = 60
+# Does something as a frame begins, and waits until the next one has begun.
+WORK = ("ScriptDuration", "RecalcStyleDuration", "LayoutDuration")
+FRAMES = """new Promise(done => requestAnimationFrame(() => {{
+  {first}; requestAnimationFrame(() => setTimeout(done));
+}}))"""
 
 
 class Browser:
@@ -117,6 +122,20 @@ class Page:
         if "exceptionDetails" in said:
             raise OSError(f"{expression}: {said['result'].get('description')}")
         return said["result"].get("value")
+
+    def cost(self, expression):
+        """How long the page's thread works at an expression, and at the styles and the layout of
+        the frame that shows it: milliseconds of processor time, so what else the machine does
+        meanwhile isn't in it."""
+        self.ask(FRAMES.format(first=""))
+        before = self._spent()
+        self.ask(FRAMES.format(first=expression))
+        return self._spent() - before
+
+    def _spent(self):
+        self.do("Performance.enable", timeDomain="threadTicks")
+        metrics = self.do("Performance.getMetrics")["metrics"]
+        return 1000 * sum(it["value"] for it in metrics if it["name"] in WORK)
 
     def text(self):
         """The page's source as it stands."""

@@ -505,11 +505,26 @@ def try_keep(folder):
     demand("what is kept", ["farm-20200102T000000Z-10", os.path.basename(said), "farm-notes"],
            sorted(it for it in os.listdir(to) if it.startswith(("farm", ".new"))))
     demand("rights", (0o700, 0o700), (os.stat(to).st_mode & 0o777, os.stat(said).st_mode & 0o777))
+    try_clock_set_back(farm, folder)
     own = os.path.dirname(farm.db)
     wanted = f"farm-backup: {farm.db} is no standby but a farm's own file: name another folder\n"
     demand("a standby in the farm's folder", (4, "", wanted), backup(farm.db, "--follow", own))
     farm.kill()
     print("backup: --keep removes the oldest copies alone")
+
+
+def try_clock_set_back(farm, folder):
+    """Copies that earlier followers made by a clock that was ahead don't let this one remove its own."""
+    to = tempfile.mkdtemp(dir=folder)
+    for name in ("farm-20990101T000000Z", "farm-20990102T000000Z", "farm-20990103T000000Z"):
+        os.mkdir(f"{to}/{name}")
+    follower = Tool(words_of(farm.db, "--follow", to)[1:], tempfile.mkdtemp(dir=to))
+    wait_until("a standby", lambda: read(f"{to}/as-of"))
+    follower.send(signal.SIGTERM)
+    demand("a follower that is ended", 0, follower.ends())
+    demand("its standby is there", True, os.path.isfile(f"{to}/farm.db"))
+    left = sorted(it for it in os.listdir(to) if it.startswith("farm-2099"))
+    demand("what is left of earlier ones", ["farm-20990103T000000Z"], left)
 
 
 def main(copies, follows):

@@ -99,6 +99,9 @@ def admin_commands(farm, folder):
     demand("their health", ["Good", "Good"], [lab.board(it)["health"] for it in ("r1", "r2")])
     does((0, "", ""), "health", "r2", "Maintenance")
     demand("its health", "Maintenance", lab.board("r2")["health"])
+    for odd in ("r 1", "r\u00e9", "r/1", "..", "?"):
+        status, _, errors = desk(lab, "health", odd, "Good", user="admin")
+        demand(f"the health of {odd!r}", (3, 1), (status, errors.count("refused: ")))
     for words in BAD_WORDS:
         demand(f"desk {words}", 2, desk(lab, *words, user="")[0])
     lab.kill()

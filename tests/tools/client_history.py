@@ -1,9 +1,12 @@
 """Rows of tests/tools/client.py: jobs that ended, logs, a board's past, what was used, and a job's text
 once more, from the folder of a dispatcher on this machine."""
+import argparse
+import http.server
 import json
 import os
 import shutil
 import tempfile
+import threading
 import time
 
 from desks import BOARDS, GROUP, JOB, desk, farm_of_its_own, passes, prints, waiting_tool, write
@@ -94,6 +97,13 @@ def history_that_is_long(farm, folder):
         demand(f"the last {count}", wanted, [it["job"] for it in said])
     demand("without a number", 50, len(json.loads(
         desk(farm, "--history", past, "jobs", "--json")[1])["ended"]))
+    # more than what is read of its end, and then changes of healths alone
+    rows += [health_line("b1", "Good", "Bad", "by the admin") for _ in range(5000)]
+    past = folder_of(folder, *rows)
+    for few in (200, 30):
+        said = json.loads(desk(farm, "--history", past, "jobs", "--last", str(few), "--json")[1])["ended"]
+        demand(f"the last {few} beside many changes", [it["job"] for it in rows[:1000][::-1][:few]],
+               [it["job"] for it in said])
     return "of a long history one's own jobs are found, and as many as are asked for"
 
 
@@ -147,6 +157,47 @@ def logs(farm, folder):
     demand("no such job", (3, "", told), desk(own, "log", "77", **own_past))
     own.kill()
     return "a log is printed, and followed until its job has ended, over a desk that goes away"
+
+
+class Proxy(http.server.BaseHTTPRequestHandler):
+    """Serves a job that has ended by the fourth look, and its log; at first it reaches neither."""
+
+    protocol_version = "HTTP/1.1"
+    looks, logs = 0, 0
+
+    def do_GET(self):
+        if self.path == "/jobs/1":
+            Proxy.looks += 1
+            self.answer(200, {"state": "Running" if Proxy.looks < 4 else "Finished"})
+        elif self.path == "/logs/1":
+            Proxy.logs += 1
+            self.answer(502 if Proxy.logs in (1, 3) else 200, {"log": "all of it"})
+        else:
+            self.answer(404, {})
+
+    def answer(self, status, said):
+        body = json.dumps(said).encode()
+        self.send_response(status)
+        self.send_header("content-length", str(len(body)))
+        self.end_headers()
+        self.wfile.write(body)
+
+    def log_message(self, *_):
+        pass
+
+
+def log_by_a_proxy(farm, folder):
+    """A proxy that doesn't reach what it serves for a moment, and takes no part of a log's bytes."""
+    del farm, folder
+    server = http.server.ThreadingHTTPServer(("127.0.0.1", 0), Proxy)
+    threading.Thread(target=server.serve_forever, daemon=True).start()
+    it = argparse.Namespace(server=f"http://127.0.0.1:{server.server_port}")
+    status, said, errors = desk(it, "log", "1", "--follow", "--every", "0.1")
+    demand("a log that is followed", (0, '{"log": "all of it"}'), (status, said))
+    told = "desk: no answer from the desk, which is asked again: 502 Bad Gateway\n"
+    demand("what is told", told, errors)
+    server.shutdown()
+    return "a log is followed over a proxy that answers 502, each byte printed once"
 
 
 def add(file, text):
@@ -253,6 +304,7 @@ ROWS = [
     history_that_is_long,
     no_history,
     logs,
+    log_by_a_proxy,
     boards_past,
     usage,
     resubmitting,

@@ -27,7 +27,7 @@ from desks import (
 from served import TOOLS, demand, environment, wait_until
 
 sys.path.insert(0, TOOLS)
-from farm_tools import clock, job_file  # noqa: E402
+from farm_tools import clocks, job_file  # noqa: E402
 
 # ---- the desk's clock
 
@@ -40,7 +40,7 @@ def no_pass(farm, folder):
         desk(lab, "--json", "queue"),
     )
     tell_at(lab, time.time() - 45, "admin", "/types", b'{"name":"bbb"}')
-    quiet = re.compile(r"desk: no pass for (4[5-9]|5\d) s: is farm-dispatch running\?\n")
+    quiet = re.compile(r"desk: no pass for (4[5-9]|5\d) seconds: is farm-dispatch running\?\n")
     for view in ("queue", "boards", "reservations"):
         demand(f"desk {view}", True, bool(quiet.fullmatch(desk(lab, view)[2])))
     tell_at(lab, time.time(), "dispatcher", "/pass")
@@ -75,15 +75,15 @@ def clock_of_passes(farm, folder):
     real = time.time, time.monotonic
     time.time = time.monotonic = lambda: it.now
     try:
-        watch, told = clock.Clock(it), []
+        watch, told = clocks.Watch(it), []
         for place in range(12):
             if place % 4 == 0:
                 it.accept()
                 watch.note_own()
             watch.look(told.append)
             it.now += 5
-        demand("own refreshes", ["no pass for 35 s: is farm-dispatch running?"], told)
-        watch, told = clock.Clock(it), []
+        demand("own refreshes", ["no pass for 35 seconds: is farm-dispatch running?"], told)
+        watch, told = clocks.Watch(it), []
         for _ in range(12):
             it.accept()
             watch.look(told.append)
@@ -94,7 +94,7 @@ def clock_of_passes(farm, folder):
             it.accept()
             watch.look(told.append)
             it.now += 10
-        demand("boards that nobody gives", ["no pass for 40 s: is farm-dispatch running?"], told)
+        demand("boards that nobody gives", ["no pass for 40 seconds: is farm-dispatch running?"], told)
     finally:
         time.time, time.monotonic = real
     return "neither its own refreshes nor, while a free board fits, others' are taken for passes"

@@ -80,6 +80,11 @@ class Lab:
         """How often the command was begun for a job."""
         return read(self.runs).split("\n").count(f"begin {number}")
 
+    def passes(self):
+        """How many passes the dispatchers of this lab have counted."""
+        text = read(os.path.join(self.place, "passes.json"))
+        return json.loads(text)["count"] if text else 0
+
     def begun(self, number):
         wait_until(f"job {number} is begun", lambda: self.begins(number))
 
@@ -185,6 +190,8 @@ def passes_after_a_finish(place):
         demand(f"the result of job {number}", "Complete", lab.finished(number))
     children = f"/proc/{dispatcher.process.pid}/task/{dispatcher.process.pid}/children"
     wait_until("one process is left at most", lambda: len(read(children).split()) <= 1)
+    wait_until("the passes: the first, and one after each end", lambda: lab.passes() == 5)
+    demand("the rights of their count", 0o644, os.stat(f"{lab.place}/passes.json").st_mode & 0o777)
     lab.closes(dispatcher)
     return "four jobs of one board run one after another, each after the pass at an end"
 
@@ -243,6 +250,59 @@ def cancels(place):
     return "a canceled job's command gets SIGTERM, then SIGKILL, and what it left behind is killed"
 
 
+def two_at_once(place):
+    """Of two dispatchers that begin at once on a folder one has it, until it is killed."""
+    lab = Lab(place)
+    both = [lab.dispatch(), lab.dispatch()]
+    last = wait_until("one ends", lambda: [it for it in both if it.process.poll() is not None])
+    demand("its status", [4], [it.ends() for it in last])
+    told = f"farm-dispatch: {lab.place} is in use by another farm-dispatch\n"
+    demand("what it tells", told, last[0].errors())
+    number = lab.farm.submit(lab.until("open"))
+    lab.begun(number)
+    next(it for it in both if it not in last).kill()
+    dispatcher = lab.dispatch()
+    lab.let("open")
+    demand("the next one's job", "Complete", lab.finished(number))
+    demand("how often it was begun", 1, lab.begins(number))
+    lab.closes(dispatcher)
+    return "of two dispatchers on a folder one runs, and the other says so, with status 4"
+
+
+def cancel_beside_a_clock(place):
+    """A grace isn't cut short by a clock that jumps: by the file's age the command would be killed."""
+    lab = Lab(place)
+    number = lab.farm.submit(f"trap \"touch {lab.folder}/told\" TERM; {lab.until('open')}; exit 3")
+    dispatcher = lab.dispatch("--grace", "100")
+    lab.begun(number)
+    lab.farm.tell("ann", f"/jobs/{number}/cancel")
+    wait_until("it is told", lambda: os.path.exists(f"{lab.folder}/told"))
+    os.utime(lab.file(number, "cancel"), (time.time() - 7200,) * 2)
+    passes = lab.passes()
+    wait_until("three more passes", lambda: lab.passes() >= passes + 3)
+    demand("how it ended", "", read(lab.file(number, "ended")))
+    lab.let("open")
+    demand("its result", "Canceled", lab.finished(number))
+    demand("its end", "status 3", read(lab.file(number, "ended")).strip())
+    lab.closes(dispatcher)
+    return "a canceled job has its whole grace, also where the machine's clock jumps"
+
+
+def no_room_for_the_end(place):
+    """Where a job's end can't be noted its process waits until it can."""
+    lab = Lab(place)
+    number = lab.farm.submit("mkdir $FARM_FOLDER/ended.new")
+    dispatcher = lab.dispatch()
+    wait_until("its command's end", lambda: f"end {number}" in read(lab.runs))
+    passes = lab.passes()
+    wait_until("three more passes", lambda: lab.passes() >= passes + 3)
+    demand("its state", "Running", lab.farm.job(number)["state"])
+    os.rmdir(lab.file(number, "ended.new"))
+    demand("its result", "Complete", lab.finished(number))
+    lab.closes(dispatcher)
+    return "a job that went well is Complete, also where there is no room for its end at first"
+
+
 def lost_processes(place):
     lab = Lab(place)
     alone, both, gone = (
@@ -277,13 +337,15 @@ def killed_dispatchers(place):
     numbers = [lab.farm.submit(f"sleep 0.{dice.randrange(4)}") for _ in range(24)]
     text = "job_name = 'two'\nrun = 'sleep 0.2'\n[roles.a]\ndevice_type = 'bbb'\ncount = 2\n"
     numbers += [lab.farm.tell("ann", "/jobs", text.encode())["number"] for _ in range(4)]
-    kills = 0
+    kills = passes = 0
     dispatcher = lab.dispatch(every="0.1")
     until = time.monotonic() + 12
     while time.monotonic() < until and lab.farm.look("/queue")["queue"]:
         time.sleep(dice.uniform(0.05, 0.5))
         dispatcher.kill()
         kills += 1
+        passes, before = lab.passes(), passes
+        demand(f"passes that a kill took back (seed {seed})", True, before <= passes)
         if kills % 5 == 0:
             lab.farm.kill()
             lab.farm.start()
@@ -299,6 +361,9 @@ def killed_dispatchers(place):
     dispatch_history.one_line_each(lab, [*numbers[:-4], *members], f"(seed {seed})")
     # The last one may have come after all was done: it is told to end once it has run a job.
     demand("a job of the last", "Complete", lab.finished(lab.farm.submit("true")))
+    counted, others = lab.passes(), len(numbers) + 1
+    commands = lab.farm.look("/status")["count"]
+    demand("passes are counted, and no other command", True, passes < counted <= commands - others)
     lab.closes(dispatcher)
     return f"over {kills} killed dispatchers, {kills // 5} killed desks, each of 28 groups ran once"
 
@@ -1060,6 +1125,9 @@ ROWS = [
     group,
     health_checks,
     cancels,
+    two_at_once,
+    cancel_beside_a_clock,
+    no_room_for_the_end,
     lost_processes,
     others_jobs,
     earlier_farm,

@@ -125,7 +125,7 @@ def a_line_over_any_kill(lab):
     seed = random.randrange(10**6)
     dice, about = random.Random(seed), f"(seed {seed})"
     places = [("start", it) for it in dice.sample(range(1, 40), 8 if FULL else 3)]
-    ends = [("finish", it) for it in range(1, 19)], [("line", it) for it in range(1, 11)]
+    ends = [("finish", it) for it in range(1, 22)], [("line", it) for it in range(1, 11)]
     for them in ends:
         places += them if FULL else dice.sample(them, len(them) // 2)
     dice.shuffle(places)
@@ -385,6 +385,7 @@ def served_logs(lab):
     wait_until("one that goes on", lambda: read(log_of(lab, running)) == "begun\n")
     demand("who may read it", 0o644, os.stat(log_of(lab, one)).st_mode & 0o777)
     demand("who may list them", 0o711, os.stat(os.path.join(lab.place, "logs")).st_mode & 0o777)
+    wait_until("it is known to have ended", lambda: os.path.exists(lab.file(one, "finished")))
     dispatcher.kill()
     for number in (one, running):
         os.utime(log_of(lab, number), (time.time() - 3700,) * 2)
@@ -396,6 +397,20 @@ def served_logs(lab):
     demand("the one that went on", "Complete", lab.finished(running))
     lab.closes(dispatcher)
     return "each job's log has its number in logs/, until it is old and the job has ended"
+
+
+def cut_off(lab):
+    """What a kill left of a job that was canceled then."""
+    os.makedirs(os.path.join(lab.place, "jobs", "new-7"))
+    os.makedirs(os.path.join(lab.place, "logs"))
+    for file in (os.path.join("jobs", "new-7", "job.toml"), os.path.join("logs", "7.new")):
+        with open(os.path.join(lab.place, file), "w", encoding="utf-8"):
+            pass
+    dispatcher = lab.dispatch()
+    demand("a job", "Complete", lab.finished(lab.farm.submit("true")))
+    demand("what is left", (["1"], {"1"}), (os.listdir(os.path.join(lab.place, "jobs")), logs_in(lab)))
+    lab.closes(dispatcher)
+    return "what a kill left half made is gone"
 
 
 def another_farm(lab):
@@ -437,6 +452,7 @@ ROWS = [
     moments_of_submission,
     folders_that_lack_it,
     served_logs,
+    cut_off,
     another_farm,
     a_line_over_any_kill,
 ]

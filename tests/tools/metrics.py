@@ -1,8 +1,8 @@
 #!/usr/bin/env python3
 """What tools/farm-metrics prints of a farm, byte by byte: python3 tests/tools/metrics.py bin/farm
 
-A small farm's whole text, with jobs of a history by outcome; the history is counted line by line as it grows, and
-never again; since when a claim waits; what stands there where the desk gives no answer; the text served over HTTP;
+A small farm's whole text, with jobs of a history by outcome and passes; the history is counted line by line as it
+grows, and never again; since when a claim waits; what stands there where the desk gives no answer; the text served over HTTP;
 labels of any text; what it asks the desk for; the dashboard of examples/. At last promtool reads the text (Debian's
 package prometheus); where that isn't there, this says so and ends with status 77.
 """
@@ -74,7 +74,7 @@ fizgruk_collecting_group 0
 # HELP fizgruk_commands_total Commands that were accepted.
 # TYPE fizgruk_commands_total counter
 fizgruk_commands_total 18
-# HELP fizgruk_last_command_age_seconds Seconds since the last command, as each pass is one; below 0 the farm's clock is ahead.
+# HELP fizgruk_last_command_age_seconds Seconds since the last command; below 0 the farm's clock is ahead.
 # TYPE fizgruk_last_command_age_seconds gauge
 fizgruk_last_command_age_seconds AGE
 # HELP fizgruk_rows Rows that the farm has.
@@ -90,6 +90,18 @@ fizgruk_rows_limit{table="boards"} 256
 fizgruk_rows_limit{table="jobs"} 100000
 fizgruk_rows_limit{table="reservations"} 100000
 """
+NO_PASSES = """\
+# HELP fizgruk_passes_total Passes that the dispatcher asked for. None are counted: no %s/passes.json.
+# TYPE fizgruk_passes_total counter
+"""
+PASSES = """\
+# HELP fizgruk_passes_total Passes that the dispatcher asked for.
+# TYPE fizgruk_passes_total counter
+fizgruk_passes_total 17280
+# HELP fizgruk_last_pass_age_seconds Seconds since the last of them.
+# TYPE fizgruk_last_pass_age_seconds gauge
+fizgruk_last_pass_age_seconds AGE
+"""
 ENDED = """\
 # HELP fizgruk_jobs_ended_total Jobs that ended.
 # TYPE fizgruk_jobs_ended_total counter
@@ -98,6 +110,11 @@ fizgruk_jobs_ended_total{outcome="Incomplete"} 1
 fizgruk_jobs_ended_total{outcome="Infra"} 0
 fizgruk_jobs_ended_total{outcome="Canceled"} 0
 """
+
+
+def replace(file, text):
+    with open(file, "w", encoding="utf-8") as opened:
+        opened.write(text)
 
 
 def metrics(server, *words):
@@ -148,13 +165,16 @@ def try_small(farm, folder):
     none = ["--history", f"{folder}/none"]
     status, text, errors = metrics(farm.server, *none)
     demand("a farm without a history", (0, ""), (status, errors))
-    demand("a small farm's lines", SMALL.splitlines(), without_ages(text).splitlines())
+    wanted = SMALL + NO_PASSES % folder
+    demand("a small farm's lines", wanted.splitlines(), without_ages(text).splitlines())
     history = f"{folder}/history.jsonl"
     with open(history, "w", encoding="utf-8") as lines:
         lines.write(JOB % (1, 1, "Complete") + HEALTH + "no line\n[1]\n" + JOB % (2, 2, "Incomplete"))
         lines.write(JOB % (3, 3, "Complete") + (JOB % (4, 4, "Infra"))[:40])
+    replace(f"{folder}/passes.json", f'{{"count": 17280, "at": {time.time() - 40}}}\n')
     text = metrics(farm.server, "--history", history)[1]
-    demand("the same with a history", (SMALL + ENDED).splitlines(), without_ages(text).splitlines())
+    demand("with history and passes", (SMALL + PASSES + ENDED).splitlines(), without_ages(text).splitlines())
+    demand("since the last pass", True, 40 <= value(text, "fizgruk_last_pass_age_seconds") < 140)
     demand("an age", True, 0 <= value(text, "fizgruk_last_command_age_seconds") < 3600)
     print("metrics: a small farm's text, byte by byte")
     return text
@@ -192,6 +212,23 @@ def try_history(farm, folder):
     print("metrics: a history's lines are counted once")
 
 
+def try_passes(farm, folder):
+    """The dispatcher's count of passes where another file is named, of a clock that was set back, and of a file that
+    isn't one."""
+    other = f"{folder}/other.json"
+    words = ["--history", f"{folder}/none", "--passes", other]
+    replace(other, f'{{"count": 3, "at": {time.time() + 3600}}}\n')
+    status, text, errors = metrics(farm.server, *words)
+    demand("a file that is named", (0, 3.0, ""), (status, value(text, "fizgruk_passes_total"), errors))
+    demand("a pass that is to come", 0.0, value(text, "fizgruk_last_pass_age_seconds"))
+    for odd in ("", "[3]", '{"count": "3", "at": 5}', '{"count": 3}', '{"count": -1, "at": 5}', '{"count": true, "at": 5}'):
+        replace(other, odd)
+        status, text, errors = metrics(farm.server, *words)
+        demand(f"what {odd!r} tells", (0, False), (status, "pass" in text))
+        demand(f"why, by {odd!r}", (1, 0), (errors.count("\n"), errors.find("farm-metrics: passes aren't counted: ")))
+    print("metrics: passes, as the dispatcher counts them")
+
+
 def try_age(farm, folder):
     """Since when the oldest claim is seen, over processes; the next farm's claims are new ones."""
     words = ["--state", f"{folder}/state", "--history", f"{folder}/none"]
@@ -218,13 +255,15 @@ def try_no_desk(farm, folder):
     farm.kill()
     status, said, errors = metrics(farm.server, "--textfile", prom, "--history", f"{folder}/none")
     demand("no desk", (4, ""), (status, said))
-    wanted = "# HELP fizgruk_up Whether the desk answers.\n# TYPE fizgruk_up gauge\nfizgruk_up 0\n"
-    demand("the text of no desk", wanted, read(prom))
+    wanted = "# HELP fizgruk_up Whether the desk answers.\n# TYPE fizgruk_up gauge\nfizgruk_up 0\n" + PASSES
+    demand("the text of no desk", wanted, without_ages(read(prom)))
     demand("what is told", 1, errors.count(f"farm-metrics: no answer from the desk at {farm.server}: "))
     farm.start()
     status, said, errors = metrics(farm.server, "--textfile", f"{folder}/none/x.prom")
-    demand("a folder that isn't there", (4, "", 1), (status, said, errors.count("\n")))
+    demand("a folder that isn't there, a line a file", (4, "", 2), (status, said, errors.count("\n")))
     demand("words", 2, metrics(farm.server, "--listen", "1", "--textfile", prom)[0])
+    status, said, errors = metrics(farm.server, "--state", f"{folder}/none/state", "--history", f"{folder}/none")
+    demand("a state that can't be kept", (4, 1.0, 1), (status, value(said, "fizgruk_up"), errors.count("\n")))
     print("metrics: no answer from the desk is a metric, too")
 
 
@@ -321,13 +360,14 @@ def try_dashboard(text):
     print("metrics: the dashboard shows what there is")
 
 
-def try_promtool(text):
+def try_promtool(*texts):
     """Prometheus' own reader and its rules for names."""
     if not shutil.which("promtool"):
         print("metrics: not tried with promtool, since that isn't there (Debian's package prometheus)")
         return 77
-    ran = subprocess.run(["promtool", "check", "metrics"], input=text, capture_output=True, text=True, check=False)
-    demand("promtool", (0, ""), (ran.returncode, ran.stdout + ran.stderr))
+    for text in texts:
+        ran = subprocess.run(["promtool", "check", "metrics"], input=text, capture_output=True, text=True, check=False)
+        demand("promtool", (0, ""), (ran.returncode, ran.stdout + ran.stderr))
     print("metrics: promtool finds nothing")
     return 0
 
@@ -338,13 +378,14 @@ def main():
         text = try_small(farm, folder)
         shutil.copy(f"{folder}/history.jsonl", f"{folder}/kept.jsonl")
         try_history(farm, folder)
+        try_passes(farm, folder)
         try_age(farm, folder)
         try_no_desk(farm, folder)
         try_listen(farm, folder, text)
         farm.kill()
         try_stub(folder)
         try_dashboard(text)
-        return try_promtool(text)
+        return try_promtool(text, SMALL.replace(" AGE", " 1") + NO_PASSES % folder)
 
 
 if __name__ == "__main__":

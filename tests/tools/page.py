@@ -38,6 +38,11 @@ def starts(shown):
     return [row[:2] for row in shown["reservations"]]
 
 
+def is_left(seconds, begun):
+    """Whether so much is left of a lease of a minute that was set after a moment."""
+    return 60 - (time.time() - begun) - 2 <= seconds <= 60
+
+
 # ---- what it shows
 
 
@@ -45,6 +50,7 @@ def views(lab):
     lab.farm.submit("true", "ccc")
     lab.farm.tell("dispatcher", "/pass")
     lab.farm.tell("dispatcher", "/jobs/1/start")
+    begun = time.time()
     lab.farm.tell("bob", "/reservations", {"tags": ["hdmi"], "priority": "high"})
     lab.farm.tell("dispatcher", "/pass")
     lab.farm.tell("bob", "/reservations", {"tags": ["hdmi"]})
@@ -61,7 +67,7 @@ def views(lab):
     demand("the reservations", [["2", "allocated"], ["3", "waiting"]], [it[:2] for it in rows])
     demand("the rest of one", ["b1", "bob", "< 1 min", "100", "hdmi", ""], rows[0][3:])
     times = [int(re.fullmatch(r"(\d+) s", it[2]).group(1)) for it in rows]
-    demand("the time left", [True, True], [50 <= it <= 60 for it in times])
+    demand("the time left", [True, True], [is_left(it, begun) for it in times])
     counts = {"boards": "(3)", "queue": "(1)", "reservations": "(2)", "ended": ""}
     demand("how many", counts, shown["counts"])
     demand("warnings", "", shown["warned"])
@@ -240,12 +246,13 @@ def clock_that_is_ahead(room, browser):
 def clock_of_the_viewer(room, browser):
     """A viewer's clock may be wrong: what the desk's machine says counts."""
     lab = Lab(FARM, room, browser, BOARDS)
+    begun = time.time()
     lab.farm.tell("ann", "/reservations", {"tags": ["name=b1"]})
     opened = lab.open(before="const real = Date.now; Date.now = () => real() + 600000;")
     shown = seen(opened)
     demand("warnings", "", shown["warned"])
     left = re.fullmatch(r"(\d+) s", shown["reservations"][0][2])
-    demand("the time left", True, bool(left) and 50 <= int(left.group(1)) <= 60)
+    demand("the time left", True, bool(left) and is_left(int(left.group(1)), begun))
     opened.close()
     lab.end()
     return "a viewer whose clock is ten minutes ahead sees the same"

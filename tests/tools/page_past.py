@@ -220,9 +220,11 @@ def full_farm(lab):
     lab.files.update({f"/{path}": json.dumps(body).encode() for path, body in views.items()})
 
 
+LONGEST_REDRAW = 50  # milliseconds
 # What is drawn anew, each with the farm as it was before the first of them.
 REDRAWS = [
     ("the same again", "makeRows(); draw()"),
+    ("a second later", "draw()"),
     (
         "all boards changed",
         """farm.boards = farm.boards.map(it => ({...it, health: "Unknown",
@@ -236,27 +238,26 @@ REDRAWS = [
 
 
 def no_stutter(lab):
-    """The best of five of each, since other work of the machine isn't meant."""
+    """The least of several of each, by the processor's time, since other work of the machine isn't
+    meant."""
     full_farm(lab)
     opened = lab.open(wide=1280, high=1000)
     shown = seen(opened)
     demand("boards and claims", (256, 50), (len(shown["boards"]), len(shown["queue"])))
     demand("how many wait", "(3,000)", shown["counts"]["queue"])
     opened.ask("void (window.kept = {...farm})")
-    timed = """(() => {{ const begun = performance.now(); {what}; document.body.offsetHeight;
-      return performance.now() - begun; }})()"""
-    best = {name: float("inf") for name, _ in REDRAWS}
-    for _ in range(5):
+    least = {name: float("inf") for name, _ in REDRAWS}
+    for _ in range(7):
         for name, what in REDRAWS:
-            best[name] = min(best[name], opened.ask(timed.format(what=what)))
+            least[name] = min(least[name], opened.cost(what))
         opened.ask("void (farm = {...kept}, makeRows(), draw())")
     opened.close()
     lab.files.clear()
     if "--times" in sys.argv:
-        print({name: f"{it:.1f} ms" for name, it in best.items()}, flush=True)
-    slow = {name: it for name, it in best.items() if it > 500}
-    demand("redraws of more than half a second", {}, slow)
-    return "256 boards and 3,000 claims are drawn again without a stutter"
+        print({name: f"{it:.1f} ms" for name, it in least.items()}, flush=True)
+    slow = {name: it for name, it in least.items() if it > LONGEST_REDRAW}
+    demand("redraws that are too long", {}, slow)
+    return f"256 boards and 3,000 claims are drawn again within {LONGEST_REDRAW} ms"
 
 
 def no_shift(lab):

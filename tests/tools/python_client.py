@@ -27,8 +27,10 @@ from desks import BOARDS  # noqa: E402
 from python_front import SOURCES, Front, Passer, copied, python_with  # noqa: E402
 from served import TOOLS, TOP, STARTED, Farm, demand, environment, read, wait_until  # noqa: E402
 
-sys.path.insert(0, os.path.join(SOURCES, "src"))
+sys.path[:0] = [os.path.join(SOURCES, "src"), TOOLS]
 import fizgruk  # noqa: E402
+import fizgruk.settings  # noqa: E402
+from farm_tools import settings as command_settings  # noqa: E402
 from fizgruk import holding  # noqa: E402
 
 LEASE = 60
@@ -113,16 +115,17 @@ client = Client()
 client.set_health("b1", "good")  # type: ignore[arg-type]
 print(client.job(1).state == "Running", client.boards()[0].tags[0].upper())
 """)
-    ran = subprocess.run(
-        ["mypy", "--strict", "--cache-dir", os.devnull],
-        cwd=sources,
-        capture_output=True,
-        text=True,
-        check=False,
-        env={**os.environ, "MYPYPATH": "src"},
-    )
-    demand(f"mypy's status ({ran.stdout})", 0, ran.returncode)
-    return "mypy --strict finds nothing in it, nor in a program that uses it"
+    for place, words in ((sources, []), (TOOLS, ["-p", "farm_tools"])):
+        ran = subprocess.run(
+            ["mypy", "--strict", "--cache-dir", os.path.join(folder, "types"), *words],
+            cwd=place,
+            capture_output=True,
+            text=True,
+            check=False,
+            env={**os.environ, "MYPYPATH": "src"},
+        )
+        demand(f"mypy's status ({ran.stdout})", 0, ran.returncode)
+    return "mypy --strict finds nothing in it, in a program that uses it, nor in the tools"
 
 
 def oldest_python(farm, folder):
@@ -169,10 +172,13 @@ def settings(farm, folder):
         )
         return ran.stdout.strip() or ran.stderr.strip().split("\n")[-1]
 
-    lines = ["[desk]", "server = http://h:1", "user = bob", "[dispatch]", "most = 1"]
+    lines = ["[desk]", "server = http://h:1", "user = bob", "history = /h", "[dispatch]", "most = 1"]
     write(".config/farm/desk.ini", "\n".join(lines))
     demand("by the file", "http://h:1 bob", told(""))
     demand("by the environment", "http://g:2 bob", told("", DESK_SERVER="http://g:2"))
+    demand("the command's own", "http://h:1 bob", told("", DESK_HISTORY="/h"))
+    known = (*fizgruk.settings.WORDS, *fizgruk.settings.OF_COMMAND)
+    demand("the section's settings", command_settings.SECTIONS["desk"], known)
     given = told("server='http://f:3', user='cat'", DESK_SERVER="http://g:2")
     demand("by what is given", "http://f:3 cat", given)
     write(".netrc", "machine farm.example login ann password x\n")
@@ -184,6 +190,8 @@ def settings(farm, folder):
     word = write("word", "secret\n")
     sent = f"{bad}a password isn't sent to http://h:1, which has no TLS"
     demand("no TLS", sent, told(f"password_file='{word}'"))
+    login = "a server's address has no user and no password in it: user and password_file"
+    demand("a password in the address", f"{bad}{login}", told("server='https://ann:secret@h'"))
     os.chmod(word, 0o644)
     read_by = f"{bad}{word} holds a password, and others may read it: chmod 600"
     demand("an open one", read_by, told(f"password_file='{word}'"))

@@ -1,16 +1,17 @@
 """What an admin tells the desk: types, boards, their tags and health, and a lab file."""
 import argparse
 import sys
+from typing import Any, Callable, Dict
 
 from farm_tools import calls, lab_import, views
 from farm_tools.lab_file import LONGEST_EVERY
-from farm_tools.parsers import one_of
+from farm_tools.parsers import Parser, one_of
 
 REFUSED = 3
 HEALTHS = ("Good", "Bad", "Unknown", "Maintenance", "Retired")
 
 
-def add_commands(command) -> None:
+def add_commands(command: Callable[..., Parser]) -> None:
     """Adds these commands, each of which asks as the admin where nothing names another."""
     health = command("health", set_health)
     health.add_argument("boards", metavar="BOARD", nargs="+", help="A board's name.")
@@ -50,12 +51,12 @@ def frequency(text: str) -> int:
     return int(text)
 
 
-def set_health(desk, options) -> int:
+def set_health(desk: calls.Desk, options: argparse.Namespace) -> int:
     """Sets the health of one board after another; one that is refused keeps none of the others."""
     status = 0
     for board in options.boards:
         try:
-            give(desk, options, f"/boards/{board}/health", {"health": options.health})
+            give(desk, options, f"/boards/{calls.part(board)}/health", {"health": options.health})
         except calls.Refused as refusal:
             if refusal.status == calls.NOT_LET_IN or refusal.code == calls.FORBIDDEN:
                 raise
@@ -64,13 +65,13 @@ def set_health(desk, options) -> int:
     return status
 
 
-def set_tags(desk, options) -> int:
+def set_tags(desk: calls.Desk, options: argparse.Namespace) -> int:
     if bool(options.tags) == options.none:
         options.parser.error("give its tags, or --none")
-    return give(desk, options, f"/boards/{options.board}/tags", {"tags": options.tags})
+    return give(desk, options, f"/boards/{calls.part(options.board)}/tags", {"tags": options.tags})
 
 
-def add_type(desk, options) -> int:
+def add_type(desk: calls.Desk, options: argparse.Namespace) -> int:
     has_check = options.check not in (None, "none")
     if has_check != (options.every is not None):
         options.parser.error("--check and --every belong together")
@@ -78,12 +79,12 @@ def add_type(desk, options) -> int:
     return give(desk, options, "/types", {"name": options.name, **body})
 
 
-def add_board(desk, options) -> int:
+def add_board(desk: calls.Desk, options: argparse.Namespace) -> int:
     body = {"name": options.name, "type": options.type, "tags": options.tags}
     return give(desk, options, "/boards", body)
 
 
-def give(desk, options, path: str, body: dict) -> int:
+def give(desk: calls.Desk, options: argparse.Namespace, path: str, body: Dict[str, Any]) -> int:
     """Gives one command under a fresh key."""
     said = desk.tell(path, body, calls.fresh_key())
     if options.json:

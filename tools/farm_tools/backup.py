@@ -4,7 +4,6 @@ import os
 import shutil
 import sys
 import time
-import urllib.parse
 from typing import Optional, Sequence
 
 from farm_tools import calls, copying, folders, follow, interrupts, parsers, settings
@@ -100,9 +99,10 @@ def _seconds(text: str) -> float:
 
 
 def _server(text: str) -> str:
-    address = urllib.parse.urlsplit(text)
-    if address.scheme not in ("http", "https") or not address.hostname or address.port == 0:
-        raise ValueError
+    try:
+        settings.address_of(text)
+    except settings.BadSettings as fault:
+        raise argparse.ArgumentTypeError(str(fault)) from fault
     return text
 
 
@@ -142,7 +142,7 @@ def answered_at(server: str) -> Optional[int]:
     """How many commands a desk has done; None, which is told, where it gives no answer."""
     desk = calls.Desk(settings.Settings(server, PROGRAM, None, None, ANSWER), patience=0)
     try:
-        return desk.look("/status")["count"]
+        return int(desk.look("/status")["count"])
     except (calls.NoAnswer, calls.Refused) as fault:
         tell(f"the copy isn't compared with the desk at {server}: {fault}")
         return None

@@ -7,7 +7,9 @@ import secrets
 import ssl
 import time
 import urllib.parse
-from typing import Iterator
+from typing import Any, Callable, Dict, Iterator, Optional, Tuple, Union
+
+from farm_tools.settings import Settings
 
 NOT_LET_IN, NOT_FOUND, NOTHING_BEYOND = 401, 404, 416
 FORBIDDEN = 3
@@ -26,6 +28,7 @@ UNKNOWN = (502, 503, 504)
 FIRST_WAIT = 0.2
 LONGEST_WAIT = 5.0
 BLOCK = 65536
+Body = Union[bytes, Dict[str, Any], None]
 
 
 class Refused(Exception):
@@ -53,22 +56,27 @@ def fresh_key() -> str:
     return secrets.token_hex(16)
 
 
+def part(name: str) -> str:
+    """A name as a part of a path, also where it is none that the desk takes."""
+    return urllib.parse.quote(name, safe="", errors="surrogateescape")
+
+
 class Desk:
     """A desk at a server's address, as one user sees it."""
 
-    def __init__(self, settings, patience: float):
+    def __init__(self, settings: Settings, patience: float):
         """`patience` is for how many seconds a call is sent again where no answer comes."""
         address = urllib.parse.urlsplit(settings.server)
         self.server = settings.server
         self.user = settings.user
-        self.host = address.hostname
+        self.host = address.hostname or ""
         self.port = address.port
         self.front = address.path.rstrip("/")
         self.timeout = settings.timeout
         self.patience = patience
         # what is told, once, where a call gets no answer at first and is sent again
-        self.tell_trouble = lambda trouble: None
-        self.context = None
+        self.tell_trouble: Callable[[str], None] = lambda trouble: None
+        self.context: Optional[ssl.SSLContext] = None
         if address.scheme == "https":
             self.context = ssl.create_default_context(cafile=settings.ca_file)
         self.fields = {"x-user": settings.user}
@@ -76,7 +84,7 @@ class Desk:
             pair = f"{settings.user}:{settings.password}".encode()
             self.fields["authorization"] = "Basic " + base64.b64encode(pair).decode()
 
-    def of_patience(self, seconds: float):
+    def of_patience(self, seconds: float) -> "Desk":
         """The same desk, whose calls are sent again for so many seconds."""
         other = copy.copy(self)
         other.patience = seconds
@@ -87,17 +95,17 @@ class Desk:
         word = "with" if "authorization" in self.fields else "without"
         return f"asked as {self.user}, {word} a password"
 
-    def look(self, path: str) -> dict:
+    def look(self, path: str) -> Dict[str, Any]:
         """What a view shows."""
         return self._answer("GET", path, None, {}, True)
 
-    def tell(self, path: str, body=None, key=None) -> dict:
+    def tell(self, path: str, body: Body = None, key: Optional[str] = None) -> Dict[str, Any]:
         """Gives a command, again and again under its key until an answer comes; without a key it is
         sent once."""
         fields = {"x-key": key} if key else {}
         return self._answer("POST", path, _bytes_of(body), fields, key is not None)
 
-    def nudge(self, path: str) -> dict:
+    def nudge(self, path: str) -> Dict[str, Any]:
         """Gives a command that does no harm when it is done twice, a pass or a refresh, so it needs
         no key."""
         return self._answer("POST", path, None, {}, True)
@@ -112,6 +120,8 @@ class Desk:
             answer = line.getresponse()
             if answer.status == NOTHING_BEYOND:
                 return
+            if answer.status in UNKNOWN:
+                raise NoAnswer(f"{answer.status} {answer.reason}")
             if answer.status not in (200, 206):
                 self._meaning(answer.status, answer.reason, answer.read())
             yield from _read(answer, 0 if answer.status == 206 else begin)
@@ -120,7 +130,9 @@ class Desk:
         finally:
             line.close()
 
-    def _answer(self, method, path, body, fields, again) -> dict:
+    def _answer(
+        self, method: str, path: str, body: Optional[bytes], fields: Dict[str, str], again: bool
+    ) -> Dict[str, Any]:
         until = time.monotonic() + self.patience
         wait = FIRST_WAIT
         while True:
@@ -139,7 +151,7 @@ class Desk:
             time.sleep(wait)
             wait = min(2 * wait, LONGEST_WAIT)
 
-    def _meaning(self, status: int, reason: str, said: bytes) -> dict:
+    def _meaning(self, status: int, reason: str, said: bytes) -> Dict[str, Any]:
         """What an answer says, where it isn't a refusal."""
         try:
             told = json.loads(said)
@@ -157,7 +169,9 @@ class Desk:
             refusal.about(f"asked as {self.user}")
         raise refusal
 
-    def _exchange(self, method, path, body, fields):
+    def _exchange(
+        self, method: str, path: str, body: Optional[bytes], fields: Dict[str, str]
+    ) -> Tuple[int, str, bytes]:
         """One request and its answer: status, reason and body."""
         line = self._line()
         try:
@@ -191,7 +205,7 @@ def _read(answer: http.client.HTTPResponse, begin: int) -> Iterator[bytes]:
         raise http.client.HTTPException("the answer was cut")
 
 
-def _bytes_of(body):
+def _bytes_of(body: Body) -> Optional[bytes]:
     """A body as it is sent: bytes stay, all else becomes JSON."""
     if body is None or isinstance(body, bytes):
         return body

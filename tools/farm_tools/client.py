@@ -2,11 +2,12 @@
 import argparse
 import os
 import sys
+from typing import Any, Callable, Dict, Optional, Sequence, Union
 
 from farm_tools import (
     admin,
     calls,
-    clock,
+    clocks,
     desk_texts,
     holding,
     interrupts,
@@ -20,6 +21,8 @@ from farm_tools import (
 )
 from farm_tools.parsers import Parser, one_of
 
+Command = Callable[..., Parser]  # adds a command by its name and what does it
+
 ENDED, REFUSED, FAULT = 1, 3, 4
 AWAITS_END = """\
 Wait until all members of its group have ended, and print 'NUMBER RESULT BOARD' of each. \
@@ -32,7 +35,7 @@ PATIENCE = 15
 ACTIONS = {"extend": "refresh", "cancel-reservation": "cancel"}
 
 
-def main(words=None) -> int:
+def main(words: Optional[Sequence[str]] = None) -> int:
     options = options_of(sys.argv[1:] if words is None else words)
     interrupts.catch_signals()
     try:
@@ -43,14 +46,14 @@ def main(words=None) -> int:
         return it.status
 
 
-def status_of(options) -> int:
+def status_of(options: argparse.Namespace) -> int:
     """Does what the options ask for. Returns the exit status."""
     fault_status = holding.OF_ITSELF if options.does is holding.run_with_board else FAULT
     try:
         desk = calls.Desk(settings.read_settings("desk", options, options.asks_as), PATIENCE)
         desk.tell_trouble = Trouble(desk).tell
-        options.clock = clock.Clock(desk)
-        status = options.does(desk, options)
+        options.clock = clocks.Watch(desk)
+        status: int = options.does(desk, options)
         if status == 0 and not options.clock.has_looked:
             options.clock.look()
         return status
@@ -70,7 +73,7 @@ def status_of(options) -> int:
 class Trouble:
     """Tells once that the desk gives no answer and is asked again."""
 
-    def __init__(self, desk):
+    def __init__(self, desk: calls.Desk):
         self.server = desk.server
         self.is_told = False
 
@@ -91,9 +94,9 @@ def told(status: int, text: str) -> int:
 # ---- words
 
 
-def options_of(words):
+def options_of(words: Sequence[str]) -> argparse.Namespace:
     """The options of these words. What stands behind `--` is the command of `with`."""
-    command = None
+    command: Sequence[str] = ()
     if "--" in words and "with" in words[: words.index("--")]:
         words, command = words[: words.index("--")], words[words.index("--") + 1 :]
     parser = parser_of()
@@ -119,9 +122,10 @@ its lines that was put aside; without it, the server is asked."""
     parser.set_defaults(asks_as=None)
     commands = parser.add_subparsers(metavar="COMMAND", required=True)
 
-    def command(name, does):
+    def command(name: str, does: Callable[..., int]) -> Parser:
         about = desk_texts.TEXTS[name]
-        added = commands.add_parser(name, help=parsers.first_sentence(about), about=about)
+        more: Dict[str, Any] = {"about": about}  # which the class of these parsers takes
+        added: Parser = commands.add_parser(name, help=parsers.first_sentence(about), **more)
         added.set_defaults(does=does)
         about = "Print what the desk answered, as JSON."
         if does in (past_jobs.show_log, holding.run_with_board):
@@ -139,7 +143,7 @@ its lines that was put aside; without it, the server is asked."""
     return parser
 
 
-def add_views(command) -> None:
+def add_views(command: Command) -> None:
     add_tags(command("boards", views.show_boards))
     command("queue", views.show_queue)
     rows = command("reservations", views.show_reservations)
@@ -147,7 +151,7 @@ def add_views(command) -> None:
     rows.add_argument("--mine", action="store_true", help="Those of the user alone.")
 
 
-def add_jobs(command) -> None:
+def add_jobs(command: Command) -> None:
     jobs = command("jobs", show_jobs)
     jobs.add_argument("--text", action="store_true", help="Print the texts that were submitted.")
     jobs.add_argument("--mine", action="store_true", help="Those of the user alone.")
@@ -163,7 +167,7 @@ def add_jobs(command) -> None:
     add_waiting(again, AWAITS_END)
 
 
-def add_past(command) -> None:
+def add_past(command: Command) -> None:
     log = command("log", past_jobs.show_log)
     add_number(log, "A job's number.")
     about = "Print also what it says from then on, until the job has ended."
@@ -182,12 +186,12 @@ A span, as 30d, 12h, 90m or 2w, or a date, as 2026-11-30 (default %(default)s)."
     one_of(used, "--by", usage.BY, about, default="owner")
 
 
-def add_last(parser, about: str) -> None:
+def add_last(parser: Parser, about: str) -> None:
     about = f"{about}, at most (default {past_jobs.LAST})."
     parser.add_argument("--last", metavar="N", type=number, help=about)
 
 
-def add_reservations(command) -> None:
+def add_reservations(command: Command) -> None:
     reserve = command("reserve", reserve_board)
     add_wants(reserve)
     add_waiting(reserve, AWAITS_BOARD)
@@ -206,27 +210,27 @@ def add_reservations(command) -> None:
     add_every(hold)
 
 
-def add_number(parser, about: str) -> None:
+def add_number(parser: Parser, about: str) -> None:
     parser.add_argument("number", metavar="N", type=number, help=about)
 
 
-def add_tags(parser) -> None:
+def add_tags(parser: Parser) -> None:
     about = "A tag of the board; 'name=BOARD' is that board."
     parser.add_argument("tags", metavar="TAG", nargs="*", help=about)
 
 
-def add_wants(parser) -> None:
+def add_wants(parser: Parser) -> None:
     add_tags(parser)
     about = "Its place in the queue: 'low', 'medium', 'high', or 0 to 100 (default 50)."
     parser.add_argument("--priority", metavar="P", type=priority, help=about)
 
 
-def add_waiting(parser, about: str) -> None:
+def add_waiting(parser: Parser, about: str) -> None:
     parser.add_argument("--wait", action="store_true", help=about)
     add_every(parser)
 
 
-def add_every(parser) -> None:
+def add_every(parser: Parser) -> None:
     about = "Between two looks, while it waits (default %(default)s)."
     parser.add_argument("--every", metavar="SECONDS", type=seconds, default=2, help=about)
 
@@ -237,7 +241,7 @@ def number(text: str) -> int:
     return int(text)
 
 
-def priority(text: str):
+def priority(text: str) -> Union[int, str]:
     return int(text) if text.isascii() and text.isdigit() else text
 
 
@@ -251,7 +255,7 @@ def seconds(text: str) -> float:
 # ---- jobs
 
 
-def show_jobs(desk, options) -> int:
+def show_jobs(desk: calls.Desk, options: argparse.Namespace) -> int:
     """Shows jobs by their numbers, or without any, those that are open and the last that ended."""
     if options.numbers:
         if options.mine or options.last:
@@ -262,7 +266,7 @@ def show_jobs(desk, options) -> int:
     return past_jobs.list_jobs(desk, options)
 
 
-def submit_job(desk, options) -> int:
+def submit_job(desk: calls.Desk, options: argparse.Namespace) -> int:
     if options.file == "-":
         text = sys.stdin.buffer.read()
     else:
@@ -271,14 +275,14 @@ def submit_job(desk, options) -> int:
     return submit_text(desk, options, text)
 
 
-def resubmit_job(desk, options) -> int:
+def resubmit_job(desk: calls.Desk, options: argparse.Namespace) -> int:
     text = past_jobs.text_of(desk, options.number)
     if text is None:
         return told(REFUSED, f"job {options.number} is a health check, which has no text")
     return submit_text(desk, options, text)
 
 
-def submit_text(desk, options, text: bytes) -> int:
+def submit_text(desk: calls.Desk, options: argparse.Namespace, text: bytes) -> int:
     """Submits a job file, prints its number, and waits for its end where that is asked for."""
     if options.wait:
         options.clock.look()
@@ -292,7 +296,7 @@ def submit_text(desk, options, text: bytes) -> int:
     return await_end(desk, options, said["number"]) if options.wait else 0
 
 
-def cancel_job(desk, options) -> int:
+def cancel_job(desk: calls.Desk, options: argparse.Namespace) -> int:
     try:
         said = desk.tell(f"/jobs/{options.number}/cancel", key=calls.fresh_key())
     except calls.Refused as refusal:
@@ -306,20 +310,20 @@ def cancel_job(desk, options) -> int:
     return 0
 
 
-def print_number(options, said: dict) -> None:
+def print_number(options: argparse.Namespace, said: Dict[str, Any]) -> None:
     if options.json:
         views.print_json(said)
     else:
         print(said["number"], flush=True)
 
 
-def await_end(desk, options, job: int) -> int:
+def await_end(desk: calls.Desk, options: argparse.Namespace, job: int) -> int:
     """Waits for a job's end, and prints how it ended. The status says whether all members are
     Complete."""
     try:
         members = waiting.wait_for_end(desk, job, options)
-    except interrupts.Interrupted as it:
-        return told(it.status, f"job {job} goes on; desk cancel {job} ends it")
+    except interrupts.Interrupted as end:
+        return told(end.status, f"job {job} goes on; desk cancel {job} ends it")
     if options.json:
         views.print_json({"jobs": members})
     else:
@@ -331,38 +335,37 @@ def await_end(desk, options, job: int) -> int:
 # ---- reservations
 
 
-def reserve_board(desk, options) -> int:
+def reserve_board(desk: calls.Desk, options: argparse.Namespace) -> int:
     reservation = holding.Reservation(desk, options.tags, options.priority)
     if not (options.wait or options.acquire):
-        reservation.ask()
-        print_number(options, {"number": reservation.number})
+        print_number(options, {"number": reservation.ask()})
         return 0
     try:
         options.clock.look()
-        reservation.ask()
+        number = reservation.ask()
         options.clock.note_own()
-        print_number(options, {"number": reservation.number})
-        return await_board(reservation, options)
+        print_number(options, {"number": number})
+        return await_board(reservation, number, options)
     except interrupts.Interrupted as it:
         reservation.give_back()
         return it.status
 
 
-def await_board(reservation, options) -> int:
+def await_board(
+    reservation: holding.Reservation, number: int, options: argparse.Namespace
+) -> int:
     """Waits for a reservation's board, acquires it where that is asked for, and prints it."""
-    board = waiting.wait_for_board(
-        reservation.desk, reservation.number, reservation.tags, options
-    )
+    board = waiting.wait_for_board(reservation.desk, number, reservation.tags, options)
     if options.acquire:
         reservation.acquire()
     if options.json:
-        views.print_json({"board": board["name"], "number": reservation.number})
+        views.print_json({"board": board["name"], "number": number})
     else:
         print(board["name"], flush=True)
     return 0
 
 
-def wait_for(desk, options) -> int:
+def wait_for(desk: calls.Desk, options: argparse.Namespace) -> int:
     """Waits for a job's end or a reservation's board: both draw their numbers from one counter."""
     options.clock.look()
     try:
@@ -377,10 +380,10 @@ def wait_for(desk, options) -> int:
     reservation = holding.Reservation(desk, None, None)
     reservation.number = options.number
     options.acquire = False
-    return await_board(reservation, options)
+    return await_board(reservation, options.number, options)
 
 
-def change_reservation(desk, options) -> int:
+def change_reservation(desk: calls.Desk, options: argparse.Namespace) -> int:
     """Acquires, releases, refreshes, which is also how a hold is extended, or cancels. A refresh
     that is done twice does no harm, and has no key."""
     path = f"/reservations/{options.number}/{options.action}"

@@ -5,7 +5,7 @@ import os
 import time
 from typing import Any, Dict, List, Optional
 
-from farm_tools import calls
+from farm_tools import calls, folders, passes
 from farm_tools.prometheus import COUNTER, GAUGE, Family, one
 
 HEALTHS = ("Good", "Bad", "Unknown", "Maintenance", "Retired")
@@ -20,19 +20,23 @@ class Collector:
     """Counts, and keeps what the next count needs: since when a claim is seen, and how far the
     history was read."""
 
-    def __init__(self, desk: calls.Desk, history: str, state: Optional[str]):
-        """`state` is the file that keeps it for the next process."""
+    def __init__(self, desk: calls.Desk, history: str, counted: str, state: Optional[str]):
+        """`history` and `counted` are the dispatcher's files of jobs that ended and of passes, and
+        `state` the file that keeps what the next process needs."""
         self.desk = desk
+        self.passes = Passes(counted)
         self.state = state
         found = _state_in(state)
         self.count = int(found.get("count", 0))
         self.seen: Dict[str, float] = dict(found.get("seen", {}))
         self.history = History(history, found.get("history", {}))
         self.trouble = ""  # why the desk isn't told of
+        self.lost = ""  # why the next process doesn't know what this one does
 
     def families(self) -> List[Family]:
         """All metrics, as of now."""
         families = self._of_the_desk()
+        families.extend(self.passes.families())
         families.extend(self.history.families())
         self._keep()
         return families
@@ -67,8 +71,37 @@ class Collector:
     def _keep(self) -> None:
         if self.state is None:
             return
+        self.lost = ""
         kept = {"count": self.count, "seen": self.seen, "history": self.history.state()}
-        write(self.state, json.dumps(kept), 0o600)
+        try:
+            folders.write_whole(self.state, json.dumps(kept), 0o600)
+        except OSError as fault:
+            self.lost = str(fault)
+
+
+class Passes:
+    """How many passes there were, and since when there is none, as the dispatcher notes it."""
+
+    def __init__(self, file: str):
+        self.file = file
+        self.trouble = ""
+
+    def families(self) -> List[Family]:
+        """What there is to tell; without the dispatcher's file, why there is nothing."""
+        name, about = "fizgruk_passes_total", "Passes that the dispatcher asked for."
+        self.trouble = ""
+        try:
+            found = passes.passes_in(self.file)
+        except FileNotFoundError:
+            return [Family(name, COUNTER, f"{about} None are counted: no {self.file}.", [])]
+        except (OSError, ValueError) as fault:
+            self.trouble = str(fault)
+            return []
+        age = max(0.0, time.time() - found.at)
+        return [
+            one(name, COUNTER, about, found.count),
+            one("fizgruk_last_pass_age_seconds", GAUGE, "Seconds since the last of them.", age),
+        ]
 
 
 class History:
@@ -137,15 +170,6 @@ def _state_in(file: Optional[str]) -> Dict[str, Any]:
     return found if isinstance(found, dict) else {}
 
 
-def write(file: str, text: str, mode: int) -> None:
-    """Writes a file whole or not at all."""
-    new = f"{file}.new"
-    with open(new, "w", encoding="utf-8") as opened:
-        os.fchmod(opened.fileno(), mode)
-        opened.write(text)
-    os.replace(new, file)
-
-
 # ---- by the desk's views
 
 
@@ -174,7 +198,7 @@ def boards_of(boards: List[Dict[str, Any]]) -> Family:
 def _of_status(status: Dict[str, int]) -> List[Family]:
     rows = [({"table": it}, status[it]) for it in LIMITS]
     limits = [({"table": it}, most) for it, most in LIMITS.items()]
-    age = "Seconds since the last command, as each pass is one; below 0 the farm's clock is ahead."
+    age = "Seconds since the last command; below 0 the farm's clock is ahead."
     collects = "Number of the group that collects boards, 0 while none does."
     return [
         one("fizgruk_collecting_group", GAUGE, collects, status["collector"]),

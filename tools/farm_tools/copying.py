@@ -16,7 +16,7 @@ import stat
 import subprocess
 import tempfile
 import time
-from typing import List, NamedTuple, Optional, Tuple
+from typing import Callable, List, NamedTuple, Optional, Tuple
 
 from farm_tools import folders, wal
 
@@ -65,7 +65,7 @@ class Farm:
         words = [self.program, "once", "--db", self.db, "--at", "0"]
         ran = subprocess.run(words, input=STATUS, capture_output=True, check=False)
         try:
-            return json.loads(ran.stdout.partition(b"\r\n\r\n")[2])["count"]
+            return int(json.loads(ran.stdout.partition(b"\r\n\r\n")[2])["count"])
         except (ValueError, KeyError) as fault:
             raise NoCopy(f"{self.db} is no farm ({_line(ran.stderr)})") from fault
 
@@ -86,7 +86,7 @@ def _line(said: bytes) -> str:
     return " ".join(said.decode(errors="replace").split()) or "nothing was said"
 
 
-def new_copy(farm: Farm, folder: str, tell) -> str:
+def new_copy(farm: Farm, folder: str, tell: Callable[[str], None]) -> str:
     """A proved copy of a farm in a new folder below `folder`, which the caller names at last.
     `tell` is told where it is copied again."""
     place = tempfile.mkdtemp(prefix=NEW, dir=folder)
@@ -99,7 +99,7 @@ def new_copy(farm: Farm, folder: str, tell) -> str:
     return place
 
 
-def copied(farm: Farm, place: str, tell) -> Farm:
+def copied(farm: Farm, place: str, tell: Callable[[str], None]) -> Farm:
     """A copy of a farm's two files in a folder, copied again while they move."""
     copy = farm.within(place)
     wait, why = FIRST_WAIT, ""

@@ -6,7 +6,7 @@ import shlex
 import signal
 import sys
 import time
-from typing import Dict, List, Optional
+from typing import Any, Callable, Dict, List, Optional, Sequence
 
 from farm_tools import calls, folders, limits, parsers, settings
 from farm_tools.clocks import UNSYNCHRONIZED, Clocks
@@ -73,12 +73,12 @@ class Stops:
     """SIGTERM and SIGINT, which raise Stopped where they come. Python drops what is raised while it
     ends an object, so `check` raises it again."""
 
-    def __init__(self):
+    def __init__(self) -> None:
         self.came = False
         signal.signal(signal.SIGTERM, self._stop)
         signal.signal(signal.SIGINT, self._stop)
 
-    def _stop(self, *_) -> None:
+    def _stop(self, *_: object) -> None:
         self.came = True
         raise Stopped
 
@@ -87,7 +87,7 @@ class Stops:
             raise Stopped
 
 
-def main(words=None) -> int:
+def main(words: Optional[Sequence[str]] = None) -> int:
     options = options_of(words)
     dispatcher = None
     try:
@@ -114,7 +114,9 @@ def main(words=None) -> int:
 def parser_of() -> parsers.Parser:
     parser = parsers.parser_of("farm-dispatch", ABOUT, STATUSES)
 
-    def option(name, metavar, default, kind, about):
+    def option(
+        name: str, metavar: str, default: Any, kind: Callable[[str], Any], about: str
+    ) -> None:
         parser.add_argument(name, metavar=metavar, default=default, type=kind, help=about)
 
     about = """\
@@ -144,7 +146,7 @@ more than 30 seconds old."""
     return parser
 
 
-def options_of(words) -> argparse.Namespace:
+def options_of(words: Optional[Sequence[str]]) -> argparse.Namespace:
     options = parser_of().parse_args(words)
     options.command = from_anywhere([options.command, *options.arguments])
     options.check = from_anywhere(options.check) if options.check else options.command
@@ -192,13 +194,14 @@ def end(status: int, text: str) -> int:
     return status
 
 
-def serve(dispatcher: Dispatcher, clocks: Clocks, wakes, stops: Stops) -> int:
+def serve(dispatcher: Dispatcher, clocks: Clocks, wakes: "Wakes", stops: Stops) -> int:
     """Passes and looks after the jobs until a signal comes, or the desk doesn't take the caller."""
-    due = cleaned = None
+    due = time.monotonic()
+    cleaned: Optional[float] = None
     trouble = ""
     while True:
         now = time.monotonic()
-        passes = due is None or now >= due
+        passes = now >= due
         before, trouble = trouble, ""
         try:
             if cleaned is None or now >= cleaned + HOUR:

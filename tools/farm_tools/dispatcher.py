@@ -4,28 +4,34 @@ What a job comes to is the desk's to say; what became of a process is in the job
 else is needed, so a dispatcher that is killed at any moment and started again goes on where it was.
 Of what has ended it keeps a history, for people and other tools.
 """
+import argparse
 import json
 import os
 import shutil
 import subprocess
 import sys
 import time
-from typing import Callable, Dict, Optional, Set
+from typing import Any, Callable, Dict, List, Optional, Set
 
 from farm_tools import calls, folders, limits
+from farm_tools.passes import Counter
 from farm_tools.past import Past
 from farm_tools.starts import Starts
 
 ROOT = os.path.dirname(os.path.dirname(os.path.abspath(__file__)))
 DAY = 86400
 KILLS_AFTER = 10
+NEW = "new-"  # how a group's folder is named until it is whole
 LOST, NOT_BEGUN = "lost, with its folder", "not begun"
+
+Rows = List[Dict[str, Any]]  # members of a group, by their views
+Boards = Dict[str, Dict[str, Any]]  # boards that are held, by their names
 
 
 class Dispatcher:
     """The dispatcher of one desk, over a folder of its own."""
 
-    def __init__(self, desk, place: str, options):
+    def __init__(self, desk: calls.Desk, place: str, options: argparse.Namespace):
         """`options` has `command`, `check`, `grace`, `infra`, `keep`, `keep_logs`, `limit`, `most`
         and `retry`."""
         self.desk = desk
@@ -33,13 +39,16 @@ class Dispatcher:
         self.options = options
         self.starts = Starts((options.command, options.check), options.retry)
         os.makedirs(self.jobs, mode=0o750, exist_ok=True)
+        for cut in (it for it in os.listdir(self.jobs) if it.startswith(NEW)):
+            shutil.rmtree(os.path.join(self.jobs, cut), ignore_errors=True)
         names = [it for it in os.listdir(self.jobs) if it.isdigit()]
         self.open = {int(it) for it in names if not self._has(int(it), folders.FINISHED)}
-        self.runners: Dict[int, subprocess.Popen] = {}
+        self.runners: Dict[int, "subprocess.Popen[bytes]"] = {}
         self.running: Dict[int, int] = {}
         self.others: Set[int] = set()
         self.told: Set[str] = set()
         self.past = Past(desk, place, self.open)
+        self.passes = Counter(place)
 
     def round(self, passes: bool) -> None:
         """Takes up what there is to do, after a pass where one is due, and again after each pass
@@ -48,10 +57,14 @@ class Dispatcher:
         if passes:
             self.past.look()
         if passes and not self.starts.fault:
-            self.desk.nudge("/pass")
+            self._pass()
         while self._take_up() and not self.starts.fault:
-            self.desk.nudge("/pass")
+            self._pass()
         self.starts.end_round()
+
+    def _pass(self) -> None:
+        self.desk.nudge("/pass")
+        self.passes.add()
 
     def _take_up(self) -> bool:
         """Does what each group that holds boards asks for. Returns whether a group was finished."""
@@ -70,7 +83,7 @@ class Dispatcher:
             self._try(f"job {number}", self._close, number)
         return finished
 
-    def _try(self, about: str, call: Callable, *words) -> bool:
+    def _try(self, about: str, call: Callable[..., Any], *words: Any) -> bool:
         """Does what one group asks for. Its fault keeps none of the others waiting; it is tried
         again."""
         try:
@@ -81,7 +94,7 @@ class Dispatcher:
             self._tell_once(f"{about}: {fault}")
             return False
 
-    def _do(self, number: int, members, boards) -> bool:
+    def _do(self, number: int, members: Rows, boards: Boards) -> bool:
         """Does what a group asks for. Returns whether it was finished."""
         state = members[0]["state"]
         if state == "Scheduled":
@@ -92,10 +105,10 @@ class Dispatcher:
             self._tell_once(f"job {number} is {state}, which is left to the desk")
         return False
 
-    def _groups(self, held) -> dict:
+    def _groups(self, held: List[int]) -> Dict[int, Rows]:
         """The groups of these jobs, each with the views of its members. Of a group that runs here
         one view is enough; the others are their numbers alone."""
-        found = {}
+        found: Dict[int, Rows] = {}
         for number in held:
             if self.running.get(number) in found:
                 found[self.running[number]].append({"number": number})
@@ -107,7 +120,7 @@ class Dispatcher:
 
     # ---- a group that got its boards
 
-    def _begin(self, number: int, members, boards) -> None:
+    def _begin(self, number: int, members: Rows, boards: Boards) -> None:
         """Starts a group. Its folder is there before the desk is told, so that whoever finds it
         running finds the folder."""
         if not self.starts.may_start(number):
@@ -135,7 +148,7 @@ class Dispatcher:
             self.desk.tell(f"/jobs/{number}/start")
         return True
 
-    def _prepare(self, number: int, members, boards, ended: str = "") -> None:
+    def _prepare(self, number: int, members: Rows, boards: Boards, ended: str = "") -> None:
         """Makes the folder of a group, with its text and its boards, and how it ended, where it
         has. What stands there under its number, and was begun, is of another farm."""
         if self._has(number, folders.BEGAN):
@@ -146,7 +159,7 @@ class Dispatcher:
                 f"job {number}: what an earlier farm's job of this number left is in {aside}"
             )
         self._drop(number)
-        new = os.path.join(self.jobs, f"new-{number}")
+        new = os.path.join(self.jobs, f"{NEW}{number}")
         shutil.rmtree(new, ignore_errors=True)
         os.mkdir(new, 0o750)
         rows = [{**boards[it["board"]], "job": it["number"], "role": it["role"]} for it in members]
@@ -163,7 +176,7 @@ class Dispatcher:
         folders.sync_folder(self.jobs)
         self.open.add(number)
 
-    def _launch(self, number: int, members) -> None:
+    def _launch(self, number: int, members: Rows) -> None:
         """Starts the process that runs a group's command, which it does once at most."""
         first = members[0]
         command = self.options.check if first["kind"] == "check" else self.options.command
@@ -189,7 +202,7 @@ class Dispatcher:
         boards = " ".join(it["board"] for it in members)
         self._tell(f"job {number} of {first['owner']} starts on {boards}")
 
-    def _environment(self, number: int, members) -> dict:
+    def _environment(self, number: int, members: Rows) -> Dict[str, str]:
         """A command's environment; what says how to reach the desk isn't handed on."""
         own = {name: text for name, text in os.environ.items() if not name.startswith("DISPATCH_")}
         first = members[0]
@@ -209,7 +222,7 @@ class Dispatcher:
 
     # ---- a group that runs
 
-    def _go_on(self, number: int, members, boards) -> bool:
+    def _go_on(self, number: int, members: Rows, boards: Boards) -> bool:
         """Looks after a group that the desk says runs. Returns whether it was finished."""
         if not os.path.isdir(self._folder(number)):
             return self._without_folder(number, members, boards)
@@ -231,7 +244,7 @@ class Dispatcher:
             return self._not_begun(number, members, canceled)
         return self._finish(number, members, ended or self._how_it_was_lost(number))
 
-    def _not_begun(self, number: int, members, canceled: bool) -> bool:
+    def _not_begun(self, number: int, members: Rows, canceled: bool) -> bool:
         """A group that was started, and whose command wasn't begun."""
         runner = self.runners.pop(number, None)
         if runner is not None and runner.poll():
@@ -262,7 +275,7 @@ class Dispatcher:
             return True
         return False if number in self.open else None
 
-    def _without_folder(self, number: int, members, boards) -> bool:
+    def _without_folder(self, number: int, members: Rows, boards: Boards) -> bool:
         """A group that runs and has no folder: somebody else's, or its folder was removed."""
         if number in self.others:
             return False
@@ -315,14 +328,13 @@ class Dispatcher:
     def _cancel(self, number: int) -> None:
         """Asks for the end of a group's command: of the process that runs it, and where that was
         killed itself and doesn't answer, of all that it left."""
-        file = self._file(number, folders.CANCEL)
-        if not os.path.exists(file):
-            folders.write_synced(file, "")
+        seconds = folders.cancel(self._folder(number))
+        if seconds is None:
             self._tell(f"job {number} is told to end")
-        elif time.time() - os.stat(file).st_mtime > self.options.grace + KILLS_AFTER:
+        elif seconds > self.options.grace + KILLS_AFTER:
             folders.kill_processes_of(self._folder(number))
 
-    def _finish(self, number: int, members, ended: str) -> bool:
+    def _finish(self, number: int, members: Rows, ended: str) -> bool:
         """Tells the desk how a group ended, of each member that holds a board."""
         outcome = self._outcome_of(ended)
         for member in members:
@@ -351,7 +363,7 @@ class Dispatcher:
             return "Incomplete"
         return "Infra"
 
-    def _give(self, path: str, body, key: str) -> None:
+    def _give(self, path: str, body: Dict[str, Any], key: str) -> None:
         """Gives a command under its key, or without where the desk has no room for one more
         reply."""
         try:

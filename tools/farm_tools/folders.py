@@ -7,7 +7,7 @@ happened.
     began         it was begun, once for all: nobody begins it again; when, by the machine's clock
                   that nobody sets, and its time limit, in seconds
     started       its command runs, or ran
-    cancel        it shall end
+    cancel        it shall end; since when, by the same clock
     late          it was killed for its time limit
     ended         how it ended
     finished      the desk knows how it ended
@@ -25,6 +25,7 @@ BEGAN, STARTED, ENDED, FINISHED = "began", "started", "ended", "finished"
 CANCEL, LATE, UNKEYED = "cancel", "late", "unkeyed"
 LOCK, LOG, TEXT, BOARDS, ABOUT = "lock", "log", "job.toml", "boards", "about.json"
 COOKIE = "FARM_FOLDER"
+READABLE = 0o644  # by the proxy's user and other tools too
 NOT_STARTED, TIME_LIMIT = "not started", "time limit"  # how `ended` begins then
 
 
@@ -35,6 +36,14 @@ def sync_folder(folder: str) -> None:
         os.fsync(opened)
     finally:
         os.close(opened)
+
+
+def write_whole(file: str, text: str, mode: int = READABLE) -> None:
+    """Writes a file whole or not at all; a machine that stops may lose it."""
+    with open(f"{file}.new", "w", encoding="utf-8", errors="replace", newline="") as new:
+        os.fchmod(new.fileno(), mode)
+        new.write(text)
+    os.replace(f"{file}.new", file)
 
 
 def write_synced(file: str, text: str) -> None:
@@ -56,9 +65,10 @@ def made_for_all(folder: str) -> str:
 
 def make_log(folder: str) -> None:
     """Makes a job's log, which others may read where they can reach it."""
-    opened = os.open(os.path.join(folder, LOG), os.O_WRONLY | os.O_CREAT | os.O_CLOEXEC, 0o644)
+    file = os.path.join(folder, LOG)
+    opened = os.open(file, os.O_WRONLY | os.O_CREAT | os.O_CLOEXEC, READABLE)
     try:
-        os.fchmod(opened, 0o644)
+        os.fchmod(opened, READABLE)
     finally:
         os.close(opened)
 
@@ -86,7 +96,7 @@ def note(folder: str, text: str) -> None:
         pass
 
 
-def take_lock(file: str):
+def take_lock(file: str) -> Optional[int]:
     """The open file, locked until its last copy is closed, or None where another has the lock."""
     opened = os.open(file, os.O_RDWR | os.O_CREAT | os.O_CLOEXEC, 0o640)
     try:
@@ -123,6 +133,18 @@ def begin_of(folder: str) -> Optional[Tuple[float, float]]:
             began, limit = file.read().split()
         return float(began), float(limit)
     except (OSError, ValueError):
+        return None
+
+
+def cancel(folder: str) -> Optional[float]:
+    """Asks for the job's end. Returns for how many seconds that is asked for, None where it wasn't
+    before."""
+    file = os.path.join(folder, CANCEL)
+    try:
+        with open(file, encoding="utf-8") as asked:
+            return time.monotonic() - float(asked.read())
+    except (OSError, ValueError):
+        write_synced(file, f"{time.monotonic()}\n")
         return None
 
 

@@ -238,8 +238,9 @@ class Follower:
         self._remove_former(name)
 
     def _remove_former(self, name: str) -> None:
-        """Removes the copy before this one; of earlier processes the last is left."""
-        former = self.made or copying.copies_in(self.folder)[:-2]
+        """Removes the copy before this one; of earlier processes the last is left. (Names tell
+        moments, and a clock may have been set back.)"""
+        former = self.made or [it for it in copying.copies_in(self.folder) if it != name][:-1]
         self.made = [name]
         for old in former:
             shutil.rmtree(os.path.join(self.folder, old), ignore_errors=True)
@@ -263,9 +264,7 @@ class Follower:
         self.trouble, self.as_of = "", moment
         text = time.strftime("%Y-%m-%dT%H:%M:%S", time.gmtime(moment))
         file = os.path.join(self.folder, AS_OF)
-        with open(f"{file}.new", "w", encoding="utf-8") as note:
-            note.write(f"{text}.{int(moment % 1 * 1000):03}Z\n")
-        os.replace(f"{file}.new", file)
+        folders.write_whole(file, f"{text}.{int(moment % 1 * 1000):03}Z\n")
 
     def _behind(self) -> str:
         """For how long the standby has got nothing."""

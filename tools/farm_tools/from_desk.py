@@ -2,10 +2,9 @@
 import argparse
 import re
 import sys
-import time
 from typing import Any, Dict, List, NamedTuple, Optional, Sequence, Tuple
 
-from farm_tools import calls, lab_file, parsers, settings
+from farm_tools import calls, clocks, lab_file, parsers, settings
 
 PROGRAM = "farm-from-desk"
 ABOUT = """\
@@ -30,8 +29,6 @@ PATIENCE = 15
 REFUSED = 3
 # A farm's boards begin so.
 FIRST_HEALTH = "Maintenance"
-# How many seconds the desk's clock may be ahead of this machine's and nothing is said.
-AHEAD = 60
 
 
 def main(words: Optional[Sequence[str]] = None) -> int:
@@ -103,17 +100,9 @@ def lab_of(desk: calls.Desk, own_file: Optional[str]) -> lab_file.LabFile:
 
 def warn_of_clock(desk: calls.Desk) -> None:
     """Says where the farm's clock is ahead of this machine's: a farm's clock never falls back."""
-    ahead = desk.look("/status")["clock"] - int(time.time())
-    if ahead > AHEAD:
-        told(0, f"the farm's clock is {span(ahead)} ahead of this machine's: begin the next farm")
-
-
-def span(seconds: int) -> str:
-    """A span of time in its largest whole unit."""
-    for unit, name in [(86400, "days"), (3600, "hours"), (60, "minutes")]:
-        if seconds >= 2 * unit:
-            return f"{seconds // unit} {name}"
-    return f"{seconds} seconds"
+    ahead = clocks.ahead(desk.look("/status"), "begin the next farm")
+    if ahead:
+        told(0, ahead)
 
 
 # ---- the lab's own file
@@ -193,7 +182,7 @@ def set_health(desk: calls.Desk, file: str) -> int:
         healths = healths_of(text.read())
     for board, health in healths.items():
         if health != FIRST_HEALTH:
-            desk.tell(f"/boards/{board}/health", {"health": health}, calls.fresh_key())
+            desk.tell(f"/boards/{calls.part(board)}/health", {"health": health}, calls.fresh_key())
             print(f"{board} {health}", flush=True)
     return lab_file.CARRIED
 

@@ -1,7 +1,7 @@
 """farm-from-labgrid: a lab file from the places that labgrid's coordinator keeps."""
 import argparse
 import re
-from typing import Any, Dict, List, Optional, Sequence
+from typing import Any, Dict, List, Optional, Sequence, Tuple
 
 from farm_tools import lab_file, parsers
 
@@ -19,7 +19,7 @@ KNOWN = (
 TIMES = ("created", "changed")
 # A word of each file that isn't the coordinator's.
 OF_AN_ENVIRONMENT = {"targets", "images", "tools", "options", "imports"}
-NOTHING = (None, "", "null", "Null", "NULL", "~", [], {})
+NOTHING: Tuple[object, ...] = (None, "", "null", "Null", "NULL", "~", [], {})
 
 
 def main(words: Optional[Sequence[str]] = None) -> int:

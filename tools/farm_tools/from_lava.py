@@ -74,7 +74,7 @@ def note_database(
         rest = "tags, which stand in LAVA's database, aren't carried over: give --tags"
         lab.note(options.folder, rest)
     for name in left:
-        lab.note(options.tags, f"tags of {name} aren't carried over: there is no such device")
+        lab.note(str(options.tags), f"tags of {name} aren't carried over: there is no such device")
     rest = "what stands in LAVA's database alone isn't carried over: owners, workers, permissions"
     lab.note_usual(options.folder, rest)
 

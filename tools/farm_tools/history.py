@@ -1,8 +1,9 @@
 """The history that farm-dispatch keeps, as the proxy serves it beside the desk, or as it stands in
 the dispatcher's folder."""
+import argparse
 import collections
 import os
-from typing import Iterator, List, Optional, Union
+from typing import Any, Dict, Iterator, List, Optional, Union
 
 from farm_tools import calls, records, settings
 
@@ -12,6 +13,10 @@ NONE_SERVED = (
 )
 
 
+# So many bytes from a history's end the newest jobs are looked for, before all of it is read.
+TAIL = 500_000
+
+
 class NoLog(Exception):
     """A job has no log here."""
 
@@ -19,17 +24,18 @@ class NoLog(Exception):
 class Served:
     """The history that stands beside a desk."""
 
-    def __init__(self, desk):
+    def __init__(self, desk: calls.Desk):
         self.desk = desk
 
-    def newest(self) -> List[dict]:
+    def newest(self) -> List[Dict[str, Any]]:
         """The lines of the newest jobs, the newest first."""
         try:
-            return self.desk.look(f"/{records.NEWEST}")["jobs"]
+            jobs: List[Dict[str, Any]] = self.desk.look(f"/{records.NEWEST}")["jobs"]
+            return jobs
         except calls.Refused as refusal:
             raise self._about(refusal)
 
-    def rows(self, last: int = 0) -> Iterator[dict]:
+    def rows(self, last: int = 0) -> Iterator[Dict[str, Any]]:
         """All lines, or those of the last so many bytes, the oldest first."""
         self.desk.look("/status")  # (a desk that gives no answer at first is waited for)
         rest = b""
@@ -64,12 +70,16 @@ class Kept:
         if not os.path.isfile(self.lines):
             raise settings.BadSettings(f"{place} has no history: {self.lines} isn't there")
 
-    def newest(self) -> List[dict]:
+    def newest(self) -> List[Dict[str, Any]]:
         """The lines of the newest jobs, the newest first."""
-        jobs = (it for it in self.rows() if it["kind"] == "job")
-        return list(collections.deque(jobs, records.MOST_SHOWN))[::-1]
+        for last in (TAIL, 0):
+            rows = records.rows_of(self.lines, last)
+            jobs = collections.deque((it for it in rows if it["kind"] == "job"), records.MOST_SHOWN)
+            if len(jobs) == records.MOST_SHOWN:
+                break
+        return list(jobs)[::-1]
 
-    def rows(self, last: int = 0) -> Iterator[dict]:
+    def rows(self, last: int = 0) -> Iterator[Dict[str, Any]]:
         """All lines, the oldest first."""
         del last
         return iter(records.rows_of(self.lines))
@@ -88,7 +98,10 @@ class Kept:
             raise NoLog from fault
 
 
-def history_of(desk, options) -> Union[Served, Kept]:
+Past = Union[Served, Kept]
+
+
+def history_of(desk: calls.Desk, options: argparse.Namespace) -> Past:
     """The history of a desk: the folder's that the settings name, or the one that is served."""
     place: Optional[str] = settings.values_of("desk", options)["history"]
     return Kept(os.path.expanduser(place)) if place else Served(desk)

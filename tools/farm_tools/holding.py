@@ -1,10 +1,12 @@
 """A reservation that is given back whatever happens, and the command that runs while it is held."""
+import argparse
 import os
 import shutil
 import signal
 import subprocess
 import sys
 import time
+from typing import Any, Dict, List, Optional, Sequence, Tuple, Union
 
 from farm_tools import calls, waiting
 from farm_tools.interrupts import SIGNALS, Interrupted, check
@@ -18,17 +20,22 @@ KEYS, SI_KERNEL = (signal.SIGINT, signal.SIGQUIT), 0x80
 class Reservation:
     """A reservation of one's own, from its asking to its end."""
 
-    def __init__(self, desk, tags, priority):
+    def __init__(
+        self, desk: calls.Desk, tags: Optional[List[str]], priority: Union[int, str, None]
+    ):
         self.desk = desk
         self.tags = tags
-        self.body = {"tags": tags} if priority is None else {"tags": tags, "priority": priority}
+        self.body: Dict[str, Any] = {"tags": tags}
+        if priority is not None:
+            self.body["priority"] = priority
         self.key = calls.fresh_key()
-        self.number = None
+        self.number: Optional[int] = None
 
     def ask(self) -> int:
         """Reserves. Asked again, it is the same reservation."""
-        self.number = self.desk.tell("/reservations", self.body, self.key)["number"]
-        return self.number
+        number = int(self.desk.tell("/reservations", self.body, self.key)["number"])
+        self.number = number
+        return number
 
     def acquire(self) -> None:
         """Makes the board that it was given its owner's."""
@@ -52,7 +59,7 @@ class Reservation:
             except calls.Refused as refusal:
                 if refusal.code in (calls.EXPIRED, calls.WRONG_RESERVATION_STATE):
                     return True  # it has ended already, and holds nothing
-                fault = refusal
+                fault: Exception = refusal
             except calls.NoAnswer as silence:
                 fault = silence
             if isinstance(fault, calls.Refused) or time.monotonic() > until:
@@ -66,7 +73,7 @@ class Reservation:
         return f"reservation {self.number} is left: desk cancel-reservation {self.number}"
 
 
-def run_with_board(desk, options) -> int:
+def run_with_board(desk: calls.Desk, options: argparse.Namespace) -> int:
     """Reserves, waits, acquires, runs the command, and gives back whatever happens. Returns the
     exit status."""
     status, fault = fault_of(options.words[0])
@@ -92,7 +99,7 @@ def run_with_board(desk, options) -> int:
     return status
 
 
-def fault_of(command: str):
+def fault_of(command: str) -> Tuple[int, str]:
     """Why a command can't be run: a shell's status and its reason, 0 where it can."""
     if shutil.which(command):
         return 0, ""
@@ -101,24 +108,22 @@ def fault_of(command: str):
     return NOT_FOUND, "no such command"
 
 
-def ran_with(reservation, options) -> int:
+def ran_with(reservation: Reservation, options: argparse.Namespace) -> int:
     """The exit status of the command that ran with a reservation's board, or that of a fault."""
     try:
         options.clock.look()
-        reservation.ask()
+        number = reservation.ask()
         options.clock.note_own()
-        board = waiting.wait_for_board(
-            reservation.desk, reservation.number, reservation.tags, options
-        )
+        board = waiting.wait_for_board(reservation.desk, number, reservation.tags, options)
         reservation.acquire()
         check()
-        return run(options.words, board, reservation.number)
+        return run(options.words, board, number)
     except (calls.Refused, calls.NoAnswer, waiting.Gone) as fault:
         print(f"desk: {fault}", file=sys.stderr)
         return OF_ITSELF
 
 
-def run(words, board: dict, number: int) -> int:
+def run(words: Sequence[str], board: Dict[str, Any], number: int) -> int:
     """Runs a command, and hands signals on to it. Returns its exit status, 128 and the number for a
     signal.
 
@@ -136,7 +141,7 @@ def run(words, board: dict, number: int) -> int:
     signal.signal(signal.SIGCHLD, lambda *_: None)
     before = signal.pthread_sigmask(signal.SIG_BLOCK, (*SIGNALS, signal.SIGCHLD))
 
-    def unblock():
+    def unblock() -> None:
         signal.pthread_sigmask(signal.SIG_SETMASK, before)
 
     try:

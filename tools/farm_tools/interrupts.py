@@ -1,8 +1,10 @@
 """The signals that end the client, raised where they come."""
 import signal
+from types import FrameType
+from typing import List, Optional
 
 SIGNALS = (signal.SIGINT, signal.SIGTERM, signal.SIGHUP, signal.SIGQUIT)
-CAME = []
+CAME: List[int] = []
 
 
 class Interrupted(BaseException):
@@ -20,7 +22,7 @@ def catch_signals() -> None:
             signal.signal(number, interrupt)
 
 
-def interrupt(number: int, _frame) -> None:
+def interrupt(number: int, _frame: Optional[FrameType]) -> None:
     ignore_signals()
     CAME.append(number)
     raise Interrupted(number)

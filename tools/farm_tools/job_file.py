@@ -1,5 +1,5 @@
 """Which rule a job file breaks that the desk refused without a word on it."""
-from typing import Optional
+from typing import Any, Dict, Optional
 
 from farm_tools import toml_text, words
 from farm_tools.lab_file import HIGHEST_PRIORITY, LONGEST_JOB_FILE, MOST_WANTS
@@ -21,7 +21,7 @@ def fault_of(data: bytes) -> Optional[str]:
     return None
 
 
-def read(tree: dict) -> None:
+def read(tree: Dict[str, Any]) -> None:
     """Goes through a job file's keys."""
     title = tree.get("job_name")
     if title is None or title == "":
@@ -42,7 +42,7 @@ def read(tree: dict) -> None:
         raise BadFile("it has neither device_type nor roles")
 
 
-def read_priority(value) -> None:
+def read_priority(value: object) -> None:
     if isinstance(value, str):
         good = value in PRIORITIES
     elif isinstance(value, (int, float)) and not isinstance(value, bool):
@@ -54,7 +54,7 @@ def read_priority(value) -> None:
         raise BadFile(f"priority {value!r} is none of {named} and 0 to {HIGHEST_PRIORITY}")
 
 
-def read_roles(roles: dict) -> None:
+def read_roles(roles: Dict[str, Any]) -> None:
     boards = 0
     for name, role in sorted(roles.items(), key=lambda it: it[0].encode()):
         try:
@@ -65,7 +65,7 @@ def read_roles(roles: dict) -> None:
         raise BadFile(f"its roles want {boards} boards, and 1 to {MOST_WANTS} are given")
 
 
-def read_role(name: str, role) -> int:
+def read_role(name: str, role: Dict[str, Any]) -> int:
     """Goes through a role's keys. Returns how many boards it wants."""
     words.name_of(name, "the role's name")
     words.table_of(role, "it")

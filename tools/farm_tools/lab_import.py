@@ -1,6 +1,7 @@
 """A lab file's types and boards, added over HTTP as `farm import` adds them."""
+import argparse
 import sys
-from typing import List, NamedTuple
+from typing import Any, Dict, List, NamedTuple, Set, Tuple
 
 from farm_tools import calls, toml_text, views, words
 from farm_tools.lab_file import LONGEST_EVERY, LONGEST_LAB_FILE
@@ -16,7 +17,7 @@ class Addition(NamedTuple):
 
     section: str
     name: str
-    body: dict
+    body: Dict[str, Any]
 
     def told(self) -> str:
         return f"{self.section[:-1]} {self.name}"
@@ -46,7 +47,7 @@ def additions_of(text: str) -> List[Addition]:
     return found
 
 
-def type_of(row: dict) -> dict:
+def type_of(row: Dict[str, Any]) -> Dict[str, Any]:
     check = row.get("check", "none")
     if check not in CHECKS:
         raise BadFile("check is none of none, hours and jobs")
@@ -58,7 +59,7 @@ def type_of(row: dict) -> dict:
     return {"check": check, "every": every}
 
 
-def board_of(row: dict) -> dict:
+def board_of(row: Dict[str, Any]) -> Dict[str, Any]:
     kind = words.name_of(row.get("type"), "type")
     tags = words.tags_of(row.get("tags"))
     for tag in tags:
@@ -67,7 +68,7 @@ def board_of(row: dict) -> dict:
     return {"type": kind, "tags": tags}
 
 
-def import_lab(desk, options) -> int:
+def import_lab(desk: calls.Desk, options: argparse.Namespace) -> int:
     """Adds what a lab file lists and no earlier import added, up to the first refusal. Returns the
     exit status."""
     data = sys.stdin.buffer.read() if options.file == "-" else read_file(options.file)
@@ -108,7 +109,7 @@ def read_file(file: str) -> bytes:
         return opened.read()
 
 
-def names_at(desk) -> set:
+def names_at(desk: calls.Desk) -> Set[Tuple[str, str]]:
     """The types and boards that are there. One of these can't be added again, so an answer of 200
     for it is a kept reply; nothing is ever removed, so one for another name is a new row."""
     return {

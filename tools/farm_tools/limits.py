@@ -1,18 +1,25 @@
 """How long a job may run: `[timeouts] job` of its text, written as LAVA writes it, or the
 dispatcher's default, and never longer than the dispatcher's most."""
 import dataclasses
+import importlib
 import math
 import re
+from types import ModuleType
 from typing import List, Optional, Tuple
 
-try:
-    import tomllib
-except ImportError:  # Python before 3.11
-    try:
-        import tomli as tomllib
-    except ImportError:
-        tomllib = None
 
+
+def _reader() -> Optional[ModuleType]:
+    """Python's own reader of TOML, or tomli before Python 3.11; None where neither is there."""
+    for name in ("tomllib", "tomli"):
+        try:
+            return importlib.import_module(name)
+        except ImportError:
+            continue
+    return None
+
+
+tomllib = _reader()
 UNITS = {"days": 86400, "hours": 3600, "minutes": 60, "seconds": 1}
 PART = re.compile(r"([0-9]+(?:\.[0-9]+)?) *(day|hour|minute|second)s?(?: *,? *|$)")
 LONGEST = 1e9

@@ -1,11 +1,14 @@
 """farm-metrics: what a desk shows, in Prometheus' text format."""
 import argparse
 import http.server
+import os
 import sys
 import threading
 from typing import Optional, Sequence
 
-from farm_tools import calls, collecting, interrupts, parsers, prometheus, settings
+from farm_tools import (
+    calls, collecting, folders, interrupts, parsers, passes, prometheus, settings
+)
 
 PROGRAM = "farm-metrics"
 FAULT = 4
@@ -35,15 +38,17 @@ def main(words: Optional[Sequence[str]] = None) -> int:
         desk = calls.Desk(settings.read_settings("desk", options, "metrics"), patience=0)
         desk.timeout = min(desk.timeout, LONGEST_LOOK)
         state = options.state or (options.textfile and f"{options.textfile}.state")
-        metrics = Metrics(collecting.Collector(desk, options.history, state))
+        beside = os.path.join(os.path.dirname(options.history), passes.FILE)
+        counted = options.passes or beside
+        metrics = Metrics(collecting.Collector(desk, options.history, counted, state))
         if options.listen is not None:
             listen(metrics, options.listen)
         text = metrics.text()
         if options.textfile:
-            collecting.write(options.textfile, text, 0o644)
+            folders.write_whole(options.textfile, text)
         else:
             print(text, end="", flush=True)
-        return FAULT if metrics.collector.trouble else 0
+        return FAULT if metrics.collector.trouble or metrics.collector.lost else 0
     except interrupts.Interrupted as interrupted:
         return 0 if options.listen is not None else interrupted.status
     except (settings.BadSettings, OSError) as fault:
@@ -53,7 +58,7 @@ def main(words: Optional[Sequence[str]] = None) -> int:
 
 def parser_of() -> parsers.Parser:
     parser = parsers.parser_of(PROGRAM, ABOUT, STATUSES)
-    rest = "[--history FILE] [--state FILE] [settings]"
+    rest = "[--history FILE] [--passes FILE] [--state FILE] [settings]"
     parser.forms = (
         f"{PROGRAM} [--textfile PATH] {rest}",
         f"{PROGRAM} --listen PORT {rest}",
@@ -69,6 +74,10 @@ free."""
 The dispatcher's history (default %(default)s). It is read once, and then each time only what is
 new."""
     parser.add_argument("--history", metavar="FILE", default=HISTORY, help=about)
+    about = f"""\
+How many passes the dispatcher asked for, and when the last (default {passes.FILE} in the folder of
+the history)."""
+    parser.add_argument("--passes", metavar="FILE", help=about)
     about = """\
 What is kept for the next time: since when claims are seen, and the counts of the history (default
 PATH.state with --textfile; else nothing is kept)."""
@@ -115,8 +124,12 @@ class Metrics:
         if self.collector.trouble:
             server = self.collector.desk.server
             troubles.append(f"no answer from the desk at {server}: {self.collector.trouble}")
+        if self.collector.passes.trouble:
+            troubles.append(f"passes aren't counted: {self.collector.passes.trouble}")
         if self.collector.history.trouble:
             troubles.append(f"jobs aren't counted: {self.collector.history.trouble}")
+        if self.collector.lost:
+            troubles.append(f"nothing is kept for the next time: {self.collector.lost}")
         for it in troubles:
             if it not in self.told:
                 tell(it)
@@ -151,7 +164,7 @@ def listen(metrics: Metrics, port: int) -> None:
             self.end_headers()
             self.wfile.write(body)
 
-        def log_message(self, *_) -> None:
+        def log_message(self, *_: object) -> None:
             """Says nothing of a request."""
 
     with http.server.ThreadingHTTPServer(("127.0.0.1", port), Handler) as server:

@@ -3,7 +3,7 @@ logs, by which a proxy serves them: a file a job, whose name is its number."""
 import json
 import os
 import time
-from typing import Iterable, List, Optional, Set, Tuple
+from typing import Any, Dict, Iterable, List, Optional, Set, Tuple
 
 from farm_tools import calls, folders, records, toml_text
 from farm_tools.lab_file import MOST_WANTS
@@ -15,10 +15,12 @@ LONGEST_NAME = 200
 class Past:
     """The past of a desk's jobs and boards, in a dispatcher's folder."""
 
-    def __init__(self, desk, place: str, is_open: Set[int]):
+    def __init__(self, desk: calls.Desk, place: str, is_open: Set[int]):
         """`is_open` are the groups that aren't known to have ended."""
         self.desk = desk
         self.logs = folders.made_for_all(os.path.join(place, "logs"))
+        for cut in (it for it in os.listdir(self.logs) if it.endswith(".new")):
+            os.unlink(os.path.join(self.logs, cut))
         self.history = records.History(place, is_open)
         self.submissions = Submissions(place)
 
@@ -33,11 +35,11 @@ class Past:
         if not self.history.is_shown:
             self.history.show()
 
-    def see(self, boards: List[dict]) -> None:
+    def see(self, boards: List[Dict[str, Any]]) -> None:
         """Notes how the health of boards has changed."""
         self.history.see(boards)
 
-    def prepare(self, folder: str, members: List[dict]) -> List[str]:
+    def prepare(self, folder: str, members: List[Dict[str, Any]]) -> List[str]:
         """Notes in a group's folder what its history will say, and lets its log be served under the
         number of each member. Returns why it isn't, where it isn't."""
         about = json.dumps(_about(members))
@@ -89,11 +91,12 @@ class Past:
         names = [it for it in os.listdir(self.logs) if it.isdigit()]
         return [(int(it), os.path.join(self.logs, it)) for it in names]
 
-    def _about_in(self, folder: str) -> dict:
+    def _about_in(self, folder: str) -> Dict[str, Any]:
         """What stands in a group's folder; in one that an earlier version made, by the desk."""
         try:
             with open(os.path.join(folder, folders.ABOUT), encoding="utf-8") as file:
-                return json.load(file)
+                said: Dict[str, Any] = json.load(file)
+                return said
         except FileNotFoundError:
             pass
         with open(os.path.join(folder, "boards.json"), encoding="utf-8") as file:
@@ -112,7 +115,7 @@ class Past:
         moment = self.submissions.moment_of(number)
         return None if moment is None else min(moment, began)
 
-    def _result_of(self, member: dict, owner: str) -> str:
+    def _result_of(self, member: Dict[str, Any], owner: str) -> str:
         """How a job ended, as the desk says; nothing where that doesn't know it any more."""
         try:
             view = self.desk.look(f"/jobs/{member['job']}")
@@ -121,10 +124,10 @@ class Past:
                 raise
             return ""
         is_it = (view["owner"], view["board"]) == (owner, member["board"])
-        return view["result"] if is_it else ""
+        return str(view["result"]) if is_it else ""
 
 
-def _about(members: List[dict]) -> dict:
+def _about(members: List[Dict[str, Any]]) -> Dict[str, Any]:
     """What the history will say of a group that got its boards, by its members' views."""
     first = members[0]
     return {

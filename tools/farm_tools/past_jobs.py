@@ -1,8 +1,9 @@
 """Jobs that ended beside those that are open, their logs, a board's past, and a job's text once
 more."""
+import argparse
 import sys
 import time
-from typing import Dict, Iterable, List, Optional, Set
+from typing import Any, Dict, Iterable, List, Optional, Set
 
 from farm_tools import calls, history, interrupts, records, tables, toml_text, views, wants
 
@@ -16,7 +17,7 @@ TAIL = 4_000_000
 # ---- what there is and was
 
 
-def list_jobs(desk, options) -> int:
+def list_jobs(desk: calls.Desk, options: argparse.Namespace) -> int:
     """Shows the jobs that haven't ended, and the last ones that have."""
     now = open_jobs(desk, desk.user if options.mine else None)
     try:
@@ -35,10 +36,10 @@ def list_jobs(desk, options) -> int:
     return 0
 
 
-def open_jobs(desk, owner: Optional[str]) -> List[dict]:
+def open_jobs(desk: calls.Desk, owner: Optional[str]) -> List[Dict[str, Any]]:
     """The jobs that hold boards, by their views, and the groups that wait, each by its first
     member's view as far as there is time to ask for it, else by its claim; the newest first."""
-    found: Dict[int, dict] = {}
+    found: Dict[int, Dict[str, Any]] = {}
     until = time.monotonic() + wants.LONGEST_ASKED
     claims = [it for it in desk.look("/queue")["queue"] if it["kind"] == "group"]
     for place, claim in enumerate(it for it in claims if owner in (None, it["owner"])):
@@ -50,10 +51,10 @@ def open_jobs(desk, owner: Optional[str]) -> List[dict]:
             found[int(number)] = view_of(desk, int(number))
     rows = [it for it in found.values() if it and owner in (None, it["owner"])]
     rows = [it for it in rows if it.get("state") != "Finished"]
-    return sorted(rows, key=lambda it: -it["number"])
+    return sorted(rows, key=lambda it: -int(it["number"]))
 
 
-def view_of(desk, number: int) -> dict:
+def view_of(desk: calls.Desk, number: int) -> Dict[str, Any]:
     """A job's view, or nothing where there is no such job."""
     try:
         return desk.look(f"/jobs/{number}")
@@ -63,7 +64,7 @@ def view_of(desk, number: int) -> dict:
         return {}
 
 
-def last_jobs(past, owner: Optional[str], count: int) -> List[dict]:
+def last_jobs(past: history.Past, owner: Optional[str], count: int) -> List[Dict[str, Any]]:
     """The last jobs that ended, of one owner where that is named; the newest first."""
     newest = past.newest()
     found = [it for it in newest if owner in (None, it["owner"])]
@@ -73,7 +74,7 @@ def last_jobs(past, owner: Optional[str], count: int) -> List[dict]:
     return found[:count]
 
 
-def row_of_open(view: dict) -> dict:
+def row_of_open(view: Dict[str, Any]) -> Dict[str, Any]:
     """A row of a job that hasn't ended: its view, or its claim in the queue."""
     return {
         "number": view["number"],
@@ -88,7 +89,7 @@ def row_of_open(view: dict) -> dict:
     }
 
 
-def name_of(view: dict) -> str:
+def name_of(view: Dict[str, Any]) -> str:
     """The name of a job that hasn't ended, where its view has it."""
     if view.get("kind") == "check":
         return records.CHECK
@@ -98,7 +99,7 @@ def name_of(view: dict) -> str:
         return ""
 
 
-def row_of_ended(row: dict) -> dict:
+def row_of_ended(row: Dict[str, Any]) -> Dict[str, Any]:
     return {
         "number": row["job"],
         "state": row["outcome"],
@@ -128,7 +129,7 @@ COLUMNS = [
 # ---- a board
 
 
-def show_history(desk, options) -> int:
+def show_history(desk: calls.Desk, options: argparse.Namespace) -> int:
     """Shows what became of a board, the newest first: its jobs, and how its health changed."""
     past = history.history_of(desk, options)
     rows = [it for it in past.rows() if options.board in boards_of(it)][::-1]
@@ -139,23 +140,23 @@ def show_history(desk, options) -> int:
     return views.show(options, {"history": rows}, rows, BOARD_COLUMNS)
 
 
-def boards_of(row: dict) -> List[str]:
-    return row["boards"] if row["kind"] == "job" else [row["board"]]
+def boards_of(row: Dict[str, Any]) -> List[str]:
+    return list(row["boards"]) if row["kind"] == "job" else [row["board"]]
 
 
-def names_of(boards: Iterable[dict]) -> List[str]:
+def names_of(boards: Iterable[Dict[str, Any]]) -> List[str]:
     return [it["name"] for it in boards]
 
 
-def what_of(row: dict) -> str:
+def what_of(row: Dict[str, Any]) -> str:
     if row["kind"] == "health":
         return f"{row['from']} to {row['to']}"
     return f"job {row['job']} {row['outcome']}"
 
 
-def about_of(row: dict) -> str:
+def about_of(row: Dict[str, Any]) -> str:
     if row["kind"] == "health":
-        return row["reason"]
+        return str(row["reason"])
     return ": ".join(it for it in (row["name"], row["reason"]) if it)
 
 
@@ -171,7 +172,7 @@ BOARD_COLUMNS = [
 # ---- a job's log, and its text
 
 
-def show_log(desk, options) -> int:
+def show_log(desk: calls.Desk, options: argparse.Namespace) -> int:
     """Prints a job's log; with --follow all that is added to it until the job has ended."""
     log = Log(history.history_of(desk, options), options.number)
     if not options.follow:
@@ -193,15 +194,15 @@ def show_log(desk, options) -> int:
             time.sleep(options.every)
 
 
-def is_to_come(desk, number: int) -> bool:
+def is_to_come(desk: calls.Desk, number: int) -> bool:
     """Whether a job hasn't ended."""
-    return view_of(desk, number).get("state", "Finished") != "Finished"
+    return str(view_of(desk, number).get("state", "Finished")) != "Finished"
 
 
 class Log:
     """A job's log as it is printed."""
 
-    def __init__(self, past, number: int):
+    def __init__(self, past: history.Past, number: int):
         self.past = past
         self.number = number
         self.printed = 0
@@ -218,7 +219,7 @@ class Log:
         except history.NoLog:
             return False
 
-    def tell_none(self, desk) -> int:
+    def tell_none(self, desk: calls.Desk) -> int:
         """Tells why there is no log. Returns the exit status."""
         self.tell_once(why_no_log(desk, self.number))
         return REFUSED
@@ -229,7 +230,7 @@ class Log:
             print(f"desk: {text}", file=sys.stderr, flush=True)
 
 
-def why_no_log(desk, number: int) -> str:
+def why_no_log(desk: calls.Desk, number: int) -> str:
     """Why a job has no log."""
     view = view_of(desk, number)
     if not view:
@@ -239,11 +240,11 @@ def why_no_log(desk, number: int) -> str:
     return f"job {number} is {view['state']}, and has no log yet"
 
 
-def text_of(desk, number: int) -> Optional[bytes]:
+def text_of(desk: calls.Desk, number: int) -> Optional[bytes]:
     """The text by which a job's group was submitted, as the desk keeps it; none of a check."""
     view = desk.look(f"/jobs/{number}")
     if view["kind"] == "check":
         return None
     if view["group"] != number:
         view = desk.look(f"/jobs/{view['group']}")
-    return view["text"].encode()
+    return str(view["text"]).encode()

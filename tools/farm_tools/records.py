@@ -8,13 +8,12 @@ import collections
 import json
 import os
 import time
-from typing import Callable, Deque, Dict, Iterable, List, NamedTuple, Optional, Set, Tuple
+from typing import Any, Deque, Dict, Iterable, List, NamedTuple, Optional, Set, Tuple
 
 from farm_tools import folders
 
 LINES, NEWEST, HEALTHS = "history.jsonl", "history.json", "healths.json"
 MOST_SHOWN = 200
-READABLE = 0o644  # by the proxy's user too
 CHECK = "health check"  # the name of a job that the desk makes itself
 BY_ADMIN = "by the admin"
 BLOCK = 65536
@@ -44,8 +43,8 @@ class History:
         self.lines = os.path.join(place, LINES)
         self.newest = os.path.join(place, NEWEST)
         self.known = os.path.join(place, HEALTHS)
-        self.jobs: Deque[dict] = collections.deque(maxlen=MOST_SHOWN)
-        self.boards: Deque[dict] = collections.deque(maxlen=MOST_SHOWN)
+        self.jobs: Deque[Dict[str, Any]] = collections.deque(maxlen=MOST_SHOWN)
+        self.boards: Deque[Dict[str, Any]] = collections.deque(maxlen=MOST_SHOWN)
         # of groups that aren't settled: when each member began that has its line
         self.written: Dict[int, Dict[int, int]] = {}
         self.effects: Dict[str, Effect] = {}  # of jobs that ended, until the health is seen
@@ -58,7 +57,7 @@ class History:
                 self._note_written(row)
         self.show()
 
-    def add_jobs(self, rows: List[dict]) -> None:
+    def add_jobs(self, rows: List[Dict[str, Any]]) -> None:
         """Adds the lines of jobs that ended, of those that have none yet."""
         new = [
             it for it in rows if self.written.get(it["group"], {}).get(it["job"]) != it["began"]
@@ -67,14 +66,14 @@ class History:
         for row in new:
             self._note_written(row)
 
-    def _note_written(self, row: dict) -> None:
+    def _note_written(self, row: Dict[str, Any]) -> None:
         self.written.setdefault(row["group"], {})[row["job"]] = row["began"]
 
     def settle(self, group: int) -> None:
         """This group has its lines, which are never added again."""
         self.written.pop(group, None)
 
-    def see(self, boards: List[dict]) -> None:
+    def see(self, boards: List[Dict[str, Any]]) -> None:
         """Adds a line for each of these boards whose health isn't what it was when it was seen
         before."""
         now = {it["name"]: it["health"] for it in boards}
@@ -102,14 +101,14 @@ class History:
         }
         self.is_shown = _write(self.newest, newest)
 
-    def _add(self, rows: List[dict]) -> None:
+    def _add(self, rows: List[Dict[str, Any]]) -> None:
         if rows:
             _append(self.lines, rows)
             for row in rows:
                 self._take(row)
             self.show()
 
-    def _take(self, row: dict) -> None:
+    def _take(self, row: Dict[str, Any]) -> None:
         """Takes a line into what is known."""
         if row["kind"] == "health":
             self.boards.append(row)
@@ -132,12 +131,12 @@ class History:
         return BY_ADMIN
 
 
-def is_check(row: dict) -> bool:
+def is_check(row: Dict[str, Any]) -> bool:
     """Whether a job's line is of a health check."""
-    return row["name"] == CHECK and row["owner"] == "admin"
+    return (row["name"], row["owner"]) == (CHECK, "admin")
 
 
-def _effect_of(row: dict) -> Optional[Effect]:
+def _effect_of(row: Dict[str, Any]) -> Optional[Effect]:
     """What a job's end does to its board's health: the desk's rules (MACHINE.md, Finish)."""
     if row["outcome"] == "Canceled":
         return None
@@ -150,10 +149,13 @@ def _effect_of(row: dict) -> Optional[Effect]:
     return None
 
 
-def rows_of(file: str) -> Iterable[dict]:
-    """The lines of a history, from the oldest on; what is none is passed over."""
+def rows_of(file: str, last: int = 0) -> Iterable[Dict[str, Any]]:
+    """The lines of a history, or those of its last so many bytes, from the oldest on; what is none
+    is passed over."""
     try:
         with open(file, "rb") as lines:
+            if last:
+                lines.seek(max(0, os.fstat(lines.fileno()).st_size - last))
             for line in lines:
                 row = row_of(line)
                 if row is not None:
@@ -162,7 +164,7 @@ def rows_of(file: str) -> Iterable[dict]:
         return
 
 
-def row_of(line: bytes) -> Optional[dict]:
+def row_of(line: bytes) -> Optional[Dict[str, Any]]:
     """What a line of a history says, or None where it isn't one."""
     try:
         row = json.loads(line)
@@ -174,15 +176,15 @@ def row_of(line: bytes) -> Optional[dict]:
     return row if wanted and all(it in row for it in wanted) else None
 
 
-def _append(file: str, rows: List[dict]) -> None:
+def _append(file: str, rows: List[Dict[str, Any]]) -> None:
     """Adds lines to a history, all of them or none, behind its last whole one, and waits until they
     are on the disk."""
     text = "".join(f"{json.dumps(it, ensure_ascii=False, separators=(',', ':'))}\n" for it in rows)
     left = text.encode(errors="replace")
     is_new = not os.path.exists(file)
-    opened = os.open(file, os.O_RDWR | os.O_APPEND | os.O_CREAT | os.O_CLOEXEC, READABLE)
+    opened = os.open(file, os.O_RDWR | os.O_APPEND | os.O_CREAT | os.O_CLOEXEC, folders.READABLE)
     try:
-        os.fchmod(opened, READABLE)
+        os.fchmod(opened, folders.READABLE)
         size = _mended(opened)
         try:
             while left:
@@ -218,12 +220,9 @@ def _mended(opened: int) -> int:
 
 def _write(file: str, said: object) -> bool:
     """Writes a file whole or not at all. Returns whether there was room for it."""
+    text = json.dumps(said, ensure_ascii=False, separators=(",", ":"))
     try:
-        with open(f"{file}.new", "w", encoding="utf-8", errors="replace") as new:
-            os.fchmod(new.fileno(), READABLE)
-            json.dump(said, new, ensure_ascii=False, separators=(",", ":"))
-            new.write("\n")
-        os.replace(f"{file}.new", file)
+        folders.write_whole(file, f"{text}\n")
         return True
     except OSError:
         return False

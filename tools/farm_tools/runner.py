@@ -12,15 +12,16 @@ import signal
 import subprocess
 import sys
 import time
-from typing import Sequence
+from typing import Optional, Sequence
 
 from farm_tools import commands, folders, limits
 
 LOOKS = 0.5
+RETRY = 1.0
 LOG_OPENED = os.O_WRONLY | os.O_APPEND | os.O_CREAT | os.O_CLOEXEC
 
 
-def main(words) -> int:
+def main(words: Sequence[str]) -> int:
     folder, grace, command = words[0], float(words[1]), words[4:]
     try:
         lock = lock_of(folder)
@@ -32,9 +33,20 @@ def main(words) -> int:
     signal.signal(signal.SIGTERM, signal.SIG_IGN)
     signal.signal(signal.SIGHUP, signal.SIG_IGN)
     how = ran(folder, grace, limit, command, lock)
-    folders.write_synced(os.path.join(folder, folders.ENDED), f"{how}\n")
+    keep_end(folder, how)
     wake(os.path.dirname(os.path.dirname(folder)))
     return 0
+
+
+def keep_end(folder: str, how: str) -> None:
+    """Notes how the job ended. Where there is no room for it this waits until there is: without
+    the note a job that went well would be a lost one. Nobody waits where the folder was removed."""
+    while os.path.isdir(folder):
+        try:
+            folders.write_synced(os.path.join(folder, folders.ENDED), f"{how}\n")
+            return
+        except OSError:
+            time.sleep(RETRY)
 
 
 def text_of(folder: str) -> str:
@@ -46,7 +58,7 @@ def text_of(folder: str) -> str:
         return ""
 
 
-def lock_of(folder: str):
+def lock_of(folder: str) -> Optional[int]:
     """The folder's lock, or None where another runs the job. The dispatcher, which tries whether it
     is held, lets go of it at once."""
     for _ in range(40):
@@ -81,7 +93,7 @@ def ran(
     return f"{folders.TIME_LIMIT} of {limit.words()}, {how}" if late else how
 
 
-def started(folder: str, command: Sequence[str], lock: int) -> subprocess.Popen:
+def started(folder: str, command: Sequence[str], lock: int) -> "subprocess.Popen[bytes]":
     """The command's process, once it runs. Its children have the folder's lock too. Where this
     raises OSError nothing runs."""
     fault = commands.fault_of(command)

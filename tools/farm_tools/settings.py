@@ -10,12 +10,13 @@ import os
 import re
 import stat
 import urllib.parse
-from typing import Callable, Dict, Optional, Sequence
+from typing import Callable, Dict, Optional, Sequence, Tuple
 
 from farm_tools.parsers import Parser
 
 SYSTEM_FILE, OWN_FILE = "/etc/farm/desk.ini", "~/.config/farm/desk.ini"
 SERVER = "http://127.0.0.1:8080"
+NO_LOGIN = "a server's address has no user and no password in it: --user and --password-file"
 LOOPBACK = ("127.0.0.1", "localhost", "::1")
 WORDS = ("server", "user", "password_file", "ca_file", "timeout")
 OF_DESK = ("history",)
@@ -47,8 +48,8 @@ class Settings:
 
     server: str
     user: str
-    password: str
-    ca_file: str
+    password: Optional[str]
+    ca_file: Optional[str]
     timeout: float
 
 
@@ -75,7 +76,7 @@ def add_options(
     return group
 
 
-def values_of(section: str, options) -> Dict[str, Optional[str]]:
+def values_of(section: str, options: argparse.Namespace) -> Dict[str, Optional[str]]:
     """What is said for each setting of a section: options go before the environment
     (SECTION_SERVER), and files last. A setting that there isn't ends the tool as a misspelt option
     does, with status 2."""
@@ -88,15 +89,17 @@ def values_of(section: str, options) -> Dict[str, Optional[str]]:
     }
 
 
-def read_settings(section: str, options, user=None) -> Settings:
+def read_settings(
+    section: str, options: argparse.Namespace, user: Optional[str] = None
+) -> Settings:
     """The settings of a tool's calls.
 
     `user` is who asks where nothing names one; without it, the name in ~/.netrc or of the login.
     """
     found = values_of(section, options)
     server = found["server"] or SERVER
-    address = _address(server)
-    login, password = _password_of(found["password_file"], address.hostname)
+    address = address_of(server)
+    login, password = _password_of(found["password_file"], address.hostname or "")
     asks = found["user"] or user or login or getpass.getuser()
     if not re.fullmatch("[A-Za-z0-9_.-]{1,48}", asks):
         raise BadSettings(f"{asks!r} is no name of a user")
@@ -104,7 +107,7 @@ def read_settings(section: str, options, user=None) -> Settings:
         password = None
     if password is not None and address.scheme == "http" and address.hostname not in LOOPBACK:
         raise BadSettings(f"a password isn't sent to {server}, which has no TLS")
-    ca_file = found["ca_file"] and os.path.expanduser(found["ca_file"])
+    ca_file = os.path.expanduser(found["ca_file"]) if found["ca_file"] else None
     return Settings(server, asks, password, ca_file, _seconds(found["timeout"] or "30"))
 
 
@@ -167,9 +170,13 @@ def meant(word: str, known: Sequence[str], head: str = "") -> str:
     return f"there are {', '.join(head + it for it in known)}"
 
 
-def _address(server: str):
+def address_of(server: str) -> urllib.parse.SplitResult:
+    """A server's address, part by part. One with a user in it isn't taken, nor told: it may have a
+    password, and others see words and messages."""
     try:
         address = urllib.parse.urlsplit(server)
+        if "@" in address.netloc:
+            raise BadSettings(NO_LOGIN)
         if address.scheme in ("http", "https") and address.hostname and (address.port or 1) > 0:
             return address
     except ValueError:
@@ -177,7 +184,7 @@ def _address(server: str):
     raise BadSettings(f"{server} is no address of a server, as {SERVER} is one")
 
 
-def _password_of(file, host: str):
+def _password_of(file: Optional[str], host: str) -> Tuple[Optional[str], Optional[str]]:
     """Whom a password belongs to, where ~/.netrc says so, and the password."""
     if file:
         return None, _first_line(os.path.expanduser(file))

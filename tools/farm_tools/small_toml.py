@@ -3,7 +3,9 @@ TOML 1.0, which the later ones read. Moments are given as Moment, since no file 
 one that counts."""
 import datetime
 import re
-from typing import List, NamedTuple
+from typing import (
+    Any, Callable, Dict, List, Match, NamedTuple, Optional, Pattern, Set, Tuple, Union
+)
 
 CONTROL = re.compile("[\0-\b\v-\x1f\x7f]")
 BLANK = re.compile(r"(?:[ \t\n]|#[^\n]*)*")
@@ -35,7 +37,7 @@ class Moment(NamedTuple):
     text: str
 
 
-def loads(text: str) -> dict:
+def loads(text: str) -> Dict[str, Any]:
     """The tables of a text. Raises ValueError where it isn't TOML."""
     return Reader(text).document()
 
@@ -46,14 +48,14 @@ class Reader:
     def __init__(self, text: str):
         self.text = text.replace("\r\n", "\n")
         self.at = 0
-        self.headed = set()  # tables that a line of their own named
-        self.dotted = set()  # tables that a key with dots made
-        self.closed = set()  # tables and arrays that stand as values
+        self.headed: Set[int] = set()  # tables that a line of their own named
+        self.dotted: Set[int] = set()  # tables that a key with dots made
+        self.closed: Set[int] = set()  # tables and arrays that stand as values
 
     def fault(self, what: str) -> ValueError:
         return ValueError(f"{what} (at line {self.text.count(chr(10), 0, self.at) + 1})")
 
-    def take(self, pattern):
+    def take(self, pattern: Pattern[str]) -> Optional[Match[str]]:
         """The match of a pattern that stands here, which is passed over, or None."""
         found = pattern.match(self.text, self.at)
         if found:
@@ -73,12 +75,12 @@ class Reader:
 
     # ---- lines
 
-    def document(self) -> dict:
+    def document(self) -> Dict[str, Any]:
         control = CONTROL.search(self.text)
         if control:
             self.at = control.start()
             raise self.fault("a byte stands there that no text has")
-        root: dict = {}
+        root: Dict[str, Any] = {}
         table = root
         while True:
             self.take(BLANK)
@@ -108,13 +110,13 @@ class Reader:
                 return found
 
     def quoted_key(self) -> str:
-        for pattern, read in ((BASIC, self.unescaped), (LITERAL, str)):
+        for pattern, read in self.quoted()[1::2]:
             key = self.take(pattern)
             if key:
                 return read(key.group(1))
         raise self.fault("a key is missing")
 
-    def inner(self, table: dict, key: str) -> dict:
+    def inner(self, table: Dict[str, Any], key: str) -> Dict[str, Any]:
         """The table under a key, the last of an array of tables; a new one where none is."""
         found = table.setdefault(key, {})
         if isinstance(found, list) and found and id(found) not in self.closed:
@@ -123,7 +125,7 @@ class Reader:
             raise self.fault(f"{key} is a value already")
         return found
 
-    def headed_table(self, root: dict, keys: List[str]) -> dict:
+    def headed_table(self, root: Dict[str, Any], keys: List[str]) -> Dict[str, Any]:
         table = root
         for key in keys[:-1]:
             table = self.inner(table, key)
@@ -134,17 +136,18 @@ class Reader:
         self.headed.add(id(found))
         return found
 
-    def added_to_array(self, root: dict, keys: List[str]) -> dict:
+    def added_to_array(self, root: Dict[str, Any], keys: List[str]) -> Dict[str, Any]:
         table = root
         for key in keys[:-1]:
             table = self.inner(table, key)
         found = table.setdefault(keys[-1], [])
         if not isinstance(found, list) or id(found) in self.closed:
             raise self.fault(f"{'.'.join(keys)} is no array of tables")
-        found.append({})
-        return found[-1]
+        added: Dict[str, Any] = {}
+        found.append(added)
+        return added
 
-    def pair(self, table: dict) -> None:
+    def pair(self, table: Dict[str, Any]) -> None:
         keys = self.keys()
         self.demand("=")
         for key in keys[:-1]:
@@ -158,14 +161,18 @@ class Reader:
 
     # ---- values
 
-    def value(self):
-        self.take(SPACE)
-        for pattern, read in (
+    def quoted(self) -> List[Tuple[Pattern[str], Callable[[str], str]]]:
+        """The ways to quote a text, a long one before a short one, and how each is read."""
+        return [
             (LONG_BASIC, self.unescaped),
             (BASIC, self.unescaped),
             (LONG_LITERAL, str),
             (LITERAL, str),
-        ):
+        ]
+
+    def value(self) -> Any:
+        self.take(SPACE)
+        for pattern, read in self.quoted():
             found = self.take(pattern)
             if found:
                 return read(found.group(1))
@@ -178,7 +185,7 @@ class Reader:
                 return value
         return self.number()
 
-    def number(self):
+    def number(self) -> Union[int, float, Moment]:
         moment = self.take(MOMENT)
         if moment:
             return self.moment(moment.group())
@@ -199,8 +206,8 @@ class Reader:
             raise self.fault(f"{text} is no moment") from fault
         return Moment(text)
 
-    def array(self) -> list:
-        found: list = []
+    def array(self) -> List[Any]:
+        found: List[Any] = []
         self.closed.add(id(found))
         while True:
             self.take(BLANK)
@@ -212,8 +219,8 @@ class Reader:
                 self.demand("]")
                 return found
 
-    def inline_table(self) -> dict:
-        found: dict = {}
+    def inline_table(self) -> Dict[str, Any]:
+        found: Dict[str, Any] = {}
         while True:
             self.take(BLANK)
             if self.passed("}"):
@@ -226,14 +233,14 @@ class Reader:
         self.close(found)
         return found
 
-    def close(self, table: dict) -> None:
+    def close(self, table: Dict[str, Any]) -> None:
         self.closed.add(id(table))
         for it in table.values():
             if isinstance(it, dict):
                 self.close(it)
 
     def unescaped(self, text: str) -> str:
-        def meaning(found) -> str:
+        def meaning(found: Match[str]) -> str:
             code = found.group(1) or found.group(2) or found.group(3)
             if code:
                 return self.character(int(code, 16))

@@ -6,6 +6,8 @@ import os
 import time
 from typing import List, NamedTuple, Optional
 
+from farm_tools import folders
+
 MOST = 20_000  # looks that are kept: as many as find a new number
 SURE = 60  # seconds between two looks, at most: else it isn't known when a number was given
 
@@ -69,9 +71,7 @@ class Submissions:
 
     def _write(self) -> None:
         try:
-            with open(f"{self.file}.new", "w", encoding="ascii") as new:
-                new.writelines(map(_line_of, self.looks))
-            os.replace(f"{self.file}.new", self.file)
+            folders.write_whole(self.file, "".join(map(_line_of, self.looks)))
         except OSError:
             pass  # as above
 

@@ -1,8 +1,10 @@
 """Views of the desk as lines of text."""
 import time
+from typing import Any, Callable, Dict, List, Sequence, Tuple
 
 # The columns of each view: title, and what a row has there.
-BOARDS = [
+Column = Tuple[str, Callable[[Dict[str, Any]], Any]]
+BOARDS: List[Column] = [
     ("NAME", lambda it: it["name"]),
     ("TYPE", lambda it: it["type"]),
     ("HEALTH", lambda it: it["health"]),
@@ -10,7 +12,7 @@ BOARDS = [
     ("HOLDER", lambda it: it["holder"].replace("none", "-")),
     ("TAGS", lambda it: " ".join(it["tags"])),
 ]
-QUEUE = [
+QUEUE: List[Column] = [
     ("PLACE", lambda it: it["place"]),
     ("NUMBER", lambda it: it["number"]),
     ("KIND", lambda it: it["kind"]),
@@ -19,8 +21,8 @@ QUEUE = [
     ("OWNER", lambda it: it["owner"]),
 ]
 # where a claim of the queue has one
-NOTE = [("NOTE", lambda it: it["note"])]
-JOBS = [
+NOTE: List[Column] = [("NOTE", lambda it: it["note"])]
+JOBS: List[Column] = [
     ("NUMBER", lambda it: it["number"]),
     ("GROUP", lambda it: it["group"]),
     ("KIND", lambda it: it["kind"]),
@@ -33,7 +35,7 @@ JOBS = [
     ("OWNER", lambda it: it["owner"]),
     ("TAGS", lambda it: " ".join(it["tags"])),
 ]
-RESERVATIONS = [
+RESERVATIONS: List[Column] = [
     ("NUMBER", lambda it: it["number"]),
     ("STATE", lambda it: it["state"]),
     ("LEFT", lambda it: time_left(it, time.time())),
@@ -47,7 +49,7 @@ ENDED = ("expired", "canceled")
 WIDEST = 60  # a job's name, or a reason
 
 
-def time_left(reservation: dict, now: float) -> str:
+def time_left(reservation: Dict[str, Any], now: float) -> str:
     """For how long a lease still runs by this machine's clock; an acquired reservation has no
     end."""
     if reservation["state"] not in LEASED:
@@ -71,7 +73,7 @@ def printable(text: str) -> str:
     return shown if len(shown) <= WIDEST else f"{shown[: WIDEST - 2]}.."
 
 
-def lines_of(rows, columns) -> list:
+def lines_of(rows: Sequence[Dict[str, Any]], columns: Sequence[Column]) -> List[str]:
     """A line of titles and a line a row; numbers stand at the right of their column."""
     cells = [[call(row) for _, call in columns] for row in rows]
     texts = [[title for title, _ in columns]] + [[str(it) for it in row] for row in cells]

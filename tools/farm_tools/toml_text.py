@@ -1,11 +1,11 @@
 """TOML texts, read by Python's own reader where there is one, which reads TOML 1.0; what it doesn't
 read, by the small one of these tools, so that 1.1 is read as the desk reads it."""
 import bisect
-from typing import Sequence
+from typing import Any, Callable, Dict, List, Sequence
 
 from farm_tools import small_toml
 
-READERS = [small_toml.loads]
+READERS: List[Callable[[str], Dict[str, Any]]] = [small_toml.loads]
 try:
     import tomllib
 except ImportError:
@@ -18,7 +18,7 @@ class NotToml(Exception):
     """A text isn't TOML."""
 
 
-def tree_of(text: str) -> dict:
+def tree_of(text: str) -> Dict[str, Any]:
     """The tables of a text. What it lacks is told by the first reader."""
     faults = []
     for read in READERS:
@@ -35,17 +35,17 @@ def line_of(text: str, path: Sequence[str]) -> int:
     return bisect.bisect_left(_Prefixes(text.split("\n"), path), True) + 1
 
 
-class _Prefixes(Sequence):
+class _Prefixes(Sequence[bool]):
     """Whether a text's first lines have something under a path, for each count of lines from 1 on;
     a value that goes over several lines counts with its first one."""
 
-    def __init__(self, lines, path):
+    def __init__(self, lines: Sequence[str], path: Sequence[str]):
         self.lines, self.path = lines, path
 
     def __len__(self) -> int:
         return len(self.lines)
 
-    def __getitem__(self, place) -> bool:
+    def __getitem__(self, place: Any) -> Any:
         for count in range(place + 1, len(self.lines) + 1):
             try:
                 return self._has(tree_of("\n".join(self.lines[:count])))
@@ -53,7 +53,7 @@ class _Prefixes(Sequence):
                 continue  # a value isn't at its end
         return True
 
-    def _has(self, tree) -> bool:
+    def _has(self, tree: object) -> bool:
         for key in self.path:
             if not isinstance(tree, dict) or key not in tree:
                 return False

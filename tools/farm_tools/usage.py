@@ -1,11 +1,12 @@
 """What the jobs that ended have used: hours of boards, outcomes, and how long they waited."""
 import argparse
 import collections
+import operator
 import re
 import time
-from typing import Counter, Dict, List, Optional
+from typing import Any, Counter, Dict, List, Optional
 
-from farm_tools import history, tables, views
+from farm_tools import calls, history, tables, views
 
 BY = ("owner", "board", "type")
 OUTCOMES = ("Complete", "Incomplete", "Infra", "Canceled")
@@ -21,14 +22,14 @@ class Use:
         self.seconds = 0
         self.waits: List[int] = []
 
-    def add(self, row: dict, since: int, boards: int) -> None:
+    def add(self, row: Dict[str, Any], since: int, boards: int) -> None:
         """Adds a job, of which that many boards count."""
         self.outcomes[row["outcome"]] += 1
         self.seconds += boards * max(0, row["ended"] - max(row["began"], since))
         if row.get("submitted") is not None:
             self.waits.append(max(0, row["began"] - row["submitted"]))
 
-    def row(self, name: str) -> dict:
+    def row(self, name: str) -> Dict[str, Any]:
         return {
             "name": name,
             "jobs": sum(self.outcomes.values()),
@@ -46,7 +47,7 @@ def share_of(numbers: List[int], percent: int) -> Optional[int]:
     return sorted(numbers)[-(-len(numbers) * percent // 100) - 1]
 
 
-def show_usage(desk, options) -> int:
+def show_usage(desk: calls.Desk, options: argparse.Namespace) -> int:
     """Shows who used, or what was used, since a moment; the most hours first."""
     since = options.since
     uses: Dict[str, Use] = collections.defaultdict(Use)
@@ -60,7 +61,7 @@ def show_usage(desk, options) -> int:
     rows = [use.row(name) for name, use in uses.items()]
     rows.sort(key=lambda it: (-it["hours"], it["name"]))
     said = {"by": options.by, "since": since, "until": int(time.time()), "usage": rows}
-    first = (options.by.upper(), lambda it: it["name"])
+    first: tables.Column = (options.by.upper(), operator.itemgetter("name"))
     return views.show(options, said, rows, [first, *COLUMNS])
 
 
@@ -80,9 +81,9 @@ def waited(seconds: Optional[int]) -> str:
     return "-" if seconds is None else tables.span(seconds)
 
 
-COLUMNS = [
+COLUMNS: List[tables.Column] = [
     ("JOBS", lambda it: it["jobs"]),
-    *[(name.upper(), lambda it, key=name.lower(): it[key]) for name in OUTCOMES],
+    *[(name.upper(), operator.itemgetter(name.lower())) for name in OUTCOMES],
     ("HOURS", lambda it: f"{it['hours']:.1f}"),
     ("WAITED", lambda it: waited(it["waited_median"])),
     ("NINTH", lambda it: waited(it["waited_ninth"])),

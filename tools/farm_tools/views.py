@@ -1,13 +1,18 @@
 """The desk's views, as lines of text or as JSON."""
+import argparse
 import json
 import sys
+from typing import Any, Dict, Sequence
 
 from farm_tools import calls, tables, wants
 
 REFUSED = 3
 
 
-def show(options, said: dict, rows, columns) -> int:
+def show(
+    options: argparse.Namespace, said: Dict[str, Any], rows: Sequence[Dict[str, Any]],
+    columns: Sequence[tables.Column],
+) -> int:
     """Prints what the desk answered, or its rows as lines."""
     if options.json:
         print_json(said)
@@ -16,17 +21,17 @@ def show(options, said: dict, rows, columns) -> int:
     return 0
 
 
-def print_json(said) -> None:
+def print_json(said: Dict[str, Any]) -> None:
     print(json.dumps(said, ensure_ascii=False, separators=(",", ":")), flush=True)
 
 
-def show_boards(desk, options) -> int:
+def show_boards(desk: calls.Desk, options: argparse.Namespace) -> int:
     want = wants.Want("", tuple(options.tags))
     rows = [it for it in desk.look("/boards")["boards"] if wants.fits(it, want)]
     return show(options, {"boards": rows}, rows, tables.BOARDS)
 
 
-def show_queue(desk, options) -> int:
+def show_queue(desk: calls.Desk, options: argparse.Namespace) -> int:
     said = desk.look("/queue")
     if options.json:
         print_json(said)
@@ -40,7 +45,7 @@ def show_queue(desk, options) -> int:
     return show(options, said, rows, tables.QUEUE + (tables.NOTE if any(notes.values()) else []))
 
 
-def show_reservations(desk, options) -> int:
+def show_reservations(desk: calls.Desk, options: argparse.Namespace) -> int:
     rows = desk.look("/reservations")["reservations"]
     if not options.all:
         rows = [it for it in rows if it["state"] not in tables.ENDED]
@@ -49,7 +54,7 @@ def show_reservations(desk, options) -> int:
     return show(options, {"reservations": rows}, rows, tables.RESERVATIONS)
 
 
-def show_jobs(desk, options) -> int:
+def show_jobs(desk: calls.Desk, options: argparse.Namespace) -> int:
     """Shows the jobs that are there; those that aren't are told."""
     rows, status = [], 0
     for number in options.numbers:

@@ -1,13 +1,15 @@
 """Waiting: for the end of a job, or for a reservation's board."""
+import argparse
 import os
 import sys
 import time
-from typing import Dict, List, Optional
+from typing import Any, Callable, Dict, List, Optional, Set, TypeVar
 
-from farm_tools import calls, interrupts, wants
+from farm_tools import calls, clocks, interrupts, wants
 
 # A reservation that isn't refreshed lives for sixty seconds.
 REFRESH = 20
+Found = TypeVar("Found")
 NOT_FOUND = 404
 WIDTH = 80
 
@@ -20,10 +22,10 @@ class Progress:
     """What a wait has come to, on standard error: a text that changes on a terminal, elsewhere a
     line a change."""
 
-    def __init__(self):
+    def __init__(self) -> None:
         self.terminal = sys.stderr.isatty()
         self.begun = time.monotonic()
-        self.shown = None
+        self.shown = ""
         self.rows = 0
 
     def show(self, text: str) -> None:
@@ -65,10 +67,10 @@ def columns() -> int:
 class Wait:
     """What a wait asks the desk, look after look."""
 
-    def __init__(self, desk, clock):
+    def __init__(self, desk: calls.Desk, clock: clocks.Watch):
         self.desk = desk.of_patience(0)
         self.clock = clock
-        self.checked = None
+        self.checked: Optional[Set[str]] = None
         self.owners: Dict[str, str] = {}
 
     def place(self, kind: str, number: int) -> Optional[str]:
@@ -89,7 +91,7 @@ class Wait:
         why = lab.reason(wanted)
         return f": {why}" if why else ""
 
-    def until_there(self, look, every: float):
+    def until_there(self, look: Callable[[Progress], Optional[Found]], every: float) -> Found:
         """What `look` finds, which is asked again and again until it finds something. It is given
         what shows progress."""
         progress = Progress()
@@ -97,7 +99,7 @@ class Wait:
             while True:
                 try:
                     found = look(progress)
-                    if found:
+                    if found is not None:
                         return found
                     self.clock.look(progress.tell)
                 except calls.NoAnswer as fault:
@@ -108,11 +110,11 @@ class Wait:
             progress.end()
 
 
-def members_of(desk, number: int) -> list:
+def members_of(desk: calls.Desk, number: int) -> List[Dict[str, Any]]:
     """The views of all members of a job's group: jobs with consecutive numbers from the group's
     on."""
     group = desk.look(f"/jobs/{number}")["group"]
-    members = []
+    members: List[Dict[str, Any]] = []
     while True:
         try:
             view = desk.look(f"/jobs/{group + len(members)}")
@@ -125,11 +127,13 @@ def members_of(desk, number: int) -> list:
         members.append(view)
 
 
-def wait_for_end(desk, number: int, options) -> list:
+def wait_for_end(
+    desk: calls.Desk, number: int, options: argparse.Namespace
+) -> List[Dict[str, Any]]:
     """Waits until all members of a job's group are Finished. Returns their views."""
     wait = Wait(desk, options.clock)
 
-    def look(progress):
+    def look(progress: Progress) -> Optional[List[Dict[str, Any]]]:
         members = members_of(wait.desk, number)
         waits = [it for it in members if it["state"] != "Finished"]
         if waits:
@@ -139,9 +143,9 @@ def wait_for_end(desk, number: int, options) -> list:
     return wait.until_there(look, options.every)
 
 
-def state_and_place(wait: Wait, members: list) -> str:
+def state_and_place(wait: Wait, members: List[Dict[str, Any]]) -> str:
     """The state of the first of these members, where its group stands, and why it waits."""
-    state = members[0]["state"]
+    state = str(members[0]["state"])
     if state not in ("Submitted", "Scheduling"):
         return state
     place = wait.place("group", members[0]["group"])
@@ -150,13 +154,15 @@ def state_and_place(wait: Wait, members: list) -> str:
     return f"{state}, {place}{wait.reason([wants.want_of_job(it) for it in members])}"
 
 
-def board_of(desk, number: int):
+def board_of(desk: calls.Desk, number: int) -> Optional[Dict[str, Any]]:
     """The view of the board that a reservation holds, or None."""
-    boards = desk.look("/boards")["boards"]
+    boards: List[Dict[str, Any]] = desk.look("/boards")["boards"]
     return next((it for it in boards if it["holder"] == f"reservation {number}"), None)
 
 
-def wait_for_board(desk, number: int, tags: Optional[list], options) -> dict:
+def wait_for_board(
+    desk: calls.Desk, number: int, tags: Optional[List[str]], options: argparse.Namespace
+) -> Dict[str, Any]:
     """Waits until a reservation has a board, and refreshes it meanwhile. Returns the board's view.
 
     `tags` are those that it asks for, where they are known."""
@@ -164,7 +170,7 @@ def wait_for_board(desk, number: int, tags: Optional[list], options) -> dict:
     refreshed = time.monotonic()
     want = None if tags is None else wants.Want("", tuple(tags))
 
-    def look(progress):
+    def look(progress: Progress) -> Optional[Dict[str, Any]]:
         nonlocal refreshed, want
         try:
             if time.monotonic() - refreshed >= REFRESH:
@@ -179,28 +185,29 @@ def wait_for_board(desk, number: int, tags: Optional[list], options) -> dict:
         board = None if place else board_of(wait.desk, number)
         if board:
             return board
-        if place and want is None:
-            want = wants.want_of_reservation(row_of(wait.desk, number))
-        state = f"waiting, {place}{wait.reason([want])}" if place else state_of(wait.desk, number)
-        progress.show(f"reservation {number} is {state}")
+        if not place:
+            progress.show(f"reservation {number} is {state_of(wait.desk, number)}")
+            return None
+        want = want or wants.want_of_reservation(row_of(wait.desk, number))
+        progress.show(f"reservation {number} is waiting, {place}{wait.reason([want])}")
         return None
 
     return wait.until_there(look, min(options.every, REFRESH))
 
 
-def row_of(desk, number: int) -> dict:
+def row_of(desk: calls.Desk, number: int) -> Dict[str, Any]:
     """The view of a reservation."""
     rows = desk.look("/reservations")["reservations"]
-    row = next((it for it in rows if it["number"] == number), None)
+    row: Optional[Dict[str, Any]] = next((it for it in rows if it["number"] == number), None)
     if row is None:
         raise Gone(f"reservation {number} is unknown")
     return row
 
 
-def state_of(desk, number: int) -> str:
+def state_of(desk: calls.Desk, number: int) -> str:
     """The state of a reservation that has neither a place in the queue nor a board, where it hasn't
     ended."""
-    state = row_of(desk, number)["state"]
+    state = str(row_of(desk, number)["state"])
     if state in ("expired", "canceled"):
         raise Gone(f"reservation {number} is {state}")
     return state

@@ -1,7 +1,9 @@
 """What claims want, which boards fit, and why they don't get them."""
 import itertools
 import time
-from typing import Callable, Dict, List, NamedTuple, Optional, Set, Tuple
+from typing import Any, Callable, Dict, List, NamedTuple, Optional, Set, Tuple
+
+from farm_tools import calls
 
 # The healths of boards that nobody gets, as they are told.
 OUT = {"Retired": "Retired", "Bad": "Bad", "Maintenance": "in Maintenance"}
@@ -15,15 +17,15 @@ class Want(NamedTuple):
     tags: Tuple[str, ...]
 
 
-def want_of_job(view: dict) -> Want:
+def want_of_job(view: Dict[str, Any]) -> Want:
     return Want(view["type"], tuple(view["tags"]))
 
 
-def want_of_reservation(row: dict) -> Want:
+def want_of_reservation(row: Dict[str, Any]) -> Want:
     return Want("", tuple(row["tags"]))
 
 
-def fits(board: dict, want: Want) -> bool:
+def fits(board: Dict[str, Any], want: Want) -> bool:
     """Whether a board has a want's type and tags, the one of its name among them."""
     tags = {*board["tags"], f"name={board['name']}"}
     return want.kind in ("", board["type"]) and set(want.tags) <= tags
@@ -33,7 +35,7 @@ def described(want: Want) -> str:
     return " ".join([want.kind or "board", *(["with"] if want.tags else []), *want.tags])
 
 
-def listed(boards: List[dict], text_of: Callable[[dict], str]) -> str:
+def listed(boards: List[Dict[str, Any]], text_of: Callable[[Dict[str, Any]], str]) -> str:
     """A text of each of the first few boards, and how many more there are."""
     texts = [text_of(it) for it in boards[:MOST_NAMED]]
     more = [f"{len(boards) - MOST_NAMED} more"] if len(boards) > MOST_NAMED else []
@@ -43,7 +45,7 @@ def listed(boards: List[dict], text_of: Callable[[dict], str]) -> str:
 class Lab:
     """A desk's boards at one moment, and what is asked of the desk about those who hold them."""
 
-    def __init__(self, desk, checked: Set[str], owners: Dict[str, str]):
+    def __init__(self, desk: calls.Desk, checked: Set[str], owners: Dict[str, str]):
         """`checked` are the types that have a check; `owners` is filled, and kept by the caller."""
         self.desk = desk
         self.checked = checked
@@ -75,7 +77,7 @@ class Lab:
         ]
         return f"{len(fitting)} boards fit: {', '.join(counts)}"
 
-    def state(self, board: dict) -> str:
+    def state(self, board: Dict[str, Any]) -> str:
         """Why nobody gets a board, or nothing where it is free."""
         if board["health"] in OUT:
             return OUT[board["health"]]
@@ -84,11 +86,11 @@ class Lab:
         unchecked = board["health"] == "Unknown" and board["type"] in self.checked
         return "Unknown until it is checked" if unchecked else ""
 
-    def state_and_holder(self, board: dict) -> str:
+    def state_and_holder(self, board: Dict[str, Any]) -> str:
         state = self.state(board)
         return f"held by {self.holders([board])}" if state == "held" else state
 
-    def holders(self, boards: List[dict]) -> str:
+    def holders(self, boards: List[Dict[str, Any]]) -> str:
         """Those who hold these boards, with the owners of the first few."""
         return listed(boards, lambda it: f"{it['holder']} of {self.owner(it['holder'])}")
 
@@ -119,7 +121,7 @@ class Lab:
         return lacking(short, len(fitting) - len(out), out)
 
 
-def short_of(wants: List[Want], boards: List[dict]) -> Optional[Tuple[Want, ...]]:
+def short_of(wants: List[Want], boards: List[Dict[str, Any]]) -> Optional[Tuple[Want, ...]]:
     """Some of these wants, as few as can be, that fewer of these boards fit than they are, or None
     where there are none such: then all are met, each by a board of its own (Hall's theorem)."""
     for size in range(1, len(wants) + 1):
@@ -129,7 +131,7 @@ def short_of(wants: List[Want], boards: List[dict]) -> Optional[Tuple[Want, ...]
     return None
 
 
-def lacking(some: Tuple[Want, ...], able: int, out: List[dict]) -> str:
+def lacking(some: Tuple[Want, ...], able: int, out: List[Dict[str, Any]]) -> str:
     """That no boards can come for wants, or too few, and which are out of use."""
     why = listed(out, lambda it: f"{it['name']} is {OUT[it['health']]}") or "no other board fits"
     if len(some) == 1:
@@ -138,7 +140,7 @@ def lacking(some: Tuple[Want, ...], able: int, out: List[dict]) -> str:
     return f"of {len(some)} boards ({wanted}) only {able} can come: {why}"
 
 
-def checked_types(desk) -> Set[str]:
+def checked_types(desk: calls.Desk) -> Set[str]:
     """The names of the types that have a check."""
     return {it["name"] for it in desk.look("/types")["types"] if it["check"] != "none"}
 
@@ -150,7 +152,7 @@ def checked_types(desk) -> Set[str]:
 MOST_ASKED, LONGEST_ASKED = 50, 3.0
 
 
-def notes_of(desk, queue: List[dict]) -> Dict[int, str]:
+def notes_of(desk: calls.Desk, queue: List[Dict[str, Any]]) -> Dict[int, str]:
     """What is to be said of claims in the queue, by their numbers: the one that collects boards,
     and those that wait for boards of which none can come."""
     if not queue:
@@ -173,7 +175,9 @@ def notes_of(desk, queue: List[dict]) -> Dict[int, str]:
     return notes
 
 
-def wants_of(desk, claim: dict, reservations: Dict[int, dict]) -> List[Want]:
+def wants_of(
+    desk: calls.Desk, claim: Dict[str, Any], reservations: Dict[int, Dict[str, Any]]
+) -> List[Want]:
     """What a claim of the queue wants. A group's members have consecutive numbers."""
     if claim["kind"] == "reservation":
         row = reservations.get(claim["number"])

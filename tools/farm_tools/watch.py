@@ -7,7 +7,7 @@ import signal
 import sqlite3
 import sys
 import time
-from typing import Dict, List, Optional
+from typing import Dict, List, Optional, Sequence
 
 from farm_tools import calls, folders, limits, parsers, settings, watch_tell
 from farm_tools.watch_file import Rules, read_file
@@ -38,7 +38,7 @@ STATUSES = (
 )
 
 
-def main(words=None) -> int:
+def main(words: Optional[Sequence[str]] = None) -> int:
     options = options_of(words)
     try:
         rules = read_file(options.file)
@@ -84,7 +84,7 @@ days. Without this file it begins as at its first look."""
     return parser
 
 
-def options_of(words) -> argparse.Namespace:
+def options_of(words: Optional[Sequence[str]]) -> argparse.Namespace:
     return parser_of().parse_args(words)
 
 
@@ -176,14 +176,14 @@ def run(options: argparse.Namespace, rules: Rules) -> int:
 class Stops:
     """SIGTERM and SIGINT, which end a wait and are seen after a look."""
 
-    def __init__(self):
+    def __init__(self) -> None:
         self.came = False
         self.wakes, wake = os.pipe2(os.O_NONBLOCK | os.O_CLOEXEC)
         signal.set_wakeup_fd(wake)
         signal.signal(signal.SIGTERM, self._note)
         signal.signal(signal.SIGINT, self._note)
 
-    def _note(self, *_) -> None:
+    def _note(self, *_: object) -> None:
         self.came = True
 
     def wait(self, until: float) -> None:
@@ -194,7 +194,7 @@ class Stops:
 class Once:
     """Tells troubles, each again only after others."""
 
-    def __init__(self):
+    def __init__(self) -> None:
         self.last = ""
 
     def tell(self, text: str) -> None:

@@ -161,9 +161,8 @@ def fullness(status: Dict[str, Any]) -> float:
     """How full a farm is, in percent: by the limit that is nearest."""
     jobs, reservations = status["jobs"], status["reservations"]
     replies = REPLIES_OF_A_ROW * (jobs + reservations)
-    return 100 * max(
-        jobs / MOST_JOBS, reservations / MOST_RESERVATIONS, replies / MOST_REPLIES
-    )
+    parts = (jobs / MOST_JOBS, reservations / MOST_RESERVATIONS, replies / MOST_REPLIES)
+    return 100 * float(max(parts))
 
 
 def moment(at: float) -> str:

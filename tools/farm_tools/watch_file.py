@@ -144,7 +144,7 @@ def url_of(value: Any) -> str:
         good = False
     if not good:
         raise BadFile(f"{value!r} is no address, as \"https://chat.lab.example/hook\" is one")
-    return value
+    return str(value)
 
 
 def address_of(value: Any) -> str:
@@ -156,7 +156,7 @@ def address_of(value: Any) -> str:
         good = False
     if not good:
         raise BadFile(f"{value!r} is no address of mail, as \"ann@lab.example\" is one")
-    return value
+    return str(value)
 
 
 def addresses_of(value: Any) -> Tuple[str, ...]:
@@ -169,13 +169,13 @@ def pattern_of(value: Any) -> str:
     if OWNER not in text_of(value):
         raise BadFile(f"{value!r} has no {OWNER}, as \"{OWNER}@lab.example\" has")
     address_of(value.replace(OWNER, "ann"))
-    return value
+    return str(value)
 
 
 def command_of(value: Any) -> str:
     if not text_of(value).startswith("/"):
         raise BadFile(f"{value!r} is no path from / on, as \"/usr/sbin/sendmail\" is one")
-    return value
+    return str(value)
 
 
 HOLD = time_of(SHORTEST_HOLD, LONGEST_HOLD)

@@ -6,7 +6,7 @@ reservations alone, so that is asked for only once a hold is due by what is know
 since then only moves that on.
 """
 import time
-from typing import Any, Callable, Dict, List, Optional
+from typing import Any, Callable, Dict, Optional
 
 from farm_tools import calls
 from farm_tools.watch_events import Events
@@ -23,7 +23,7 @@ class Holds:
     """The holds of one desk. Of each it is kept: its board, its owner, since when it counts (None
     where that isn't known), and for which of these moments its owner was reminded."""
 
-    def __init__(self, desk, store: Store, rules: Rules, note_own: Callable[[], None],
+    def __init__(self, desk: calls.Desk, store: Store, rules: Rules, note_own: Callable[[], None],
                  told: Callable[[str], None]):
         self.desk = desk
         self.store = store

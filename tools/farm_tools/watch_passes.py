@@ -3,7 +3,7 @@ ask; but a claim that free boards meet is given them by the next pass."""
 import time
 from typing import Any, Callable, Dict, List, Optional
 
-from farm_tools import wants
+from farm_tools import calls, wants
 
 MOST_LOOKED_AT = 20  # claims, from the head of the queue on
 ROWS_EVERY = 60.0
@@ -12,7 +12,7 @@ ROWS_EVERY = 60.0
 class Passes:
     """What is known of the passes since this process began."""
 
-    def __init__(self, desk, late: float):
+    def __init__(self, desk: calls.Desk, late: float):
         """A pass is late after `late` seconds."""
         self.desk = desk
         self.late = late

@@ -175,7 +175,7 @@ class Store:
     def due(self, way: str) -> Optional[float]:
         """In how many seconds the next delivery of a way is due, or None where there is none."""
         with self.lock:
-            row = self.line.execute(
+            row: Tuple[Optional[float]] = self.line.execute(
                 "SELECT min(due) FROM deliveries WHERE way = ? AND done IS NULL", (way,)
             ).fetchone()
         return None if row[0] is None else row[0] - time.time()
@@ -193,7 +193,7 @@ class Store:
 
 def wait_after(tries: int) -> float:
     """How long it is waited after so many tries."""
-    return min(FIRST_WAIT * 2 ** min(tries - 1, 20), LONGEST_WAIT)
+    return min(FIRST_WAIT * 2.0 ** min(tries - 1, 20), LONGEST_WAIT)
 
 
 def _changes(before: Seen, after: Seen) -> Iterator[Tuple[str, str, Optional[str]]]:

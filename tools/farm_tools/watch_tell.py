@@ -108,14 +108,17 @@ def post(webhook: Webhook, it: Delivery) -> str:
     }
     line = _line_to(webhook, address)
     # (each step has its own time; this one is for all of them together)
-    over = threading.Timer(WEBHOOK_WAITS, _shut, [line])
+    late = threading.Event()
+    over = threading.Timer(WEBHOOK_WAITS, _shut, [line, late])
     over.start()
     try:
         line.request("POST", path, body=body, headers=fields)
         status = line.getresponse().status
     except (OSError, http.client.HTTPException) as fault:
-        why = str(fault) or type(fault).__name__
-        raise Undelivered(f"{host}: {why}" if over.is_alive() else f"{host}: no answer") from fault
+        # (of the two that end a wait either may come first)
+        is_late = isinstance(fault, socket.timeout) or late.is_set()
+        why = "no answer" if is_late else str(fault) or type(fault).__name__
+        raise Undelivered(f"{host}: {why}") from fault
     finally:
         over.cancel()
         line.close()
@@ -137,8 +140,9 @@ def _line_to(webhook: Webhook, address: urllib.parse.SplitResult) -> http.client
     return http.client.HTTPConnection(host, address.port, timeout=WEBHOOK_WAITS)
 
 
-def _shut(line: http.client.HTTPConnection) -> None:
-    """Ends a connection that another thread waits at."""
+def _shut(line: http.client.HTTPConnection, late: threading.Event) -> None:
+    """Ends a connection that another thread waits at, and says before that it is for the time."""
+    late.set()
     sock: Optional[socket.socket] = line.sock
     if sock is not None:
         try:

@@ -5,7 +5,7 @@ that of another process. A look asks for the status, the queue and the boards, a
 the view of all reservations, which grows with the farm's age, only once a hold is due.
 """
 import time
-from typing import Any, Dict, List, NamedTuple, Optional, Set, Tuple
+from typing import Any, Callable, Dict, List, NamedTuple, Optional, Set, Tuple
 
 from farm_tools import calls, waiting, wants
 from farm_tools.watch_events import Events, fullness
@@ -42,7 +42,9 @@ class Look(NamedTuple):
 class Watcher:
     """Watches one desk."""
 
-    def __init__(self, desk, store: Store, rules: Rules, told):
+    def __init__(
+        self, desk: calls.Desk, store: Store, rules: Rules, told: Callable[[str], None]
+    ):
         """`told` is called with a trouble that is nobody's event."""
         self.desk = desk
         self.store = store

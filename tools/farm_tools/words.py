@@ -1,6 +1,6 @@
 """The words of job and lab files, and whether a text is one: the same rules as the desk's."""
 import re
-from typing import Optional
+from typing import Any, Dict, List
 
 from farm_tools.lab_file import MOST_TAGS, NAME, TAG_KEY, TAG_VALUE
 
@@ -13,13 +13,13 @@ class BadFile(Exception):
     """A rule that a file breaks."""
 
 
-def table_of(value, what: str) -> dict:
+def table_of(value: object, what: str) -> Dict[str, Any]:
     if not isinstance(value, dict):
         raise BadFile(f"{what} isn't a table")
     return value
 
 
-def name_of(value, what: str) -> str:
+def name_of(value: object, what: str) -> str:
     if value is None:
         raise BadFile(f"there is no {what}")
     if not isinstance(value, str):
@@ -30,7 +30,7 @@ def name_of(value, what: str) -> str:
     return value
 
 
-def whole_of(value, what: str) -> int:
+def whole_of(value: object, what: str) -> int:
     if value is None:
         raise BadFile(f"there is no {what}")
     if not isinstance(value, int) or isinstance(value, bool):
@@ -38,7 +38,7 @@ def whole_of(value, what: str) -> int:
     return value
 
 
-def tags_of(value: Optional[list]) -> list:
+def tags_of(value: object) -> List[str]:
     """Tags under the key `tags`; absent means none."""
     if value is None:
         return []

@@ -21,7 +21,7 @@ from fizgruk.models import (
 )
 from fizgruk.settings import read_settings
 from fizgruk.waiting import Tell, Wait, wait_for_board, wait_for_group
-from fizgruk.wire import Body, Told, Wire, fresh_key
+from fizgruk.wire import Body, Told, Wire, fresh_key, part
 
 LOG = logging.getLogger("fizgruk")
 Own = TypeVar("Own", bound="Client")
@@ -136,10 +136,10 @@ class Client:
 
     def set_tags(self, board: str, tags: Sequence[str], *, key: Optional[str] = None) -> None:
         """Gives a board these tags in the place of those that it has."""
-        self._tell(f"/boards/{board}/tags", {"tags": list(tags)}, key)
+        self._tell(f"/boards/{part(board)}/tags", {"tags": list(tags)}, key)
 
     def set_health(self, board: str, health: Health, *, key: Optional[str] = None) -> None:
-        self._tell(f"/boards/{board}/health", {"health": health}, key)
+        self._tell(f"/boards/{part(board)}/health", {"health": health}, key)
 
     # ---- jobs
 

@@ -17,6 +17,9 @@ SYSTEM_FILE = "/etc/farm/desk.ini"
 SERVER = "http://127.0.0.1:8080"
 SECTION, ENVIRONMENT = "desk", "DESK_"
 WORDS = ("server", "user", "password_file", "ca_file", "timeout")
+# What the section may have besides, which is the command's alone.
+OF_COMMAND = ("history",)
+NO_LOGIN = "a server's address has no user and no password in it: user and password_file"
 LOOPBACK = ("127.0.0.1", "localhost", "::1")
 SECONDS = "30"
 
@@ -52,9 +55,12 @@ def read_settings(given: Mapping[str, Optional[str]]) -> Settings:
 
 
 def address_of(server: str) -> urllib.parse.SplitResult:
-    """A server's address, part by part."""
+    """A server's address, part by part. One with a user in it isn't taken, nor told: it may have a
+    password, and others see words and messages."""
     try:
         address = urllib.parse.urlsplit(server)
+        if "@" in address.netloc:
+            raise BadSettings(NO_LOGIN)
         if address.scheme in ("http", "https") and address.hostname and (address.port or 1) > 0:
             return address
     except ValueError:
@@ -64,7 +70,7 @@ def address_of(server: str) -> urllib.parse.SplitResult:
 
 def _environment() -> Dict[str, str]:
     """The settings in the environment."""
-    known = [f"{ENVIRONMENT}{it.upper()}" for it in (*WORDS, "config")]
+    known = [f"{ENVIRONMENT}{it.upper()}" for it in (*WORDS, *OF_COMMAND, "config")]
     found = {}
     for name in sorted(it for it in os.environ if it.startswith(ENVIRONMENT)):
         if name not in known:
@@ -88,7 +94,7 @@ def _files_read(named: Optional[str]) -> Dict[str, str]:
         if named and not done:
             raise BadSettings(f"{named} can't be read")
         for word, text in read.items(SECTION) if read.has_section(SECTION) else []:
-            if word not in WORDS:
+            if word not in (*WORDS, *OF_COMMAND):
                 raise BadSettings(f"{file}: {word} is no setting: {_meant(word, WORDS)}")
             found[word] = text
     return found

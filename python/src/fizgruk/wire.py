@@ -9,6 +9,7 @@ import secrets
 import socket
 import ssl
 import time
+import urllib.parse
 from typing import Dict, List, Mapping, NamedTuple, Optional, Tuple, Union
 
 from fizgruk.errors import Code, Refused, Unreachable
@@ -41,6 +42,11 @@ class Answer(NamedTuple):
 def fresh_key() -> str:
     """A key that no other command has."""
     return secrets.token_hex(16)
+
+
+def part(name: str) -> str:
+    """A name as a part of a path, also where it is none that the desk takes."""
+    return urllib.parse.quote(name, safe="", errors="surrogateescape")
 
 
 class Wire:

@@ -1,0 +1,51 @@
+"""How many passes the dispatcher asked for, and when it asked for the last: passes.json in its
+folder, which it writes and farm-metrics reads."""
+import dataclasses
+import json
+import os
+import time
+
+from farm_tools import folders
+
+FILE = "passes.json"
+
+
+@dataclasses.dataclass(frozen=True)
+class Passes:
+    """Passes that the desk acknowledged: how many, over the lives of all dispatchers on a folder,
+    and when the last was, in seconds since 1970."""
+
+    count: int
+    at: float
+
+
+class Counter:
+    """The count in a dispatcher's folder."""
+
+    def __init__(self, place: str):
+        self.file = os.path.join(place, FILE)
+        try:
+            self.count = passes_in(self.file).count
+        except (OSError, ValueError):
+            self.count = 0  # there is none yet, or the machine stopped while it was written
+
+    def add(self) -> None:
+        """Counts a pass. Where there is no room for the file the next one writes both."""
+        self.count += 1
+        said = {"count": self.count, "at": round(time.time(), 3)}
+        try:
+            folders.write_whole(self.file, f"{json.dumps(said)}\n")
+        except OSError:
+            pass
+
+
+def passes_in(file: str) -> Passes:
+    """What a file says. Raises ValueError where it isn't one of these."""
+    with open(file, encoding="utf-8") as text:
+        said = json.load(text)
+    if not isinstance(said, dict):
+        raise ValueError(f"{file} has no count of passes")
+    count, at = said.get("count"), said.get("at")
+    if type(count) is not int or count < 0 or not isinstance(at, (int, float)):
+        raise ValueError(f"{file} has no count of passes")
+    return Passes(count, float(at))
