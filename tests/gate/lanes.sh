@@ -21,6 +21,7 @@ trying() {
     for script in "$@"; do
         case " ${left_out-} " in *" $script "*) continue ;; esac
         case $script in
+            gate/surface.py) set -- python3 "tests/$script" ;;
             oracle/generated.py) set -- python3 "tests/$script" "$player" ;;
             faults/refused_memory.sh) set -- sh "tests/$script" "$farm" "$player" ;;
             oracle/malformed.py) set -- python3 "tests/$script" "$farm" 5000 ;;
@@ -37,7 +38,7 @@ trying() {
 
 # A lane a line: those that run the program most, those of a moment, and those that mostly wait, one or a few a lane.
 lanes='faults/refused_memory.sh faults/power_cuts.py oracle/generated.py
-program/words.sh program/statuses.sh program/mistakes.sh faults/moved_files.py program/upgrade.sh program/examples.sh program/using.sh program/api.py program/shell.sh program/real_clients.sh program/sockets.py program/crowds.py oracle/malformed.py faults/kills.py
+gate/surface.py program/words.sh program/statuses.sh program/mistakes.sh faults/moved_files.py program/upgrade.sh program/examples.sh program/using.sh program/api.py program/shell.sh program/real_clients.sh program/sockets.py program/crowds.py oracle/malformed.py faults/kills.py
 tools/client.py
 tools/watch.py
 tools/dispatch.py
@@ -47,7 +48,7 @@ tools/python_client.py program/openapi.py tools/manual.py tools/unit.py program/
 
 # Runs them all, prints what they said, and adds how they ended to `passed` and `failed`; `wrong` are those that failed.
 run_lanes() {
-    mkdir "$folder/faults" "$folder/oracle" "$folder/program" "$folder/tools"
+    mkdir "$folder/gate" "$folder/faults" "$folder/oracle" "$folder/program" "$folder/tools"
     echo "$lanes" | {
         while read -r lane; do
             trying $lane < /dev/null &
