@@ -2,14 +2,14 @@
 -- them may come.
 use Rattle.std.specs.Prelude.{ℕ, ⊤}
 use Rattle.farm_types.specs.Refusals.{bad_store, closed, new_schema, no_memory, old_schema}
-use Rattle.farm_types.specs.Refusals.{fault_of_store as failed_store}
+use Rattle.farm_types.specs.Refusals.{store_fault}
 use Rattle.farm_core.specs.declared.farm.BadRows.{BadRows}
 use Rattle.farm_store.specs.declared.fault.StoreFault.{StoreFault}
 use Rattle.farm_keep.specs.declared.fault.KeepFault.{KeepFault}
 
 abbrev pub fault_code : KeepFault → ℕ
 fault_code KeepFault.NoMemory = no_memory
-fault_code KeepFault.Store = failed_store
+fault_code KeepFault.Store = store_fault
 fault_code KeepFault.Closed = closed
 fault_code KeepFault.BadStore = bad_store
 fault_code KeepFault.OldSchema = old_schema
