@@ -23,7 +23,7 @@ from farm_tools import folders, wal
 TRIES = 20
 FIRST_WAIT, LONGEST_WAIT = 0.05, 2.0
 COPY = re.compile(r"farm-(\d{8}T\d{6}Z)(?:-(\d+))?")
-NEW = ".new-"  # how a copy's folder is named until it is proved
+NEW = ".new-"  # how a copy's folder is named until it is checked
 STATUS = b"GET /status HTTP/1.1\r\n\r\n"
 
 
@@ -77,7 +77,7 @@ class Farm:
                 words, stdout=subprocess.DEVNULL, stderr=subprocess.PIPE, check=False
             )
         except OSError as fault:
-            raise NoCopy(f"no copy is made, since it can't be proved: {fault}") from fault
+            raise NoCopy(f"no copy is made, since it can't be checked: {fault}") from fault
         if ran.returncode:
             raise NoCopy(f"the copy is no farm, and is thrown away ({_line(ran.stderr)})")
 
@@ -87,7 +87,7 @@ def _line(said: bytes) -> str:
 
 
 def new_copy(farm: Farm, folder: str, tell) -> str:
-    """A proved copy of a farm in a new folder below `folder`, which the caller names at last.
+    """A checked copy of a farm in a new folder below `folder`, which the caller names at last.
     `tell` is told where it is copied again."""
     place = tempfile.mkdtemp(prefix=NEW, dir=folder)
     try:
