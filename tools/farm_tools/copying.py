@@ -77,7 +77,7 @@ class Farm:
                 words, stdout=subprocess.DEVNULL, stderr=subprocess.PIPE, check=False
             )
         except OSError as fault:
-            raise NoCopy(f"no copy is made, since it can't be checked: {fault}") from fault
+            raise NoCopy(f"no copy is made, since it can't be proved: {fault}") from fault
         if ran.returncode:
             raise NoCopy(f"the copy is no farm, and is thrown away ({_line(ran.stderr)})")
 
