@@ -49,7 +49,7 @@ def additions_of(text: str) -> List[Addition]:
 def type_of(row: dict) -> dict:
     check = row.get("check", "none")
     if check not in CHECKS:
-        raise BadFile("check must be none, hours or jobs")
+        raise BadFile("check is none of none, hours and jobs")
     if check == "none":
         return {}
     every = words.whole_of(row.get("every"), "every")
