@@ -17,7 +17,7 @@ ABOUT = """\
 Copies the two files of a farm while its desk serves, and prints the name of the folder that the \
 copy is in, DIR/farm-YYYYMMDDTHHMMSSZ (UTC). DIR/latest leads to the newest. The copy is the \
 farm after some command; every command that was answered before the copying began is in it. It is \
-proved by 'farm report' before it gets its name.
+checked by 'farm report' before it gets its name.
 With --follow it goes on, and DIR has a standby, to which each second ships what the desk's log \
 got; 'farm serve --db DIR/lab.db' begins from it."""
 STATUSES = (
@@ -68,7 +68,7 @@ it has fewer. Where no answer comes this is told, and the copy is kept."""
     option("--follow", action="store_true", help="Keep a standby in DIR.")
     about = "Between two shippings to the standby (default 1)."
     option("--every", metavar="SECONDS", type=_seconds, default=1.0, help=about)
-    about = "The program that proves a copy (default %(default)s, as the shell finds it)."
+    about = "The program that checks a copy (default %(default)s, as the shell finds it)."
     option("--program", metavar="FILE", default="farm", help=about)
     about = "Tell on standard error why a copy is made again."
     option("--verbose", action="store_true", help=about)

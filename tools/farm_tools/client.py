@@ -111,7 +111,10 @@ def options_of(words: Sequence[str]) -> argparse.Namespace:
 def parser_of() -> Parser:
     parser = parsers.parser_of("desk", desk_texts.ABOUT, desk_texts.STATUSES)
     group = settings.add_options(
-        parser, "desk", "without it, the user of the server in ~/.netrc, or of the login"
+        parser,
+        "desk",
+        "without it, admin for an admin's commands, else the user of the server in ~/.netrc, or of "
+        "the login",
     )
     about = """\
 Where farm-dispatch(8) keeps its history on this machine, as /var/lib/farm-dispatch, or a file of

@@ -23,7 +23,7 @@ from farm_tools import folders, wal
 TRIES = 20
 FIRST_WAIT, LONGEST_WAIT = 0.05, 2.0
 COPY = re.compile(r"farm-(\d{8}T\d{6}Z)(?:-(\d+))?")
-NEW = ".new-"  # how a copy's folder is named until it is proved
+NEW = ".new-"  # how a copy's folder is named until it is checked
 STATUS = b"GET /status HTTP/1.1\r\n\r\n"
 
 
@@ -86,8 +86,8 @@ def _line(said: bytes) -> str:
     return " ".join(said.decode(errors="replace").split()) or "nothing was said"
 
 
-def new_copy(farm: Farm, folder: str, tell: Callable[[str], None]) -> str:
-    """A proved copy of a farm in a new folder below `folder`, which the caller names at last.
+def new_copy(farm: Farm, folder: str, tell) -> str:
+    """A checked copy of a farm in a new folder below `folder`, which the caller names at last.
     `tell` is told where it is copied again."""
     place = tempfile.mkdtemp(prefix=NEW, dir=folder)
     try:

@@ -44,8 +44,8 @@ Show the jobs that are open and those that ended, or some. Those that ended come
 first. With numbers it shows those of them that there are, and tells the others. A group that \
 waits has one line; what it is called is asked of the desk for the first fifty that wait.""",
     "submit": """\
-Submit a job file, and print the job's number. Of one that the desk refuses it says which rule it \
-breaks.""",
+Submit a job file, and print the job's number. Where the desk refuses it, it says which rule the \
+file breaks.""",
     "resubmit": """\
 Submit a job's text again, and print the new number. It may be anybody's job; its text is the one \
 that the desk keeps.""",
