@@ -15,7 +15,7 @@ use Rattle.farm_jobfile.specs.Reading.{FaultOrNoMemory}
 use Rattle.farm_jobfile.specs.Lab.{entry_of, lab}
 use Rattle.farm_jobfile.specs.declared.fault.FileFault.{FileFault}
 use Rattle.farm_desk.specs.declared.fault.DeskFault.{DeskFault}
-use Rattle.farm_desk.specs.declared.import.ImportEnd.{ImportEnd}
+use Rattle.farm_desk.specs.declared.lab_import.ImportEnd.{ImportEnd}
 
 -- ---- how far it went
 

@@ -6,7 +6,7 @@ use Rattle.farm_types.specs.Refusals.{refusal_text}
 use Rattle.farm_types.specs.declared.refusal.Refusal.{Refusal}
 use Rattle.farm_desk.specs.Faults.{fault_number}
 use Rattle.farm_desk.specs.declared.fault.DeskFault.{DeskFault}
-use Rattle.farm_desk.specs.declared.import.ImportEnd.{ImportEnd}
+use Rattle.farm_desk.specs.declared.lab_import.ImportEnd.{ImportEnd}
 use Rattle.farm_desk.specs.declared.orders.End.{End}
 
 -- so many commands of a lab file were accepted, and so many had been before

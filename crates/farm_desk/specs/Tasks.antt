@@ -12,7 +12,7 @@ use Rattle.farm_desk.specs.Lines.{TellsImport, port_line}
 use Rattle.farm_desk.specs.Reports.{Reports, seconds_ahead}
 use Rattle.farm_desk.specs.Serving.{ServesUntil}
 use Rattle.farm_desk.specs.declared.fault.DeskFault.{DeskFault}
-use Rattle.farm_desk.specs.declared.import.ImportEnd.{ImportEnd}
+use Rattle.farm_desk.specs.declared.lab_import.ImportEnd.{ImportEnd}
 use Rattle.farm_desk.specs.declared.orders.End.{End}
 use Rattle.farm_desk.specs.declared.orders.Task.{Task}
 

@@ -14,10 +14,10 @@ ghost use Rattle.farm_desk.specs.Response.{IsResponse};
 ghost use Rattle.farm_desk.specs.Upgrades.{LeavesEitherFile};
 ghost use Rattle.farm_desk.specs.Visits.{ServesInTurn};
 
-use crate::converse::converse;
+use crate::conversation::converse;
 use crate::fault::DeskFault;
 use crate::known::KnownClients;
-use crate::serve::serve;
+use crate::serving::serve;
 use farm_http::{Input, Output};
 use farm_keep::Keeper;
 use sqlite::{Alter, Connection, FileStore};

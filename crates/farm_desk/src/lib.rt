@@ -13,45 +13,45 @@ mod accepted;
 mod answer;
 mod client_output;
 mod clients;
-mod converse;
+mod command_line;
+mod conversation;
 mod deadline_stream;
 mod fault;
 mod files;
 mod ground;
 mod hear;
-mod import;
 mod known;
+mod lab_import;
 mod laws;
 mod open_files;
 mod orders;
 mod pending;
-mod program;
 mod report;
 mod response;
-mod serve;
 mod server;
+mod serving;
 mod upgrade;
 
 // One conversation: a request, what it asks, and its answer.
-pub use converse::{converse, converse_counted};
+pub use conversation::{converse, converse_counted};
 pub use farm_http::{Input, Output};
 
 // A lab file's commands, given to a keeper.
-pub use import::{ImportEnd, import};
+pub use lab_import::{ImportEnd, import};
 
 // Conversations with one client after another.
 pub use clients::{Client, Clients};
 pub use known::{Gone, KnownClients, Sent};
-pub use serve::{serve, serve_on};
+pub use serving::{serve, serve_on};
 
 // Farms in files.
 pub use files::{FileKeeper, make_farm, open_farm};
 pub use upgrade::migrate_farm;
 
 // The program: its words, the orders they give, and its exit statuses.
+pub use command_line::{DONE, FAILED, NO_ROOM, REFUSED, WRONG_WORDS, perform, program, tell};
 pub use farm_order::{Database, Order, OrderFault, Report, order_of};
 pub use orders::{End, carry_out};
-pub use program::{DONE, FAILED, NO_ROOM, REFUSED, WRONG_WORDS, perform, program, tell};
 
 // What ends a conversation, an import or an order.
 pub use fault::DeskFault;

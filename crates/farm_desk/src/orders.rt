@@ -10,13 +10,13 @@ ghost use Rattle.farm_desk.specs.Reports.{Reports, seconds_ahead};
 ghost use Rattle.farm_desk.specs.Tasks.{DoesTask, ImportsFile, ServesIfHeard};
 ghost use Rattle.farm_keep.specs.Kept.{Kept};
 
-use crate::converse::converse;
+use crate::conversation::converse;
 use crate::fault::DeskFault;
 use crate::files::{make_farm, open_farm, read_lab};
-use crate::import::{ImportEnd, import};
+use crate::lab_import::{ImportEnd, import};
 use crate::open_files::OpenFiles;
 use crate::report::{report_text, zone_between};
-use crate::serve::serve_on_files;
+use crate::serving::serve_on_files;
 use crate::upgrade::migrate_farm;
 use farm_http::{Input, Output};
 use farm_keep::{KeepFault, Keeper};

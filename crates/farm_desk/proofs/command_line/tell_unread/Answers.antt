@@ -1,5 +1,5 @@
 use Rattle.farm_desk.proofs.LineLemmas.{keeps_same}
-use Rattle.farm_desk.proofs.program.tell_unread.Goals as goal
+use Rattle.farm_desk.proofs.command_line.tell_unread.Goals as goal
 
 pub returns-in-Words : goal.returns-in-Words
 returns-in-Words g c =

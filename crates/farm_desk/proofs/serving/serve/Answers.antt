@@ -3,7 +3,7 @@ use Rattle.std.proofs.Common.{◌≤◌, ◌+◌, refl, le_refl, subst, arith, r
 use Rattle.std.proofs.lemmas.Result.{err_from_is_err_and}
 use Rattle.farm_desk.proofs.ServingLemmas.{serves_next, serves_none, serves_within}
 use Rattle.farm_desk.proofs.VisitLemmas.{visits_begin, visits_next, visits_within}
-use Rattle.farm_desk.proofs.serve.serve.Goals as goal
+use Rattle.farm_desk.proofs.serving.serve.Goals as goal
 
 pub returns-in_err-serve_next-clause-serves : goal.returns-in_err-serve_next-clause-serves
 returns-in_err-serve_next-clause-serves g c =

@@ -1,7 +1,7 @@
 -- The answer that was due, whole or in part.
 use Rattle.std.proofs.Common.{sym, ◌∙◌}
 use Rattle.farm_desk.proofs.ConverseLemmas.{told_in_part, told_too_long, told_whole}
-use Rattle.farm_desk.proofs.converse.converse_counted.Goals as goal
+use Rattle.farm_desk.proofs.conversation.converse_counted.Goals as goal
 
 pub returns-then-has_failed-clause-unwritten : goal.returns-then-has_failed-clause-unwritten
 returns-then-has_failed-clause-unwritten g c lost =

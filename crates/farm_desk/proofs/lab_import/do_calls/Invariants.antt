@@ -5,7 +5,7 @@ use Rattle.sqlite_trees.specs.View.{doubt}
 use Rattle.farm_types.specs.Machine.{run}
 use Rattle.farm_keep.specs.Kept.{Keeps}
 use Rattle.farm_desk.specs.Imports.{IsCounted}
-use Rattle.farm_desk.proofs.import.do_calls.Given as goal
+use Rattle.farm_desk.proofs.lab_import.do_calls.Given as goal
 
 -- the first calls are done, none of them was refused, and each answer is counted
 abbrev pub invariant-loop-call : goal.invariant-loop-call

@@ -3,7 +3,7 @@ use Rattle.sqlite.specs.Held.{state}
 use Rattle.sqlite_trees.specs.View.{doubt}
 use Rattle.farm_desk.specs.Serving.{ServesClients}
 use Rattle.farm_desk.specs.Visits.{ServesInTurn}
-use Rattle.farm_desk.proofs.serve.serve.Given as goal
+use Rattle.farm_desk.proofs.serving.serve.Given as goal
 
 -- so many clients were served, and the keeper is open
 abbrev pub invariant-loop : goal.invariant-loop
