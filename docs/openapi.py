@@ -3,7 +3,7 @@
 
 The tables below have what only they say: schemas, and which one each route takes and answers. The
 routes' texts, their refusals, the codes and the examples are those of docs/API.md, read from there.
-tests/openapi.py demands that the file is what this prints, and what a built program answers.
+tests/program/openapi.py demands that the file is what this prints, and what a built program answers.
 """
 import json
 import os
