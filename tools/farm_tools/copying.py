@@ -86,7 +86,7 @@ def _line(said: bytes) -> str:
     return " ".join(said.decode(errors="replace").split()) or "nothing was said"
 
 
-def new_copy(farm: Farm, folder: str, tell) -> str:
+def new_copy(farm: Farm, folder: str, tell: Callable[[str], None]) -> str:
     """A checked copy of a farm in a new folder below `folder`, which the caller names at last.
     `tell` is told where it is copied again."""
     place = tempfile.mkdtemp(prefix=NEW, dir=folder)
