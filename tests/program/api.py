@@ -2,7 +2,7 @@
 """Replays the examples of docs/API.md: python3 tests/program/api.py bin/farm
 
 Each example's request goes to `farm once` over one file, byte by byte as it is printed, and the
-answer has to be the printed bytes. Every route that has a heading, and every code of the table of
+answer has to be the printed bytes, with the fields that the first one shows. Every route that has a heading, and every code of the table of
 refusals but those that the page leaves out, has to be shown. Takes a few seconds.
 """
 import os
@@ -19,14 +19,29 @@ LEFT_OUT = {"1", "4", "60", "61"}
 
 
 def examples_of(page):
-    """The examples of a page: the moment, the lines of the request, those of the answer."""
+    """The examples of a page: the moment, the lines of the request, those of the answer.
+
+    An answer without fields, as all but the first have it, gets those that each answer has.
+    """
     found = []
     for line in page.splitlines():
         if line.startswith("    at "):
             found.append((line[7:], [], []))
         elif line[:5] in ("    >", "    <"):
             found[-1][1 if line[4] == ">" else 2].append(line[6:])
+    for _, _, answer in found:
+        if answer[1] == "":
+            answer[1:1] = fields_of("\n".join(answer[2:]))
     return found
+
+
+def fields_of(body):
+    """The fields of the head of each answer."""
+    return [
+        "content-type: application/json",
+        f"content-length: {len(body.encode())}",
+        "connection: close",
+    ]
 
 
 def bytes_of(lines):
