@@ -2,8 +2,9 @@
 """Replays the examples of docs/API.md: python3 tests/program/api.py bin/farm
 
 Each example's request goes to `farm once` over one file, byte by byte as it is printed, and the
-answer has to be the printed bytes, with the fields that the first one shows. Every route that has a heading, and every code of the table of
-refusals but those that the page leaves out, has to be shown. Takes a few seconds.
+answer has to be the printed bytes, with the fields that the first one shows. Every route that has a
+heading, and every code of the table of refusals but those that the page leaves out, has to be
+shown. Takes a few seconds.
 """
 import os
 import re
