@@ -72,7 +72,8 @@ pub fn owned_text(alloc: Global, bytes: &[u8]) -> Result<String, AllocError>
     }
 }
 
-/// A name of a type, a board, a person or a role: 1 to 48 letters, digits, `-`, `_` or `.`.
+/// A name of a type, a board, a person or a role: 1 to 48 letters, digits, `-`, `_` or `.`. Its
+/// bytes lie in the value, so neither reading nor copying one takes memory.
 #[derive(Debug, Drop)]
 pub struct Name {
     text: ArrayString<LONGEST_NAME>,
@@ -90,7 +91,7 @@ impl Model for Name {
 }
 
 impl Name {
-    /// The name that a text spells; refused as a bad name, or for memory where it spells one.
+    /// The name that a text spells; refused as a bad name.
     pub fn parse(alloc: Global, text: &[u8]) -> Result<Name, WordFault>
         ensures reads { OrNoMemory (λ name. name) result
             (word_or (is_word longest_name text.now) text.now BAD_NAME) }
@@ -132,38 +133,35 @@ impl Name {
     }
 }
 
-/// A key under which a reply is kept: 1 to 64 letters, digits, `-`, `_` or `.`.
+/// A key under which a reply is kept: 1 to 64 letters, digits, `-`, `_` or `.`. Its bytes lie in
+/// the value, as a name's do.
 #[derive(Debug, Drop)]
 pub struct Key {
-    text: String,
+    text: ArrayString<LONGEST_KEY>,
 }
 
 impl Model for Key {
     ghost use Rattle.std.specs.Prelude.{List, ℕ};
-    ghost use Rattle.std.specs.String.{string_bytes};
     ghost use Rattle.farm_types.specs.Words.{IsKey};
 
     ghost Value = { List ℕ };
 
-    ghost view = { λ n. string_bytes n.text };
+    ghost view = { λ n. n.text.bytes };
 
-    ghost invariant = { λ n. IsKey (string_bytes n.text) };
+    ghost invariant = { λ n. IsKey n.text.bytes };
 }
 
 impl Key {
-    /// The key that a text spells; refused as a bad key, or for memory where it spells one.
-    #[tactic(auto, using(crate::proofs::WordLemmas::IsUtf8_of_word))]
+    /// The key that a text spells; refused as a bad key.
     pub fn parse(alloc: Global, text: &[u8]) -> Result<Key, WordFault>
         ensures reads { OrNoMemory (λ key. key) result
             (word_or (is_word longest_key text.now) text.now BAD_KEY) }
         ensures memory { result ≡ Err WordFault.NoMemory → IsTrue (is_word longest_key text.now) }
     {
-        if !is_word(LONGEST_KEY, text) {
-            return Err(WordFault::Refused(Refusal { code: BAD_KEY }));
+        match word(text) {
+            Some(text) => Ok(Key { text }),
+            None => Err(WordFault::Refused(Refusal { code: BAD_KEY })),
         }
-        Ok(Key {
-            text: owned_text(alloc, text)?,
-        })
     }
 
     /// The bytes of the key.
@@ -178,9 +176,7 @@ impl Key {
     pub fn copy(&self) -> Result<Key, AllocError>
         ensures same { IfOk result (λ key. key ≡ self.now) }
     {
-        Ok(Key {
-            text: self.text.clone()?,
-        })
+        Ok(Key { text: self.text })
     }
 
     /// Whether two keys are equal.
