@@ -1,5 +1,5 @@
 //! Words: texts that keep a rule of their own.
-ghost use Rattle.std.specs.Prelude.{◌≡◌, ◌↔◌, [], length, IsTrue, IfOk, Err};
+ghost use Rattle.std.specs.Prelude.{◌≡◌, ◌↔◌, [], length, IsTrue, IfOk, IfSome, IsSome, Err};
 ghost use Rattle.std.specs.List.{list_all};
 ghost use Rattle.std.specs.Str.{IsUtf8, bytes_eq, is_utf8};
 ghost use Rattle.std.specs.String.{string_bytes};
@@ -13,6 +13,7 @@ use crate::limits::{LONGEST_KEY, LONGEST_NAME};
 pub use crate::priority::Priority;
 use crate::refusal::{BAD_KEY, BAD_NAME, Refusal};
 pub use crate::tags::{Tag, Tags};
+use arrayvec::ArrayString;
 use std::alloc::{AllocError, Global};
 use std::cmp::Ordering;
 use std::marker::Model;
@@ -43,6 +44,23 @@ pub fn is_word(most: usize, text: &[u8]) -> bool
     1 <= text.len() && text.len() <= most && are_name_bytes(text)
 }
 
+/// The word of at most `MOST` bytes that a text spells; none where it spells none.
+#[tactic(auto, using(crate::proofs::WordLemmas::IsUtf8_of_word), unfolding(crate::specs::Words::is_word))]
+fn word<const MOST: usize>(text: &[u8]) -> Option<ArrayString<MOST>>
+    ensures word { IfSome result (λ word. word.bytes ≡ text.now) }
+    ensures which { IsSome result ↔ IsTrue (is_word MOST text.now) }
+{
+    if !is_word(MOST, text) {
+        return None;
+    }
+    let mut word = ArrayString::new();
+    match std::str::from_utf8(text) {
+        Ok(text) => word.push_str(text),
+        Err(_) => unreachable!(),
+    }
+    Some(word)
+}
+
 /// The text of bytes that are known to be UTF-8, in memory of its own.
 pub fn owned_text(alloc: Global, bytes: &[u8]) -> Result<String, AllocError>
     requires { IsUtf8 bytes.now }
@@ -54,38 +72,35 @@ pub fn owned_text(alloc: Global, bytes: &[u8]) -> Result<String, AllocError>
     }
 }
 
-/// A name of a type, a board, a person or a role: 1 to 48 letters, digits, `-`, `_` or `.`.
+/// A name of a type, a board, a person or a role: 1 to 48 letters, digits, `-`, `_` or `.`. Its
+/// bytes lie in the value, so neither reading nor copying one takes memory.
 #[derive(Debug, Drop)]
 pub struct Name {
-    text: String,
+    text: ArrayString<LONGEST_NAME>,
 }
 
 impl Model for Name {
     ghost use Rattle.std.specs.Prelude.{List, ℕ};
-    ghost use Rattle.std.specs.String.{string_bytes};
     ghost use Rattle.farm_types.specs.Words.{IsName};
 
     ghost Value = { List ℕ };
 
-    ghost view = { λ n. string_bytes n.text };
+    ghost view = { λ n. n.text.bytes };
 
-    ghost invariant = { λ n. IsName (string_bytes n.text) };
+    ghost invariant = { λ n. IsName n.text.bytes };
 }
 
 impl Name {
-    /// The name that a text spells; refused as a bad name, or for memory where it spells one.
-    #[tactic(auto, using(crate::proofs::WordLemmas::IsUtf8_of_word))]
+    /// The name that a text spells; refused as a bad name.
     pub fn parse(alloc: Global, text: &[u8]) -> Result<Name, WordFault>
         ensures reads { OrNoMemory (λ name. name) result
             (word_or (is_word longest_name text.now) text.now BAD_NAME) }
         ensures memory { result ≡ Err WordFault.NoMemory → IsTrue (is_word longest_name text.now) }
     {
-        if !is_word(LONGEST_NAME, text) {
-            return Err(WordFault::Refused(Refusal { code: BAD_NAME }));
+        match word(text) {
+            Some(text) => Ok(Name { text }),
+            None => Err(WordFault::Refused(Refusal { code: BAD_NAME })),
         }
-        Ok(Name {
-            text: owned_text(alloc, text)?,
-        })
     }
 
     /// The bytes of the name.
@@ -100,9 +115,7 @@ impl Name {
     pub fn copy(&self) -> Result<Name, AllocError>
         ensures same { IfOk result (λ name. name ≡ self.now) }
     {
-        Ok(Name {
-            text: self.text.clone()?,
-        })
+        Ok(Name { text: self.text })
     }
 
     /// Whether two names are equal.
@@ -120,38 +133,35 @@ impl Name {
     }
 }
 
-/// A key under which a reply is kept: 1 to 64 letters, digits, `-`, `_` or `.`.
+/// A key under which a reply is kept: 1 to 64 letters, digits, `-`, `_` or `.`. Its bytes lie in
+/// the value, as a name's do.
 #[derive(Debug, Drop)]
 pub struct Key {
-    text: String,
+    text: ArrayString<LONGEST_KEY>,
 }
 
 impl Model for Key {
     ghost use Rattle.std.specs.Prelude.{List, ℕ};
-    ghost use Rattle.std.specs.String.{string_bytes};
     ghost use Rattle.farm_types.specs.Words.{IsKey};
 
     ghost Value = { List ℕ };
 
-    ghost view = { λ n. string_bytes n.text };
+    ghost view = { λ n. n.text.bytes };
 
-    ghost invariant = { λ n. IsKey (string_bytes n.text) };
+    ghost invariant = { λ n. IsKey n.text.bytes };
 }
 
 impl Key {
-    /// The key that a text spells; refused as a bad key, or for memory where it spells one.
-    #[tactic(auto, using(crate::proofs::WordLemmas::IsUtf8_of_word))]
+    /// The key that a text spells; refused as a bad key.
     pub fn parse(alloc: Global, text: &[u8]) -> Result<Key, WordFault>
         ensures reads { OrNoMemory (λ key. key) result
             (word_or (is_word longest_key text.now) text.now BAD_KEY) }
         ensures memory { result ≡ Err WordFault.NoMemory → IsTrue (is_word longest_key text.now) }
     {
-        if !is_word(LONGEST_KEY, text) {
-            return Err(WordFault::Refused(Refusal { code: BAD_KEY }));
+        match word(text) {
+            Some(text) => Ok(Key { text }),
+            None => Err(WordFault::Refused(Refusal { code: BAD_KEY })),
         }
-        Ok(Key {
-            text: owned_text(alloc, text)?,
-        })
     }
 
     /// The bytes of the key.
@@ -166,9 +176,7 @@ impl Key {
     pub fn copy(&self) -> Result<Key, AllocError>
         ensures same { IfOk result (λ key. key ≡ self.now) }
     {
-        Ok(Key {
-            text: self.text.clone()?,
-        })
+        Ok(Key { text: self.text })
     }
 
     /// Whether two keys are equal.
