@@ -120,7 +120,7 @@ static void meta(const char *name, long value) {
     run(put_meta);
 }
 
-/* The four numbers, which each command writes. */
+/* The four numbers, of which each command writes those that changed. */
 static void numbers(void) {
     meta("clock", 1700000000);
     meta("collector", 0);
@@ -203,7 +203,8 @@ static void open_store(const char *path) {
     put_job = prepare("INSERT OR REPLACE INTO jobs VALUES (?1, ?2, ?3, ?4, ?5, ?6, ?7, ?8, ?9, ?10, ?11, ?12)");
     put_reservation = prepare("INSERT OR REPLACE INTO reservations VALUES (?1, ?2, ?3, ?4, ?5, ?6, ?7)");
     put_kept = prepare("INSERT OR REPLACE INTO kept VALUES (?1, ?2, ?3, ?4, ?5, ?6)");
-    put_meta = prepare("INSERT INTO meta VALUES (?1, ?2) ON CONFLICT (name) DO UPDATE SET value = excluded.value");
+    put_meta = prepare("INSERT INTO meta VALUES (?1, ?2) ON CONFLICT (name) DO UPDATE SET value = excluded.value"
+                       " WHERE value <> excluded.value");
     begin = prepare("BEGIN IMMEDIATE");
     commit = prepare("COMMIT");
     next_number = number_of("SELECT value FROM meta WHERE name = 'next'");

@@ -6,6 +6,10 @@ pub mod PutLemmas
 pub mod Keys
 pub mod OneRow
 pub mod PutAt
+pub mod Stays
+pub mod Clause
+pub mod UpsertAt
+pub mod KeyedUpsert
 pub mod RowPuts
 pub mod PutMeta
 pub mod RaisesJobs

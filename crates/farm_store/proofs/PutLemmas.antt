@@ -1,5 +1,5 @@
 -- A replaced row in a table is a row that is put.
-use Rattle.std.proofs.Common.{refl, ◌≡◌, inl, inr, ℕ, List, [], ◌∷◌, true, None, sym, ap, subst, ◌∙◌, Ordering, Less, Equal, Greater, is_eq}
+use Rattle.std.proofs.Common.{refl, ◌≡◌, ◌≢◌, inl, inr, ℕ, List, [], ◌∷◌, true, None, sym, ap, subst, ◌∙◌, Ordering, Less, Equal, Greater, is_eq}
 use Rattle.std.specs.Cmp.{IsTotalOrder}
 use Rattle.std.specs.List.{AllByRecursion}
 use Rattle.std.specs.Ordering.{match_ordering}
@@ -17,6 +17,7 @@ use Rattle.sqlite_rules.specs.Keys.{conflicts}
 use Rattle.sqlite_rules.proofs.ListLemmas.{all_from}
 use Rattle.farm_types.specs.Table.{put}
 use Rattle.farm_store.specs.Replaces.{Replaces}
+use Rattle.farm_store.specs.Schema.{farm_schema}
 use Rattle.farm_store.specs.Stored.{Differ, IsWide, ListsRows}
 use Rattle.farm_store.proofs.Sorted.{all_put, put_strict, put_adds, put_keeps, put_has}
 
@@ -28,6 +29,11 @@ put_apart show new (r ∷ rows) up other = elim (value_cmp (rowid r) (rowid new)
   | Equal ↦ (other.1, up.1)
   | Greater ↦ (other, up)
 ]
+
+-- one table has these rows now, and the others are as they were
+pub record TableBecomes (cmp : Row → Row → Ordering) (show : Row → Row) (width tree : ℕ) (db : Trees) (rows : List Row) (next : Trees) : Type 0 where
+  pub lists : ListsRows cmp show width (next tree) rows
+  pub others : AllByRecursion (λ t. t.tree ≢ tree → next t.tree ≡ db t.tree) farm_schema.tables
 
 pub eq_is : (o : Ordering) → is_eq o ≡ true → o ≡ Equal
 eq_is Less h = absurd (cc)

@@ -61,7 +61,7 @@ use Rattle.farm_store.specs.Stored.{Differ, HasInt, IsStrict, IsWide, ListsRows,
 use Rattle.farm_store.proofs.Order.{permuted}
 use Rattle.farm_store.proofs.PutAt.{jobs_known, stands_rewritten}
 use Rattle.farm_store.proofs.Replace.{went, same_value, cast_int, has_own, left_lacks, left_table}
-use Rattle.farm_store.proofs.RowPuts.{all_stay}
+use Rattle.farm_store.proofs.Stays.{all_stay}
 
 abbrev tests : List Term
 tests = op2 (Compare Gt Binary) (col 1 9) (lit (Int (pos 0))) ∷ op2 (Compare Ge Binary) (col 1 0) (col 0 0) ∷ op2 (Compare Lt Binary) (col 1 0) (col 0 1) ∷ []

@@ -12,7 +12,6 @@ use Rattle.farm_store.specs.Readable.{IsReadableType, IsReadableBoard, IsReadabl
 use Rattle.sqlite.specs.State.{State}
 use Rattle.farm_store.specs.Holds.{Stands}
 use Rattle.farm_store.specs.Reading.{LooksAtSchema, LooksFirst, ReadsAs, ReadsEdition, ReadsFarm, ReadsNumbers, TellsNoVersion}
-use Rattle.farm_store.specs.Schema.{farm_schema}
 use Rattle.farm_store.specs.Versions.{ShowsNumbers}
 use Rattle.farm_store.specs.declared.edition.Edition.{Edition}
 use Rattle.farm_store.specs.declared.fault.StoreFault.{StoreFault}

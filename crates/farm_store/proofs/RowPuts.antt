@@ -1,17 +1,14 @@
 -- The statement that puts a row into each table, and what it makes of the tables.
-use Rattle.std.proofs.Common.{refl, Bool, true, false, ◌&&◌, ◌≡◌, ◌∙◌, ◌-◌, ℕ, ℤ, zero, suc, pos, List, [], ◌∷◌, ◌++◌, ◌/◌, drop, length, codes, None, Some, Ok, slice_get, ap, ap₂, is_eq}
-use Rattle.std.proofs.lemmas.Bool.{false≢true, and_parts}
+use Rattle.std.proofs.Common.{refl, true, ◌≡◌, ◌∙◌, ◌-◌, ℕ, ℤ, zero, suc, pos, List, [], ◌∷◌, ◌++◌, ◌/◌, drop, length, codes, None, Some, Ok, slice_get, ap, ap₂, is_eq}
 use Rattle.std.specs.List.{AllByRecursion}
-use Rattle.sqlite.specs.declared.types.Value.{Value}
 use Rattle.sqlite.specs.declared.types.Value.TheVariants.{Null, Int}
-use Rattle.sqlite.specs.declared.types.Value.TheVariants as value
 use Rattle.sqlite.specs.Order.{Row}
 use Rattle.sqlite.specs.Table.{Table}
 use Rattle.sqlite.specs.Term.{Term, lit, col}
 use Rattle.sqlite.specs.Source.TheVariants.{Values}
 use Rattle.sqlite.specs.Command.TheVariants.{InsertOr}
 use Rattle.sqlite.specs.Listing.{understood}
-use Rattle.sqlite.specs.Cast.{cast, cast_all, cast_row}
+use Rattle.sqlite.specs.Cast.{cast_row}
 use Rattle.sqlite.specs.Edit.{with_rowid}
 use Rattle.sqlite.specs.Effect.{value_rows}
 use Rattle.sqlite.specs.Rows.{mended}
@@ -22,8 +19,6 @@ use Rattle.sqlite_tied.specs.Compute.{everything}
 use Rattle.sqlite_trees.specs.Tree.{IsTable}
 use Rattle.sqlite_schema.specs.declared.schema.Column.{Column}
 use Rattle.sqlite_schema.specs.declared.schema.Keys.{Keys}
-use Rattle.sqlite_schema.specs.declared.schema.Kind.{Kind}
-use Rattle.sqlite_schema.specs.declared.schema.Kind.TheVariants.{Integer, Text}
 use Rattle.sqlite_schema.specs.declared.command.Conflict.TheVariants.{Replace}
 use Rattle.sqlite_rules.specs.Action.{works}
 use Rattle.sqlite_rules.specs.Edit.{next_rowid}
@@ -45,32 +40,10 @@ use Rattle.farm_store.specs.Holds.{IsInside}
 use Rattle.farm_store.specs.Places.{TableSlot, put_at, of_types, of_boards, of_jobs, of_reservations, of_kept}
 use Rattle.farm_store.specs.Stored.{HasInt, IsWide}
 use Rattle.farm_store.proofs.Replace.{cast_int, cast_null}
+use Rattle.farm_store.proofs.Stays.{all_fit, all_stay}
 use Rattle.farm_store.proofs.Keys.{by_next, by_next_two, by_rowid}
 use Rattle.farm_store.proofs.OneRow.{upserted}
 use Rattle.farm_store.proofs.PutAt.{IsKnown, stands_put, types_known, boards_known, jobs_known, reservations_known, kept_known}
-
--- a column of this kind stores the value as it is
-abbrev pub fits : Kind → Value → Bool
-fits Integer (Int n) = true
-fits Integer Null = true
-fits Text (value.Text t) = true
-fits kind v = false
-
-abbrev pub all_fit : List Column → Row → Bool
-all_fit [] vs = true
-all_fit (c ∷ cs) [] = true
-all_fit (c ∷ cs) (v ∷ vs) = fits c.kind v && all_fit cs vs
-
-stays : (kind : Kind) (v : Value) → fits kind v ≡ true → cast kind v ≡ v
-stays Integer (Int n) fit = cast_int n
-stays Integer Null fit = cast_null
-stays Text (value.Text t) fit = refl
-stays kind v fit = absurd (false≢true fit)
-
-pub all_stay : (cs : List Column) (vs : Row) → all_fit cs vs ≡ true → cast_all cs vs ≡ vs
-all_stay [] vs fit = refl
-all_stay (c ∷ cs) [] fit = refl
-all_stay (c ∷ cs) (v ∷ vs) fit = let both = and_parts (fits c.kind v) (all_fit cs vs) fit in ap₂ ◌∷◌ (stays c.kind v both.0) (all_stay cs vs both.1)
 
 -- the text puts such a row at the place
 abbrev Puts : TableSlot → List ℕ → Row → Type 1

@@ -37,9 +37,10 @@ pub(crate) const MAKE: &str = "\
 /// All rows, in order of their keys.
 const READ: &str = "SELECT name, value FROM meta ORDER BY name";
 
-/// Puts a row's value into the row with its key, or adds it.
+/// Puts a row's value into the row with its key where that tells another one, or adds the row.
 const PUT: &str = "\
-    INSERT INTO meta VALUES (?1, ?2) ON CONFLICT (name) DO UPDATE SET value = excluded.value";
+    INSERT INTO meta VALUES (?1, ?2) ON CONFLICT (name) DO UPDATE SET value = excluded.value \
+    WHERE value <> excluded.value";
 
 /// Whether a table is this one.
 pub(crate) fn is_numbers(table: &Table) -> bool

@@ -73,7 +73,8 @@ fn put_all<S: Alter>(
 /// store, so where memory is refused nothing has changed; where the store failed, a stop leaves the
 /// tables as they were or with all the changes put.
 ///
-/// It writes the rows of the changes and four more, each by its key, and reads no other row.
+/// It writes the rows of the changes, each by its key, looks for the rows of the four numbers by
+/// theirs, and writes those that tell another one. It reads no other row.
 pub fn put<S: Alter>(
     alloc: Global,
     conn: &mut Connection<S>,
