@@ -25,7 +25,7 @@ use Rattle.farm_sound.proofs.Own.{own_job}
 use Rattle.farm_sound.proofs.Where.{by_cases, find_map}
 use Rattle.farm_pick.specs.Queued.{IdleBoard, idle_board, idle_boards}
 use Rattle.farm_core.specs.Collecting.{Collects, HasWant}
-use Rattle.farm_core.specs.Drafted.{Drafted}
+use Rattle.farm_core.specs.Came.{Seen}
 use Rattle.farm_core.specs.Serving.{give_named}
 use Rattle.farm_core.proofs.OneWant.{least_first}
 use Rattle.farm_core.proofs.Serving.{names_of, numbers_of}
@@ -144,34 +144,31 @@ no_more (m ∷ ms) zero high = absurd (omega arith)
 no_more (m ∷ ms) (suc at) high = no_more ms at (omega arith)
 
 -- so many members have taken what they get
-pub record Takes (D E : Drafted) (group at : ℕ) : Type 0 where
+pub record Takes (D E : Seen) (group at : ℕ) : Type 0 where
   pub rest : fold collect_member E.farm (drop at (members D.farm group)) ≡ fold collect_member D.farm (members D.farm group)
-  pub start : E.start ≡ D.start
   pub queues : E.queues ≡ record D.queues { boards = idle_boards E.farm }
   pub wants : AllByRecursion (λ m. HasWant E.farm m.number m) (members D.farm group)
 
-pub takes_begin : (D : Drafted) (group : ℕ) → IsSound D.farm → D.queues.boards ≡ idle_boards D.farm → Takes D D group 0
+pub takes_begin : (D : Seen) (group : ℕ) → IsSound D.farm → D.queues.boards ≡ idle_boards D.farm → Takes D D group 0
 takes_begin D group sound free = record {
   rest = refl;
-  start = refl;
   queues = λ i. record D.queues { boards = free i };
   wants = wants_own D.farm group sound;
 }
 
-module _ (D E : Drafted) (group at : ℕ) (takes : Takes D E group at) (numbers : List ℕ) (are : numbers ≡ numbers_of (members D.farm group)) where
+module _ (D E : Seen) (group at : ℕ) (takes : Takes D E group at) (numbers : List ℕ) (are : numbers ≡ numbers_of (members D.farm group)) where
   long : length numbers ≡ length (members D.farm group)
   long = ap length are ∙ length-map (members D.farm group) (λ (m : JobRow). m.number)
 
-  pub takes_on : at < length numbers → (G : Drafted) → ((j : JobRow) → HasWant E.farm (get_or numbers at 0) j → Collects E j G) → Takes D G group (at + 1)
+  pub takes_on : at < length numbers → (G : Seen) → ((j : JobRow) → HasWant E.farm (get_or numbers at 0) j → Collects E j G) → Takes D G group (at + 1)
   takes_on low G collects =
       let it = split (λ m. HasWant E.farm m.number m) (members D.farm group) at takes.wants (omega (arith, long, low)) in
       let number : get_or numbers at 0 ≡ it.0.number = ap (λ ns. get_or ns at 0) are ∙ it.2 in
       let made = collects it.0 (subst (λ n. HasWant E.farm n it.0) (sym number) it.3) in
-      let farm : G.farm ≡ collect_member E.farm it.0 = ap (λ (H : Drafted). H.farm) made in
+      let farm : G.farm ≡ collect_member E.farm it.0 = ap (λ (H : Seen). H.farm) made in
       record {
         rest = (λ i. fold collect_member (farm i) (drop (add-one at i) (members D.farm group))) ∙ sym (ap (fold collect_member E.farm) it.1) ∙ takes.rest;
-        start = ap (λ (H : Drafted). H.start) made ∙ takes.start;
-        queues = ap (λ (H : Drafted). H.queues) made ∙ (λ i. record (takes.queues i) { boards = idle_boards (sym farm i) });
+        queues = ap (λ (H : Seen). H.queues) made ∙ (λ i. record (takes.queues i) { boards = idle_boards (sym farm i) });
         wants = AllByRecursion-weaker (λ k has. subst (λ (H : Farm). HasWant H k.number k) (sym farm) (want_stays E.farm it.0 k k.number has)) (members D.farm group) takes.wants;
       }
 

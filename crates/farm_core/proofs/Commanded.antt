@@ -1,4 +1,4 @@
--- The queues of a draft follow a command as the machine says.
+-- The queues follow a command as the machine says.
 use Rattle.std.proofs.Common.{◌≡◌, ◌∙◌, ◌==◌, ◌+◌, ℕ, List, false, map, not, Option, Some, None, refl, sym, ap}
 use Rattle.std.specs.Option.{option_map_or}
 use Rattle.farm_types.specs.Change.{keep, farm_at_call, new_res}
@@ -15,7 +15,7 @@ use Rattle.farm_pick.specs.Follow.{queue_after, queue_without}
 use Rattle.farm_pick.specs.Queued.{QueueLists, queue_lists, queued_of}
 use Rattle.farm_pick.proofs.Commands.{commands_follow}
 use Rattle.farm_pick.proofs.Filling.{queued_filter, queued_put}
-use Rattle.farm_core.specs.Drafted.{queues_after, without_claim}
+use Rattle.farm_core.specs.Following.{queues_after, without_claim}
 use Rattle.farm_core.specs.Following.{FollowsIn}
 use Rattle.farm_core.proofs.Free.{free_after}
 

@@ -15,7 +15,7 @@ use Rattle.farm_pick.specs.Queued.{QueueLists, idle_boards, queue_lists, queue_k
 use Rattle.farm_pick.proofs.Filling.{fresh_before, last_put}
 use Rattle.farm_pick.proofs.Leading.{lead_of, of_reservation}
 use Rattle.farm_sound.proofs.Claims.{IsClaim, queue_claims}
-use Rattle.farm_core.specs.Drafted.{IsFresh}
+use Rattle.farm_core.specs.Following.{IsFresh}
 use Rattle.farm_core.specs.Following.{kind_by, kind_in}
 
 -- ---- the claim at a place of the queue

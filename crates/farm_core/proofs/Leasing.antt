@@ -24,7 +24,8 @@ use Rattle.farm_sound.proofs.Tests.{both, same_number}
 use Rattle.farm_sound.proofs.Where.{AllByRecursion-both}
 use Rattle.farm_sound.specs.Place.{res_in}
 use Rattle.farm_pick.specs.Queued.{Queued}
-use Rattle.farm_core.specs.Drafted.{Drafted, without_claim}
+use Rattle.farm_core.specs.Came.{Seen}
+use Rattle.farm_core.specs.Following.{without_claim}
 use Rattle.farm_core.specs.Following.{without_all}
 use Rattle.farm_core.specs.Leases.{AreNoted, Grows, IsNoted, is_dead_at, is_noted, lease_cmp, lease_if, lease_of, may_end}
 use Rattle.farm_core.specs.declared.leases.Lease.{Lease}
@@ -240,26 +241,26 @@ module _ (t n : ℕ) where
       by false is dead rest =
           subst (EndsOne t n (r ∷ rows)) (sym (ap (λ v. cond v (expired r) r ∷ change_where numbered expired rows) is)) (behind r rows (change_where numbered expired rows) (rest dead))
 
--- ---- and so in a draft
+-- ---- and so in a farm and its queues
 
-abbrev pub dead_rows : Drafted → List ResRow
+abbrev pub dead_rows : Seen → List ResRow
 dead_rows D = filter (is_dead D.farm.clock) D.farm.reservations
 
--- a draft once its dead reservations have ended
-abbrev pub ended : Drafted → Drafted
+-- these once their dead reservations have ended
+abbrev pub ended : Seen → Seen
 ended D = record D {
   farm = record D.farm { reservations = change_where (is_dead D.farm.clock) expired D.farm.reservations };
   queues = record D.queues { claims = without_all (dead_rows D) D.queues.claims };
 }
 
 -- and once one has
-abbrev pub one_ended : ℕ → Drafted → Drafted
+abbrev pub one_ended : ℕ → Seen → Seen
 one_ended n D = record D {
   farm = record D.farm { reservations = change_where (λ (r : ResRow). r.number == n) expired D.farm.reservations };
   queues = without_claim n D.queues;
 }
 
-module _ (D E : Drafted) (n : ℕ) (sorted : IsStrictlySortedBy res_cmp D.farm.reservations) (dead : is_dead_at D.farm.clock D.farm.reservations n ≡ true) (is : E ≡ one_ended n D) where
+module _ (D E : Seen) (n : ℕ) (sorted : IsStrictlySortedBy res_cmp D.farm.reservations) (dead : is_dead_at D.farm.clock D.farm.reservations n ≡ true) (is : E ≡ one_ended n D) where
   one : EndsOne D.farm.clock n D.farm.reservations (change_where (λ (r : ResRow). r.number == n) expired D.farm.reservations)
   one = ends_one D.farm.clock n D.farm.reservations sorted dead
 
@@ -270,15 +271,15 @@ module _ (D E : Drafted) (n : ℕ) (sorted : IsStrictlySortedBy res_cmp D.farm.r
   })
 
   pub dead_fewer : suc (length (dead_rows E)) ≡ length (dead_rows D)
-  dead_fewer = ap (λ (G : Drafted). suc (length (dead_rows G))) is ∙ one.fewer
+  dead_fewer = ap (λ (G : Seen). suc (length (dead_rows G))) is ∙ one.fewer
 
-pub ended_all : (D : Drafted) → AllByRecursion (λ r. is_dead D.farm.clock r ≡ false) D.farm.reservations → ended D ≡ D
+pub ended_all : (D : Seen) → AllByRecursion (λ r. is_dead D.farm.clock r ≡ false) D.farm.reservations → ended D ≡ D
 ended_all D none = λ i. record D {
   farm = record D.farm { reservations = unchanged (is_dead D.farm.clock) expired D.farm.reservations none i };
   queues = record D.queues { claims = without_all (none_pass (is_dead D.farm.clock) D.farm.reservations none i) D.queues.claims };
 }
 
-pub none_dead : (D : Drafted) → AllByRecursion (λ r. is_dead D.farm.clock r ≡ false) D.farm.reservations → length (dead_rows D) ≡ 0
+pub none_dead : (D : Seen) → AllByRecursion (λ r. is_dead D.farm.clock r ≡ false) D.farm.reservations → length (dead_rows D) ≡ 0
 none_dead D none = ap length (none_pass (is_dead D.farm.clock) D.farm.reservations none)
 
 -- they are no more than there are rows, and an end leaves the rows as many
@@ -294,10 +295,10 @@ length_passing test (r ∷ rows) = by (test r) (length_passing test rows)
     by true rest = omega (arith, rest)
     by false rest = omega (arith, rest)
 
-pub dead_few : (D E : Drafted) → ended E ≡ ended D → length (dead_rows D) ≤ length E.farm.reservations
+pub dead_few : (D E : Seen) → ended E ≡ ended D → length (dead_rows D) ≤ length E.farm.reservations
 dead_few D E is =
     let same : length E.farm.reservations ≡ length D.farm.reservations =
-    sym (length_changed (is_dead E.farm.clock) expired E.farm.reservations) ∙ ap (λ (G : Drafted). length G.farm.reservations) is
+    sym (length_changed (is_dead E.farm.clock) expired E.farm.reservations) ∙ ap (λ (G : Seen). length G.farm.reservations) is
     ∙ length_changed (is_dead D.farm.clock) expired D.farm.reservations in
     let few = length_passing (is_dead D.farm.clock) D.farm.reservations in
     omega (arith, same, few)

@@ -3,7 +3,7 @@ pub mod Replies
 pub mod Marks
 pub mod Sound
 pub mod Windows
-pub mod Tabled
+pub mod Steps
 pub mod EditLemmas
 pub mod JobLemmas
 pub mod AcceptedCalls

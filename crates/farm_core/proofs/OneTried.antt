@@ -6,14 +6,14 @@ use Rattle.farm_types.specs.declared.claims.ClaimKind.{ClaimKind}
 use Rattle.farm_sound.proofs.Claims.{IsClaim, queue_claims}
 use Rattle.farm_sound.proofs.Lists.{among_has}
 use Rattle.farm_pick.proofs.Filling.{numbers_differ}
-use Rattle.farm_core.specs.Drafted.{Drafted}
+use Rattle.farm_core.specs.Came.{Seen}
 use Rattle.farm_core.specs.Serving.{Asks, Serves, Tries}
 use Rattle.farm_core.proofs.Passing.{asks_claim}
 use Rattle.farm_core.proofs.Skipping.{one_of}
 
-module _ (D : Drafted) (kind : ClaimKind) (number boards : ℕ) (sound : IsSound D.farm)
+module _ (D : Seen) (kind : ClaimKind) (number boards : ℕ) (sound : IsSound D.farm)
     (waits : (c : Claimed) × IsAmong c (queue D.farm) × ((shown_claim c).kind ≡ kind) × (c.number ≡ number) × (length c.wants ≡ boards))
-    (E : Drafted) (served : Bool) (tries : (c : Claimed) → (shown_claim c).kind ≡ kind → c.number ≡ number → Asks c.reservation D.farm c → Tries D c served E) where
+    (E : Seen) (served : Bool) (tries : (c : Claimed) → (shown_claim c).kind ≡ kind → c.number ≡ number → Asks c.reservation D.farm c → Tries D c served E) where
   asked : (c : Claimed) → (shown_claim c).kind ≡ kind → c.number ≡ number → IsAmong c (queue D.farm) → Tries D c served E
   asked c is same at = tries c is same (asks_claim D.farm c (among_has (IsClaim D.farm) c (queue D.farm) (queue_claims D.farm sound.steady) at))
 
@@ -26,12 +26,12 @@ module _ (D : Drafted) (kind : ClaimKind) (number boards : ℕ) (sound : IsSound
   still_same out = ((asked waits.0 waits.2 waits.3 waits.1).unmet out).0
 
   -- and it is passed over
-  pub passed_serves : served ≡ false → (G : Drafted)
+  pub passed_serves : served ≡ false → (G : Seen)
       → ((c : Claimed) → (shown_claim c).kind ≡ kind → c.number ≡ number → length c.wants ≡ boards
       → least E.farm.boards (is_free E.farm.types) c.wants ≡ None → Serves E c false G)
       → (c : Claimed) → (shown_claim c).kind ≡ kind → c.number ≡ number → IsAmong c (queue D.farm) → Serves D c false G
   passed_serves out G over c is same at =
       let two = (asked c is same at).unmet out in
       let one : c ≡ waits.0 = one_of c waits.0 (queue D.farm) (numbers_differ D.farm sound) at waits.1 (same ∙ sym waits.3) in
-      subst (λ (X : Drafted). Serves X c false G) two.0
-      (over c is same (ap (λ (e : Claimed). length e.wants) one ∙ waits.4) (subst (λ (X : Drafted). least X.farm.boards (is_free X.farm.types) c.wants ≡ None) (sym two.0) two.1))
+      subst (λ (X : Seen). Serves X c false G) two.0
+      (over c is same (ap (λ (e : Claimed). length e.wants) one ∙ waits.4) (subst (λ (X : Seen). least X.farm.boards (is_free X.farm.types) c.wants ≡ None) (sym two.0) two.1))

@@ -19,7 +19,7 @@ use Rattle.farm_pick.specs.Least.{boards_at}
 use Rattle.farm_sound.proofs.Lists.{filter_all}
 use Rattle.farm_sound.proofs.Where.{AllByRecursion-map}
 use Rattle.farm_table.specs.Near.{IsFitJob}
-use Rattle.farm_core.specs.Drafted.{Drafted}
+use Rattle.farm_core.specs.Came.{Seen}
 use Rattle.farm_core.specs.Serving.{Asks, Serves, Tries, give_first, give_named}
 
 -- ---- the numbers of members, and the names of boards
@@ -162,5 +162,5 @@ shown_group false is = refl
 
 -- ---- what came of a claim
 
-pub met : {D E : Drafted} {c : Claimed} → Serves D c true E → Tries D c true E
+pub met : {D E : Seen} {c : Claimed} → Serves D c true E → Tries D c true E
 met serves = record { met = λ _. serves; unmet = λ is. cc }

@@ -21,7 +21,7 @@ use Rattle.farm_pick.proofs.Giving.{giving_follows}
 use Rattle.farm_pick.proofs.Collects.{collecting_follows}
 use Rattle.farm_pick.proofs.Later.{among_later}
 use Rattle.farm_pick.proofs.Merging.{unmet_stays}
-use Rattle.farm_core.specs.Drafted.{Drafted}
+use Rattle.farm_core.specs.Came.{Seen}
 use Rattle.farm_core.specs.declared.pass.lookahead.unsatisfiable.Known.{Known}
 use Rattle.farm_core.specs.Serving.{AreUnmet, Asks, IfUnmet, IsLike, IsMissed, IsUnmet, Serves, WantAlike, count_after, member_wants, want_at, want_in, wants_of}
 use Rattle.farm_core.proofs.Passing.{asks_claim}
@@ -224,7 +224,7 @@ all_taken F (p ∷ places) (suc n) all = (all.0, all_taken F places n all.1)
 
 -- ---- a claim that is tried
 
-module _ (D E : Drafted) (c : Claimed) (served : Bool) (sound : IsSound D.farm) (at : IsAmong c (queue D.farm)) (serves : Serves D c served E)
+module _ (D E : Seen) (c : Claimed) (served : Bool) (sound : IsSound D.farm) (at : IsAmong c (queue D.farm)) (serves : Serves D c served E)
     (places : List (Option Known)) (all : AreUnmet D.farm places) where
   pub known_on : AreUnmet E.farm places
   known_on = all_on D.farm E.farm c served sound at serves.0 places all

@@ -1,20 +1,14 @@
 -- What is small, and what proper calls say of it.
-use Rattle.std.proofs.Common.{◌≡◌, ◌==◌, ℕ, length, Option, List, [], ◌∷◌, ◌++◌, ◌&&◌, Bool, true, false, IsTrue, refl, subst, arith}
+use Rattle.std.proofs.Common.{◌≡◌, ◌==◌, ℕ, length, Option, List, ◌&&◌, Bool, true, false, IsTrue, refl, subst, arith}
 use Rattle.std.proofs.lemmas.Bool.Decides.{nat_tests}
-use Rattle.std.specs.List.{AllByRecursion}
 use Rattle.farm_types.specs.Limits.{longest_name}
 use Rattle.farm_types.specs.Words.{is_word}
 use Rattle.farm_types.specs.Proper.{is_frequency, is_proper_cmd}
 use Rattle.farm_types.specs.declared.calls.Cmd.{Cmd}
 use Rattle.farm_types.specs.declared.calls.Call.{Call}
 use Rattle.farm_types.specs.declared.rows.Check.{Check}
-use Rattle.farm_types.specs.Small.{IsSmall, every_of, IsSmallKept}
-use Rattle.farm_types.specs.declared.rows.KeptRow.{KeptRow}
+use Rattle.farm_types.specs.Small.{IsSmall, every_of}
 use Rattle.farm_types.specs.declared.rows.Want.{Want}
-use Rattle.farm_table.proofs.Steps.{all_push}
-
-pub small_kept_push : (rows : List KeptRow) (row : KeptRow) → IsSmallKept row → AllByRecursion IsSmallKept rows → AllByRecursion IsSmallKept (rows ++ (row ∷ []))
-small_kept_push rows row here all = all_push IsSmallKept rows row all here
 
 both_true : (a b : Bool) → (a && b) ≡ true → (a ≡ true) × (b ≡ true)
 both_true true b is = (refl, is)

@@ -12,7 +12,7 @@ use Rattle.farm_types.specs.declared.rows.ResRow.{ResRow}
 use Rattle.farm_types.specs.declared.rows.MetaRow.{MetaRow}
 use Rattle.farm_types.specs.declared.calls.Changes.{Changes}
 use Rattle.farm_table.specs.Near.{IsFitJob}
-use Rattle.farm_core.specs.Tracks.{AreSmallRows}
+use Rattle.farm_core.specs.SmallRows.{AreSmallRows}
 use Rattle.farm_core.proofs.Small.{small_frequency}
 use Rattle.farm_types.proofs.Put.{AllByRecursion-weaker}
 use Rattle.farm_sound.proofs.Accepted.{low_job, low_res}

@@ -43,7 +43,7 @@ use Rattle.farm_pick.proofs.Giving.{giving_follows}
 use Rattle.farm_pick.proofs.Later.{after_itself, later, later_none}
 use Rattle.farm_pick.proofs.Merging.{Begins, Goes, IsTrying, Skips, begins_with, begins_without, found_among, none_by, one_group, passed_by, serve_but, some_want, tried_by, unserved}
 use Rattle.farm_core.specs.Following.{without_board, without_boards}
-use Rattle.farm_core.specs.Drafted.{Drafted}
+use Rattle.farm_core.specs.Came.{Seen}
 use Rattle.farm_core.specs.Ahead.{ComesNext, Foresees}
 use Rattle.farm_core.specs.declared.pass.lookahead.Coming.{Coming}
 use Rattle.farm_core.specs.Serving.{Begins as FirstServed, IsSkipped, IsNext, Serves, boards_for, count_after, queues_given}
@@ -337,17 +337,17 @@ module _ (F : Farm) (former : ℕ) (G : Farm) (queues : QueueLists) (count : ℕ
 
 -- ---- a turn of the program
 
--- the claim that comes next, in the draft
-pub next_here : (V D : Drafted) → V ≡ D → (place : Option (ℕ × ℕ)) (o : Option Coming) (x : Coming) → o ≡ Some x → ComesNext V.farm place o → ComesNext D.farm place (Some x)
-next_here V D view place o x is next = subst (ComesNext D.farm place) is (subst (λ (E : Drafted). ComesNext E.farm place o) view next)
+-- the claim that comes next
+pub next_here : (F : Farm) (place : Option (ℕ × ℕ)) (o : Option Coming) (x : Coming) → o ≡ Some x → ComesNext F place o → ComesNext F place (Some x)
+next_here F place o x is next = subst (ComesNext F place) is next
 
-pub none_here : (V D : Drafted) → V ≡ D → (place : Option (ℕ × ℕ)) (o : Option Coming) → o ≡ None → ComesNext V.farm place o → IsNext D.farm place None
-none_here V D view place o is next = subst (ComesNext D.farm place) is (subst (λ (E : Drafted). ComesNext E.farm place o) view next)
+pub none_here : (F : Farm) (place : Option (ℕ × ℕ)) (o : Option Coming) → o ≡ None → ComesNext F place o → IsNext F place None
+none_here F place o is next = subst (ComesNext F place) is next
 
 abbrev pub place_after : Claim → Option (ℕ × ℕ)
 place_after claim = Some (claim.priority, claim.number)
 
-module _ (F : Farm) (former : ℕ) (D : Drafted) (count : ℕ) (place : Option (ℕ × ℕ)) (trying : Trying F former D.farm D.queues count place) (claim : Claim)
+module _ (F : Farm) (former : ℕ) (D : Seen) (count : ℕ) (place : Option (ℕ × ℕ)) (trying : Trying F former D.farm D.queues count place) (claim : Claim)
     (next : IsNext D.farm place (Some claim)) where
   own_kind : (shown_claim next.0).kind ≡ claim.kind
   own_kind = ap (λ (k : Claim). k.kind) next.2
@@ -376,7 +376,7 @@ module _ (F : Farm) (former : ℕ) (D : Drafted) (count : ℕ) (place : Option (
 
   -- another is tried
   module _ (other : (c : Claimed) → (shown_claim c).kind ≡ claim.kind → c.number ≡ claim.number → is_group former c ≡ false)
-      (E : Drafted) (served : Bool) (serving : (c : Claimed) → (shown_claim c).kind ≡ claim.kind → c.number ≡ claim.number → IsAmong c (queue D.farm) → Serves D c served E) where
+      (E : Seen) (served : Bool) (serving : (c : Claimed) → (shown_claim c).kind ≡ claim.kind → c.number ≡ claim.number → IsAmong c (queue D.farm) → Serves D c served E) where
     serves : Serves D next.0 served E
     serves = serving next.0 own_kind own_number next.1
 
@@ -393,15 +393,12 @@ module _ (F : Farm) (former : ℕ) (D : Drafted) (count : ℕ) (place : Option (
     clock = ap (λ (u : Served). u.farm.clock) (sym (serves.0 count)) ∙ served_clock D.farm.clock (come_to D.farm count) next.0
 
     fits : E.queues ≡ queue_lists E.farm
-    fits = serves.2 ∙ ap (queues_given D.farm next.0) trying.fits ∙ given_fits D.farm next.0 count trying.on.sound next.1
+    fits = serves.1 ∙ ap (queues_given D.farm next.0) trying.fits ∙ given_fits D.farm next.0 count trying.on.sound next.1
         ∙ ap (λ (u : Served). queue_lists u.farm) (serves.0 count)
 
     pub tried_on : (v : Bool) → served ≡ v → Trying F former E.farm E.queues (count_after count v) (place_after claim)
     tried_on v so = subst (λ v. Trying F former E.farm E.queues (count_after count v) (place_after claim)) so
         (goes_on F former D.farm D.queues count place trying claim next E.farm E.queues (count_after count served) went (high served) clock fits)
-
-    pub tried_start : E.start ≡ D.start
-    tried_start = serves.1
 
     -- the claims that were looked at ahead stand in the queue as they did
     pub tried_ahead : (xs : List Coming) → Foresees D.farm place xs → Foresees E.farm (place_after claim) xs
@@ -414,7 +411,7 @@ module _ (F : Farm) (former : ℕ) (D : Drafted) (count : ℕ) (place : Option (
 
 -- ---- where the pass begins
 
-pub trying_begins : (D E : Drafted) (former count : ℕ) → IsSound D.farm → D.farm.collector ≡ 0 → FirstServed D former count E → Trying D.farm former E.farm E.queues count None
+pub trying_begins : (D E : Seen) (former count : ℕ) → IsSound D.farm → D.farm.collector ≡ 0 → FirstServed D former count E → Trying D.farm former E.farm E.queues count None
 trying_begins D E former count sound none first = by (find (is_group former) (queue D.farm)) refl
   where
     low : D.farm.clock ≤ D.farm.clock
@@ -449,11 +446,10 @@ trying_begins D E former count sound none first = by (find (is_group former) (qu
 -- ---- the group that collected before
 
 -- where it is no claim, there is nothing to serve
-pub none_first : (D : Drafted) (former : ℕ) → IsSound D.farm → D.queues ≡ queue_lists D.farm → boards_for D.farm former ≡ 0 → FirstServed D former 0 D
+pub none_first : (D : Seen) (former : ℕ) → IsSound D.farm → D.queues ≡ queue_lists D.farm → boards_for D.farm former ≡ 0 → FirstServed D former 0 D
 none_first D former sound fits none = record {
   serves = ap (fold (serve D.farm.clock) (come_to D.farm 0))
       (none_pass (is_group former) (queue D.farm) (all_from (λ d. is_group former d ≡ false) (queue D.farm) (λ d at. by d at (is_group former d) refl)));
-  start = refl;
   fits = fits;
 }
   where
@@ -505,13 +501,12 @@ former_waits F former boards sound are some = by (job_of F former) refl (are, so
             )
 
 -- it was tried
-pub one_first : (D E : Drafted) (former : ℕ) (served : Bool) (c : Claimed) → IsSound D.farm → D.queues ≡ queue_lists D.farm → IsAmong c (queue D.farm)
+pub one_first : (D E : Seen) (former : ℕ) (served : Bool) (c : Claimed) → IsSound D.farm → D.queues ≡ queue_lists D.farm → IsAmong c (queue D.farm)
     → (shown_claim c).kind ≡ ClaimKind.Group → c.number ≡ former → Serves D c served E → FirstServed D former (count_after 0 served) E
 one_first D E former served c sound fits at kind number serves = record {
   serves = ap (fold (serve D.farm.clock) (come_to D.farm 0))
       (one_group former (queue D.farm) (numbers_differ D.farm sound) ∙ by (find (is_group former) (queue D.farm)) refl) ∙ serves.0 0;
-  start = serves.1;
-  fits = serves.2 ∙ ap (queues_given D.farm c) fits ∙ given_fits D.farm c 0 sound at ∙ ap (λ (u : Served). queue_lists u.farm) (serves.0 0);
+  fits = serves.1 ∙ ap (queues_given D.farm c) fits ∙ given_fits D.farm c 0 sound at ∙ ap (λ (u : Served). queue_lists u.farm) (serves.0 0);
 }
   where
     own : is_group former c ≡ true

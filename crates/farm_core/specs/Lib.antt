@@ -3,10 +3,9 @@ pub mod Placed
 pub mod Leases
 pub mod Replies
 pub mod Marks
-pub mod Tracks
-pub mod Drafted
-pub mod Came
+pub mod SmallRows
 pub mod Following
+pub mod Came
 pub mod Edits
 pub mod Collecting
 pub mod Serving

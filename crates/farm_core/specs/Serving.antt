@@ -23,7 +23,7 @@ use Rattle.farm_types.specs.declared.claims.ClaimKind.{ClaimKind}
 use Rattle.farm_types.specs.declared.rows.BoardRow.{BoardRow}
 use Rattle.farm_types.specs.declared.rows.JobRow.{JobRow}
 use Rattle.farm_types.specs.declared.rows.Want.{Want}
-use Rattle.farm_core.specs.Drafted.{Drafted}
+use Rattle.farm_core.specs.Came.{Seen}
 use Rattle.farm_core.specs.Following.{without_boards}
 use Rattle.farm_core.specs.declared.pass.lookahead.unsatisfiable.Known.{Known}
 
@@ -126,16 +126,16 @@ queues_given F c lists = option_map_or (λ bs. record {
 }) (least F.boards (is_free F.types) c.wants)
     (record lists { boards = idle_boards (pass_over F c) })
 
--- serving the claim, the machine comes to the farm that the draft comes to, and the queues follow
-abbrev pub Serves : Drafted → Claimed → Bool → Drafted → Type 0
+-- serving the claim, the machine comes to the farm that the tables come to, and the queues follow
+abbrev pub Serves : Seen → Claimed → Bool → Seen → Type 0
 Serves D c served E =
     ((n : ℕ) → serve D.farm.clock (record { farm = D.farm; claims = n }) c ≡ record {
       farm = E.farm;
       claims = count_after n served;
-    }) × (E.start ≡ D.start) × (E.queues ≡ queues_given D.farm c D.queues)
+    }) × (E.queues ≡ queues_given D.farm c D.queues)
 
 -- a claim that is met is served, and one that isn't leaves all as it is
-pub record Tries (D : Drafted) (c : Claimed) (served : Bool) (E : Drafted) : Type 0 where
+pub record Tries (D : Seen) (c : Claimed) (served : Bool) (E : Seen) : Type 0 where
   pub met : served ≡ true → Serves D c true E
   pub unmet : served ≡ false → (E ≡ D) × (least D.farm.boards (is_free D.farm.types) c.wants ≡ None)
 
@@ -145,8 +145,7 @@ boards_for F group = option_map_or (λ j. if leads_claim F j then length (member
     (job_of F group) 0
 
 -- the group that collected before is served, if it is a claim, and so many were served
-pub record Begins (D : Drafted) (former count : ℕ) (E : Drafted) : Type 0 where
+pub record Begins (D : Seen) (former count : ℕ) (E : Seen) : Type 0 where
   pub serves : fold (serve D.farm.clock) (record { farm = D.farm; claims = 0 })
       (filter (is_group former) (queue D.farm)) ≡ record { farm = E.farm; claims = count }
-  pub start : E.start ≡ D.start
   pub fits : E.queues ≡ queue_lists E.farm

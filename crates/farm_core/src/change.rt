@@ -1,22 +1,20 @@
 //! A whole change: the clock moves, the command acts, its reply is kept, and it is counted.
-ghost use Rattle.std.specs.Prelude.{◌≡◌, ◌≢◌, ◌≤◌, None, OnOk, IfOk};
+ghost use Rattle.std.specs.Prelude.{◌≡◌, ◌≢◌, ◌≤◌, [], None, OnOk, IfOk};
 ghost use Rattle.farm_types.specs.Limits.{last_moment, numbers_end};
-ghost use Rattle.farm_types.specs.Farm.{Farm, put_rows};
+ghost use Rattle.farm_types.specs.Farm.{put_rows};
 ghost use Rattle.farm_types.specs.Refuse.{refusal};
-ghost use Rattle.farm_types.specs.Change.{act, done_with, keep, change};
+ghost use Rattle.farm_types.specs.Change.{act, farm_at_call, keep, change};
 ghost use Rattle.farm_types.specs.Sound.{IsSound};
 ghost use Rattle.farm_types.specs.declared.calls.Cmd.{Cmd};
 ghost use Rattle.farm_pick.specs.Queued.{queue_lists};
-ghost use Rattle.farm_core.specs.Following.{FollowsIn};
-ghost use Rattle.farm_core.specs.Drafted.{at_farm, Acts, IsFresh};
+ghost use Rattle.farm_core.specs.Came.{Acts, AreLogged, CameTo, IsAtRest, seen, seen_at};
+ghost use Rattle.farm_core.specs.Following.{FollowsIn, IsFresh};
 ghost use Rattle.farm_core.specs.Plain.{plain_farm};
-ghost use Rattle.farm_core.specs.Tracks.{Tracks, AreSmallRows, IsSmallReply};
+ghost use Rattle.farm_core.specs.SmallRows.{AreSmallRows, IsSmallReply};
 
-use crate::draft::Draft;
 use crate::tables::Tables;
 use farm_types::{Call, Changes, Cmd, KeptRow, MetaRow, Reply};
 use std::alloc::AllocError;
-use std::mem::replace;
 
 impl Tables {
     /// The command is done, its reply kept, the clock moved and the command counted.
@@ -39,74 +37,101 @@ impl Tables {
         }) }
     {
         let count = self.count + 1;
-        self.clock = self.clock.max(call.now);
-        let none = Tables::new(*self.types.allocator());
-        // A `?` on the way leaves no rows.
-        let draft = Draft::of(replace(self, none))?;
-        let (draft, reply) = draft.act(call)?;
-        let draft = draft.keep(call, reply)?;
-        let (tables, mut changes) = draft.into_parts();
-        *self = tables;
+        self.begin(call);
+        let reply = self.act(call)?;
+        self.keep(call, reply)?;
         self.count = count;
-        changes.meta = MetaRow {
-            clock: self.clock,
-            collector: self.collector,
-            count: self.count,
-            next: self.next,
-        };
+        let changes = self.take_changes();
         Ok((reply, changes))
     }
-}
 
-impl Draft {
+    /// The clock moves, and each log begins.
+    fn begin(&mut self, call: &Call)
+        ensures farm { plain_farm self.new ≡ farm_at_call (plain_farm self.old) call.entry.now }
+        ensures queues { self.new.queues ≡ self.old.queues }
+        ensures rests { IsAtRest self.new }
+    {
+        self.clock = self.clock.max(call.now);
+        self.types.take_changes();
+        self.boards.take_changes();
+        self.jobs.take_changes();
+        self.reservations.take_changes();
+        self.kept.take_changes();
+    }
+
+    /// Gives the logs away, with the four numbers.
+    fn take_changes(&mut self) -> Changes
+        ensures farm { plain_farm self.new ≡ plain_farm self.old }
+        ensures queues { self.new.queues ≡ self.old.queues }
+        ensures logged { AreLogged self.old result }
+        ensures small { AreSmallRows result }
+    {
+        Changes {
+            types: self.types.take_changes(),
+            boards: self.boards.take_changes(),
+            jobs: self.jobs.take_changes(),
+            reservations: self.reservations.take_changes(),
+            kept: self.kept.take_changes(),
+            meta: MetaRow {
+                clock: self.clock,
+                collector: self.collector,
+                count: self.count,
+                next: self.next,
+            },
+        }
+    }
+
     /// What the command does.
-    fn act(self, call: &Call) -> Result<(Draft, Reply), AllocError>
-        requires sound { IsSound self.farm }
-        requires clock { self.farm.clock ≤ last_moment }
-        requires next { self.farm.next ≤ numbers_end }
-        requires begun { self.start ≡ self.farm }
-        requires fits { self.queues ≡ queue_lists self.farm }
-        requires follow { FollowsIn self.farm call.now.caller call.now.cmd }
-        ensures farm { IfOk result (λ r. r.0 ≡ record self {
-          farm = (act self.farm call.entry.now.caller call.entry.now.cmd).farm;
-          queues = queue_lists (act self.farm call.entry.now.caller call.entry.now.cmd).farm;
-        }) }
-        ensures reply { IfOk result
-            (λ r. r.1 ≡ (act self.farm call.entry.now.caller call.entry.now.cmd).reply) }
+    fn act(&mut self, call: &Call) -> Result<Reply, AllocError>
+        requires sound { IsSound (plain_farm self.old) }
+        requires clock { self.old.clock ≤ last_moment }
+        requires next { self.old.next ≤ numbers_end }
+        requires begun { self.old.boards.log ≡ [] }
+        requires fits { self.old.queues ≡ queue_lists (plain_farm self.old) }
+        requires follow { FollowsIn (plain_farm self.old) call.now.caller call.now.cmd }
+        ensures came { OnOk result (CameTo self.old (record {
+          farm = (act (plain_farm self.old) call.entry.now.caller call.entry.now.cmd).farm;
+          queues = queue_lists
+              (act (plain_farm self.old) call.entry.now.caller call.entry.now.cmd).farm;
+        }) self.new) }
+        ensures reply { IfOk result (λ r. r
+            ≡ (act (plain_farm self.old) call.entry.now.caller call.entry.now.cmd).reply) }
     {
         match &call.cmd {
             Cmd::Pass => self.pass(),
             _ => {
-                let (draft, number) = self.act_numbered(call)?;
-                Ok((draft.follow_boards()?, Reply(number, 0, 0)))
+                let number = self.act_numbered(call)?;
+                self.follow_boards()?;
+                Ok(Reply(number, 0, 0))
             }
         }
     }
 
     /// What a command other than a pass does. Gives the number of its reply.
-    fn act_numbered(mut self, call: &Call) -> Result<(Draft, u64), AllocError>
+    fn act_numbered(&mut self, call: &Call) -> Result<u64, AllocError>
         requires numbered { call.now.cmd ≢ Cmd.Pass }
-        requires clock { self.farm.clock ≤ last_moment }
-        requires next { self.farm.next ≤ numbers_end }
-        requires fresh { IsFresh self.farm.next self.queues.claims }
-        ensures { IfOk result (λ r. Acts self call.entry.now.caller call.entry.now.cmd r.1 r.0) }
+        requires clock { self.old.clock ≤ last_moment }
+        requires next { self.old.next ≤ numbers_end }
+        requires fresh { IsFresh self.old.next self.old.queues.claims }
+        ensures { IfOk result
+            (λ n. Acts self.old call.entry.now.caller call.entry.now.cmd n self.new) }
     {
         match &call.cmd {
             Cmd::AddType(name, check) => {
-                self.tables.add_type(name, *check)?;
-                Ok((self, 0))
+                self.add_type(name, *check)?;
+                Ok(0)
             }
             Cmd::AddBoard(name, kind, tags) => {
-                self.tables.add_board(name, kind, tags)?;
-                Ok((self, 0))
+                self.add_board(name, kind, tags)?;
+                Ok(0)
             }
             Cmd::SetTags(name, tags) => {
-                self.tables.set_tags(name, tags)?;
-                Ok((self, 0))
+                self.set_tags(name, tags)?;
+                Ok(0)
             }
             Cmd::SetHealth(name, health) => {
-                self.tables.set_health(name, *health)?;
-                Ok((self, 0))
+                self.set_health(name, *health)?;
+                Ok(0)
             }
             Cmd::Submit(priority, wants, roles, body) => {
                 self.submit(&call.caller, *priority, wants, roles, body)
@@ -124,21 +149,19 @@ impl Draft {
     }
 
     /// Keeps the reply under the call's key, if it has one.
-    fn keep(self, call: &Call, reply: Reply) -> Result<Draft, AllocError>
+    fn keep(&mut self, call: &Call, reply: Reply) -> Result<(), AllocError>
         requires { IsSmallReply reply }
-        ensures { IfOk result (λ d. d ≡ at_farm (keep call.entry.now reply self.farm) self) }
+        ensures { OnOk result (CameTo self.old (seen_at (keep call.entry.now reply
+            (plain_farm self.old)) (seen self.old)) self.new) }
     {
-        match &call.key {
-            None => Ok(self),
-            Some(key) => {
-                let row = KeptRow {
-                    caller: call.caller.copy()?,
-                    key: key.copy()?,
-                    kind: call.cmd.kind(),
-                    reply,
-                };
-                self.put_kept(row)
-            }
+        if let Some(key) = &call.key {
+            self.kept.put(KeptRow {
+                caller: call.caller.copy()?,
+                key: key.copy()?,
+                kind: call.cmd.kind(),
+                reply,
+            })?;
         }
+        Ok(())
     }
 }

@@ -1,24 +1,19 @@
 //! The edits of jobs and reservations, and of the boards that they hold: rows are changed in their
 //! places, and logged.
-ghost use Rattle.std.specs.Prelude.{◌≡◌, ◌==◌, IfOk, OnOk};
+ghost use Rattle.std.specs.Prelude.{◌≡◌, ◌==◌, OnOk};
 ghost use Rattle.farm_types.specs.Table.{change_where};
-ghost use Rattle.farm_types.specs.Farm.{Farm};
 ghost use Rattle.farm_types.specs.Pass.{change_jobs, change_res};
 ghost use Rattle.farm_types.specs.Small.{IsSmall, IsSmallRes};
 ghost use Rattle.farm_types.specs.declared.rows.ResRow.{ResRow};
 ghost use Rattle.farm_core.specs.Came.{CameTo, seen, seen_at};
-ghost use Rattle.farm_core.specs.Drafted.{at_farm};
 ghost use Rattle.farm_core.specs.Plain.{plain_farm};
 ghost use Rattle.farm_core.specs.Edits.{IfAfterCheck, job_passes, job_changed, first_of};
 ghost use Rattle.farm_core.specs.Edits.{res_passes, res_changed, board_after, is_res_in};
-ghost use Rattle.farm_core.specs.Tracks.{Tracks};
 
 use crate::command::job_edit::JobEdit;
 use crate::command::res_edit::ResEdit;
-use crate::draft::Draft;
 use crate::held::{Becomes, OfJobs, OfReservations};
 use crate::tables::Tables;
-use farm_types::Changes;
 use std::alloc::AllocError;
 
 /// How many places from a guess on are looked at before a search.
@@ -27,7 +22,7 @@ pub const GUESS_REACH: usize = 5;
 impl Tables {
     /// Changes the jobs that pass and the boards that they hold. Each board is looked at, in name
     /// order: with B boards and J jobs it costs O(B log J).
-    fn edit_jobs_and_boards(
+    pub fn edit_jobs_and_boards(
         &mut self,
         edit: JobEdit<'_>,
         becomes: Becomes,
@@ -49,9 +44,31 @@ impl Tables {
         Ok(())
     }
 
+    /// Changes the boards that the reservations hold that pass. Each board is looked at, in name
+    /// order.
+    pub fn edit_boards_of_reservations(
+        &mut self,
+        edit: ResEdit<'_>,
+        becomes: Becomes,
+    ) -> Result<(), AllocError>
+        requires { IfAfterCheck becomes }
+        ensures { OnOk result (CameTo self.old (seen_at (record (plain_farm self.old) {
+          boards = change_where (λ b. is_res_in (plain_farm self.old).reservations
+              (res_passes edit.entry) b.holder) (board_after becomes) (plain_farm self.old).boards;
+        }) (seen self.old)) self.new) }
+    {
+        let held = OfReservations {
+            reservations: &self.reservations,
+            edit,
+            becomes,
+        };
+        self.boards.change_where(&held)?;
+        Ok(())
+    }
+
     /// Changes one reservation, told by its number, and the board that it holds. Each board is
     /// looked at, in name order: with B boards and R reservations it costs O(B log R).
-    fn edit_reservation_and_board(
+    pub fn edit_reservation_and_board(
         &mut self,
         number: u64,
         edit: ResEdit<'_>,
@@ -65,106 +82,8 @@ impl Tables {
             (seen self.old)) self.new) }
     {
         // The board first: the reservations as they were tell which changes.
-        let held = OfReservations {
-            reservations: &self.reservations,
-            edit,
-            becomes,
-        };
-        self.boards.change_where(&held)?;
+        self.edit_boards_of_reservations(edit, becomes)?;
         self.reservations.edit(number, edit)?;
         Ok(())
-    }
-}
-
-impl Draft {
-    /// Changes the jobs that pass. Only the rows of the group of the edit are looked at.
-    pub fn edit_jobs(mut self, edit: JobEdit<'_>) -> Result<Draft, AllocError>
-        requires { IsSmall (first_of edit) }
-        ensures { IfOk result
-            (λ d. d ≡ at_farm
-            (record self.farm {
-              jobs = change_where (job_passes edit.entry)
-                  (job_changed edit.entry) self.farm.jobs;
-            }) self) }
-    {
-        let tables = &mut *self.tables;
-        tables.jobs.edit(edit)?;
-        Ok(self)
-    }
-
-    /// Changes the jobs that pass and the boards that they hold.
-    pub fn edit_jobs_and_boards(
-        mut self,
-        edit: JobEdit<'_>,
-        becomes: Becomes,
-    ) -> Result<Draft, AllocError>
-        requires first { IsSmall (first_of edit) }
-        requires small { IfAfterCheck becomes }
-        ensures { IfOk result
-            (λ d. d ≡ at_farm (change_jobs (job_passes edit.entry) (job_changed edit.entry)
-            (board_after becomes) self.farm) self) }
-    {
-        self.tables.edit_jobs_and_boards(edit, becomes)?;
-        Ok(self)
-    }
-
-    /// Changes the boards that the reservations hold that pass. Each board is looked at, in name
-    /// order.
-    pub fn edit_boards_of_reservations(
-        mut self,
-        edit: ResEdit<'_>,
-        becomes: Becomes,
-    ) -> Result<Draft, AllocError>
-        requires { IfAfterCheck becomes }
-        ensures { IfOk result
-            (λ d. d ≡ at_farm
-            (record self.farm {
-              boards = change_where (λ b. is_res_in self.farm.reservations
-                  (res_passes edit.entry) b.holder) (board_after becomes) self.farm.boards;
-            }) self) }
-    {
-        let tables = &mut *self.tables;
-        let held = OfReservations {
-            reservations: &tables.reservations,
-            edit,
-            becomes,
-        };
-        tables.boards.change_where(&held)?;
-        Ok(self)
-    }
-
-    /// Changes one reservation, told by its number, with no change of its board.
-    pub fn edit_reservation(mut self, number: u64, edit: ResEdit<'_>) -> Result<Draft, AllocError>
-        requires one { (r : ResRow) → res_passes edit r ≡ (r.number == number) }
-        requires small { (r : ResRow) → IsSmallRes r → IsSmallRes (res_changed edit r) }
-        ensures { IfOk result
-            (λ d. d ≡ at_farm
-            (record self.farm {
-              reservations = change_where (res_passes edit.entry)
-                  (res_changed edit.entry) self.farm.reservations;
-            }) self) }
-    {
-        let tables = &mut *self.tables;
-        tables.reservations.edit(number, edit)?;
-        Ok(self)
-    }
-
-    /// Changes one reservation, told by its number, and the board that it holds.
-    pub fn edit_reservation_and_board(
-        mut self,
-        number: u64,
-        edit: ResEdit<'_>,
-        becomes: Becomes,
-    ) -> Result<Draft, AllocError>
-        requires one { (r : ResRow) → res_passes edit r ≡ (r.number == number) }
-        requires small { (r : ResRow) → IsSmallRes r → IsSmallRes (res_changed edit r) }
-        requires board { IfAfterCheck becomes }
-        ensures { IfOk result
-            (λ d. d ≡ at_farm (change_res (res_passes edit.entry) (res_changed edit.entry)
-            (board_after becomes) self.farm) self) }
-    {
-        self.tables
-            .edit_reservation_and_board(number, edit, becomes)?;
-        Ok(self)
     }
 }

@@ -1,22 +1,26 @@
 //! The kept replies.
-ghost use Rattle.std.specs.Prelude.{◌≡◌, ◌&&◌, [], IfOk, OnOk, OnErr, length, option_map};
+ghost use Rattle.std.specs.Prelude.{◌≡◌, ◌&&◌, [], IfOk, OnOk, OnErr, length, map, option_map};
 ghost use Rattle.std.specs.Cmp.{partial_order_from_own_ties};
 ghost use Rattle.std.specs.Cmp.Rules.{comparing};
 ghost use Rattle.std.proofs.Common.{rules};
-ghost use Rattle.std.specs.List.{find};
+ghost use Rattle.std.specs.List.{AllByRecursion, find};
 ghost use Rattle.std.specs.List.Sorted.{IsStrictlySortedBy};
 ghost use Rattle.std.specs.Ordering.{on, then_cmp, as_partial_cmp};
 ghost use Rattle.std.specs.Str.{bytes_eq};
 ghost use Rattle.farm_types.specs.Table.{put, kept_cmp};
+ghost use Rattle.farm_types.specs.Small.{IsSmallKept};
 ghost use Rattle.farm_types.specs.Words.{text_cmp};
-ghost use Rattle.farm_core.specs.Replies.{kept_reply};
+ghost use Rattle.farm_table.specs.Tabled.{Leads};
+ghost use Rattle.farm_core.specs.Replies.{kept_reply, kept_row};
 
 use arrayvec::ArrayString;
 use farm_types::{KeptRow, Key, LONGEST_KEY, LONGEST_NAME, Name, Reply};
 use std::alloc::{AllocError, Global};
 use std::cmp::Ordering;
 use std::collections::BTreeMap;
+use std::fmt;
 use std::marker::Model;
+use std::mem::replace;
 
 /// Under what a reply is kept: its caller, and the caller's key. The texts lie in the value itself,
 /// so that a look-up takes no memory.
@@ -77,50 +81,84 @@ pub struct KeptReply {
     pub reply: Reply,
 }
 
-/// The kept replies in order of caller and key.
+/// The kept replies in order of caller and key, and the log: each reply that was kept since it
+/// began.
 ///
 /// They stand in an ordered map: with K replies a look-up and a new reply cost O(log K) each, and a
 /// new one moves O(log K) others. An entry takes 160 bytes, and no memory beside the map's.
-#[derive(Debug, Drop)]
+#[derive(Drop)]
 pub struct Kept {
     rows: BTreeMap<KeptKey, KeptReply>,
+    log: Vec<KeptRow>,
 }
 
 impl Model for Kept {
-    ghost use Rattle.std.specs.Prelude.{List, map};
+    ghost use Rattle.std.specs.Prelude.{map};
+    ghost use Rattle.std.specs.List.{AllByRecursion};
+    ghost use Rattle.farm_types.specs.Small.{IsSmallKept};
     ghost use Rattle.farm_types.specs.declared.rows.KeptRow.{KeptRow};
+    ghost use Rattle.farm_table.specs.Tabled.{Tabled};
     ghost use Rattle.farm_core.specs.Replies.{kept_row};
 
-    ghost Value = { List KeptRow };
+    ghost Value = { Tabled KeptRow };
 
-    ghost view = { λ k. map kept_row k.rows.entries };
+    ghost view = { λ k. record { rows = map kept_row k.rows.entries; log = k.log.items } };
+
+    ghost invariant = { λ k. AllByRecursion IsSmallKept k.log.items };
+}
+
+// The log is no part of the farm.
+impl fmt::Debug for Kept {
+    fn fmt<W: fmt::Write>(&self, f: &mut fmt::Formatter<W>) -> fmt::Result {
+        f.debug_struct("Kept").field("rows", &self.rows).finish()
+    }
+}
+
+/// Puts a reply into the map. A refused growth changes nothing.
+fn insert(rows: &mut BTreeMap<KeptKey, KeptReply>, row: &KeptRow) -> Result<(), AllocError>
+    ensures rows { OnOk result (map kept_row rows.new.entries
+        ≡ put kept_cmp (map kept_row rows.old.entries) row.now) }
+    ensures stays { OnErr result (rows.new.entries ≡ rows.old.entries) }
+{
+    let key = KeptKey::of(&row.caller, &row.key);
+    let reply = KeptReply {
+        kind: row.kind,
+        reply: row.reply,
+    };
+    let _former = rows.insert(key, reply)?;
+    Ok(())
 }
 
 impl Kept {
     /// No replies.
     pub fn new(alloc: Global) -> Kept
-        ensures { result ≡ [] }
+        ensures { result ≡ record { rows = []; log = [] } }
     {
         Kept {
             rows: BTreeMap::new(alloc),
+            log: Vec::new(alloc),
         }
     }
 
     /// The replies of K rows, at the cost of K puts. Each row's memory is free once its reply is put.
     pub fn of(rows: Vec<KeptRow>) -> Result<Kept, AllocError>
         requires { IsStrictlySortedBy kept_cmp rows.items }
-        ensures { IfOk result (λ kept. kept ≡ rows.items) }
+        ensures { IfOk result (λ kept. kept ≡ record { rows = rows.items; log = [] }) }
     {
-        let mut kept = Kept::new(*rows.allocator());
+        let alloc = *rows.allocator();
+        let mut kept = BTreeMap::new(alloc);
         for row in rows {
-            kept.put(&row)?;
+            insert(&mut kept, &row)?;
         }
-        Ok(kept)
+        Ok(Kept {
+            rows: kept,
+            log: Vec::new(alloc),
+        })
     }
 
     /// How many replies are kept.
     pub fn len(&self) -> usize
-        ensures { result ≡ length self.now }
+        ensures { result ≡ length self.now.rows }
     {
         self.rows.len()
     }
@@ -128,24 +166,32 @@ impl Kept {
     /// What is kept for a caller and a key. With K replies it costs O(log K).
     pub fn find(&self, caller: &Name, key: &Key) -> Option<KeptReply>
         ensures { result ≡ option_map kept_reply (find (λ r. bytes_eq r.caller caller.now
-            && bytes_eq r.key key.now) self.now) }
+            && bytes_eq r.key key.now) self.now.rows) }
     {
         self.rows.get(&KeptKey::of(caller, key)).copied()
     }
 
-    /// Keeps a reply. With K replies it costs O(log K). A refused growth changes nothing.
-    pub fn put(&mut self, row: &KeptRow) -> Result<(), AllocError>
-        ensures rows { OnOk result (self.new ≡ put kept_cmp self.old row.now) }
-        ensures sorted { OnOk result (IsStrictlySortedBy kept_cmp self.old
-            → IsStrictlySortedBy kept_cmp self.new) }
+    /// Keeps a reply. With K replies it costs O(log K). Where memory runs out the table is as it
+    /// was.
+    pub fn put(&mut self, row: KeptRow) -> Result<(), AllocError>
+        requires { IsSmallKept row }
+        ensures rows { OnOk result (self.new.rows ≡ put kept_cmp self.old.rows row) }
+        ensures leads { Leads kept_cmp self.old self.new }
         ensures stays { OnErr result (self.new ≡ self.old) }
     {
-        let key = KeptKey::of(&row.caller, &row.key);
-        let reply = KeptReply {
-            kind: row.kind,
-            reply: row.reply,
-        };
-        let _former = self.rows.insert(key, reply)?;
+        self.log.reserve(1)?;
+        insert(&mut self.rows, &row)?;
+        self.log.push_reserved(row);
         Ok(())
+    }
+
+    /// Gives the log away, and begins a new one.
+    pub fn take_changes(&mut self) -> Vec<KeptRow>
+        ensures changes { result.items ≡ self.old.log }
+        ensures fit { AllByRecursion IsSmallKept result.items }
+        ensures rests { self.new ≡ record { rows = self.old.rows; log = [] } }
+    {
+        let none = Vec::new(*self.log.allocator());
+        replace(&mut self.log, none)
     }
 }

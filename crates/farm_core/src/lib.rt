@@ -2,13 +2,12 @@
 //!
 //! Read `specs/` in the order Plain, Shown, Answers, which say what callers see; then Replies, how
 //! kept replies are kept, Marks, what stands beside each job, and Leases, beside each reservation;
-//! then Placed, Tracks, Drafted, Came, Following, Edits, Serving, Ahead, which say what a command
+//! then Placed, SmallRows, Following, Came, Edits, Serving, Ahead, which say what a command
 //! keeps on its way.
 #![tactic(auto)]
 
 mod change;
 mod command;
-mod draft;
 mod edits;
 mod farm;
 mod held;

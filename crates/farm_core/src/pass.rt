@@ -1,13 +1,12 @@
 //! Pass: leases end, due boards are checked, and claims are served.
 ghost use Rattle.std.specs.Prelude.{◌≡◌, [], map, OnOk, IfOk};
-ghost use Rattle.farm_types.specs.Farm.{Farm};
 ghost use Rattle.farm_types.specs.Pick.{queue, shown_claim};
 ghost use Rattle.farm_types.specs.Change.{act};
 ghost use Rattle.farm_types.specs.Sound.{IsSound};
 ghost use Rattle.farm_types.specs.declared.calls.Cmd.{Cmd};
 ghost use Rattle.farm_pick.specs.Queued.{queue_lists};
+ghost use Rattle.farm_core.specs.Came.{CameTo, seen};
 ghost use Rattle.farm_core.specs.Plain.{plain_farm};
-ghost use Rattle.farm_core.specs.Tracks.{Tracks};
 
 pub(crate) mod checks;
 pub(crate) mod collect;
@@ -17,9 +16,8 @@ pub(crate) mod give;
 pub(crate) mod lookahead;
 pub(crate) mod serve;
 
-use crate::draft::Draft;
 use crate::tables::Tables;
-use farm_types::{Changes, Claim, Reply};
+use farm_types::{Claim, Reply};
 use std::alloc::AllocError;
 
 impl Tables {
@@ -31,29 +29,39 @@ impl Tables {
         let claims = self.queues.claims()?;
         Ok(claims)
     }
-}
 
-impl Draft {
+    /// Makes room in the logs for the boards that are free and as many jobs: in a pass no more are
+    /// given, so the rows that have changed aren't moved as they become more.
+    fn make_room(&mut self) -> Result<(), AllocError>
+        ensures { OnOk result (CameTo self.old (seen self.old) self.new) }
+    {
+        let free = self.queues.free_count();
+        self.boards.reserve(free)?;
+        self.jobs.reserve(free)?;
+        Ok(())
+    }
+
     /// A pass: the group that collects gives its boards back, leases that have come to their ends
     /// are over, each due board is checked while there is room, and then the claims are served in
     /// turn, that group first. Gives how many boards were checked, how many leases ended and how
     /// many claims were served.
-    pub fn pass(self) -> Result<(Draft, Reply), AllocError>
-        requires sound { IsSound self.farm }
-        requires begun { self.start ≡ self.farm }
-        requires fits { self.queues ≡ queue_lists self.farm }
-        ensures farm { IfOk result (λ r. r.0 ≡ record self {
-          farm = (act self.farm [] Cmd.Pass).farm;
-          queues = queue_lists (act self.farm [] Cmd.Pass).farm;
-        }) }
-        ensures reply { IfOk result (λ r. r.1 ≡ (act self.farm [] Cmd.Pass).reply) }
+    pub fn pass(&mut self) -> Result<Reply, AllocError>
+        requires sound { IsSound (plain_farm self.old) }
+        requires begun { self.old.boards.log ≡ [] }
+        requires fits { self.old.queues ≡ queue_lists (plain_farm self.old) }
+        ensures came { OnOk result (CameTo self.old (record {
+          farm = (act (plain_farm self.old) [] Cmd.Pass).farm;
+          queues = queue_lists (act (plain_farm self.old) [] Cmd.Pass).farm;
+        }) self.new) }
+        ensures reply { IfOk result (λ r. r ≡ (act (plain_farm self.old) [] Cmd.Pass).reply) }
     {
-        let former = self.tables.collector;
-        let draft = self.give_back()?;
-        let (draft, ended) = draft.expire()?;
-        let (draft, checked) = draft.checks()?;
-        let draft = draft.follow_boards()?.with_room()?;
-        let (draft, served) = draft.serve(former)?;
-        Ok((draft, Reply(checked, ended, served)))
+        let former = self.collector;
+        self.give_back()?;
+        let ended = self.expire()?;
+        let checked = self.checks()?;
+        self.follow_boards()?;
+        self.make_room()?;
+        let served = self.serve(former)?;
+        Ok(Reply(checked, ended, served))
     }
 }

@@ -4,7 +4,7 @@ ghost use Rattle.farm_types.specs.Table.{put};
 ghost use Rattle.farm_types.specs.Sound.{IsSound};
 ghost use Rattle.farm_pick.specs.Kept.{queued_cmp};
 ghost use Rattle.farm_pick.specs.Queued.{queue_lists};
-ghost use Rattle.farm_core.specs.Drafted.{IsFresh};
+ghost use Rattle.farm_core.specs.Following.{IsFresh};
 ghost use Rattle.farm_core.specs.Following.{kind_in};
 ghost use Rattle.farm_core.specs.Plain.{plain_farm};
 

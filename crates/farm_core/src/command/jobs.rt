@@ -1,6 +1,6 @@
 //! The commands on jobs that are there: Cancel, Start and Finish.
 ghost use Rattle.std.specs.Prelude.{◌≡◌, ◌≤◌, ◌==◌, ◌||◌, [], not, length};
-ghost use Rattle.std.specs.Prelude.{IfOk, IfSome};
+ghost use Rattle.std.specs.Prelude.{IfOk, IfSome, if◌then◌else◌};
 ghost use Rattle.std.specs.List.{AllByRecursion, filter, list_any};
 ghost use Rattle.std.specs.Option.{option_copied};
 ghost use Rattle.farm_types.specs.Limits.{most_wants};
@@ -13,17 +13,16 @@ ghost use Rattle.farm_types.specs.declared.rows.JobRow.{JobRow};
 ghost use Rattle.farm_types.specs.declared.rows.JobState.{JobState};
 ghost use Rattle.farm_table.specs.Near.{IsFitJob};
 ghost use Rattle.farm_core.specs.Edits.{outcome_of};
-ghost use Rattle.farm_core.specs.Drafted.{Acts};
+ghost use Rattle.farm_core.specs.Came.{Acts, CameTo, seen, seen_at};
 ghost use Rattle.farm_core.specs.Plain.{plain_farm};
 ghost use Rattle.farm_core.specs.Placed.{IsPlaceOf};
 
 use crate::command::job_edit::JobEdit;
-use crate::draft::Draft;
 use crate::held::Becomes;
 use crate::refusal::is_admin;
 use crate::tables::Tables;
 use farm_types::{
-    Changes, FORBIDDEN, JobRow, JobState, MOST_WANTS, NO_JOB, Name, Outcome, State, WRONG_STATE,
+    FORBIDDEN, JobRow, JobState, MOST_WANTS, NO_JOB, Name, Outcome, State, WRONG_STATE,
 };
 use std::alloc::AllocError;
 
@@ -156,51 +155,61 @@ impl Tables {
     }
 }
 
-impl Draft {
+impl Tables {
+    /// The group collects no more, if it did.
+    fn collects_no_more(&mut self, group: u64)
+        ensures { CameTo self.old (seen_at (record (plain_farm self.old) {
+          collector = if self.old.collector == group then 0 else self.old.collector;
+        }) (seen self.old)) self.new }
+    {
+        if self.collector == group {
+            self.collector = 0;
+        }
+    }
+
     /// Cancels a job's whole group: the members that were not started end, and their boards are
     /// free; those that run are being canceled; it collects no more. Gives the group's number.
-    pub fn cancel(self, number: u64) -> Result<(Draft, u64), AllocError>
-        ensures { IfOk result (λ r. Acts self [] (Cmd.Cancel number) r.1 r.0) }
+    pub fn cancel(&mut self, number: u64) -> Result<u64, AllocError>
+        ensures { IfOk result (λ n. Acts self.old [] (Cmd.Cancel number) n self.new) }
     {
-        let group = match self.tables.find_job(number) {
-            None => return Ok((self, 0)),
+        let group = match self.find_job(number) {
+            None => return Ok(0),
             Some(job) => job.group,
         };
-        let draft = self.edit_jobs_and_boards(JobEdit::End(group), Becomes::Idle)?;
-        let draft = draft.collects_no_more(group);
-        let draft = draft.edit_jobs(JobEdit::Cancel(group))?;
-        Ok((draft.take_claim(group), group))
+        self.edit_jobs_and_boards(JobEdit::End(group), Becomes::Idle)?;
+        self.collects_no_more(group);
+        self.jobs.edit(JobEdit::Cancel(group))?;
+        self.queues.take_claim(group);
+        Ok(group)
     }
 
     /// Starts a job's whole group: its members run, and so do their boards. Gives the group's
     /// number.
-    pub fn start(self, number: u64) -> Result<(Draft, u64), AllocError>
-        ensures { IfOk result (λ r. Acts self [] (Cmd.Start number) r.1 r.0) }
+    pub fn start(&mut self, number: u64) -> Result<u64, AllocError>
+        ensures { IfOk result (λ n. Acts self.old [] (Cmd.Start number) n self.new) }
     {
-        let group = match self.tables.find_job(number) {
-            None => return Ok((self, 0)),
+        let group = match self.find_job(number) {
+            None => return Ok(0),
             Some(job) => job.group,
         };
-        let running = Becomes::State(State::Running);
-        let draft = self.edit_jobs_and_boards(JobEdit::Start(group), running)?;
-        Ok((draft, group))
+        self.edit_jobs_and_boards(JobEdit::Start(group), Becomes::State(State::Running))?;
+        Ok(group)
     }
 
     /// Finishes a job: it ends, and its board is free and has the health that the outcome of a job
     /// or a check leaves. Gives the job's number.
-    pub fn finish(self, number: u64, named: Outcome) -> Result<(Draft, u64), AllocError>
-        requires { IsSmall self.farm.clock }
-        ensures { IfOk result (λ r. Acts self [] (Cmd.Finish number named) r.1 r.0) }
+    pub fn finish(&mut self, number: u64, named: Outcome) -> Result<u64, AllocError>
+        requires { IsSmall self.old.clock }
+        ensures { IfOk result (λ n. Acts self.old [] (Cmd.Finish number named) n self.new) }
     {
-        let tables = &*self.tables;
-        let (outcome, becomes) = match tables.find_job(number) {
-            None => return Ok((self, 0)),
+        let (outcome, becomes) = match self.find_job(number) {
+            None => return Ok(0),
             Some(job) => {
                 let outcome = outcome_of(job, named);
-                (outcome, Becomes::after(job.checking, outcome, tables.clock))
+                (outcome, Becomes::after(job.checking, outcome, self.clock))
             }
         };
-        let draft = self.edit_jobs_and_boards(JobEdit::Finish(number, outcome), becomes)?;
-        Ok((draft, number))
+        self.edit_jobs_and_boards(JobEdit::Finish(number, outcome), becomes)?;
+        Ok(number)
     }
 }

@@ -12,16 +12,15 @@ ghost use Rattle.farm_types.specs.Refuse.{acquire_reasons, release_reasons, aliv
 ghost use Rattle.farm_types.specs.declared.calls.Cmd.{Cmd};
 ghost use Rattle.farm_types.specs.declared.rows.ResRow.{ResRow};
 ghost use Rattle.farm_types.specs.declared.rows.ResState.{ResState};
-ghost use Rattle.farm_core.specs.Drafted.{Acts};
+ghost use Rattle.farm_core.specs.Came.{Acts};
 ghost use Rattle.farm_core.specs.Plain.{plain_farm};
 
 use crate::command::jobs::owned_by;
 use crate::command::res_edit::{ResEdit, is_dead};
-use crate::draft::Draft;
 use crate::held::Becomes;
 use crate::tables::Tables;
 use farm_types::{
-    Changes, EXPIRED, FORBIDDEN, LEASE, NO_RESERVATION, Name, ResRow, ResState, State,
+    EXPIRED, FORBIDDEN, LEASE, NO_RESERVATION, Name, ResRow, ResState, State,
     WRONG_RESERVATION_STATE,
 };
 use std::alloc::AllocError;
@@ -106,46 +105,43 @@ impl Tables {
     }
 }
 
-impl Draft {
+impl Tables {
     /// The reservation is acquired, and its board runs.
-    pub fn acquire(self, number: u64) -> Result<(Draft, u64), AllocError>
-        ensures { IfOk result (λ r. Acts self [] (Cmd.Acquire number) r.1 r.0) }
+    pub fn acquire(&mut self, number: u64) -> Result<u64, AllocError>
+        ensures { IfOk result (λ n. Acts self.old [] (Cmd.Acquire number) n self.new) }
     {
         let running = Becomes::State(State::Running);
-        let draft = self.edit_reservation_and_board(number, ResEdit::Acquire(number), running)?;
-        Ok((draft, number))
+        self.edit_reservation_and_board(number, ResEdit::Acquire(number), running)?;
+        Ok(number)
     }
 
     /// The reservation is allocated again for a lease from now on, and its board reserved.
-    pub fn release(self, number: u64) -> Result<(Draft, u64), AllocError>
-        requires { self.farm.clock ≤ last_moment }
-        ensures { IfOk result (λ r. Acts self [] (Cmd.Release number) r.1 r.0) }
+    pub fn release(&mut self, number: u64) -> Result<u64, AllocError>
+        requires { self.old.clock ≤ last_moment }
+        ensures { IfOk result (λ n. Acts self.old [] (Cmd.Release number) n self.new) }
     {
-        let edit = ResEdit::Release(number, self.tables.clock + LEASE);
+        let edit = ResEdit::Release(number, self.clock + LEASE);
         let reserved = Becomes::State(State::Reserved);
-        let draft = self.edit_reservation_and_board(number, edit, reserved)?;
-        Ok((draft, number))
+        self.edit_reservation_and_board(number, edit, reserved)?;
+        Ok(number)
     }
 
     /// The reservation lives for a lease from now on.
-    pub fn refresh(self, number: u64) -> Result<(Draft, u64), AllocError>
-        requires { self.farm.clock ≤ last_moment }
-        ensures { IfOk result (λ r. Acts self [] (Cmd.Refresh number) r.1 r.0) }
+    pub fn refresh(&mut self, number: u64) -> Result<u64, AllocError>
+        requires { self.old.clock ≤ last_moment }
+        ensures { IfOk result (λ n. Acts self.old [] (Cmd.Refresh number) n self.new) }
     {
-        let edit = ResEdit::Refresh(number, self.tables.clock + LEASE);
-        let draft = self.edit_reservation(number, edit)?;
-        Ok((draft, number))
+        let edit = ResEdit::Refresh(number, self.clock + LEASE);
+        self.reservations.edit(number, edit)?;
+        Ok(number)
     }
 
     /// The reservation is canceled, and its board free.
-    pub fn cancel_reservation(self, number: u64) -> Result<(Draft, u64), AllocError>
-        ensures { IfOk result (λ r. Acts self [] (Cmd.CancelRes number) r.1 r.0) }
+    pub fn cancel_reservation(&mut self, number: u64) -> Result<u64, AllocError>
+        ensures { IfOk result (λ n. Acts self.old [] (Cmd.CancelRes number) n self.new) }
     {
-        let draft = self.edit_reservation_and_board(
-            number,
-            ResEdit::Cancel(number),
-            Becomes::Idle,
-        )?;
-        Ok((draft.take_claim(number), number))
+        self.edit_reservation_and_board(number, ResEdit::Cancel(number), Becomes::Idle)?;
+        self.queues.take_claim(number);
+        Ok(number)
     }
 }

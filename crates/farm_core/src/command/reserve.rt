@@ -5,14 +5,14 @@ ghost use Rattle.farm_types.specs.Limits.{last_moment, numbers_end};
 ghost use Rattle.farm_types.specs.Pick.{not_retired, fits};
 ghost use Rattle.farm_types.specs.Refuse.{first_code, reserve_reasons};
 ghost use Rattle.farm_types.specs.declared.calls.Cmd.{Cmd};
-ghost use Rattle.farm_core.specs.Drafted.{Acts, IsFresh};
+ghost use Rattle.farm_core.specs.Came.{Acts};
+ghost use Rattle.farm_core.specs.Following.{IsFresh};
 ghost use Rattle.farm_core.specs.Plain.{plain_farm};
 
-use crate::draft::Draft;
 use crate::tables::Tables;
 use farm_types::{
-    BoardRow, Changes, Claim, ClaimKind, Health, LEASE, NO_SUCH_BOARDS, Name, Priority, ResRow,
-    ResState, Tags, Want,
+    BoardRow, Claim, ClaimKind, Health, LEASE, NO_SUCH_BOARDS, Name, Priority, ResRow, ResState,
+    Tags, Want,
 };
 use std::alloc::AllocError;
 
@@ -48,21 +48,20 @@ impl Tables {
     }
 }
 
-impl Draft {
+impl Tables {
     /// Makes a reservation that waits for a lease from now on. Gives its number.
     pub fn reserve(
-        self,
+        &mut self,
         owner: &Name,
         priority: Priority,
         tags: &Tags,
-    ) -> Result<(Draft, u64), AllocError>
-        requires next { self.farm.next ≤ numbers_end }
-        requires clock { self.farm.clock ≤ last_moment }
-        requires fresh { IsFresh self.farm.next self.queues.claims }
-        ensures { IfOk result (λ r. Acts self owner.now (Cmd.Reserve priority tags.now) r.1 r.0) }
+    ) -> Result<u64, AllocError>
+        requires next { self.old.next ≤ numbers_end }
+        requires clock { self.old.clock ≤ last_moment }
+        requires fresh { IsFresh self.old.next self.old.queues.claims }
+        ensures { IfOk result (λ n. Acts self.old owner.now (Cmd.Reserve priority tags.now) n self.new) }
     {
-        let tables = &*self.tables;
-        let number = tables.next;
+        let number = self.next;
         let row = ResRow {
             number,
             owner: owner.copy()?,
@@ -72,7 +71,7 @@ impl Draft {
                 tags: tags.copy()?,
             },
             state: ResState::Waiting,
-            deadline: tables.clock + LEASE,
+            deadline: self.clock + LEASE,
             board: None,
         };
         let claim = Claim {
@@ -82,7 +81,9 @@ impl Draft {
             priority,
             boards: 1,
         };
-        let draft = self.put_reservation(row)?.put_claim(claim, &None)?;
-        Ok((draft.with_next(number + 1), number))
+        self.reservations.put(row)?;
+        self.queues.put_claim(claim, &None)?;
+        self.next = number + 1;
+        Ok(number)
     }
 }

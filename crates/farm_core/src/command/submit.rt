@@ -1,6 +1,6 @@
 //! Submit: a new group of jobs.
 ghost use Rattle.std.specs.Prelude.{◌≡◌, ◌≤◌, ◌+◌, None, false, is_none, length};
-ghost use Rattle.std.specs.Prelude.{IfOk};
+ghost use Rattle.std.specs.Prelude.{IfOk, OnOk};
 ghost use Rattle.std.specs.List.{list_any};
 ghost use Rattle.std.specs.Option.{option_map_or};
 ghost use Rattle.farm_types.specs.Limits.{most_wants, numbers_end};
@@ -12,15 +12,15 @@ ghost use Rattle.farm_types.specs.declared.calls.Cmd.{Cmd};
 ghost use Rattle.farm_types.specs.declared.rows.JobState.{JobState};
 ghost use Rattle.farm_pick.specs.Queued.{first_kind};
 ghost use Rattle.farm_core.specs.Edits.{text_at};
-ghost use Rattle.farm_core.specs.Drafted.{at_farm, Acts, IsFresh};
+ghost use Rattle.farm_core.specs.Came.{Acts, CameTo, seen, seen_at};
+ghost use Rattle.farm_core.specs.Following.{IsFresh};
 ghost use Rattle.farm_core.specs.Plain.{plain_farm};
 
-use crate::draft::Draft;
 use crate::tables::Tables;
 use farm_pick::Free;
 use farm_types::{
-    Body, Changes, Claim, ClaimKind, JobRow, JobState, NO_SUCH_BOARDS, NO_TYPE, Name, Priority,
-    Roles, Want, Wants, copy_name,
+    Body, Claim, ClaimKind, JobRow, JobState, NO_SUCH_BOARDS, NO_TYPE, Name, Priority, Roles, Want,
+    Wants, copy_name,
 };
 use std::alloc::{AllocError, Global};
 
@@ -124,53 +124,51 @@ impl Tables {
     }
 }
 
-impl Draft {
+impl Tables {
     /// Adds the members of a group, numbered from the group's number on; the first carries the
     /// text.
     fn add_members(
-        self,
+        &mut self,
         group: u64,
         owner: &Name,
         priority: Priority,
         wants: &[Want],
         roles: &[Option<Name>],
         body: &Body,
-    ) -> Result<Draft, AllocError>
+    ) -> Result<(), AllocError>
         requires few { length wants.now ≤ most_wants }
         requires roles { length roles.now ≡ length wants.now }
         requires group { group ≤ numbers_end }
-        ensures { IfOk result
-            (λ d. d ≡ at_farm
-            (put_jobs self.farm
-            (new_members group group owner.now priority wants.now roles.now body.now)) self) }
+        ensures { OnOk result (CameTo self.old (seen_at (put_jobs (plain_farm self.old)
+            (new_members group group owner.now priority wants.now roles.now body.now))
+            (seen self.old)) self.new) }
     {
-        let alloc = *self.tables.boards.allocator();
-        let mut draft = self;
+        let alloc = *self.boards.allocator();
         for at in 0..wants.len() {
             let text = member_text(alloc, at, body)?;
             let number = group + at as u64;
             let row = new_member(number, group, owner, priority, &wants[at], &roles[at], text)?;
-            draft = draft.put_job(row)?;
+            self.jobs.put(row)?;
         }
-        Ok(draft)
+        Ok(())
     }
 
     /// Submits a group of jobs, one for each want. Gives the group's number.
     pub fn submit(
-        self,
+        &mut self,
         owner: &Name,
         priority: Priority,
         wants: &Wants,
         roles: &Roles,
         body: &Body,
-    ) -> Result<(Draft, u64), AllocError>
+    ) -> Result<u64, AllocError>
         requires roles { length roles.now ≡ length wants.now }
-        requires next { self.farm.next ≤ numbers_end }
-        requires fresh { IsFresh self.farm.next self.queues.claims }
-        ensures { IfOk result
-            (λ r. Acts self owner.now (Cmd.Submit priority wants.now roles.now body.now) r.1 r.0) }
+        requires next { self.old.next ≤ numbers_end }
+        requires fresh { IsFresh self.old.next self.old.queues.claims }
+        ensures { IfOk result (λ n. Acts self.old owner.now
+            (Cmd.Submit priority wants.now roles.now body.now) n self.new) }
     {
-        let group = self.tables.next;
+        let group = self.next;
         let claim = Claim {
             kind: ClaimKind::Group,
             number: group,
@@ -178,9 +176,9 @@ impl Draft {
             priority,
             boards: wants.items().len() as u64,
         };
-        let draft = self.add_members(group, owner, priority, wants.items(), roles.items(), body)?;
-        let draft = draft.put_claim(claim, first_kind(wants))?;
-        let next = group + wants.items().len() as u64;
-        Ok((draft.with_next(next), group))
+        self.add_members(group, owner, priority, wants.items(), roles.items(), body)?;
+        self.queues.put_claim(claim, first_kind(wants))?;
+        self.next = group + wants.items().len() as u64;
+        Ok(group)
     }
 }

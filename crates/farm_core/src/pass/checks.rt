@@ -1,20 +1,17 @@
 //! The checks of a pass: a job of the program's own for each due board.
 ghost use Rattle.std.specs.Prelude.{◌≡◌, ◌-◌, ◌<◌, codes, length, get_or, OnOk, IfOk};
 ghost use Rattle.farm_types.specs.Limits.{highest_priority};
-ghost use Rattle.farm_types.specs.Farm.{Farm};
 ghost use Rattle.farm_types.specs.Pass.{check_job, check_one, checks, is_due, is_due_by};
 ghost use Rattle.farm_types.specs.Pass.{is_reached};
 ghost use Rattle.farm_types.specs.Pick.{check_of, is_nobody};
 ghost use Rattle.farm_types.specs.declared.rows.BoardRow.{BoardRow};
-ghost use Rattle.farm_core.specs.Drafted.{at_farm};
+ghost use Rattle.farm_core.specs.Came.{CameTo, seen, seen_at};
 ghost use Rattle.farm_core.specs.Plain.{plain_farm};
-ghost use Rattle.farm_core.specs.Tracks.{Tracks};
 
-use crate::draft::Draft;
 use crate::tables::Tables;
 use farm_types::{
-    BoardRow, Body, Changes, Check, HIGHEST_PRIORITY, Health, Holder, JobRow, JobState, Name,
-    Priority, Tags, Want, WordFault,
+    BoardRow, Body, Check, HIGHEST_PRIORITY, Health, Holder, JobRow, JobState, Name, Priority,
+    Tags, Want, WordFault,
 };
 use std::alloc::{AllocError, Global};
 
@@ -113,45 +110,40 @@ impl Tables {
         matches!(board.holder, Holder::Nobody)
             && is_due_by(self.check_of(&board.kind), self.clock, board)
     }
-}
 
-impl Draft {
     /// Checks the board at a place, where there is room for one more job.
-    fn check_board(self, at: usize) -> Result<Draft, AllocError>
-        requires { at < length self.farm.boards }
-        ensures { IfOk result (λ d. (b : BoardRow) → b ≡ get_or self.farm.boards at b
-            → d ≡ at_farm (check_one self.farm b) self) }
+    fn check_board(&mut self, at: usize) -> Result<(), AllocError>
+        requires { at < length (plain_farm self.old).boards }
+        ensures { OnOk result ((b : BoardRow) → b ≡ get_or (plain_farm self.old).boards at b
+            → CameTo self.old (seen_at (check_one (plain_farm self.old) b) (seen self.old)) self.new) }
     {
-        let tables = &*self.tables;
-        if !tables.has_room(1) {
-            return Ok(self);
+        if !self.has_room(1) {
+            return Ok(());
         }
-        let number = tables.next;
-        let board = &tables.boards.rows()[at];
-        let row = check_job(*tables.boards.allocator(), number, board)?;
+        let number = self.next;
+        let board = &self.boards.rows()[at];
+        let row = check_job(*self.boards.allocator(), number, board)?;
         let name = board.name.copy()?;
-        let draft = self.put_job(row)?;
-        let draft = draft.hold_board(&name, Holder::Job(number))?;
-        Ok(draft.with_next(number + 1))
+        self.jobs.put(row)?;
+        self.hold_board(&name, Holder::Job(number))?;
+        self.next = number + 1;
+        Ok(())
     }
 
     /// Checks each due board in name order, while there is room. Gives how many. With B boards it
     /// looks at each once, and a check adds its row at the end of the jobs.
-    pub fn checks(self) -> Result<(Draft, u64), AllocError>
-        ensures farm { IfOk result (λ r. r.0 ≡ at_farm (checks self.farm self.farm.clock) self) }
+    pub fn checks(&mut self) -> Result<u64, AllocError>
+        ensures came { OnOk result (CameTo self.old (seen_at
+            (checks (plain_farm self.old) self.old.clock) (seen self.old)) self.new) }
         ensures count { IfOk result
-            (λ r. r.1 ≡ (checks self.farm self.farm.clock).next - self.farm.next) }
+            (λ n. n ≡ (checks (plain_farm self.old) self.old.clock).next - self.old.next) }
     {
-        let tables = &*self.tables;
-        let (first, count) = (tables.next, tables.boards.len());
-        let mut draft = self;
+        let (first, count) = (self.next, self.boards.len());
         for at in 0..count {
-            let tables = &*draft.tables;
-            if tables.is_due(&tables.boards.rows()[at]) {
-                draft = draft.check_board(at)?;
+            if self.is_due(&self.boards.rows()[at]) {
+                self.check_board(at)?;
             }
         }
-        let checked = draft.tables.next - first;
-        Ok((draft, checked))
+        Ok(self.next - first)
     }
 }

@@ -1,93 +1,91 @@
 //! The end of leases: reservations that are dead when a pass comes.
-ghost use Rattle.std.specs.Prelude.{◌≡◌, ◌==◌, ◌<◌, ◌^◌, ℕ, true, false, length};
-ghost use Rattle.std.specs.Prelude.{IfOk, IfSome, IfNone};
+ghost use Rattle.std.specs.Prelude.{◌≡◌, ◌==◌, ◌<◌, ◌^◌, true, false, length};
+ghost use Rattle.std.specs.Prelude.{IfOk, IfSome, IfNone, OnOk};
 ghost use Rattle.std.specs.List.{AllByRecursion, filter};
 ghost use Rattle.std.specs.List.Sorted.{IsStrictlySortedBy};
 ghost use Rattle.farm_types.specs.Table.{change_where, res_cmp};
 ghost use Rattle.farm_types.specs.Pass.{expire, is_dead};
 ghost use Rattle.farm_types.specs.declared.rows.ResState.{ResState};
-ghost use Rattle.farm_core.specs.Drafted.{without_claim};
-ghost use Rattle.farm_core.specs.Following.{without_all};
+ghost use Rattle.farm_core.specs.Came.{CameTo, seen};
+ghost use Rattle.farm_core.specs.Following.{without_all, without_claim};
 ghost use Rattle.farm_core.specs.Leases.{is_dead_at};
+ghost use Rattle.farm_core.specs.Plain.{plain_farm};
 
 use crate::command::res_edit::ResEdit;
-use crate::draft::Draft;
 use crate::held::Becomes;
+use crate::tables::Tables;
 use std::alloc::AllocError;
 
-impl Draft {
+impl Tables {
     /// The number of a reservation that is dead, if there is one.
     fn first_dead(&mut self) -> Option<u64>
-        ensures stays { self.new ≡ self.old }
-        ensures ordered { IsStrictlySortedBy res_cmp self.old.farm.reservations }
-        ensures few { length self.old.farm.reservations < 2 ^ 63 }
+        ensures stays { CameTo self.old (seen self.old) self.new }
+        ensures ordered { IsStrictlySortedBy res_cmp (plain_farm self.old).reservations }
+        ensures few { length (plain_farm self.old).reservations < 2 ^ 63 }
         ensures dead { IfSome result (λ number.
-            is_dead_at self.old.farm.clock self.old.farm.reservations number ≡ true) }
-        ensures none { IfNone result
-            (AllByRecursion (λ r. is_dead self.old.farm.clock r ≡ false)
-            self.old.farm.reservations) }
+            is_dead_at self.old.clock (plain_farm self.old).reservations number ≡ true) }
+        ensures none { IfNone result (AllByRecursion (λ r. is_dead self.old.clock r ≡ false)
+            (plain_farm self.old).reservations) }
     {
-        let tables = &mut *self.tables;
-        tables.reservations.first_dead(tables.clock)
+        self.reservations.first_dead(self.clock)
     }
 
     /// The reservation of a number is expired, and its claim waits no more.
-    fn end_reservation(self, number: u64) -> Result<Draft, AllocError>
-        ensures { IfOk result (λ d. d ≡ record self {
-          farm = record self.farm {
+    fn end_reservation(&mut self, number: u64) -> Result<(), AllocError>
+        ensures { OnOk result (CameTo self.old (record {
+          farm = record (plain_farm self.old) {
             reservations = change_where (λ r. r.number == number)
-                (λ r. record r { state = ResState.Expired }) self.farm.reservations;
+                (λ r. record r { state = ResState.Expired }) (plain_farm self.old).reservations;
           };
-          queues = without_claim number self.queues;
-        }) }
+          queues = without_claim number self.old.queues;
+        }) self.new) }
     {
-        let draft = self.edit_reservation(number, ResEdit::End(number))?;
-        Ok(draft.take_claim(number))
+        self.reservations.edit(number, ResEdit::End(number))?;
+        self.queues.take_claim(number);
+        Ok(())
     }
 
     /// Expires the reservations whose deadline has come; their claims wait no more. Gives how many.
-    fn expire_reservations(self) -> Result<(Draft, u64), AllocError>
-        ensures left { IfOk result (λ r. r.0 ≡ record self {
-          farm = record self.farm {
-            reservations = change_where (is_dead self.farm.clock)
-                (λ r. record r { state = ResState.Expired }) self.farm.reservations;
+    fn expire_reservations(&mut self) -> Result<u64, AllocError>
+        ensures left { OnOk result (CameTo self.old (record {
+          farm = record (plain_farm self.old) {
+            reservations = change_where (is_dead self.old.clock)
+                (λ r. record r { state = ResState.Expired }) (plain_farm self.old).reservations;
           };
-          queues = record self.queues {
-            claims = without_all (filter (is_dead self.farm.clock) self.farm.reservations)
-                self.queues.claims;
+          queues = record self.old.queues {
+            claims = without_all (filter (is_dead self.old.clock) (plain_farm self.old).reservations)
+                self.old.queues.claims;
           };
-        }) }
-        ensures count { IfOk result
-            (λ r. r.1 ≡ length (filter (is_dead self.farm.clock) self.farm.reservations)) }
+        }) self.new) }
+        ensures count { IfOk result (λ n. n
+            ≡ length (filter (is_dead self.old.clock) (plain_farm self.old).reservations)) }
     {
-        let mut draft = self;
         let mut count = 0;
-        while let Some(number) = draft.first_dead() {
-            draft = draft.end_reservation(number)?;
+        while let Some(number) = self.first_dead() {
+            self.end_reservation(number)?;
             count += 1;
         }
-        Ok((draft, count))
+        Ok(count)
     }
 
     /// Ends each reservation that waits or has been allocated and whose deadline has come, and
     /// frees the board that it holds. Gives how many. With R reservations, B boards, C claims and L
     /// leases, of which D are over, it costs O(B log R + D (log R + log L + log C)): no reservation
     /// is looked at whose lease runs on, and none that ended before.
-    pub fn expire(self) -> Result<(Draft, u64), AllocError>
-        ensures left { IfOk result (λ r. r.0 ≡ record self {
-          farm = expire self.farm self.farm.clock;
-          queues = record self.queues {
-            claims = without_all (filter (is_dead self.farm.clock) self.farm.reservations)
-                self.queues.claims;
+    pub fn expire(&mut self) -> Result<u64, AllocError>
+        ensures left { OnOk result (CameTo self.old (record {
+          farm = expire (plain_farm self.old) self.old.clock;
+          queues = record self.old.queues {
+            claims = without_all (filter (is_dead self.old.clock) (plain_farm self.old).reservations)
+                self.old.queues.claims;
           };
-        }) }
-        ensures count { IfOk result
-            (λ r. r.1 ≡ length (filter (is_dead self.farm.clock) self.farm.reservations)) }
+        }) self.new) }
+        ensures count { IfOk result (λ n. n
+            ≡ length (filter (is_dead self.old.clock) (plain_farm self.old).reservations)) }
     {
-        let edit = ResEdit::Expire(self.tables.clock);
         // The boards first: the reservations as they were tell which are freed.
-        let draft = self.edit_boards_of_reservations(edit, Becomes::Idle)?;
-        let (draft, count) = draft.expire_reservations()?;
-        Ok((draft, count))
+        self.edit_boards_of_reservations(ResEdit::Expire(self.clock), Becomes::Idle)?;
+        let count = self.expire_reservations()?;
+        Ok(count)
     }
 }

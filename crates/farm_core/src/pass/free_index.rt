@@ -1,12 +1,12 @@
 //! The queues follow the rows: which boards are free, and which claims were given boards.
-ghost use Rattle.std.specs.Prelude.{◌≡◌, ◌==◌, not, map, OnOk, IfOk};
-ghost use Rattle.std.specs.List.{filter, fold, list_any};
-ghost use Rattle.std.specs.List.Sorted.{IsStrictlySortedBy};
-ghost use Rattle.farm_types.specs.Table.{board_cmp};
+ghost use Rattle.std.specs.Prelude.{◌≡◌, ◌==◌, not, OnOk};
+ghost use Rattle.std.specs.List.{filter, fold};
 ghost use Rattle.farm_pick.specs.Queued.{idle_boards};
-ghost use Rattle.farm_core.specs.Following.{free_of, free_boards_with, without_boards};
+ghost use Rattle.farm_core.specs.Came.{CameTo, seen};
+ghost use Rattle.farm_core.specs.Following.{FollowsLog, free_boards_with, without_boards};
+ghost use Rattle.farm_core.specs.Plain.{plain_farm};
 
-use crate::draft::Draft;
+use crate::tables::Tables;
 use farm_pick::Queues;
 use farm_types::{BoardRow, Name, TypeRow};
 use std::alloc::AllocError;
@@ -53,32 +53,28 @@ fn take_boards(queues: &mut Queues, names: &[Name])
     }
 }
 
-impl Draft {
-    /// The free boards follow the boards that have changed since the start.
-    pub fn follow_boards(mut self) -> Result<Draft, AllocError>
-        requires ordered { IsStrictlySortedBy board_cmp self.start.boards }
-        requires free { self.queues.boards ≡ free_of self.farm.types self.start.boards }
-        ensures { IfOk result (λ d. d ≡ record self {
-          queues = record self.queues { boards = idle_boards self.farm };
-        }) }
+impl Tables {
+    /// The free boards follow the boards that are logged.
+    pub fn follow_boards(&mut self) -> Result<(), AllocError>
+        requires { FollowsLog self.old }
+        ensures { OnOk result (CameTo self.old (record (seen self.old) {
+          queues = record self.old.queues { boards = idle_boards (plain_farm self.old) };
+        }) self.new) }
     {
-        let tables = &mut *self.tables;
-        note_boards(&mut tables.queues, tables.types.rows(), tables.boards.log())?;
-        Ok(self)
+        note_boards(&mut self.queues, self.types.rows(), self.boards.log())?;
+        Ok(())
     }
 
     /// The claim of a number was given boards: it waits no more, and they are free no more.
-    pub fn take_given(mut self, number: u64, names: &[Name]) -> Draft
-        ensures { result ≡ record self {
+    pub fn take_given(&mut self, number: u64, names: &[Name])
+        ensures { CameTo self.old (record (seen self.old) {
           queues = record {
-            claims = filter (λ x. not (x.claim.number == number)) self.queues.claims;
-            boards = without_boards names.now self.queues.boards;
+            claims = filter (λ x. not (x.claim.number == number)) self.old.queues.claims;
+            boards = without_boards names.now self.old.queues.boards;
           };
-        } }
+        }) self.new }
     {
-        let tables = &mut *self.tables;
-        tables.queues.take_claim(number);
-        take_boards(&mut tables.queues, names);
-        self
+        self.queues.take_claim(number);
+        take_boards(&mut self.queues, names);
     }
 }

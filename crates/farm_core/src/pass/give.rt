@@ -1,33 +1,29 @@
 //! Boards are given to jobs and reservations.
-ghost use Rattle.std.specs.Prelude.{◌≡◌, ◌≤◌, ◌∷◌, [], OnOk, IfOk};
+ghost use Rattle.std.specs.Prelude.{◌≤◌, ◌∷◌, [], OnOk};
 ghost use Rattle.std.specs.List.{AllByRecursion, fold, zip};
 ghost use Rattle.std.specs.Str.{bytes_eq};
 ghost use Rattle.farm_types.specs.Limits.{last_moment};
 ghost use Rattle.farm_types.specs.Table.{change_where};
-ghost use Rattle.farm_types.specs.Farm.{Farm};
 ghost use Rattle.farm_types.specs.Pass.{held_board};
 ghost use Rattle.farm_types.specs.Small.{IsSmall, held_by};
 ghost use Rattle.farm_types.specs.declared.rows.JobState.{JobState};
 ghost use Rattle.farm_types.specs.declared.rows.State.{State};
 ghost use Rattle.farm_core.specs.Came.{CameTo, seen, seen_at};
-ghost use Rattle.farm_core.specs.Drafted.{at_farm};
 ghost use Rattle.farm_core.specs.Plain.{plain_farm};
 ghost use Rattle.farm_core.specs.Serving.{give_named, give_first};
-ghost use Rattle.farm_core.specs.Tracks.{Tracks};
 
 use crate::command::job_edit::JobEdit;
 use crate::command::res_edit::ResEdit;
-use crate::draft::Draft;
 use crate::held::Hold;
 use crate::tables::Tables;
-use farm_types::{Changes, Holder, JobState, LEASE, Name};
+use farm_types::{Holder, JobState, LEASE, Name};
 use std::alloc::AllocError;
 
 impl Tables {
     /// The board of that name is reserved for a holder. It is looked for where the first free board
     /// stands if none that is held stands behind one that is free: claims get the first boards that
     /// fit. With B boards it costs O(log B) at most.
-    fn hold_board(&mut self, name: &Name, holder: Holder) -> Result<(), AllocError>
+    pub fn hold_board(&mut self, name: &Name, holder: Holder) -> Result<(), AllocError>
         requires { IsSmall (held_by holder) }
         ensures { OnOk result (CameTo self.old (seen_at (record (plain_farm self.old) {
           boards = change_where (λ c. bytes_eq c.name name.now)
@@ -38,70 +34,54 @@ impl Tables {
         self.boards.change_near(guess, name, &Hold { holder })?;
         Ok(())
     }
-}
-
-impl Draft {
-    /// The board of that name is reserved for a holder.
-    pub fn hold_board(mut self, name: &Name, holder: Holder) -> Result<Draft, AllocError>
-        requires { IsSmall (held_by holder) }
-        ensures { IfOk result
-            (λ d. d ≡ at_farm
-            (record self.farm {
-              boards = change_where (λ c. bytes_eq c.name name.now)
-                  (held_board holder State.Reserved) self.farm.boards;
-            }) self) }
-    {
-        self.tables.hold_board(name, holder)?;
-        Ok(self)
-    }
 
     /// A job is in that state and holds the board of that name.
-    pub fn give_job(self, state: JobState, number: u64, name: &Name) -> Result<Draft, AllocError>
+    pub fn give_job(&mut self, state: JobState, number: u64, name: &Name) -> Result<(), AllocError>
         requires { IsSmall number }
-        ensures { IfOk result
-            (λ d. d ≡ at_farm (give_named state self.farm (number, name.now)) self) }
+        ensures { OnOk result (CameTo self.old (seen_at
+            (give_named state (plain_farm self.old) (number, name.now)) (seen self.old)) self.new) }
     {
-        let draft = self.edit_jobs(JobEdit::Place(state, number, name))?;
-        let draft = draft.hold_board(name, Holder::Job(number))?;
-        Ok(draft)
+        self.jobs.edit(JobEdit::Place(state, number, name))?;
+        self.hold_board(name, Holder::Job(number))?;
+        Ok(())
     }
 
     /// Each job is Scheduled on the board at its place among the names.
-    pub fn give_jobs(self, numbers: &[u64], names: &[Name]) -> Result<Draft, AllocError>
+    pub fn give_jobs(&mut self, numbers: &[u64], names: &[Name]) -> Result<(), AllocError>
         requires { AllByRecursion IsSmall numbers.now }
-        ensures { IfOk result
-            (λ d. d ≡ at_farm (fold (give_named JobState.Scheduled) self.farm
-            (zip numbers.now names.now)) self) }
+        ensures { OnOk result (CameTo self.old (seen_at (fold (give_named JobState.Scheduled)
+            (plain_farm self.old) (zip numbers.now names.now)) (seen self.old)) self.new) }
     {
         let count = numbers.len().min(names.len());
-        let mut draft = self;
         for at in 0..count {
-            draft = draft.give_job(JobState::Scheduled, numbers[at], &names[at])?;
+            self.give_job(JobState::Scheduled, numbers[at], &names[at])?;
         }
-        Ok(draft)
+        Ok(())
     }
 
     /// A reservation is given the board of that name, for a lease from now on.
-    fn give_reservation(self, number: u64, name: &Name) -> Result<Draft, AllocError>
+    fn give_reservation(&mut self, number: u64, name: &Name) -> Result<(), AllocError>
         requires small { IsSmall number }
-        requires clock { self.farm.clock ≤ last_moment }
-        ensures { IfOk result
-            (λ d. d ≡ at_farm (give_first self.farm number (name.now ∷ [])) self) }
+        requires clock { self.old.clock ≤ last_moment }
+        ensures { OnOk result (CameTo self.old (seen_at
+            (give_first (plain_farm self.old) number (name.now ∷ [])) (seen self.old)) self.new) }
     {
-        let deadline = self.tables.clock + LEASE;
-        let draft = self.edit_reservation(number, ResEdit::Allocate(number, name, deadline))?;
-        let draft = draft.hold_board(name, Holder::Res(number))?;
-        Ok(draft)
+        let deadline = self.clock + LEASE;
+        let edit = ResEdit::Allocate(number, name, deadline);
+        self.reservations.edit(number, edit)?;
+        self.hold_board(name, Holder::Res(number))?;
+        Ok(())
     }
 
     /// A reservation is given the first board of the names, for a lease from now on.
-    pub fn give_first(self, number: u64, names: &[Name]) -> Result<Draft, AllocError>
+    pub fn give_first(&mut self, number: u64, names: &[Name]) -> Result<(), AllocError>
         requires small { IsSmall number }
-        requires clock { self.farm.clock ≤ last_moment }
-        ensures { IfOk result (λ d. d ≡ at_farm (give_first self.farm number names.now) self) }
+        requires clock { self.old.clock ≤ last_moment }
+        ensures { OnOk result (CameTo self.old (seen_at
+            (give_first (plain_farm self.old) number names.now) (seen self.old)) self.new) }
     {
         match names.first() {
-            None => Ok(self),
+            None => Ok(()),
             Some(name) => self.give_reservation(number, name),
         }
     }

@@ -5,7 +5,7 @@ ghost use Rattle.std.specs.Prelude.{OnOk, IfOk, option_map};
 ghost use Rattle.std.specs.List.{filter, find, list_all};
 ghost use Rattle.std.specs.Option.{option_copied};
 ghost use Rattle.farm_types.specs.Limits.{last_moment, most_wants};
-ghost use Rattle.farm_types.specs.Farm.{Farm, members, res_of};
+ghost use Rattle.farm_types.specs.Farm.{members, res_of};
 ghost use Rattle.farm_types.specs.Pass.{is_group, serve, serve_all};
 ghost use Rattle.farm_types.specs.Pick.{IsAmong, Claimed, least, is_free, queue, shown_claim};
 ghost use Rattle.farm_types.specs.Pick.{waits};
@@ -16,17 +16,15 @@ ghost use Rattle.farm_types.specs.declared.rows.ResRow.{ResRow};
 ghost use Rattle.farm_pick.specs.Least.{boards_at};
 ghost use Rattle.farm_pick.specs.Heads.{is_later, last_spot};
 ghost use Rattle.farm_pick.specs.Queued.{Queued, idle_boards, is_open, queue_lists};
-ghost use Rattle.farm_core.specs.Drafted.{at_farm};
+ghost use Rattle.farm_core.specs.Came.{CameTo, LeadOn, seen};
 ghost use Rattle.farm_core.specs.Plain.{plain_farm};
 ghost use Rattle.farm_core.specs.Serving.{AreUnmet, Asks, Begins, Serves, Tries, boards_for};
 ghost use Rattle.farm_core.specs.Serving.{count_after, wants_of};
-ghost use Rattle.farm_core.specs.Tracks.{Tracks};
 
-use crate::draft::Draft;
 use crate::pass::lookahead::unsatisfiable::{Known, Unmet};
 use crate::tables::Tables;
 use arrayvec::ArrayVec;
-use farm_types::{Changes, ClaimKind, JobRow, JobState, MOST_WANTS, Name, Priority, Want};
+use farm_types::{ClaimKind, JobRow, JobState, MOST_WANTS, Name, Priority, Want};
 use std::alloc::AllocError;
 use std::collections::VecDeque;
 
@@ -150,9 +148,7 @@ impl Tables {
             Some(row) => self.pick(&[&row.want]),
         }
     }
-}
 
-impl Tables {
     /// How many boards a group waits for, if it is a claim, and else none.
     fn waits_for(&self, group: u64) -> u64
         requires small { IsSmall group }
@@ -164,53 +160,57 @@ impl Tables {
             _ => 0,
         }
     }
-}
 
-impl Draft {
     /// Gives a group its boards, where free ones meet it.
-    fn serve_group(self, group: u64) -> Result<(Draft, bool), AllocError>
+    fn serve_group(&mut self, group: u64) -> Result<bool, AllocError>
         requires small { IsSmall group }
-        requires free { self.queues.boards ≡ idle_boards self.farm }
-        ensures { IfOk result (λ r. (c : Claimed) → c.reservation ≡ false → c.number ≡ group
-            → Asks false self.farm c → Tries self c r.1 r.0) }
+        requires free { self.old.queues.boards ≡ idle_boards (plain_farm self.old) }
+        ensures tries { IfOk result (λ served. (c : Claimed) → c.reservation ≡ false
+            → c.number ≡ group → Asks false (plain_farm self.old) c
+            → Tries (seen self.old) c served (seen self.new)) }
+        ensures logs { OnOk result (LeadOn self.old self.new) }
     {
-        let tables = &*self.tables;
-        let near = tables.near(group);
-        match tables.pick_for_group(near, group)? {
-            None => Ok((self, false)),
+        let near = self.near(group);
+        match self.pick_for_group(near, group)? {
+            None => Ok(false),
             Some(names) => {
                 let numbers = numbers_in(near, group);
-                let draft = self.give_jobs(&numbers, &names)?;
-                Ok((draft.take_given(group, &names), true))
+                self.give_jobs(&numbers, &names)?;
+                self.take_given(group, &names);
+                Ok(true)
             }
         }
     }
 
     /// Gives a reservation its board, where a free one meets it.
-    fn serve_reservation(self, number: u64) -> Result<(Draft, bool), AllocError>
+    fn serve_reservation(&mut self, number: u64) -> Result<bool, AllocError>
         requires small { IsSmall number }
-        requires clock { self.farm.clock ≤ last_moment }
-        requires free { self.queues.boards ≡ idle_boards self.farm }
-        ensures { IfOk result (λ r. (c : Claimed) → c.reservation ≡ true → c.number ≡ number
-            → Asks true self.farm c → Tries self c r.1 r.0) }
+        requires clock { self.old.clock ≤ last_moment }
+        requires free { self.old.queues.boards ≡ idle_boards (plain_farm self.old) }
+        ensures tries { IfOk result (λ served. (c : Claimed) → c.reservation ≡ true
+            → c.number ≡ number → Asks true (plain_farm self.old) c
+            → Tries (seen self.old) c served (seen self.new)) }
+        ensures logs { OnOk result (LeadOn self.old self.new) }
     {
-        let tables = &*self.tables;
-        match tables.pick_for_reservation(number)? {
-            None => Ok((self, false)),
+        match self.pick_for_reservation(number)? {
+            None => Ok(false),
             Some(names) => {
-                let draft = self.give_first(number, &names)?;
-                Ok((draft.take_given(number, &names), true))
+                self.give_first(number, &names)?;
+                self.take_given(number, &names);
+                Ok(true)
             }
         }
     }
 
     /// Serves a claim, told by its kind and its number, where free boards meet it.
-    fn serve_claim(self, kind: ClaimKind, number: u64) -> Result<(Draft, bool), AllocError>
+    fn serve_claim(&mut self, kind: ClaimKind, number: u64) -> Result<bool, AllocError>
         requires small { IsSmall number }
-        requires clock { self.farm.clock ≤ last_moment }
-        requires free { self.queues.boards ≡ idle_boards self.farm }
-        ensures { IfOk result (λ r. (c : Claimed) → (shown_claim c).kind ≡ kind
-            → c.number ≡ number → Asks c.reservation self.farm c → Tries self c r.1 r.0) }
+        requires clock { self.old.clock ≤ last_moment }
+        requires free { self.old.queues.boards ≡ idle_boards (plain_farm self.old) }
+        ensures tries { IfOk result (λ served. (c : Claimed) → (shown_claim c).kind ≡ kind
+            → c.number ≡ number → Asks c.reservation (plain_farm self.old) c
+            → Tries (seen self.old) c served (seen self.new)) }
+        ensures logs { OnOk result (LeadOn self.old self.new) }
     {
         let served = match kind {
             ClaimKind::Reservation => self.serve_reservation(number)?,
@@ -220,72 +220,76 @@ impl Draft {
     }
 
     /// A claim that isn't met stays; a group of two members or more collects, where none does yet.
-    fn pass_over(self, kind: ClaimKind, number: u64, boards: u64) -> Result<Draft, AllocError>
-        requires sound { IsSound self.farm }
+    fn pass_over(&mut self, kind: ClaimKind, number: u64, boards: u64) -> Result<(), AllocError>
+        requires sound { IsSound (plain_farm self.old) }
         requires small { IsSmall number }
-        requires free { self.queues.boards ≡ idle_boards self.farm }
-        ensures { IfOk result (λ d. (c : Claimed) → (shown_claim c).kind ≡ kind → c.number ≡ number
-            → length c.wants ≡ boards
-            → least self.farm.boards (is_free self.farm.types) c.wants ≡ None
-            → Serves self c false d) }
+        requires free { self.old.queues.boards ≡ idle_boards (plain_farm self.old) }
+        ensures serves { OnOk result ((c : Claimed) → (shown_claim c).kind ≡ kind
+            → c.number ≡ number → length c.wants ≡ boards
+            → least (plain_farm self.old).boards (is_free (plain_farm self.old).types) c.wants ≡ None
+            → Serves (seen self.old) c false (seen self.new)) }
+        ensures logs { OnOk result (LeadOn self.old self.new) }
     {
-        if self.tables.collector == 0 && kind == ClaimKind::Group && boards >= 2 {
+        if self.collector == 0 && kind == ClaimKind::Group && boards >= 2 {
             self.collect_group(number)
         } else {
-            Ok(self)
+            Ok(())
         }
     }
 
     /// Tries a claim. One that isn't met is remembered, since where boards are only taken away,
     /// what was unmet stays so; and it may collect.
     fn try_claim(
-        self,
+        &mut self,
         unmet: &mut Unmet,
         kind: ClaimKind,
         number: u64,
         boards: u64,
-    ) -> Result<(Draft, bool), AllocError>
-        requires sound { IsSound self.farm }
-        requires waits { (c : Claimed) × IsAmong c (queue self.farm) × ((shown_claim c).kind ≡ kind)
-            × (c.number ≡ number) × (length c.wants ≡ boards) }
+    ) -> Result<bool, AllocError>
+        requires sound { IsSound (plain_farm self.old) }
+        requires waits { (c : Claimed) × IsAmong c (queue (plain_farm self.old))
+            × ((shown_claim c).kind ≡ kind) × (c.number ≡ number) × (length c.wants ≡ boards) }
         requires small { IsSmall number }
-        requires clock { self.farm.clock ≤ last_moment }
-        requires free { self.queues.boards ≡ idle_boards self.farm }
-        requires known { AreUnmet self.farm unmet.old }
-        ensures serves { IfOk result (λ r. (c : Claimed) → (shown_claim c).kind ≡ kind
-            → c.number ≡ number → IsAmong c (queue self.farm) → Serves self c r.1 r.0) }
-        ensures known { IfOk result (λ r. AreUnmet r.0.farm unmet.new) }
+        requires clock { self.old.clock ≤ last_moment }
+        requires free { self.old.queues.boards ≡ idle_boards (plain_farm self.old) }
+        requires known { AreUnmet (plain_farm self.old) unmet.old }
+        ensures serves { IfOk result (λ served. (c : Claimed) → (shown_claim c).kind ≡ kind
+            → c.number ≡ number → IsAmong c (queue (plain_farm self.old))
+            → Serves (seen self.old) c served (seen self.new)) }
+        ensures known { OnOk result (AreUnmet (plain_farm self.new) unmet.new) }
+        ensures logs { OnOk result (LeadOn self.old self.new) }
     {
-        let (mut draft, served) = self.serve_claim(kind, number)?;
+        let served = self.serve_claim(kind, number)?;
         if served {
-            return Ok((draft, true));
+            return Ok(true);
         }
-        let place = draft.tables.place_of_claim(kind, number);
+        let place = self.place_of_claim(kind, number);
         unmet.note(Known {
             kind,
             number,
             place,
         });
-        draft = draft.pass_over(kind, number, boards)?;
-        Ok((draft, false))
+        self.pass_over(kind, number, boards)?;
+        Ok(false)
     }
 
     /// Tries the group that collected before, if it is still a claim: it goes first. Gives how many
     /// were served, one or none.
-    fn serve_former(self, unmet: &mut Unmet, former: u64) -> Result<(Draft, u64), AllocError>
-        requires sound { IsSound self.farm }
+    fn serve_former(&mut self, unmet: &mut Unmet, former: u64) -> Result<u64, AllocError>
+        requires sound { IsSound (plain_farm self.old) }
         requires small { IsSmall former }
-        requires fits { self.queues ≡ queue_lists self.farm }
-        requires known { AreUnmet self.farm unmet.old }
-        ensures begun { IfOk result (λ r. Begins self former r.1 r.0) }
-        ensures known { IfOk result (λ r. AreUnmet r.0.farm unmet.new) }
+        requires fits { self.old.queues ≡ queue_lists (plain_farm self.old) }
+        requires known { AreUnmet (plain_farm self.old) unmet.old }
+        ensures begun { IfOk result (λ n. Begins (seen self.old) former n (seen self.new)) }
+        ensures known { OnOk result (AreUnmet (plain_farm self.new) unmet.new) }
+        ensures logs { OnOk result (LeadOn self.old self.new) }
     {
-        let boards = self.tables.waits_for(former);
+        let boards = self.waits_for(former);
         if boards == 0 {
-            return Ok((self, 0));
+            return Ok(0);
         }
-        let (draft, served) = self.try_claim(unmet, ClaimKind::Group, former, boards)?;
-        Ok((draft, u64::from(served)))
+        let served = self.try_claim(unmet, ClaimKind::Group, former, boards)?;
+        Ok(u64::from(served))
     }
 
     /// Serves the claims, first that of the group that collected before and then the others of the
@@ -299,33 +303,32 @@ impl Draft {
     /// queues, C claims in open ones, J jobs and F free boards it costs O(K) for each of the C
     /// claims, O(K log C) more for each few that are looked at ahead, and O(log C + log J + F) for
     /// each for which boards are searched.
-    pub fn serve(self, former: u64) -> Result<(Draft, u64), AllocError>
-        requires sound { IsSound self.farm }
-        requires nobody { self.farm.collector ≡ 0 }
+    pub fn serve(&mut self, former: u64) -> Result<u64, AllocError>
+        requires sound { IsSound (plain_farm self.old) }
+        requires nobody { self.old.collector ≡ 0 }
         requires small { IsSmall former }
-        requires fits { self.queues ≡ queue_lists self.farm }
-        ensures farm { IfOk result (λ r. r.0 ≡ record self {
-          farm = (serve_all self.farm former self.farm.clock).farm;
-          queues = queue_lists (serve_all self.farm former self.farm.clock).farm;
-        }) }
+        requires fits { self.old.queues ≡ queue_lists (plain_farm self.old) }
+        ensures came { OnOk result (CameTo self.old (record {
+          farm = (serve_all (plain_farm self.old) former self.old.clock).farm;
+          queues = queue_lists (serve_all (plain_farm self.old) former self.old.clock).farm;
+        }) self.new) }
         ensures count { IfOk result
-            (λ r. r.1 ≡ (serve_all self.farm former self.farm.clock).claims) }
+            (λ n. n ≡ (serve_all (plain_farm self.old) former self.old.clock).claims) }
     {
         let mut unmet = Unmet::none();
-        let (mut draft, mut count) = self.serve_former(&mut unmet, former)?;
-        let mut ahead = VecDeque::new(*draft.tables.boards.allocator());
+        let mut count = self.serve_former(&mut unmet, former)?;
+        let mut ahead = VecDeque::new(*self.boards.allocator());
         let mut last = None;
-        while let Some(claim) = draft.tables.next_claim(&mut ahead, &unmet, last)? {
+        while let Some(claim) = self.next_claim(&mut ahead, &unmet, last)? {
             let (kind, number, boards) = (claim.kind, claim.number, claim.boards);
             last = Some((claim.priority, number));
             if !is_of_group(kind, number, former) {
-                let (next, served) = draft.try_claim(&mut unmet, kind, number, boards)?;
-                draft = next;
+                let served = self.try_claim(&mut unmet, kind, number, boards)?;
                 if served {
                     count += 1;
                 }
             }
         }
-        Ok((draft, count))
+        Ok(count)
     }
 }

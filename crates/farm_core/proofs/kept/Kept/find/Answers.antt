@@ -9,4 +9,4 @@ use Rattle.farm_core.proofs.kept.Kept.find.Goals as goal
 pub returns : goal.returns
 returns c =
     c.copied.ensures ∙ c.get.ensures.value ∙ rows_find c.of.result c.self.inside.rows.entries
-    ∙ (λ i. option_map kept_reply (find (λ r. bytes_eq r.caller (c.of.ensures.caller i) && bytes_eq r.key (c.of.ensures.key i)) (c.self.view_is i)))
+    ∙ (λ i. option_map kept_reply (find (λ r. bytes_eq r.caller (c.of.ensures.caller i) && bytes_eq r.key (c.of.ensures.key i)) (c.self.view_is i).rows))

@@ -13,5 +13,5 @@ loop-row-preserved c =
     let row = c.in-Some.row in
     let turn = YieldsList-turn (YieldsList-from_vec {s = c.into_iter-row-iterator.result} rows (search rules) (search rules))
     c.loop-row.yielded c.loop-row.row-iterator c.loop-row.yielded_by c.next.result c.next.new.self row c.in-Some.is c.next.ensures.steps in
-    c.in_ok-put.ensures.rows ∙ ap (λ rows. put kept_cmp rows row) c.loop-row.invariant
+    c.in_ok-insert.ensures.rows ∙ ap (λ rows. put kept_cmp rows row) c.loop-row.invariant
     ∙ put_next rows at row row c.requires turn.0 (sym turn.1) ∙ ap (λ n. take n rows) (sym (length_push c.loop-row.yielded row))

@@ -1,61 +1,40 @@
-use Rattle.std.proofs.Common.{◌≡◌, ℕ, ◌+◌, ◌≤◌, ap, sym, ◌∙◌, subst, arith}
-use Rattle.farm_types.specs.Limits.{last_moment}
-use Rattle.farm_types.specs.Change.{act, keep, change, farm_at_call}
-use Rattle.farm_types.specs.Refuse.{moment}
-use Rattle.farm_types.specs.Farm.{Farm}
+use Rattle.std.proofs.Common.{◌+◌, ◌≤◌, ap, sym, ◌∙◌, subst, arith}
+use Rattle.farm_types.specs.Limits.{last_moment, numbers_end}
+use Rattle.farm_types.specs.Change.{act, keep, change}
+use Rattle.farm_types.specs.Farm.{Farm, put_rows}
 use Rattle.farm_types.specs.Sound.{IsSound}
-use Rattle.farm_types.specs.declared.calls.Call.{Call}
-use Rattle.farm_core.specs.Plain.{plain_farm}
-use Rattle.farm_core.specs.Drafted.{Drafted}
-use Rattle.farm_core.specs.declared.tables.Tables.{Tables}
-use Rattle.farm_core.proofs.AcceptedCalls.{in_time}
 use Rattle.farm_sound.proofs.Step.{acted_call, IsSound-moved_to}
 use Rattle.farm_pick.specs.Queued.{queue_lists}
+use Rattle.farm_core.specs.Came.{Seen}
 use Rattle.farm_core.specs.Following.{FollowsIn}
+use Rattle.farm_core.specs.Plain.{plain_farm}
+use Rattle.farm_core.proofs.AcceptedCalls.{in_time}
 use Rattle.farm_core.proofs.Commanded.{follows_in, kept_lists}
+use Rattle.farm_core.proofs.Steps.{lead_on_join, rows_led}
 use Rattle.farm_core.proofs.tables.Tables.change.Goals as goal
 
--- the tables that are taken out are those with the clock moved
-taken : {T : Tables} (self : Tables) (call : Call) (clock : ℕ) → T ≡ record self { clock = clock } → clock ≡ moment (plain_farm self) call → plain_farm T ≡ farm_at_call (plain_farm self) call
-taken self call clock is at = ap plain_farm is ∙ (λ i. record (plain_farm self) { clock = at i })
-
-pub act-requires-clause-sound : goal.act-requires-clause-sound
-act-requires-clause-sound c =
-    let started = ap (λ (D : Drafted). D.farm) c.in_ok-draft.ensures ∙ taken c.args.self.now c.args.call.now c.max-self.result c.replace.ensures.value c.max-self.ensures in
-    subst IsSound (sym started) (IsSound-moved_to (plain_farm c.args.self.now) c.args.call.now c.requires.accepted c.requires.sound)
-
-pub act-requires-clause-fits : goal.act-requires-clause-fits
-act-requires-clause-fits c =
-    let started = ap (λ (D : Drafted). D.farm) c.in_ok-draft.ensures ∙ taken c.args.self.now c.args.call.now c.max-self.result c.replace.ensures.value c.max-self.ensures in
-    ap (λ (D : Drafted). D.queues) c.in_ok-draft.ensures ∙ ap (λ (t : Tables). t.queues) c.replace.ensures.value ∙ c.requires.fits ∙ ap queue_lists (sym started)
-
-pub act-requires-clause-follow : goal.act-requires-clause-follow
-act-requires-clause-follow c =
-    let started = ap (λ (D : Drafted). D.farm) c.in_ok-draft.ensures ∙ taken c.args.self.now c.args.call.now c.max-self.result c.replace.ensures.value c.max-self.ensures in
-    subst (λ (F : Farm). FollowsIn F c.args.call.now.caller c.args.call.now.cmd) (sym started) (follows_in (plain_farm c.args.self.now) c.args.call.now c.requires.sound c.requires.accepted)
-
-pub returns-clause-queues : goal.returns-clause-queues
-returns-clause-queues c =
+pub act-requires : goal.act-requires
+act-requires c =
     let k = c.args.call.now in
-    let kept = c.into_parts-tables.ensures.farm ∙ ap (λ (D : Drafted). D.farm) c.in_ok-draft-3.ensures in
-    c.into_parts-tables.ensures.queues
-    ∙ ap (λ (D : Drafted). D.queues) c.in_ok-draft-3.ensures
-    ∙ ap (λ (D : Drafted). D.queues) c.in_ok-draft-2.ensures.farm
-    ∙ ap (λ (D : Drafted). queue_lists D.farm) (sym c.in_ok-draft-2.ensures.farm)
-    ∙ sym (kept_lists c.in_ok-draft-2.draft.farm k c.in_ok-draft-2.reply)
-    ∙ ap queue_lists (sym kept)
-
-pub act-requires-clause-clock : goal.act-requires-clause-clock
-act-requires-clause-clock c =
-    let started = ap (λ (D : Drafted). D.farm) c.in_ok-draft.ensures ∙ taken c.args.self.now c.args.call.now c.max-self.result c.replace.ensures.value c.max-self.ensures in
-    subst (λ (F : Farm). F.clock ≤ last_moment) (sym started) (in_time (plain_farm c.args.self.now) c.args.call.now c.requires.accepted c.requires.sound)
+    let F : Farm = plain_farm c.args.self.now in
+    let started = c.begin.ensures.farm in
+    let sound = IsSound-moved_to F k c.requires.accepted c.requires.sound in
+    record {
+      sound = subst IsSound (sym started) sound;
+      clock = subst (λ (G : Farm). G.clock ≤ last_moment) (sym started) (in_time F k c.requires.accepted c.requires.sound);
+      next = subst (λ (G : Farm). G.next ≤ numbers_end) (sym started) (omega (arith, c.requires.sound.steady.next.1));
+      begun = c.begin.ensures.rests.boards;
+      fits = c.begin.ensures.queues ∙ c.requires.fits ∙ ap queue_lists (sym started);
+      follow = subst (λ (G : Farm). FollowsIn G k.caller k.cmd) (sym started) (follows_in F k c.requires.sound c.requires.accepted);
+    }
 
 pub keep-requires : goal.keep-requires
 keep-requires c =
     let k = c.args.call.now in
-    let started = ap (λ (D : Drafted). D.farm) c.in_ok-draft.ensures ∙ taken c.args.self.now k c.max-self.result c.replace.ensures.value c.max-self.ensures in
-    let acted = acted_call (plain_farm c.args.self.now) k c.requires.accepted c.requires.sound in
-    let same = c.in_ok-draft-2.ensures.reply ∙ ap (λ (F : Farm). (act F k.caller k.cmd).reply) started in
+    let F : Farm = plain_farm c.args.self.now in
+    let started = c.begin.ensures.farm in
+    let acted = acted_call F k c.requires.accepted c.requires.sound in
+    let same = c.in_ok-reply.ensures.reply ∙ ap (λ (F : Farm). (act F k.caller k.cmd).reply) started in
     rw same (omega (arith, acted.first), omega (arith, acted.second), omega (arith, acted.third))
 
 pub returns-clause-farm : goal.returns-clause-farm
@@ -63,16 +42,35 @@ unfolding change
 returns-clause-farm c =
     let k = c.args.call.now in
     let F : Farm = plain_farm c.args.self.now in
-    let started = ap (λ (D : Drafted). D.farm) c.in_ok-draft.ensures ∙ taken c.args.self.now k c.max-self.result c.replace.ensures.value c.max-self.ensures in
-    let reply = c.in_ok-draft-2.ensures.reply ∙ ap (λ (F : Farm). (act F k.caller k.cmd).reply) started in
-    let acts = ap (λ (D : Drafted). D.farm) c.in_ok-draft-2.ensures.farm ∙ ap (λ (F : Farm). (act F k.caller k.cmd).farm) started in
-    let kept : plain_farm c.into_parts-tables.result.0 ≡ keep k (act (farm_at_call F k) k.caller k.cmd).reply (act (farm_at_call F k) k.caller k.cmd).farm =
-    c.into_parts-tables.ensures.farm ∙ ap (λ (D : Drafted). D.farm) c.in_ok-draft-3.ensures ∙ (λ i. keep k (reply i) (acts i)) in
-    λ i. record (kept i) { count = F.count + 1 }
+    let started = c.begin.ensures.farm in
+    let reply = c.in_ok-reply.ensures.reply ∙ ap (λ (F : Farm). (act F k.caller k.cmd).reply) started in
+    let acts = ap (λ (s : Seen). s.farm) c.in_ok-reply.ensures.came.now ∙ ap (λ (F : Farm). (act F k.caller k.cmd).farm) started in
+    let kept = ap (λ (s : Seen). s.farm) c.in_ok-keep.ensures.now ∙ (λ i. keep k (reply i) (acts i)) in
+    c.take_changes-changes.ensures.farm ∙ (λ i. record (kept i) { count = F.count + 1 })
 
 pub returns-clause-reply : goal.returns-clause-reply
 unfolding change
 returns-clause-reply c =
     let k = c.args.call.now in
-    let started = ap (λ (D : Drafted). D.farm) c.in_ok-draft.ensures ∙ taken c.args.self.now k c.max-self.result c.replace.ensures.value c.max-self.ensures in
-    c.in_ok-draft-2.ensures.reply ∙ ap (λ (F : Farm). (act F k.caller k.cmd).reply) started
+    let F : Farm = plain_farm c.args.self.now in
+    let started = c.begin.ensures.farm in
+    c.in_ok-reply.ensures.reply ∙ ap (λ (F : Farm). (act F k.caller k.cmd).reply) started
+
+pub returns-clause-queues : goal.returns-clause-queues
+returns-clause-queues c =
+    let k = c.args.call.now in
+    let kept = c.in_ok-keep.ensures.now in
+    let acted = c.in_ok-reply.ensures.came.now in
+    c.take_changes-changes.ensures.queues
+    ∙ ap (λ (s : Seen). s.queues) kept
+    ∙ ap (λ (s : Seen). s.queues) acted
+    ∙ ap (λ (s : Seen). queue_lists s.farm) (sym acted)
+    ∙ sym (kept_lists (plain_farm c.act.new.self) k c.in_ok-reply.reply)
+    ∙ ap (λ (s : Seen). queue_lists s.farm) (sym kept)
+    ∙ ap queue_lists (sym c.take_changes-changes.ensures.farm)
+
+pub returns-clause-rows : goal.returns-clause-rows
+returns-clause-rows c =
+    ap (λ (G : Farm). put_rows G c.take_changes-changes.result) (sym c.begin.ensures.farm)
+    ∙ rows_led c.begin.new.self c.keep.new.self _ c.take_changes-changes.result c.begin.ensures.rests (lead_on_join _ _ _ c.in_ok-reply.ensures.came.logs c.in_ok-keep.ensures.logs) c.take_changes-changes.ensures.logged
+    ∙ sym c.take_changes-changes.ensures.farm
