@@ -199,7 +199,10 @@ static long number_of(const char *sql) {
 static void open_store(const char *path) {
     if (sqlite3_open_v2(path, &db, SQLITE_OPEN_READWRITE, 0) != SQLITE_OK) die("open");
     if (sqlite3_exec(db, "PRAGMA locking_mode=EXCLUSIVE; PRAGMA journal_mode=WAL; PRAGMA synchronous=FULL;", 0, 0, 0) != SQLITE_OK) die("pragmas");
-    put_board = prepare("INSERT OR REPLACE INTO boards VALUES (?1, ?2, ?3, ?4, ?5, ?6, ?7, ?8, ?9)");
+    put_board = prepare("INSERT INTO boards VALUES (?1, ?2, ?3, ?4, ?5, ?6, ?7, ?8, ?9)"
+                        " ON CONFLICT (name) DO UPDATE SET kind = excluded.kind, tags = excluded.tags,"
+                        " health = excluded.health, state = excluded.state, holder = excluded.holder,"
+                        " held_by = excluded.held_by, jobs_since = excluded.jobs_since, last_check = excluded.last_check");
     put_job = prepare("INSERT OR REPLACE INTO jobs VALUES (?1, ?2, ?3, ?4, ?5, ?6, ?7, ?8, ?9, ?10, ?11, ?12)");
     put_reservation = prepare("INSERT OR REPLACE INTO reservations VALUES (?1, ?2, ?3, ?4, ?5, ?6, ?7)");
     put_kept = prepare("INSERT OR REPLACE INTO kept VALUES (?1, ?2, ?3, ?4, ?5, ?6)");

@@ -11,6 +11,7 @@ pub mod Clause
 pub mod UpsertAt
 pub mod KeyedUpsert
 pub mod RowPuts
+pub mod PutBoard
 pub mod PutMeta
 pub mod RaisesJobs
 pub mod Commits

@@ -25,28 +25,26 @@ use Rattle.sqlite_rules.specs.Edit.{next_rowid}
 use Rattle.sqlite_rules.specs.Keys.{conflicts}
 use Rattle.sqlite_rules.specs.Lists.{Has}
 use Rattle.farm_types.specs.declared.rows.TypeRow.{TypeRow}
-use Rattle.farm_types.specs.declared.rows.BoardRow.{BoardRow}
 use Rattle.farm_types.specs.declared.rows.JobRow.{JobRow}
 use Rattle.farm_types.specs.declared.rows.ResRow.{ResRow}
 use Rattle.farm_types.specs.declared.rows.KeptRow.{KeptRow}
 use Rattle.farm_store.specs.declared.types.TheConstants.{PUT as PUT_TYPES}
-use Rattle.farm_store.specs.declared.boards.TheConstants.{PUT as PUT_BOARDS}
 use Rattle.farm_store.specs.declared.jobs.TheConstants.{PUT as PUT_JOBS}
 use Rattle.farm_store.specs.declared.reservations.TheConstants.{PUT as PUT_RESERVATIONS}
 use Rattle.farm_store.specs.declared.kept.TheConstants.{PUT as PUT_KEPT}
-use Rattle.farm_store.specs.Schema.{farm_schema, strict_table, types_table, boards_table, jobs_table, reservations_table, kept_table}
-use Rattle.farm_store.specs.Columns.{Tables, type_columns, board_columns, job_columns, res_columns, kept_columns}
+use Rattle.farm_store.specs.Schema.{farm_schema, strict_table, types_table, jobs_table, reservations_table, kept_table}
+use Rattle.farm_store.specs.Columns.{Tables, type_columns, job_columns, res_columns, kept_columns}
 use Rattle.farm_store.specs.Holds.{IsInside}
-use Rattle.farm_store.specs.Places.{TableSlot, put_at, of_types, of_boards, of_jobs, of_reservations, of_kept}
+use Rattle.farm_store.specs.Places.{TableSlot, put_at, of_types, of_jobs, of_reservations, of_kept}
 use Rattle.farm_store.specs.Stored.{HasInt, IsWide}
 use Rattle.farm_store.proofs.Replace.{cast_int, cast_null}
 use Rattle.farm_store.proofs.Stays.{all_fit, all_stay}
 use Rattle.farm_store.proofs.Keys.{by_next, by_next_two, by_rowid}
 use Rattle.farm_store.proofs.OneRow.{upserted}
-use Rattle.farm_store.proofs.PutAt.{IsKnown, stands_put, types_known, boards_known, jobs_known, reservations_known, kept_known}
+use Rattle.farm_store.proofs.PutAt.{IsKnown, stands_put, types_known, jobs_known, reservations_known, kept_known}
 
 -- the text puts such a row at the place
-abbrev Puts : TableSlot → List ℕ → Row → Type 1
+abbrev pub Puts : TableSlot → List ℕ → Row → Type 1
 Puts p text x = (old new : State) (count : ℕ) (T : Tables) → IsInside old T → ExecutesInside 0 text x old new (Ok count) → IsInside new (put_at p T (x ∷ []))
 
 module _ (p : TableSlot) (known : IsKnown p) (still : (keys : Keys) (olds news : List Row) → works farm_schema keys 0 p.tree olds news ≡ []) (name : List ℕ) (columns : List Column) (at : ℕ) (text : List ℕ) (terms : List Term)
@@ -95,12 +93,12 @@ module _ (p : TableSlot) (known : IsKnown p) (still : (keys : Keys) (olds news :
 
 -- ---- the texts
 
-abbrev params : ℕ → ℕ → List Term
+abbrev pub params : ℕ → ℕ → List Term
 params at zero = []
 params at (suc n) = col 0 at ∷ params (suc at) n
 
 -- the row that is put, behind a rowid that is to be chosen, and behind its first column
-abbrev keyed_terms : TableSlot → List Term
+abbrev pub keyed_terms : TableSlot → List Term
 keyed_terms p = lit Null ∷ params 0 p.width
 
 abbrev numbered_terms : TableSlot → List Term
@@ -116,14 +114,6 @@ types_is = (refl, (refl, refl))
 pub puts_type : (r : TypeRow) → Puts of_types PUT_TYPES.now (type_columns r)
 puts_type r = keyed_puts of_types types_known (λ keys olds news. refl) (codes "types") types_table.columns 0 PUT_TYPES.now (keyed_terms of_types) types_is.1 (1 ∷ []) (type_columns r) refl types_is.0
     refl refl refl refl (λ id. refl) (λ raws up ints. by_next raws (type_columns r) up ints refl)
-
-boards_is : IsPut 1 of_boards (keyed_terms of_boards) PUT_BOARDS.now
-unfolding understood everything
-boards_is = (refl, (refl, refl))
-
-pub puts_board : (r : BoardRow) → Puts of_boards PUT_BOARDS.now (board_columns r)
-puts_board r = keyed_puts of_boards boards_known (λ keys olds news. refl) (codes "boards") boards_table.columns 1 PUT_BOARDS.now (keyed_terms of_boards) boards_is.1 (1 ∷ []) (board_columns r) refl boards_is.0
-    refl refl refl refl (λ id. refl) (λ raws up ints. by_next raws (board_columns r) up ints refl)
 
 jobs_is : IsPut 2 of_jobs (numbered_terms of_jobs) PUT_JOBS.now
 unfolding understood everything

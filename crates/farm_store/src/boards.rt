@@ -36,8 +36,13 @@ const READ: &str = "\
     SELECT name, kind, tags, health, state, holder, held_by, jobs_since, \
     last_check FROM boards ORDER BY name";
 
-/// Puts a row in the place of the one with its key, or adds it.
-const PUT: &str = "INSERT OR REPLACE INTO boards VALUES (?1, ?2, ?3, ?4, ?5, ?6, ?7, ?8, ?9)";
+/// Writes a row over the one with its key, or adds it.
+const PUT: &str = "\
+    INSERT INTO boards VALUES (?1, ?2, ?3, ?4, ?5, ?6, ?7, ?8, ?9) \
+    ON CONFLICT (name) DO UPDATE SET kind = excluded.kind, tags = excluded.tags, \
+    health = excluded.health, state = excluded.state, holder = excluded.holder, \
+    held_by = excluded.held_by, jobs_since = excluded.jobs_since, \
+    last_check = excluded.last_check";
 
 /// Whether a table is this one.
 pub(crate) fn is_boards(table: &Table) -> bool
