@@ -25,7 +25,7 @@ enum { SUBMITTED = 0, SCHEDULED = 2, RUNNING = 3, FINISHED = 5 }; /* a job's sta
 static const char *TAGS = "k01,k02,k03,k04,k05,k06,k07,k16";
 
 static sqlite3 *db;
-static sqlite3_stmt *put_board, *put_job, *put_reservation, *put_kept, *put_meta, *begin, *commit;
+static sqlite3_stmt *put_board, *put_job, *put_reservation, *put_kept, *change_meta, *begin, *commit;
 static long next_number, count;
 static char body[BODY + 1];
 
@@ -114,18 +114,13 @@ static void kept(long it) {
     run(put_kept);
 }
 
-static void meta(const char *name, long value) {
-    text(put_meta, 1, name);
-    number(put_meta, 2, value);
-    run(put_meta);
-}
-
 /* The four numbers, of which each command writes those that changed. */
 static void numbers(void) {
-    meta("clock", 1700000000);
-    meta("collector", 0);
-    meta("count", ++count);
-    meta("next", next_number);
+    number(change_meta, 1, 1700000000);
+    number(change_meta, 2, 0);
+    number(change_meta, 3, ++count);
+    number(change_meta, 4, next_number);
+    run(change_meta);
 }
 
 /* The rows of each command, by the number of the first row and the place of the board. */
@@ -206,8 +201,9 @@ static void open_store(const char *path) {
     put_job = prepare("INSERT OR REPLACE INTO jobs VALUES (?1, ?2, ?3, ?4, ?5, ?6, ?7, ?8, ?9, ?10, ?11, ?12)");
     put_reservation = prepare("INSERT OR REPLACE INTO reservations VALUES (?1, ?2, ?3, ?4, ?5, ?6, ?7)");
     put_kept = prepare("INSERT OR REPLACE INTO kept VALUES (?1, ?2, ?3, ?4, ?5, ?6)");
-    put_meta = prepare("INSERT INTO meta VALUES (?1, ?2) ON CONFLICT (name) DO UPDATE SET value = excluded.value"
-                       " WHERE value <> excluded.value");
+    change_meta = prepare("UPDATE meta SET value = CASE name WHEN 'clock' THEN ?1 WHEN 'collector' THEN ?2"
+                          " WHEN 'count' THEN ?3 ELSE ?4 END WHERE value <> CASE name WHEN 'clock' THEN ?1"
+                          " WHEN 'collector' THEN ?2 WHEN 'count' THEN ?3 WHEN 'next' THEN ?4 ELSE value END");
     begin = prepare("BEGIN IMMEDIATE");
     commit = prepare("COMMIT");
     next_number = number_of("SELECT value FROM meta WHERE name = 'next'");

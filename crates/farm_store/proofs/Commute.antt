@@ -71,8 +71,13 @@ of_reservations a b = by_number a.number b.number
 of_kept : (a b : KeptRow) → by_two (kept_columns a) (kept_columns b) ≡ kept_cmp a b
 of_kept a b = rw (by_name a.caller b.caller, by_name a.key b.key)
 
-of_meta : (old new : MetaRow) → put_all by_first (meta_rows old) (number_rows new) ≡ meta_rows new
+pub of_meta : (old new : MetaRow) → put_all by_first (meta_rows old) (number_rows new) ≡ meta_rows new
 of_meta old new = simp value_cmp-Text
+
+-- a farm's tables tell its numbers
+pub numbers_there : (F : Farm) → (rows_of F).meta ≡ meta_rows (numbers_of F)
+unfolding rows_of
+numbers_there F = refl
 
 pub commutes : (F : Farm) (c : Changes) → rows_of (put_rows F c) ≡ put_tables (rows_of F) c
 unfolding rows_of

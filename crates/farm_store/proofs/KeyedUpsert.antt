@@ -48,7 +48,7 @@ use Rattle.farm_store.proofs.Stays.{all_fit, all_stay}
 use Rattle.farm_store.proofs.Clause.{is_text, query, clause, shows_one, shows_none}
 use Rattle.farm_store.proofs.OnConflict.{task}
 
-apart_same : (show : Row → Row) (raws : List Row) (a b : Row) → IsAscending (Differ show) raws → Has raws a → Has raws b → show a ≡ show b → a ≡ b
+pub apart_same : (show : Row → Row) (raws : List Row) (a b : Row) → IsAscending (Differ show) raws → Has raws a → Has raws b → show a ≡ show b → a ≡ b
 apart_same show [] a b up h k same = absurd h
 apart_same show (r ∷ raws) a b up (inl h) (inl k) same = h ∙ sym k
 apart_same show (r ∷ raws) a b up (inl h) (inr k) same = absurd (all_has (Differ show r) raws b up.0 k (ap show (sym h) ∙ same))

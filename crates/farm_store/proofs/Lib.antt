@@ -13,6 +13,8 @@ pub mod KeyedUpsert
 pub mod RowPuts
 pub mod PutBoard
 pub mod PutMeta
+pub mod UpdateRows
+pub mod ChangeMeta
 pub mod RaisesJobs
 pub mod Commits
 pub mod GoingOn

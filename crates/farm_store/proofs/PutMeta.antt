@@ -90,11 +90,11 @@ told : (b : Bool) → is_true (from_truth (Some b)) ≡ b
 told true = refl
 told false = refl
 
-differ_is : (m n : ℤ) → differ (Int m) (Int n) ≡ is_ne (int_cmp m n)
+pub differ_is : (m n : ℤ) → differ (Int m) (Int n) ≡ is_ne (int_cmp m n)
 unfolding binary
 differ_is m n = ap (λ o. is_true (from_truth (Some (is_ne o)))) (value_cmp-Int m n) ∙ told (is_ne (int_cmp m n))
 
-same_number : (m n : ℤ) → is_ne (int_cmp m n) ≡ false → m ≡ n
+pub same_number : (m n : ℤ) → is_ne (int_cmp m n) ≡ false → m ≡ n
 same_number m n same = grind (arith, ints)
 
 -- a whole number that doesn't differ from another one is that

@@ -201,11 +201,11 @@ is_first n r high = rw (le-ltb r.number n high) refl
 
 -- ---- tables by their numbers
 
-all_up : (news rows : List Row) → IsTable rows → IsTable (put_all rows news)
+pub all_up : (news rows : List Row) → IsTable rows → IsTable (put_all rows news)
 all_up [] rows up = up
 all_up (n ∷ news) rows up = all_up news (put_row n rows) (IsTable-put_row n rows up)
 
-all_keyed : (news rows : List Row) → AllByRecursion HasInt news → AllByRecursion HasInt rows → AllByRecursion HasInt (put_all rows news)
+pub all_keyed : (news rows : List Row) → AllByRecursion HasInt news → AllByRecursion HasInt rows → AllByRecursion HasInt (put_all rows news)
 all_keyed [] rows own all = all
 all_keyed (n ∷ news) rows own all = all_keyed news (put_row n rows) own.1 (all-put_row HasInt n rows own.0 all)
 

@@ -133,6 +133,10 @@ abbrev pub number_rows : MetaRow → List Row
 number_rows m = meta_row (codes "clock") m.clock ∷ meta_row (codes "collector") m.collector
     ∷ meta_row (codes "count") m.count ∷ meta_row (codes "next") m.next ∷ []
 
+-- the four numbers as values, in the same order
+abbrev pub values_of : MetaRow → Row
+values_of m = Int (pos m.clock) ∷ Int (pos m.collector) ∷ Int (pos m.count) ∷ Int (pos m.next) ∷ []
+
 -- the version that the tables tell, in the first edition and in this one
 abbrev pub first_schema : ℕ
 first_schema = 1

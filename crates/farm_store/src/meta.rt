@@ -7,7 +7,7 @@ ghost use Rattle.sqlite.specs.State.{HasCleanDisk};
 ghost use Rattle.sqlite.specs.Values.{bound};
 ghost use Rattle.farm_types.specs.Small.{IsSmall};
 ghost use Rattle.farm_store.specs.Columns.{Tables, first_meta_rows, meta_row, meta_rows};
-ghost use Rattle.farm_store.specs.Columns.{number_rows, tells};
+ghost use Rattle.farm_store.specs.Columns.{number_rows, tells, values_of};
 ghost use Rattle.farm_store.specs.Editions.{IsCollectorIn, meta_rows_in, other_edition, schema_of};
 ghost use Rattle.farm_store.specs.Editions.{version_fault};
 ghost use Rattle.farm_store.specs.Edits.{ChangesTables, GoesOn, StaysOpen};
@@ -41,6 +41,13 @@ const READ: &str = "SELECT name, value FROM meta ORDER BY name";
 const PUT: &str = "\
     INSERT INTO meta VALUES (?1, ?2) ON CONFLICT (name) DO UPDATE SET value = excluded.value \
     WHERE value <> excluded.value";
+
+/// Writes the four numbers over those that are there, where they are others: one statement, which
+/// reads the table once.
+const CHANGE: &str = "\
+    UPDATE meta SET value = CASE name WHEN 'clock' THEN ?1 WHEN 'collector' THEN ?2 \
+    WHEN 'count' THEN ?3 ELSE ?4 END WHERE value <> CASE name WHEN 'clock' THEN ?1 \
+    WHEN 'collector' THEN ?2 WHEN 'count' THEN ?3 WHEN 'next' THEN ?4 ELSE value END";
 
 /// Whether a table is this one.
 pub(crate) fn is_numbers(table: &Table) -> bool
@@ -94,6 +101,44 @@ pub(crate) fn put_numbers<S: Alter>(
     put_number(tx, "collector", numbers.collector)?;
     put_number(tx, "count", numbers.count)?;
     put_number(tx, "next", numbers.next)?;
+    Ok(())
+}
+
+/// The four numbers as they are bound.
+fn number_values<'a>(numbers: MetaRow) -> [ValueRef<'a>; 4]
+    requires clock { IsSmall numbers.clock }
+    requires collector { IsSmall numbers.collector }
+    requires count { IsSmall numbers.count }
+    requires next { IsSmall numbers.next }
+    ensures { bound result ≡ values_of numbers }
+{
+    [
+        number(numbers.clock),
+        number(numbers.collector),
+        number(numbers.count),
+        number(numbers.next),
+    ]
+}
+
+/// Changes the numbers of a table that has them and this edition's version.
+pub(crate) fn change_numbers<S: Alter>(
+    tx: &mut Transaction<'_, S>,
+    numbers: MetaRow,
+) -> Result<(), Error>
+    requires clock { IsSmall numbers.clock }
+    requires collector { IsSmall numbers.collector }
+    requires count { IsSmall numbers.count }
+    requires next { IsSmall numbers.next }
+    ensures goes_on { GoesOn S.Store tx.old tx.new }
+    ensures put { HasCleanDisk (state S.Store tx.new.conn.now)
+        → OnOk result ((T : Tables) (old : MetaRow) → IsInside (state S.Store tx.old.conn.now) T
+        → T.meta ≡ meta_rows old
+        → IsInside (state S.Store tx.new.conn.now) (put_at of_meta T (number_rows numbers))) }
+    ensures stays_open { StaysOpen result (state S.Store tx.old.conn.now)
+        (state S.Store tx.new.conn.now) }
+{
+    let values = number_values(numbers);
+    tx.execute(CHANGE, &values)?;
     Ok(())
 }
 

@@ -15,7 +15,7 @@ ghost use Rattle.farm_store.specs.Holds.{IsInside, KeepsDoubt, Stands, LeavesEit
 ghost use Rattle.farm_store.specs.Texts.{AreBeside};
 
 use crate::fault::StoreFault;
-use crate::meta::put_numbers;
+use crate::meta::change_numbers;
 use crate::upserts::rows::put_rows;
 use crate::upserts::texts::Texts;
 use farm_types::Changes;
@@ -45,7 +45,7 @@ fn put_lab<S: Alter>(
     Ok(())
 }
 
-/// Each changed row by its table's upsert, and the four numbers.
+/// Each changed row by its table's upsert, and the numbers that changed.
 fn put_all<S: Alter>(
     tx: &mut Transaction<'_, S>,
     changes: &Changes,
@@ -64,7 +64,7 @@ fn put_all<S: Alter>(
     put_lab(tx, changes, texts)?;
     put_rows(tx, &texts.reservations)?;
     put_rows(tx, &changes.kept)?;
-    put_numbers(tx, changes.meta)?;
+    change_numbers(tx, changes.meta)?;
     Ok(())
 }
 
@@ -73,8 +73,8 @@ fn put_all<S: Alter>(
 /// store, so where memory is refused nothing has changed; where the store failed, a stop leaves the
 /// tables as they were or with all the changes put.
 ///
-/// It writes the rows of the changes, each by its key, looks for the rows of the four numbers by
-/// theirs, and writes those that tell another one. It reads no other row.
+/// It writes the rows of the changes, each by its key, reads those of the numbers, and writes the
+/// ones that tell another number. It reads no other row.
 pub fn put<S: Alter>(
     alloc: Global,
     conn: &mut Connection<S>,

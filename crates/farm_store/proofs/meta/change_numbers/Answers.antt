@@ -1,0 +1,8 @@
+use Rattle.sqlite.specs.Held.{state}
+use Rattle.farm_store.proofs.ChangeMeta.{changes_numbers}
+use Rattle.farm_store.proofs.meta.change_numbers.Goals as goal
+
+pub returns-clause-put : goal.returns-clause-put
+returns-clause-put g c clean T old at is =
+    changes_numbers (state g.S.Store c.args.tx.now.conn.now) (state g.S.Store c.execute.new.self.conn.now) c.args.numbers old _ T at is
+    (rw c.number_values-values.ensures at (c.in_ok-execute.ensures.runs clean at.inside))
