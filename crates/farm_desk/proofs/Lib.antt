@@ -10,4 +10,3 @@ mod ServingLemmas
 mod VisitLemmas
 mod LineLemmas
 mod LabLemmas
-mod TaskLemmas

@@ -16,4 +16,5 @@ pub mod Visits
 pub mod Known
 pub mod Agreed
 pub mod Tasks
+pub mod Orders
 pub mod Program

@@ -1,9 +1,10 @@
 -- The lines that the program writes.
-use Rattle.std.specs.Prelude.{◌≡◌, ℕ, List, [], ◌∷◌, ◌++◌, codes, decimal, Option, Some, None}
-use Rattle.std.specs.Prelude.{Result, Ok, Err}
+use Rattle.std.specs.Prelude.{◌≡◌, ℕ, true, false, List, [], ◌∷◌, ◌++◌, codes, decimal}
+use Rattle.std.specs.Prelude.{Option, Some, None, Result, Ok, Err}
 use Rattle.std.specs.Io.KnownBytes.{Appends, Keeps}
 use Rattle.farm_types.specs.Refusals.{refusal_text}
 use Rattle.farm_types.specs.declared.refusal.Refusal.{Refusal}
+use Rattle.farm_desk.specs.Ends.{Gains}
 use Rattle.farm_desk.specs.Faults.{fault_number}
 use Rattle.farm_desk.specs.declared.fault.DeskFault.{DeskFault}
 use Rattle.farm_desk.specs.declared.lab_import.ImportEnd.{ImportEnd}
@@ -17,6 +18,14 @@ counts_line accepted kept =
 -- clients are heard on this port
 abbrev pub port_line : ℕ → List ℕ
 port_line port = (codes "listening " ++ decimal port) ++ 10 ∷ []
+
+-- a farm was made
+abbrev pub ready_line : List ℕ
+ready_line = codes "ready" ++ 10 ∷ []
+
+-- a farm was brought to this edition
+abbrev pub migrated_line : List ℕ
+migrated_line = codes "migrated" ++ 10 ∷ []
 
 -- a fault of this number
 abbrev pub fault_line : ℕ → List ℕ
@@ -42,6 +51,13 @@ pub record GainsPart (held holds : Option (List ℕ)) (bytes : List ℕ) : Type 
   pub rest : List ℕ
   pub bytes_are : bytes ≡ part ++ rest
   pub gained : Appends held holds part
+
+-- the line of an order that was done is printed; or the output, which has such room, had none for it
+abbrev pub PrintsLine : (ℕ → Type 0) → Option (List ℕ) → Option (List ℕ) → List ℕ
+    → Result End DeskFault → Type 0
+PrintsLine Room held holds line (Ok end) = (end ≡ End.Done) × Gains Room false held holds line
+PrintsLine Room held holds line (Err fault) = (fault ≡ DeskFault.Write)
+    × Gains Room true held holds line
 
 -- an import that met a fault ends with it, and one that met a refusal with its place and the
 -- refusal: neither prints anything; any other prints its line, or the writer failed

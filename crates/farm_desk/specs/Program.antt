@@ -10,6 +10,7 @@ use Rattle.farm_order.specs.declared.fault.OrderFault.{OrderFault}
 use Rattle.farm_order.specs.declared.order.Order.{Order}
 use Rattle.farm_desk.specs.Faults.{done, exit_status, fault_number, order_status, wrong_words}
 use Rattle.farm_desk.specs.Lines.{GainsPart, fault_line, told_of}
+use Rattle.farm_desk.specs.Orders.{Streams}
 use Rattle.farm_desk.specs.declared.fault.DeskFault.{DeskFault}
 use Rattle.farm_desk.specs.declared.orders.End.{End}
 
@@ -19,9 +20,12 @@ pub record IsReadOf (words : List Text) (read : Result Order OrderFault) : Type 
   pub faultless : IfOk read (λ order. fault_of farm_app words ≡ [])
   pub fault : IfErr read (IsFaultAmong (fault_of farm_app words) (subcommand_of farm_app words))
 
--- an order ended: the exit status is that of its end, and so is what is told beside the output
-pub record EndsTold (held holds : Option (List ℕ)) (status : ℕ) : Type 0 where
+-- an order did what it does with such an end: the exit status is that of this end, and so is what is
+-- told beside the output
+pub record EndsTold (Does : Result End DeskFault → Type 0) (held holds : Option (List ℕ))
+    (status : ℕ) : Type 0 where
   pub ended : Result End DeskFault
+  pub does : Does ended
   pub status_is : status ≡ order_status ended
   pub told : GainsPart held holds (told_of ended)
 
@@ -47,9 +51,10 @@ EndsUnread (OrderFault.Words text) held holds kept keeps status =
 EndsUnread OrderFault.NoMemory held holds kept keeps status =
     Keeps held holds × TellsFault kept keeps DeskFault.NoMemory status
 
--- how the program ends, by what was read of its words: what the output holds before and then, what
--- stands beside it before and then, and the exit status
-abbrev pub EndsAsRead : Result Order OrderFault → Option (List ℕ) → Option (List ℕ)
-    → Option (List ℕ) → Option (List ℕ) → ℕ → Type 0
-EndsAsRead (Ok order) held holds kept keeps status = EndsTold kept keeps status
-EndsAsRead (Err fault) held holds kept keeps status = EndsUnread fault held holds kept keeps status
+-- how the program ends, by what was read of its words and by what an order does with its end: the
+-- input and the output before and then, what stands beside them before and then, and the exit status
+abbrev pub EndsAsRead : (Order → Result End DeskFault → Type 0) → Result Order OrderFault → Streams
+    → Streams → Option (List ℕ) → Option (List ℕ) → ℕ → Type 0
+EndsAsRead Does (Ok order) old new kept keeps status = EndsTold (Does order) kept keeps status
+EndsAsRead Does (Err fault) old new kept keeps status = (new.input ≡ old.input)
+    × EndsUnread fault old.output new.output kept keeps status

@@ -1,12 +1,14 @@
 -- What is done with a farm that is there, by the task. An output held this, and holds that.
-use Rattle.std.specs.Prelude.{◌≡◌, ◌≤◌, ◌⊎◌, ℕ, List, Option, Result, Ok, Err}
+use Rattle.std.specs.Prelude.{◌≡◌, ◌≤◌, ◌⊎◌, ℕ, Bool, true, false, List, Option, Result, Ok, Err}
 use Rattle.std.specs.Io.KnownBytes.{Appends, Keeps}
 use Rattle.sqlite_trees.specs.declared.store.Store.{Ghosts}
 use Rattle.farm_types.specs.Farm.{Farm}
 use Rattle.farm_keep.specs.Kept.{Kept}
+use Rattle.farm_keep.specs.declared.fault.KeepFault.{KeepFault}
 use Rattle.farm_order.specs.declared.order.Report.{Report}
 use Rattle.farm_report.specs.Moments.{most_minutes}
 use Rattle.farm_desk.specs.Conversations.{AnswersOne, Desk}
+use Rattle.farm_desk.specs.Ends.{Gains}
 use Rattle.farm_desk.specs.Imports.{IsImport}
 use Rattle.farm_desk.specs.Lines.{TellsImport, port_line}
 use Rattle.farm_desk.specs.Reports.{Reports, seconds_ahead}
@@ -39,20 +41,27 @@ ImportsFile g old new held holds now result =
     ⊎ (DoesNothing old new held holds DeskFault.NoMemory result
     ⊎ DoesNothing old new held holds DeskFault.Read result)
 
--- the report of a farm is printed, with moments so many minutes east and west of UTC
-pub record PrintsReport (F : Farm) (held holds : Option (List ℕ)) (east west : ℕ) (which : Report)
-    : Type 0 where
+-- the report of a farm is printed, with moments so many minutes east and west of UTC; or the
+-- output, which has such room, failed
+pub record PrintsReport (Room : ℕ → Type 0) (failed : Bool) (F : Farm) (held holds : Option (List ℕ))
+    (east west : ℕ) (which : Report) : Type 0 where
   pub text : List ℕ
   pub reports : east ≤ most_minutes → west ≤ most_minutes
       → Reports which (seconds_ahead east west) F text
-  pub printed : Appends held holds text
+  pub printed : Gains Room failed held holds text
 
--- it is, or a fault ends the order
-abbrev pub PrintsIfOk : Farm → Option (List ℕ) → Option (List ℕ) → ℕ → ℕ → Report
-    → Result End DeskFault → Type 0
-PrintsIfOk F held holds east west which (Ok end) =
-    (end ≡ End.Done) × PrintsReport F held holds east west which
-PrintsIfOk F held holds east west which (Err fault) = Unit {0}
+-- it is, of an open keeper's farm; or nothing is printed, since there was no memory or the keeper
+-- was closed
+abbrev pub PrintsReportOf : {S : Type 0} → (ℕ → Type 0) → Kept S → Option (List ℕ)
+    → Option (List ℕ) → ℕ → ℕ → Report → Result End DeskFault → Type 0
+PrintsReportOf Room k held holds east west which (Ok end) =
+    (end ≡ End.Done) × PrintsReport Room false k.farm.farm held holds east west which
+PrintsReportOf Room k held holds east west which (Err DeskFault.Write) =
+    PrintsReport Room true k.farm.farm held holds east west which
+PrintsReportOf Room k held holds east west which (Err DeskFault.NoMemory) = holds ≡ held
+PrintsReportOf Room k held holds east west which (Err (DeskFault.Keep KeepFault.Closed)) =
+    (k.is_open ≡ false) × (holds ≡ held)
+PrintsReportOf Room k held holds east west which (Err fault) = ⊥
 
 -- the port is told, and then at most so many connections are served
 pub record ServesPort {S : Type 0} (g : Ghosts S) (old new : Kept S) (held holds : Option (List ℕ))
@@ -73,10 +82,10 @@ ServesIfHeard g old new held holds port max result =
 abbrev pub DoesTask : {S : Type 0} → Ghosts S → Task → Desk S → Desk S → Type 0 → (ℕ → Type 0)
     → Result End DeskFault → Type 0
 DoesTask g (Task.Answer at) old new Sure Room result = AnswersOne g old new at Sure Room result
-DoesTask g (Task.Import at lab) old new Sure Room result =
-    ImportsFile g old.keeper new.keeper old.output new.output at result
-DoesTask g (Task.Report east west which) old new Sure Room result =
-    (new.keeper ≡ old.keeper)
-    × PrintsIfOk old.keeper.farm.farm old.output new.output east west which result
-DoesTask g (Task.Serve port max) old new Sure Room result =
-    ServesIfHeard g old.keeper new.keeper old.output new.output port max result
+DoesTask g (Task.Import at lab) old new Sure Room result = (new.input ≡ old.input)
+    × ImportsFile g old.keeper new.keeper old.output new.output at result
+DoesTask g (Task.Report east west which) old new Sure Room result = (new.input ≡ old.input)
+    × (new.keeper ≡ old.keeper)
+    × PrintsReportOf Room old.keeper old.output new.output east west which result
+DoesTask g (Task.Serve port max) old new Sure Room result = (new.input ≡ old.input)
+    × ServesIfHeard g old.keeper new.keeper old.output new.output port max result

@@ -1,10 +1,12 @@
 //! The program: its words, its faults and its exit status.
 ghost use Rattle.std.specs.Prelude.{◌≡◌, Ok, Result, map, string_bytes};
 ghost use Rattle.std.specs.Io.KnownBytes.{WriteAppends};
+ghost use Rattle.sqlite_wal.specs.Files.{image_at};
 ghost use Rattle.farm_order.specs.declared.order.Order.{Order as Ordered};
 ghost use Rattle.farm_order.specs.declared.fault.OrderFault.{OrderFault as Unordered};
 ghost use Rattle.farm_desk.specs.Faults.{exit_status, fault_number, order_status, wrong_words};
 ghost use Rattle.farm_desk.specs.Lines.{fault_line, refusal_line, told_of, GainsPart};
+ghost use Rattle.farm_desk.specs.Orders.{streams, DoesOrder};
 ghost use Rattle.farm_desk.specs.Program.{EndsAsRead, EndsTold, EndsUnread, IsReadOf, ShowsHelp};
 
 use crate::fault::DeskFault;
@@ -16,6 +18,8 @@ use farm_order::{Order, OrderFault, order_of};
 use farm_types::Refusal;
 use farm_wire::write_whole;
 use itoa::Buffer;
+use sqlite::{FileFrom, Start, Unknown};
+use sqlite_disk::Disk;
 use std::alloc::Global;
 use std::io;
 use std::io::{IoSlice, Write};
@@ -43,9 +47,15 @@ pub fn program<R: Input, W: Output, E: Output>(
     output: &mut W,
     errors: &mut E,
 ) -> u8
-    // The words are read as an order or as a fault, and it ends as that wants.
+    // The words are read as an order or as a fault, and it ends as that wants: an order does what it
+    // is to do with the files, of which nothing is known, and with the input and the output.
     ensures { (read : Result Ordered Unordered) × IsReadOf (map string_bytes words.now) read
-        × EndsAsRead read (W.contents output.old) (W.contents output.new)
+        × EndsAsRead (DoesOrder R.never_fails (W.has_room output.old)
+        (streams (R.remaining input.old) (W.contents output.old))
+        (streams (R.remaining input.new) (W.contents output.new))
+        ⟦<FileFrom<Unknown> as Disk>⟧ (image_at ⟦<Unknown as Start>⟧)) read
+        (streams (R.remaining input.old) (W.contents output.old))
+        (streams (R.remaining input.new) (W.contents output.new))
         (E.contents errors.old) (E.contents errors.new) result }
 {
     let read = order_of(alloc, words);
@@ -61,7 +71,12 @@ fn end_as_read<R: Input, W: Output, E: Output>(
     output: &mut W,
     errors: &mut E,
 ) -> u8
-    ensures { EndsAsRead read (W.contents output.old) (W.contents output.new)
+    ensures { EndsAsRead (DoesOrder R.never_fails (W.has_room output.old)
+        (streams (R.remaining input.old) (W.contents output.old))
+        (streams (R.remaining input.new) (W.contents output.new))
+        ⟦<FileFrom<Unknown> as Disk>⟧ (image_at ⟦<Unknown as Start>⟧)) read
+        (streams (R.remaining input.old) (W.contents output.old))
+        (streams (R.remaining input.new) (W.contents output.new))
         (E.contents errors.old) (E.contents errors.new) result }
 {
     match read {
@@ -111,8 +126,13 @@ pub fn perform<R: Input, W: Output, E: Output>(
     output: &mut W,
     errors: &mut E,
 ) -> u8
-    // The status and what is told are those of one end.
-    ensures { EndsTold (E.contents errors.old) (E.contents errors.new) result }
+    // The order does what it is to do with some end, and the status and what is told are those of
+    // that end.
+    ensures { EndsTold (DoesOrder R.never_fails (W.has_room output.old)
+        (streams (R.remaining input.old) (W.contents output.old))
+        (streams (R.remaining input.new) (W.contents output.new))
+        ⟦<FileFrom<Unknown> as Disk>⟧ (image_at ⟦<Unknown as Start>⟧) order)
+        (E.contents errors.old) (E.contents errors.new) result }
 {
     let ended = carry_out(rt, alloc, order, input, output);
     status_of(errors, ended)

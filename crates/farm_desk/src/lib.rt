@@ -6,7 +6,8 @@
 //!
 //! Read `specs/` in the order Heard, Answers, Made, Response, Ends, which say what a conversation
 //! is; Imports, what an import is; Conversations, Clients, Known, Visits, Serving, what serving
-//! does; InFiles, Upgrades, what stands in files; Faults, Lines, Reports, what the program tells.
+//! does; InFiles, Upgrades, what stands in files; Faults, Lines, Reports, what the program tells;
+//! Tasks, Orders, Program, what it does.
 #![tactic(auto)]
 
 mod accepted;
@@ -51,7 +52,7 @@ pub use upgrade::migrate_farm;
 // The program: its words, the orders they give, and its exit statuses.
 pub use command_line::{DONE, FAILED, NO_ROOM, REFUSED, WRONG_WORDS, perform, program, tell};
 pub use farm_order::{Database, Order, OrderFault, Report, order_of};
-pub use orders::{End, carry_out};
+pub use orders::{End, carry_out, carry_out_from};
 
 // What ends a conversation, an import or an order.
 pub use fault::DeskFault;

@@ -1,13 +1,13 @@
 //! Carrying out an order.
-ghost use Rattle.std.specs.Prelude.{◌≡◌, ◌≤◌, ◌⊎◌, true, IfOk, IfErr, OnOk};
+ghost use Rattle.std.specs.Prelude.{◌≡◌, IfErr, IfOk, OnOk};
 ghost use Rattle.std.specs.Io.KnownBytes.{Appends};
-ghost use Rattle.farm_types.specs.Farm.{empty_farm};
-ghost use Rattle.farm_report.specs.Moments.{most_minutes};
+ghost use Rattle.sqlite_wal.specs.Files.{image_at};
 ghost use Rattle.farm_desk.specs.Conversations.{AnswersOne, desk};
 ghost use Rattle.farm_desk.specs.Imports.{IsImport};
-ghost use Rattle.farm_desk.specs.Lines.{counts_line, port_line, TellsImport};
-ghost use Rattle.farm_desk.specs.Reports.{Reports, seconds_ahead};
-ghost use Rattle.farm_desk.specs.Tasks.{DoesTask, ImportsFile, ServesIfHeard};
+ghost use Rattle.farm_desk.specs.Lines.{counts_line, port_line, PrintsLine, TellsImport};
+ghost use Rattle.farm_desk.specs.Orders.{streams, DoesInFiles, DoesInMemory, DoesOrder};
+ghost use Rattle.farm_desk.specs.Orders.{DoesWhileThere, Inits, IsUnlessLost, Migrates, OpensMemory};
+ghost use Rattle.farm_desk.specs.Tasks.{DoesTask, ImportsFile, PrintsReportOf, ServesIfHeard};
 ghost use Rattle.farm_keep.specs.Kept.{Kept};
 
 use crate::conversation::converse;
@@ -23,7 +23,8 @@ use farm_keep::{KeepFault, Keeper};
 use farm_order::{Database, Order, Report};
 use farm_types::Refusal;
 use farm_wire::{OK, write_whole};
-use sqlite::{Alter, Connection, MemStore, Unknown};
+use sqlite::{Alter, Connection, FileFrom, MemStore, Start, Unknown};
+use sqlite_disk::Disk;
 use std::alloc::Global;
 use std::io::{IsTerminal, Write};
 use std::net::{Ipv4Addr, SocketAddr, TcpListener};
@@ -53,61 +54,140 @@ pub fn carry_out<R: Input, W: Output>(
     order: Order,
     input: &mut R,
     output: &mut W,
-) -> Result<End, DeskFault> {
-    let (file, task) = match order {
+) -> Result<End, DeskFault>
+    ensures { DoesOrder R.never_fails (W.has_room output.old)
+        (streams (R.remaining input.old) (W.contents output.old))
+        (streams (R.remaining input.new) (W.contents output.new))
+        ⟦<FileFrom<Unknown> as Disk>⟧ (image_at ⟦<Unknown as Start>⟧) order result }
+{
+    carry_out_from(rt, alloc, order, Unknown, input, output)
+}
+
+/// The same over files of which `S` says what they held, as `open_farm` opens them.
+pub fn carry_out_from<S: Start, R: Input, W: Output>(
+    rt: &HostRuntime,
+    alloc: Global,
+    order: Order,
+    start: S,
+    input: &mut R,
+    output: &mut W,
+) -> Result<End, DeskFault>
+    ensures { DoesOrder R.never_fails (W.has_room output.old)
+        (streams (R.remaining input.old) (W.contents output.old))
+        (streams (R.remaining input.new) (W.contents output.new))
+        ⟦<FileFrom<S> as Disk>⟧ (image_at S.Start) order result }
+{
+    match order {
         Order::Once { database, at } => match database {
-            Database::Memory => {
-                return on_farm(
-                    rt,
-                    alloc,
-                    memory_keeper(alloc)?,
-                    Task::Answer { at },
-                    None,
-                    input,
-                    output,
-                );
+            Database::Memory => answer_in_memory(rt, alloc, at, input, output),
+            Database::File(file) => {
+                let task = Task::Answer { at };
+                do_in_files(rt, alloc, file.as_str(), start, task, input, output)
             }
-            Database::File(file) => (file, Task::Answer { at }),
         },
-        Order::Init { file } => return init(rt, alloc, file.as_str(), output),
-        Order::Migrate { file } => return migrate(rt, alloc, file.as_str(), output),
-        Order::Import { file, at, lab } => (file, Task::Import { at, lab }),
+        Order::Init { file } => init(rt, alloc, file.as_str(), start, output),
+        Order::Migrate { file } => migrate(rt, alloc, file.as_str(), start, output),
+        Order::Import { file, at, lab } => {
+            let task = Task::Import { at, lab };
+            do_in_files(rt, alloc, file.as_str(), start, task, input, output)
+        }
         Order::Report {
             file,
             east,
             west,
             which,
-        } => (file, Task::Report { east, west, which }),
-        Order::Serve { file, port, max } => {
-            return serve_file(rt, alloc, file.as_str(), port, max, input, output);
+        } => {
+            let task = Task::Report { east, west, which };
+            do_in_files(rt, alloc, file.as_str(), start, task, input, output)
         }
-    };
-    let keeper = open_farm(rt, alloc, file.as_str(), Unknown)?;
-    on_farm(rt, alloc, keeper, task, None, input, output)
+        Order::Serve { file, port, max } => {
+            let task = Task::Serve { port, max };
+            do_while_there(rt, alloc, file.as_str(), start, task, input, output)
+        }
+    }
 }
 
-/// Serves from the farm in a file. Where somebody takes away the file or its log meanwhile, that is a
-/// fault of the store, since what would be written then is lost.
-fn serve_file<R: Input, W: Output>(
+/// Answers one request of an empty farm in memory.
+fn answer_in_memory<R: Input, W: Output>(
+    rt: &HostRuntime,
+    alloc: Global,
+    at: u64,
+    input: &mut R,
+    output: &mut W,
+) -> Result<End, DeskFault>
+    ensures { DoesInMemory R.never_fails (W.has_room output.old)
+        (streams (R.remaining input.old) (W.contents output.old))
+        (streams (R.remaining input.new) (W.contents output.new)) (Task.Answer at) result }
+{
+    match memory_keeper(alloc) {
+        Ok(keeper) => on_farm(rt, alloc, keeper, Task::Answer { at }, None, input, output),
+        Err(fault) => Err(fault),
+    }
+}
+
+/// Does a task with the farm in a file.
+fn do_in_files<S: Start, R: Input, W: Output>(
     rt: &HostRuntime,
     alloc: Global,
     file: &str,
-    port: u16,
-    max: u64,
+    start: S,
+    task: Task,
     input: &mut R,
     output: &mut W,
-) -> Result<End, DeskFault> {
-    tell_size(rt, file, "opening");
-    let keeper = open_farm(rt, alloc, file, Unknown)?;
-    let Some(files) = OpenFiles::new(rt, alloc, file) else {
-        return Err(DeskFault::Keep(KeepFault::Store));
-    };
-    let task = Task::Serve { port, max };
-    let end = on_farm(rt, alloc, keeper, task, Some(&files), input, output)?;
-    if files.are_lost() {
-        return Err(DeskFault::Keep(KeepFault::Store));
+) -> Result<End, DeskFault>
+    ensures { DoesInFiles R.never_fails (W.has_room output.old)
+        (streams (R.remaining input.old) (W.contents output.old))
+        (streams (R.remaining input.new) (W.contents output.new))
+        ⟦<FileFrom<S> as Disk>⟧ (image_at S.Start) task result }
+{
+    match open_farm(rt, alloc, file, start) {
+        Ok(keeper) => on_farm(rt, alloc, keeper, task, None, input, output),
+        Err(fault) => Err(fault),
     }
-    Ok(end)
+}
+
+/// Does a task with the farm in a file as long as that is there. Where somebody takes away the file or
+/// its log meanwhile, that is a fault of the store, since what would be written then is lost.
+fn do_while_there<S: Start, R: Input, W: Output>(
+    rt: &HostRuntime,
+    alloc: Global,
+    file: &str,
+    start: S,
+    task: Task,
+    input: &mut R,
+    output: &mut W,
+) -> Result<End, DeskFault>
+    ensures { DoesWhileThere R.never_fails (W.has_room output.old)
+        (streams (R.remaining input.old) (W.contents output.old))
+        (streams (R.remaining input.new) (W.contents output.new))
+        ⟦<FileFrom<S> as Disk>⟧ (image_at S.Start) task result }
+{
+    tell_size(rt, file, "opening");
+    match open_farm(rt, alloc, file, start) {
+        Ok(keeper) => match OpenFiles::new(rt, alloc, file) {
+            Some(files) => {
+                let ended = on_farm(rt, alloc, keeper, task, Some(&files), input, output);
+                unless_lost(&files, ended)
+            }
+            None => Err(DeskFault::Keep(KeepFault::Store)),
+        },
+        Err(fault) => Err(fault),
+    }
+}
+
+/// The end of what was done without a fault, unless its files were lost meanwhile.
+fn unless_lost(files: &OpenFiles<'_>, ended: Result<End, DeskFault>) -> Result<End, DeskFault>
+    ensures { IsUnlessLost ended result }
+{
+    match ended {
+        Ok(end) => {
+            if files.are_lost() {
+                return Err(DeskFault::Keep(KeepFault::Store));
+            }
+            Ok(end)
+        }
+        Err(fault) => Err(fault),
+    }
 }
 
 /// What is done with a farm that is there.
@@ -183,9 +263,7 @@ fn answer_one<R: Input, W: Output, S: Alter>(
 
 /// The keeper of an empty farm in memory.
 fn memory_keeper(alloc: Global) -> Result<Keeper<MemStore>, DeskFault>
-    ensures made { IfOk result (λ keeper. (keeper.is_open ≡ true) × (keeper.farm.farm ≡ empty_farm)) }
-    ensures fault { IfErr result (λ fault. (fault ≡ DeskFault.NoMemory)
-        ⊎ (fault ≡ DeskFault.Keep KeepFault.Store)) }
+    ensures { OpensMemory result }
 {
     let Ok(conn) = Connection::open_in_memory(alloc) else {
         return Err(DeskFault::NoMemory);
@@ -194,14 +272,26 @@ fn memory_keeper(alloc: Global) -> Result<Keeper<MemStore>, DeskFault>
 }
 
 /// Makes the empty farm in a file.
-fn init<W: Output>(
+fn init<S: Start, W: Output>(
     rt: &HostRuntime,
     alloc: Global,
     file: &str,
+    start: S,
     output: &mut W,
-) -> Result<End, DeskFault> {
-    make_farm(rt, alloc, file, Unknown)?;
-    match write_whole(output, b"ready\n") {
+) -> Result<End, DeskFault>
+    ensures { Inits (W.has_room output.old) (W.contents output.old) (W.contents output.new)
+        ⟦<FileFrom<S> as Disk>⟧ (image_at S.Start) result }
+{
+    make_farm(rt, alloc, file, start)?;
+    print_line(output, b"ready\n")
+}
+
+/// Prints the line that tells what was done.
+fn print_line<W: Output>(output: &mut W, line: &[u8]) -> Result<End, DeskFault>
+    ensures { PrintsLine (W.has_room output.old) (W.contents output.old) (W.contents output.new)
+        line.now result }
+{
+    match write_whole(output, line) {
         Ok(()) => Ok(End::Done),
         Err(_) => Err(DeskFault::Write),
     }
@@ -225,17 +315,23 @@ fn tell_size(rt: &HostRuntime, file: &str, what: &str) {
 
 /// Brings the first edition's farm of a file to this one. The log is copied into the file then; it
 /// is as good where that fails.
-fn migrate<W: Output>(
+fn migrate<S: Start, W: Output>(
     rt: &HostRuntime,
     alloc: Global,
     file: &str,
+    start: S,
     output: &mut W,
-) -> Result<End, DeskFault> {
+) -> Result<End, DeskFault>
+    ensures { Migrates (W.has_room output.old) (W.contents output.old) (W.contents output.new)
+        ⟦<FileFrom<S> as Disk>⟧ (image_at S.Start) result }
+{
     tell_size(rt, file, "migrating");
-    let _ = migrate_farm(rt, alloc, file, Unknown)?.close();
-    match write_whole(output, b"migrated\n") {
-        Ok(()) => Ok(End::Done),
-        Err(_) => Err(DeskFault::Write),
+    match migrate_farm(rt, alloc, file, start) {
+        Ok(conn) => {
+            let _ = conn.close();
+            print_line(output, b"migrated\n")
+        }
+        Err(fault) => Err(fault),
     }
 }
 
@@ -340,9 +436,8 @@ fn print_report<W: Output, S: Alter>(
     which: Report,
     output: &mut W,
 ) -> Result<End, DeskFault>
-    ensures { IfOk result (λ end. (end ≡ End.Done) × (text : _) × (zone.0 ≤ most_minutes
-        → zone.1 ≤ most_minutes → Reports which (seconds_ahead zone.0 zone.1) keeper.now.farm.farm text)
-        × Appends (W.contents output.old) (W.contents output.new) text) }
+    ensures { PrintsReportOf (W.has_room output.old) keeper.now (W.contents output.old)
+        (W.contents output.new) zone.0 zone.1 which result }
 {
     let Some(farm) = keeper.farm() else {
         return Err(DeskFault::Keep(KeepFault::Closed));
