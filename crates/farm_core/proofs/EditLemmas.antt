@@ -12,10 +12,11 @@ use Rattle.farm_types.specs.declared.rows.JobRow.{JobRow}
 use Rattle.farm_types.specs.declared.rows.ResRow.{ResRow}
 use Rattle.farm_types.specs.declared.rows.BoardRow.{BoardRow}
 use Rattle.farm_core.specs.declared.command.job_edit.JobEdit.{JobEdit}
+use Rattle.farm_core.specs.declared.command.res_edit.ResChange.{ResChange}
 use Rattle.farm_core.specs.declared.command.res_edit.ResEdit.{ResEdit}
 use Rattle.farm_core.specs.declared.held.Becomes.{Becomes}
 use Rattle.farm_table.specs.Near.{IsFitJob}
-use Rattle.farm_core.specs.Edits.{IfAfterCheck, job_changed, res_changed, board_after}
+use Rattle.farm_core.specs.Edits.{IfAfterCheck, job_changed, res_after, res_changed, board_after}
 
 -- jobs keep their number and group
 pub record KeepsJob (f : JobRow → JobRow) : Type 0 where
@@ -48,14 +49,16 @@ keeps_fit e j fit = record {
   near = rw (keeps_number e j, keeps_group e j) fit.near;
 }
 
+keeps_after : (k : ResChange) (r : ResRow) → (res_after k r).number ≡ r.number
+keeps_after ResChange.Acquire r = refl
+keeps_after (ResChange.Release deadline) r = refl
+keeps_after (ResChange.Refresh deadline) r = refl
+keeps_after ResChange.Cancel r = refl
+keeps_after ResChange.End r = refl
+keeps_after (ResChange.Allocate board deadline) r = refl
+
 pub keeps_res : (e : ResEdit) (r : ResRow) → (res_changed e r).number ≡ r.number
-keeps_res (ResEdit.Acquire number) r = refl
-keeps_res (ResEdit.Release number deadline) r = refl
-keeps_res (ResEdit.Refresh number deadline) r = refl
-keeps_res (ResEdit.Cancel number) r = refl
-keeps_res (ResEdit.End number) r = refl
-keeps_res (ResEdit.Expire now) r = refl
-keeps_res (ResEdit.Allocate number board deadline) r = refl
+keeps_res e r = keeps_after e.change r
 
 graded_by : (P : BoardRow → Type 0) (h : Health) (b : BoardRow) → P b → P (record b { health = h }) → P (graded_board h b)
 graded_by P h b same other = by _

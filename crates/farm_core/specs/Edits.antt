@@ -14,7 +14,9 @@ use Rattle.farm_types.specs.declared.rows.BoardRow.{BoardRow}
 use Rattle.farm_types.specs.declared.rows.JobRow.{JobRow}
 use Rattle.farm_types.specs.declared.rows.ResRow.{ResRow}
 use Rattle.farm_core.specs.declared.command.job_edit.JobEdit.{JobEdit}
+use Rattle.farm_core.specs.declared.command.res_edit.ResChange.{ResChange}
 use Rattle.farm_core.specs.declared.command.res_edit.ResEdit.{ResEdit}
+use Rattle.farm_core.specs.declared.command.res_edit.Those.{Those}
 use Rattle.farm_core.specs.declared.held.Becomes.{Becomes}
 
 -- which jobs change, and to what
@@ -50,31 +52,32 @@ first_of (JobEdit.Finish number outcome) = number
 first_of (JobEdit.Place state number board) = number
 first_of (JobEdit.Back group) = group
 
--- which reservations change, and to what
-abbrev pub res_passes : ResEdit → ResRow → Bool
-res_passes (ResEdit.Acquire number) r = r.number == number
-res_passes (ResEdit.Release number deadline) r = r.number == number
-res_passes (ResEdit.Refresh number deadline) r = r.number == number
-res_passes (ResEdit.Cancel number) r = r.number == number
-res_passes (ResEdit.End number) r = r.number == number
-res_passes (ResEdit.Expire now) r = is_dead now r
-res_passes (ResEdit.Allocate number board deadline) r = r.number == number
+-- which reservations are meant
+abbrev pub is_meant : Those → ResRow → Bool
+is_meant (Those.Numbered number) r = r.number == number
+is_meant (Those.Dead now) r = is_dead now r
 
-abbrev pub res_changed : ResEdit → ResRow → ResRow
-res_changed (ResEdit.Acquire number) r = record r { state = ResState.Acquired }
-res_changed (ResEdit.Release number deadline) r = record r {
+-- which reservation changes, and to what
+abbrev pub res_passes : ResEdit → ResRow → Bool
+res_passes e r = r.number == e.number
+
+abbrev pub res_after : ResChange → ResRow → ResRow
+res_after ResChange.Acquire r = record r { state = ResState.Acquired }
+res_after (ResChange.Release deadline) r = record r {
   state = ResState.Allocated;
   deadline = deadline;
 }
-res_changed (ResEdit.Refresh number deadline) r = record r { deadline = deadline }
-res_changed (ResEdit.Cancel number) r = record r { state = ResState.Canceled }
-res_changed (ResEdit.End number) r = record r { state = ResState.Expired }
-res_changed (ResEdit.Expire now) r = record r { state = ResState.Expired }
-res_changed (ResEdit.Allocate number board deadline) r = record r {
+res_after (ResChange.Refresh deadline) r = record r { deadline = deadline }
+res_after ResChange.Cancel r = record r { state = ResState.Canceled }
+res_after ResChange.End r = record r { state = ResState.Expired }
+res_after (ResChange.Allocate board deadline) r = record r {
   state = ResState.Allocated;
   board = Some board.now;
   deadline = deadline;
 }
+
+abbrev pub res_changed : ResEdit → ResRow → ResRow
+res_changed e r = res_after e.change r
 
 -- what becomes of a board
 abbrev pub board_after : Becomes → BoardRow → BoardRow

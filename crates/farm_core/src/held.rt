@@ -3,7 +3,7 @@ ghost use Rattle.std.specs.Prelude.{◌≡◌, ◌≤◌, min};
 ghost use Rattle.farm_types.specs.Change.{graded_board, after_job, after_check};
 
 use crate::command::job_edit::JobEdit;
-use crate::command::res_edit::ResEdit;
+use crate::command::res_edit::Those;
 use crate::job_table::JobTable;
 use crate::res_table::ResTable;
 use farm_table::Edit;
@@ -122,25 +122,25 @@ impl Edit<BoardRow> for OfJobs<'_> {
     }
 }
 
-/// The boards that the reservations hold that an edit changes.
+/// The boards that some reservations hold.
 #[derive(Drop)]
 pub struct OfReservations<'a> {
     pub reservations: &'a ResTable,
-    pub edit: ResEdit<'a>,
+    pub those: Those,
     pub becomes: Becomes,
 }
 
 impl Edit<BoardRow> for OfReservations<'_> {
-    ghost use Rattle.farm_core.specs.Edits.{is_res_in, res_passes, board_after};
+    ghost use Rattle.farm_core.specs.Edits.{is_meant, is_res_in, board_after};
 
-    ghost passes = { λ e b. is_res_in e.reservations.now.rows (res_passes e.edit) b.holder };
+    ghost passes = { λ e b. is_res_in e.reservations.now.rows (is_meant e.those) b.holder };
 
     ghost changed = { λ e b. board_after e.becomes b };
 
     fn passes(&self, row: &BoardRow) -> bool {
         match row.holder {
             Holder::Res(number) => match self.reservations.find(number) {
-                Some(reservation) => self.edit.passes(reservation),
+                Some(reservation) => self.those.include(reservation),
                 None => false,
             },
             _ => false,

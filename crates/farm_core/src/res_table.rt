@@ -1,5 +1,5 @@
 //! The table of reservations, and the leases that may end.
-ghost use Rattle.std.specs.Prelude.{◌≡◌, ◌==◌, ◌<◌, ◌^◌, [], false, true, length};
+ghost use Rattle.std.specs.Prelude.{◌≡◌, ◌<◌, ◌^◌, [], false, true, length};
 ghost use Rattle.std.specs.Prelude.{IfOk, IfSome, IfNone, OnOk, OnErr};
 ghost use Rattle.std.specs.List.{AllByRecursion};
 ghost use Rattle.std.specs.List.Sorted.{IsStrictlySortedBy};
@@ -13,7 +13,7 @@ ghost use Rattle.farm_table.specs.Tabled.{Leads};
 ghost use Rattle.farm_core.specs.Edits.{res_passes, res_changed};
 ghost use Rattle.farm_core.specs.Leases.{lease_if, is_dead_at};
 
-use crate::command::res_edit::ResEdit;
+use crate::command::res_edit::{ResChange, ResEdit};
 use crate::leases::{self, Lease, lease_of, may_end, note, note_leases};
 use farm_table::Table;
 use farm_types::ResRow;
@@ -48,20 +48,19 @@ fn lease_after(edit: &ResEdit<'_>, row: &ResRow) -> Option<Lease>
     ensures { result ≡ lease_if (res_changed edit.now row.now) }
 {
     let number = row.number;
-    match *edit {
-        ResEdit::Acquire(_) => None,
-        ResEdit::Release(_, deadline) => Some(Lease { deadline, number }),
-        ResEdit::Refresh(_, deadline) => {
+    match edit.change {
+        ResChange::Acquire => None,
+        ResChange::Release(deadline) => Some(Lease { deadline, number }),
+        ResChange::Refresh(deadline) => {
             if may_end(row) {
                 Some(Lease { deadline, number })
             } else {
                 None
             }
         }
-        ResEdit::Cancel(_) => None,
-        ResEdit::End(_) => None,
-        ResEdit::Expire(_) => None,
-        ResEdit::Allocate(_, _, deadline) => Some(Lease { deadline, number }),
+        ResChange::Cancel => None,
+        ResChange::End => None,
+        ResChange::Allocate(_, deadline) => Some(Lease { deadline, number }),
     }
 }
 
@@ -129,18 +128,17 @@ impl ResTable {
         Ok(())
     }
 
-    /// Changes one reservation, told by its number, and notes the lease that it has then, if it may
+    /// Changes one reservation, and notes the lease that it has then, if it may
     /// end. With R reservations and L leases it costs O(log R + log L). Where memory runs out the
     /// table is as it was.
-    pub fn edit(&mut self, number: u64, edit: ResEdit<'_>) -> Result<(), AllocError>
-        requires one { (r : ResRow) → res_passes edit r ≡ (r.number == number) }
-        requires small { (r : ResRow) → IsSmallRes r → IsSmallRes (res_changed edit r) }
+    pub fn edit(&mut self, edit: ResEdit<'_>) -> Result<(), AllocError>
+        requires { (r : ResRow) → IsSmallRes r → IsSmallRes (res_changed edit r) }
         ensures rows { OnOk result (self.new.rows ≡ change_where (res_passes edit.entry)
             (res_changed edit.entry) self.old.rows) }
         ensures leads { Leads res_cmp self.old self.new }
         ensures stays { OnErr result (self.new ≡ self.old) }
     {
-        let Ok(at) = self.table.place_of(&number) else {
+        let Ok(at) = self.table.place_of(&edit.number) else {
             return Ok(());
         };
         // The lease first, as in `put`.

@@ -6,23 +6,35 @@ use farm_table::Edit;
 use farm_types::{Name, ResRow, ResState};
 use std::alloc::AllocError;
 
-/// A change of reservations: of one by its number, or of those that are dead.
+/// Which reservations are meant: one by its number, or those that are dead at a moment.
 #[derive(Clone, Copy, Debug)]
-pub enum ResEdit<'a> {
-    /// The reservation is acquired.
-    Acquire(u64),
-    /// The reservation is allocated again, until a new deadline.
-    Release(u64, u64),
-    /// The reservation has a new deadline.
-    Refresh(u64, u64),
-    /// The reservation is canceled.
-    Cancel(u64),
-    /// The reservation is expired.
-    End(u64),
-    /// The reservations that are dead at the moment are expired.
-    Expire(u64),
-    /// The reservation is given the board of that name, until a deadline.
-    Allocate(u64, &'a Name, u64),
+pub enum Those {
+    Numbered(u64),
+    Dead(u64),
+}
+
+/// A change of one reservation, told by its number.
+#[derive(Clone, Copy, Debug)]
+pub struct ResEdit<'a> {
+    pub number: u64,
+    pub change: ResChange<'a>,
+}
+
+/// What becomes of a reservation.
+#[derive(Clone, Copy, Debug)]
+pub enum ResChange<'a> {
+    /// It is acquired.
+    Acquire,
+    /// It is allocated again, until a new deadline.
+    Release(u64),
+    /// It has a new deadline.
+    Refresh(u64),
+    /// It is canceled.
+    Cancel,
+    /// It is expired.
+    End,
+    /// It is given the board of that name, until a deadline.
+    Allocate(&'a Name, u64),
 }
 
 /// Whether a reservation waits or has been allocated, and its deadline has come.
@@ -30,6 +42,21 @@ pub fn is_dead(now: u64, row: &ResRow) -> bool
     ensures { result ≡ is_dead now row.now }
 {
     matches!(row.state, ResState::Waiting | ResState::Allocated) && row.deadline <= now
+}
+
+impl Those {
+    ghost use Rattle.std.specs.Prelude.{◌≡◌};
+    ghost use Rattle.farm_core.specs.Edits.{is_meant};
+
+    /// Whether a reservation is one of them.
+    pub fn include(&self, row: &ResRow) -> bool
+        ensures { result ≡ is_meant self.now row.now }
+    {
+        match *self {
+            Those::Numbered(number) => row.number == number,
+            Those::Dead(now) => is_dead(now, row),
+        }
+    }
 }
 
 impl Edit<ResRow> for ResEdit<'_> {
@@ -40,29 +67,20 @@ impl Edit<ResRow> for ResEdit<'_> {
     ghost changed = { res_changed };
 
     fn passes(&self, row: &ResRow) -> bool {
-        match *self {
-            ResEdit::Acquire(number) => row.number == number,
-            ResEdit::Release(number, _) => row.number == number,
-            ResEdit::Refresh(number, _) => row.number == number,
-            ResEdit::Cancel(number) => row.number == number,
-            ResEdit::End(number) => row.number == number,
-            ResEdit::Expire(now) => is_dead(now, row),
-            ResEdit::Allocate(number, _, _) => row.number == number,
-        }
+        row.number == self.number
     }
 
     fn change(&self, row: &mut ResRow) -> Result<(), AllocError> {
-        match *self {
-            ResEdit::Acquire(_) => row.state = ResState::Acquired,
-            ResEdit::Release(_, deadline) => {
+        match self.change {
+            ResChange::Acquire => row.state = ResState::Acquired,
+            ResChange::Release(deadline) => {
                 row.state = ResState::Allocated;
                 row.deadline = deadline;
             }
-            ResEdit::Refresh(_, deadline) => row.deadline = deadline,
-            ResEdit::Cancel(_) => row.state = ResState::Canceled,
-            ResEdit::End(_) => row.state = ResState::Expired,
-            ResEdit::Expire(_) => row.state = ResState::Expired,
-            ResEdit::Allocate(_, board, deadline) => {
+            ResChange::Refresh(deadline) => row.deadline = deadline,
+            ResChange::Cancel => row.state = ResState::Canceled,
+            ResChange::End => row.state = ResState::Expired,
+            ResChange::Allocate(board, deadline) => {
                 let board = board.copy()?;
                 row.state = ResState::Allocated;
                 row.board = Some(board);

@@ -16,7 +16,7 @@ ghost use Rattle.farm_core.specs.Came.{Acts};
 ghost use Rattle.farm_core.specs.Plain.{plain_farm};
 
 use crate::command::jobs::owned_by;
-use crate::command::res_edit::{ResEdit, is_dead};
+use crate::command::res_edit::{ResChange, ResEdit, is_dead};
 use crate::held::Becomes;
 use crate::tables::Tables;
 use farm_types::{
@@ -110,8 +110,9 @@ impl Tables {
     pub fn acquire(&mut self, number: u64) -> Result<u64, AllocError>
         ensures { IfOk result (λ n. Acts self.old [] (Cmd.Acquire number) n self.new) }
     {
+        let change = ResChange::Acquire;
         let running = Becomes::State(State::Running);
-        self.edit_reservation_and_board(number, ResEdit::Acquire(number), running)?;
+        self.edit_reservation_and_board(ResEdit { number, change }, running)?;
         Ok(number)
     }
 
@@ -120,9 +121,9 @@ impl Tables {
         requires { self.old.clock ≤ last_moment }
         ensures { IfOk result (λ n. Acts self.old [] (Cmd.Release number) n self.new) }
     {
-        let edit = ResEdit::Release(number, self.clock + LEASE);
+        let change = ResChange::Release(self.clock + LEASE);
         let reserved = Becomes::State(State::Reserved);
-        self.edit_reservation_and_board(number, edit, reserved)?;
+        self.edit_reservation_and_board(ResEdit { number, change }, reserved)?;
         Ok(number)
     }
 
@@ -131,8 +132,8 @@ impl Tables {
         requires { self.old.clock ≤ last_moment }
         ensures { IfOk result (λ n. Acts self.old [] (Cmd.Refresh number) n self.new) }
     {
-        let edit = ResEdit::Refresh(number, self.clock + LEASE);
-        self.reservations.edit(number, edit)?;
+        let change = ResChange::Refresh(self.clock + LEASE);
+        self.reservations.edit(ResEdit { number, change })?;
         Ok(number)
     }
 
@@ -140,7 +141,8 @@ impl Tables {
     pub fn cancel_reservation(&mut self, number: u64) -> Result<u64, AllocError>
         ensures { IfOk result (λ n. Acts self.old [] (Cmd.CancelRes number) n self.new) }
     {
-        self.edit_reservation_and_board(number, ResEdit::Cancel(number), Becomes::Idle)?;
+        let change = ResChange::Cancel;
+        self.edit_reservation_and_board(ResEdit { number, change }, Becomes::Idle)?;
         self.queues.take_claim(number);
         Ok(number)
     }

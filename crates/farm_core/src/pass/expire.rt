@@ -11,7 +11,7 @@ ghost use Rattle.farm_core.specs.Following.{without_all, without_claim};
 ghost use Rattle.farm_core.specs.Leases.{is_dead_at};
 ghost use Rattle.farm_core.specs.Plain.{plain_farm};
 
-use crate::command::res_edit::ResEdit;
+use crate::command::res_edit::{ResChange, ResEdit, Those};
 use crate::held::Becomes;
 use crate::tables::Tables;
 use std::alloc::AllocError;
@@ -40,7 +40,8 @@ impl Tables {
           queues = without_claim number self.old.queues;
         }) self.new) }
     {
-        self.reservations.edit(number, ResEdit::End(number))?;
+        let change = ResChange::End;
+        self.reservations.edit(ResEdit { number, change })?;
         self.queues.take_claim(number);
         Ok(())
     }
@@ -84,7 +85,7 @@ impl Tables {
             ≡ length (filter (is_dead self.old.clock) (plain_farm self.old).reservations)) }
     {
         // The boards first: the reservations as they were tell which are freed.
-        self.edit_boards_of_reservations(ResEdit::Expire(self.clock), Becomes::Idle)?;
+        self.edit_boards_of_reservations(Those::Dead(self.clock), Becomes::Idle)?;
         let count = self.expire_reservations()?;
         Ok(count)
     }

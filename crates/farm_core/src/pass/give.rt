@@ -13,7 +13,7 @@ ghost use Rattle.farm_core.specs.Plain.{plain_farm};
 ghost use Rattle.farm_core.specs.Serving.{give_named, give_first};
 
 use crate::command::job_edit::JobEdit;
-use crate::command::res_edit::ResEdit;
+use crate::command::res_edit::{ResChange, ResEdit};
 use crate::held::Hold;
 use crate::tables::Tables;
 use farm_types::{Holder, JobState, LEASE, Name};
@@ -66,9 +66,8 @@ impl Tables {
         ensures { OnOk result (CameTo self.old (seen_at
             (give_first (plain_farm self.old) number (name.now ∷ [])) (seen self.old)) self.new) }
     {
-        let deadline = self.clock + LEASE;
-        let edit = ResEdit::Allocate(number, name, deadline);
-        self.reservations.edit(number, edit)?;
+        let change = ResChange::Allocate(name, self.clock + LEASE);
+        self.reservations.edit(ResEdit { number, change })?;
         self.hold_board(name, Holder::Res(number))?;
         Ok(())
     }

@@ -16,8 +16,7 @@ pub returns-in_default-clause-rows : goal.returns-in_default-clause-rows
 returns-in_default-clause-rows c =
     let edit = c.args.edit in
     subst (λ (t : Tabled ResRow). t.rows ≡ change_where (res_passes edit) (res_changed edit) t.rows) c.self.view_is
-    (nobody_changes (λ (r : ResRow). r.number == c.args.number) (res_changed edit) c.self.inside.table.rows c.in_default.ensures.place
-    ∙ (λ i. change_where (λ r. sym (c.requires.one r) i) (res_changed edit) c.self.inside.table.rows))
+    (nobody_changes (res_passes edit) (res_changed edit) c.self.inside.table.rows c.in_default.ensures.place)
 
 pub invariant_of-self : goal.invariant_of-self
 invariant_of-self c = noted_on c.self.inside.leases c.note.new.leases c.note.ensures.grows c.self.inside.table.rows c.self.inside.table.rows c.self.invariant refl
@@ -43,9 +42,8 @@ pub returns-clause-rows : goal.returns-clause-rows
 returns-clause-rows c =
     let edit = c.args.edit in
     let rows = c.self.inside.table.rows in
-    found_changes (λ (r : ResRow). r.number) nat_cmp nat_cmp_total (λ a b. a == b) same_numbers c.args.number (res_changed edit) rows c.change_at.new.self.rows c.in-Ok.at
+    found_changes (λ (r : ResRow). r.number) nat_cmp nat_cmp_total (λ a b. a == b) same_numbers edit.number (res_changed edit) rows c.change_at.new.self.rows c.in-Ok.at
     c.in-Ok.ensures.sorted c.in-Ok.ensures.place.0 c.in-Ok.ensures.place.1 c.in_ok-change_at.ensures.rows
-    ∙ (λ i. change_where (λ r. sym (c.requires.one r) i) (res_changed edit) rows)
     ∙ ap (λ (t : Tabled ResRow). change_where (res_passes edit) (res_changed edit) t.rows) c.self.view_is
 
 pub returns-clause-leads : goal.returns-clause-leads
