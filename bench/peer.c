@@ -25,7 +25,7 @@ enum { SUBMITTED = 0, SCHEDULED = 2, RUNNING = 3, FINISHED = 5 }; /* a job's sta
 static const char *TAGS = "k01,k02,k03,k04,k05,k06,k07,k16";
 
 static sqlite3 *db;
-static sqlite3_stmt *put_board, *put_job, *put_reservation, *put_kept, *change_meta, *begin, *commit;
+static sqlite3_stmt *put_board, *put_job, *put_reservation, *put_kept, *put_meta, *change_meta, *begin, *commit;
 static long next_number, count;
 static char body[BODY + 1];
 
@@ -112,6 +112,12 @@ static void kept(long it) {
     number(put_kept, 5, 0);
     number(put_kept, 6, 0);
     run(put_kept);
+}
+
+static void meta(const char *name, long value) {
+    text(put_meta, 1, name);
+    number(put_meta, 2, value);
+    run(put_meta);
 }
 
 /* The four numbers, of which each command writes those that changed. */
@@ -201,6 +207,7 @@ static void open_store(const char *path) {
     put_job = prepare("INSERT OR REPLACE INTO jobs VALUES (?1, ?2, ?3, ?4, ?5, ?6, ?7, ?8, ?9, ?10, ?11, ?12)");
     put_reservation = prepare("INSERT OR REPLACE INTO reservations VALUES (?1, ?2, ?3, ?4, ?5, ?6, ?7)");
     put_kept = prepare("INSERT OR REPLACE INTO kept VALUES (?1, ?2, ?3, ?4, ?5, ?6)");
+    put_meta = prepare("INSERT INTO meta VALUES (?1, ?2) ON CONFLICT (name) DO UPDATE SET value = excluded.value");
     change_meta = prepare("UPDATE meta SET value = CASE name WHEN 'clock' THEN ?1 WHEN 'collector' THEN ?2"
                           " WHEN 'count' THEN ?3 ELSE ?4 END WHERE value <> CASE name WHEN 'clock' THEN ?1"
                           " WHEN 'collector' THEN ?2 WHEN 'count' THEN ?3 WHEN 'next' THEN ?4 ELSE value END");

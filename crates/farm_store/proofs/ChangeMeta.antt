@@ -1,12 +1,12 @@
 -- The statement that writes the farm's numbers over those that are there.
-use Rattle.std.proofs.Common.{refl, ◌≡◌, ◌≢◌, ◌&&◌, inl, inr, ℕ, ℤ, pos, List, [], ◌∷◌, map, codes, Bool, true, false, if◌then◌else◌, None, Some, Ok, sym, ap, subst, ◌∙◌, is_eq, Less, Equal}
+use Rattle.std.proofs.Common.{refl, ◌≡◌, ◌≢◌, ◌&&◌, inl, inr, ℕ, ℤ, pos, List, [], ◌∷◌, map, codes, Bool, true, false, if◌then◌else◌, None, Some, Ok, sym, ap, subst, ◌∙◌, is_eq, Less, Equal, arith}
 use Rattle.std.specs.List.{AllByRecursion}
 use Rattle.std.specs.Ordering.{int_cmp, is_ne}
 use Rattle.std.specs.Str.{bytes_eq}
 use Rattle.std.proofs.lemmas.Bool.{cases_Bool}
 use Rattle.std.proofs.lemmas.Cmp.{tied_itself, int_cmp_total}
+use Rattle.std.proofs.lemmas.Int.{ints}
 use Rattle.std.proofs.lemmas.Map.Text.{is_eq-slice_cmp}
-use Rattle.sqlite.specs.declared.types.Value.{Value}
 use Rattle.sqlite.specs.declared.types.Value.TheVariants.{Null, Int, Text}
 use Rattle.sqlite.specs.Order.{Row}
 use Rattle.sqlite.specs.Table.{Table}
@@ -25,18 +25,19 @@ use Rattle.sqlite.specs.State.{State, mode_of, ExecutesInside}
 use Rattle.sqlite.specs.Rows.{Written}
 use Rattle.sqlite.proofs.Callers.{IsPlain, command_of, statement_of, runs_as, one_step}
 use Rattle.sqlite_tied.specs.Compute.{everything}
-use Rattle.sqlite_sql.specs.Ops.{binary, is_true, unary}
+use Rattle.sqlite_sql.specs.Ops.{binary, from_truth, is_true, unary}
 use Rattle.sqlite_sql.specs.Term.{op1, op2, case}
 use Rattle.sqlite_sql.specs.declared.ops.BinaryOp.TheVariants.{Compare}
 use Rattle.sqlite_sql.specs.declared.ops.CompareOp.TheVariants.{Eq, Ne}
 use Rattle.sqlite_sql.specs.declared.ops.UnaryOp.TheVariants.{ToNumeric}
 use Rattle.sqlite_value.specs.Order.{column, value_cmp}
 use Rattle.sqlite_value.specs.declared.keys.Collation.TheVariants.{Binary}
-use Rattle.sqlite_value.proofs.OrderLemmas.{value_cmp-Text, value_cmp_total}
+use Rattle.sqlite_value.proofs.OrderLemmas.{value_cmp-Int, value_cmp-Text, value_cmp_total}
 use Rattle.sqlite_trees.specs.Objects.{catalog_tree}
 use Rattle.sqlite_trees.specs.Tree.{rowid, IsTable, IsAscending}
 use Rattle.sqlite_trees.specs.View.{is_int}
 use Rattle.sqlite_catalog.specs.Listing.{AreListed}
+use Rattle.sqlite_schema.specs.Rules.{differ}
 use Rattle.sqlite_rules.specs.Calls.{ids_of}
 use Rattle.sqlite_rules.specs.Lists.{Has}
 use Rattle.sqlite_rules.proofs.ListLemmas.{all_has, all_from}
@@ -56,7 +57,6 @@ use Rattle.farm_store.proofs.Commute.{of_meta as numbers_put}
 use Rattle.farm_store.proofs.KeyedUpsert.{apart_same}
 use Rattle.farm_store.proofs.Keys.{equal_is_tied, first_total}
 use Rattle.farm_store.proofs.PutAt.{meta_known, stands_rewritten}
-use Rattle.farm_store.proofs.PutMeta.{differ_is, same_number}
 use Rattle.farm_store.proofs.RaisesJobs.{all_up, all_keyed}
 use Rattle.farm_store.proofs.Replace.{went, same_value, cast_int, left_table}
 use Rattle.farm_store.proofs.Sorted.{tie_same}
@@ -98,6 +98,17 @@ stays id name value = rw (cast_int id, cast_int (pos value))
 as_number : (n : ℤ) → unary ToNumeric (Int n) ≡ Int n
 unfolding unary
 as_number n = refl
+
+from_test : (b : Bool) → is_true (from_truth (Some b)) ≡ b
+from_test true = refl
+from_test false = refl
+
+differ_is : (m n : ℤ) → differ (Int m) (Int n) ≡ is_ne (int_cmp m n)
+unfolding binary
+differ_is m n = ap (λ o. is_true (from_truth (Some (is_ne o)))) (value_cmp-Int m n) ∙ from_test (is_ne (int_cmp m n))
+
+same_number : (m n : ℤ) → is_ne (int_cmp m n) ≡ false → m ≡ n
+same_number m n same = grind (arith, ints)
 
 -- two names are compared byte by byte
 same_name : (a b : List ℕ) → is_true (binary (Compare Eq Binary) (Text a) (Text b)) ≡ bytes_eq a b

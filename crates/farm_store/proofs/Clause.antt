@@ -48,10 +48,6 @@ single x [] same = absurd (let n = length_permutation (x ∷ []) [] same in omeg
 single x (y ∷ []) same = elim (permuted (x ∷ []) (y ∷ []) same y (inl refl)) [ inl is ↦ ap (λ z. z ∷ []) is | inr none ↦ absurd none ]
 single x (y ∷ z ∷ ys) same = absurd (let n = length_permutation (x ∷ []) (y ∷ z ∷ ys) same in omega (arith, n))
 
-none_there : {O : Type 0} (ys : List O) → IsPermutation [] ys → ys ≡ []
-none_there [] same = refl
-none_there (y ∷ ys) same = absurd (let n = length_permutation [] (y ∷ ys) same in omega (arith, n))
-
 none_of : {X : Type 0} (f : Row → List X) (rows : List Row) → AllByRecursion (λ y. f y ≡ []) rows → flat_map f rows ≡ []
 none_of f [] none = refl
 none_of f (y ∷ rows) none = ap₂ ◌++◌ none.0 (none_of f rows none.1)
@@ -91,20 +87,11 @@ module _ (db : Trees) (tree : ℕ) (own : overlay db [] tree ≡ db tree) (filte
       let shown = λ (y : Row). matches (overlay db []) filter end (given ∷ y ∷ []) in
       ap (flat_map shown) own ∙ one_of shown (db tree) r up h other
 
-  -- where the row passes
   pub shows_one : matches (overlay db []) filter end (given ∷ r ∷ []) ≡ (given ∷ r ∷ []) ∷ [] → out ≡ eval_all project (given ∷ r ∷ []) ∷ []
   shows_one itself =
       let q = query tree filter project in
       let kept : a.kept ≡ output q (given ∷ r ∷ []) ∷ [] = a.distinct ∙ ap (map (output q)) (a.grouped ∙ matched ∙ itself) in
       let ordered = single (output q (given ∷ r ∷ [])) a.ordered (subst (λ k. IsPermutation k a.ordered) kept a.same) in
-      a.shown ∙ ap (λ (o : List Output). page q given (map (λ it. it.1) o)) ordered
-
-  -- where it doesn't
-  pub shows_none : matches (overlay db []) filter end (given ∷ r ∷ []) ≡ [] → out ≡ []
-  shows_none itself =
-      let q = query tree filter project in
-      let kept : a.kept ≡ [] = a.distinct ∙ ap (map (output q)) (a.grouped ∙ matched ∙ itself) in
-      let ordered = none_there a.ordered (subst (λ k. IsPermutation k a.ordered) kept a.same) in
       a.shown ∙ ap (λ (o : List Output). page q given (map (λ it. it.1) o)) ordered
 
 -- which rows have the rowid that is given
@@ -115,7 +102,7 @@ module _ (given r : Row) (base : ℕ) (keyed : is_int (rowid r) ≡ true) (at : 
   pub is_same_rowid : (y : Row) → equal Binary (column y 0) (column given base) ≡ is_eq (value_cmp (rowid y) (rowid r))
   is_same_rowid y = equal_is_tied (column y 0) (column given base) there ∙ ap (λ v. is_eq (value_cmp (rowid y) v)) at
 
--- with no WHERE that is all that is asked
+-- that is all that is asked
 abbrev pub rowid_alone : ℕ → List Term
 rowid_alone base = op2 (Compare Eq Binary) (col 1 0) (col 0 base) ∷ []
 

@@ -1,5 +1,5 @@
 -- INSERT of one row with ON CONFLICT, into a table that is keyed by its first column, a text: the row is written over the one that has the key, or is new.
-use Rattle.std.proofs.Common.{refl, ◌≡◌, ◌⊎◌, ◌||◌, inl, inr, ℕ, ℤ, List, [], ◌∷◌, ◌++◌, true, false, Option, Some, None, Ok, sym, ap, ap₂, subst, ◌∙◌, is_eq, Equal}
+use Rattle.std.proofs.Common.{refl, ◌≡◌, ◌||◌, inl, inr, ℕ, ℤ, List, [], ◌∷◌, ◌++◌, true, false, Option, Some, None, Ok, sym, ap, ap₂, subst, ◌∙◌, is_eq, Equal}
 use Rattle.std.proofs.lemmas.Bool.{cases_Bool}
 use Rattle.std.proofs.lemmas.Cmp.{tied_back}
 use Rattle.sqlite.specs.declared.types.Value.{Value}
@@ -9,7 +9,6 @@ use Rattle.sqlite.specs.Order.{Row}
 use Rattle.sqlite.specs.Table.{Table}
 use Rattle.sqlite.specs.Tree.{Trees}
 use Rattle.sqlite.specs.Term.{Term}
-use Rattle.sqlite.specs.Query.{end}
 use Rattle.sqlite.specs.Program.{overlay}
 use Rattle.sqlite.specs.Cast.{cast_row}
 use Rattle.sqlite.specs.Rowids.TheVariants.{Given}
@@ -17,7 +16,6 @@ use Rattle.sqlite.specs.Edit.{edit_of, are_fresh, without_all, put_all, id_in, t
 use Rattle.sqlite.specs.Rows.{Task, Then, Gives, Edited, Written, shown, Updates, Puts, Clears, Meets, Upserts}
 use Rattle.sqlite.proofs.Callers.{one_step}
 use Rattle.sqlite_sql.specs.Term.{eval_all}
-use Rattle.sqlite_sql.specs.Query.{matches}
 use Rattle.sqlite_value.specs.Keys.{plain}
 use Rattle.sqlite_value.specs.Order.{column, value_cmp}
 use Rattle.sqlite_trees.specs.Tree.{rowid, IsAscending}
@@ -29,7 +27,7 @@ use Rattle.sqlite_schema.specs.declared.command.Conflict.TheVariants.{Abort}
 use Rattle.sqlite_schema.specs.declared.command.Upsert.{Upsert}
 use Rattle.sqlite_rules.specs.Action.{works}
 use Rattle.sqlite_rules.specs.Calls.{ids_of}
-use Rattle.sqlite_rules.specs.Edit.{next_rowid, Applies}
+use Rattle.sqlite_rules.specs.Edit.{next_rowid}
 use Rattle.sqlite_rules.specs.Keys.{conflicts, AreConflicts}
 use Rattle.sqlite_rules.specs.Lists.{Has}
 use Rattle.sqlite_rules.proofs.ListLemmas.{all_has}
@@ -40,12 +38,12 @@ use Rattle.farm_store.specs.Schema.{farm_schema, strict_table}
 use Rattle.farm_store.specs.Columns.{by_first}
 use Rattle.farm_store.specs.Replaces.{Replaces}
 use Rattle.farm_store.specs.Stored.{Differ, HasInt, IsWide, ListsRows, row_less_rowid}
-use Rattle.farm_store.proofs.Sorted.{tie_same, put_there}
+use Rattle.farm_store.proofs.Sorted.{tie_same}
 use Rattle.farm_store.proofs.Keys.{first_total, by_next, or_false, agree_one, agree_next}
 use Rattle.farm_store.proofs.PutLemmas.{TableBecomes, eq_is, lists_put}
 use Rattle.farm_store.proofs.Replace.{went, same_value, cast_int, from_put, clears}
 use Rattle.farm_store.proofs.Stays.{all_fit, all_stay}
-use Rattle.farm_store.proofs.Clause.{is_text, query, clause, shows_one, shows_none}
+use Rattle.farm_store.proofs.Clause.{is_text, query, clause, rowid_alone, others_fail, itself_passes, shows_one}
 use Rattle.farm_store.proofs.OnConflict.{task}
 
 pub apart_same : (show : Row → Row) (raws : List Row) (a b : Row) → IsAscending (Differ show) raws → Has raws a → Has raws b → show a ≡ show b → a ≡ b
@@ -60,13 +58,13 @@ second : (r : Row) → column r 1 ≡ column (row_less_rowid r) 0
 second [] = refl
 second (v ∷ rest) = refl
 
-module _ (name : List ℕ) (tree : ℕ) (columns : List Column) (width : ℕ) (filter project : List Term) (still : (keys : Keys) (olds news : List Row) → works farm_schema keys 0 tree olds news ≡ [])
+module _ (name : List ℕ) (tree : ℕ) (columns : List Column) (width : ℕ) (project : List Term) (still : (keys : Keys) (olds news : List Row) → works farm_schema keys 0 tree olds news ≡ [])
     (alone : (db : Trees) → overlay db [] tree ≡ db tree) where
   abbrev pub table : Table
   table = strict_table name tree columns None (1 ∷ []) ((1 ∷ []) ∷ []) (record { digits = 0 } ∷ [])
 
   abbrev pub the_clause : Upsert
-  the_clause = clause (1 ∷ []) tree filter project
+  the_clause = clause (1 ∷ []) tree (rowid_alone width) project
 
   module _ (any_is : (raw new : Row) → conflicts None farm_schema.indexes table new raw ≡ (agree plain (0 ∷ []) raw (0 ∷ []) new || (agree plain (1 ∷ []) raw (1 ∷ []) new || false)))
       (key_is : (raw new : Row) → conflicts (Some (1 ∷ [])) farm_schema.indexes table new raw ≡ (agree plain (1 ∷ []) raw (1 ∷ []) new || false))
@@ -166,42 +164,13 @@ module _ (name : List ℕ) (tree : ℕ) (columns : List Column) (width : ℕ) (f
           ((rowid r ∷ []) ∷ []) conflicting wrote.0 (subst (λ n. are_fresh (without_all (db tree) (id ∷ [])) (n ∷ []) ≡ true) cast applied.fresh)
           (applied.rows ∙ ap (λ n. put_all (without_all (db tree) (id ∷ [])) (n ∷ [])) cast) applied.tables))
 
-      -- the row that is there is the one to be written
-      left_alone : ((next : Trees) → Applies farm_schema mode.keys db (edit_of db table [] Given 1 []) next → row_less_rowid r ≡ x) → (w : Written) → Writes [] w → Makes w.trees
-      left_alone alike w u =
-          let wrote = went u in
-          let edit = edit_of db table [] Given 1 [] in
-          let applied = one_step farm_schema mode.keys db wrote.0 edit (still mode.keys (taken_by db edit) edit.news) wrote.1 in
-          let there : Has rows x = subst (Has rows) (alike wrote.0 applied) (it.complete r h) in
-          let same : put by_first rows x ≡ rows = put_there first_total x rows it.strict there in
-          let trees : wrote.0 ≡ w.trees = sym (ap (λ (it : Written). it.trees) (same_value wrote.2)) in
-          subst (λ (t : Trees). Makes t) trees (record {
-            lists = subst (ListsRows by_first row_less_rowid width (wrote.0 tree)) (sym same) (subst (λ l. ListsRows by_first row_less_rowid width l rows) (sym applied.rows) it);
-            others = applied.tables;
-          })
-
-    -- WHERE passes over only a row that is the one to be written
-    pub record Decides : Type 0 where
-      pub source : (r : Row) → eval_all project (given r ∷ r ∷ []) ≡ rowid r ∷ rowid r ∷ column r 1 ∷ rest
-      pub other : (r y : Row) → is_int (rowid r) ≡ true → is_eq (value_cmp (rowid y) (rowid r)) ≡ false → matches (overlay db []) filter end (given r ∷ y ∷ []) ≡ []
-      pub itself : (r : Row) → Has (db tree) r → is_int (rowid r) ≡ true → by_first (row_less_rowid r) x ≡ Equal
-          → (matches (overlay db []) filter end (given r ∷ r ∷ []) ≡ (given r ∷ r ∷ []) ∷ [])
-          ⊎ ((matches (overlay db []) filter end (given r ∷ r ∷ []) ≡ []) × ((next : Trees) → Applies farm_schema mode.keys db (edit_of db table [] Given 1 []) next → row_less_rowid r ≡ x))
-
-    module _ (decides : Decides) where
-      updated : (r : Row) → Has (db tree) r → by_first (row_less_rowid r) x ≡ Equal → (w : Written) → Updates the_task (record { lets = []; body = query tree filter project }) (given r) db (Ok w) → Makes w.trees
+    module _ (source : (r : Row) → eval_all project (given r ∷ r ∷ []) ≡ rowid r ∷ rowid r ∷ column r 1 ∷ rest) (at : (r : Row) → column (given r) width ≡ rowid r) where
+      updated : (r : Row) → Has (db tree) r → by_first (row_less_rowid r) x ≡ Equal → (w : Written) → Updates the_task (record { lets = []; body = query tree (rowid_alone width) project }) (given r) db (Ok w) → Makes w.trees
       updated r h tie w u =
           let done = went u in
           let keyed = keyed_at r h in
-          let answer = done.1.answer Null in
-          elim (decides.itself r h keyed tie) [
-            | inl passes ↦
-                let is = shows_one db tree (alone db) filter project (given r) r it.ordered h (λ y. decides.other r y keyed) done.0 answer passes ∙ ap (λ l. l ∷ []) (decides.source r) in
-                written r h tie w (subst (λ l. Writes r h tie l w) is done.2)
-            | inr fails ↦
-                let is = shows_none db tree (alone db) filter project (given r) r it.ordered h (λ y. decides.other r y keyed) done.0 answer fails.0 in
-                left_alone r h tie fails.1 w (subst (λ l. Writes r h tie l w) is done.2)
-          ]
+          let is = shows_one db tree (alone db) (rowid_alone width) project (given r) r it.ordered h (others_fail db (given r) r width keyed (at r)) done.0 (done.1.answer Null) (itself_passes db (given r) r width keyed (at r)) ∙ ap (λ l. l ∷ []) (source r) in
+          written r h tie w (subst (λ l. Writes r h tie l w) is done.2)
 
       -- whichever rows have the key
       either : (found : List Row) → AreConflicts (Some (1 ∷ [])) farm_schema.indexes table (db tree) new found → (w : Written) → Meets the_task (Upserts the_task Abort new db []) new db the_clause found (Ok w) → Makes w.trees
@@ -212,7 +181,7 @@ module _ (name : List ℕ) (tree : ℕ) (columns : List Column) (width : ℕ) (f
           puts_of (y ∷ more) h = h
       either (there ∷ more) are w met =
           let s = are.sound there (inl refl) in
-          updated s.0 s.1 (eq_is _ (sym (has_key s.0 s.1) ∙ s.2)) w (subst (λ (k : Row). Updates the_task (record { lets = []; body = query tree filter project }) (x ++ rowid k ∷ shown table new) db (Ok w)) s.3 met)
+          updated s.0 s.1 (eq_is _ (sym (has_key s.0 s.1) ∙ s.2)) w (subst (λ (k : Row). Updates the_task (record { lets = []; body = query tree (rowid_alone width) project }) (x ++ rowid k ∷ shown table new) db (Ok w)) s.3 met)
 
       pub judge : (w : Written) → Upserts the_task Abort new db (the_clause ∷ []) (Ok w) → Makes w.trees
       judge w h = either h.0 h.1 w h.2

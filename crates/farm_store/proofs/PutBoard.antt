@@ -1,7 +1,6 @@
 -- The upsert of a board.
-use Rattle.std.proofs.Common.{refl, ◌≡◌, inl, ℕ, List, [], ◌∷◌, drop, codes, Option, None, ap, ap₂}
+use Rattle.std.proofs.Common.{refl, ◌≡◌, List, [], ◌∷◌, drop, codes, None, ap, ap₂}
 use Rattle.sqlite.specs.declared.types.Value.TheVariants.{Null, Int}
-use Rattle.sqlite.specs.declared.run.Mode.{Mode}
 use Rattle.sqlite.specs.Order.{Row}
 use Rattle.sqlite.specs.Tree.{Trees}
 use Rattle.sqlite.specs.Term.{Term, col}
@@ -22,12 +21,10 @@ use Rattle.sqlite_rules.specs.Action.{works}
 use Rattle.sqlite_rules.specs.Edit.{next_rowid}
 use Rattle.farm_types.specs.declared.rows.BoardRow.{BoardRow}
 use Rattle.farm_store.specs.declared.boards.TheConstants.{PUT}
-use Rattle.farm_store.specs.Columns.{board_columns, by_first}
+use Rattle.farm_store.specs.Columns.{board_columns}
 use Rattle.farm_store.specs.Places.{of_boards}
 use Rattle.farm_store.specs.Schema.{farm_schema, boards_table}
-use Rattle.farm_store.specs.Stored.{ListsRows, row_less_rowid}
-use Rattle.farm_store.proofs.Clause.{rowid_alone, others_fail, itself_passes}
-use Rattle.farm_store.proofs.KeyedUpsert.{the_clause, given, Decides, judge}
+use Rattle.farm_store.proofs.KeyedUpsert.{the_clause, judge}
 use Rattle.farm_store.proofs.PutAt.{boards_known}
 use Rattle.farm_store.proofs.Replace.{cast_null}
 use Rattle.farm_store.proofs.RowPuts.{Puts, keyed_terms, params}
@@ -45,7 +42,7 @@ alone : (db : Trees) → overlay db [] 2 ≡ db 2
 alone db = refl
 
 abbrev clause : Upsert
-clause = the_clause (codes "boards") 2 boards_table.columns 9 (rowid_alone 9) project still alone
+clause = the_clause (codes "boards") 2 boards_table.columns 9 project still alone
 
 put_is : command_of (understood farm_schema PUT.now) ≡ InsertOr 1 Abort (Values (keyed_terms of_boards) 10) (clause ∷ [])
 unfolding understood everything
@@ -55,17 +52,6 @@ put_plain : IsPlain (understood farm_schema PUT.now)
 unfolding understood everything
 put_plain = (refl, refl)
 
-module _ (r : BoardRow) (mode : Mode) (limit : Option ℕ) (db : Trees) (rows : List Row) (it : ListsRows by_first row_less_rowid 9 (db 2) rows) where
-  abbrev given_row : Row → Row
-  given_row = given (codes "boards") 2 boards_table.columns 9 (rowid_alone 9) project still alone (λ raw new. refl) (λ raw new. refl) mode limit db rows it r.name (drop 1 (board_columns r)) refl refl
-
-  decides : Decides (codes "boards") 2 boards_table.columns 9 (rowid_alone 9) project still alone (λ raw new. refl) (λ raw new. refl) mode limit db rows it r.name (drop 1 (board_columns r)) refl refl
-  decides = record {
-    source = λ raw. refl;
-    other = λ raw y keyed apart. others_fail db (given_row raw) raw 9 keyed refl y apart;
-    itself = λ raw h keyed tie. inl (itself_passes db (given_row raw) raw 9 keyed refl);
-  }
-
 pub puts_board : (r : BoardRow) → Puts of_boards PUT.now (board_columns r)
 puts_board r old new count T inside ran =
     let x = board_columns r in
@@ -73,5 +59,4 @@ puts_board r old new count T inside ran =
     let casts : cast_row boards_table (Null ∷ x) ≡ Null ∷ x = ap₂ ◌∷◌ cast_null (all_stay boards_table.columns x refl) in
     upserts of_boards boards_known (codes "boards") boards_table.columns None (1 ∷ []) ((1 ∷ []) ∷ []) (record { digits = 0 } ∷ []) 1 PUT.now (keyed_terms of_boards) 10 clause refl put_is put_plain old new x (Null ∷ x)
     (Int (next_rowid (db 2)) ∷ x) refl (ap (with_rowid Chosen (db 2)) casts) count T inside ran
-    (λ it. judge (codes "boards") 2 boards_table.columns 9 (rowid_alone 9) project still alone (λ raw new. refl) (λ raw new. refl) (mode_of old) old.step_limit db T.boards it r.name (drop 1 x) refl refl
-    (decides r (mode_of old) old.step_limit db T.boards it))
+    (λ it. judge (codes "boards") 2 boards_table.columns 9 project still alone (λ raw new. refl) (λ raw new. refl) (mode_of old) old.step_limit db T.boards it r.name (drop 1 x) refl refl (λ raw. refl) (λ raw. refl))

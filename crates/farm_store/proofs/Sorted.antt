@@ -3,7 +3,7 @@ use Rattle.std.proofs.Common.{refl, ◌≡◌, ◌≢◌, ◌⊎◌, inl, inr, L
 use Rattle.std.specs.List.{AllByRecursion}
 use Rattle.std.specs.Ordering.{match_ordering, ordering_reverse}
 use Rattle.std.specs.Cmp.{IsTotalOrder}
-use Rattle.std.proofs.lemmas.Cmp.{tied_back, tied_itself}
+use Rattle.std.proofs.lemmas.Cmp.{tied_back}
 use Rattle.sqlite_rules.specs.Lists.{Has}
 use Rattle.sqlite_rules.proofs.ListLemmas.{all_has}
 use Rattle.farm_types.specs.Table.{put}
@@ -76,15 +76,3 @@ module _ {X : Type 0} {cmp : X → X → Ordering} (total : IsTotalOrder cmp) wh
       go Equal is (inr later) more = inr (inr later, apart_if_below z x (total.congr x y z is ∙ all_has (λ b. cmp y b ≡ Less) ys z up.0 later))
       go Greater is (inl same) more = inr (inl same, apart_if_above z x (ap (λ w. cmp w x) same ∙ turned x y is))
       go Greater is (inr later) more = elim (more later) [ inl new ↦ inl new | inr old ↦ inr (inr old.0, old.1) ]
-
-  -- a row that is there is put in its own place
-  pub put_there : (x : X) (ys : List X) → IsStrict cmp ys → Has ys x → put cmp ys x ≡ ys
-  put_there x [] up h = absurd h
-  put_there x (y ∷ ys) up h = go (cmp x y) refl h (put_there x ys up.1)
-    where
-      go : (o : Ordering) → cmp x y ≡ o → Has (y ∷ ys) x → (Has ys x → put cmp ys x ≡ ys) → match_ordering o (x ∷ y ∷ ys) (x ∷ ys) (y ∷ put cmp ys x) ≡ y ∷ ys
-      go Less is (inl same) more = absurd (let e = sym is ∙ ap (cmp x) (sym same) ∙ tied_itself total x in cc)
-      go Less is (inr later) more = absurd (let e = sym (all_has (λ b. cmp y b ≡ Less) ys x up.0 later) ∙ total.antisymm y x ∙ ap ordering_reverse is in cc)
-      go Equal is here more = ap (λ z. z ∷ ys) (tie_same (y ∷ ys) x y up here (inl refl) is)
-      go Greater is (inl same) more = absurd (let e = sym is ∙ ap (cmp x) (sym same) ∙ tied_itself total x in cc)
-      go Greater is (inr later) more = ap (λ l. y ∷ l) (more later)

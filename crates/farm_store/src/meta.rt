@@ -37,10 +37,9 @@ pub(crate) const MAKE: &str = "\
 /// All rows, in order of their keys.
 const READ: &str = "SELECT name, value FROM meta ORDER BY name";
 
-/// Puts a row's value into the row with its key where that tells another one, or adds the row.
+/// Puts a row's value into the row with its key, or adds it.
 const PUT: &str = "\
-    INSERT INTO meta VALUES (?1, ?2) ON CONFLICT (name) DO UPDATE SET value = excluded.value \
-    WHERE value <> excluded.value";
+    INSERT INTO meta VALUES (?1, ?2) ON CONFLICT (name) DO UPDATE SET value = excluded.value";
 
 /// Writes the four numbers over those that are there, where they are others: one statement, which
 /// reads the table once.
