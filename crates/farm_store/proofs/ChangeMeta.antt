@@ -57,10 +57,9 @@ use Rattle.farm_store.proofs.Commute.{of_meta as numbers_put}
 use Rattle.farm_store.proofs.KeyedUpsert.{apart_same}
 use Rattle.farm_store.proofs.Keys.{equal_is_tied, first_total}
 use Rattle.farm_store.proofs.PutAt.{meta_known, stands_rewritten}
-use Rattle.farm_store.proofs.RaisesJobs.{all_up, all_keyed}
 use Rattle.farm_store.proofs.Replace.{went, same_value, cast_int, left_table}
 use Rattle.farm_store.proofs.Sorted.{tie_same}
-use Rattle.farm_store.proofs.UpdateRows.{changes, written_as, left, news, leaves, left_is, written, written_is}
+use Rattle.farm_store.proofs.UpdateRows.{changes, written_as, left, news, leaves, left_is, written, written_is, all_up, all_keyed}
 
 abbrev named : List ℕ → Term
 named name = op2 (Compare Eq Binary) (col 1 1) (lit (Text name))

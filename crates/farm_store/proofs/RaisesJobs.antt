@@ -1,22 +1,21 @@
 -- The statement that makes the rows of the jobs from one number to another those of the second edition.
-use Rattle.std.proofs.Common.{refl, ◌≡◌, ◌≢◌, ◌<◌, ◌≤◌, inl, inr, ℕ, pos, negsuc, List, [], ◌∷◌, ◌++◌, map, filter, flat_map, drop, codes, Bool, true, false, cond, ◌&&◌, None, Some, Ok, sym, ap, ap₂, subst, ◌∙◌, arith, ltb, Less, Greater, Equal}
+use Rattle.std.proofs.Common.{refl, ◌≡◌, ◌≢◌, ◌<◌, ◌≤◌, inl, inr, ℕ, pos, List, [], ◌∷◌, map, drop, codes, Bool, true, false, cond, ◌&&◌, None, Some, Ok, sym, ap, ap₂, subst, ◌∙◌, arith, ltb, Less, Greater, Equal}
 use Rattle.std.specs.Ordering.{int_cmp}
-use Rattle.std.specs.List.{AllByRecursion, list_all}
+use Rattle.std.specs.List.{AllByRecursion}
 use Rattle.std.proofs.lemmas.Bool.{cases_Bool, cases_lt, lt-ltb, le-ltb}
 use Rattle.std.proofs.lemmas.Cmp.{tied_itself}
-use Rattle.std.proofs.lemmas.List.Sorted.{IsPermutation-sym}
 use Rattle.sqlite.specs.declared.types.Value.{Value}
 use Rattle.sqlite.specs.declared.types.Value.TheVariants.{Null, Int}
 use Rattle.sqlite.specs.Order.{Row}
 use Rattle.sqlite.specs.Table.{Table}
 use Rattle.sqlite.specs.Tree.{Trees}
 use Rattle.sqlite.specs.Term.{Term, lit, col}
-use Rattle.sqlite.specs.Query.{Query, inner, end, Output, output, IsAnswer}
+use Rattle.sqlite.specs.Query.{Query, IsAnswer}
 use Rattle.sqlite.specs.Program.{overlay}
 use Rattle.sqlite.specs.Command.TheVariants.{Update}
 use Rattle.sqlite.specs.Cast.{cast_row}
 use Rattle.sqlite.specs.Rowids.TheVariants.{Given}
-use Rattle.sqlite.specs.Edit.{edit_of, are_fresh, without_all, put_all, row_at, id_in}
+use Rattle.sqlite.specs.Edit.{edit_of, are_fresh, put_all}
 use Rattle.sqlite.specs.Effect.{Database}
 use Rattle.sqlite.specs.Does.{Tally, Does}
 use Rattle.sqlite.specs.Listing.{understood}
@@ -25,8 +24,7 @@ use Rattle.sqlite.specs.Rows.{Written}
 use Rattle.sqlite.proofs.Callers.{IsPlain, command_of, statement_of, runs_as, one_step}
 use Rattle.sqlite_tied.specs.Compute.{everything}
 use Rattle.sqlite_sql.specs.Ops.{binary, from_truth, is_true, test}
-use Rattle.sqlite_sql.specs.Query.{matches}
-use Rattle.sqlite_sql.specs.Term.{op2, eval_all, holds}
+use Rattle.sqlite_sql.specs.Term.{op2}
 use Rattle.sqlite_sql.specs.declared.ops.BinaryOp.TheVariants.{Arith, Compare}
 use Rattle.sqlite_sql.specs.declared.ops.ArithOp.TheVariants.{Add, Rem}
 use Rattle.sqlite_sql.specs.declared.ops.CompareOp.TheVariants.{Ge, Gt, Lt}
@@ -35,16 +33,14 @@ use Rattle.sqlite_value.specs.Order.{value_cmp}
 use Rattle.sqlite_value.specs.declared.keys.Collation.TheVariants.{Binary}
 use Rattle.sqlite_value.proofs.OrderLemmas.{value_cmp_total, value_cmp-Int}
 use Rattle.sqlite_trees.specs.Objects.{catalog_tree}
-use Rattle.sqlite_trees.specs.Tree.{rowid, has_rowid, put_row, IsTable, IsAscending}
-use Rattle.sqlite_trees.specs.View.{is_int}
-use Rattle.sqlite_trees.proofs.TreeLemmas.{IsTable-put_row, all-put_row}
+use Rattle.sqlite_trees.specs.Tree.{rowid, IsTable, IsAscending}
 use Rattle.sqlite_catalog.specs.Listing.{AreListed}
 use Rattle.sqlite_rules.specs.Calls.{ids_of}
 use Rattle.sqlite_rules.specs.Lists.{Has}
-use Rattle.sqlite_rules.proofs.ListLemmas.{all_has, all_from, has_filtered, has_kept}
-use Rattle.sqlite_rules.proofs.PlaceLemmas.{given, left_or_taken, row_at_is}
+use Rattle.sqlite_rules.proofs.ListLemmas.{all_has, all_from}
+use Rattle.sqlite_rules.proofs.PlaceLemmas.{given}
 use Rattle.sqlite_rules.proofs.ProbeLemmas.{has_mapped, mapped_has}
-use Rattle.sqlite_rules.proofs.TableLemmas.{put_all_has, put_all_keeps, put_all_adds, without_all_has}
+use Rattle.sqlite_rules.proofs.TableLemmas.{put_all_has, put_all_keeps, put_all_adds}
 use Rattle.farm_types.specs.Codes.{job_state_code}
 use Rattle.farm_types.specs.Small.{IsSmallJob}
 use Rattle.farm_types.specs.declared.rows.JobRow.{JobRow}
@@ -58,10 +54,11 @@ use Rattle.farm_store.specs.Places.{of_jobs}
 use Rattle.farm_store.specs.Raising.{columns_below, edition_below, raised_below}
 use Rattle.farm_store.specs.Schema.{farm_schema, strict_table, jobs_table}
 use Rattle.farm_store.specs.Stored.{Differ, HasInt, IsStrict, IsWide, ListsRows, with_number}
-use Rattle.farm_store.proofs.Order.{permuted}
 use Rattle.farm_store.proofs.PutAt.{jobs_known, stands_rewritten}
-use Rattle.farm_store.proofs.Replace.{went, same_value, cast_int, has_own, left_lacks, left_table}
+use Rattle.farm_store.proofs.Replace.{went, same_value, cast_int, left_table}
+use Rattle.farm_store.proofs.Clause.{query as query_of}
 use Rattle.farm_store.proofs.Stays.{all_stay}
+use Rattle.farm_store.proofs.UpdateRows.{changes as passes_tests, written_as, left, news, leaves, left_is, written, written_is, all_up, all_keyed}
 
 abbrev tests : List Term
 tests = op2 (Compare Gt Binary) (col 1 9) (lit (Int (pos 0))) ∷ op2 (Compare Ge Binary) (col 1 0) (col 0 0) ∷ op2 (Compare Lt Binary) (col 1 0) (col 0 1) ∷ []
@@ -69,18 +66,11 @@ tests = op2 (Compare Gt Binary) (col 1 9) (lit (Int (pos 0))) ∷ op2 (Compare G
 abbrev new_state : Term
 new_state = op2 (Arith Add) (op2 (Arith Rem) (col 1 9) (lit (Int (pos 5)))) (lit (Int (pos 1)))
 
+abbrev project : List Term
+project = col 1 0 ∷ col 1 0 ∷ lit Null ∷ col 1 2 ∷ col 1 3 ∷ col 1 4 ∷ col 1 5 ∷ col 1 6 ∷ col 1 7 ∷ col 1 8 ∷ new_state ∷ col 1 10 ∷ col 1 11 ∷ col 1 12 ∷ []
+
 abbrev query : Query
-query = record {
-  from = inner 4 end;
-  filter = tests;
-  group = None;
-  project = col 1 0 ∷ col 1 0 ∷ lit Null ∷ col 1 2 ∷ col 1 3 ∷ col 1 4 ∷ col 1 5 ∷ col 1 6 ∷ col 1 7 ∷ col 1 8 ∷ new_state ∷ col 1 10 ∷ col 1 11 ∷ col 1 12 ∷ [];
-  distinct = false;
-  collations = [];
-  order = [];
-  limit = lit (Int (negsuc 0));
-  offset = lit (Int (pos 0));
-}
+query = query_of 4 tests project
 
 raise_is : command_of (understood farm_schema RAISE.now) ≡ Update 2 (record { lets = []; body = query })
 unfolding understood everything
@@ -201,14 +191,6 @@ is_first n r high = rw (le-ltb r.number n high) refl
 
 -- ---- tables by their numbers
 
-pub all_up : (news rows : List Row) → IsTable rows → IsTable (put_all rows news)
-all_up [] rows up = up
-all_up (n ∷ news) rows up = all_up news (put_row n rows) (IsTable-put_row n rows up)
-
-pub all_keyed : (news rows : List Row) → AllByRecursion HasInt news → AllByRecursion HasInt rows → AllByRecursion HasInt (put_all rows news)
-all_keyed [] rows own all = all
-all_keyed (n ∷ news) rows own all = all_keyed news (put_row n rows) own.1 (all-put_row HasInt n rows own.0 all)
-
 numbers_differ : (rows : List Row) → IsTable rows → IsAscending (Differ with_number) rows
 numbers_differ [] up = tt
 numbers_differ (r ∷ rows) up = (
@@ -236,15 +218,12 @@ module _ (from to : ℕ) (fits : from ≤ to) where
   abbrev bounds : Row
   bounds = Int (pos from) ∷ Int (pos to) ∷ []
 
-  -- a raw row passes the tests; what the query gives of it; and the row that is written
+  -- a raw row passes the tests, and the row that is written for it
   abbrev changes : Row → Bool
-  changes raw = list_all (holds (bounds ∷ raw ∷ [])) tests
-
-  abbrev given_of : Row → Row
-  given_of raw = eval_all query.project (bounds ∷ raw ∷ [])
+  changes = passes_tests table tests project bounds
 
   abbrev raised : Row → Row
-  raised raw = cast_row table (drop 1 (given_of raw))
+  raised = written_as table tests project bounds
 
   raises_raw : (w : Value) (r : JobRow) → grows Edition.First r.state ≡ true → raised (raw_in Edition.First w r) ≡ stored_in Edition.Second r
   raises_raw w r up = rw (grown_is r.state up) (stays r)
@@ -278,93 +257,15 @@ module _ (from to : ℕ) (fits : from ≤ to) where
     ]
   ]
 
-  -- ---- which rows the query gives
-
-  module _ (db : Trees) where
-    matched : (raws : List Row) → flat_map (λ r. matches (overlay db []) query.filter end (bounds ∷ r ∷ [])) raws ≡ map (λ r. bounds ∷ r ∷ []) (filter changes raws)
-    matched [] = refl
-    matched (r ∷ raws) =
-        elim (changes r) as (λ b. (cond b ((bounds ∷ r ∷ []) ∷ []) [] ++ flat_map (λ r. matches (overlay db []) query.filter end (bounds ∷ r ∷ [])) raws) ≡ map (λ r. bounds ∷ r ∷ []) (cond b (r ∷ filter changes raws) (filter changes raws))) [
-          | true ↦ ap (λ l. (bounds ∷ r ∷ []) ∷ l) (matched raws)
-          | false ↦ matched raws
-        ]
-
-    module _ (out : List Row) (a : IsAnswer query (overlay db []) bounds out) where
-      kept : a.kept ≡ map (output query) (map (λ r. bounds ∷ r ∷ []) (filter changes (db 4)))
-      kept = a.distinct ∙ ap (map (output query)) (a.grouped ∙ matched (db 4))
-
-      gives : (x : Row) → Has out x → (raw : Row) × Has (db 4) raw × (changes raw ≡ true) × (x ≡ given_of raw)
-      gives x h =
-          let o = has_mapped (λ (it : Output). it.1) a.ordered x (subst (λ l. Has l x) a.shown h) in
-          let k = subst (λ l. Has l o.0) kept (permuted a.kept a.ordered a.same o.0 o.1) in
-          let e = has_mapped (output query) (map (λ r. bounds ∷ r ∷ []) (filter changes (db 4))) o.0 k in
-          let r = has_mapped (λ (r : Row). bounds ∷ r ∷ []) (filter changes (db 4)) e.0 e.1 in
-          let f = has_filtered changes (db 4) r.0 r.1 in
-          (r.0, f.0, f.1, o.2 ∙ ap (λ (it : Output). it.1) (e.2 ∙ ap (output query) r.2))
-
-      gives_all : (raw : Row) → Has (db 4) raw → changes raw ≡ true → Has out (given_of raw)
-      gives_all raw h up =
-          let e = mapped_has (λ (r : Row). bounds ∷ r ∷ []) (filter changes (db 4)) raw (has_kept changes (db 4) raw h up) in
-          let k = mapped_has (output query) (map (λ r. bounds ∷ r ∷ []) (filter changes (db 4))) (bounds ∷ raw ∷ []) e in
-          let o = permuted a.ordered a.kept (IsPermutation-sym a.kept a.ordered a.same) (output query (bounds ∷ raw ∷ [])) (subst (λ l. Has l (output query (bounds ∷ raw ∷ []))) (sym kept) k) in
-          subst (λ l. Has l (given_of raw)) (sym a.shown) (mapped_has (λ (it : Output). it.1) a.ordered (output query (bounds ∷ raw ∷ [])) o)
-
-      -- ---- which rows are left, and which are written
-
-      module _ (up : IsTable (db 4)) (keyed : AllByRecursion HasInt (db 4)) where
-        abbrev left : List Row
-        left = without_all (db 4) (ids_of out)
-
-        abbrev news : List Row
-        news = map (λ s. cast_row table (drop 1 s)) out
-
-        keyed_at : (raw : Row) → Has (db 4) raw → is_int (rowid raw) ≡ true
-        keyed_at raw h = all_has HasInt (db 4) raw keyed h
-
-        leaves : (raw : Row) → Has (db 4) raw → changes raw ≡ false → Has left raw
-        leaves raw h level = elim (left_or_taken (db 4) (ids_of out) raw up h) [
-          | inl still ↦ still
-          | inr taken ↦
-              let m = has_mapped (row_at (db 4)) (ids_of out) raw taken in
-              let i = has_mapped (λ x. id_in (rowid x)) out m.0 m.1 in
-              let s = gives i.0 i.1 in
-              let id : m.0 ≡ id_in (rowid s.0) = i.2 ∙ ap (λ x. id_in (rowid x)) s.3 in
-              let own : has_rowid m.0 s.0 ≡ true = subst (λ k. has_rowid k s.0 ≡ true) (sym id) (has_own s.0 (keyed_at s.0 s.1)) in
-              let same : raw ≡ s.0 = m.2 ∙ row_at_is (db 4) m.0 s.0 up s.1 own in
-              absurd (let e = sym s.2 ∙ sym (ap changes same) ∙ level in cc)
-        ]
-
-        left_is : (raw : Row) → Has left raw → Has (db 4) raw × (changes raw ≡ false)
-        left_is raw h =
-            let was = without_all_has (ids_of out) (db 4) raw h in (
-              was,
-              elim (cases_Bool (changes raw)) [
-                | inl above ↦
-                    let id = mapped_has (λ x. id_in (rowid x)) out (given_of raw) (gives_all raw was above) in
-                    let e = sym (has_own raw (keyed_at raw was)) ∙ left_lacks (ids_of out) (db 4) raw h (id_in (rowid raw)) id in
-                    absurd (let no : true ≡ false = e in cc)
-                | inr level ↦ level
-              ],
-            )
-
-        written : (raw : Row) → Has (db 4) raw → changes raw ≡ true → Has news (raised raw)
-        written raw h above = mapped_has (λ s. cast_row table (drop 1 s)) out (given_of raw) (gives_all raw h above)
-
-        written_is : (y : Row) → Has news y → (raw : Row) × Has (db 4) raw × (changes raw ≡ true) × (y ≡ raised raw)
-        written_is y h =
-            let s = has_mapped (λ s. cast_row table (drop 1 s)) out y h in
-            let g = gives s.0 s.1 in
-            (g.0, g.1, g.2, s.2 ∙ ap (λ s. cast_row table (drop 1 s)) g.3)
-
   -- ---- the table after
 
   module _ (db : Trees) (jobs : List JobRow) (it : ListsRows by_first with_number 12 (db 4) (map (columns_below from) jobs)) (out : List Row) (a : IsAnswer query (overlay db []) bounds out)
-      (fresh : are_fresh (left db out a it.ordered it.keyed) (news db out a it.ordered it.keyed) ≡ true) where
+      (fresh : are_fresh (left table tests project bounds (λ raw. refl) db refl out a) (news table tests project bounds (λ raw. refl) db refl out a) ≡ true) where
     abbrev rest : List Row
-    rest = left db out a it.ordered it.keyed
+    rest = left table tests project bounds (λ raw. refl) db refl out a
 
     abbrev new : List Row
-    new = news db out a it.ordered it.keyed
+    new = news table tests project bounds (λ raw. refl) db refl out a
 
     abbrev rows : List Row
     rows = put_all rest new
@@ -375,13 +276,13 @@ module _ (from to : ℕ) (fits : from ≤ to) where
 
     new_is : (y : Row) → Has new y → (r : JobRow) × Has jobs r × (y ≡ stored_in (edition_below to r) r)
     new_is y h =
-        let w = written_is db out a it.ordered it.keyed y h in
+        let w = written_is table tests project bounds (λ raw. refl) db refl out a it.ordered it.keyed y h in
         let j = job_of w.0 w.1 in
         (j.0, j.1, w.3 ∙ raised_is w.0 j.0 j.2 w.2)
 
     still_is : (y : Row) → Has rest y → (r : JobRow) × Has jobs r × (with_number y ≡ columns_below to r)
     still_is y h =
-        let l = left_is db out a it.ordered it.keyed y h in
+        let l = left_is table tests project bounds (λ raw. refl) db refl out a it.ordered it.keyed y h in
         let j = job_of y l.0 in
         (j.0, j.1, same_is y j.0 j.2 l.1)
 
@@ -395,8 +296,8 @@ module _ (from to : ℕ) (fits : from ≤ to) where
     has_job r h =
         let was = it.sound (columns_below from r) (mapped_has (columns_below from) jobs r h) in
         elim (cases_Bool (changes was.0)) [
-          | inl above ↦ (raised was.0, put_all_adds new rest (raised was.0) fresh (written db out a it.ordered it.keyed was.0 was.1 above), ap with_number (raised_is was.0 r was.2 above))
-          | inr level ↦ (was.0, put_all_keeps new rest was.0 fresh (leaves db out a it.ordered it.keyed was.0 was.1 level), same_is was.0 r was.2 level)
+          | inl above ↦ (raised was.0, put_all_adds new rest (raised was.0) fresh (written table tests project bounds (λ raw. refl) db refl out a it.ordered it.keyed was.0 was.1 above), ap with_number (raised_is was.0 r was.2 above))
+          | inr level ↦ (was.0, put_all_keeps new rest was.0 fresh (leaves table tests project bounds (λ raw. refl) db refl out a it.ordered it.keyed was.0 was.1 level), same_is was.0 r was.2 level)
         ]
 
     ordered : IsTable rows
@@ -434,8 +335,8 @@ raises old new count from to T jobs fits at ran =
     let edit = edit_of db table (ids_of out) Given 1 out in
     let applied = one_step farm_schema mode.keys db wrote.0 edit refl wrote.1 in
     let trees : new.now.trees ≡ wrote.0 = ap (λ (d : Database). d.trees) now ∙ ap (λ (it : Written). it.trees) (same_value wrote.2) in
-    let rest = left from to fits db out a it.ordered it.keyed in
-    let wanted = news from to fits db out a it.ordered it.keyed in
+    let rest = left table tests project (bounds from to fits) (λ raw. refl) db refl out a in
+    let wanted = news table tests project (bounds from to fits) (λ raw. refl) db refl out a in
     let fresh : are_fresh rest wanted ≡ true = subst (λ l. are_fresh rest l ≡ true) (given rest wanted) applied.fresh in
     let rows : new.now.trees 4 ≡ put_all rest wanted = ap (λ (t : Trees). t 4) trees ∙ applied.rows ∙ ap (put_all rest) (given rest wanted) in
     stands_rewritten of_jobs jobs_known old new (raised_below from jobs T) (map (columns_below to) jobs) (record {

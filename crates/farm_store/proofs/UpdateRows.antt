@@ -10,11 +10,12 @@ use Rattle.sqlite.specs.Term.{Term}
 use Rattle.sqlite.specs.Query.{Query, end, Output, output, IsAnswer}
 use Rattle.sqlite.specs.Program.{overlay}
 use Rattle.sqlite.specs.Cast.{cast_row}
-use Rattle.sqlite.specs.Edit.{without_all, row_at, id_in}
+use Rattle.sqlite.specs.Edit.{put_all, without_all, row_at, id_in}
 use Rattle.sqlite_sql.specs.Query.{matches}
 use Rattle.sqlite_sql.specs.Term.{eval_all, holds}
-use Rattle.sqlite_trees.specs.Tree.{rowid, has_rowid, IsTable}
+use Rattle.sqlite_trees.specs.Tree.{rowid, has_rowid, put_row, IsTable}
 use Rattle.sqlite_trees.specs.View.{is_int}
+use Rattle.sqlite_trees.proofs.TreeLemmas.{IsTable-put_row, all-put_row}
 use Rattle.sqlite_rules.specs.Calls.{ids_of}
 use Rattle.sqlite_rules.specs.Lists.{Has}
 use Rattle.sqlite_rules.proofs.ListLemmas.{all_has, has_filtered, has_kept}
@@ -114,3 +115,13 @@ module _ (table : Table) (tests project : List Term) (params : Row) where
             let s = has_mapped (λ s. cast_row table (drop 1 s)) out y h in
             let g = gives s.0 s.1 in
             (g.0, g.1, g.2, s.2 ∙ ap (λ s. cast_row table (drop 1 s)) g.3)
+
+-- ---- tables by their rowids
+
+pub all_up : (news rows : List Row) → IsTable rows → IsTable (put_all rows news)
+all_up [] rows up = up
+all_up (n ∷ news) rows up = all_up news (put_row n rows) (IsTable-put_row n rows up)
+
+pub all_keyed : (news rows : List Row) → AllByRecursion HasInt news → AllByRecursion HasInt rows → AllByRecursion HasInt (put_all rows news)
+all_keyed [] rows own all = all
+all_keyed (n ∷ news) rows own all = all_keyed news (put_row n rows) own.1 (all-put_row HasInt n rows own.0 all)
