@@ -14,7 +14,7 @@ use Rattle.farm_keep.specs.Kept.{Kept, Keeps}
 use Rattle.farm_keep.specs.declared.fault.KeepFault.{KeepFault}
 use Rattle.farm_order.specs.declared.order.Database.{Database}
 use Rattle.farm_order.specs.declared.order.Order.{Order}
-use Rattle.farm_desk.specs.Conversations.{AnswersOne, Desk, desk}
+use Rattle.farm_desk.specs.Conversations.{Desk, desk}
 use Rattle.farm_desk.specs.InFiles.{FindsFarm, GivesReason, IsOpenFault, LooksForFarmIn, MakesFarm}
 use Rattle.farm_desk.specs.Lines.{migrated_line, ready_line, PrintsLine}
 use Rattle.farm_desk.specs.Tasks.{DoesTask}
