@@ -1,18 +1,22 @@
 #!/bin/sh
-# Times everything beside its peers, in rounds that alternate: sh bench/all.sh bin/farm [ROUNDS]
-# It wants a machine with nothing else to do, cc, SQLite's header, library and shell, and gnuplot; with five
-# rounds it takes half an hour. What is timed in memory wants crates/farm_bench/out/farm_bench (make test leaves it).
+# Measures everything beside its peers: sh bench/all.sh bin/farm [ROUNDS]
+# First the table of instructions and memory, on one screen, which a busy machine leaves as it is; then, with ROUNDS,
+# the times, in so many rounds that alternate: they want a machine with nothing else to do, and with five rounds half
+# an hour. It wants cc, SQLite's header, library and shell, valgrind (else the table tells times), and gnuplot for the
+# times; and crates/farm_bench/out/farm_bench, which make test leaves.
 set -eu
 farm=$(realpath "$1")
-rounds=${2:-5}
 cd "$(dirname "$0")/.."
+passes=$PWD/crates/farm_bench/out/farm_bench
+[ -x "$passes" ] || (cd crates/farm_bench && rt run > /dev/null)
 folder=$(mktemp -d ./bench-XXXXXX)
 trap 'rm -r "$folder"' EXIT
+sh bench/reader.sh "$folder/kit_reader"
+python3 bench/table.py "$farm" "$passes" "$folder/kit_reader" "$folder"
+[ $# -gt 1 ] || exit 0
 for what in commands views open full waiting migrate growth; do
     echo "== $what"
-    python3 bench/compare.py "$what" "$farm" "$folder" "$rounds"
+    python3 bench/compare.py "$what" "$farm" "$folder" "$2"
 done
-if [ -x crates/farm_bench/out/farm_bench ]; then
-    echo "== passes"
-    python3 bench/compare.py passes crates/farm_bench/out/farm_bench "$folder" "$rounds"
-fi
+echo "== passes"
+python3 bench/compare.py passes "$passes" "$folder" "$2"

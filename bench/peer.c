@@ -10,6 +10,9 @@
    With `raise` it makes the tables of the first edition those of the second instead, as `farm migrate`
    does: all jobs are read, and written with their new codes in one transaction, which it times.
 
+   Under callgrind the instructions of the last 64 calls of each command, or of its one call, are dumped under
+   its name.
+
    usage: peer FILE TURNS     FILE has 64 waiting reservations, numbered from 1 on
           peer FILE raise     FILE is of the first edition */
 #define _GNU_SOURCE
@@ -18,6 +21,12 @@
 #include <stdlib.h>
 #include <string.h>
 #include <time.h>
+#if __has_include(<valgrind/callgrind.h>)
+#include <valgrind/callgrind.h>
+#else
+#define CALLGRIND_ZERO_STATS
+#define CALLGRIND_DUMP_STATS_AT(name)
+#endif
 
 enum { BOARDS = 64, BODY = 300 };
 enum { SUBMITTED = 0, SCHEDULED = 2, RUNNING = 3, FINISHED = 5 }; /* a job's states */
@@ -135,6 +144,7 @@ static void make_good(long first, int place) { (void)first; board(place, 0, 0, 0
 static void start(long first, int place) { board(place, 0, 2, first + place, 0); job(first + place, RUNNING, 0, place); }
 static void finish(long first, int place) { board(place, 0, 0, 0, 1); job(first + place, FINISHED, 1, place); }
 static void reserve(long first, int place) { (void)first, (void)place; reservation(next_number++, 0); }
+static void reserve_keyed(long first, int place) { reserve(first, place); kept(next_number - 1); }
 static void cancel(long first, int place) { reservation(first + place, 4); }
 
 static void submit(long first, int place) {
@@ -164,8 +174,8 @@ static struct series commands[] = {
     {.name = "add_board", .rows = add_board}, {.name = "pass_ends_64", .rows = pass_that_ends},
     {.name = "submit_keyed", .rows = submit}, {.name = "pass_serves_64", .rows = pass_that_serves},
     {.name = "start", .rows = start},         {.name = "finish", .rows = finish},
-    {.name = "reserve", .rows = reserve}};
-enum { ADD_BOARD, PASS_ENDS, SUBMIT, PASS_SERVES, START, FINISH, RESERVE, COMMANDS };
+    {.name = "reserve", .rows = reserve},     {.name = "reserve_keyed", .rows = reserve_keyed}};
+enum { ADD_BOARD, PASS_ENDS, SUBMIT, PASS_SERVES, START, FINISH, RESERVE, RESERVE_KEYED, COMMANDS };
 
 /* A command is one transaction. */
 static void transact(void (*rows)(long, int), long first, int place) {
@@ -178,11 +188,13 @@ static void transact(void (*rows)(long, int), long first, int place) {
 /* A command so many times, on rows from `first` on. */
 static void take(int which, long first, int times) {
     struct series *it = &commands[which];
+    CALLGRIND_ZERO_STATS;
     for (int i = 0; i < times; i++) {
         double since = now();
         transact(it->rows, first, i);
         if (it->n < MOST) it->took[it->n++] = now() - since;
     }
+    CALLGRIND_DUMP_STATS_AT(it->name);
 }
 
 static void leave(void (*rows)(long, int), long first, int times) {
@@ -289,6 +301,9 @@ int main(int words, char **word) {
         take(FINISH, first, BOARDS);
         first = next_number;
         take(RESERVE, first, BOARDS);
+        leave(cancel, first, BOARDS);
+        first = next_number;
+        take(RESERVE_KEYED, first, BOARDS);
         leave(cancel, first, BOARDS);
     }
     for (struct series *it = commands; it < commands + COMMANDS; it++) {

@@ -16,35 +16,46 @@ limited() {
 }
 
 # Runs scripts one after another, but those in `left_out`; what each says and how it ends stands in the folder.
-# (those that go by chance are run longer by hand, as each says)
+# SCRIPT@KofN is the Kth of N parts of a script's rows. (those that go by chance are run longer by hand, as each says)
 trying() {
     for script in "$@"; do
-        case " ${left_out-} " in *" $script "*) continue ;; esac
-        case $script in
-            gate/surface.py) set -- python3 "tests/$script" ;;
-            oracle/generated.py) set -- python3 "tests/$script" "$player" ;;
-            faults/refused_memory.sh) set -- sh "tests/$script" "$farm" "$player" ;;
-            oracle/malformed.py) set -- python3 "tests/$script" "$farm" 5000 ;;
-            faults/kills.py) set -- python3 "tests/$script" "$farm" 100 ;;
-            tools/backup.py) set -- python3 "tests/$script" "$farm" 24 2 ;;
-            faults/power_cuts.py) set -- python3 "tests/$script" "$farm" 200 ;;
-            *.py) set -- python3 "tests/$script" "$farm" ;;
-            *) set -- sh "tests/$script" "$farm" ;;
+        file=${script%@*}
+        part=${script#"$file"}
+        case " ${left_out-} " in *" $file "*) continue ;; esac
+        case $file in
+            gate/surface.py) set -- python3 "tests/$file" ;;
+            oracle/generated.py) set -- python3 "tests/$file" "$player" ;;
+            faults/refused_memory.sh) set -- sh "tests/$file" "$farm" "$player" ;;
+            oracle/malformed.py) set -- python3 "tests/$file" "$farm" 5000 ;;
+            faults/kills.py) set -- python3 "tests/$file" "$farm" 100 ;;
+            tools/backup.py) set -- python3 "tests/$file" "$farm" 24 2 ;;
+            faults/power_cuts.py) set -- python3 "tests/$file" "$farm" 200 ;;
+            *.py) set -- python3 "tests/$file" "$farm" ;;
+            *) set -- sh "tests/$file" "$farm" ;;
         esac
+        export FARM_TEST_PART="${part#@}"
         limited "scripts over the program" "$@" > "$folder/$script.said" 2>&1
         echo $? > "$folder/$script.status"
     done
 }
 
-# A lane a line: those that run the program most, those of a moment, and those that mostly wait, one or a few a lane.
-lanes='faults/refused_memory.sh faults/power_cuts.py oracle/generated.py
-gate/surface.py program/words.sh program/statuses.sh program/mistakes.sh faults/moved_files.py program/upgrade.sh program/examples.sh program/using.sh program/api.py program/shell.sh program/real_clients.sh program/sockets.py program/crowds.py oracle/malformed.py faults/kills.py
+# A lane a line: first those that take longest, most of it waiting, of which the two longest go in two parts each;
+# then those that run the program most, and those of a moment, some a lane.
+lanes='tools/dispatch.py@1of2
+tools/dispatch.py@2of2
+tools/watch.py@1of2
+tools/watch.py@2of2
+tools/boards_run.py
 tools/client.py
-tools/watch.py
-tools/dispatch.py
-tools/backup.py tools/metrics.py tools/importers.py tools/boards_run.py
-tools/page.py tools/page_work.py tools/page_past.py tools/proxy.py
-tools/python_client.py program/openapi.py tools/manual.py tools/unit.py program/package.sh'
+tools/python_client.py
+tools/page.py tools/page_past.py
+tools/page_work.py tools/proxy.py
+faults/refused_memory.sh
+faults/power_cuts.py oracle/generated.py
+program/crowds.py program/openapi.py program/package.sh program/sockets.py program/real_clients.sh
+oracle/malformed.py faults/kills.py faults/moved_files.py program/upgrade.sh gate/surface.py tools/unit.py tools/manual.py
+program/words.sh program/statuses.sh program/mistakes.sh program/examples.sh program/using.sh program/api.py program/shell.sh
+tools/backup.py tools/metrics.py tools/importers.py'
 
 # Runs them all, prints what they said, and adds how they ended to `passed` and `failed`; `wrong` are those that failed.
 run_lanes() {

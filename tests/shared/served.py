@@ -67,6 +67,16 @@ def free_port():
         return taken.getsockname()[1]
 
 
+def rows_of_part(rows, part=None):
+    """The rows that a script has to try: all, or of some parts that together have all, as KofN says
+    or the environment's FARM_TEST_PART, the Kth."""
+    part = os.environ.get("FARM_TEST_PART", "") if part is None else part
+    if not part:
+        return rows
+    place, parts = (int(it) for it in part.split("of"))
+    return rows[place - 1::parts]
+
+
 def environment(**more):
     """The environment without settings of the tools, and with a home that has none. The tools keep
     their bytecode, as a user's do, since they are started some hundred times."""

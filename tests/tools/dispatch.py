@@ -26,7 +26,7 @@ import time
 
 sys.path.insert(0, os.path.join(os.path.dirname(os.path.abspath(__file__)), "../shared"))
 import dispatch_history  # noqa: E402
-from served import TOOLS, TOP, Farm, Tool, demand, free_port, read, wait_until  # noqa: E402
+from served import TOOLS, TOP, Farm, Tool, demand, free_port, read, rows_of_part, wait_until  # noqa: E402
 
 # Runs the line `run = '..'` of a job's text, and notes that it began and ended.
 COMMAND = """#!/bin/sh
@@ -1166,7 +1166,7 @@ if __name__ == "__main__":
         sys.exit(77)
     with tempfile.TemporaryDirectory() as room:
         try:
-            for row in ROWS:
+            for row in rows_of_part(ROWS):
                 print(f"dispatch: {row(room)}", flush=True)
         finally:
             end_commands(room)

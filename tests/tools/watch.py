@@ -21,7 +21,7 @@ import time
 sys.path.insert(0, os.path.join(os.path.dirname(os.path.abspath(__file__)), "../shared"))
 import watch_told  # noqa: E402
 from desks import GROUP, write  # noqa: E402
-from served import TOOLS, TOP, Tool, calls_in_one, demand, environment, free_port, wait_until  # noqa: E402
+from served import TOOLS, TOP, Tool, calls_in_one, demand, environment, free_port, rows_of_part, wait_until  # noqa: E402
 from watched import HOUR, Watched  # noqa: E402
 
 WATCH = os.path.join(TOOLS, "farm-watch")
@@ -536,5 +536,5 @@ if __name__ == "__main__":
         print("watch: not tried, since there is no 127.0.0.1")
         sys.exit(77)
     with tempfile.TemporaryDirectory() as place_of_all:
-        for row in ROWS:
+        for row in rows_of_part(ROWS):
             print(f"watch: {row(place_of_all)}", flush=True)
