@@ -334,7 +334,8 @@ def full(room):
     lab.start()
     lab.door.change["/status"] = {"jobs": 50000, "reservations": 45000}
     lab.mails([first, ("lab@lab.example", "farm: the farm is 95 % full")])
-    said = next(it for it in lab.hook.messages() if it["level"] == 95)
+    said = wait_until("the message of 95 %", lambda: [
+        it for it in lab.hook.messages() if it["level"] == 95])[0]
     demand("a message's facts", (50000, 45000), (said["jobs"], said["reservations"]))
     lab.end()
     return "a farm that is 80 and 95 % full, by rows or the replies that they take, is told once"
