@@ -1,6 +1,6 @@
 # make run    plays a day of a lab, requests and answers, in a build without proofs
 # make bin    proves and builds the program, and leaves it at bin/farm
-# make check  between edits: transcripts, tests and scripts over builds without proofs; under ten minutes, and nothing is proved
+# make check  between edits: transcripts, tests and scripts over builds without proofs; some ten minutes, and nothing is proved
 # make test   every proof, named wrong body, test and program, from nothing (rt ci), then the scripts of tests/
 # make wrong  the further wrong bodies of wrong/, many to a check, over what make test or make bin proved
 # make deb    the Debian packages of bin/farm and the tools, in bin/
