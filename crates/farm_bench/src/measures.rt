@@ -30,7 +30,8 @@ struct Done {
     nanos: u64,
 }
 
-fn farm_of(rows: Rows) -> anyhow::Result<Farm> {
+/// A farm that takes these rows.
+pub fn farm_of(rows: Rows) -> anyhow::Result<Farm> {
     match Farm::from_rows(rows) {
         Ok(farm) => Ok(farm),
         Err(_) => bail!("unsound rows"),
@@ -56,7 +57,7 @@ fn proper_pass() -> Cmd
 }
 
 /// A pass at a moment.
-fn pass_at(alloc: Global, now: u64) -> anyhow::Result<Call> {
+pub fn pass_at(alloc: Global, now: u64) -> anyhow::Result<Call> {
     let caller = boards::name(alloc, "dispatcher")?;
     Ok(Call::new(caller, None, now, proper_pass()))
 }

@@ -1,5 +1,4 @@
 //! The farms that take their rows, pass and list their queues.
-use crate::boards::{MOST, RARE};
 use crate::measures::{Deed, measure};
 use crate::rows::{Front, IDLE, LEASE, NOW, Shape};
 use crate::watch::Watch;
@@ -11,19 +10,11 @@ const PASS: Deed = Deed::Pass(NOW);
 fn run_claims(watch: &Watch<'_>, heading: &str, shape: &Shape) -> anyhow::Result<()> {
     watch.begin(heading)?;
     measure(watch, "boards fit", shape, PASS)?;
-    let rare = Shape {
-        rare: true,
-        away: RARE,
-        ..*shape
-    };
+    let rare = shape.unfit();
     measure(watch, "no free board fits", &rare, PASS)?;
     let few = Shape { away: 1, ..rare };
     measure(watch, "three boards fit", &few, PASS)?;
-    let none = Shape {
-        away: MOST,
-        ..*shape
-    };
-    measure(watch, "no board is free", &none, PASS)
+    measure(watch, "no board is free", &shape.busy(), PASS)
 }
 
 /// Passes over single jobs behind a group of four of which one board is in maintenance, and behind

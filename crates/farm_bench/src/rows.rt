@@ -56,6 +56,25 @@ pub const IDLE: Shape = Shape {
     front: Front::Nobody,
 };
 
+impl Shape {
+    /// The same where no free board fits: each claim wants the tag of the boards in maintenance.
+    pub fn unfit(self) -> Shape {
+        Shape {
+            rare: true,
+            away: boards::RARE,
+            ..self
+        }
+    }
+
+    /// The same where no board is free.
+    pub fn busy(self) -> Shape {
+        Shape {
+            away: boards::MOST,
+            ..self
+        }
+    }
+}
+
 /// The next free number, which is taken.
 fn take_number(rows: &mut Rows) -> u64 {
     let number = rows.meta.next;
