@@ -11,12 +11,12 @@ use Rattle.farm_types.specs.declared.fault.WordFault.{WordFault}
 use Rattle.farm_types.specs.declared.fault.WordFault.TheVariants.{Refused, NoMemory}
 use Rattle.farm_types.specs.declared.refusal.Refusal.{Refusal}
 use Rattle.farm_types.proofs.WordLemmas.{and_parts}
-use Rattle.farm_types.specs.Reads.{◌>>=◌, FaultOrNoMemory}
+use Rattle.farm_types.specs.Reads.{◌>>=◌, FaultOrNoMemory, code_told}
 use Rattle.farm_jobfile.specs.Reading.{Fault}
 use Rattle.farm_jobfile.specs.Lab.{LabCall, entries_of}
 
 -- a word is not refused
-pub word_taken : (most : ℕ) (text : List ℕ) (code : ℕ) (fault : WordFault) (refusal : Refusal) → fault ≡ Refused refusal → is_word most text ≡ true → FaultOrNoMemory fault (word_or (is_word most text) text code) → ⊥
+pub word_taken : (most : ℕ) (text : List ℕ) (code : ℕ) (fault : WordFault) (refusal : Refusal) → fault ≡ Refused refusal → is_word most text ≡ true → FaultOrNoMemory (code_told fault) (word_or (is_word most text) text code) → ⊥
 word_taken most text code NoMemory refusal e is h = cc
 word_taken most text code (Refused r) refusal e is h = by (is_word most text) is h
   where

@@ -1,5 +1,5 @@
 -- What reading a file gives: a value, or the first fault.
-use Rattle.std.specs.Prelude.{◌≡◌, ℕ, Option, Some, None, Result, Ok, Err}
+use Rattle.std.specs.Prelude.{ℕ, Option, Some, None, Result, Ok, Err}
 use Rattle.farm_types.specs.declared.fault.WordFault.{WordFault}
 use Rattle.farm_types.specs.Refusals.{bad_job_file, bad_lab_file, no_memory}
 use Rattle.farm_jobfile.specs.declared.fault.FileKind.{FileKind}
@@ -46,13 +46,8 @@ abbrev pub kind_or : {A : Type 0} → FileKind → Option A → Result A Fault
 kind_or file None = Err (bad file Reason.WrongKind)
 kind_or file (Some x) = Ok x
 
--- the fault is the text's, unless memory ran out
-abbrev pub FaultOrNoMemory : {Y : Type 0} → FileFault → Result Y Fault → Type 0
-FaultOrNoMemory FileFault.NoMemory spelled = Unit {0}
-FaultOrNoMemory (FileFault.Word refusal) spelled = spelled ≡ Err (word refusal.code)
-FaultOrNoMemory (FileFault.Bad kind reason) spelled = spelled ≡ Err (bad kind reason)
-
--- what a reader returned, seen by `view`, is what the text spells: a value, or its first fault
-abbrev pub OrNoMemory : {X Y : Type 0} → (X → Y) → Result X FileFault → Result Y Fault → Type 0
-OrNoMemory view (Ok x) spelled = spelled ≡ Ok (view x)
-OrNoMemory view (Err fault) spelled = FaultOrNoMemory fault spelled
+-- a file's fault tells one of the text, unless memory ran out
+abbrev pub fault_told : FileFault → Option Fault
+fault_told (FileFault.Bad kind reason) = Some (bad kind reason)
+fault_told (FileFault.Word refusal) = Some (word refusal.code)
+fault_told FileFault.NoMemory = None

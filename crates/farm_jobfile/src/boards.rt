@@ -2,7 +2,8 @@
 ghost use Rattle.std.specs.Prelude.{◌≢◌, map, Err, IsTrue, IfOk};
 ghost use Rattle.toml.specs.View.{view, table_view};
 ghost use Rattle.farm_types.specs.Proper.{has_no_name_tag};
-ghost use Rattle.farm_jobfile.specs.Reading.{OrNoMemory};
+ghost use Rattle.farm_types.specs.Reads.{OrNoMemory};
+ghost use Rattle.farm_jobfile.specs.Reading.{fault_told};
 ghost use Rattle.farm_jobfile.specs.Lab.{entry_of, own_tags, board_in, entries_of};
 
 use crate::call::call_of;
@@ -14,7 +15,7 @@ use toml::{Table, Value};
 
 /// The tags as a board's own, none with the key `name`.
 fn own_tags(tags: Tags) -> Result<Tags, FileFault>
-    ensures tags { OrNoMemory (λ tags. tags) result (own_tags tags) }
+    ensures tags { OrNoMemory fault_told (λ tags. tags) result (own_tags tags) }
     ensures own { IfOk result (λ tags. IsTrue (has_no_name_tag tags)) }
     ensures memory { result ≢ Err FileFault.NoMemory }
 {
@@ -28,7 +29,7 @@ fn own_tags(tags: Tags) -> Result<Tags, FileFault>
 /// The call that adds one board.
 #[tactic(auto, unfolding(crate::specs::Lab::board_in))]
 fn board_of(alloc: Global, name: &str, value: &Value, now: u64) -> Result<Call, FileFault>
-    ensures { OrNoMemory (λ call. entry_of call) result (board_in now name.now (view value.now)) }
+    ensures { OrNoMemory fault_told (λ call. entry_of call) result (board_in now name.now (view value.now)) }
 {
     let board = name_of(alloc, name)?;
     let _table = table_of(FileKind::LabFile, value)?;
@@ -45,7 +46,7 @@ fn board_of(alloc: Global, name: &str, value: &Value, now: u64) -> Result<Call, 
 
 /// The calls that add the boards of a table, which has them in byte order.
 pub(crate) fn boards_of(alloc: Global, table: &Table, now: u64) -> Result<Vec<Call>, FileFault>
-    ensures { OrNoMemory (λ calls. map entry_of calls.items) result
+    ensures { OrNoMemory fault_told (λ calls. map entry_of calls.items) result
         (entries_of (board_in now) (table_view table.now)) }
 {
     let mut calls = Vec::new(alloc);

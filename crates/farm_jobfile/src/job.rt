@@ -2,7 +2,8 @@
 ghost use Rattle.std.specs.Prelude.{◌≡◌, ◌≢◌, Err, IsTrue, IfOk};
 ghost use Rattle.toml.specs.View.{view};
 ghost use Rattle.farm_types.specs.Proper.{is_proper_cmd};
-ghost use Rattle.farm_jobfile.specs.Reading.{OrNoMemory};
+ghost use Rattle.farm_types.specs.Reads.{OrNoMemory};
+ghost use Rattle.farm_jobfile.specs.Reading.{fault_told};
 ghost use Rattle.farm_jobfile.specs.Job.{title_or, title_in, single_in, members_in, job};
 
 use crate::document::{text_of, tree_of};
@@ -19,7 +20,7 @@ use toml::Value;
 /// Whether the text under the key `job_name` is there and not empty.
 #[tactic(auto, unfolding(crate::specs::Job::title_in))]
 fn title_of(value: &Value) -> Result<&str, FileFault>
-    ensures spells { OrNoMemory (λ title. title.now) result (title_in (view value.now)) }
+    ensures spells { OrNoMemory fault_told (λ title. title.now) result (title_in (view value.now)) }
     ensures memory { result ≢ Err FileFault.NoMemory }
 {
     let Some(field) = value.get("job_name") else {
@@ -35,7 +36,7 @@ fn title_of(value: &Value) -> Result<&str, FileFault>
 /// The one member of a job for one board.
 #[tactic(auto, unfolding(crate::specs::Job::single_in))]
 fn single_of(alloc: Global, kind: &Value, value: &Value) -> Result<Vec<Member>, FileFault>
-    ensures { OrNoMemory (λ members. members.items) result
+    ensures { OrNoMemory fault_told (λ members. members.items) result
         (single_in (view kind.now) (view value.now)) }
 {
     let kind = name_from(alloc, FileKind::JobFile, kind)?;
@@ -52,7 +53,7 @@ fn single_of(alloc: Global, kind: &Value, value: &Value) -> Result<Vec<Member>, 
 /// The members of the job: exactly one of `device_type` and `roles` is there.
 #[tactic(auto, unfolding(crate::specs::Job::members_in))]
 fn members_of(alloc: Global, value: &Value) -> Result<Vec<Member>, FileFault>
-    ensures { OrNoMemory (λ members. members.items) result (members_in (view value.now)) }
+    ensures { OrNoMemory fault_told (λ members. members.items) result (members_in (view value.now)) }
 {
     match (value.get("device_type"), value.get("roles")) {
         (Some(_), Some(_)) => Err(FileKind::JobFile.bad(Reason::Both)),
@@ -76,7 +77,7 @@ fn members_of(alloc: Global, value: &Value) -> Result<Vec<Member>, FileFault>
 /// members.
 #[tactic(auto, unfolding(crate::specs::Job::job))]
 pub fn job_of(alloc: Global, text: &[u8]) -> Result<Cmd, FileFault>
-    ensures meaning { OrNoMemory (λ cmd. cmd) result (job text.now) }
+    ensures meaning { OrNoMemory fault_told (λ cmd. cmd) result (job text.now) }
     ensures proper { IfOk result (λ cmd. IsTrue (is_proper_cmd cmd)) }
 {
     let text = text_of(FileKind::JobFile, LONGEST_JOB_FILE, text)?;

@@ -2,7 +2,8 @@
 ghost use Rattle.std.specs.Prelude.{map, codes, All, IfOk};
 ghost use Rattle.toml.specs.Data.{get};
 ghost use Rattle.toml.specs.View.{view};
-ghost use Rattle.farm_jobfile.specs.Reading.{OrNoMemory};
+ghost use Rattle.farm_types.specs.Reads.{OrNoMemory};
+ghost use Rattle.farm_jobfile.specs.Reading.{fault_told};
 ghost use Rattle.farm_jobfile.specs.Lab.{entry_of, type_in, board_in, section, calls_in, lab};
 ghost use Rattle.farm_jobfile.specs.Lab.{IsAddition};
 
@@ -17,7 +18,7 @@ use toml::Value;
 
 /// The calls that add the types; there are none where the table is absent.
 fn types_at(alloc: Global, tree: &Value, now: u64) -> Result<Vec<Call>, FileFault>
-    ensures { OrNoMemory (λ calls. map entry_of calls.items) result
+    ensures { OrNoMemory fault_told (λ calls. map entry_of calls.items) result
         (section (type_in now) (get (codes "types") (view tree.now))) }
 {
     match tree.get("types") {
@@ -28,7 +29,7 @@ fn types_at(alloc: Global, tree: &Value, now: u64) -> Result<Vec<Call>, FileFaul
 
 /// The calls that add the boards; there are none where the table is absent.
 fn boards_at(alloc: Global, tree: &Value, now: u64) -> Result<Vec<Call>, FileFault>
-    ensures { OrNoMemory (λ calls. map entry_of calls.items) result
+    ensures { OrNoMemory fault_told (λ calls. map entry_of calls.items) result
         (section (board_in now) (get (codes "boards") (view tree.now))) }
 {
     match tree.get("boards") {
@@ -40,7 +41,7 @@ fn boards_at(alloc: Global, tree: &Value, now: u64) -> Result<Vec<Call>, FileFau
 /// The calls that add the types, then those that add the boards.
 #[tactic(auto, unfolding(crate::specs::Lab::calls_in))]
 fn calls_of(alloc: Global, tree: &Value, now: u64) -> Result<Vec<Call>, FileFault>
-    ensures { OrNoMemory (λ calls. map entry_of calls.items) result (calls_in now (view tree.now)) }
+    ensures { OrNoMemory fault_told (λ calls. map entry_of calls.items) result (calls_in now (view tree.now)) }
 {
     let mut calls = types_at(alloc, tree, now)?;
     let mut boards = boards_at(alloc, tree, now)?;
@@ -59,7 +60,7 @@ fn calls_of(alloc: Global, tree: &Value, now: u64) -> Result<Vec<Call>, FileFaul
 /// given by `admin` with a key made of its name, so that a second reading of the file adds nothing.
 #[tactic(auto, unfolding(crate::specs::Lab::lab))]
 pub fn lab_of(alloc: Global, text: &[u8], now: u64) -> Result<Vec<Call>, FileFault>
-    ensures meaning { OrNoMemory (λ calls. map entry_of calls.items) result (lab text.now now) }
+    ensures meaning { OrNoMemory fault_told (λ calls. map entry_of calls.items) result (lab text.now now) }
     ensures additions { IfOk result (λ calls. All (λ call. IsAddition call.cmd) calls.items) }
 {
     let text = text_of(FileKind::LabFile, LONGEST_LAB_FILE, text)?;

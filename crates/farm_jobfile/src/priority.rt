@@ -2,7 +2,8 @@
 ghost use Rattle.std.specs.Prelude.{◌≢◌, Some, Err};
 ghost use Rattle.toml.specs.View.{view};
 ghost use Rattle.farm_types.specs.Called.{priority_called};
-ghost use Rattle.farm_jobfile.specs.Reading.{OrNoMemory};
+ghost use Rattle.farm_types.specs.Reads.{OrNoMemory};
+ghost use Rattle.farm_jobfile.specs.Reading.{fault_told};
 ghost use Rattle.farm_jobfile.specs.Job.{priority_or, named_or, priority_from, priority_in};
 
 use crate::fault::{FileFault, FileKind, Reason};
@@ -12,7 +13,7 @@ use toml::Value;
 
 /// The priority of that number.
 fn priority_of(number: u64) -> Result<Priority, FileFault>
-    ensures spells { OrNoMemory (λ priority. priority) result (priority_or (Some number)) }
+    ensures spells { OrNoMemory fault_told (λ priority. priority) result (priority_or (Some number)) }
     ensures memory { result ≢ Err FileFault.NoMemory }
 {
     match Priority::of(number) {
@@ -23,7 +24,7 @@ fn priority_of(number: u64) -> Result<Priority, FileFault>
 
 /// The priority that a word names.
 fn named_priority(text: &str) -> Result<Priority, FileFault>
-    ensures spells { OrNoMemory (λ priority. priority) result (named_or (priority_called text.now)) }
+    ensures spells { OrNoMemory fault_told (λ priority. priority) result (named_or (priority_called text.now)) }
     ensures memory { result ≢ Err FileFault.NoMemory }
 {
     match Priority::called(text) {
@@ -35,7 +36,7 @@ fn named_priority(text: &str) -> Result<Priority, FileFault>
 /// The priority that a value spells: a word, or a whole number.
 #[tactic(auto, unfolding(crate::specs::Job::priority_from))]
 fn priority_from(field: &Value) -> Result<Priority, FileFault>
-    ensures spells { OrNoMemory (λ priority. priority) result (priority_from (view field.now)) }
+    ensures spells { OrNoMemory fault_told (λ priority. priority) result (priority_from (view field.now)) }
     ensures memory { result ≢ Err FileFault.NoMemory }
 {
     if let Some(text) = field.as_str() {
@@ -56,7 +57,7 @@ fn priority_from(field: &Value) -> Result<Priority, FileFault>
 /// The priority under the key `priority`; absent means medium.
 #[tactic(auto, unfolding(crate::specs::Job::priority_in))]
 pub(crate) fn priority_at(value: &Value) -> Result<Priority, FileFault>
-    ensures spells { OrNoMemory (λ priority. priority) result (priority_in (view value.now)) }
+    ensures spells { OrNoMemory fault_told (λ priority. priority) result (priority_in (view value.now)) }
     ensures memory { result ≢ Err FileFault.NoMemory }
 {
     match value.get("priority") {

@@ -3,7 +3,8 @@ ghost use Rattle.std.specs.Prelude.{◌≡◌, ◌≢◌, map, Err, IsTrue, IfOk
 ghost use Rattle.toml.specs.View.{view, table_view};
 ghost use Rattle.farm_types.specs.Limits.{is_every};
 ghost use Rattle.farm_types.specs.Proper.{is_frequency};
-ghost use Rattle.farm_jobfile.specs.Reading.{OrNoMemory};
+ghost use Rattle.farm_types.specs.Reads.{OrNoMemory};
+ghost use Rattle.farm_jobfile.specs.Reading.{fault_told};
 ghost use Rattle.farm_jobfile.specs.Lab.{entry_of, unit_in, every_in, check_in, type_in, entries_of};
 
 use crate::call::call_of;
@@ -17,7 +18,7 @@ use toml::{Table, Value};
 /// The unit under the key `check`; absent means none.
 #[tactic(auto, unfolding(crate::specs::Lab::unit_in))]
 fn unit_of(value: &Value) -> Result<CheckUnit, FileFault>
-    ensures spells { OrNoMemory (λ unit. unit) result (unit_in (view value.now)) }
+    ensures spells { OrNoMemory fault_told (λ unit. unit) result (unit_in (view value.now)) }
     ensures memory { result ≢ Err FileFault.NoMemory }
 {
     let Some(field) = value.get("check") else {
@@ -32,7 +33,7 @@ fn unit_of(value: &Value) -> Result<CheckUnit, FileFault>
 /// The frequency under the key `every`.
 #[tactic(auto, unfolding(crate::specs::Lab::every_in))]
 fn every_of(value: &Value) -> Result<u64, FileFault>
-    ensures every { OrNoMemory (λ every. every) result (every_in (view value.now)) }
+    ensures every { OrNoMemory fault_told (λ every. every) result (every_in (view value.now)) }
     ensures range { IfOk result (λ every. IsTrue (is_every every)) }
     ensures memory { result ≢ Err FileFault.NoMemory }
 {
@@ -51,7 +52,7 @@ fn every_of(value: &Value) -> Result<u64, FileFault>
 /// The check that the keys `check` and `every` spell.
 #[tactic(auto, unfolding(crate::specs::Lab::check_in))]
 fn check_of(value: &Value) -> Result<Check, FileFault>
-    ensures check { OrNoMemory (λ check. check) result (check_in (view value.now)) }
+    ensures check { OrNoMemory fault_told (λ check. check) result (check_in (view value.now)) }
     ensures frequency { IfOk result (λ check. IsTrue (is_frequency check)) }
     ensures memory { result ≢ Err FileFault.NoMemory }
 {
@@ -65,7 +66,7 @@ fn check_of(value: &Value) -> Result<Check, FileFault>
 /// The call that adds one type.
 #[tactic(auto, unfolding(crate::specs::Lab::type_in))]
 fn type_of(alloc: Global, name: &str, value: &Value, now: u64) -> Result<Call, FileFault>
-    ensures { OrNoMemory (λ call. entry_of call) result (type_in now name.now (view value.now)) }
+    ensures { OrNoMemory fault_told (λ call. entry_of call) result (type_in now name.now (view value.now)) }
 {
     let kind = name_of(alloc, name)?;
     let _table = table_of(FileKind::LabFile, value)?;
@@ -75,7 +76,7 @@ fn type_of(alloc: Global, name: &str, value: &Value, now: u64) -> Result<Call, F
 
 /// The calls that add the types of a table, which has them in byte order.
 pub(crate) fn types_of(alloc: Global, table: &Table, now: u64) -> Result<Vec<Call>, FileFault>
-    ensures { OrNoMemory (λ calls. map entry_of calls.items) result
+    ensures { OrNoMemory fault_told (λ calls. map entry_of calls.items) result
         (entries_of (type_in now) (table_view table.now)) }
 {
     let mut calls = Vec::new(alloc);

@@ -1,5 +1,5 @@
--- What a reader of a word returns.
-use Rattle.std.specs.Prelude.{◌≡◌, ℕ, Result, Ok, Err}
+-- What a reader of a text returns.
+use Rattle.std.specs.Prelude.{◌≡◌, ℕ, Option, Some, None, Result, Ok, Err}
 use Rattle.farm_types.specs.declared.fault.WordFault.{WordFault}
 use Rattle.farm_types.specs.declared.fault.WordFault.TheVariants.{Refused, NoMemory}
 
@@ -9,12 +9,19 @@ abbrev pub ◌>>=◌ : {A B E : Type 0} → Result A E → (A → Result B E) �
 (Ok x) >>= f = f x
 (Err e) >>= f = Err e
 
--- the refusal is the spelled one, unless memory ran out
-abbrev pub FaultOrNoMemory : {Y : Type 0} → WordFault → Result Y ℕ → Type 0
-FaultOrNoMemory NoMemory spelled = Unit {0}
-FaultOrNoMemory (Refused refusal) spelled = spelled ≡ Err refusal.code
+-- the fault that an error tells is the spelled one; where memory ran out, it tells none
+abbrev pub FaultOrNoMemory : {Y F : Type 0} → Option F → Result Y F → Type 0
+FaultOrNoMemory None spelled = Unit {0}
+FaultOrNoMemory (Some fault) spelled = spelled ≡ Err fault
 
--- what a reader returned, seen by `view`, is what the text spells: a value, or the code of its refusal
-abbrev pub OrNoMemory : {X Y : Type 0} → (X → Y) → Result X WordFault → Result Y ℕ → Type 0
-OrNoMemory view (Ok word) spelled = spelled ≡ Ok (view word)
-OrNoMemory view (Err fault) spelled = FaultOrNoMemory fault spelled
+-- what a reader returned is what the text spells: a value, seen by `view`, or the fault that its
+-- error tells
+abbrev pub OrNoMemory : {X Y E F : Type 0} → (E → Option F) → (X → Y) → Result X E → Result Y F
+    → Type 0
+OrNoMemory told view (Ok x) spelled = spelled ≡ Ok (view x)
+OrNoMemory told view (Err error) spelled = FaultOrNoMemory (told error) spelled
+
+-- a word's fault tells the code of its refusal
+abbrev pub code_told : WordFault → Option ℕ
+code_told (Refused refusal) = Some refusal.code
+code_told NoMemory = None

@@ -6,7 +6,7 @@ ghost use Rattle.std.specs.String.{string_bytes};
 ghost use Rattle.farm_types.specs.Words.{IsName, IsKey, IsText, is_word, is_name_byte, text_cmp};
 ghost use Rattle.farm_types.specs.Words.{word_or};
 ghost use Rattle.farm_types.specs.Limits.{longest_key, longest_name};
-ghost use Rattle.farm_types.specs.Reads.{OrNoMemory};
+ghost use Rattle.farm_types.specs.Reads.{OrNoMemory, code_told};
 
 use crate::fault::WordFault;
 use crate::limits::{LONGEST_KEY, LONGEST_NAME};
@@ -93,7 +93,7 @@ impl Model for Name {
 impl Name {
     /// The name that a text spells; refused as a bad name.
     pub fn parse(alloc: Global, text: &[u8]) -> Result<Name, WordFault>
-        ensures reads { OrNoMemory (λ name. name) result
+        ensures reads { OrNoMemory code_told (λ name. name) result
             (word_or (is_word longest_name text.now) text.now BAD_NAME) }
         ensures memory { result ≡ Err WordFault.NoMemory → IsTrue (is_word longest_name text.now) }
     {
@@ -154,7 +154,7 @@ impl Model for Key {
 impl Key {
     /// The key that a text spells; refused as a bad key.
     pub fn parse(alloc: Global, text: &[u8]) -> Result<Key, WordFault>
-        ensures reads { OrNoMemory (λ key. key) result
+        ensures reads { OrNoMemory code_told (λ key. key) result
             (word_or (is_word longest_key text.now) text.now BAD_KEY) }
         ensures memory { result ≡ Err WordFault.NoMemory → IsTrue (is_word longest_key text.now) }
     {

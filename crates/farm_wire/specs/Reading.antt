@@ -1,5 +1,5 @@
 -- What reading a request gives: a value, or why it asks nothing.
-use Rattle.std.specs.Prelude.{◌≡◌, ℕ, Result, Ok, Err}
+use Rattle.std.specs.Prelude.{ℕ, Option, Some, None, Result, Ok, Err}
 use Rattle.farm_types.specs.declared.fault.WordFault.{WordFault}
 use Rattle.farm_jobfile.specs.Reading.{Fault, code_of_kind, fault_code_of}
 use Rattle.farm_jobfile.specs.declared.fault.FileFault.{FileFault}
@@ -32,13 +32,8 @@ abbrev pub fault_of_word : WordFault → AskFault
 fault_of_word (WordFault.Refused refusal) = AskFault.Refused refusal
 fault_of_word WordFault.NoMemory = AskFault.NoMemory
 
--- the fault is that denial, unless memory ran out
-abbrev pub FaultOrNoMemory : {Y : Type 0} → AskFault → Result Y Denial → Type 0
-FaultOrNoMemory AskFault.NoMemory asked = Unit {0}
-FaultOrNoMemory (AskFault.Refused refusal) asked = asked ≡ Err (refused refusal.code)
-FaultOrNoMemory (AskFault.Method allowed) asked = asked ≡ Err (other_methods allowed)
-
--- what a call returned, seen by `view`, is what the request asks, or why it asks nothing
-abbrev pub OrNoMemory : {X Y : Type 0} → (X → Y) → Result X AskFault → Result Y Denial → Type 0
-OrNoMemory view (Ok x) asked = asked ≡ Ok (view x)
-OrNoMemory view (Err fault) asked = FaultOrNoMemory fault asked
+-- a request's fault tells why it asks nothing, unless memory ran out
+abbrev pub denial_told : AskFault → Option Denial
+denial_told (AskFault.Refused refusal) = Some (refused refusal.code)
+denial_told (AskFault.Method allowed) = Some (other_methods allowed)
+denial_told AskFault.NoMemory = None

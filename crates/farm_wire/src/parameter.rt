@@ -5,7 +5,7 @@ ghost use Rattle.std.specs.Char.{is_ascii_digit, digit_value};
 ghost use Rattle.std.specs.List.{before_first, list_all};
 ghost use Rattle.std.specs.Str.Parse.{digits_value};
 ghost use Rattle.farm_types.specs.Limits.{numbers_end};
-ghost use Rattle.farm_types.specs.Reads.{OrNoMemory};
+ghost use Rattle.farm_types.specs.Reads.{OrNoMemory, code_told};
 ghost use Rattle.farm_wire.specs.Parameters.{parameter, begins_with_zero, is_number_text, number_in};
 ghost use Rattle.farm_wire.specs.Parameters.{board_in, job_in, reservation_in};
 
@@ -99,7 +99,7 @@ fn small_number(text: &[u8]) -> Option<u64>
 /// The number that a segment writes: one to nine digits that begin with 1 to 9.
 #[tactic(auto, unfolding(crate::specs::Parameters::number_in))]
 fn number_of(text: &[u8]) -> Result<u64, WordFault>
-    ensures reads { OrNoMemory (λ n. n) result (number_in text.now) }
+    ensures reads { OrNoMemory code_told (λ n. n) result (number_in text.now) }
     ensures memory { result ≢ Err WordFault.NoMemory }
 {
     if !is_number_text(text) {
@@ -114,7 +114,7 @@ fn number_of(text: &[u8]) -> Result<u64, WordFault>
 /// The board that a path names; memory is wanted only where it names one.
 #[tactic(auto, unfolding(crate::specs::Parameters::board_in))]
 pub(crate) fn board_of(alloc: Global, path: &str) -> Result<Name, WordFault>
-    ensures reads { OrNoMemory (λ name. name) result (board_in path.now) }
+    ensures reads { OrNoMemory code_told (λ name. name) result (board_in path.now) }
     ensures memory { result ≡ Err WordFault.NoMemory → IsOk (board_in path.now) }
 {
     Name::parse(alloc, parameter("/boards/", path))
@@ -123,7 +123,7 @@ pub(crate) fn board_of(alloc: Global, path: &str) -> Result<Name, WordFault>
 /// The job that a path names.
 #[tactic(auto, unfolding(crate::specs::Parameters::job_in))]
 pub(crate) fn job_of(path: &str) -> Result<u64, WordFault>
-    ensures reads { OrNoMemory (λ n. n) result (job_in path.now) }
+    ensures reads { OrNoMemory code_told (λ n. n) result (job_in path.now) }
     ensures memory { result ≢ Err WordFault.NoMemory }
 {
     number_of(parameter("/jobs/", path))
@@ -132,7 +132,7 @@ pub(crate) fn job_of(path: &str) -> Result<u64, WordFault>
 /// The reservation that a path names.
 #[tactic(auto, unfolding(crate::specs::Parameters::reservation_in))]
 pub(crate) fn reservation_of(path: &str) -> Result<u64, WordFault>
-    ensures reads { OrNoMemory (λ n. n) result (reservation_in path.now) }
+    ensures reads { OrNoMemory code_told (λ n. n) result (reservation_in path.now) }
     ensures memory { result ≢ Err WordFault.NoMemory }
 {
     number_of(parameter("/reservations/", path))

@@ -3,7 +3,7 @@ ghost use Rattle.std.specs.Prelude.{◌≢◌, Err, IsTrue, IfOk, Option, ℕ};
 ghost use Rattle.serde_json.specs.View.{view};
 ghost use Rattle.farm_types.specs.Called.{priority_called};
 ghost use Rattle.farm_types.specs.Proper.{is_proper_cmd};
-ghost use Rattle.farm_types.specs.Reads.{OrNoMemory};
+ghost use Rattle.farm_types.specs.Reads.{OrNoMemory, code_told};
 ghost use Rattle.farm_wire.specs.Commands.{named_or, priority_number, priority_from, priority_in};
 ghost use Rattle.farm_wire.specs.Commands.{reserve};
 
@@ -15,7 +15,7 @@ use std::alloc::Global;
 
 /// The priority of that number.
 fn priority_of(number: u64) -> Result<Priority, WordFault>
-    ensures reads { OrNoMemory (λ priority. priority) result (priority_number (Some number)) }
+    ensures reads { OrNoMemory code_told (λ priority. priority) result (priority_number (Some number)) }
     ensures memory { result ≢ Err WordFault.NoMemory }
 {
     Priority::of(number).map_err(WordFault::Refused)
@@ -23,7 +23,7 @@ fn priority_of(number: u64) -> Result<Priority, WordFault>
 
 /// The priority that a word names.
 fn named_priority(text: &str) -> Result<Priority, WordFault>
-    ensures reads { OrNoMemory (λ priority. priority) result (named_or (priority_called text.now)) }
+    ensures reads { OrNoMemory code_told (λ priority. priority) result (named_or (priority_called text.now)) }
     ensures memory { result ≢ Err WordFault.NoMemory }
 {
     match Priority::called(text) {
@@ -35,7 +35,7 @@ fn named_priority(text: &str) -> Result<Priority, WordFault>
 /// The priority that a value spells: a word, or a whole number.
 #[tactic(auto, unfolding(crate::specs::Commands::priority_from))]
 fn priority_from(field: &Value) -> Result<Priority, WordFault>
-    ensures reads { OrNoMemory (λ priority. priority) result (priority_from (view field.now)) }
+    ensures reads { OrNoMemory code_told (λ priority. priority) result (priority_from (view field.now)) }
     ensures memory { result ≢ Err WordFault.NoMemory }
 {
     if let Some(text) = field.as_str() {
@@ -53,7 +53,7 @@ fn priority_from(field: &Value) -> Result<Priority, WordFault>
 /// The priority under the key `priority`; absent means medium.
 #[tactic(auto, unfolding(crate::specs::Commands::priority_in))]
 fn priority_in(value: &Value) -> Result<Priority, WordFault>
-    ensures reads { OrNoMemory (λ priority. priority) result (priority_in (view value.now)) }
+    ensures reads { OrNoMemory code_told (λ priority. priority) result (priority_in (view value.now)) }
     ensures memory { result ≢ Err WordFault.NoMemory }
 {
     match value.get("priority") {
@@ -65,7 +65,7 @@ fn priority_in(value: &Value) -> Result<Priority, WordFault>
 /// The reservation that a body asks for.
 #[tactic(auto, unfolding(crate::specs::Commands::reserve))]
 pub(crate) fn reserve_of(alloc: Global, body: &[u8]) -> Result<Cmd, WordFault>
-    ensures meaning { OrNoMemory (λ cmd. cmd) result (reserve body.now) }
+    ensures meaning { OrNoMemory code_told (λ cmd. cmd) result (reserve body.now) }
     ensures proper { IfOk result (λ cmd. IsTrue (is_proper_cmd cmd)) }
 {
     let value = object_of(alloc, body)?;

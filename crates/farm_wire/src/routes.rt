@@ -2,13 +2,13 @@
 ghost use Rattle.std.specs.Prelude.{◌≡◌, ◌==◌, IsTrue, IfOk, IsOk};
 ghost use Rattle.std.specs.List.{before_first};
 ghost use Rattle.farm_types.specs.Proper.{is_proper_cmd};
-ghost use Rattle.farm_types.specs.Reads.{OrNoMemory as WordOrNoMemory};
+ghost use Rattle.farm_types.specs.Reads.{OrNoMemory, code_told};
 ghost use Rattle.farm_http.specs.Request.{Request};
 ghost use Rattle.farm_http.specs.Requests.{ParsesTo};
 ghost use Rattle.farm_wire.specs.Asked.{ask, shown_ask, asked_at, call_in, view_in, endpoint_in};
 ghost use Rattle.farm_wire.specs.Commands.{command_in};
 ghost use Rattle.farm_wire.specs.Routes.{rows, path_in, route_in};
-ghost use Rattle.farm_wire.specs.Reading.{OrNoMemory, or_refused};
+ghost use Rattle.farm_wire.specs.Reading.{denial_told, or_refused};
 
 use crate::ask::{Ask, View};
 use crate::board_body::{add_board_of, set_health_of, set_tags_of};
@@ -43,7 +43,7 @@ impl Routes {
     /// GET what its path is; memory is taken for the words and for the body's JSON.
     pub fn ask(&self, alloc: Global, taken: &Taken, now: u64) -> Result<Ask, AskFault>
         ensures { (request : Request) → ParsesTo taken.now.bytes.items taken.now.head request
-            → OrNoMemory shown_ask result (ask request now) }
+            → OrNoMemory denial_told shown_ask result (ask request now) }
     {
         self.meaning(alloc, &parts_of(taken), now)
     }
@@ -51,7 +51,7 @@ impl Routes {
     /// What the parts of a request ask.
     #[tactic(auto, unfolding(crate::specs::Asked::ask))]
     fn meaning(&self, alloc: Global, parts: &Parts<'_>, now: u64) -> Result<Ask, AskFault>
-        ensures { OrNoMemory shown_ask result (ask parts.now now) }
+        ensures { OrNoMemory denial_told shown_ask result (ask parts.now now) }
     {
         let path = path_of(parts.target())?;
         let route = self.route(path)?;
@@ -62,7 +62,7 @@ impl Routes {
     /// Where a path leads.
     #[tactic(auto, unfolding(crate::specs::Routes::route_in))]
     fn route(&self, path: &str) -> Result<Route, AskFault>
-        ensures { OrNoMemory (λ route. route) result (or_refused (route_in path.now)) }
+        ensures { OrNoMemory denial_told (λ route. route) result (or_refused (route_in path.now)) }
     {
         match self.router.at(path) {
             Ok(found) => Ok(*found.value),
@@ -76,7 +76,7 @@ impl Ask {
     /// without a body does: for more than one request build `Routes` once and call `Routes::ask`.
     pub fn of(alloc: Global, taken: &Taken, now: u64) -> Result<Ask, AskFault>
         ensures { (request : Request) → ParsesTo taken.now.bytes.items taken.now.head request
-            → OrNoMemory shown_ask result (ask request now) }
+            → OrNoMemory denial_told shown_ask result (ask request now) }
     {
         Routes::new(alloc)?.ask(alloc, taken, now)
     }
@@ -84,7 +84,7 @@ impl Ask {
 
 /// The path of a target: what stands before the first `?`.
 fn path_of(target: &[u8]) -> Result<&str, AskFault>
-    ensures { OrNoMemory (λ path. path.now) result (or_refused (path_in target.now)) }
+    ensures { OrNoMemory denial_told (λ path. path.now) result (or_refused (path_in target.now)) }
 {
     match std::str::from_utf8(target) {
         Ok(text) => Ok(before_query(text)),
@@ -105,7 +105,7 @@ fn before_query(target: &str) -> &str
 /// What the method leads to, where the path has it.
 #[tactic(auto, unfolding(crate::specs::Asked::endpoint_in))]
 fn endpoint_of(route: Route, method: &[u8]) -> Result<Endpoint, AskFault>
-    ensures { OrNoMemory (λ endpoint. endpoint) result (endpoint_in route method.now) }
+    ensures { OrNoMemory denial_told (λ endpoint. endpoint) result (endpoint_in route method.now) }
 {
     match route.endpoint(method) {
         Some(endpoint) => Ok(endpoint),
@@ -122,7 +122,7 @@ fn asked_at(
     parts: &Parts<'_>,
     now: u64,
 ) -> Result<Ask, WordFault>
-    ensures { WordOrNoMemory shown_ask result (asked_at endpoint path.now parts.now now) }
+    ensures { OrNoMemory code_told shown_ask result (asked_at endpoint path.now parts.now now) }
 {
     match endpoint {
         Endpoint::View(kind) => Ok(Ask::View(view_of(kind, path)?)),
@@ -133,7 +133,7 @@ fn asked_at(
 /// The view at a path.
 #[tactic(auto, unfolding(crate::specs::Asked::view_in))]
 fn view_of(kind: ViewKind, path: &str) -> Result<View, WordFault>
-    ensures { WordOrNoMemory (λ view. view) result (view_in kind path.now) }
+    ensures { OrNoMemory code_told (λ view. view) result (view_in kind path.now) }
 {
     Ok(match kind {
         ViewKind::Types => View::Types,
@@ -154,7 +154,7 @@ fn call_of(
     parts: &Parts<'_>,
     now: u64,
 ) -> Result<Ask, WordFault>
-    ensures { WordOrNoMemory shown_ask result (call_in kind path.now parts.now now) }
+    ensures { OrNoMemory code_told shown_ask result (call_in kind path.now parts.now now) }
 {
     let caller = caller_of(alloc, parts)?;
     let key = key_of(alloc, parts)?;
@@ -165,7 +165,7 @@ fn call_of(
 /// The command of a kind that a path and a body spell.
 #[tactic(auto, unfolding(crate::specs::Commands::command_in, farm_types::specs::Proper::is_proper_cmd))]
 fn command_of(alloc: Global, kind: CommandKind, path: &str, body: &[u8]) -> Result<Cmd, WordFault>
-    ensures meaning { WordOrNoMemory (λ cmd. cmd) result (command_in kind path.now body.now) }
+    ensures meaning { OrNoMemory code_told (λ cmd. cmd) result (command_in kind path.now body.now) }
     ensures proper { IfOk result (λ cmd. IsTrue (is_proper_cmd cmd)) }
 {
     match kind {

@@ -3,7 +3,7 @@ ghost use Rattle.std.specs.Prelude.{◌≢◌, Err, IsTrue, IfOk};
 ghost use Rattle.serde_json.specs.View.{view};
 ghost use Rattle.farm_types.specs.Limits.{is_every};
 ghost use Rattle.farm_types.specs.Proper.{is_frequency, is_proper_cmd};
-ghost use Rattle.farm_types.specs.Reads.{OrNoMemory};
+ghost use Rattle.farm_types.specs.Reads.{OrNoMemory, code_told};
 ghost use Rattle.farm_wire.specs.Commands.{unit_in, every_in, check_in, add_type};
 
 use crate::fields::name_of;
@@ -15,7 +15,7 @@ use std::alloc::Global;
 /// The unit under the key `check`.
 #[tactic(auto, unfolding(crate::specs::Commands::unit_in))]
 fn unit_of(value: &Value) -> Result<CheckUnit, WordFault>
-    ensures reads { OrNoMemory (λ unit. unit) result (unit_in (view value.now)) }
+    ensures reads { OrNoMemory code_told (λ unit. unit) result (unit_in (view value.now)) }
     ensures memory { result ≢ Err WordFault.NoMemory }
 {
     let Some(field) = value.get("check") else {
@@ -30,7 +30,7 @@ fn unit_of(value: &Value) -> Result<CheckUnit, WordFault>
 /// The frequency under the key `every`.
 #[tactic(auto, unfolding(crate::specs::Commands::every_in))]
 fn every_of(value: &Value) -> Result<u64, WordFault>
-    ensures every { OrNoMemory (λ every. every) result (every_in (view value.now)) }
+    ensures every { OrNoMemory code_told (λ every. every) result (every_in (view value.now)) }
     ensures range { IfOk result (λ every. IsTrue (is_every every)) }
     ensures memory { result ≢ Err WordFault.NoMemory }
 {
@@ -43,7 +43,7 @@ fn every_of(value: &Value) -> Result<u64, WordFault>
 /// The check that the keys `check` and `every` spell.
 #[tactic(auto, unfolding(crate::specs::Commands::check_in))]
 fn check_of(value: &Value) -> Result<Check, WordFault>
-    ensures check { OrNoMemory (λ check. check) result (check_in (view value.now)) }
+    ensures check { OrNoMemory code_told (λ check. check) result (check_in (view value.now)) }
     ensures frequency { IfOk result (λ check. IsTrue (is_frequency check)) }
     ensures memory { result ≢ Err WordFault.NoMemory }
 {
@@ -57,7 +57,7 @@ fn check_of(value: &Value) -> Result<Check, WordFault>
 /// The type that a body adds.
 #[tactic(auto, unfolding(crate::specs::Commands::add_type))]
 pub(crate) fn add_type_of(alloc: Global, body: &[u8]) -> Result<Cmd, WordFault>
-    ensures meaning { OrNoMemory (λ cmd. cmd) result (add_type body.now) }
+    ensures meaning { OrNoMemory code_told (λ cmd. cmd) result (add_type body.now) }
     ensures proper { IfOk result (λ cmd. IsTrue (is_proper_cmd cmd)) }
 {
     let value = object_of(alloc, body)?;
