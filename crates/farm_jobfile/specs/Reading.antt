@@ -4,6 +4,7 @@ use Rattle.farm_types.specs.declared.fault.WordFault.{WordFault}
 use Rattle.farm_types.specs.Refusals.{bad_job_file, bad_lab_file, no_memory}
 use Rattle.farm_jobfile.specs.declared.fault.FileKind.{FileKind}
 use Rattle.farm_jobfile.specs.declared.fault.Reason.{Reason}
+pub use Rattle.farm_jobfile.specs.declared.fault.Fault.{Fault}
 use Rattle.farm_jobfile.specs.declared.fault.FileFault.{FileFault}
 
 -- the number of a fault in the table of refusals
@@ -22,14 +23,21 @@ of_word (WordFault.Refused refusal) = FileFault.Word refusal
 of_word WordFault.NoMemory = FileFault.NoMemory
 
 -- a fault that a text has: the file is bad, or one of its words is refused with a number
-pub data Fault : Type 0 where
-  bad : FileKind → Reason → Fault
-  word : ℕ → Fault
+abbrev pub bad : FileKind → Reason → Fault
+bad = Fault.Bad
+
+abbrev pub word : ℕ → Fault
+word code = Fault.Word (record { code = code })
 
 -- its number in the table of refusals
 abbrev pub fault_code_of : Fault → ℕ
-fault_code_of (bad file reason) = code_of_kind file
-fault_code_of (word code) = code
+fault_code_of (Fault.Bad file reason) = code_of_kind file
+fault_code_of (Fault.Word refusal) = refusal.code
+
+-- what was read, a fault by its number alone
+abbrev pub fault_by_number : {A : Type 0} → Result A Fault → Result A ℕ
+fault_by_number (Ok x) = Ok x
+fault_by_number (Err fault) = Err (fault_code_of fault)
 
 -- the refusal of a word, or of a count, is a fault of the file
 abbrev pub or_word : {A : Type 0} → Result A ℕ → Result A Fault
@@ -48,6 +56,6 @@ kind_or file (Some x) = Ok x
 
 -- a file's fault tells one of the text, unless memory ran out
 abbrev pub fault_told : FileFault → Option Fault
-fault_told (FileFault.Bad kind reason) = Some (bad kind reason)
-fault_told (FileFault.Word refusal) = Some (word refusal.code)
+fault_told (FileFault.Bad kind reason) = Some (Fault.Bad kind reason)
+fault_told (FileFault.Word refusal) = Some (Fault.Word refusal)
 fault_told FileFault.NoMemory = None

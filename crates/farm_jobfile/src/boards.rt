@@ -1,5 +1,5 @@
 //! The boards of a lab file.
-ghost use Rattle.std.specs.Prelude.{◌≢◌, map, Err, IsTrue, IfOk};
+ghost use Rattle.std.specs.Prelude.{◌≡◌, map, IsTrue, IfOk};
 ghost use Rattle.toml.specs.View.{view, table_view};
 ghost use Rattle.farm_types.specs.Proper.{has_no_name_tag};
 ghost use Rattle.farm_types.specs.Reads.{OrNoMemory};
@@ -7,22 +7,21 @@ ghost use Rattle.farm_jobfile.specs.Reading.{fault_told};
 ghost use Rattle.farm_jobfile.specs.Lab.{entry_of, own_tags, board_in, entries_of};
 
 use crate::call::call_of;
-use crate::fault::{FileFault, FileKind};
+use crate::fault::{Fault, FileFault, FileKind};
 use crate::fields::{name_at, name_of, table_of, tags_at};
 use farm_types::{BAD_TAG, Call, Cmd, Refusal, Tags};
 use std::alloc::Global;
 use toml::{Table, Value};
 
 /// The tags as a board's own, none with the key `name`.
-fn own_tags(tags: Tags) -> Result<Tags, FileFault>
-    ensures tags { OrNoMemory fault_told (λ tags. tags) result (own_tags tags) }
+fn own_tags(tags: Tags) -> Result<Tags, Fault>
+    ensures tags { result ≡ own_tags tags }
     ensures own { IfOk result (λ tags. IsTrue (has_no_name_tag tags)) }
-    ensures memory { result ≢ Err FileFault.NoMemory }
 {
     if tags.has_no_name_tag() {
         Ok(tags)
     } else {
-        Err(FileFault::Word(Refusal { code: BAD_TAG }))
+        Err(Fault::Word(Refusal { code: BAD_TAG }))
     }
 }
 

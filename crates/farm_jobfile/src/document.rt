@@ -1,27 +1,26 @@
 //! The text and the tree of a file.
-ghost use Rattle.std.specs.Prelude.{◌≤◌, ◌≢◌, length, Err, IfOk};
+ghost use Rattle.std.specs.Prelude.{◌≡◌, ◌≤◌, length, IfOk};
 ghost use Rattle.toml.specs.View.{view};
-ghost use Rattle.farm_types.specs.Reads.{OrNoMemory};
+ghost use Rattle.farm_types.specs.Reads.{OrNoMemory, seen};
 ghost use Rattle.farm_jobfile.specs.Reading.{fault_told};
 ghost use Rattle.farm_jobfile.specs.Document.{text_in, tree_in};
 
-use crate::fault::{FileFault, FileKind, Reason};
+use crate::fault::{Fault, FileFault, FileKind, Reason};
 use std::alloc::Global;
 use toml::Value;
 
 /// The text of a file of at most `most` bytes, which must be UTF-8.
 #[tactic(auto, unfolding(crate::specs::Document::text_in))]
-pub(crate) fn text_of(file: FileKind, most: usize, bytes: &[u8]) -> Result<&str, FileFault>
-    ensures text { OrNoMemory fault_told (λ text. text.now) result (text_in file most bytes.now) }
+pub(crate) fn text_of(file: FileKind, most: usize, bytes: &[u8]) -> Result<&str, Fault>
+    ensures text { seen (λ text. text.now) result ≡ text_in file most bytes.now }
     ensures short { IfOk result (λ text. length text.now ≤ most) }
-    ensures memory { result ≢ Err FileFault.NoMemory }
 {
     if bytes.len() > most {
-        return Err(file.bad(Reason::TooLong));
+        return Err(Fault::Bad(file, Reason::TooLong));
     }
     match std::str::from_utf8(bytes) {
         Ok(text) => Ok(text),
-        Err(_) => Err(file.bad(Reason::NotToml)),
+        Err(_) => Err(Fault::Bad(file, Reason::NotToml)),
     }
 }
 

@@ -27,6 +27,15 @@ pub enum Reason {
     Both,
 }
 
+/// What is wrong with a text, whatever memory there is.
+#[derive(Clone, Copy)]
+pub enum Fault {
+    /// The file is bad.
+    Bad(FileKind, Reason),
+    /// A word of it is refused, or a count.
+    Word(Refusal),
+}
+
 /// Why a file spells nothing.
 #[derive(Clone, Copy, Debug, PartialEq, Eq, Error)]
 pub enum FileFault {
@@ -74,6 +83,20 @@ impl FileFault {
             FileFault::Bad { kind, .. } => kind.code(),
             FileFault::Word(refusal) => refusal.code,
             FileFault::NoMemory => NO_MEMORY,
+        }
+    }
+}
+
+impl From<Fault> for FileFault {
+    ghost use Rattle.std.specs.Prelude.{◌≡◌, Some};
+    ghost use Rattle.farm_jobfile.specs.Reading.{fault_told};
+
+    ghost from_gives = { λ fault e. fault_told e ≡ Some fault };
+
+    fn from(fault: Fault) -> FileFault {
+        match fault {
+            Fault::Bad(kind, reason) => FileFault::Bad { kind, reason },
+            Fault::Word(refusal) => FileFault::Word(refusal),
         }
     }
 }

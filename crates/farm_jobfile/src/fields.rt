@@ -1,26 +1,24 @@
 //! The words of a file.
-ghost use Rattle.std.specs.Prelude.{◌≡◌, ◌≢◌, map, Err, IsOk};
+ghost use Rattle.std.specs.Prelude.{◌≡◌, map, Err, IsOk};
 ghost use Rattle.toml.specs.Data.{as_table};
 ghost use Rattle.toml.specs.View.{view, items_view, table_view};
-ghost use Rattle.farm_types.specs.Reads.{OrNoMemory};
+ghost use Rattle.farm_types.specs.Reads.{OrNoMemory, seen};
 ghost use Rattle.farm_jobfile.specs.Reading.{fault_told, kind_or};
 ghost use Rattle.farm_jobfile.specs.Fields.{name_or, name_from, name_in, texts_in, tags_from};
 ghost use Rattle.farm_jobfile.specs.Fields.{tags_in};
 
-use crate::fault::{FileFault, FileKind, Reason};
-use farm_types::{Name, Tags, WordFault};
+use crate::fault::{Fault, FileFault, FileKind, Reason};
+use farm_types::{Name, Tags};
 use std::alloc::Global;
 use toml::{Table, Value};
 
 /// The table that a value is.
-pub(crate) fn table_of<'v>(file: FileKind, value: &'v Value) -> Result<&'v Table, FileFault>
-    ensures spells { OrNoMemory fault_told (λ table. table_view table.now) result
-        (kind_or file (as_table (view value.now))) }
-    ensures memory { result ≢ Err FileFault.NoMemory }
+pub(crate) fn table_of<'v>(file: FileKind, value: &'v Value) -> Result<&'v Table, Fault>
+    ensures { seen (λ table. table_view table.now) result ≡ kind_or file (as_table (view value.now)) }
 {
     match value.as_table() {
         Some(table) => Ok(table),
-        None => Err(file.bad(Reason::WrongKind)),
+        None => Err(Fault::Bad(file, Reason::WrongKind)),
     }
 }
 
@@ -29,11 +27,7 @@ pub(crate) fn name_of(alloc: Global, text: &str) -> Result<Name, FileFault>
     ensures spells { OrNoMemory fault_told (λ name. name) result (name_or text.now) }
     ensures memory { result ≡ Err FileFault.NoMemory → IsOk (name_or text.now) }
 {
-    match Name::parse(alloc, text.as_bytes()) {
-        Ok(name) => Ok(name),
-        Err(WordFault::Refused(refusal)) => Err(FileFault::Word(refusal)),
-        Err(WordFault::NoMemory) => Err(FileFault::NoMemory),
-    }
+    Ok(Name::parse(alloc, text.as_bytes())?)
 }
 
 /// The name that a value spells, a text; memory is wanted only where it spells one.
@@ -90,11 +84,7 @@ pub(crate) fn tags_from(alloc: Global, file: FileKind, value: &Value) -> Result<
         return Err(file.bad(Reason::WrongKind));
     };
     let texts = texts_of(alloc, file, items.as_slice())?;
-    match Tags::among(alloc, texts.as_slice()) {
-        Ok(tags) => Ok(tags),
-        Err(WordFault::Refused(refusal)) => Err(FileFault::Word(refusal)),
-        Err(WordFault::NoMemory) => Err(FileFault::NoMemory),
-    }
+    Ok(Tags::among(alloc, texts.as_slice())?)
 }
 
 /// The tags under the key `tags`; absent means none.

@@ -1,13 +1,13 @@
 //! The job that a job file asks for.
-ghost use Rattle.std.specs.Prelude.{◌≡◌, ◌≢◌, Err, IsTrue, IfOk};
+ghost use Rattle.std.specs.Prelude.{◌≡◌, IsTrue, IfOk};
 ghost use Rattle.toml.specs.View.{view};
 ghost use Rattle.farm_types.specs.Proper.{is_proper_cmd};
-ghost use Rattle.farm_types.specs.Reads.{OrNoMemory};
+ghost use Rattle.farm_types.specs.Reads.{OrNoMemory, seen};
 ghost use Rattle.farm_jobfile.specs.Reading.{fault_told};
 ghost use Rattle.farm_jobfile.specs.Job.{title_or, title_in, single_in, members_in, job};
 
 use crate::document::{text_of, tree_of};
-use crate::fault::{FileFault, FileKind, Reason};
+use crate::fault::{Fault, FileFault, FileKind, Reason};
 use crate::fields::{name_from, tags_at};
 use crate::group::group_of;
 use crate::member::Member;
@@ -19,17 +19,16 @@ use toml::Value;
 
 /// Whether the text under the key `job_name` is there and not empty.
 #[tactic(auto, unfolding(crate::specs::Job::title_in))]
-fn title_of(value: &Value) -> Result<&str, FileFault>
-    ensures spells { OrNoMemory fault_told (λ title. title.now) result (title_in (view value.now)) }
-    ensures memory { result ≢ Err FileFault.NoMemory }
+fn title_of(value: &Value) -> Result<&str, Fault>
+    ensures { seen (λ title. title.now) result ≡ title_in (view value.now) }
 {
     let Some(field) = value.get("job_name") else {
-        return Err(FileKind::JobFile.bad(Reason::Missing));
+        return Err(Fault::Bad(FileKind::JobFile, Reason::Missing));
     };
     match field.as_str() {
-        Some("") => Err(FileKind::JobFile.bad(Reason::Missing)),
+        Some("") => Err(Fault::Bad(FileKind::JobFile, Reason::Missing)),
         Some(title) => Ok(title),
-        None => Err(FileKind::JobFile.bad(Reason::WrongKind)),
+        None => Err(Fault::Bad(FileKind::JobFile, Reason::WrongKind)),
     }
 }
 
@@ -41,13 +40,12 @@ fn single_of(alloc: Global, kind: &Value, value: &Value) -> Result<Vec<Member>, 
 {
     let kind = name_from(alloc, FileKind::JobFile, kind)?;
     let tags = tags_at(alloc, FileKind::JobFile, value)?;
-    let mut members = Vec::new(alloc);
-    members.push(Member {
+    let member = Member {
         role: None,
         kind,
         tags,
-    })?;
-    Ok(members)
+    };
+    Ok(vec![in alloc; member]?)
 }
 
 /// The members of the job: exactly one of `device_type` and `roles` is there.

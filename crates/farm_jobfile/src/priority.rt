@@ -1,43 +1,35 @@
 //! The priority of a job file.
-ghost use Rattle.std.specs.Prelude.{◌≢◌, Some, Err};
+ghost use Rattle.std.specs.Prelude.{◌≡◌, Some};
 ghost use Rattle.toml.specs.View.{view};
 ghost use Rattle.farm_types.specs.Called.{priority_called};
-ghost use Rattle.farm_types.specs.Reads.{OrNoMemory};
-ghost use Rattle.farm_jobfile.specs.Reading.{fault_told};
 ghost use Rattle.farm_jobfile.specs.Job.{priority_or, named_or, priority_from, priority_in};
 
-use crate::fault::{FileFault, FileKind, Reason};
+use crate::fault::{Fault, FileKind, Reason};
 use crate::natural::natural;
 use farm_types::{BAD_PRIORITY, Priority, Refusal};
 use toml::Value;
 
 /// The priority of that number.
-fn priority_of(number: u64) -> Result<Priority, FileFault>
-    ensures spells { OrNoMemory fault_told (λ priority. priority) result (priority_or (Some number)) }
-    ensures memory { result ≢ Err FileFault.NoMemory }
+fn priority_of(number: u64) -> Result<Priority, Fault>
+    ensures { result ≡ priority_or (Some number) }
 {
-    match Priority::of(number) {
-        Ok(priority) => Ok(priority),
-        Err(refusal) => Err(FileFault::Word(refusal)),
-    }
+    Priority::of(number).map_err(Fault::Word)
 }
 
 /// The priority that a word names.
-fn named_priority(text: &str) -> Result<Priority, FileFault>
-    ensures spells { OrNoMemory fault_told (λ priority. priority) result (named_or (priority_called text.now)) }
-    ensures memory { result ≢ Err FileFault.NoMemory }
+fn named_priority(text: &str) -> Result<Priority, Fault>
+    ensures { result ≡ named_or (priority_called text.now) }
 {
     match Priority::called(text) {
         Some(priority) => Ok(priority),
-        None => Err(FileFault::Word(Refusal { code: BAD_PRIORITY })),
+        None => Err(Fault::Word(Refusal { code: BAD_PRIORITY })),
     }
 }
 
 /// The priority that a value spells: a word, or a whole number.
 #[tactic(auto, unfolding(crate::specs::Job::priority_from))]
-fn priority_from(field: &Value) -> Result<Priority, FileFault>
-    ensures spells { OrNoMemory fault_told (λ priority. priority) result (priority_from (view field.now)) }
-    ensures memory { result ≢ Err FileFault.NoMemory }
+fn priority_from(field: &Value) -> Result<Priority, Fault>
+    ensures { result ≡ priority_from (view field.now) }
 {
     if let Some(text) = field.as_str() {
         return named_priority(text);
@@ -45,20 +37,19 @@ fn priority_from(field: &Value) -> Result<Priority, FileFault>
     if let Some(number) = field.as_integer() {
         return match natural(number) {
             Some(number) => priority_of(number),
-            None => Err(FileFault::Word(Refusal { code: BAD_PRIORITY })),
+            None => Err(Fault::Word(Refusal { code: BAD_PRIORITY })),
         };
     }
     if field.is_float() {
-        return Err(FileFault::Word(Refusal { code: BAD_PRIORITY }));
+        return Err(Fault::Word(Refusal { code: BAD_PRIORITY }));
     }
-    Err(FileKind::JobFile.bad(Reason::WrongKind))
+    Err(Fault::Bad(FileKind::JobFile, Reason::WrongKind))
 }
 
 /// The priority under the key `priority`; absent means medium.
 #[tactic(auto, unfolding(crate::specs::Job::priority_in))]
-pub(crate) fn priority_at(value: &Value) -> Result<Priority, FileFault>
-    ensures spells { OrNoMemory fault_told (λ priority. priority) result (priority_in (view value.now)) }
-    ensures memory { result ≢ Err FileFault.NoMemory }
+pub(crate) fn priority_at(value: &Value) -> Result<Priority, Fault>
+    ensures { result ≡ priority_in (view value.now) }
 {
     match value.get("priority") {
         Some(field) => priority_from(field),

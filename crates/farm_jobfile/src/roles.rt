@@ -1,11 +1,11 @@
 //! The roles of a job file.
-ghost use Rattle.std.specs.Prelude.{◌≡◌, ◌≢◌, replicate, Err, IfOk};
+ghost use Rattle.std.specs.Prelude.{◌≡◌, replicate, IfOk};
 ghost use Rattle.toml.specs.View.{view, table_view};
 ghost use Rattle.farm_types.specs.Reads.{OrNoMemory};
 ghost use Rattle.farm_jobfile.specs.Reading.{fault_told};
 ghost use Rattle.farm_jobfile.specs.Job.{count_or, count_in, role_in, roles_in, roles_from};
 
-use crate::fault::{FileFault, FileKind, Reason};
+use crate::fault::{Fault, FileFault, FileKind, Reason};
 use crate::fields::{name_at, name_of, table_of, tags_at};
 use crate::member::Member;
 use crate::natural::natural;
@@ -15,19 +15,18 @@ use toml::{Table, Value};
 
 /// The number of members that play a role.
 #[tactic(auto, unfolding(crate::specs::Job::count_in))]
-fn count_of(value: &Value) -> Result<u64, FileFault>
-    ensures spells { OrNoMemory fault_told (λ count. count) result (count_in (view value.now)) }
-    ensures memory { result ≢ Err FileFault.NoMemory }
+fn count_of(value: &Value) -> Result<u64, Fault>
+    ensures { result ≡ count_in (view value.now) }
 {
     let Some(field) = value.get("count") else {
-        return Err(FileKind::JobFile.bad(Reason::Missing));
+        return Err(Fault::Bad(FileKind::JobFile, Reason::Missing));
     };
     let Some(number) = field.as_integer() else {
-        return Err(FileKind::JobFile.bad(Reason::WrongKind));
+        return Err(Fault::Bad(FileKind::JobFile, Reason::WrongKind));
     };
     match natural(number) {
         Some(count) if count >= 1 && count <= MOST_WANTS as u64 => Ok(count),
-        _ => Err(FileFault::Word(Refusal { code: BAD_COUNT })),
+        _ => Err(Fault::Word(Refusal { code: BAD_COUNT })),
     }
 }
 

@@ -1,5 +1,5 @@
 //! The types of a lab file.
-ghost use Rattle.std.specs.Prelude.{◌≡◌, ◌≢◌, map, Err, IsTrue, IfOk};
+ghost use Rattle.std.specs.Prelude.{◌≡◌, map, IsTrue, IfOk};
 ghost use Rattle.toml.specs.View.{view, table_view};
 ghost use Rattle.farm_types.specs.Limits.{is_every};
 ghost use Rattle.farm_types.specs.Proper.{is_frequency};
@@ -8,7 +8,7 @@ ghost use Rattle.farm_jobfile.specs.Reading.{fault_told};
 ghost use Rattle.farm_jobfile.specs.Lab.{entry_of, unit_in, every_in, check_in, type_in, entries_of};
 
 use crate::call::call_of;
-use crate::fault::{FileFault, FileKind, Reason};
+use crate::fault::{Fault, FileFault, FileKind, Reason};
 use crate::fields::{name_of, table_of};
 use crate::natural::natural;
 use farm_types::{Call, Check, CheckUnit, Cmd, is_every};
@@ -17,44 +17,41 @@ use toml::{Table, Value};
 
 /// The unit under the key `check`; absent means none.
 #[tactic(auto, unfolding(crate::specs::Lab::unit_in))]
-fn unit_of(value: &Value) -> Result<CheckUnit, FileFault>
-    ensures spells { OrNoMemory fault_told (λ unit. unit) result (unit_in (view value.now)) }
-    ensures memory { result ≢ Err FileFault.NoMemory }
+fn unit_of(value: &Value) -> Result<CheckUnit, Fault>
+    ensures { result ≡ unit_in (view value.now) }
 {
     let Some(field) = value.get("check") else {
         return Ok(CheckUnit::None);
     };
     match field.as_str().and_then(CheckUnit::called) {
         Some(unit) => Ok(unit),
-        None => Err(FileKind::LabFile.bad(Reason::WrongKind)),
+        None => Err(Fault::Bad(FileKind::LabFile, Reason::WrongKind)),
     }
 }
 
 /// The frequency under the key `every`.
 #[tactic(auto, unfolding(crate::specs::Lab::every_in))]
-fn every_of(value: &Value) -> Result<u64, FileFault>
-    ensures every { OrNoMemory fault_told (λ every. every) result (every_in (view value.now)) }
+fn every_of(value: &Value) -> Result<u64, Fault>
+    ensures every { result ≡ every_in (view value.now) }
     ensures range { IfOk result (λ every. IsTrue (is_every every)) }
-    ensures memory { result ≢ Err FileFault.NoMemory }
 {
     let Some(field) = value.get("every") else {
-        return Err(FileKind::LabFile.bad(Reason::Missing));
+        return Err(Fault::Bad(FileKind::LabFile, Reason::Missing));
     };
     let Some(number) = field.as_integer() else {
-        return Err(FileKind::LabFile.bad(Reason::WrongKind));
+        return Err(Fault::Bad(FileKind::LabFile, Reason::WrongKind));
     };
     match natural(number) {
         Some(every) if is_every(every) => Ok(every),
-        _ => Err(FileKind::LabFile.bad(Reason::WrongKind)),
+        _ => Err(Fault::Bad(FileKind::LabFile, Reason::WrongKind)),
     }
 }
 
 /// The check that the keys `check` and `every` spell.
 #[tactic(auto, unfolding(crate::specs::Lab::check_in))]
-fn check_of(value: &Value) -> Result<Check, FileFault>
-    ensures check { OrNoMemory fault_told (λ check. check) result (check_in (view value.now)) }
+fn check_of(value: &Value) -> Result<Check, Fault>
+    ensures check { result ≡ check_in (view value.now) }
     ensures frequency { IfOk result (λ check. IsTrue (is_frequency check)) }
-    ensures memory { result ≢ Err FileFault.NoMemory }
 {
     match unit_of(value)? {
         CheckUnit::None => Ok(Check::Never),

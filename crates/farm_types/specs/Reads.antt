@@ -1,5 +1,6 @@
 -- What a reader of a text returns.
 use Rattle.std.specs.Prelude.{◌≡◌, ℕ, Option, Some, None, Result, Ok, Err}
+use Rattle.farm_types.specs.declared.refusal.Refusal.{Refusal}
 use Rattle.farm_types.specs.declared.fault.WordFault.{WordFault}
 use Rattle.farm_types.specs.declared.fault.WordFault.TheVariants.{Refused, NoMemory}
 
@@ -8,6 +9,16 @@ infixl 10 ◌>>=◌
 abbrev pub ◌>>=◌ : {A B E : Type 0} → Result A E → (A → Result B E) → Result B E
 (Ok x) >>= f = f x
 (Err e) >>= f = Err e
+
+-- what a reader that takes no memory returned: its value seen by `view`
+abbrev pub seen : {X Y E : Type 0} → (X → Y) → Result X E → Result Y E
+seen view (Ok x) = Ok (view x)
+seen view (Err error) = Err error
+
+-- and its refusal by the code
+abbrev pub by_code : {X : Type 0} → Result X Refusal → Result X ℕ
+by_code (Ok x) = Ok x
+by_code (Err refusal) = Err refusal.code
 
 -- the fault that an error tells is the spelled one; where memory ran out, it tells none
 abbrev pub FaultOrNoMemory : {Y F : Type 0} → Option F → Result Y F → Type 0

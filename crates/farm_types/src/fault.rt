@@ -12,6 +12,17 @@ pub enum WordFault {
     NoMemory,
 }
 
+impl From<Refusal> for WordFault {
+    ghost use Rattle.std.specs.Prelude.{◌≡◌};
+    ghost use Rattle.farm_types.specs.declared.fault.WordFault.TheVariants.{Refused};
+
+    ghost from_gives = { λ refusal e. e ≡ Refused refusal };
+
+    fn from(refusal: Refusal) -> WordFault {
+        WordFault::Refused(refusal)
+    }
+}
+
 impl From<AllocError> for WordFault {
     ghost use Rattle.std.specs.Prelude.{◌≡◌};
     ghost use Rattle.farm_types.specs.declared.fault.WordFault.TheVariants.{NoMemory};

@@ -10,7 +10,6 @@ use Rattle.matchit.specs.Rows.{RowsOf}
 use Rattle.matchit.specs.Seek.{first}
 use Rattle.farm_types.specs.Refusals.{bad_request, no_route}
 use Rattle.farm_wire.specs.Routes.{path_in, route_in, route_or, rows}
-use Rattle.farm_wire.specs.Reading.{or_refused, refused}
 use Rattle.farm_wire.specs.declared.route.Route.{Route}
 
 pub path_of_text : (target : List ℕ) → IsUtf8 target → path_in target ≡ Ok (before_first (λ b. b == 63) target)
@@ -28,13 +27,13 @@ path_of_bytes target is = by (is_utf8 target) refl
 
 -- what the router of all the paths found is where the path leads
 pub route_found : (router : RowsOf (RouteOf Route)) (path : List ℕ) (route : RouteOf Route) → router ≡ rows → first router path ≡ Some route
-    → or_refused (route_in path) ≡ Ok route.value
+    → route_in path ≡ Ok route.value
 unfolding route_in
 route_found router path route is found =
-    ap (λ o. or_refused (route_or (option_map (λ route. route.value) o))) (ap (λ r. first r path) (sym is) ∙ found)
+    ap (λ o. route_or (option_map (λ route. route.value) o)) (ap (λ r. first r path) (sym is) ∙ found)
 
 pub route_missing : (router : RowsOf (RouteOf Route)) (path : List ℕ) → router ≡ rows → first router path ≡ None
-    → or_refused (route_in path) ≡ Err (refused no_route)
+    → route_in path ≡ Err no_route
 unfolding route_in
 route_missing router path is missing =
-    ap (λ o. or_refused (route_or (option_map (λ route. route.value) o))) (ap (λ r. first r path) (sym is) ∙ missing)
+    ap (λ o. route_or (option_map (λ route. route.value) o)) (ap (λ r. first r path) (sym is) ∙ missing)

@@ -10,9 +10,9 @@ use Rattle.farm_types.specs.declared.called.CheckUnit.{CheckUnit}
 use Rattle.farm_types.specs.declared.rows.Check.{Check}
 use Rattle.farm_types.specs.declared.calls.Cmd.{Cmd}
 use Rattle.farm_types.specs.Refusals.{bad_request, bad_priority}
+use Rattle.farm_jobfile.specs.Reading.{fault_by_number}
 use Rattle.farm_jobfile.specs.Job.{job}
 use Rattle.farm_types.specs.Reads.{◌>>=◌}
-use Rattle.farm_wire.specs.Reading.{fault_by_number}
 use Rattle.farm_wire.specs.Fields.{there_or, object_in, text_in, name_in, tags_from, tags_in}
 use Rattle.farm_wire.specs.Fields.{board_tags}
 use Rattle.farm_wire.specs.Parameters.{board_in, job_in, reservation_in}

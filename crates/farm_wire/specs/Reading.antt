@@ -1,15 +1,10 @@
 -- What reading a request gives: a value, or why it asks nothing.
 use Rattle.std.specs.Prelude.{ℕ, Option, Some, None, Result, Ok, Err}
 use Rattle.farm_types.specs.declared.fault.WordFault.{WordFault}
-use Rattle.farm_jobfile.specs.Reading.{Fault, code_of_kind, fault_code_of}
+use Rattle.farm_jobfile.specs.Reading.{code_of_kind}
 use Rattle.farm_jobfile.specs.declared.fault.FileFault.{FileFault}
 use Rattle.farm_wire.specs.declared.allowed.Allowed.{Allowed}
 use Rattle.farm_wire.specs.declared.fault.AskFault.{AskFault}
-
--- a fault of a file by its number alone
-abbrev pub fault_by_number : {A : Type 0} → Result A Fault → Result A ℕ
-fault_by_number (Ok x) = Ok x
-fault_by_number (Err fault) = Err (fault_code_of fault)
 
 -- the number of a refusal, or the methods that the path has in place of the one asked
 pub data Denial : Type 0 where

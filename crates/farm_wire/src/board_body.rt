@@ -1,10 +1,10 @@
 //! The bodies of the paths of boards.
-ghost use Rattle.std.specs.Prelude.{◌≢◌, Err, IsTrue, IfOk};
+ghost use Rattle.std.specs.Prelude.{◌≡◌, IsTrue, IfOk};
 ghost use Rattle.serde_json.specs.View.{view};
 ghost use Rattle.farm_types.specs.Called.{health_called};
 ghost use Rattle.farm_wire.specs.Fields.{there_or};
 ghost use Rattle.farm_types.specs.Proper.{is_proper_cmd};
-ghost use Rattle.farm_types.specs.Reads.{OrNoMemory, code_told};
+ghost use Rattle.farm_types.specs.Reads.{OrNoMemory, by_code, code_told};
 ghost use Rattle.farm_wire.specs.Commands.{new_tags_in, add_board, set_tags, set_health};
 
 use crate::fields::{board_tags, name_of, tags_from, tags_of, text_of};
@@ -51,13 +51,12 @@ pub(crate) fn set_tags_of(alloc: Global, path: &str, body: &[u8]) -> Result<Cmd,
 }
 
 /// The health that a word names.
-fn health_of(text: &str) -> Result<Health, WordFault>
-    ensures reads { OrNoMemory code_told (λ health. health) result (there_or (health_called text.now)) }
-    ensures memory { result ≢ Err WordFault.NoMemory }
+fn health_of(text: &str) -> Result<Health, Refusal>
+    ensures { by_code result ≡ there_or (health_called text.now) }
 {
     match Health::called(text) {
         Some(health) => Ok(health),
-        None => Err(WordFault::Refused(Refusal { code: BAD_REQUEST })),
+        None => Err(Refusal { code: BAD_REQUEST }),
     }
 }
 

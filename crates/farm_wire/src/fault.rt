@@ -3,7 +3,6 @@ ghost use Rattle.std.specs.Prelude.{◌≡◌};
 
 use crate::allowed::Allowed;
 use farm_types::{NO_MEMORY, Refusal, WRONG_METHOD, WordFault};
-use std::alloc::AllocError;
 use thiserror::Error;
 
 /// Why a request asks nothing.
@@ -30,15 +29,5 @@ impl From<WordFault> for AskFault {
             WordFault::Refused(refusal) => AskFault::Refused(refusal),
             WordFault::NoMemory => AskFault::NoMemory,
         }
-    }
-}
-
-impl From<AllocError> for AskFault {
-    ghost use Rattle.farm_wire.specs.declared.fault.AskFault.TheVariants.{NoMemory};
-
-    ghost from_gives = { λ _ e. e ≡ NoMemory };
-
-    fn from(_none: AllocError) -> AskFault {
-        AskFault::NoMemory
     }
 }

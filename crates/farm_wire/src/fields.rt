@@ -1,8 +1,8 @@
 //! The members of a JSON body.
-ghost use Rattle.std.specs.Prelude.{◌≡◌, ◌≢◌, map, codes, Err, IsTrue, IfOk, IsOk};
+ghost use Rattle.std.specs.Prelude.{◌≡◌, map, codes, Err, IsTrue, IfOk, IsOk};
 ghost use Rattle.farm_types.specs.Proper.{has_no_name_tag};
 ghost use Rattle.serde_json.specs.View.{view, items_view};
-ghost use Rattle.farm_types.specs.Reads.{OrNoMemory, code_told};
+ghost use Rattle.farm_types.specs.Reads.{OrNoMemory, by_code, code_told, seen};
 ghost use Rattle.farm_wire.specs.Fields.{text_in, name_in, texts_in, tags_from, tags_in};
 ghost use Rattle.farm_wire.specs.Fields.{board_tags};
 
@@ -12,13 +12,12 @@ use std::alloc::Global;
 
 /// The text under a key, which must be there. It takes no memory.
 #[tactic(auto, unfolding(crate::specs::Fields::text_in))]
-pub(crate) fn text_of<'v>(value: &'v Value, key: &str) -> Result<&'v str, WordFault>
-    ensures reads { OrNoMemory code_told (λ text. text.now) result (text_in key.now (view value.now)) }
-    ensures memory { result ≢ Err WordFault.NoMemory }
+pub(crate) fn text_of<'v>(value: &'v Value, key: &str) -> Result<&'v str, Refusal>
+    ensures { by_code (seen (λ text. text.now) result) ≡ text_in key.now (view value.now) }
 {
     match value.get(key).and_then(Value::as_str) {
         Some(text) => Ok(text),
-        None => Err(WordFault::Refused(Refusal { code: BAD_REQUEST })),
+        None => Err(Refusal { code: BAD_REQUEST }),
     }
 }
 
@@ -70,14 +69,13 @@ pub(crate) fn tags_of(alloc: Global, value: &Value) -> Result<Tags, WordFault>
 }
 
 /// The tags as a board's own, none with the key `name`.
-pub(crate) fn board_tags(tags: Tags) -> Result<Tags, WordFault>
-    ensures tags { OrNoMemory code_told (λ tags. tags) result (board_tags tags) }
+pub(crate) fn board_tags(tags: Tags) -> Result<Tags, Refusal>
+    ensures tags { by_code result ≡ board_tags tags }
     ensures own { IfOk result (λ tags. IsTrue (has_no_name_tag tags)) }
-    ensures memory { result ≢ Err WordFault.NoMemory }
 {
     if tags.has_no_name_tag() {
         Ok(tags)
     } else {
-        Err(WordFault::Refused(Refusal { code: BAD_TAG }))
+        Err(Refusal { code: BAD_TAG })
     }
 }

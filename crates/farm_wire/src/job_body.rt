@@ -1,11 +1,11 @@
 //! The bodies of the paths of jobs.
-ghost use Rattle.std.specs.Prelude.{◌≡◌, ◌≢◌, Err, IsTrue, IfOk, false};
+ghost use Rattle.std.specs.Prelude.{◌≡◌, IsTrue, IfOk, false};
 ghost use Rattle.serde_json.specs.View.{view};
 ghost use Rattle.farm_types.specs.Codes.{same_outcome};
 ghost use Rattle.farm_types.specs.Called.{outcome_called};
 ghost use Rattle.farm_wire.specs.Fields.{there_or};
 ghost use Rattle.farm_types.specs.Proper.{is_proper_cmd};
-ghost use Rattle.farm_types.specs.Reads.{OrNoMemory, code_told};
+ghost use Rattle.farm_types.specs.Reads.{OrNoMemory, by_code, code_told};
 ghost use Rattle.farm_wire.specs.Commands.{finish, submit};
 ghost use Rattle.farm_wire.specs.Reading.{fault_of_file};
 ghost use Rattle.farm_types.specs.declared.rows.Outcome.{Outcome};
@@ -18,14 +18,13 @@ use farm_types::{BAD_REQUEST, Cmd, Outcome, Refusal, WordFault};
 use std::alloc::Global;
 
 /// The outcome that a word names. A job is canceled by a command of its own, not by its end.
-fn outcome_of(text: &str) -> Result<Outcome, WordFault>
-    ensures outcome { OrNoMemory code_told (λ outcome. outcome) result (there_or (outcome_called text.now)) }
+fn outcome_of(text: &str) -> Result<Outcome, Refusal>
+    ensures outcome { by_code result ≡ there_or (outcome_called text.now) }
     ensures ended { IfOk result (λ outcome. same_outcome outcome Outcome.Canceled ≡ false) }
-    ensures memory { result ≢ Err WordFault.NoMemory }
 {
     match Outcome::called(text) {
         Some(outcome) => Ok(outcome),
-        None => Err(WordFault::Refused(Refusal { code: BAD_REQUEST })),
+        None => Err(Refusal { code: BAD_REQUEST }),
     }
 }
 

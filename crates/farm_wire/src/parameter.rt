@@ -1,11 +1,11 @@
 //! The parameter of a path: its first segment behind what each path of a group begins with.
-ghost use Rattle.std.specs.Prelude.{◌≡◌, ◌==◌, ◌&&◌, ◌<◌, ◌≤◌, ◌≢◌, length, drop, Err, IsOk};
+ghost use Rattle.std.specs.Prelude.{◌≡◌, ◌==◌, ◌&&◌, ◌<◌, ◌≤◌, length, drop, Err, IsOk};
 ghost use Rattle.std.specs.Prelude.{MatchOption, not, nat_lt, position};
 ghost use Rattle.std.specs.Char.{is_ascii_digit, digit_value};
 ghost use Rattle.std.specs.List.{before_first, list_all};
 ghost use Rattle.std.specs.Str.Parse.{digits_value};
 ghost use Rattle.farm_types.specs.Limits.{numbers_end};
-ghost use Rattle.farm_types.specs.Reads.{OrNoMemory, code_told};
+ghost use Rattle.farm_types.specs.Reads.{OrNoMemory, by_code, code_told};
 ghost use Rattle.farm_wire.specs.Parameters.{parameter, begins_with_zero, is_number_text, number_in};
 ghost use Rattle.farm_wire.specs.Parameters.{board_in, job_in, reservation_in};
 
@@ -98,16 +98,15 @@ fn small_number(text: &[u8]) -> Option<u64>
 
 /// The number that a segment writes: one to nine digits that begin with 1 to 9.
 #[tactic(auto, unfolding(crate::specs::Parameters::number_in))]
-fn number_of(text: &[u8]) -> Result<u64, WordFault>
-    ensures reads { OrNoMemory code_told (λ n. n) result (number_in text.now) }
-    ensures memory { result ≢ Err WordFault.NoMemory }
+fn number_of(text: &[u8]) -> Result<u64, Refusal>
+    ensures { by_code result ≡ number_in text.now }
 {
     if !is_number_text(text) {
-        return Err(WordFault::Refused(Refusal { code: BAD_REQUEST }));
+        return Err(Refusal { code: BAD_REQUEST });
     }
     match small_number(text) {
         Some(number) => Ok(number),
-        None => Err(WordFault::Refused(Refusal { code: BAD_REQUEST })),
+        None => Err(Refusal { code: BAD_REQUEST }),
     }
 }
 
@@ -122,18 +121,16 @@ pub(crate) fn board_of(alloc: Global, path: &str) -> Result<Name, WordFault>
 
 /// The job that a path names.
 #[tactic(auto, unfolding(crate::specs::Parameters::job_in))]
-pub(crate) fn job_of(path: &str) -> Result<u64, WordFault>
-    ensures reads { OrNoMemory code_told (λ n. n) result (job_in path.now) }
-    ensures memory { result ≢ Err WordFault.NoMemory }
+pub(crate) fn job_of(path: &str) -> Result<u64, Refusal>
+    ensures { by_code result ≡ job_in path.now }
 {
     number_of(parameter("/jobs/", path))
 }
 
 /// The reservation that a path names.
 #[tactic(auto, unfolding(crate::specs::Parameters::reservation_in))]
-pub(crate) fn reservation_of(path: &str) -> Result<u64, WordFault>
-    ensures reads { OrNoMemory code_told (λ n. n) result (reservation_in path.now) }
-    ensures memory { result ≢ Err WordFault.NoMemory }
+pub(crate) fn reservation_of(path: &str) -> Result<u64, Refusal>
+    ensures { by_code result ≡ reservation_in path.now }
 {
     number_of(parameter("/reservations/", path))
 }

@@ -2,13 +2,13 @@
 ghost use Rattle.std.specs.Prelude.{◌≡◌, ◌==◌, IsTrue, IfOk, IsOk};
 ghost use Rattle.std.specs.List.{before_first};
 ghost use Rattle.farm_types.specs.Proper.{is_proper_cmd};
-ghost use Rattle.farm_types.specs.Reads.{OrNoMemory, code_told};
+ghost use Rattle.farm_types.specs.Reads.{OrNoMemory, by_code, code_told, seen};
 ghost use Rattle.farm_http.specs.Request.{Request};
 ghost use Rattle.farm_http.specs.Requests.{ParsesTo};
-ghost use Rattle.farm_wire.specs.Asked.{ask, shown_ask, asked_at, call_in, view_in, endpoint_in};
+ghost use Rattle.farm_wire.specs.Asked.{ask, shown_ask, asked_at, call_in, view_in};
 ghost use Rattle.farm_wire.specs.Commands.{command_in};
 ghost use Rattle.farm_wire.specs.Routes.{rows, path_in, route_in};
-ghost use Rattle.farm_wire.specs.Reading.{denial_told, or_refused};
+ghost use Rattle.farm_wire.specs.Reading.{denial_told};
 
 use crate::ask::{Ask, View};
 use crate::board_body::{add_board_of, set_health_of, set_tags_of};
@@ -49,24 +49,26 @@ impl Routes {
     }
 
     /// What the parts of a request ask.
-    #[tactic(auto, unfolding(crate::specs::Asked::ask))]
+    #[tactic(auto, unfolding(crate::specs::Asked::ask, crate::specs::Asked::endpoint_in))]
     fn meaning(&self, alloc: Global, parts: &Parts<'_>, now: u64) -> Result<Ask, AskFault>
         ensures { OrNoMemory denial_told shown_ask result (ask parts.now now) }
     {
-        let path = path_of(parts.target())?;
-        let route = self.route(path)?;
-        let endpoint = endpoint_of(route, parts.method())?;
+        let path = path_of(parts.target()).map_err(AskFault::Refused)?;
+        let route = self.route(path).map_err(AskFault::Refused)?;
+        let Some(endpoint) = route.endpoint(parts.method()) else {
+            return Err(AskFault::Method(route.allowed()));
+        };
         Ok(asked_at(alloc, endpoint, path, parts, now)?)
     }
 
     /// Where a path leads.
     #[tactic(auto, unfolding(crate::specs::Routes::route_in))]
-    fn route(&self, path: &str) -> Result<Route, AskFault>
-        ensures { OrNoMemory denial_told (λ route. route) result (or_refused (route_in path.now)) }
+    fn route(&self, path: &str) -> Result<Route, Refusal>
+        ensures { by_code result ≡ route_in path.now }
     {
         match self.router.at(path) {
             Ok(found) => Ok(*found.value),
-            Err(_) => Err(AskFault::Refused(Refusal { code: NO_ROUTE })),
+            Err(_) => Err(Refusal { code: NO_ROUTE }),
         }
     }
 }
@@ -78,17 +80,20 @@ impl Ask {
         ensures { (request : Request) → ParsesTo taken.now.bytes.items taken.now.head request
             → OrNoMemory denial_told shown_ask result (ask request now) }
     {
-        Routes::new(alloc)?.ask(alloc, taken, now)
+        match Routes::new(alloc) {
+            Ok(routes) => routes.ask(alloc, taken, now),
+            Err(_) => Err(AskFault::NoMemory),
+        }
     }
 }
 
 /// The path of a target: what stands before the first `?`.
-fn path_of(target: &[u8]) -> Result<&str, AskFault>
-    ensures { OrNoMemory denial_told (λ path. path.now) result (or_refused (path_in target.now)) }
+fn path_of(target: &[u8]) -> Result<&str, Refusal>
+    ensures { by_code (seen (λ path. path.now) result) ≡ path_in target.now }
 {
     match std::str::from_utf8(target) {
         Ok(text) => Ok(before_query(text)),
-        Err(_) => Err(AskFault::Refused(Refusal { code: BAD_REQUEST })),
+        Err(_) => Err(Refusal { code: BAD_REQUEST }),
     }
 }
 
@@ -99,17 +104,6 @@ fn before_query(target: &str) -> &str
     match target.split_once('?') {
         Some((path, _)) => path,
         None => target,
-    }
-}
-
-/// What the method leads to, where the path has it.
-#[tactic(auto, unfolding(crate::specs::Asked::endpoint_in))]
-fn endpoint_of(route: Route, method: &[u8]) -> Result<Endpoint, AskFault>
-    ensures { OrNoMemory denial_told (λ endpoint. endpoint) result (endpoint_in route method.now) }
-{
-    match route.endpoint(method) {
-        Some(endpoint) => Ok(endpoint),
-        None => Err(AskFault::Method(route.allowed())),
     }
 }
 
@@ -132,8 +126,8 @@ fn asked_at(
 
 /// The view at a path.
 #[tactic(auto, unfolding(crate::specs::Asked::view_in))]
-fn view_of(kind: ViewKind, path: &str) -> Result<View, WordFault>
-    ensures { OrNoMemory code_told (λ view. view) result (view_in kind path.now) }
+fn view_of(kind: ViewKind, path: &str) -> Result<View, Refusal>
+    ensures { by_code result ≡ view_in kind path.now }
 {
     Ok(match kind {
         ViewKind::Types => View::Types,

@@ -1,9 +1,9 @@
 //! The body that adds a type.
-ghost use Rattle.std.specs.Prelude.{◌≢◌, Err, IsTrue, IfOk};
+ghost use Rattle.std.specs.Prelude.{◌≡◌, IsTrue, IfOk};
 ghost use Rattle.serde_json.specs.View.{view};
 ghost use Rattle.farm_types.specs.Limits.{is_every};
 ghost use Rattle.farm_types.specs.Proper.{is_frequency, is_proper_cmd};
-ghost use Rattle.farm_types.specs.Reads.{OrNoMemory, code_told};
+ghost use Rattle.farm_types.specs.Reads.{OrNoMemory, by_code, code_told};
 ghost use Rattle.farm_wire.specs.Commands.{unit_in, every_in, check_in, add_type};
 
 use crate::fields::name_of;
@@ -14,38 +14,35 @@ use std::alloc::Global;
 
 /// The unit under the key `check`.
 #[tactic(auto, unfolding(crate::specs::Commands::unit_in))]
-fn unit_of(value: &Value) -> Result<CheckUnit, WordFault>
-    ensures reads { OrNoMemory code_told (λ unit. unit) result (unit_in (view value.now)) }
-    ensures memory { result ≢ Err WordFault.NoMemory }
+fn unit_of(value: &Value) -> Result<CheckUnit, Refusal>
+    ensures { by_code result ≡ unit_in (view value.now) }
 {
     let Some(field) = value.get("check") else {
         return Ok(CheckUnit::None);
     };
     match field.as_str().and_then(CheckUnit::called) {
         Some(unit) => Ok(unit),
-        None => Err(WordFault::Refused(Refusal { code: BAD_REQUEST })),
+        None => Err(Refusal { code: BAD_REQUEST }),
     }
 }
 
 /// The frequency under the key `every`.
 #[tactic(auto, unfolding(crate::specs::Commands::every_in))]
-fn every_of(value: &Value) -> Result<u64, WordFault>
-    ensures every { OrNoMemory code_told (λ every. every) result (every_in (view value.now)) }
+fn every_of(value: &Value) -> Result<u64, Refusal>
+    ensures every { by_code result ≡ every_in (view value.now) }
     ensures range { IfOk result (λ every. IsTrue (is_every every)) }
-    ensures memory { result ≢ Err WordFault.NoMemory }
 {
     match value.get("every").and_then(Value::as_u64) {
         Some(every) if is_every(every) => Ok(every),
-        _ => Err(WordFault::Refused(Refusal { code: BAD_REQUEST })),
+        _ => Err(Refusal { code: BAD_REQUEST }),
     }
 }
 
 /// The check that the keys `check` and `every` spell.
 #[tactic(auto, unfolding(crate::specs::Commands::check_in))]
-fn check_of(value: &Value) -> Result<Check, WordFault>
-    ensures check { OrNoMemory code_told (λ check. check) result (check_in (view value.now)) }
+fn check_of(value: &Value) -> Result<Check, Refusal>
+    ensures check { by_code result ≡ check_in (view value.now) }
     ensures frequency { IfOk result (λ check. IsTrue (is_frequency check)) }
-    ensures memory { result ≢ Err WordFault.NoMemory }
 {
     match unit_of(value)? {
         CheckUnit::None => Ok(Check::Never),

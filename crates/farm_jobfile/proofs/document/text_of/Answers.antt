@@ -4,8 +4,8 @@ use Rattle.farm_jobfile.proofs.document.text_of.Goals as goal
 
 pub returns-in-Ok-clause-text : goal.returns-in-Ok-clause-text
 returns-in-Ok-clause-text c =
-    text_read c.args.file c.args.most c.args.bytes.now c.if-bytes-most.false c.in-Ok.ensures.cases.1 ∙ ap Ok (sym c.in-Ok.ensures.cases.0)
+    sym (text_read c.args.file c.args.most c.args.bytes.now c.if-bytes-most.false c.in-Ok.ensures.cases.1 ∙ ap Ok (sym c.in-Ok.ensures.cases.0))
 
 pub returns-in-Err-clause-text : goal.returns-in-Err-clause-text
 returns-in-Err-clause-text c =
-    rw c.bad-in-Err.ensures (text_unread c.args.file c.args.most c.args.bytes.now c.if-bytes-most.false c.in-Err.ensures.cases.0)
+    sym (text_unread c.args.file c.args.most c.args.bytes.now c.if-bytes-most.false c.in-Err.ensures.cases.0)

@@ -1,5 +1,4 @@
-use Rattle.std.proofs.Common.{ap, ◌∙◌}
-use Rattle.farm_wire.specs.Reading.{or_refused}
+use Rattle.std.proofs.Common.{sym}
 use Rattle.farm_wire.proofs.PathLemmas.{path_of_text, path_of_bytes}
 use Rattle.farm_wire.proofs.routes.path_of.Goals as goal
 
@@ -8,7 +7,7 @@ returns-in-Ok c =
     let found = path_of_text c.args.target.now c.in-Ok.ensures.cases.1 in
     let same = c.in-Ok.ensures.cases.0 in
     let cut = rw same at c.before_query.ensures in
-    ap or_refused found ∙ cc
+    cc
 
 pub returns-in-Err : goal.returns-in-Err
-returns-in-Err c = ap or_refused (path_of_bytes c.args.target.now c.in-Err.ensures.cases.0)
+returns-in-Err c = sym (path_of_bytes c.args.target.now c.in-Err.ensures.cases.0)
