@@ -1,64 +1,35 @@
 -- What the edits of jobs, reservations and boards keep.
-use Rattle.std.proofs.Common.{◌≡◌, ℕ, ◌+◌, List, [], ◌∷◌, min, Bool, true, false, cond, refl, ap, ◌∙◌, arith}
+use Rattle.std.proofs.Common.{◌≡◌, ℕ, ◌+◌, List, [], ◌∷◌, min, Bool, true, false, cond, Option, Some, None, IfSome, refl, ap, ◌∙◌, arith}
+use Rattle.std.specs.Prelude.{unwrap_or}
 use Rattle.farm_types.specs.Limits.{most_jobs_since}
 use Rattle.farm_types.specs.Table.{change_where}
 use Rattle.farm_types.specs.Farm.{Farm}
 use Rattle.farm_types.specs.Pass.{freed_board, is_job_so, is_res_so, change_jobs, change_res}
 use Rattle.farm_types.specs.Change.{graded_board, after_job, after_check}
-use Rattle.farm_types.specs.Small.{IsSmallBoard}
+use Rattle.farm_types.specs.Small.{IsSmall, IsSmallBoard, IsSmallRes}
 use Rattle.farm_types.specs.declared.rows.Health.{Health}
 use Rattle.farm_types.specs.declared.rows.Outcome.{Outcome}
 use Rattle.farm_types.specs.declared.rows.JobRow.{JobRow}
 use Rattle.farm_types.specs.declared.rows.ResRow.{ResRow}
 use Rattle.farm_types.specs.declared.rows.BoardRow.{BoardRow}
+use Rattle.farm_core.specs.declared.board_effect.BoardEffect.{BoardEffect}
 use Rattle.farm_core.specs.declared.command.job_edit.JobEdit.{JobEdit}
-use Rattle.farm_core.specs.declared.command.res_edit.ResChange.{ResChange}
 use Rattle.farm_core.specs.declared.command.res_edit.ResEdit.{ResEdit}
-use Rattle.farm_core.specs.declared.held.Becomes.{Becomes}
 use Rattle.farm_table.specs.Near.{IsFitJob}
-use Rattle.farm_core.specs.Edits.{IfAfterCheck, job_changed, res_after, res_changed, board_after}
+use Rattle.farm_table.specs.Tabled.{Keeps}
+use Rattle.farm_core.specs.Edits.{IsSmallEffect, job_changed, res_changed, board_after}
 
--- jobs keep their number and group
-pub record KeepsJob (f : JobRow → JobRow) : Type 0 where
-  pub number : (j : JobRow) → (f j).number ≡ j.number
-  pub group : (j : JobRow) → (f j).group ≡ j.group
-
-keeps_number : (e : JobEdit) (j : JobRow) → (job_changed e j).number ≡ j.number
-keeps_number (JobEdit.Start group) j = refl
-keeps_number (JobEdit.End group) j = refl
-keeps_number (JobEdit.Cancel group) j = refl
-keeps_number (JobEdit.Finish number outcome) j = refl
-keeps_number (JobEdit.Place state number board) j = refl
-keeps_number (JobEdit.Back group) j = refl
-
-keeps_group : (e : JobEdit) (j : JobRow) → (job_changed e j).group ≡ j.group
-keeps_group (JobEdit.Start group) j = refl
-keeps_group (JobEdit.End group) j = refl
-keeps_group (JobEdit.Cancel group) j = refl
-keeps_group (JobEdit.Finish number outcome) j = refl
-keeps_group (JobEdit.Place state number board) j = refl
-keeps_group (JobEdit.Back group) j = refl
-
-pub keeps_job : (e : JobEdit) → KeepsJob (job_changed e)
-keeps_job e = record { number = keeps_number e; group = keeps_group e }
-
--- and go on to fit
+-- a job goes on to fit
 pub keeps_fit : (e : JobEdit) (j : JobRow) → IsFitJob j → IsFitJob (job_changed e j)
-keeps_fit e j fit = record {
-  small = record { number = rw (keeps_number e j) fit.small.number; group = rw (keeps_group e j) fit.small.group };
-  near = rw (keeps_number e j, keeps_group e j) fit.near;
-}
+keeps_fit e j fit = record { small = record { number = fit.small.number; group = fit.small.group }; near = fit.near }
 
-keeps_after : (k : ResChange) (r : ResRow) → (res_after k r).number ≡ r.number
-keeps_after ResChange.Acquire r = refl
-keeps_after (ResChange.Release deadline) r = refl
-keeps_after (ResChange.Refresh deadline) r = refl
-keeps_after ResChange.Cancel r = refl
-keeps_after ResChange.End r = refl
-keeps_after (ResChange.Allocate board deadline) r = refl
-
-pub keeps_res : (e : ResEdit) (r : ResRow) → (res_changed e r).number ≡ r.number
-keeps_res e r = keeps_after e.change r
+-- and so does a reservation
+pub keeps_small : (e : ResEdit) → IfSome e.deadline IsSmall → (r : ResRow) → IsSmallRes r → IsSmallRes (res_changed e r)
+keeps_small e low r small = record { number = small.number; deadline = by e.deadline low }
+  where
+    by : (o : Option ℕ) → IfSome o IsSmall → IsSmall (unwrap_or o r.deadline)
+    by None low = small.deadline
+    by (Some deadline) low = low
 
 graded_by : (P : BoardRow → Type 0) (h : Health) (b : BoardRow) → P b → P (record b { health = h }) → P (graded_board h b)
 graded_by P h b same other = by _
@@ -83,11 +54,12 @@ check_by P Outcome.Incomplete t b each fresh = graded_by P Health.Bad b (each b.
 check_by P Outcome.Infra t b each fresh = graded_by P Health.Bad b (each b.health) (each Health.Bad)
 check_by P Outcome.Canceled t b each fresh = each b.health
 
-pub keeps_board : (e : Becomes) (b : BoardRow) → (board_after e b).name ≡ b.name
-keeps_board Becomes.Idle b = refl
-keeps_board (Becomes.State state) b = refl
-keeps_board (Becomes.AfterJob outcome) b = job_by (λ x. x.name ≡ b.name) outcome b (λ h. refl)
-keeps_board (Becomes.AfterCheck outcome t) b = check_by (λ x. x.name ≡ b.name) outcome t b (λ h. refl) (λ h. refl)
+pub keeps_board : (e : BoardEffect) (b : BoardRow) → (board_after e b).name ≡ b.name
+keeps_board BoardEffect.Free b = refl
+keeps_board (BoardEffect.State state) b = refl
+keeps_board (BoardEffect.Reserve holder) b = refl
+keeps_board (BoardEffect.End true outcome t) b = check_by (λ x. x.name ≡ b.name) outcome t b (λ h. refl) (λ h. refl)
+keeps_board (BoardEffect.End false outcome t) b = job_by (λ x. x.name ≡ b.name) outcome b (λ h. refl)
 
 -- a change that changes nothing
 same_rows : {R : Type 0} (test : R → Bool) (rows : List R) → rows ≡ change_where test (λ r. r) rows
@@ -103,11 +75,15 @@ pub jobs_alone : (F G : Farm) (test : JobRow → Bool) (f : JobRow → JobRow) �
 jobs_alone F G test f is = is ∙ (λ i. record F { jobs = change_where test f F.jobs; boards = same_rows (λ (b : BoardRow). is_job_so F test b.holder) F.boards i })
 
 -- each small board stays small
-pub small_board : (e : Becomes) → IfAfterCheck e → (b : BoardRow) → IsSmallBoard b → IsSmallBoard (board_after e b)
-small_board Becomes.Idle now b s = record { held_by = omega arith; numbers = s.numbers }
-small_board (Becomes.State state) now b s = record { held_by = s.held_by; numbers = s.numbers }
-small_board (Becomes.AfterJob outcome) now b s = job_by (λ x. IsSmallBoard (freed_board x)) outcome b (λ h. record { held_by = omega arith; numbers = (omega arith, s.numbers.1) })
-small_board (Becomes.AfterCheck outcome t) now b s = check_by (λ x. IsSmallBoard (freed_board x)) outcome t b (λ h. record { held_by = omega arith; numbers = s.numbers }) (λ h. record { held_by = omega arith; numbers = (omega arith, (now, s.numbers.1.1)) })
+pub small_board : (e : BoardEffect) → IsSmallEffect e → (b : BoardRow) → IsSmallBoard b → IsSmallBoard (board_after e b)
+small_board BoardEffect.Free low b s = record { held_by = omega arith; numbers = s.numbers }
+small_board (BoardEffect.State state) low b s = record { held_by = s.held_by; numbers = s.numbers }
+small_board (BoardEffect.Reserve holder) low b s = record { held_by = low; numbers = s.numbers }
+small_board (BoardEffect.End true outcome t) low b s = check_by (λ x. IsSmallBoard (freed_board x)) outcome t b (λ h. record { held_by = omega arith; numbers = s.numbers }) (λ h. record { held_by = omega arith; numbers = (omega arith, (low, s.numbers.1.1)) })
+small_board (BoardEffect.End false outcome t) low b s = job_by (λ x. IsSmallBoard (freed_board x)) outcome b (λ h. record { held_by = omega arith; numbers = (omega arith, s.numbers.1) })
+
+pub keeps_boards : (e : BoardEffect) → IsSmallEffect e → Keeps (λ (b : BoardRow). b.name) IsSmallBoard (board_after e)
+keeps_boards e low = record { key = keeps_board e; fits = small_board e low }
 
 pub reservations_alone : (F G : Farm) (test : ResRow → Bool) (f : ResRow → ResRow) → G ≡ record F { reservations = change_where test f F.reservations } → G ≡ change_res test f (λ b. b) F
 reservations_alone F G test f is = is ∙ (λ i. record F { reservations = change_where test f F.reservations; boards = same_rows (λ (b : BoardRow). is_res_so F test b.holder) F.boards i })

@@ -8,38 +8,38 @@ use Rattle.std.proofs.lemmas.Bool.Decides.{nat_tests}
 use Rattle.farm_types.specs.Farm.{Farm, job_of}
 use Rattle.farm_types.specs.Table.{change_where}
 use Rattle.farm_types.specs.Pass.{freed_board, change_jobs}
-use Rattle.farm_types.specs.Change.{act, done_with, cancel_group, finish_one, after_check, after_job}
+use Rattle.farm_types.specs.Change.{act, done_with, cancel_group}
 use Rattle.farm_types.specs.Small.{IsSmallJob}
 use Rattle.farm_types.specs.declared.calls.Cmd.{Cmd}
 use Rattle.farm_types.specs.declared.rows.Outcome.{Outcome}
-use Rattle.farm_types.specs.declared.rows.BoardRow.{BoardRow}
 use Rattle.farm_types.specs.declared.rows.JobRow.{JobRow}
 use Rattle.farm_types.proofs.Put.{found_passes}
 use Rattle.farm_table.specs.Near.{IsFitJob}
+use Rattle.farm_types.specs.declared.rows.JobState.{JobState}
 use Rattle.farm_core.specs.declared.command.job_edit.JobEdit.{JobEdit}
-use Rattle.farm_core.specs.Edits.{job_passes, job_changed, board_after, fate_of_board, outcome_of}
+use Rattle.farm_core.specs.declared.command.job_edit.JobFilter.{JobFilter}
+use Rattle.farm_core.specs.declared.command.job_edit.Placement.{Placement}
+use Rattle.farm_core.specs.Edits.{job_passes, job_changed}
 use Rattle.farm_core.proofs.EditLemmas.{jobs_alone}
 
 -- a group collects no more, if it did
 abbrev pub no_more : ℕ → Farm → Farm
 no_more group F = record F { collector = if F.collector == group then 0 else F.collector }
 
-pub canceled : (F G K H : Farm) (n : ℕ) (j : JobRow) → job_of F n ≡ Some j → G ≡ change_jobs (job_passes (JobEdit.End j.group)) (job_changed (JobEdit.End j.group)) freed_board F
-    → K ≡ no_more j.group G → H ≡ record K { jobs = change_where (job_passes (JobEdit.Cancel j.group)) (job_changed (JobEdit.Cancel j.group)) K.jobs }
+-- the members of a group that were not started end, and then those that run are being canceled
+abbrev ended : ℕ → JobEdit
+ended group = record { jobs = JobFilter.Unstarted group; state = JobState.Finished; outcome = Some Outcome.Canceled; placement = Placement.Stays }
+
+abbrev stopped : ℕ → JobEdit
+stopped group = record { jobs = JobFilter.Running group; state = JobState.Canceling; outcome = None; placement = Placement.Stays }
+
+pub canceled : (F G K H : Farm) (n : ℕ) (j : JobRow) → job_of F n ≡ Some j → G ≡ change_jobs (job_passes (ended j.group).jobs) (job_changed (ended j.group)) freed_board F
+    → K ≡ no_more j.group G → H ≡ record K { jobs = change_where (job_passes (stopped j.group).jobs) (job_changed (stopped j.group)) K.jobs }
     → act F [] (Cmd.Cancel n) ≡ done_with j.group H
 canceled F G K H n j found first second third =
     ap (λ o. option_map_or (λ (j : JobRow). done_with j.group (cancel_group j.group F)) o (done_with 0 F)) found
-    ∙ ap (done_with j.group) (sym (jobs_alone K H (job_passes (JobEdit.Cancel j.group)) (job_changed (JobEdit.Cancel j.group)) third
-    ∙ ap (change_jobs (job_passes (JobEdit.Cancel j.group)) (job_changed (JobEdit.Cancel j.group)) (λ b. b)) (second ∙ ap (no_more j.group) first)))
-
-after_is : (checking : Bool) (o : Outcome) (t : ℕ) (b : BoardRow) → board_after (fate_of_board checking o t) b ≡ freed_board (cond checking (after_check o t b) (after_job o b))
-after_is true o t b = refl
-after_is false o t b = refl
-
-pub finished : (F H : Farm) (n : ℕ) (j : JobRow) (named : Outcome) → job_of F n ≡ Some j → j.number ≡ n → H ≡ change_jobs (job_passes (JobEdit.Finish n (outcome_of j named))) (job_changed (JobEdit.Finish n (outcome_of j named))) (board_after (fate_of_board j.checking (outcome_of j named) F.clock)) F → act F [] (Cmd.Finish n named) ≡ done_with n H
-finished F H n j named found same made =
-    ap (λ o. option_map_or (λ j. done_with n (finish_one F.clock named F j)) o (done_with 0 F)) found
-    ∙ ap (done_with n) (sym (made ∙ (λ i. change_jobs (λ m. m.number == sym same i) (job_changed (JobEdit.Finish n (outcome_of j named))) (λ b. after_is j.checking (outcome_of j named) F.clock b i) F)))
+    ∙ ap (done_with j.group) (sym (jobs_alone K H (job_passes (stopped j.group).jobs) (job_changed (stopped j.group)) third
+    ∙ ap (change_jobs (job_passes (stopped j.group).jobs) (job_changed (stopped j.group)) (λ b. b)) (second ∙ ap (no_more j.group) first)))
 
 -- a job that is found has the number, and small numbers
 pub number_found : (jobs : List JobRow) (n : ℕ) (j : JobRow) → find (λ r. r.number == n) jobs ≡ Some j → j.number ≡ n

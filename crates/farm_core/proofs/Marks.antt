@@ -18,10 +18,10 @@ use Rattle.farm_table.specs.Tabled.{IsPartly, upto}
 use Rattle.farm_table.proofs.Upto.{upto_long}
 use Rattle.farm_core.specs.Placed.{IsPlaceOf}
 use Rattle.farm_core.specs.Serving.{member_wants, want_at, want_in, wants_of}
-use Rattle.farm_core.proofs.EditLemmas.{keeps_job}
 use Rattle.farm_core.proofs.JobLemmas.{filter_near}
 use Rattle.farm_core.proofs.Windows.{no_member, none_before}
 use Rattle.farm_core.specs.declared.command.job_edit.JobEdit.{JobEdit}
+use Rattle.farm_core.specs.declared.command.job_edit.JobFilter.{JobFilter}
 use Rattle.farm_core.specs.declared.job_table.Mark.{Mark}
 
 -- ---- numbers of wants
@@ -62,14 +62,6 @@ marks_stay f last w (r ∷ rows) (m ∷ marks) are = (
 pub numbered_anew : (rows : List JobRow) (marks : List Mark) (last : ℕ) (w : Want) → IsNumbered rows marks last (last + 1) w (last + 1)
 numbered_anew rows marks last w f are =
     (with_one f (last + 1) w, marks_stay f last w rows marks are, (omega arith, λ some. ap (λ v. cond v w (f (last + 1))) (same_number (last + 1))))
-
-keeps_want : (e : JobEdit) (j : JobRow) → (job_changed e j).want ≡ j.want
-keeps_want (JobEdit.Start group) j = refl
-keeps_want (JobEdit.End group) j = refl
-keeps_want (JobEdit.Cancel group) j = refl
-keeps_want (JobEdit.Finish number outcome) j = refl
-keeps_want (JobEdit.Place state number board) j = refl
-keeps_want (JobEdit.Back group) j = refl
 
 -- ---- the mark at a place
 
@@ -113,9 +105,9 @@ module _ (f : ℕ → Want) (last : ℕ) where
 
   mark_changed : (edit : JobEdit) (r : JobRow) (m : Mark) → IsMark f last r m → (v : Bool) → IsMark f last (cond v (job_changed edit r) r) m
   mark_changed edit r m is true = record {
-    number = is.number ∙ sym ((keeps_job edit).number r);
-    group = is.group ∙ sym ((keeps_job edit).group r);
-    want = subst (λ w. IsNumber f last w m.want) (sym (keeps_want edit r)) is.want;
+    number = is.number;
+    group = is.group;
+    want = is.want;
   }
   mark_changed edit r m is false = is
 
@@ -167,7 +159,7 @@ pub members_near : (F : Farm) (group start : ℕ) → IsStrictlySortedBy job_cmp
     → member_wants (take most_wants (drop start F.jobs)) group ≡ wants_of F ClaimKind.Group group
 members_near F group start sorted fit low place =
     ap (map (λ (m : JobRow). m.want))
-    (filter_near (λ (j : JobRow). j.group == group) 4 start F.jobs low (none_before F.jobs (JobEdit.Start group) fit start low place)
+    (filter_near (λ (j : JobRow). j.group == group) 4 start F.jobs low (none_before F.jobs (JobFilter.Members group) fit start low place)
     (no_member F.jobs fit group start sorted place))
 
 -- ---- the marks of a table

@@ -4,6 +4,7 @@ use Rattle.std.specs.declared.cmp.Ordering.{Ordering}
 use Rattle.farm_types.specs.Table.{put_all, type_cmp, board_cmp, job_cmp, res_cmp, kept_cmp}
 use Rattle.farm_types.specs.Farm.{put_rows}
 use Rattle.farm_types.specs.declared.calls.Changes.{Changes}
+use Rattle.farm_types.specs.declared.rows.BoardRow.{BoardRow}
 use Rattle.farm_types.specs.declared.rows.JobRow.{JobRow}
 use Rattle.farm_types.specs.declared.rows.ResRow.{ResRow}
 use Rattle.farm_table.specs.Tabled.{Leads, Tabled}
@@ -31,6 +32,15 @@ lead_on_join a b c first second = record {
 }
 
 -- then a step on one table
+pub boards_lead : (a b : Tables) (boards : Tabled BoardRow) → LeadOn a b → Leads board_cmp b.boards boards → LeadOn a (record b { boards = boards })
+boards_lead a b boards first second = record {
+  types = first.types;
+  boards = leads_join board_cmp a.boards b.boards boards first.boards second;
+  jobs = first.jobs;
+  reservations = first.reservations;
+  kept = first.kept;
+}
+
 pub jobs_lead : (a b : Tables) (jobs : Tabled JobRow) → LeadOn a b → Leads job_cmp b.jobs jobs → LeadOn a (record b { jobs = jobs })
 jobs_lead a b jobs first second = record {
   types = first.types;

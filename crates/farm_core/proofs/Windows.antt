@@ -14,7 +14,7 @@ use Rattle.std.proofs.lemmas.List.{get_or_default}
 use Rattle.std.proofs.lemmas.List.Sorted.{searchable_from_sorted}
 use Rattle.std.proofs.lemmas.Map.Keys.{Less-from_sorted}
 use Rattle.farm_types.specs.declared.rows.JobRow.{JobRow}
-use Rattle.farm_core.specs.declared.command.job_edit.JobEdit.{JobEdit}
+use Rattle.farm_core.specs.declared.command.job_edit.JobFilter.{JobFilter}
 use Rattle.farm_types.specs.declared.rows.ResRow.{ResRow}
 use Rattle.farm_core.specs.Edits.{job_passes, first_of}
 use Rattle.farm_table.specs.Near.{IsFitJob, IsNear}
@@ -97,7 +97,7 @@ all_at P [] k d all low = absurd (omega arith)
 all_at P (r ∷ rows) zero d all low = all.0
 all_at P (r ∷ rows) (suc k) d all low = all_at P rows k d all.1 (omega arith)
 
--- a job that an edit changes has one of the edit's four numbers
+-- a job that passes has one of the filter's four numbers
 both_true : (a b : Bool) → (a && b) ≡ true → (a ≡ true) × (b ≡ true)
 both_true true b is = (refl, is)
 both_true false b is = cc
@@ -105,31 +105,30 @@ both_true false b is = cc
 same : (a b : ℕ) → (a == b) ≡ true → a ≡ b
 same a b is = grind (arith, nat_tests)
 
-pub in_reach : (edit : JobEdit) (j : JobRow) → IsNear j → job_passes edit j ≡ true → (first_of edit ≤ j.number) × (j.number < first_of edit + 4)
-in_reach (JobEdit.Start group) j near passes = let is = same j.group group passes in (omega arith, omega arith)
-in_reach (JobEdit.End group) j near passes = let is = same j.group group (both_true _ _ passes).0 in (omega arith, omega arith)
-in_reach (JobEdit.Cancel group) j near passes = let is = same j.group group (both_true _ _ passes).0 in (omega arith, omega arith)
-in_reach (JobEdit.Finish number outcome) j near passes = let is = same j.number number passes in (omega arith, omega arith)
-in_reach (JobEdit.Place state number board) j near passes = let is = same j.number number passes in (omega arith, omega arith)
-in_reach (JobEdit.Back group) j near passes = let is = same j.group group (both_true _ _ passes).0 in (omega arith, omega arith)
+pub in_reach : (filter : JobFilter) (j : JobRow) → IsNear j → job_passes filter j ≡ true → (first_of filter ≤ j.number) × (j.number < first_of filter + 4)
+in_reach (JobFilter.Members group) j near passes = let is = same j.group group passes in (omega arith, omega arith)
+in_reach (JobFilter.Unstarted group) j near passes = let is = same j.group group (both_true _ _ passes).0 in (omega arith, omega arith)
+in_reach (JobFilter.Running group) j near passes = let is = same j.group group (both_true _ _ passes).0 in (omega arith, omega arith)
+in_reach (JobFilter.Scheduling group) j near passes = let is = same j.group group (both_true _ _ passes).0 in (omega arith, omega arith)
+in_reach (JobFilter.Numbered number) j near passes = let is = same j.number number passes in (omega arith, omega arith)
 
-out_of_reach : (edit : JobEdit) (j : JobRow) → IsNear j → (v : Bool) → job_passes edit j ≡ v → ((first_of edit ≤ j.number) × (j.number < first_of edit + 4) → ⊥) → v ≡ false
-out_of_reach edit j near true passes out = absurd (out (in_reach edit j near passes))
-out_of_reach edit j near false passes out = refl
+out_of_reach : (filter : JobFilter) (j : JobRow) → IsNear j → (v : Bool) → job_passes filter j ≡ v → ((first_of filter ≤ j.number) × (j.number < first_of filter + 4) → ⊥) → v ≡ false
+out_of_reach filter j near true passes out = absurd (out (in_reach filter j near passes))
+out_of_reach filter j near false passes out = refl
 
-module _ (jobs : List JobRow) (edit : JobEdit) (fit : AllByRecursion IsFitJob jobs) where
-  pub none_before : (start : ℕ) → start ≤ length jobs → IsPlaceOf (λ (r : JobRow). r.number) jobs (first_of edit) start → (k : ℕ) (d : JobRow) → k < start → job_passes edit (get_or jobs k d) ≡ false
-  none_before start in_range place k d low = out_of_reach edit (get_or jobs k d) (all_at IsFitJob jobs k d fit (omega arith)).near _ refl (λ both. let less = place.below k d low in absurd (omega (arith, both.0)))
+module _ (jobs : List JobRow) (filter : JobFilter) (fit : AllByRecursion IsFitJob jobs) where
+  pub none_before : (start : ℕ) → start ≤ length jobs → IsPlaceOf (λ (r : JobRow). r.number) jobs (first_of filter) start → (k : ℕ) (d : JobRow) → k < start → job_passes filter (get_or jobs k d) ≡ false
+  none_before start in_range place k d low = out_of_reach filter (get_or jobs k d) (all_at IsFitJob jobs k d fit (omega arith)).near _ refl (λ both. let less = place.below k d low in absurd (omega (arith, both.0)))
 
-  pub none_behind : (end : ℕ) → IsPlaceOf (λ (r : JobRow). r.number) jobs (first_of edit + 4) end → (k : ℕ) (d : JobRow) → end ≤ k → k < length jobs → job_passes edit (get_or jobs k d) ≡ false
-  none_behind end place k d high low = out_of_reach edit (get_or jobs k d) (all_at IsFitJob jobs k d fit low).near _ refl (λ both. let more = place.above k d high low in absurd (omega (arith, both.1)))
+  pub none_behind : (end : ℕ) → IsPlaceOf (λ (r : JobRow). r.number) jobs (first_of filter + 4) end → (k : ℕ) (d : JobRow) → end ≤ k → k < length jobs → job_passes filter (get_or jobs k d) ≡ false
+  none_behind end place k d high low = out_of_reach filter (get_or jobs k d) (all_at IsFitJob jobs k d fit low).near _ refl (λ both. let more = place.above k d high low in absurd (omega (arith, both.1)))
 
 -- none from four places behind a group's first one on is a member
 pub no_member : (jobs : List JobRow) (fit : AllByRecursion IsFitJob jobs) (group start : ℕ) → IsStrictlySortedBy job_cmp jobs → IsPlaceOf (λ (r : JobRow). r.number) jobs group start
     → (k : ℕ) (d : JobRow) → start + 4 ≤ k → k < length jobs → ((get_or jobs k d).group == group) ≡ false
 no_member jobs fit group start sorted place k d far low =
     let high = far_on (λ (r : JobRow). r.number) jobs group start 4 sorted place k d far low in
-    out_of_reach (JobEdit.Start group) (get_or jobs k d) (all_at IsFitJob jobs k d fit low).near _ refl (λ both. absurd (omega (arith, both.1, high)))
+    out_of_reach (JobFilter.Members group) (get_or jobs k d) (all_at IsFitJob jobs k d fit low).near _ refl (λ both. absurd (omega (arith, both.1, high)))
 
 -- a row is found by its number
 pub found_res : (rows : List ResRow) (i number : ℕ) (x : ResRow) → IsStrictlySortedBy res_cmp rows → i < length rows → x ≡ get_or rows i x → x.number ≡ number

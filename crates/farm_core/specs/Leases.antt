@@ -14,8 +14,11 @@ use Rattle.farm_sound.specs.Place.{res_in}
 use Rattle.farm_core.specs.declared.leases.Lease.{Lease}
 
 -- a reservation that waits or has been allocated is dead once its lease is over
+abbrev pub may_end_in : ResState → Bool
+may_end_in state = same_res_state state ResState.Waiting || same_res_state state ResState.Allocated
+
 abbrev pub may_end : ResRow → Bool
-may_end r = same_res_state r.state ResState.Waiting || same_res_state r.state ResState.Allocated
+may_end r = may_end_in r.state
 
 abbrev pub lease_of : ResRow → Lease
 lease_of r = record { deadline = r.deadline; number = r.number }

@@ -7,6 +7,7 @@ ghost use Rattle.farm_types.specs.Pick.{queue, shown_claim};
 ghost use Rattle.farm_types.specs.Sound.{IsSound};
 ghost use Rattle.farm_core.specs.Answers.{answer_of, Leads, Rests, AreSmallChanges, IsChange};
 
+use crate::refusal::repeated_reply;
 use crate::tables::Tables;
 use farm_sound::is_sound;
 use farm_types::{
@@ -208,10 +209,11 @@ impl Farm {
         if self.failed {
             return Err(StepFault::Failed);
         }
-        if let Some(reply) = self.tables.kept_reply(call) {
+        let kept = self.tables.find_kept(call);
+        if let Some(reply) = repeated_reply(call, kept) {
             return Ok(Answer::Kept(reply));
         }
-        if let Some(code) = self.tables.refusal(call) {
+        if let Some(code) = self.tables.refusal(call, kept) {
             return Ok(Answer::Refused(Refusal { code }));
         }
         // A `?` in the middle leaves a farm that has failed.

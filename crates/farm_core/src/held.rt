@@ -1,180 +1,94 @@
-//! What becomes of the boards that jobs and reservations hold.
-ghost use Rattle.std.specs.Prelude.{◌≡◌, ◌≤◌, min};
-ghost use Rattle.farm_types.specs.Change.{graded_board, after_job, after_check};
-
-use crate::command::job_edit::JobEdit;
-use crate::command::res_edit::Those;
+//! The boards that jobs and reservations hold.
+use crate::board_effect::BoardEffect;
 use crate::job_table::JobTable;
 use crate::res_table::ResTable;
 use farm_table::Edit;
-use farm_types::{BoardRow, Health, Holder, MOST_JOBS_SINCE, Outcome, State};
+use farm_types::{BoardRow, Holder, JobRow, ResRow};
 use std::alloc::AllocError;
 
-/// What becomes of a board.
-#[derive(Clone, Copy, Debug, PartialEq, Eq)]
-pub enum Becomes {
-    /// It is in nobody's hands.
-    Idle,
-    /// Its holder goes on.
-    State(State),
-    /// It is free after an ordinary job.
-    AfterJob(Outcome),
-    /// It is free after a check that ended at a moment.
-    AfterCheck(Outcome, u64),
+/// A test of rows.
+pub trait Filter<R> {
+    ghost use Rattle.std.specs.Prelude.{◌≡◌, Bool};
+
+    ghost accepts: { Self → R → Bool };
+
+    /// Whether a row passes.
+    fn accepts(&self, row: &R) -> bool
+        ensures { result ≡ accepts self.now row.now };
 }
 
-/// A Good or Unknown board has the health; others keep theirs.
-fn grade(row: &mut BoardRow, health: Health)
-    ensures { row.new ≡ graded_board health row.old }
-{
-    if matches!(row.health, Health::Good | Health::Unknown) {
-        row.health = health;
-    }
+/// A table whose rows may hold boards.
+pub trait Holders {
+    ghost use Rattle.std.specs.Prelude.{◌≡◌, Bool, false};
+    ghost use Rattle.std.specs.Option.{option_copied, option_map_or};
+    ghost use Rattle.farm_types.specs.declared.rows.Holder.{Holder};
+
+    type Row;
+
+    /// Whether a holder is a row of the table that passes.
+    ghost is_so: { Self → (Self.Row → Bool) → Holder → Bool };
+
+    /// The row that a holder is, if it is one of the table, by binary search.
+    fn holder(&self, holder: Holder) -> Option<&Self::Row>
+        ensures { (test : Self.Row → Bool) → is_so self.now test holder
+            ≡ option_map_or test (option_copied result) false };
 }
 
-/// What an ordinary job leaves: one more job, and a health to be checked after trouble of the lab.
-fn finish_job(row: &mut BoardRow, outcome: Outcome)
-    ensures { row.new ≡ after_job outcome row.old }
-{
-    row.jobs_since = row.jobs_since.saturating_add(1).min(MOST_JOBS_SINCE);
-    if matches!(outcome, Outcome::Infra) {
-        grade(row, Health::Unknown);
-    }
-}
+impl Holders for JobTable {
+    ghost use Rattle.farm_types.specs.Farm.{empty_farm};
+    ghost use Rattle.farm_types.specs.Pass.{is_job_so};
 
-/// What a check leaves: its outcome grades the board.
-fn finish_check(row: &mut BoardRow, outcome: Outcome, now: u64)
-    ensures { row.new ≡ after_check outcome now row.old }
-{
-    match outcome {
-        Outcome::Complete => {
-            row.jobs_since = 0;
-            row.last_check = now;
-            grade(row, Health::Good);
-        }
-        Outcome::Incomplete => grade(row, Health::Bad),
-        Outcome::Infra => grade(row, Health::Bad),
-        Outcome::Canceled => {}
-    }
-}
+    type Row = JobRow;
 
-impl Becomes {
-    ghost use Rattle.std.specs.Prelude.{◌≡◌};
-    ghost use Rattle.farm_core.specs.Edits.{board_after, fate_of_board};
+    ghost is_so = { λ t. is_job_so (record empty_farm { jobs = t.rows }) };
 
-    /// What becomes of a board when its job, or its check, ends at a moment.
-    pub fn after(checking: bool, outcome: Outcome, now: u64) -> Becomes
-        ensures { result ≡ fate_of_board checking outcome now }
-    {
-        if checking {
-            Becomes::AfterCheck(outcome, now)
-        } else {
-            Becomes::AfterJob(outcome)
+    fn holder(&self, holder: Holder) -> Option<&JobRow> {
+        match holder {
+            Holder::Job(number) => self.find(number),
+            Holder::Nobody | Holder::Res(_) => None,
         }
     }
+}
 
-    /// Changes the board.
-    fn change(&self, row: &mut BoardRow)
-        ensures { row.new ≡ board_after self.now row.old }
-    {
-        match *self {
-            Becomes::State(state) => {
-                row.state = state;
-                return;
-            }
-            Becomes::Idle => {}
-            Becomes::AfterJob(outcome) => finish_job(row, outcome),
-            Becomes::AfterCheck(outcome, now) => finish_check(row, outcome, now),
+impl Holders for ResTable {
+    ghost use Rattle.farm_types.specs.Farm.{empty_farm};
+    ghost use Rattle.farm_types.specs.Pass.{is_res_so};
+
+    type Row = ResRow;
+
+    ghost is_so = { λ t. is_res_so (record empty_farm { reservations = t.rows }) };
+
+    fn holder(&self, holder: Holder) -> Option<&ResRow> {
+        match holder {
+            Holder::Res(number) => self.find(number),
+            Holder::Nobody | Holder::Job(_) => None,
         }
-        row.holder = Holder::Nobody;
-        row.state = State::Idle;
     }
 }
 
-/// The boards that the jobs hold that an edit changes.
+/// What becomes of the boards that the rows of a table hold that pass.
 #[derive(Drop)]
-pub struct OfJobs<'a> {
-    pub jobs: &'a JobTable,
-    pub edit: JobEdit<'a>,
-    pub becomes: Becomes,
+pub struct Held<'a, T: Holders, F: Filter<T::Row>> {
+    pub holders: &'a T,
+    pub filter: &'a F,
+    pub effect: BoardEffect,
 }
 
-impl Edit<BoardRow> for OfJobs<'_> {
-    ghost use Rattle.farm_core.specs.Edits.{is_job_in, job_passes, board_after};
+impl<T: Holders, F: Filter<T::Row>> Edit<BoardRow> for Held<'_, T, F> {
+    ghost use Rattle.farm_core.specs.Edits.{board_after};
 
-    ghost passes = { λ e b. is_job_in e.jobs.now.rows (job_passes e.edit) b.holder };
+    ghost passes = { λ e b. T.is_so e.holders.now (F.accepts e.filter.now) b.holder };
 
-    ghost changed = { λ e b. board_after e.becomes b };
+    ghost changed = { λ e b. board_after e.effect b };
 
     fn passes(&self, row: &BoardRow) -> bool {
-        match row.holder {
-            Holder::Job(number) => match self.jobs.find(number) {
-                Some(job) => self.edit.passes(job),
-                None => false,
-            },
-            _ => false,
+        match self.holders.holder(row.holder) {
+            Some(row) => self.filter.accepts(row),
+            None => false,
         }
     }
 
     fn change(&self, row: &mut BoardRow) -> Result<(), AllocError> {
-        self.becomes.change(row);
-        Ok(())
-    }
-}
-
-/// The boards that some reservations hold.
-#[derive(Drop)]
-pub struct OfReservations<'a> {
-    pub reservations: &'a ResTable,
-    pub those: Those,
-    pub becomes: Becomes,
-}
-
-impl Edit<BoardRow> for OfReservations<'_> {
-    ghost use Rattle.farm_core.specs.Edits.{is_meant, is_res_in, board_after};
-
-    ghost passes = { λ e b. is_res_in e.reservations.now.rows (is_meant e.those) b.holder };
-
-    ghost changed = { λ e b. board_after e.becomes b };
-
-    fn passes(&self, row: &BoardRow) -> bool {
-        match row.holder {
-            Holder::Res(number) => match self.reservations.find(number) {
-                Some(reservation) => self.those.include(reservation),
-                None => false,
-            },
-            _ => false,
-        }
-    }
-
-    fn change(&self, row: &mut BoardRow) -> Result<(), AllocError> {
-        self.becomes.change(row);
-        Ok(())
-    }
-}
-
-/// The board is reserved for a holder.
-#[derive(Drop)]
-pub struct Hold {
-    pub holder: Holder,
-}
-
-impl Edit<BoardRow> for Hold {
-    ghost use Rattle.std.specs.Prelude.{true};
-    ghost use Rattle.farm_types.specs.Pass.{held_board};
-    ghost use Rattle.farm_types.specs.declared.rows.State.{State};
-
-    ghost passes = { λ e b. true };
-
-    ghost changed = { λ e. held_board e.holder State.Reserved };
-
-    fn passes(&self, _row: &BoardRow) -> bool {
-        true
-    }
-
-    fn change(&self, row: &mut BoardRow) -> Result<(), AllocError> {
-        row.holder = self.holder;
-        row.state = State::Reserved;
-        Ok(())
+        self.effect.change(row)
     }
 }

@@ -282,16 +282,17 @@ impl JobTable {
         Ok(())
     }
 
-    /// Changes the jobs that pass. Only the rows where those of the edit's group stand are looked
-    /// at, so with J jobs it costs O(log J). Where memory runs out the first ones are changed.
+    /// Changes the jobs that pass. Only the few rows where these can stand are looked at, so with J
+    /// jobs it costs O(log J). Where memory runs out the first ones are changed.
     pub fn edit(&mut self, edit: JobEdit<'_>) -> Result<(), AllocError>
-        requires { IsSmall (first_of edit) }
-        ensures rows { OnOk result (self.new.rows ≡ change_where (job_passes edit.entry)
+        requires { IsSmall (first_of edit.jobs) }
+        ensures rows { OnOk result (self.new.rows ≡ change_where (job_passes edit.entry.jobs)
             (job_changed edit.entry) self.old.rows) }
         ensures leads { Leads job_cmp self.old self.new }
     {
-        let start = self.place_of(edit.first());
-        let end = self.place_near(start, edit.first() + GROUP_REACH);
+        let first = edit.jobs.first();
+        let start = self.place_of(first);
+        let end = self.place_near(start, first + GROUP_REACH);
         self.table.change_between(start, end, &edit)?;
         Ok(())
     }

@@ -1,10 +1,11 @@
 //! The leases, in the order in which they end.
-ghost use Rattle.std.specs.Prelude.{◌≡◌, false, true, OnOk, IfSome, IfNone};
+ghost use Rattle.std.specs.Prelude.{◌≡◌, false, true, None, Some, OnOk, IfSome, IfNone};
+ghost use Rattle.std.specs.Prelude.{if◌then◌else◌};
 ghost use Rattle.std.specs.List.{AllByRecursion};
 ghost use Rattle.std.specs.List.Sorted.{IsStrictlySortedBy};
 ghost use Rattle.farm_types.specs.Pass.{is_dead};
 ghost use Rattle.farm_types.specs.Table.{res_cmp};
-ghost use Rattle.farm_core.specs.Leases.{may_end, lease_if, is_dead_at, is_noted, AreNoted, Grows};
+ghost use Rattle.farm_core.specs.Leases.{may_end_in, lease_if, is_dead_at, is_noted, AreNoted, Grows};
 
 use crate::command::res_edit::is_dead;
 use farm_sound::seek;
@@ -19,24 +20,24 @@ pub struct Lease {
     pub number: u64,
 }
 
-/// Whether a reservation waits or has been allocated, so that it is dead once its lease is over.
-pub fn may_end(row: &ResRow) -> bool
-    ensures { result ≡ may_end row.now }
+/// The lease of a reservation in a state, if it may end: it is dead once its lease is over while it
+/// waits or has been allocated.
+pub fn lease_if(state: ResState, deadline: u64, number: u64) -> Option<Lease>
+    ensures { result ≡ (if may_end_in state
+        then Some (record { deadline = deadline; number = number }) else None) }
 {
-    matches!(row.state, ResState::Waiting | ResState::Allocated)
+    if matches!(state, ResState::Waiting | ResState::Allocated) {
+        Some(Lease { deadline, number })
+    } else {
+        None
+    }
 }
 
 /// The lease of a reservation, if it may end.
 pub fn lease_of(row: &ResRow) -> Option<Lease>
     ensures { result ≡ lease_if row.now }
 {
-    if !may_end(row) {
-        return None;
-    }
-    Some(Lease {
-        deadline: row.deadline,
-        number: row.number,
-    })
+    lease_if(row.state, row.deadline, row.number)
 }
 
 /// Notes a lease, if there is one. With L leases it costs O(log L). No lease is lost, also where

@@ -6,6 +6,7 @@
 //! keeps on its way.
 #![tactic(auto)]
 
+mod board_effect;
 mod change;
 mod command;
 mod edits;

@@ -1,12 +1,15 @@
 //! Why a call is refused: the first reason that applies.
-ghost use Rattle.std.specs.Prelude.{◌≡◌, ◌≤◌, ◌&&◌, nat_le, length};
+ghost use Rattle.std.specs.Prelude.{◌≡◌, ◌≤◌, ◌&&◌, nat_le, length, option_map};
+ghost use Rattle.farm_types.specs.Farm.{Farm};
 ghost use Rattle.farm_types.specs.Limits.{most_wants};
 ghost use Rattle.farm_types.specs.Pass.{has_room};
 ghost use Rattle.farm_types.specs.Refuse.{is_admin, is_dispatcher, may_give, is_full, is_full_for};
-ghost use Rattle.farm_types.specs.Refuse.{is_reused, early_refusal, own_refusal, refusal};
+ghost use Rattle.farm_types.specs.Refuse.{is_reused, early_refusal, kept_for, own_refusal, refusal};
 ghost use Rattle.farm_types.specs.Machine.{repeated_reply};
 ghost use Rattle.farm_core.specs.Plain.{plain_farm};
+ghost use Rattle.farm_core.specs.Replies.{kept_reply};
 
+use crate::kept::KeptReply;
 use crate::tables::Tables;
 use farm_types::{
     BAD_MOMENT, Call, Cmd, FORBIDDEN, FULL, KEY_REUSED, LAST_MOMENT, MOST_BOARDS,
@@ -48,6 +51,51 @@ fn may_give(caller: &Name, cmd: &Cmd) -> bool
         Cmd::Refresh(_) => true,
         Cmd::CancelRes(_) => true,
     }
+}
+
+/// The reply of what is kept for a call's key, if it is kept for the same command and the moment is
+/// good.
+pub fn repeated_reply(call: &Call, kept: Option<KeptReply>) -> Option<Reply>
+    ensures { (F : Farm) → kept ≡ option_map kept_reply (kept_for F call.entry.now)
+        → result ≡ repeated_reply F call.entry.now }
+{
+    if call.now > LAST_MOMENT {
+        return None;
+    }
+    let kept = kept?;
+    if kept.kind != call.cmd.kind() {
+        return None;
+    }
+    Some(kept.reply)
+}
+
+/// Whether what is kept for a call's key is kept for another command.
+fn is_reused(call: &Call, kept: Option<KeptReply>) -> bool
+    ensures { (F : Farm) → kept ≡ option_map kept_reply (kept_for F call.entry.now)
+        → result ≡ is_reused F call.entry.now }
+{
+    match kept {
+        None => false,
+        Some(kept) => kept.kind != call.cmd.kind(),
+    }
+}
+
+/// The reasons that come first, of a call and of what is kept for its key.
+#[tactic(auto, unfolding(farm_types::specs::Refuse::early_refusal))]
+fn early_refusal(call: &Call, kept: Option<KeptReply>) -> Option<u16>
+    ensures { (F : Farm) → kept ≡ option_map kept_reply (kept_for F call.entry.now)
+        → result ≡ early_refusal F call.entry.now }
+{
+    if call.now > LAST_MOMENT {
+        return Some(BAD_MOMENT);
+    }
+    if is_reused(call, kept) {
+        return Some(KEY_REUSED);
+    }
+    if !may_give(&call.caller, &call.cmd) {
+        return Some(FORBIDDEN);
+    }
+    None
 }
 
 impl Tables {
@@ -94,47 +142,6 @@ impl Tables {
             || self.count >= MOST_COMMANDS
     }
 
-    /// Whether the reply of the call's key is kept for another command.
-    fn is_reused(&self, call: &Call) -> bool
-        ensures { result ≡ is_reused (plain_farm self.now) call.entry.now }
-    {
-        match self.find_kept(call) {
-            None => false,
-            Some(row) => row.kind != call.cmd.kind(),
-        }
-    }
-
-    /// The reply that is kept for the call's key and the same command, where the moment is good.
-    pub fn kept_reply(&self, call: &Call) -> Option<Reply>
-        ensures { result ≡ repeated_reply (plain_farm self.now) call.entry.now }
-    {
-        if call.now > LAST_MOMENT {
-            return None;
-        }
-        let row = self.find_kept(call)?;
-        if row.kind != call.cmd.kind() {
-            return None;
-        }
-        Some(row.reply)
-    }
-
-    /// The reasons that come first.
-    #[tactic(auto, unfolding(farm_types::specs::Refuse::early_refusal))]
-    fn early_refusal(&self, call: &Call) -> Option<u16>
-        ensures { result ≡ early_refusal (plain_farm self.now) call.entry.now }
-    {
-        if call.now > LAST_MOMENT {
-            return Some(BAD_MOMENT);
-        }
-        if self.is_reused(call) {
-            return Some(KEY_REUSED);
-        }
-        if !may_give(&call.caller, &call.cmd) {
-            return Some(FORBIDDEN);
-        }
-        None
-    }
-
     /// The command's own reasons.
     #[tactic(auto, unfolding(farm_types::specs::Refuse::own_refusal))]
     fn own_refusal(&self, call: &Call) -> Option<u16>
@@ -159,12 +166,13 @@ impl Tables {
         }
     }
 
-    /// The first code that applies.
+    /// The first code that applies, of a call and of what is kept for its key.
     #[tactic(auto, unfolding(farm_types::specs::Refuse::refusal))]
-    pub fn refusal(&self, call: &Call) -> Option<u16>
+    pub fn refusal(&self, call: &Call, kept: Option<KeptReply>) -> Option<u16>
+        requires { kept ≡ option_map kept_reply (kept_for (plain_farm self.now) call.now) }
         ensures { result ≡ refusal (plain_farm self.now) call.entry.now }
     {
-        if let Some(code) = self.early_refusal(call) {
+        if let Some(code) = early_refusal(call, kept) {
             return Some(code);
         }
         if let Some(code) = self.own_refusal(call) {

@@ -1,20 +1,20 @@
 //! The table of reservations, and the leases that may end.
-ghost use Rattle.std.specs.Prelude.{◌≡◌, ◌<◌, ◌^◌, [], false, true, length};
+ghost use Rattle.std.specs.Prelude.{◌≡◌, ◌==◌, ◌<◌, ◌^◌, [], false, true, length};
 ghost use Rattle.std.specs.Prelude.{IfOk, IfSome, IfNone, OnOk, OnErr};
 ghost use Rattle.std.specs.List.{AllByRecursion};
 ghost use Rattle.std.specs.List.Sorted.{IsStrictlySortedBy};
 ghost use Rattle.std.specs.Option.{option_copied};
 ghost use Rattle.farm_types.specs.Pass.{is_dead};
-ghost use Rattle.farm_types.specs.Small.{IsSmallRes};
+ghost use Rattle.farm_types.specs.Small.{IsSmall, IsSmallRes};
 ghost use Rattle.farm_types.specs.Table.{put, change_where, res_cmp};
 ghost use Rattle.farm_types.specs.declared.rows.ResRow.{ResRow};
 ghost use Rattle.farm_sound.specs.Place.{res_in};
 ghost use Rattle.farm_table.specs.Tabled.{Leads};
-ghost use Rattle.farm_core.specs.Edits.{res_passes, res_changed};
+ghost use Rattle.farm_core.specs.Edits.{res_changed};
 ghost use Rattle.farm_core.specs.Leases.{lease_if, is_dead_at};
 
-use crate::command::res_edit::{ResChange, ResEdit};
-use crate::leases::{self, Lease, lease_of, may_end, note, note_leases};
+use crate::command::res_edit::ResEdit;
+use crate::leases::{self, Lease, lease_if, lease_of, note, note_leases};
 use farm_table::Table;
 use farm_types::ResRow;
 use std::alloc::{AllocError, Global};
@@ -47,21 +47,9 @@ impl Model for ResTable {
 fn lease_after(edit: &ResEdit<'_>, row: &ResRow) -> Option<Lease>
     ensures { result ≡ lease_if (res_changed edit.now row.now) }
 {
-    let number = row.number;
-    match edit.change {
-        ResChange::Acquire => None,
-        ResChange::Release(deadline) => Some(Lease { deadline, number }),
-        ResChange::Refresh(deadline) => {
-            if may_end(row) {
-                Some(Lease { deadline, number })
-            } else {
-                None
-            }
-        }
-        ResChange::Cancel => None,
-        ResChange::End => None,
-        ResChange::Allocate(_, deadline) => Some(Lease { deadline, number }),
-    }
+    let state = edit.state.unwrap_or(row.state);
+    let deadline = edit.deadline.unwrap_or(row.deadline);
+    lease_if(state, deadline, row.number)
 }
 
 impl ResTable {
@@ -128,12 +116,11 @@ impl ResTable {
         Ok(())
     }
 
-    /// Changes one reservation, and notes the lease that it has then, if it may
-    /// end. With R reservations and L leases it costs O(log R + log L). Where memory runs out the
+    /// Changes one reservation, and notes the lease that it has then, if it may end. With R reservations and L leases it costs O(log R + log L). Where memory runs out the
     /// table is as it was.
     pub fn edit(&mut self, edit: ResEdit<'_>) -> Result<(), AllocError>
-        requires { (r : ResRow) → IsSmallRes r → IsSmallRes (res_changed edit r) }
-        ensures rows { OnOk result (self.new.rows ≡ change_where (res_passes edit.entry)
+        requires { IfSome edit.deadline IsSmall }
+        ensures rows { OnOk result (self.new.rows ≡ change_where (λ r. r.number == edit.entry.number)
             (res_changed edit.entry) self.old.rows) }
         ensures leads { Leads res_cmp self.old self.new }
         ensures stays { OnErr result (self.new ≡ self.old) }

@@ -2,42 +2,81 @@
 ghost use Rattle.std.specs.Prelude.{◌≡◌};
 ghost use Rattle.farm_types.specs.Change.{is_unstarted};
 
+use crate::held::Filter;
 use farm_table::Edit;
 use farm_types::{JobRow, JobState, Name, Outcome};
 use std::alloc::AllocError;
 
-/// A change of jobs: of members of a group, or of one job by its number.
+/// Which jobs: members of a group, or one job by its number.
 #[derive(Clone, Copy, Debug)]
-pub enum JobEdit<'a> {
-    /// The members of the group run.
-    Start(u64),
-    /// The members of the group that have not been started end as canceled.
-    End(u64),
-    /// The Running members of the group are being canceled.
-    Cancel(u64),
-    /// The job ends.
-    Finish(u64, Outcome),
-    /// The job is in that state and has the board of that name.
-    Place(JobState, u64, &'a Name),
-    /// The Scheduling members of the group are Submitted, and have no board.
-    Back(u64),
+pub enum JobFilter {
+    /// The members of the group.
+    Members(u64),
+    /// Those that have not been started.
+    Unstarted(u64),
+    /// Those that run.
+    Running(u64),
+    /// Those that are Scheduling, since the group collects.
+    Scheduling(u64),
+    /// The job of the number.
+    Numbered(u64),
 }
 
-impl JobEdit<'_> {
+/// What becomes of the board that a job's row names.
+#[derive(Clone, Copy, Debug)]
+pub enum Placement<'a> {
+    /// It stays.
+    Stays,
+    /// None is named.
+    Leaves,
+    /// It is the board of that name.
+    On(&'a Name),
+}
+
+/// A change of the jobs that pass.
+#[derive(Clone, Copy, Debug)]
+pub struct JobEdit<'a> {
+    pub jobs: JobFilter,
+    pub state: JobState,
+    /// The outcome, if it changes.
+    pub outcome: Option<Outcome>,
+    pub placement: Placement<'a>,
+}
+
+impl JobFilter {
     ghost use Rattle.std.specs.Prelude.{◌≡◌};
     ghost use Rattle.farm_core.specs.Edits.{first_of};
 
-    /// The least number of a job that changes; the others are among the next three.
+    /// The least number of a job that passes; the others are among the next three.
     pub fn first(&self) -> u64
         ensures { result ≡ first_of self.now }
     {
         match *self {
-            JobEdit::Start(group) => group,
-            JobEdit::End(group) => group,
-            JobEdit::Cancel(group) => group,
-            JobEdit::Finish(number, _) => number,
-            JobEdit::Place(_, number, _) => number,
-            JobEdit::Back(group) => group,
+            JobFilter::Members(first)
+            | JobFilter::Unstarted(first)
+            | JobFilter::Running(first)
+            | JobFilter::Scheduling(first)
+            | JobFilter::Numbered(first) => first,
+        }
+    }
+}
+
+impl Filter<JobRow> for JobFilter {
+    ghost use Rattle.farm_core.specs.Edits.{job_passes};
+
+    ghost accepts = { job_passes };
+
+    fn accepts(&self, row: &JobRow) -> bool {
+        match *self {
+            JobFilter::Members(group) => row.group == group,
+            JobFilter::Unstarted(group) => row.group == group && is_unstarted(row),
+            JobFilter::Running(group) => {
+                row.group == group && matches!(row.state, JobState::Running)
+            }
+            JobFilter::Scheduling(group) => {
+                row.group == group && matches!(row.state, JobState::Scheduling)
+            }
+            JobFilter::Numbered(number) => row.number == number,
         }
     }
 }
@@ -55,45 +94,25 @@ fn is_unstarted(row: &JobRow) -> bool
 impl Edit<JobRow> for JobEdit<'_> {
     ghost use Rattle.farm_core.specs.Edits.{job_passes, job_changed};
 
-    ghost passes = { job_passes };
+    ghost passes = { λ e. job_passes e.jobs };
 
     ghost changed = { job_changed };
 
     fn passes(&self, row: &JobRow) -> bool {
-        match *self {
-            JobEdit::Start(group) => row.group == group,
-            JobEdit::End(group) => row.group == group && is_unstarted(row),
-            JobEdit::Cancel(group) => row.group == group && matches!(row.state, JobState::Running),
-            JobEdit::Finish(number, _) => row.number == number,
-            JobEdit::Place(_, number, _) => row.number == number,
-            JobEdit::Back(group) => {
-                row.group == group && matches!(row.state, JobState::Scheduling)
-            }
-        }
+        self.jobs.accepts(row)
     }
 
     fn change(&self, row: &mut JobRow) -> Result<(), AllocError> {
-        match *self {
-            JobEdit::Start(_) => row.state = JobState::Running,
-            JobEdit::End(_) => {
-                row.state = JobState::Finished;
-                row.outcome = Some(Outcome::Canceled);
-            }
-            JobEdit::Cancel(_) => row.state = JobState::Canceling,
-            JobEdit::Finish(_, outcome) => {
-                row.state = JobState::Finished;
-                row.outcome = Some(outcome);
-            }
-            JobEdit::Place(state, _, board) => {
-                let board = board.copy()?;
-                row.state = state;
+        match self.placement {
+            Placement::Stays => {}
+            Placement::Leaves => row.board = None,
+            Placement::On(name) => {
+                let board = name.copy()?;
                 row.board = Some(board);
             }
-            JobEdit::Back(_) => {
-                row.state = JobState::Submitted;
-                row.board = None;
-            }
         }
+        row.state = self.state;
+        row.outcome = self.outcome.or(row.outcome);
         Ok(())
     }
 }

@@ -17,8 +17,8 @@ ghost use Rattle.farm_core.specs.Came.{Acts, CameTo, seen, seen_at};
 ghost use Rattle.farm_core.specs.Plain.{plain_farm};
 ghost use Rattle.farm_core.specs.Placed.{IsPlaceOf};
 
-use crate::command::job_edit::JobEdit;
-use crate::held::Becomes;
+use crate::board_effect::BoardEffect;
+use crate::command::job_edit::{JobEdit, JobFilter, Placement};
 use crate::refusal::is_admin;
 use crate::tables::Tables;
 use farm_types::{
@@ -176,9 +176,20 @@ impl Tables {
             None => return Ok(0),
             Some(job) => job.group,
         };
-        self.edit_jobs_and_boards(JobEdit::End(group), Becomes::Idle)?;
+        let end = JobEdit {
+            jobs: JobFilter::Unstarted(group),
+            state: JobState::Finished,
+            outcome: Some(Outcome::Canceled),
+            placement: Placement::Stays,
+        };
+        self.edit_jobs_and_boards(end, BoardEffect::Free)?;
         self.collects_no_more(group);
-        self.jobs.edit(JobEdit::Cancel(group))?;
+        self.jobs.edit(JobEdit {
+            jobs: JobFilter::Running(group),
+            state: JobState::Canceling,
+            outcome: None,
+            placement: Placement::Stays,
+        })?;
         self.queues.take_claim(group);
         Ok(group)
     }
@@ -192,7 +203,13 @@ impl Tables {
             None => return Ok(0),
             Some(job) => job.group,
         };
-        self.edit_jobs_and_boards(JobEdit::Start(group), Becomes::State(State::Running))?;
+        let run = JobEdit {
+            jobs: JobFilter::Members(group),
+            state: JobState::Running,
+            outcome: None,
+            placement: Placement::Stays,
+        };
+        self.edit_jobs_and_boards(run, BoardEffect::State(State::Running))?;
         Ok(group)
     }
 
@@ -202,14 +219,22 @@ impl Tables {
         requires { IsSmall self.old.clock }
         ensures { IfOk result (λ n. Acts self.old [] (Cmd.Finish number named) n self.new) }
     {
-        let (outcome, becomes) = match self.find_job(number) {
+        let (checking, outcome) = match self.find_job(number) {
             None => return Ok(0),
-            Some(job) => {
-                let outcome = outcome_of(job, named);
-                (outcome, Becomes::after(job.checking, outcome, self.clock))
-            }
+            Some(job) => (job.checking, outcome_of(job, named)),
         };
-        self.edit_jobs_and_boards(JobEdit::Finish(number, outcome), becomes)?;
+        let end = JobEdit {
+            jobs: JobFilter::Numbered(number),
+            state: JobState::Finished,
+            outcome: Some(outcome),
+            placement: Placement::Stays,
+        };
+        let effect = BoardEffect::End {
+            checking,
+            outcome,
+            now: self.clock,
+        };
+        self.edit_jobs_and_boards(end, effect)?;
         Ok(number)
     }
 }

@@ -2,39 +2,25 @@
 ghost use Rattle.std.specs.Prelude.{◌≡◌};
 ghost use Rattle.farm_types.specs.Pass.{is_dead};
 
+use crate::held::Filter;
 use farm_table::Edit;
 use farm_types::{Name, ResRow, ResState};
 use std::alloc::AllocError;
 
-/// Which reservations are meant: one by its number, or those that are dead at a moment.
+/// Which reservations: one by its number, or those that are dead at a moment.
 #[derive(Clone, Copy, Debug)]
-pub enum Those {
+pub enum ResFilter {
     Numbered(u64),
     Dead(u64),
 }
 
-/// A change of one reservation, told by its number.
+/// A change of one reservation, told by its number: each field that is given.
 #[derive(Clone, Copy, Debug)]
 pub struct ResEdit<'a> {
     pub number: u64,
-    pub change: ResChange<'a>,
-}
-
-/// What becomes of a reservation.
-#[derive(Clone, Copy, Debug)]
-pub enum ResChange<'a> {
-    /// It is acquired.
-    Acquire,
-    /// It is allocated again, until a new deadline.
-    Release(u64),
-    /// It has a new deadline.
-    Refresh(u64),
-    /// It is canceled.
-    Cancel,
-    /// It is expired.
-    End,
-    /// It is given the board of that name, until a deadline.
-    Allocate(&'a Name, u64),
+    pub state: Option<ResState>,
+    pub deadline: Option<u64>,
+    pub board: Option<&'a Name>,
 }
 
 /// Whether a reservation waits or has been allocated, and its deadline has come.
@@ -44,25 +30,24 @@ pub fn is_dead(now: u64, row: &ResRow) -> bool
     matches!(row.state, ResState::Waiting | ResState::Allocated) && row.deadline <= now
 }
 
-impl Those {
-    ghost use Rattle.std.specs.Prelude.{◌≡◌};
-    ghost use Rattle.farm_core.specs.Edits.{is_meant};
+impl Filter<ResRow> for ResFilter {
+    ghost use Rattle.farm_core.specs.Edits.{res_passes};
 
-    /// Whether a reservation is one of them.
-    pub fn include(&self, row: &ResRow) -> bool
-        ensures { result ≡ is_meant self.now row.now }
-    {
+    ghost accepts = { res_passes };
+
+    fn accepts(&self, row: &ResRow) -> bool {
         match *self {
-            Those::Numbered(number) => row.number == number,
-            Those::Dead(now) => is_dead(now, row),
+            ResFilter::Numbered(number) => row.number == number,
+            ResFilter::Dead(now) => is_dead(now, row),
         }
     }
 }
 
 impl Edit<ResRow> for ResEdit<'_> {
-    ghost use Rattle.farm_core.specs.Edits.{res_passes, res_changed};
+    ghost use Rattle.std.specs.Prelude.{◌==◌};
+    ghost use Rattle.farm_core.specs.Edits.{res_changed};
 
-    ghost passes = { res_passes };
+    ghost passes = { λ e r. r.number == e.number };
 
     ghost changed = { res_changed };
 
@@ -71,22 +56,12 @@ impl Edit<ResRow> for ResEdit<'_> {
     }
 
     fn change(&self, row: &mut ResRow) -> Result<(), AllocError> {
-        match self.change {
-            ResChange::Acquire => row.state = ResState::Acquired,
-            ResChange::Release(deadline) => {
-                row.state = ResState::Allocated;
-                row.deadline = deadline;
-            }
-            ResChange::Refresh(deadline) => row.deadline = deadline,
-            ResChange::Cancel => row.state = ResState::Canceled,
-            ResChange::End => row.state = ResState::Expired,
-            ResChange::Allocate(board, deadline) => {
-                let board = board.copy()?;
-                row.state = ResState::Allocated;
-                row.board = Some(board);
-                row.deadline = deadline;
-            }
+        if let Some(name) = self.board {
+            let board = name.copy()?;
+            row.board = Some(board);
         }
+        row.state = self.state.unwrap_or(row.state);
+        row.deadline = self.deadline.unwrap_or(row.deadline);
         Ok(())
     }
 }

@@ -15,9 +15,9 @@ ghost use Rattle.farm_types.specs.declared.rows.ResState.{ResState};
 ghost use Rattle.farm_core.specs.Came.{Acts};
 ghost use Rattle.farm_core.specs.Plain.{plain_farm};
 
+use crate::board_effect::BoardEffect;
 use crate::command::jobs::owned_by;
-use crate::command::res_edit::{ResChange, ResEdit, is_dead};
-use crate::held::Becomes;
+use crate::command::res_edit::{ResEdit, is_dead};
 use crate::tables::Tables;
 use farm_types::{
     EXPIRED, FORBIDDEN, LEASE, NO_RESERVATION, Name, ResRow, ResState, State,
@@ -110,9 +110,13 @@ impl Tables {
     pub fn acquire(&mut self, number: u64) -> Result<u64, AllocError>
         ensures { IfOk result (λ n. Acts self.old [] (Cmd.Acquire number) n self.new) }
     {
-        let change = ResChange::Acquire;
-        let running = Becomes::State(State::Running);
-        self.edit_reservation_and_board(ResEdit { number, change }, running)?;
+        let edit = ResEdit {
+            number,
+            state: Some(ResState::Acquired),
+            deadline: None,
+            board: None,
+        };
+        self.edit_reservation_and_board(edit, BoardEffect::State(State::Running))?;
         Ok(number)
     }
 
@@ -121,9 +125,13 @@ impl Tables {
         requires { self.old.clock ≤ last_moment }
         ensures { IfOk result (λ n. Acts self.old [] (Cmd.Release number) n self.new) }
     {
-        let change = ResChange::Release(self.clock + LEASE);
-        let reserved = Becomes::State(State::Reserved);
-        self.edit_reservation_and_board(ResEdit { number, change }, reserved)?;
+        let edit = ResEdit {
+            number,
+            state: Some(ResState::Allocated),
+            deadline: Some(self.clock + LEASE),
+            board: None,
+        };
+        self.edit_reservation_and_board(edit, BoardEffect::State(State::Reserved))?;
         Ok(number)
     }
 
@@ -132,8 +140,13 @@ impl Tables {
         requires { self.old.clock ≤ last_moment }
         ensures { IfOk result (λ n. Acts self.old [] (Cmd.Refresh number) n self.new) }
     {
-        let change = ResChange::Refresh(self.clock + LEASE);
-        self.reservations.edit(ResEdit { number, change })?;
+        let deadline = Some(self.clock + LEASE);
+        self.reservations.edit(ResEdit {
+            number,
+            state: None,
+            deadline,
+            board: None,
+        })?;
         Ok(number)
     }
 
@@ -141,8 +154,13 @@ impl Tables {
     pub fn cancel_reservation(&mut self, number: u64) -> Result<u64, AllocError>
         ensures { IfOk result (λ n. Acts self.old [] (Cmd.CancelRes number) n self.new) }
     {
-        let change = ResChange::Cancel;
-        self.edit_reservation_and_board(ResEdit { number, change }, Becomes::Idle)?;
+        let edit = ResEdit {
+            number,
+            state: Some(ResState::Canceled),
+            deadline: None,
+            board: None,
+        };
+        self.edit_reservation_and_board(edit, BoardEffect::Free)?;
         self.queues.take_claim(number);
         Ok(number)
     }

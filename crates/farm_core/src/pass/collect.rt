@@ -10,8 +10,8 @@ ghost use Rattle.farm_core.specs.Came.{CameTo, LeadOn, seen, seen_at};
 ghost use Rattle.farm_core.specs.Collecting.{Collects, HasWant};
 ghost use Rattle.farm_core.specs.Plain.{plain_farm};
 
-use crate::command::job_edit::JobEdit;
-use crate::held::Becomes;
+use crate::board_effect::BoardEffect;
+use crate::command::job_edit::{JobEdit, JobFilter, Placement};
 use crate::pass::serve::numbers_in;
 use crate::tables::Tables;
 use farm_types::{JobState, Name};
@@ -48,7 +48,13 @@ impl Tables {
         if group == 0 {
             return Ok(());
         }
-        self.edit_jobs_and_boards(JobEdit::Back(group), Becomes::Idle)?;
+        let back = JobEdit {
+            jobs: JobFilter::Scheduling(group),
+            state: JobState::Submitted,
+            outcome: None,
+            placement: Placement::Leaves,
+        };
+        self.edit_jobs_and_boards(back, BoardEffect::Free)?;
         self.collector = 0;
         Ok(())
     }

@@ -11,9 +11,11 @@ ghost use Rattle.farm_core.specs.Following.{without_all, without_claim};
 ghost use Rattle.farm_core.specs.Leases.{is_dead_at};
 ghost use Rattle.farm_core.specs.Plain.{plain_farm};
 
-use crate::command::res_edit::{ResChange, ResEdit, Those};
-use crate::held::Becomes;
+use crate::board_effect::BoardEffect;
+use crate::command::res_edit::{ResEdit, ResFilter};
+use crate::held::Held;
 use crate::tables::Tables;
+use farm_types::ResState;
 use std::alloc::AllocError;
 
 impl Tables {
@@ -40,8 +42,12 @@ impl Tables {
           queues = without_claim number self.old.queues;
         }) self.new) }
     {
-        let change = ResChange::End;
-        self.reservations.edit(ResEdit { number, change })?;
+        self.reservations.edit(ResEdit {
+            number,
+            state: Some(ResState::Expired),
+            deadline: None,
+            board: None,
+        })?;
         self.queues.take_claim(number);
         Ok(())
     }
@@ -85,7 +91,11 @@ impl Tables {
             ≡ length (filter (is_dead self.old.clock) (plain_farm self.old).reservations)) }
     {
         // The boards first: the reservations as they were tell which are freed.
-        self.edit_boards_of_reservations(Those::Dead(self.clock), Becomes::Idle)?;
+        self.boards.change_where(&Held {
+            holders: &self.reservations,
+            filter: &ResFilter::Dead(self.clock),
+            effect: BoardEffect::Free,
+        })?;
         let count = self.expire_reservations()?;
         Ok(count)
     }

@@ -12,11 +12,11 @@ ghost use Rattle.farm_core.specs.Came.{CameTo, seen, seen_at};
 ghost use Rattle.farm_core.specs.Plain.{plain_farm};
 ghost use Rattle.farm_core.specs.Serving.{give_named, give_first};
 
-use crate::command::job_edit::JobEdit;
-use crate::command::res_edit::{ResChange, ResEdit};
-use crate::held::Hold;
+use crate::board_effect::BoardEffect;
+use crate::command::job_edit::{JobEdit, JobFilter, Placement};
+use crate::command::res_edit::ResEdit;
 use crate::tables::Tables;
-use farm_types::{Holder, JobState, LEASE, Name};
+use farm_types::{Holder, JobState, LEASE, Name, ResState};
 use std::alloc::AllocError;
 
 impl Tables {
@@ -31,7 +31,8 @@ impl Tables {
         }) (seen self.old)) self.new) }
     {
         let guess = self.boards.len().saturating_sub(self.queues.free_count());
-        self.boards.change_near(guess, name, &Hold { holder })?;
+        self.boards
+            .change_near(guess, name, &BoardEffect::Reserve(holder))?;
         Ok(())
     }
 
@@ -41,7 +42,12 @@ impl Tables {
         ensures { OnOk result (CameTo self.old (seen_at
             (give_named state (plain_farm self.old) (number, name.now)) (seen self.old)) self.new) }
     {
-        self.jobs.edit(JobEdit::Place(state, number, name))?;
+        self.jobs.edit(JobEdit {
+            jobs: JobFilter::Numbered(number),
+            state,
+            outcome: None,
+            placement: Placement::On(name),
+        })?;
         self.hold_board(name, Holder::Job(number))?;
         Ok(())
     }
@@ -66,8 +72,12 @@ impl Tables {
         ensures { OnOk result (CameTo self.old (seen_at
             (give_first (plain_farm self.old) number (name.now ∷ [])) (seen self.old)) self.new) }
     {
-        let change = ResChange::Allocate(name, self.clock + LEASE);
-        self.reservations.edit(ResEdit { number, change })?;
+        self.reservations.edit(ResEdit {
+            number,
+            state: Some(ResState::Allocated),
+            deadline: Some(self.clock + LEASE),
+            board: Some(name),
+        })?;
         self.hold_board(name, Holder::Res(number))?;
         Ok(())
     }

@@ -7,25 +7,25 @@ use Rattle.farm_core.proofs.Sound.{AreSmall-sound}
 use Rattle.farm_core.proofs.farm.Farm.step.Goals as goal
 
 pub returns-in-Some-clause-answer : goal.returns-in-Some-clause-answer
-returns-in-Some-clause-answer c = rw (← c.self.view_is) (sym (answers_repeated _ c.args.call.now _ c.in-Some.ensures).answer)
+returns-in-Some-clause-answer c = rw (← c.self.view_is) (sym (answers_repeated _ c.args.call.now _ (c.in-Some.ensures (plain_farm c.self.inside.tables) c.find_kept-kept.ensures)).answer)
 
 pub returns-in-Some-clause-farm : goal.returns-in-Some-clause-farm
-returns-in-Some-clause-farm c = rw (← c.self.view_is) (sym (answers_repeated _ c.args.call.now _ c.in-Some.ensures).step)
+returns-in-Some-clause-farm c = rw (← c.self.view_is) (sym (answers_repeated _ c.args.call.now _ (c.in-Some.ensures (plain_farm c.self.inside.tables) c.find_kept-kept.ensures)).step)
 
 pub returns-in-Some-refusal-clause-answer : goal.returns-in-Some-refusal-clause-answer
 returns-in-Some-refusal-clause-answer c =
-    rw (← c.self.view_is) (sym (answers_denied _ c.args.call.now _ c.in_default.ensures c.in-Some-refusal.ensures).answer)
+    rw (← c.self.view_is) (sym (answers_denied _ c.args.call.now _ (c.in_default.ensures (plain_farm c.self.inside.tables) c.find_kept-kept.ensures) c.in-Some-refusal.ensures).answer)
 
 pub returns-in-Some-refusal-clause-farm : goal.returns-in-Some-refusal-clause-farm
 returns-in-Some-refusal-clause-farm c =
-    rw (← c.self.view_is) (sym (answers_denied _ c.args.call.now _ c.in_default.ensures c.in-Some-refusal.ensures).step)
+    rw (← c.self.view_is) (sym (answers_denied _ c.args.call.now _ (c.in_default.ensures (plain_farm c.self.inside.tables) c.find_kept-kept.ensures) c.in-Some-refusal.ensures).step)
 
 pub change-requires-clause-accepted : goal.change-requires-clause-accepted
 change-requires-clause-accepted c = c.in_default-refusal.ensures
 
 pub returns-in_err-reply-clause-memory : goal.returns-in_err-reply-clause-memory
 returns-in_err-reply-clause-memory c =
-    λ _. rw (← c.self.view_is) (rw (answers_changed _ c.args.call.now c.in_default.ensures c.in_default-refusal.ensures).answer tt)
+    λ _. rw (← c.self.view_is) (rw (answers_changed _ c.args.call.now (c.in_default.ensures (plain_farm c.self.inside.tables) c.find_kept-kept.ensures) c.in_default-refusal.ensures).answer tt)
 
 pub invariant_of-self-2 : goal.invariant_of-self-2
 invariant_of-self-2 c =
@@ -39,11 +39,11 @@ change-requires-clause-fits c = (c.self.invariant c.if-self.false).fits
 
 pub returns-clause-answer : goal.returns-clause-answer
 returns-clause-answer c =
-    rw (← c.self.view_is) (ap Changed c.in_ok-reply.ensures.reply ∙ sym (answers_changed _ c.args.call.now c.in_default.ensures c.in_default-refusal.ensures).answer)
+    rw (← c.self.view_is) (ap Changed c.in_ok-reply.ensures.reply ∙ sym (answers_changed _ c.args.call.now (c.in_default.ensures (plain_farm c.self.inside.tables) c.find_kept-kept.ensures) c.in_default-refusal.ensures).answer)
 
 pub returns-clause-farm : goal.returns-clause-farm
 returns-clause-farm c =
-    rw (← c.self.view_is) (c.in_ok-reply.ensures.farm ∙ sym (answers_changed _ c.args.call.now c.in_default.ensures c.in_default-refusal.ensures).step)
+    rw (← c.self.view_is) (c.in_ok-reply.ensures.farm ∙ sym (answers_changed _ c.args.call.now (c.in_default.ensures (plain_farm c.self.inside.tables) c.find_kept-kept.ensures) c.in_default-refusal.ensures).step)
 
 pub returns-clause-sound : goal.returns-clause-sound
 returns-clause-sound c =

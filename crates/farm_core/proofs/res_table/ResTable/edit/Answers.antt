@@ -6,8 +6,9 @@ use Rattle.farm_types.specs.declared.rows.ResRow.{ResRow}
 use Rattle.farm_types.proofs.Searched.{same_numbers}
 use Rattle.farm_table.specs.Tabled.{Leads, Tabled}
 use Rattle.farm_table.proofs.Steps.{found_changes, nobody_changes}
-use Rattle.farm_core.specs.Edits.{res_changed, res_passes}
+use Rattle.farm_core.specs.Edits.{res_changed}
 use Rattle.farm_core.specs.Leases.{is_noted}
+use Rattle.farm_core.proofs.EditLemmas.{keeps_small}
 use Rattle.farm_core.proofs.Leasing.{noted_if, noted_on, noted_set}
 use Rattle.farm_core.proofs.res_table.ResTable.edit.Goals as goal
 
@@ -15,8 +16,11 @@ use Rattle.farm_core.proofs.res_table.ResTable.edit.Goals as goal
 pub returns-in_default-clause-rows : goal.returns-in_default-clause-rows
 returns-in_default-clause-rows c =
     let edit = c.args.edit in
-    subst (λ (t : Tabled ResRow). t.rows ≡ change_where (res_passes edit) (res_changed edit) t.rows) c.self.view_is
-    (nobody_changes (res_passes edit) (res_changed edit) c.self.inside.table.rows c.in_default.ensures.place)
+    subst (λ (t : Tabled ResRow). t.rows ≡ change_where (λ (r : ResRow). r.number == edit.number) (res_changed edit) t.rows) c.self.view_is
+    (nobody_changes (λ (r : ResRow). r.number == edit.number) (res_changed edit) c.self.inside.table.rows c.in_default.ensures.place)
+
+pub change_at-requires-clause-keeps : goal.change_at-requires-clause-keeps
+change_at-requires-clause-keeps c = record { key = λ r. refl; fits = keeps_small c.args.edit c.requires }
 
 pub invariant_of-self : goal.invariant_of-self
 invariant_of-self c = noted_on c.self.inside.leases c.note.new.leases c.note.ensures.grows c.self.inside.table.rows c.self.inside.table.rows c.self.invariant refl
@@ -44,7 +48,7 @@ returns-clause-rows c =
     let rows = c.self.inside.table.rows in
     found_changes (λ (r : ResRow). r.number) nat_cmp nat_cmp_total (λ a b. a == b) same_numbers edit.number (res_changed edit) rows c.change_at.new.self.rows c.in-Ok.at
     c.in-Ok.ensures.sorted c.in-Ok.ensures.place.0 c.in-Ok.ensures.place.1 c.in_ok-change_at.ensures.rows
-    ∙ ap (λ (t : Tabled ResRow). change_where (res_passes edit) (res_changed edit) t.rows) c.self.view_is
+    ∙ ap (λ (t : Tabled ResRow). change_where (λ (r : ResRow). r.number == edit.number) (res_changed edit) t.rows) c.self.view_is
 
 pub returns-clause-leads : goal.returns-clause-leads
 returns-clause-leads c = subst (λ (t : Tabled ResRow). Leads res_cmp t c.change_at.new.self) c.self.view_is c.in_ok-change_at.ensures.leads
