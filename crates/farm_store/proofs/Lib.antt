@@ -24,9 +24,10 @@ pub mod Through
 pub mod Commute
 pub mod Loads
 pub mod ColumnsFrom
+pub mod OnlyReads
 pub mod Selects
 pub mod RowSelects
-pub mod Versions
+pub mod LeftAlone
 pub mod TablesTell
 pub mod TagsRead
 pub mod ReadRows

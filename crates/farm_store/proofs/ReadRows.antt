@@ -1,11 +1,13 @@
 -- Rows read one after another.
-use Rattle.std.proofs.Common.{◌≡◌, ◌≢◌, ℕ, zero, suc, ◌+◌, ◌<◌, List, [], ◌∷◌, ◌++◌, map, take, length, get_or, Result, Ok, Err, OnOk, IsErrAnd, sym, ap, subst, ◌∙◌, arith}
+use Rattle.std.proofs.Common.{◌≡◌, ◌≢◌, ℕ, zero, suc, ◌<◌, List, [], ◌∷◌, ◌++◌, map, length, get_or, Result, Ok, Err, OnOk, IsErrAnd, sym, ap, subst, ◌∙◌, arith}
 use Rattle.std.specs.List.{AllByRecursion}
-use Rattle.std.proofs.lemmas.List.{take_more, map-append}
+use Rattle.std.proofs.lemmas.List.{map-append}
 use Rattle.sqlite.specs.Order.{Row}
 use Rattle.farm_store.specs.Reading.{ReadsAll, ReadsRow, HasColumns, TellsNoVersion}
+use Rattle.farm_store.specs.Stored.{IsWide}
 use Rattle.farm_store.specs.declared.fault.StoreFault.{StoreFault}
 use Rattle.farm_store.specs.declared.fault.StoreFault.TheVariants.{BadStore}
+use Rattle.farm_store.proofs.ColumnsFrom.{is_spelled, spells_itself}
 
 pub all_at : {X : Type 0} (P : X → Type 0) (xs : List X) (at : ℕ) (d : X) → AllByRecursion P xs → at < length xs → P (get_or xs at d)
 all_at P [] at d all low = absurd (omega arith)
@@ -16,23 +18,30 @@ all_more : {X : Type 0} (P : X → Type 0) (xs : List X) (x : X) → AllByRecurs
 all_more P [] x all p = (p, tt)
 all_more P (y ∷ xs) x all p = (all.0, all_more P xs x all.1 p)
 
-module _ {X : Type 0} (IsGood : X → Type 0) (columns : X → Row) where
-  -- the rows so far are those of good values
-  abbrev pub SoFar : List Row → ℕ → List X → Type 0
-  SoFar rows at xs = AllByRecursion IsGood xs × (take at rows ≡ map columns xs)
+-- of all, the first, and the one behind them
+all_but_last : {X : Type 0} (P : X → Type 0) (xs : List X) (x : X) → AllByRecursion P (xs ++ x ∷ []) → AllByRecursion P xs × P x
+all_but_last P [] x all = (tt, all.0)
+all_but_last P (y ∷ xs) x all = let more = all_but_last P xs x all.1 in ((all.0, more.0), more.1)
 
-  pub one_more : (rows : List Row) (at : ℕ) (row : Row) (xs : List X) (x : X) → at < length rows → row ≡ get_or rows at row → SoFar rows at xs → IsGood x → row ≡ columns x → SoFar rows (at + 1) (xs ++ x ∷ [])
-  one_more rows at row xs x low there sofar good is = (
+module _ {X : Type 0} (IsGood : X → Type 0) (columns : X → Row) (width : ℕ) where
+  -- the rows so far are those of good values, where they are as wide as the table
+  abbrev pub SoFar : List Row → List X → Type 0
+  SoFar rows xs = AllByRecursion IsGood xs × (AllByRecursion (IsWide width) rows → rows ≡ map columns xs)
+
+  pub one_more : ((x : X) → IsWide width (columns x)) → (rows : List Row) (row : Row) (xs : List X) (x : X) → SoFar rows xs → IsGood x → HasColumns row 0 (columns x) → SoFar (rows ++ row ∷ []) (xs ++ x ∷ [])
+  one_more fits rows row xs x sofar good has = (
     all_more IsGood xs x sofar.0 good,
-    take_more rows at row low ∙ ap (λ r. take at rows ++ r ∷ []) (sym there ∙ is) ∙ ap (λ l. l ++ columns x ∷ []) sofar.1 ∙ sym (map-append columns xs (x ∷ [])),
+    λ wide. let all = all_but_last (IsWide width) rows row wide in
+        let is : row ≡ columns x = is_spelled row (columns x) (all.1 ∙ sym (fits x)) has in
+        ap (λ r. rows ++ r ∷ []) is ∙ ap (λ l. l ++ columns x ∷ []) (sofar.1 all.0) ∙ sym (map-append columns xs (x ∷ [])),
   )
 
   -- where one row is of nothing good, so are all
-  pub none_good : (rows : List Row) (at : ℕ) (d : Row) → at < length rows → ((x : X) → IsGood x → get_or rows at d ≢ columns x) → (xs : List X) → AllByRecursion IsGood xs → rows ≢ map columns xs
-  none_good [] at d low none xs good same = absurd (omega arith)
-  none_good (r ∷ rows) at d low none [] good same = absurd (let e = same in cc)
-  none_good (r ∷ rows) zero d low none (x ∷ xs) good same = none x good.0 (let first : r ≡ columns x = cc in first)
-  none_good (r ∷ rows) (suc at) d low none (x ∷ xs) good same = none_good rows at d (omega arith) none xs good.1 (let more : rows ≡ map columns xs = cc in more)
+  pub none_good : (rows : List Row) (row : Row) (more : List Row) → ((x : X) → IsGood x → ¬ HasColumns row 0 (columns x)) → (xs : List X) → AllByRecursion IsGood xs → (rows ++ row ∷ []) ++ more ≢ map columns xs
+  none_good [] row more none [] good same = absurd (let e = same in cc)
+  none_good [] row more none (x ∷ xs) good same = none x good.0 (spells_itself row (columns x) (let first : row ≡ columns x = cc in first))
+  none_good (r ∷ rows) row more none [] good same = absurd (let e = same in cc)
+  none_good (r ∷ rows) row more none (x ∷ xs) good same = none_good rows row more none xs good.1 (let rest : (rows ++ row ∷ []) ++ more ≡ map columns xs = cc in rest)
 
 pub on_ok : {A E : Type 0} (r : Result A E) (P : Type 0) → P → OnOk r P
 on_ok (Ok a) P p = p

@@ -1,20 +1,16 @@
 -- The query of each table, and what it answers.
 use Rattle.std.proofs.Common.{refl, ◌≡◌, ◌-◌, ℕ, zero, suc, pos, negsuc, List, [], ◌∷◌, map, flat_map, false, None, ap, ap₂, sym, subst, ◌∙◌}
-use Rattle.std.specs.List.{AllByRecursion}
 use Rattle.std.specs.Ordering.{ordering_then}
 use Rattle.sqlite.specs.declared.types.Value.{Value}
 use Rattle.sqlite.specs.declared.types.Value.TheVariants.{Int}
-use Rattle.sqlite.specs.Order.{Row}
 use Rattle.sqlite.specs.Effect.{Database}
+use Rattle.sqlite.specs.Order.{Row}
 use Rattle.sqlite.specs.Table.{Table}
 use Rattle.sqlite.specs.Program.{overlay}
 use Rattle.sqlite.specs.Tree.{Trees}
 use Rattle.sqlite.specs.Term.{Term, lit, col, eval_all}
 use Rattle.sqlite.specs.Query.{Query, inner, end, Output, output}
-use Rattle.sqlite.specs.Command.TheVariants.{Select}
-use Rattle.sqlite.specs.Listing.{understood, reads_listing}
-use Rattle.sqlite.specs.State.{State, Shown}
-use Rattle.sqlite.proofs.Callers.{IsPlain, command_of}
+use Rattle.sqlite.specs.Listing.{understood, listing_schema}
 use Rattle.sqlite_tied.specs.Compute.{everything}
 use Rattle.sqlite_sql.specs.Query.{output_cmp}
 use Rattle.sqlite_value.specs.Keys.{ascending}
@@ -29,15 +25,16 @@ use Rattle.farm_store.specs.declared.jobs.TheConstants.{READ as READ_JOBS}
 use Rattle.farm_store.specs.declared.reservations.TheConstants.{READ as READ_RESERVATIONS}
 use Rattle.farm_store.specs.declared.kept.TheConstants.{READ as READ_KEPT}
 use Rattle.farm_store.specs.declared.meta.TheConstants.{READ as READ_META}
-use Rattle.farm_store.specs.Schema.{farm_schema, types_table, boards_table, jobs_table, reservations_table, kept_table, meta_table}
+use Rattle.farm_store.specs.Schema.{types_table, boards_table, jobs_table, reservations_table, kept_table, meta_table}
 use Rattle.farm_store.specs.Columns.{Tables, by_first, by_two}
-use Rattle.farm_store.specs.Holds.{IsInside, ShowsTables}
+use Rattle.farm_store.specs.Holds.{ShowsTables}
 use Rattle.farm_store.specs.Places.{TableSlot, of_types, of_boards, of_jobs, of_reservations, of_kept, of_meta}
-use Rattle.farm_store.specs.Reading.{CommitShows}
+use Rattle.farm_store.specs.Queries.{AsksFor, OnlyReads, Shows}
 use Rattle.farm_store.specs.Stored.{IsWide, row_less_rowid, with_number}
+use Rattle.farm_store.proofs.OnlyReads.{only_reads}
 use Rattle.farm_store.proofs.ColumnsFrom.{columns_from, whole, of_unnumbered, of_numbered}
 use Rattle.farm_store.proofs.PutAt.{IsKnown, types_known, boards_known, jobs_known, reservations_known, kept_known, meta_known}
-use Rattle.farm_store.proofs.Selects.{Selected, selected, rows_are}
+use Rattle.farm_store.proofs.Selects.{IsQuery, answer_of, goes_on, rows_are}
 
 -- the columns of the raw row from one place on
 abbrev cols : ℕ → ℕ → List Term
@@ -61,20 +58,6 @@ query_of tree project order = record {
   limit = lit (Int (negsuc 0));
   offset = lit (Int (pos 0));
 }
-
-abbrev IsQuery : List ℕ → Query → List (List ℕ) → Type 0
-IsQuery text query names = (command_of (understood farm_schema text) ≡ Select (record { lets = []; body = query }) names) × (reads_listing farm_schema text ≡ false) × IsPlain (understood farm_schema text)
-
--- the text shows the rows of the place
-abbrev Shows : TableSlot → List ℕ → Query → Type 1
-Shows p text query = (old new : State) (rows : List Row) (T : Tables) → IsInside old T → Shown text [] old new rows → (rows ≡ p.rows T) × AllByRecursion (IsWide p.width) rows × Selected query old new T rows
-
-module _ (p : TableSlot) (text : List ℕ) {query : Query} (shows_rows : Shows p text query) (old new : State) (rows : List Row) (T : Tables) (at : IsInside old T) (shown : Shown text [] old new rows) where
-  pub rows_shown : (rows ≡ p.rows T) × AllByRecursion (IsWide p.width) rows × IsInside new T
-  rows_shown = let got = shows_rows old new rows T at shown in (got.0, got.1, got.2.inside)
-
-  pub kept_shown : CommitShows old T → CommitShows new T
-  kept_shown shows still = let got = (shows_rows old new rows T at shown).2 in subst (λ (d : Database). ShowsTables d T) (sym got.committed) (shows got.was_open)
 
 abbrev first_key : ℕ → List (Term × Key)
 first_key at = (col 1 at, ascending Binary) ∷ []
@@ -105,37 +88,40 @@ behind : (at : ℕ) (r : Row) → column r (suc at) ≡ column (row_less_rowid r
 behind at [] = refl
 behind at (v ∷ r) = refl
 
-module _ (p : TableSlot) (known : IsKnown p) (alone : (db : Trees) → overlay db [] p.tree ≡ db p.tree) (text : List ℕ) (names : List (List ℕ)) where
+module _ (p : TableSlot) (known : IsKnown p) (alone : (db : Trees) → overlay db [] p.tree ≡ db p.tree) (text : List ℕ) (names : List (List ℕ)) (only : OnlyReads text) where
   -- what the query puts out of a raw row, and of the row that it shows
   by_output : (project : List Term) (order : List (Term × Key)) (P Q : Row → Output) → IsQuery text (query_of p.tree project order) names → ((raw : Row) → P raw ≡ Q (p.show raw))
       → ((a b : Row) → output_cmp (query_of p.tree project order) (Q a) (Q b) ≡ p.cmp a b) → ((r : Row) → IsWide p.width r → (Q r).1 ≡ r) → ((r : Row) → output (query_of p.tree project order) ([] ∷ r ∷ []) ≡ P r)
-      → Shows p text (query_of p.tree project order)
-  by_output project order P Q is shows keeps fits puts_out old new rows T at h =
+      → AsksFor p text
+  by_output project order P Q is shows keeps fits puts_out =
       let query = query_of p.tree project order in
-      let got = selected text query names is.0 is.2 is.1 old new rows T at h in
-      let a = got.answer in
-      let there = known.find old.now.trees T got.tables.holds in
-      let same = rows_are known.total p.show p.width query P Q shows keeps fits puts_out (λ l. refl) (old.now.trees p.tree) (p.rows T) rows a.kept a.ordered
-      (a.distinct ∙ ap (map (output query)) a.grouped ∙ ap (λ raws. map (output query) (flat_map (λ r. ([] ∷ r ∷ []) ∷ []) raws)) (alone old.now.trees)) a.same a.sorted a.shown there in
-      (same, subst (AllByRecursion (IsWide p.width)) (sym same) there.wide, got)
+      let all : (db : Database) (T : Tables) (rows : List Row) → ShowsTables db T → Shows text db rows → rows ≡ p.rows T = λ db T rows see it.
+      let a = answer_of text query names is db see.schema rows it in
+      rows_are known.total p.show p.width query P Q shows keeps fits puts_out (λ l. refl) (db.trees p.tree) (p.rows T) rows a.kept a.ordered
+      (a.distinct ∙ ap (map (output query)) a.grouped ∙ ap (λ raws. map (output query) (flat_map (λ r. ([] ∷ r ∷ []) ∷ []) raws)) (alone db.trees)) a.same a.sorted a.shown (known.find db.trees T see.holds) in
+      record {
+        only_reads = only;
+        all = all;
+        first = λ db T rows see it. let whole = goes_on text query names is db see.schema rows it in (whole.0, sym (all db T _ see whole.1));
+        wide = λ db T see. (known.find db.trees T see.holds).wide;
+      }
 
-  shown_by_key : IsQuery text (by_key p) names → ((r : Row) → row_less_rowid r ≡ p.show r) → ((a b : Row) → by_first a b ≡ p.cmp a b) → Shows p text (by_key p)
-  shown_by_key is show cmp =
+  asks_by_key : IsQuery text (by_key p) names → ((r : Row) → row_less_rowid r ≡ p.show r) → ((a b : Row) → by_first a b ≡ p.cmp a b) → AsksFor p text
+  asks_by_key is show cmp =
       let Q : Row → Output = λ r. (column r 0 ∷ [], columns_from 0 p.width r) in
       by_output (cols 1 p.width) (first_key 1) (λ r. (column r 1 ∷ [], columns_from 1 p.width r)) Q is
       (λ r. ap₂ (λ (k : Value) (l : Row). (k ∷ [], l)) (behind 0 r) (of_unnumbered p.width r) ∙ ap Q (show r)) (λ a b. first_is a b ∙ cmp a b) (whole p.width)
       (λ r. ap (λ (l : Row). (column r 1 ∷ [], l)) (of_cols 1 p.width r))
 
-  shown_by_keys : IsQuery text (by_keys p) names → ((r : Row) → row_less_rowid r ≡ p.show r) → ((a b : Row) → by_two a b ≡ p.cmp a b) → Shows p text (by_keys p)
-  shown_by_keys is show cmp =
+  asks_by_keys : IsQuery text (by_keys p) names → ((r : Row) → row_less_rowid r ≡ p.show r) → ((a b : Row) → by_two a b ≡ p.cmp a b) → AsksFor p text
+  asks_by_keys is show cmp =
       let Q : Row → Output = λ r. (column r 0 ∷ column r 1 ∷ [], columns_from 0 p.width r) in
       by_output (cols 1 p.width) two_keys (λ r. (column r 1 ∷ column r 2 ∷ [], columns_from 1 p.width r)) Q is
       (λ r. rw (behind 0 r, behind 1 r, of_unnumbered p.width r) (ap Q (show r))) (λ a b. two_are a b ∙ cmp a b) (whole p.width)
       (λ r. ap (λ (l : Row). (column r 1 ∷ column r 2 ∷ [], l)) (of_cols 1 p.width r))
 
-  shown_by_number : (more : ℕ) → suc more ≡ p.width → IsQuery text (query_of p.tree (col 1 0 ∷ cols 2 more) (first_key 0)) names → ((r : Row) → with_number r ≡ p.show r) → ((a b : Row) → by_first a b ≡ p.cmp a b)
-      → Shows p text (query_of p.tree (col 1 0 ∷ cols 2 more) (first_key 0))
-  shown_by_number more wide is show cmp =
+  asks_by_number : (more : ℕ) → suc more ≡ p.width → IsQuery text (query_of p.tree (col 1 0 ∷ cols 2 more) (first_key 0)) names → ((r : Row) → with_number r ≡ p.show r) → ((a b : Row) → by_first a b ≡ p.cmp a b) → AsksFor p text
+  asks_by_number more wide is show cmp =
       let Q : Row → Output = λ r. (column r 0 ∷ [], columns_from 0 (suc more) r) in
       by_output (col 1 0 ∷ cols 2 more) (first_key 0) (λ r. (column r 0 ∷ [], column r 0 ∷ columns_from 2 more r)) Q is
       (λ r. ap (λ (l : Row). (column r 0 ∷ [], l)) (of_numbered more r) ∙ ap Q (show r)) (λ a b. first_is a b ∙ cmp a b) (λ r fits. whole (suc more) r (subst (λ n. IsWide n r) (sym wide) fits))
@@ -145,42 +131,66 @@ module _ (p : TableSlot) (known : IsKnown p) (alone : (db : Trees) → overlay d
 
 types_is : IsQuery READ_TYPES.now (by_key of_types) (names_of types_table)
 unfolding understood everything
-types_is = (refl, refl, (refl, refl))
+types_is = refl
 
-pub shows_types : Shows of_types READ_TYPES.now (by_key of_types)
-shows_types = shown_by_key of_types types_known (λ db. refl) READ_TYPES.now (names_of types_table) types_is (λ r. refl) (λ a b. refl)
+types_only : OnlyReads READ_TYPES.now
+unfolding everything listing_schema
+types_only = only_reads READ_TYPES.now (λ schema. (refl, refl)) refl
+
+pub asks_types : AsksFor of_types READ_TYPES.now
+asks_types = asks_by_key of_types types_known (λ db. refl) READ_TYPES.now (names_of types_table) types_only types_is (λ r. refl) (λ a b. refl)
 
 boards_is : IsQuery READ_BOARDS.now (by_key of_boards) (names_of boards_table)
 unfolding understood everything
-boards_is = (refl, refl, (refl, refl))
+boards_is = refl
 
-pub shows_boards : Shows of_boards READ_BOARDS.now (by_key of_boards)
-shows_boards = shown_by_key of_boards boards_known (λ db. refl) READ_BOARDS.now (names_of boards_table) boards_is (λ r. refl) (λ a b. refl)
+boards_only : OnlyReads READ_BOARDS.now
+unfolding everything listing_schema
+boards_only = only_reads READ_BOARDS.now (λ schema. (refl, refl)) refl
+
+pub asks_boards : AsksFor of_boards READ_BOARDS.now
+asks_boards = asks_by_key of_boards boards_known (λ db. refl) READ_BOARDS.now (names_of boards_table) boards_only boards_is (λ r. refl) (λ a b. refl)
 
 jobs_is : IsQuery READ_JOBS.now (by_number of_jobs) (names_of jobs_table)
 unfolding understood everything
-jobs_is = (refl, refl, (refl, refl))
+jobs_is = refl
 
-pub shows_jobs : Shows of_jobs READ_JOBS.now (by_number of_jobs)
-shows_jobs = shown_by_number of_jobs jobs_known (λ db. refl) READ_JOBS.now (names_of jobs_table) (of_jobs.width - 1) refl jobs_is (λ r. refl) (λ a b. refl)
+jobs_only : OnlyReads READ_JOBS.now
+unfolding everything listing_schema
+jobs_only = only_reads READ_JOBS.now (λ schema. (refl, refl)) refl
+
+pub asks_jobs : AsksFor of_jobs READ_JOBS.now
+asks_jobs = asks_by_number of_jobs jobs_known (λ db. refl) READ_JOBS.now (names_of jobs_table) jobs_only (of_jobs.width - 1) refl jobs_is (λ r. refl) (λ a b. refl)
 
 reservations_is : IsQuery READ_RESERVATIONS.now (by_number of_reservations) (names_of reservations_table)
 unfolding understood everything
-reservations_is = (refl, refl, (refl, refl))
+reservations_is = refl
 
-pub shows_reservations : Shows of_reservations READ_RESERVATIONS.now (by_number of_reservations)
-shows_reservations = shown_by_number of_reservations reservations_known (λ db. refl) READ_RESERVATIONS.now (names_of reservations_table) (of_reservations.width - 1) refl reservations_is (λ r. refl) (λ a b. refl)
+reservations_only : OnlyReads READ_RESERVATIONS.now
+unfolding everything listing_schema
+reservations_only = only_reads READ_RESERVATIONS.now (λ schema. (refl, refl)) refl
+
+pub asks_reservations : AsksFor of_reservations READ_RESERVATIONS.now
+asks_reservations = asks_by_number of_reservations reservations_known (λ db. refl) READ_RESERVATIONS.now (names_of reservations_table) reservations_only (of_reservations.width - 1) refl reservations_is (λ r. refl) (λ a b. refl)
 
 kept_is : IsQuery READ_KEPT.now (by_keys of_kept) (names_of kept_table)
 unfolding understood everything
-kept_is = (refl, refl, (refl, refl))
+kept_is = refl
 
-pub shows_kept : Shows of_kept READ_KEPT.now (by_keys of_kept)
-shows_kept = shown_by_keys of_kept kept_known (λ db. refl) READ_KEPT.now (names_of kept_table) kept_is (λ r. refl) (λ a b. refl)
+kept_only : OnlyReads READ_KEPT.now
+unfolding everything listing_schema
+kept_only = only_reads READ_KEPT.now (λ schema. (refl, refl)) refl
+
+pub asks_kept : AsksFor of_kept READ_KEPT.now
+asks_kept = asks_by_keys of_kept kept_known (λ db. refl) READ_KEPT.now (names_of kept_table) kept_only kept_is (λ r. refl) (λ a b. refl)
 
 meta_is : IsQuery READ_META.now (by_key of_meta) (names_of meta_table)
 unfolding understood everything
-meta_is = (refl, refl, (refl, refl))
+meta_is = refl
 
-pub shows_meta : Shows of_meta READ_META.now (by_key of_meta)
-shows_meta = shown_by_key of_meta meta_known (λ db. refl) READ_META.now (names_of meta_table) meta_is (λ r. refl) (λ a b. refl)
+meta_only : OnlyReads READ_META.now
+unfolding everything listing_schema
+meta_only = only_reads READ_META.now (λ schema. (refl, refl)) refl
+
+pub asks_meta : AsksFor of_meta READ_META.now
+asks_meta = asks_by_key of_meta meta_known (λ db. refl) READ_META.now (names_of meta_table) meta_only meta_is (λ r. refl) (λ a b. refl)

@@ -5,6 +5,7 @@ pub mod Edits
 pub mod Faults
 pub mod Holds
 pub mod Places
+pub mod Queries
 pub mod Raising
 pub mod Readable
 pub mod Reading

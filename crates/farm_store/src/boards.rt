@@ -159,9 +159,8 @@ impl Stored for BoardRow {
 
     ghost IsGood = { λ _. IsReadableBoard };
 
-    fn rows<S: Alter>(tx: &mut Transaction<'_, S>) -> Result<Vec<Row>, Error> {
-        let rows = tx.query_all(READ, &[])?;
-        Ok(rows)
+    fn query() -> &'static str {
+        READ
     }
 
     fn of(alloc: Global, row: &Row, _: Edition) -> Result<BoardRow, StoreFault> {

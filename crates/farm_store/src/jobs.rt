@@ -198,9 +198,8 @@ impl Stored for JobRow {
 
     ghost IsGood = { IsReadableJobIn };
 
-    fn rows<S: Alter>(tx: &mut Transaction<'_, S>) -> Result<Vec<Row>, Error> {
-        let rows = tx.query_all(READ, &[])?;
-        Ok(rows)
+    fn query() -> &'static str {
+        READ
     }
 
     fn of(alloc: Global, row: &Row, edition: Edition) -> Result<JobRow, StoreFault> {

@@ -93,9 +93,8 @@ impl Stored for KeptRow {
 
     ghost IsGood = { λ _. IsReadableKept };
 
-    fn rows<S: Alter>(tx: &mut Transaction<'_, S>) -> Result<Vec<Row>, Error> {
-        let rows = tx.query_all(READ, &[])?;
-        Ok(rows)
+    fn query() -> &'static str {
+        READ
     }
 
     fn of(alloc: Global, row: &Row, _: Edition) -> Result<KeptRow, StoreFault> {

@@ -1,6 +1,6 @@
 //! The table of the farm's numbers: its statements, and what its rows stand for.
 ghost use Rattle.std.specs.Prelude.{◌≡◌, ◌≢◌, ◌↔◌, ◌⊎◌, [], ◌∷◌, Err, IfErr, IfOk, IsTrue, OnOk};
-ghost use Rattle.std.specs.Prelude.{MatchResult, ⊤};
+ghost use Rattle.std.specs.Prelude.{MatchResult, false, ⊤};
 ghost use Rattle.std.specs.List.{AllByRecursion, list_any};
 ghost use Rattle.sqlite.specs.Held.{state};
 ghost use Rattle.sqlite.specs.State.{HasCleanDisk};
@@ -11,10 +11,10 @@ ghost use Rattle.farm_store.specs.Columns.{number_rows, tells, values_of};
 ghost use Rattle.farm_store.specs.Editions.{IsCollectorIn, meta_rows_in, other_edition, schema_of};
 ghost use Rattle.farm_store.specs.Editions.{version_fault};
 ghost use Rattle.farm_store.specs.Edits.{ChangesTables, GoesOn, StaysOpen};
-ghost use Rattle.farm_store.specs.Holds.{IsInside};
+ghost use Rattle.farm_store.specs.Holds.{IsInside, ReadsOnly, Stands};
 ghost use Rattle.farm_store.specs.Places.{of_meta, put_at};
-ghost use Rattle.farm_store.specs.Reading.{CommitShows, LooksAtSchema, LooksFirst, ReadsAs};
-ghost use Rattle.farm_store.specs.Reading.{ReadsNumbers, TellsNoVersion};
+ghost use Rattle.farm_store.specs.Reading.{LooksAtSchema, LooksFirst, ReadsAs, ReadsNumbers};
+ghost use Rattle.farm_store.specs.Reading.{TellsNoVersion};
 ghost use Rattle.farm_store.specs.Schema.{meta_table};
 ghost use Rattle.farm_store.specs.Stored.{IsWide};
 ghost use Rattle.farm_store.specs.Versions.{ShowsNumbers};
@@ -27,7 +27,7 @@ use crate::tables::{are_columns, is_keyed};
 use crate::values::{number, text};
 use farm_types::MetaRow;
 use sqlite::types::ValueRef;
-use sqlite::{Alter, Error, Row, Transaction};
+use sqlite::{Alter, Connection, Error, Row, Transaction};
 use sqlite_schema::schema::{Kind, Table};
 
 /// Makes the table.
@@ -253,51 +253,40 @@ fn look_at_schema(rows: &[Row], edition: Edition) -> Result<(), StoreFault>
     }
 }
 
-fn meta_rows<S: Alter>(tx: &mut Transaction<'_, S>) -> Result<Vec<Row>, Error>
-    ensures goes_on { GoesOn S.Store tx.old tx.new }
-    ensures rows { HasCleanDisk (state S.Store tx.new.conn.now) → IfOk result (λ rows. (T : Tables)
-        → IsInside (state S.Store tx.old.conn.now) T
-        → (rows.items ≡ T.meta) × AllByRecursion (IsWide of_meta.width) rows.items
-        × IsInside (state S.Store tx.new.conn.now) T) }
-    ensures opened { HasCleanDisk (state S.Store tx.new.conn.now)
-        → OnOk result (IsTrue (state S.Store tx.old.conn.now).is_open) }
-    ensures shown { HasCleanDisk (state S.Store tx.new.conn.now)
-        → IfOk result (λ rows. ShowsNumbers (state S.Store tx.old.conn.now).now rows.items) }
-    ensures kept { HasCleanDisk (state S.Store tx.new.conn.now) → (T : Tables)
-        → IsInside (state S.Store tx.old.conn.now) T
-        → CommitShows (state S.Store tx.old.conn.now) T
-        → CommitShows (state S.Store tx.new.conn.now) T }
+fn meta_rows<S: Alter>(conn: &mut Connection<S>) -> Result<Vec<Row>, Error>
+    requires autocommit { conn.old.in_transaction ≡ false }
+    ensures only { ReadsOnly (state S.Store conn.old) (state S.Store conn.new) }
+    ensures rows { HasCleanDisk (state S.Store conn.new) → IfOk result (λ rows. (T : Tables)
+        → Stands (state S.Store conn.old) T
+        → (rows.items ≡ T.meta) × AllByRecursion (IsWide of_meta.width) rows.items) }
+    ensures opened { HasCleanDisk (state S.Store conn.new)
+        → OnOk result (IsTrue (state S.Store conn.old).is_open) }
+    ensures shown { HasCleanDisk (state S.Store conn.new)
+        → IfOk result (λ rows. ShowsNumbers (state S.Store conn.old).now rows.items) }
 {
-    let rows = tx.query_all(READ, &[])?;
+    let rows = conn.query_all(READ, &[])?;
     Ok(rows)
 }
 
 /// The farm's numbers in an edition. The version is looked at before the other rows.
 pub(crate) fn read_numbers<S: Alter>(
-    tx: &mut Transaction<'_, S>,
+    conn: &mut Connection<S>,
     edition: Edition,
 ) -> Result<MetaRow, StoreFault>
-    ensures goes_on { GoesOn S.Store tx.old tx.new }
-    ensures read { HasCleanDisk (state S.Store tx.new.conn.now) → (T : Tables)
-        → IsInside (state S.Store tx.old.conn.now) T
-        → ReadsNumbers edition result T }
-    ensures schema { HasCleanDisk (state S.Store tx.new.conn.now) → (T : Tables)
-        → IsInside (state S.Store tx.old.conn.now) T → LooksAtSchema edition result T }
-    ensures looked { HasCleanDisk (state S.Store tx.new.conn.now)
-        → LooksFirst edition result (state S.Store tx.old.conn.now).now }
+    requires autocommit { conn.old.in_transaction ≡ false }
+    ensures only { ReadsOnly (state S.Store conn.old) (state S.Store conn.new) }
+    ensures read { HasCleanDisk (state S.Store conn.new) → (T : Tables)
+        → Stands (state S.Store conn.old) T → ReadsNumbers edition result T }
+    ensures schema { HasCleanDisk (state S.Store conn.new) → (T : Tables)
+        → Stands (state S.Store conn.old) T → LooksAtSchema edition result T }
+    ensures looked { HasCleanDisk (state S.Store conn.new)
+        → LooksFirst edition result (state S.Store conn.old).now }
     ensures collector { IfOk result (λ m. IsCollectorIn edition m.collector) }
     ensures fault { result ≢ Err (version_fault edition) }
-    ensures inside { HasCleanDisk (state S.Store tx.new.conn.now)
-        → OnOk result ((T : Tables) → IsInside (state S.Store tx.old.conn.now) T
-        → IsInside (state S.Store tx.new.conn.now) T) }
-    ensures opened { HasCleanDisk (state S.Store tx.new.conn.now)
-        → OnOk result (IsTrue (state S.Store tx.old.conn.now).is_open) }
-    ensures kept { HasCleanDisk (state S.Store tx.new.conn.now) → (T : Tables)
-        → IsInside (state S.Store tx.old.conn.now) T
-        → CommitShows (state S.Store tx.old.conn.now) T
-        → CommitShows (state S.Store tx.new.conn.now) T }
+    ensures opened { HasCleanDisk (state S.Store conn.new)
+        → OnOk result (IsTrue (state S.Store conn.old).is_open) }
 {
-    let rows = meta_rows(tx)?;
+    let rows = meta_rows(conn)?;
     look_at_schema(&rows, edition)?;
     numbers_of(&rows, edition)
 }

@@ -7,10 +7,8 @@ ghost use Rattle.sqlite.specs.Held.{state};
 ghost use Rattle.sqlite.specs.State.{HasCleanDisk};
 ghost use Rattle.farm_store.specs.Columns.{Tables};
 ghost use Rattle.farm_store.specs.Editions.{IsCollectorIn, meta_rows_in, version_fault};
-ghost use Rattle.farm_store.specs.Edits.{GoesOn};
-ghost use Rattle.farm_store.specs.Holds.{IsInside, ReadsOnly};
-ghost use Rattle.farm_store.specs.Reading.{CommitShows, LooksAtSchema, LooksFirst, ReadsEdition};
-ghost use Rattle.farm_store.specs.Reading.{ReadsFarm, TellsNoVersion};
+ghost use Rattle.farm_store.specs.Holds.{ReadsOnly, Stands};
+ghost use Rattle.farm_store.specs.Reading.{ReadsEdition, ReadsFarm, TellsNoVersion};
 ghost use Rattle.farm_store.specs.Schema.{farm_schema};
 ghost use Rattle.farm_store.specs.declared.edition.Edition.TheVariants.{First, Second};
 
@@ -20,32 +18,29 @@ use crate::meta::read_numbers;
 use crate::queries::rows::read;
 use crate::tables::is_farm_schema;
 use farm_types::{BoardRow, JobRow, KeptRow, MetaRow, ResRow, Rows, TypeRow};
-use sqlite::{Alter, Connection, Transaction};
+use sqlite::{Alter, Connection};
 use std::alloc::Global;
 
 /// Each table but that of the numbers by its query.
 fn read_tables<S: Alter>(
     alloc: Global,
-    tx: &mut Transaction<'_, S>,
+    conn: &mut Connection<S>,
     meta: MetaRow,
     edition: Edition,
 ) -> Result<Rows, StoreFault>
-    ensures goes_on { GoesOn S.Store tx.old tx.new }
-    ensures read { HasCleanDisk (state S.Store tx.new.conn.now) → (T : Tables)
-        → IsInside (state S.Store tx.old.conn.now) T → IsCollectorIn edition meta.collector
+    requires autocommit { conn.old.in_transaction ≡ false }
+    ensures only { ReadsOnly (state S.Store conn.old) (state S.Store conn.new) }
+    ensures read { HasCleanDisk (state S.Store conn.new) → (T : Tables)
+        → Stands (state S.Store conn.old) T → IsCollectorIn edition meta.collector
         → T.meta ≡ meta_rows_in edition meta → ReadsFarm edition result T }
     ensures numbers { IfOk result (λ rows. rows.meta ≡ meta) }
     ensures fault { IfErr result TellsNoVersion }
-    ensures kept { HasCleanDisk (state S.Store tx.new.conn.now) → (T : Tables)
-        → IsInside (state S.Store tx.old.conn.now) T
-        → CommitShows (state S.Store tx.old.conn.now) T
-        → CommitShows (state S.Store tx.new.conn.now) T }
 {
-    let types = read::<TypeRow, S>(alloc, tx, edition)?;
-    let boards = read::<BoardRow, S>(alloc, tx, edition)?;
-    let jobs = read::<JobRow, S>(alloc, tx, edition)?;
-    let reservations = read::<ResRow, S>(alloc, tx, edition)?;
-    let kept = read::<KeptRow, S>(alloc, tx, edition)?;
+    let types = read::<TypeRow, S>(alloc, conn, edition)?;
+    let boards = read::<BoardRow, S>(alloc, conn, edition)?;
+    let jobs = read::<JobRow, S>(alloc, conn, edition)?;
+    let reservations = read::<ResRow, S>(alloc, conn, edition)?;
+    let kept = read::<KeptRow, S>(alloc, conn, edition)?;
     Ok(Rows {
         types,
         boards,
@@ -56,33 +51,8 @@ fn read_tables<S: Alter>(
     })
 }
 
-/// Each table by its query, that of the numbers first.
-fn read_all<S: Alter>(
-    alloc: Global,
-    tx: &mut Transaction<'_, S>,
-    edition: Edition,
-) -> Result<Rows, StoreFault>
-    ensures goes_on { GoesOn S.Store tx.old tx.new }
-    ensures read { HasCleanDisk (state S.Store tx.new.conn.now) → (T : Tables)
-        → IsInside (state S.Store tx.old.conn.now) T → ReadsFarm edition result T }
-    ensures schema { HasCleanDisk (state S.Store tx.new.conn.now) → (T : Tables)
-        → IsInside (state S.Store tx.old.conn.now) T → LooksAtSchema edition result T }
-    ensures looked { HasCleanDisk (state S.Store tx.new.conn.now)
-        → LooksFirst edition result (state S.Store tx.old.conn.now).now }
-    ensures collector { IfOk result (λ rows. IsCollectorIn edition rows.meta.collector) }
-    ensures fault { result ≢ Err (version_fault edition) }
-    ensures opened { HasCleanDisk (state S.Store tx.new.conn.now)
-        → OnOk result (IsTrue (state S.Store tx.old.conn.now).is_open) }
-    ensures kept { HasCleanDisk (state S.Store tx.new.conn.now) → (T : Tables)
-        → IsInside (state S.Store tx.old.conn.now) T
-        → CommitShows (state S.Store tx.old.conn.now) T
-        → CommitShows (state S.Store tx.new.conn.now) T }
-{
-    let meta = read_numbers(tx, edition)?;
-    read_tables(alloc, tx, meta, edition)
-}
-
-/// `read_edition`, whatever other columns, tables, indexes and views the store has.
+/// `read_edition`, whatever other columns, tables, indexes and views the store has: each table by
+/// its query, that of the numbers first.
 fn read_any<S: Alter>(
     alloc: Global,
     conn: &mut Connection<S>,
@@ -97,13 +67,11 @@ fn read_any<S: Alter>(
     ensures collector { IfOk result (λ rows. IsCollectorIn edition rows.meta.collector) }
     ensures fault { result ≢ Err (version_fault edition) }
 {
-    let mut tx = conn.transaction();
-    let rows = read_all(alloc, &mut tx, edition);
-    tx.rollback();
-    rows
+    let meta = read_numbers(conn, edition)?;
+    read_tables(alloc, conn, meta, edition)
 }
 
-/// Reads the rows of all tables of an edition, in one transaction that is rolled back.
+/// Reads the rows of all tables of an edition, and writes nothing.
 fn read_edition<S: Alter>(
     alloc: Global,
     conn: &mut Connection<S>,
@@ -130,9 +98,9 @@ fn read_edition<S: Alter>(
     }
 }
 
-/// Reads the rows of all tables, in order of their keys, in one transaction that is rolled back.
-/// The version that `meta` tells is looked at before anything else, whatever else the store has:
-/// tables of the first edition are refused as old, and those of an unknown one, or of none, as bad.
+/// Reads the rows of all tables, in order of their keys, and writes nothing. The version that `meta`
+/// tells is looked at before anything else, whatever else the store has: tables of the first edition
+/// are refused as old, and those of an unknown one, or of none, as bad.
 ///
 /// Refused as bad too where a column can't be read: where it is of another kind, a name or a key is
 /// no word, tags are in no canonical text, a code stands for nothing, a number is below 0; where
@@ -141,7 +109,7 @@ fn read_edition<S: Alter>(
 /// Where a table is not there, a call of the store was refused. Whether the rows are those of a
 /// sound farm is not looked at.
 ///
-/// It reads each row once, and keeps the raw rows of one table at a time.
+/// It reads each row once, and keeps one raw row at a time.
 pub fn load<S: Alter>(alloc: Global, conn: &mut Connection<S>) -> Result<Rows, StoreFault>
     requires autocommit { conn.old.in_transaction ≡ false }
     ensures only { ReadsOnly (state S.Store conn.old) (state S.Store conn.new) }
@@ -153,10 +121,10 @@ pub fn load<S: Alter>(alloc: Global, conn: &mut Connection<S>) -> Result<Rows, S
     read_edition(alloc, conn, Edition::Second)
 }
 
-/// Reads the rows of all tables of the first edition, as `load` reads those of this one: in one
-/// transaction that is rolled back, each row once. The version that `meta` tells is looked at before
-/// anything else, whatever else the store has: tables of this edition are refused as new, and those
-/// of an unknown one, or of none, as bad.
+/// Reads the rows of all tables of the first edition, as `load` reads those of this one: each row
+/// once, and nothing is written. The version that `meta` tells is looked at before anything else,
+/// whatever else the store has: tables of this edition are refused as new, and those of an unknown
+/// one, or of none, as bad.
 ///
 /// Refused as bad too where `load` would refuse a column or a table of its own, where a job's state
 /// has a number that the first edition lacked, and where the farm's numbers are not exactly its

@@ -103,9 +103,8 @@ impl Stored for ResRow {
 
     ghost IsGood = { λ _. IsReadableRes };
 
-    fn rows<S: Alter>(tx: &mut Transaction<'_, S>) -> Result<Vec<Row>, Error> {
-        let rows = tx.query_all(READ, &[])?;
-        Ok(rows)
+    fn query() -> &'static str {
+        READ
     }
 
     fn of(alloc: Global, row: &Row, _: Edition) -> Result<ResRow, StoreFault> {

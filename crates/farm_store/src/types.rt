@@ -110,9 +110,8 @@ impl Stored for TypeRow {
 
     ghost IsGood = { λ _. IsReadableType };
 
-    fn rows<S: Alter>(tx: &mut Transaction<'_, S>) -> Result<Vec<Row>, Error> {
-        let rows = tx.query_all(READ, &[])?;
-        Ok(rows)
+    fn query() -> &'static str {
+        READ
     }
 
     fn of(alloc: Global, row: &Row, _: Edition) -> Result<TypeRow, StoreFault> {

@@ -1,17 +1,15 @@
 //! The rows of a table, read one after another.
-ghost use Rattle.std.specs.Prelude.{◌≡◌, IfErr, IfOk, IsTrue, OnOk};
-ghost use Rattle.std.specs.List.{AllByRecursion};
+ghost use Rattle.std.specs.Prelude.{◌≡◌, false, IfErr};
 ghost use Rattle.sqlite.specs.Held.{state};
 ghost use Rattle.sqlite.specs.State.{HasCleanDisk};
 ghost use Rattle.farm_store.specs.Columns.{Tables};
-ghost use Rattle.farm_store.specs.Edits.{GoesOn};
-ghost use Rattle.farm_store.specs.Holds.{IsInside};
-ghost use Rattle.farm_store.specs.Reading.{CommitShows, ReadsAll, ReadsRow, TellsNoVersion};
-ghost use Rattle.farm_store.specs.Stored.{IsWide};
+ghost use Rattle.farm_store.specs.Holds.{ReadsOnly, Stands};
+ghost use Rattle.farm_store.specs.Queries.{AsksFor};
+ghost use Rattle.farm_store.specs.Reading.{ReadsAll, ReadsRow, TellsNoVersion};
 
 use crate::edition::Edition;
 use crate::fault::StoreFault;
-use sqlite::{Alter, Error, Row, Transaction};
+use sqlite::{Alter, Connection, Row};
 use std::alloc::Global;
 
 /// What the rows of one of the tables stand for.
@@ -27,19 +25,9 @@ pub(crate) trait Stored: Drop + Sized {
 
     ghost IsGood: { Edition → Self → Type 0 };
 
-    /// All rows of the table, in order of their keys.
-    fn rows<S: Alter>(tx: &mut Transaction<'_, S>) -> Result<Vec<Row>, Error>
-        ensures goes_on { GoesOn S.Store tx.old tx.new }
-        ensures rows { HasCleanDisk (state S.Store tx.new.conn.now)
-            → IfOk result (λ rows. (T : Tables) → IsInside (state S.Store tx.old.conn.now) T
-            → (rows.items ≡ place.rows T) × AllByRecursion (IsWide place.width) rows.items
-            × IsInside (state S.Store tx.new.conn.now) T) }
-        ensures opened { HasCleanDisk (state S.Store tx.new.conn.now)
-            → OnOk result (IsTrue (state S.Store tx.old.conn.now).is_open) }
-        ensures kept { HasCleanDisk (state S.Store tx.new.conn.now) → (T : Tables)
-            → IsInside (state S.Store tx.old.conn.now) T
-            → CommitShows (state S.Store tx.old.conn.now) T
-            → CommitShows (state S.Store tx.new.conn.now) T };
+    /// The query of all rows of the table, in order of their keys.
+    fn query() -> &'static str
+        ensures { AsksFor place result.now };
 
     /// What a row of the table stands for in an edition.
     fn of(alloc: Global, row: &Row, edition: Edition) -> Result<Self, StoreFault>
@@ -49,45 +37,28 @@ pub(crate) trait Stored: Drop + Sized {
     ghost wide: { (edition : Edition) (x : Self) → IsWide place.width (columns edition x) };
 }
 
-/// What each of these rows stands for in an edition.
-fn read_rows<R: Stored>(
-    alloc: Global,
-    rows: Vec<Row>,
-    edition: Edition,
-) -> Result<Vec<R>, StoreFault>
-    ensures read { AllByRecursion (IsWide R.place.width) rows.items
-        → ReadsAll result (λ all. all.items) (R.IsGood edition) (R.columns edition) rows.items }
-    ensures fault { IfErr result TellsNoVersion }
-{
-    let mut all = Vec::with_capacity(alloc, rows.len())?;
-    for row in rows {
-        all.push(R::of(alloc, &row, edition)?)?;
-    }
-    Ok(all)
-}
-
-/// What all rows of the table stand for in an edition, in order of their keys.
+/// What all rows of the table stand for in an edition, in order of their keys. It holds one row of
+/// the store at a time.
 pub(crate) fn read<R: Stored, S: Alter>(
     alloc: Global,
-    tx: &mut Transaction<'_, S>,
+    conn: &mut Connection<S>,
     edition: Edition,
 ) -> Result<Vec<R>, StoreFault>
-    ensures goes_on { GoesOn S.Store tx.old tx.new }
-    ensures read { HasCleanDisk (state S.Store tx.new.conn.now) → (T : Tables)
-        → IsInside (state S.Store tx.old.conn.now) T
+    requires autocommit { conn.old.in_transaction ≡ false }
+    ensures only { ReadsOnly (state S.Store conn.old) (state S.Store conn.new) }
+    ensures read { HasCleanDisk (state S.Store conn.new) → (T : Tables)
+        → Stands (state S.Store conn.old) T
         → ReadsAll result (λ all. all.items) (R.IsGood edition) (R.columns edition)
         (R.place.rows T) }
     ensures fault { IfErr result TellsNoVersion }
-    ensures inside { HasCleanDisk (state S.Store tx.new.conn.now)
-        → OnOk result ((T : Tables) → IsInside (state S.Store tx.old.conn.now) T
-        → IsInside (state S.Store tx.new.conn.now) T) }
-    ensures opened { HasCleanDisk (state S.Store tx.new.conn.now)
-        → OnOk result (IsTrue (state S.Store tx.old.conn.now).is_open) }
-    ensures kept { HasCleanDisk (state S.Store tx.new.conn.now) → (T : Tables)
-        → IsInside (state S.Store tx.old.conn.now) T
-        → CommitShows (state S.Store tx.old.conn.now) T
-        → CommitShows (state S.Store tx.new.conn.now) T }
 {
-    let rows = R::rows(tx)?;
-    read_rows(alloc, rows, edition)
+    let mut all = Vec::new(alloc);
+    let mut rows = conn.query(R::query(), &[])?;
+    'rows: for _ in 0..u64::MAX {
+        let Some(row) = rows.next()? else {
+            return Ok(all);
+        };
+        all.push(R::of(alloc, row, edition)?)?;
+    }
+    Err(StoreFault::NoMemory)
 }

@@ -14,7 +14,6 @@ use Rattle.farm_store.specs.declared.edition.Edition.{Edition}
 use Rattle.farm_store.specs.declared.fault.StoreFault.{StoreFault}
 use Rattle.farm_store.proofs.EditionLemmas.{never_handed, never_told, not_bad, not_own, not_store}
 use Rattle.farm_store.proofs.ReadFarm.{IsVersionFault, failed_first, known_first, looks_known, looks_refused, read_on, reads_numbers, refused_first, refuses_version}
-use Rattle.farm_store.proofs.ReadRows.{on_ok}
 use Rattle.farm_store.proofs.meta.read_numbers.Goals as goal
 
 pub returns-in_err-look_at_schema-clause-read : goal.returns-in_err-look_at_schema-clause-read
@@ -44,9 +43,6 @@ returns-clause-schema g c clean T at =
     let is = c.deref.ensures.value ∙ got.0 in
     looks_known c.args.edition c.numbers_of.result T (subst (λ rows. ¬ IsTrue (list_any (tells (schema_of (other_edition c.args.edition))) rows)) is looked.0) (subst (λ rows. IsTrue (list_any (tells (schema_of c.args.edition)) rows)) is looked.1)
 
-pub returns-clause-inside : goal.returns-clause-inside
-returns-clause-inside g c clean = on_ok c.numbers_of.result _ (λ T at. (c.in_ok-rows.ensures.rows clean T at).2)
-
 pub returns-in_err-rows-clause-fault : goal.returns-in_err-rows-clause-fault
 returns-in_err-rows-clause-fault g c = never_handed c.args.edition c.from_residual.result StoreFault.Store c.from_residual.ensures.1 (not_store c.args.edition)
 
@@ -63,17 +59,17 @@ pub returns-clause-fault : goal.returns-clause-fault
 returns-clause-fault g c = never_told c.args.edition c.numbers_of.result c.numbers_of.ensures.fault
 
 pub returns-in_err-rows-clause-looked : goal.returns-in_err-rows-clause-looked
-returns-in_err-rows-clause-looked g c clean = failed_first c.args.edition c.from_residual.result (state g.S.Store c.args.tx.now.conn.now).now c.from_residual.ensures.1
+returns-in_err-rows-clause-looked g c clean = failed_first c.args.edition c.from_residual.result (state g.S.Store c.args.conn.now).now c.from_residual.ensures.1
 
 pub returns-in_err-look_at_schema-clause-looked : goal.returns-in_err-look_at_schema-clause-looked
 returns-in_err-look_at_schema-clause-looked g c clean =
-    let db = (state g.S.Store c.args.tx.now.conn.now).now in
+    let db = (state g.S.Store c.args.conn.now).now in
     refused_first c.args.edition c.from_residual-in_err-look_at_schema.result db c.deref.result.now c.in_err-look_at_schema.field-0.0 c.from_residual-in_err-look_at_schema.ensures.1
     (subst (ShowsNumbers db) (sym c.deref.ensures.value) (c.in_ok-rows.ensures.shown clean)) c.in_err-look_at_schema.ensures
 
 pub returns-clause-looked : goal.returns-clause-looked
 returns-clause-looked g c clean =
-    let db = (state g.S.Store c.args.tx.now.conn.now).now in
+    let db = (state g.S.Store c.args.conn.now).now in
     let looked = c.in_ok-look_at_schema.ensures in
     read_on c.args.edition (tt {0}) c.numbers_of.result db
     (known_first c.args.edition (tt {0}) db c.deref.result.now (subst (ShowsNumbers db) (sym c.deref.ensures.value) (c.in_ok-rows.ensures.shown clean)) looked.0 looked.1) c.numbers_of.ensures.fault

@@ -1,48 +1,43 @@
-use Rattle.std.proofs.Common.{true, IsTrue, subst, arith, rules}
-use Rattle.std.proofs.lemmas.Result.{on_ok_weaker}
+use Rattle.std.proofs.Common.{IsTrue, Err, ap, ◌∙◌}
 use Rattle.sqlite.specs.Held.{state}
-use Rattle.sqlite.specs.State.{HasCleanDisk}
-use Rattle.farm_store.specs.Holds.{Stands}
-use Rattle.farm_store.specs.Reading.{LooksFirst}
-use Rattle.farm_store.proofs.Commits.{begun, begun_commit, left_before, rolled_back}
-use Rattle.farm_store.proofs.ReadFarm.{reads_edition}
+use Rattle.farm_store.specs.Columns.{numbers_of}
+use Rattle.farm_store.proofs.EditionLemmas.{collector_in, meta_in, never_handed, never_told}
+use Rattle.farm_store.proofs.ReadRows.{on_ok}
+use Rattle.farm_store.proofs.ReadFarm.{first_again, looks, looks_again, read_on, reads_edition, refuses_farm}
+use Rattle.farm_store.proofs.LeftAlone.{early, only_then}
 use Rattle.farm_store.proofs.queries.read_any.Goals as goal
 
+pub returns-in_err-meta-clause-reads : goal.returns-in_err-meta-clause-reads
+returns-in_err-meta-clause-reads g c clean =
+    let e = c.args.edition in
+    let result = c.from_residual.result in
+    let fault = c.in_err-meta.field-0.0 in
+    reads_edition e result (state g.S.Store c.args.conn.now)
+    (λ T at. let refused = c.in_err-meta.ensures.read clean T at in refuses_farm e result T fault c.from_residual.ensures.1 refused.0 (λ bad F good is. refused.1 bad (numbers_of F) (collector_in e F good) (meta_in e F T is)))
+    (λ T at. looks_again e c.read_numbers.result result T fault c.in_err-meta.was c.from_residual.ensures.1 (c.read_numbers.ensures.schema clean T at))
+    (first_again e c.read_numbers.result result (state g.S.Store c.args.conn.now).now fault c.in_err-meta.was c.from_residual.ensures.1 (c.read_numbers.ensures.looked clean))
+
+pub returns-in_err-meta-clause-fault : goal.returns-in_err-meta-clause-fault
+returns-in_err-meta-clause-fault g c =
+    never_handed c.args.edition c.from_residual.result c.in_err-meta.field-0.0 c.from_residual.ensures.1 (λ is. c.read_numbers.ensures.fault (c.in_err-meta.was ∙ ap Err is))
+
 pub returns-clause-only : goal.returns-clause-only
-returns-clause-only g c =
-    let end = c.rollback.new.self.0 in
-    let read = state g.S.Store c.read_all-rows.new.tx.conn.now in
-    let begin = state g.S.Store c.transaction-tx.result.conn.now in
-    let is = c.transaction-tx.ensures.begun in
-    record {
-      autocommit = search rules;
-      clean = search (rules, arith);
-      left = search (rules, arith);
-      stands = λ clean T at.
-          let late : HasCleanDisk (state g.S.Store end) = search rules in
-          let early : HasCleanDisk read = omega (arith, c.rollback.ensures.survives.clean) in
-          let inside = begun g.S.Store c.args.conn.now c.transaction-tx.result.conn.now is T at in
-          let shows = c.read_all-rows.ensures.kept early T inside (begun_commit g.S.Store c.args.conn.now c.transaction-tx.result.conn.now is T at) in
-          let stands : Stands (state g.S.Store end) T = rolled_back read (state g.S.Store end) T shows (c.rollback.ensures.undone late) (λ db may.
-          at.left db (subst (λ h. g.S.Store.recovers h.store db) {y = record c.args.conn.now { in_transaction = true }} is (left_before begin read c.read_all-rows.ensures.goes_on.survives early db (left_before read (state g.S.Store end) c.rollback.ensures.survives late db may)))) in
-          search rules;
-    }
+returns-clause-only g c = only_then c.read_numbers.ensures.only c.read_tables.ensures.only
 
 pub returns-clause-reads : goal.returns-clause-reads
 returns-clause-reads g c clean =
-    let late : HasCleanDisk (state g.S.Store c.rollback.new.self.0) = search rules in
-    let early : HasCleanDisk (state g.S.Store c.read_all-rows.new.tx.conn.now) = omega (arith, c.rollback.ensures.survives.clean) in
-    let inside = begun g.S.Store c.args.conn.now c.transaction-tx.result.conn.now c.transaction-tx.ensures.begun in
-    reads_edition c.args.edition c.read_all-rows.result (state g.S.Store c.args.conn.now)
-    (λ T at. c.read_all-rows.ensures.read early T (inside T at))
-    (λ T at. c.read_all-rows.ensures.schema early T (inside T at))
-    (subst (λ h. LooksFirst c.args.edition c.read_all-rows.result (state g.S.Store h).now) {y = record c.args.conn.now { in_transaction = true }} c.transaction-tx.ensures.begun
-    (c.read_all-rows.ensures.looked early))
+    let e = c.args.edition in
+    let meta = c.in_ok-meta.meta in
+    let result = c.read_tables.result in
+    let first = early c.read_tables.ensures.only clean in
+    reads_edition e result (state g.S.Store c.args.conn.now)
+    (λ T at. let numbers = c.in_ok-meta.ensures.read first T at in c.read_tables.ensures.read clean T (c.read_numbers.ensures.only.stands first T at) numbers.0 numbers.1)
+    (λ T at. looks e result T meta (c.in_ok-meta.ensures.read first T at).1)
+    (read_on e meta result (state g.S.Store c.args.conn.now).now (c.in_ok-meta.ensures.looked first) c.read_tables.ensures.fault)
 
 pub returns-clause-opened : goal.returns-clause-opened
 returns-clause-opened g c clean =
-    let late : HasCleanDisk (state g.S.Store c.rollback.new.self.0) = search rules in
-    let early : HasCleanDisk (state g.S.Store c.read_all-rows.new.tx.conn.now) = omega (arith, c.rollback.ensures.survives.clean) in
-    on_ok_weaker c.read_all-rows.result
-    (λ was_open. subst (λ h. IsTrue (state g.S.Store h).is_open) {y = record c.args.conn.now { in_transaction = true }} c.transaction-tx.ensures.begun was_open)
-    (c.read_all-rows.ensures.opened early)
+    on_ok c.read_tables.result (IsTrue (state g.S.Store c.args.conn.now).is_open) (c.in_ok-meta.ensures.opened (early c.read_tables.ensures.only clean))
+
+pub returns-clause-fault : goal.returns-clause-fault
+returns-clause-fault g c = never_told c.args.edition c.read_tables.result c.read_tables.ensures.fault

@@ -1,15 +1,86 @@
-use Rattle.std.proofs.Common.{subst}
-use Rattle.farm_store.specs.Reading.{ReadsAll}
-use Rattle.farm_store.proofs.ReadRows.{on_ok}
+use Rattle.std.proofs.Common.{refl, ◌≡◌, ◌++◌, [], ◌∷◌, sym, subst, ◌∙◌, rules, arith}
+use Rattle.sqlite.specs.Held.{state}
+use Rattle.sqlite.specs.State.{HasCleanDisk}
+use Rattle.sqlite.proofs.Callers.{given_begin, unchanged_then}
+use Rattle.sqlite.proofs.StateLemmas.{survives_then, survives_weaker}
+use Rattle.farm_store.proofs.LeftAlone.{all_shown, failed_left, reads_only, sees, some_shown}
+use Rattle.farm_store.proofs.OnlyReads.{begun, never_commits}
+use Rattle.farm_store.proofs.ReadRows.{SoFar, none_good, one_more, refuses}
 use Rattle.farm_store.proofs.queries.rows.read.Goals as goal
 
-pub returns-clause-read : goal.returns-clause-read
-returns-clause-read g c clean T at =
-    let got = c.in_ok-rows.ensures.rows clean T at in
-    subst (ReadsAll c.read_rows.result (λ all. all.items) (g.R.Stored.IsGood c.args.edition) (g.R.Stored.columns c.args.edition)) got.0 (c.read_rows.ensures.read got.1)
+pub returns-in_err-rows-clause-only : goal.returns-in_err-rows-clause-only
+returns-in_err-rows-clause-only g c =
+    let text = c.query.result.now in
+    let old = state g.S.Store c.args.conn.now in
+    let new = state g.S.Store c.query-2.follows.lender-at-none in
+    let held = rw c.in_err-rows.was at c.query-2.follows.holds-at-none in
+    reads_only old new _ held.survives (never_commits text c.query.ensures.only_reads old) (held.mode c.requires.autocommit)
+    (λ clean. failed_left text [] old new _ (held.err clean))
 
-pub returns-clause-inside : goal.returns-clause-inside
-returns-clause-inside g c clean = on_ok c.read_rows.result _ (λ T at. (c.in_ok-rows.ensures.rows clean T at).2)
+pub rows-init : goal.rows-init
+rows-init g c =
+    let text = c.query.result.now in
+    let only = c.query.ensures.only_reads in
+    let old = c.args.conn.now in
+    let new = c.in_ok-rows.rows.conn.now in
+    let made = c.in_ok-rows.ensures in (
+      refl,
+      survives_weaker (state g.S.Store old) (state g.S.Store new) _ _ (λ _ db. never_commits text only (state g.S.Store old) db) made.survives,
+      made.mode c.requires.autocommit,
+      λ clean. let it = begun text only g.S.Store old new (made.begun clean) in (it.1, (text, c.query.ensures, ([], it.0, rw c.new-all.ensures.items (tt, λ _. refl)))),
+    )
 
-pub returns-clause-opened : goal.returns-clause-opened
-returns-clause-opened g c clean = on_ok c.read_rows.result _ (c.in_ok-rows.ensures.opened clean)
+pub returns-in_default-clause-read : goal.returns-in_default-clause-read
+returns-in_default-clause-read g c clean T at =
+    let moved = c.next.follows.holds-at-none in
+    let was = state g.S.Store c.rows.rows.conn.now in
+    let now = state g.S.Store c.next.follows.lender-at-none.conn.now in
+    let late : HasCleanDisk now = search rules in
+    let sofar = c.rows.invariant.3 (omega (arith, moved.survives.clean)) in
+    let it = sofar.1.2 in
+    let shown = (rw (c.in_ok-row.was, c.in_default.is) at (moved.ok late)) sofar.1.0 [] it.0 it.1 in
+    let whole = all_shown g.R.Stored.place sofar.1.0 sofar.1.1 was T (sees (state g.S.Store c.args.conn.now) was T sofar.0 at) now it.0 shown in
+    (it.2.0, sym whole.0 ∙ it.2.1 whole.1)
+
+pub returns-in_err-of-clause-read : goal.returns-in_err-of-clause-read
+returns-in_err-of-clause-read g c clean T at =
+    let moved = c.next.follows.holds-at-none in
+    let old = state g.S.Store c.args.conn.now in
+    let was = state g.S.Store c.rows.rows.conn.now in
+    let now = c.next.follows.lender-at-none.conn.now in
+    let row = c.in-Some.row.now in
+    let late : HasCleanDisk (state g.S.Store now) = search rules in
+    let sofar = c.rows.invariant.3 (omega (arith, moved.survives.clean)) in
+    let text = sofar.1.0 in
+    let it = sofar.1.2 in
+    let given = (rw (c.in_ok-row.was, c.in-Some.is) at (moved.ok late)) text [] it.0 it.1 in
+    let same = unchanged_then old was (state g.S.Store now) sofar.0 (rw c.in_ok-row.was at (moved.same late)) in
+    let whole = some_shown g.R.Stored.place text sofar.1.1 (state g.S.Store now) T (sees old (state g.S.Store now) T same at) (it.0 ++ row ∷ []) (given_begin g.S.Store text [] now (it.0 ++ row ∷ []) given) in
+    let good = g.R.Stored.IsGood c.args.edition in
+    let columns = g.R.Stored.columns c.args.edition in
+    let refused = c.in_err-of.ensures in
+    refuses c.from_residual-in_err-of.result (λ all. all.items) good columns (g.R.Stored.place.rows T) c.in_err-of.field-0.0 c.from_residual-in_err-of.ensures.1 refused.0
+    (λ bad xs fine is. none_good good columns g.R.Stored.place.width it.0 row whole.0 (refused.1 bad) xs fine (sym whole.1 ∙ is))
+
+pub rows-preserved : goal.rows-preserved
+rows-preserved g c =
+    let moved = c.next.follows.holds-at-none in
+    let old = state g.S.Store c.args.conn.now in
+    let was = state g.S.Store c.rows.rows.conn.now in
+    let now = state g.S.Store c.next.follows.lender-at-none.conn.now in
+    let row = c.in-Some.row.now in
+    let x = c.in_ok-of.field-0 in
+    let good = g.R.Stored.IsGood c.args.edition in
+    let columns = g.R.Stored.columns c.args.edition in
+    let width = g.R.Stored.place.width in
+    let items : c.push.new.self.items ≡ c.rows.all.items ++ x ∷ [] = search rules in (
+      moved.same_reference ∙ c.rows.invariant.0,
+      survives_then old was now _ _ (λ _. ⊥) (λ _ db none. none) (λ _ db none. none) c.rows.invariant.1 moved.survives,
+      moved.mode c.rows.invariant.2,
+      λ clean. let sofar = c.rows.invariant.3 (omega (arith, moved.survives.clean)) in
+          let it = sofar.1.2 in
+          let more = one_more good columns width (g.met.R.Stored.wide c.args.edition) it.0 row c.rows.all.items x it.2 c.in_ok-of.ensures.0 c.in_ok-of.ensures.1 in (
+            unchanged_then old was now sofar.0 (rw c.in_ok-row.was at (moved.same clean)),
+            (sofar.1.0, sofar.1.1, (it.0 ++ row ∷ [], (rw (c.in_ok-row.was, c.in-Some.is) at (moved.ok clean)) sofar.1.0 [] it.0 it.1, subst (SoFar good columns width (it.0 ++ row ∷ [])) (sym items) more)),
+          ),
+    )

@@ -1,0 +1,93 @@
+-- What a call that only reads leaves of a connection.
+use Rattle.std.proofs.Common.{inl, inr, ◌≡◌, ◌⊎◌, ◌++◌, ℕ, false, List, [], Option, Some, None, sym, subst, ◌∙◌, arith}
+use Rattle.sqlite.specs.Clock.{timed}
+use Rattle.sqlite.specs.Effect.{Database}
+use Rattle.sqlite.specs.Order.{Row}
+use Rattle.sqlite.specs.State.{State, HasCleanDisk, Begins, Fails, FailsToQuery, FailsToShow, IsNotRun, IsRolledBack, IsUnchanged, Shown, Survives}
+use Rattle.sqlite.specs.Tree.{Trees}
+use Rattle.sqlite.specs.declared.error.Error.{Error}
+use Rattle.sqlite_schema.specs.declared.command.Returning.{Returning}
+use Rattle.std.specs.List.{AllByRecursion}
+use Rattle.farm_store.specs.Columns.{Tables}
+use Rattle.farm_store.specs.Holds.{ReadsOnly, ShowsTables, Stands}
+use Rattle.farm_store.specs.Places.{TableSlot}
+use Rattle.farm_store.specs.Queries.{AsksFor}
+use Rattle.farm_store.specs.Stored.{IsWide}
+use Rattle.farm_store.proofs.OnlyReads.{shown, shown_first}
+
+-- it is as it was, or it went back to the last commit
+abbrev pub IsLeft : State → State → Type 0
+IsLeft old new = IsUnchanged old new ⊎ IsRolledBack old new
+
+not_run_left : (sql : List ℕ) (params : Row) (old new : State) (e : Error) → IsNotRun old new sql params e → IsLeft old new
+unfolding IsNotRun
+not_run_left sql params old new e (inl h) = inl h.1
+not_run_left sql params old new e (inr h) = inr h.3
+
+-- a query that failed
+pub failed_left : (sql : List ℕ) (params : Row) (old new : State) (e : Error) → FailsToQuery sql params old new e → IsLeft old new
+unfolding FailsToQuery
+failed_left sql params old new e (inl h) = not_run_left sql params old new e h
+failed_left sql params old new e (inr h) = by h.0.returning h.2
+  where
+    by : (o : Option Returning) → FailsToShow old new sql h.0 (timed params h.0.formats h.1.now) e o → IsLeft old new
+    by None it = inl it.3
+    by (Some what) it = elim it [ inl still ↦ inl still.1 | inr undone ↦ inr undone.3 ]
+
+-- a step to the next row that failed
+pub stopped_left : (old new : State) (e : Error) → Fails old new ⊥ e ⊎ IsUnchanged old new → IsLeft old new
+stopped_left old new e (inl h) = inr h.3
+stopped_left old new e (inr h) = inl h
+
+stands : (old new : State) (T : Tables) → IsLeft old new → new.in_transaction ≡ false → ((db : Trees) → new.may_leave db → old.may_leave db) → Stands old T → Stands new T
+stands old new T (inl same) auto left at = record {
+  autocommit = auto;
+  same = λ still. same.0.now_is ∙ at.same same.0.was_open ∙ sym same.0.committed_is;
+  shown = λ still. subst (λ (d : Database). ShowsTables d T) (sym same.0.now_is) (at.shown same.0.was_open);
+  left = λ db may. at.left db (left db may);
+}
+stands old new T (inr undone) auto left at = record {
+  autocommit = auto;
+  same = λ still. (undone.undone still).0 ∙ sym (undone.undone still).1;
+  shown = λ still. let was = undone.was_open still in subst (λ (d : Database). ShowsTables d T) (at.same was ∙ sym (undone.undone still).0) (at.shown was);
+  left = λ db may. at.left db (left db may);
+}
+
+-- a call that commits nothing, begins no transaction, and leaves it so
+pub reads_only : (old new : State) (Commits : Trees → Type 0) → Survives old new Commits → ((db : Trees) → ¬ Commits db) → new.in_transaction ≡ false → (HasCleanDisk new → IsLeft old new) → ReadsOnly old new
+reads_only old new Commits survives none auto left =
+    let no_more : HasCleanDisk new → (db : Trees) → new.may_leave db → old.may_leave db = λ clean db may. elim (survives.crash clean db may) [ inl before ↦ before | inr is ↦ absurd (none db is) ] in
+    record {
+      autocommit = auto;
+      clean = survives.clean;
+      left = no_more;
+      stands = λ clean T at. stands old new T (left clean) auto (no_more clean) at;
+    }
+
+-- the disk was clean before
+pub early : {old new : State} → ReadsOnly old new → HasCleanDisk new → HasCleanDisk old
+early only clean = omega (arith, only.clean, clean)
+
+-- over two calls
+pub only_then : {old mid new : State} → ReadsOnly old mid → ReadsOnly mid new → ReadsOnly old new
+only_then {old} {mid} {new} one two = record {
+  autocommit = two.autocommit;
+  clean = omega (arith, one.clean, two.clean);
+  left = λ clean db may. one.left (early two clean) db (two.left clean db may);
+  stands = λ clean T at. two.stands clean T (one.stands (early two clean) T at);
+}
+
+-- the tables that stood there are seen while nothing changes
+pub sees : (first old : State) (T : Tables) → IsUnchanged first old → Stands first T → ShowsTables old.now T
+sees first old T same at = subst (λ (d : Database). ShowsTables d T) (sym same.0.now_is) (at.shown same.0.was_open)
+
+module _ (p : TableSlot) (text : List ℕ) (asks : AsksFor p text) (old : State) (T : Tables) (see : ShowsTables old.now T) where
+  -- what the query shows of them
+  pub all_shown : (new : State) (rows : List Row) → Shown text [] old new rows → (rows ≡ p.rows T) × AllByRecursion (IsWide p.width) rows
+  all_shown new rows h =
+      let are = asks.all old.now T rows see (shown text asks.only_reads old new rows h).0 in
+      (are, subst (AllByRecursion (IsWide p.width)) (sym are) (asks.wide old.now T see))
+
+  -- and what it has shown so far
+  pub some_shown : (rows : List Row) → Begins text [] old rows → (more : List Row) × (p.rows T ≡ rows ++ more)
+  some_shown rows h = asks.first old.now T rows see (shown_first text asks.only_reads old rows h)
