@@ -250,7 +250,7 @@ module _ (F : Farm) (sound : IsSound F) (place : Option (ℕ × ℕ)) where
 
 -- what they lend after a place, all of it
 abbrev pub lent_after : QueueLists → Option (ℕ × ℕ) → List Claim
-lent_after queues place = claims_after (λ k. false || is_open queues.boards k) (last_spot place) queues.claims
+lent_after queues place = claims_after (is_open queues.boards) (last_spot place) queues.claims
 
 -- the claim that was reached
 lent_of : (F : Farm) (place : Option (ℕ × ℕ)) (o : Option Coming) → IsReached F place o → Option Claim

@@ -1,5 +1,5 @@
 -- A walk over several queues lends the claims in the order of the whole queue.
-use Rattle.std.proofs.Common.{◌≡◌, ◌∙◌, ◌&&◌, ◌||◌, ◌<◌, ◌≤◌, ◌+◌, ◌++◌, ◌==◌, ◌⊎◌, ℕ, zero, suc, List, [], ◌∷◌, length, map, get_or, slice_set, Bool, true, false, cond, Option, Some, None, IsSome, is_some, inl, inr, refl, sym, ap, subst, arith}
+use Rattle.std.proofs.Common.{◌≡◌, ◌∙◌, ◌&&◌, ◌<◌, ◌≤◌, ◌+◌, ◌++◌, ◌==◌, ◌⊎◌, ℕ, zero, suc, List, [], ◌∷◌, length, map, get_or, slice_set, Bool, true, false, cond, Option, Some, None, IsSome, is_some, inl, inr, refl, sym, ap, subst, arith}
 use mathlib.Core.Bool.{true≢false}
 use Rattle.std.specs.Cmp.{IsTotalOrder, nat_cmp_total, on_total, then_total}
 use Rattle.std.specs.List.{AllByRecursion, filter, find}
@@ -404,9 +404,9 @@ rank_up last x y is less =
     ap is_lt (rank_total.trans last (record { queue = 0; priority = x.claim.priority; number = x.claim.number }) (record { queue = 0; priority = y.claim.priority; number = y.claim.number })
     (less_of (rank_of_claim last x.claim) is) less)
 
-module _ (kinds : List (List ℕ)) (es : List (Spot × Claim)) (rows : List IdleRow) (are : AreHeads kinds es rows) (all : Bool) (last : Spot) where
+module _ (kinds : List (List ℕ)) (es : List (Spot × Claim)) (rows : List IdleRow) (are : AreHeads kinds es rows) (last : Spot) where
   abbrev opens : Option (List ℕ) → Bool
-  opens k = all || is_open (map (shown_idle kinds) rows) k
+  opens k = is_open (map (shown_idle kinds) rows) k
 
   abbrev shows : Queued → Bool
   shows x = is_later last x.claim && opens x.kind
@@ -414,23 +414,23 @@ module _ (kinds : List (List ℕ)) (es : List (Spot × Claim)) (rows : List Idle
   abbrev shown : List Queued
   shown = shown_claims kinds es
 
-  found : (o : Option Claim) → IsFirst es (λ q. all || queue_open rows q) (length kinds + 1) last o → o ≡ option_map (λ (x : Queued). x.claim) (find shows shown)
+  found : (o : Option Claim) → IsFirst es (queue_open rows) (length kinds + 1) last o → o ≡ option_map (λ (x : Queued). x.claim) (find shows shown)
   found o first =
-      first_shown kinds es are.keyed are.apart last (λ q. all || queue_open rows q) opens
-      (λ q low. ap (λ v. all || v) (same_open kinds are.idle.apart rows are.idle.each q low)) o first
+      first_shown kinds es are.keyed are.apart last (queue_open rows) opens
+      (same_open kinds are.idle.apart rows are.idle.each) o first
 
-  pub walk_end : IsFirst es (λ q. all || queue_open rows q) (length kinds + 1) last None → walk_from kinds es rows all last ≡ []
+  pub walk_end : IsFirst es (queue_open rows) (length kinds + 1) last None → walk_from kinds es rows last ≡ []
   walk_end first = by (find shows shown) refl (found None first)
     where
-      by : (o : Option Queued) → find shows shown ≡ o → None ≡ option_map (λ (x : Queued). x.claim) o → walk_from kinds es rows all last ≡ []
+      by : (o : Option Queued) → find shows shown ≡ o → None ≡ option_map (λ (x : Queued). x.claim) o → walk_from kinds es rows last ≡ []
       by None is none = ap (map (λ (x : Queued). x.claim)) (filter_of_none shows shown is)
       by (Some x) is none = cc
 
-  pub walk_on : (c : Claim) (l : Spot) → l.priority ≡ c.priority → l.number ≡ c.number → IsFirst es (λ q. all || queue_open rows q) (length kinds + 1) last (Some c)
-      → walk_from kinds es rows all last ≡ c ∷ walk_from kinds es rows all l
+  pub walk_on : (c : Claim) (l : Spot) → l.priority ≡ c.priority → l.number ≡ c.number → IsFirst es (queue_open rows) (length kinds + 1) last (Some c)
+      → walk_from kinds es rows last ≡ c ∷ walk_from kinds es rows l
   walk_on c l priority number first = by (find shows shown) refl (found (Some c) first)
     where
-      by : (o : Option Queued) → find shows shown ≡ o → Some c ≡ option_map (λ (x : Queued). x.claim) o → walk_from kinds es rows all last ≡ c ∷ walk_from kinds es rows all l
+      by : (o : Option Queued) → find shows shown ≡ o → Some c ≡ option_map (λ (x : Queued). x.claim) o → walk_from kinds es rows last ≡ c ∷ walk_from kinds es rows l
       by None is some = cc
       by (Some x) is some =
           let same : c ≡ x.claim = cc in
@@ -443,11 +443,11 @@ module _ (kinds : List (List ℕ)) (es : List (Spot × Claim)) (rows : List Idle
 
 -- ---- a turn of the walk
 
-pub walk_none : (kinds : List (List ℕ)) (es : List (Spot × Claim)) (rows : List IdleRow) (all : Bool) (last : Spot) (cursors cs : List (Option Cursor)) → cs ≡ cursors
-    → IsWalk kinds es rows all last cursors → IsLeastOf cs None → walk_from kinds es rows all last ≡ []
-walk_none kinds es rows all last cursors cs same walk none =
-    walk_end kinds es rows walk.heads all last
-    (first_none kinds es walk.heads.keyed (λ q. all || queue_open rows q) last (length kinds + 1) cursors walk.cursors_at (subst (λ xs. IsLeastOf xs None) same none))
+pub walk_none : (kinds : List (List ℕ)) (es : List (Spot × Claim)) (rows : List IdleRow) (last : Spot) (cursors cs : List (Option Cursor)) → cs ≡ cursors
+    → IsWalk kinds es rows last cursors → IsLeastOf cs None → walk_from kinds es rows last ≡ []
+walk_none kinds es rows last cursors cs same walk none =
+    walk_end kinds es rows walk.heads last
+    (first_none kinds es walk.heads.keyed (queue_open rows) last (length kinds + 1) cursors walk.cursors_at (subst (λ xs. IsLeastOf xs None) same none))
 
 -- the cursor that is taken is there
 pub taken_there : (cursors cs : List (Option Cursor)) (place : ℕ) → cs ≡ cursors → IsLeastOf cs (Some place) → (o : Option Cursor) → o ≡ get_or cursors place o → o ≡ get_or cursors place None
@@ -464,10 +464,10 @@ set_twice [] i a b = refl
 set_twice (x ∷ xs) zero a b = refl
 set_twice (x ∷ xs) (suc i) a b = ap (λ ys. x ∷ ys) (set_twice xs i a b)
 
-module _ (kinds : List (List ℕ)) (es : List (Spot × Claim)) (rows : List IdleRow) (all : Bool) (last : Spot) (cursors cs : List (Option Cursor)) (same : cs ≡ cursors)
-    (walk : IsWalk kinds es rows all last cursors) (place : ℕ) (least : IsLeastOf cs (Some place)) (x : Cursor) (taken : Some x ≡ get_or cursors place None) where
+module _ (kinds : List (List ℕ)) (es : List (Spot × Claim)) (rows : List IdleRow) (last : Spot) (cursors cs : List (Option Cursor)) (same : cs ≡ cursors)
+    (walk : IsWalk kinds es rows last cursors) (place : ℕ) (least : IsLeastOf cs (Some place)) (x : Cursor) (taken : Some x ≡ get_or cursors place None) where
   abbrev opens_at : ℕ → Bool
-  opens_at q = all || queue_open rows q
+  opens_at q = queue_open rows q
 
   least_here : IsLeastOf cursors (Some place)
   least_here = subst (λ xs. IsLeastOf xs (Some place)) same least
@@ -478,13 +478,13 @@ module _ (kinds : List (List ℕ)) (es : List (Spot × Claim)) (rows : List Idle
   least_x : (i : ℕ) (y : Cursor) → i < length cursors → get_or cursors i None ≡ Some y → is_lt (shown_cmp y.claim.now x.claim.now) ≡ false
   least_x i y low at = ap (λ (z : Cursor). is_lt (shown_cmp y.claim.now z.claim.now)) (sym is_x) ∙ least_here.3 i y low at
 
-  pub lends_on : (l : Spot) → l.priority ≡ x.claim.now.priority → l.number ≡ x.claim.now.number → walk_from kinds es rows all last ≡ x.claim.now ∷ walk_from kinds es rows all l
+  pub lends_on : (l : Spot) → l.priority ≡ x.claim.now.priority → l.number ≡ x.claim.now.number → walk_from kinds es rows last ≡ x.claim.now ∷ walk_from kinds es rows l
   lends_on l priority number =
-      walk_on kinds es rows walk.heads all last x.claim.now l priority number
+      walk_on kinds es rows walk.heads last x.claim.now l priority number
       (first_some kinds es walk.heads.keyed opens_at last (length kinds + 1) cursors walk.cursors_at place x least_here.1 (sym taken) least_x)
 
   pub walks_on : (l : Spot) → l.priority ≡ x.claim.now.priority → l.number ≡ x.claim.now.number → (a o : Option Cursor) → StepsTo x.rest place o
-      → IsWalk kinds es rows all l (slice_set (slice_set cursors place a) place o)
+      → IsWalk kinds es rows l (slice_set (slice_set cursors place a) place o)
   walks_on l priority number a o steps =
       let ranked = ranked_x kinds es walk.heads.keyed opens_at last (length kinds + 1) cursors walk.cursors_at place x least_here.1 (sym taken) least_x in
       record {

@@ -1,5 +1,5 @@
 -- A walk over the claims of several queues, in the order of the whole queue.
-use Rattle.std.specs.Prelude.{◌≡◌, ◌<◌, ◌&&◌, ◌||◌, ◌+◌, ℕ, Bool, true, false, List, ◌∷◌}
+use Rattle.std.specs.Prelude.{◌≡◌, ◌<◌, ◌&&◌, ◌+◌, ℕ, Bool, true, false, List, ◌∷◌}
 use Rattle.std.specs.Prelude.{map, length, get_or, Option, Some, None, IsSome, if◌then◌else◌}
 use Rattle.std.specs.List.{filter}
 use Rattle.std.specs.List.Sorted.{IsStrictlySortedBy}
@@ -21,10 +21,10 @@ abbrev pub claims_after : (Option (List ℕ) → Bool) → Spot → List Queued 
 claims_after opens last claims =
     map (λ x. x.claim) (filter (λ x. is_later last x.claim && opens x.kind) claims)
 
--- what a walk lends that is after a spot
-abbrev pub walk_from : List (List ℕ) → List (Spot × Claim) → List IdleRow → Bool → Spot → List Claim
-walk_from kinds es rows all last =
-    claims_after (λ k. all || is_open (map (shown_idle kinds) rows) k) last (shown_claims kinds es)
+-- what a walk lends: the claims of open queues after a spot
+abbrev pub walk_from : List (List ℕ) → List (Spot × Claim) → List IdleRow → Spot → List Claim
+walk_from kinds es rows last =
+    claims_after (is_open (map (shown_idle kinds) rows)) last (shown_claims kinds es)
 
 -- the entries of the map behind a spot
 abbrev pub entries_behind : List (Spot × Claim) → Spot → List (Spot × Claim)
@@ -58,9 +58,9 @@ pub record AreCursors (es : List (Spot × Claim)) (test : ℕ → Bool) (last : 
   pub each : (q : ℕ) → q < n → IsCursor es test (record last { queue = q }) (get_or cursors q None)
 
 pub record IsWalk (kinds : List (List ℕ)) (es : List (Spot × Claim)) (rows : List IdleRow)
-    (all : Bool) (last : Spot) (cursors : List (Option Cursor)) : Type 0 where
+    (last : Spot) (cursors : List (Option Cursor)) : Type 0 where
   pub heads : AreHeads kinds es rows
-  pub cursors_at : AreCursors es (λ q. all || queue_open rows q) last (length kinds + 1) cursors
+  pub cursors_at : AreCursors es (queue_open rows) last (length kinds + 1) cursors
 
 -- the first of what is left of the map, if it is of the queue, and what is left then
 abbrev pub StepsTo : List (Spot × Claim) → ℕ → Option Cursor → Type 0

@@ -188,18 +188,17 @@ impl Queues {
     }
 
     /// Lends the claims that come after a priority and a number, if they are given, in the order
-    /// `before`; without `all` only those of queues that are open. It takes memory for one place in
-    /// each queue.
+    /// `before`, of the queues that are open. It takes memory for one place in each queue.
     ///
     /// With C claims and K types it costs O(K log C) to begin, and then a comparison a queue for
     /// each claim that is lent, and no search.
-    pub fn walk(&self, after: Option<(Priority, u64)>, all: bool) -> Result<Walk<'_>, AllocError>
-        ensures { IfOk result (λ walk. walk ≡ claims_after (λ k. all || is_open self.now.boards k)
+    pub fn walk(&self, after: Option<(Priority, u64)>) -> Result<Walk<'_>, AllocError>
+        ensures { IfOk result (λ walk. walk ≡ claims_after (is_open self.now.boards)
             (last_spot after) self.now.claims) }
     {
         let alloc = *self.kinds.allocator();
         let last = spot::last_spot(after);
-        let walk = Walk::new(alloc, &self.kinds, &self.claims, &self.idle, last, all)?;
+        let walk = Walk::new(alloc, &self.kinds, &self.claims, &self.idle, last)?;
         Ok(walk)
     }
 

@@ -1,12 +1,11 @@
 //! The claims of the queues, one after the other in the order of the whole queue.
-ghost use Rattle.std.specs.Prelude.{◌≡◌, ◌+◌, ◌||◌, IfOk, length, option_map};
+ghost use Rattle.std.specs.Prelude.{◌≡◌, ◌+◌, IfOk, length, option_map};
 ghost use Rattle.std.specs.Iterator.{YieldsFirstRef, item_count};
 ghost use Rattle.farm_pick.specs.Heads.{AreHeads, queue_open};
 ghost use Rattle.farm_pick.specs.Walked.{AreCursors, IsCursor, IsLeastOf, StandsIn, StepsTo};
 ghost use Rattle.farm_pick.specs.Walked.{earlier_place, walk_from};
 
-use crate::claim_index;
-use crate::idle::IdleRow;
+use crate::idle::{self, IdleRow};
 use crate::order::before;
 use crate::spot::Spot;
 use farm_types::{Claim, Name};
@@ -51,17 +50,15 @@ fn cursor_after<'a>(claims: &'a BTreeMap<Spot, Claim>, last: Spot) -> Option<Cur
     )
 }
 
-/// Where a walk begins in the queue of a spot; in a closed one at no claim, unless all are asked
-/// for.
-fn seen_cursor<'a>(
+/// Where a walk begins in the queue of a spot: in a closed one at no claim.
+fn open_cursor<'a>(
     claims: &'a BTreeMap<Spot, Claim>,
     rows: &VecDeque<IdleRow>,
     last: Spot,
-    all: bool,
 ) -> Option<Cursor<'a>>
-    ensures { IsCursor claims.now.entries (λ q. all || queue_open rows.now.items q) last result }
+    ensures { IsCursor claims.now.entries (queue_open rows.now.items) last result }
 {
-    if claim_index::is_seen(rows, last.queue, all) {
+    if idle::is_open(rows, last.queue) {
         cursor_after(claims, last)
     } else {
         None
@@ -75,14 +72,13 @@ fn cursors_after<'a>(
     claims: &'a BTreeMap<Spot, Claim>,
     rows: &VecDeque<IdleRow>,
     last: Spot,
-    all: bool,
 ) -> Result<Vec<Option<Cursor<'a>>>, AllocError>
     ensures { IfOk result (λ cursors. AreCursors claims.now.entries
-        (λ q. all || queue_open rows.now.items q) last (length kinds.now + 1) cursors.items) }
+        (queue_open rows.now.items) last (length kinds.now + 1) cursors.items) }
 {
     let mut cursors = Vec::with_capacity(alloc, kinds.len() + 1)?;
     for queue in 0..kinds.len() + 1 {
-        let cursor = seen_cursor(claims, rows, Spot { queue, ..last }, all);
+        let cursor = open_cursor(claims, rows, Spot { queue, ..last });
         cursors.push(cursor)?;
     }
     Ok(cursors)
@@ -124,8 +120,8 @@ fn first_of(cursors: &[Option<Cursor<'_>>]) -> Option<usize>
     }
 }
 
-/// Lends the claims of the queues that come after a spot, in the order `before`; those of queues
-/// that are closed only where all are asked for. Contracts see the list of those that are left.
+/// Lends the claims of the open queues that come after a spot, in the order `before`. Contracts see
+/// the list of those that are left.
 ///
 /// With K types each turn costs a comparison a queue, and no search.
 #[derive(Drop)]
@@ -133,7 +129,6 @@ pub struct Walk<'a> {
     kinds: &'a [Name],
     claims: &'a BTreeMap<Spot, Claim>,
     idle: &'a VecDeque<IdleRow>,
-    all: bool,
     /// The spot after which claims are lent, whatever its queue.
     last: Spot,
     /// Where the walk stands in each queue.
@@ -147,33 +142,31 @@ impl<'a> Model for Walk<'a> {
 
     ghost Value = { List Claim };
 
-    ghost view = { λ w. walk_from w.kinds.now w.claims.now.entries w.idle.now.items w.all w.last };
+    ghost view = { λ w. walk_from w.kinds.now w.claims.now.entries w.idle.now.items w.last };
 
-    ghost invariant = { λ w. IsWalk w.kinds.now w.claims.now.entries w.idle.now.items w.all w.last
+    ghost invariant = { λ w. IsWalk w.kinds.now w.claims.now.entries w.idle.now.items w.last
         w.cursors.items };
 }
 
 impl<'a> Walk<'a> {
-    /// The claims of all queues after a spot.
+    /// The claims of the open queues after a spot.
     pub(crate) fn new(
         alloc: Global,
         kinds: &'a [Name],
         claims: &'a BTreeMap<Spot, Claim>,
         idle: &'a VecDeque<IdleRow>,
         last: Spot,
-        all: bool,
     ) -> Result<Walk<'a>, AllocError>
         requires { AreHeads kinds.now claims.now.entries idle.now.items }
         ensures { IfOk result
-            (λ walk. walk ≡ walk_from kinds.now claims.now.entries idle.now.items all last) }
+            (λ walk. walk ≡ walk_from kinds.now claims.now.entries idle.now.items last) }
     {
         Ok(Walk {
             kinds,
             claims,
             idle,
-            all,
             last,
-            cursors: cursors_after(alloc, kinds, claims, idle, last, all)?,
+            cursors: cursors_after(alloc, kinds, claims, idle, last)?,
         })
     }
 }

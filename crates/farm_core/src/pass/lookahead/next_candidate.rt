@@ -215,7 +215,7 @@ impl Tables {
             → IsReached (plain_farm self.now) last None) }
     {
         let mut guess = Guess::none();
-        for claim in self.queues.walk(last, false)? {
+        for claim in self.queues.walk(last)? {
             let claim = Coming::of(claim);
             if !self.is_unmet(unmet, &claim, &mut guess) {
                 ahead.push_back(claim)?;

@@ -1,4 +1,4 @@
-use Rattle.std.proofs.Common.{◌||◌, ◌+◌, sym, subst}
+use Rattle.std.proofs.Common.{◌+◌, sym, subst}
 use Rattle.farm_pick.specs.Heads.{queue_open}
 use Rattle.farm_pick.specs.Walked.{AreCursors}
 use Rattle.farm_pick.proofs.Walking.{cursor_more}
@@ -6,6 +6,6 @@ use Rattle.farm_pick.proofs.walk.cursors_after.Goals as goal
 
 pub loop-queue-preserved : goal.loop-queue-preserved
 loop-queue-preserved c =
-    subst (AreCursors c.args.claims.now.entries (λ q. c.args.all || queue_open c.args.rows.now.items q) c.args.last (c.loop-queue.queue + 1)) (sym c.in_ok-push.ensures.items)
-    (cursor_more c.args.claims.now.entries (λ q. c.args.all || queue_open c.args.rows.now.items q) c.args.last c.loop-queue.queue c.loop-queue.cursors.items c.seen_cursor-cursor.result
-    c.loop-queue.invariant c.seen_cursor-cursor.ensures)
+    subst (AreCursors c.args.claims.now.entries (queue_open c.args.rows.now.items) c.args.last (c.loop-queue.queue + 1)) (sym c.in_ok-push.ensures.items)
+    (cursor_more c.args.claims.now.entries (queue_open c.args.rows.now.items) c.args.last c.loop-queue.queue c.loop-queue.cursors.items c.open_cursor-cursor.result
+    c.loop-queue.invariant c.open_cursor-cursor.ensures)

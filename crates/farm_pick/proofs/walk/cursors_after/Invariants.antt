@@ -1,7 +1,6 @@
-use Rattle.std.proofs.Common.{◌||◌}
 use Rattle.farm_pick.specs.Heads.{queue_open}
 use Rattle.farm_pick.specs.Walked.{AreCursors}
 use Rattle.farm_pick.proofs.walk.cursors_after.Given as goal
 
 abbrev pub invariant-loop-queue : goal.invariant-loop-queue
-invariant-loop-queue l = AreCursors l.claims.entries (λ q. l.all || queue_open l.rows.items q) l.last l.queue l.cursors.items
+invariant-loop-queue l = AreCursors l.claims.entries (queue_open l.rows.items) l.last l.queue l.cursors.items

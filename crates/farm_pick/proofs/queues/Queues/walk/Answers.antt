@@ -1,4 +1,4 @@
-use Rattle.std.proofs.Common.{◌∙◌, ◌||◌, ap, refl}
+use Rattle.std.proofs.Common.{◌∙◌, ap, refl}
 use Rattle.farm_pick.specs.Queued.{QueueLists, is_open}
 use Rattle.farm_pick.specs.Heads.{last_spot}
 use Rattle.farm_pick.specs.Walked.{walk_from, claims_after}
@@ -13,5 +13,5 @@ new-requires c =
 pub returns : goal.returns
 returns c =
     c.in_ok-walk.ensures
-    ∙ (λ i. walk_from (c.deref.ensures.value i) c.self.inside.claims.entries c.self.inside.idle.items c.args.all (c.last_spot-last.ensures i))
-    ∙ ap (λ (l : QueueLists). claims_after (λ k. c.args.all || is_open l.boards k) (last_spot c.args.after) l.claims) c.self.view_is
+    ∙ (λ i. walk_from (c.deref.ensures.value i) c.self.inside.claims.entries c.self.inside.idle.items (c.last_spot-last.ensures i))
+    ∙ ap (λ (l : QueueLists). claims_after (is_open l.boards) (last_spot c.args.after) l.claims) c.self.view_is

@@ -6,13 +6,13 @@ pub returns-in-None-clause-steps : goal.returns-in-None-clause-steps
 returns-in-None-clause-steps c =
     let now = c.self.inside in
     let none = sym c.self.view_is
-    ∙ walk_none now.kinds.now now.claims.now.entries now.idle.now.items now.all now.last now.cursors.items c.deref.result.now c.deref.ensures.value c.self.invariant c.in-None.ensures in
+    ∙ walk_none now.kinds.now now.claims.now.entries now.idle.now.items now.last now.cursors.items c.deref.result.now c.deref.ensures.value c.self.invariant c.in-None.ensures in
     (none, none)
 
 pub invariant_of-self-in-Some-take : goal.invariant_of-self-in-Some-take
 invariant_of-self-in-Some-take c =
     let now = c.self.inside in
-    walks_on now.kinds.now now.claims.now.entries now.idle.now.items now.all now.last now.cursors.items c.deref.result.now c.deref.ensures.value c.self.invariant c.in-Some.queue c.in-Some.ensures
+    walks_on now.kinds.now now.claims.now.entries now.idle.now.items now.last now.cursors.items c.deref.result.now c.deref.ensures.value c.self.invariant c.in-Some.queue c.in-Some.ensures
     c.in-Some-take.cursor
     (taken_there now.cursors.items c.deref.result.now c.in-Some.queue c.deref.ensures.value c.in-Some.ensures (Some c.in-Some-take.cursor)
     (subst (λ o. o ≡ get_or now.cursors.items c.in-Some.queue o) (sym c.in-Some-take.ensures.value) c.index_mut.ensures.value))
@@ -22,7 +22,7 @@ pub returns-in-Some-take-clause-steps : goal.returns-in-Some-take-clause-steps
 returns-in-Some-take-clause-steps c =
     let now = c.self.inside in
     sym c.self.view_is
-    ∙ lends_on now.kinds.now now.claims.now.entries now.idle.now.items now.all now.last now.cursors.items c.deref.result.now c.deref.ensures.value c.self.invariant c.in-Some.queue c.in-Some.ensures
+    ∙ lends_on now.kinds.now now.claims.now.entries now.idle.now.items now.last now.cursors.items c.deref.result.now c.deref.ensures.value c.self.invariant c.in-Some.queue c.in-Some.ensures
     c.in-Some-take.cursor
     (taken_there now.cursors.items c.deref.result.now c.in-Some.queue c.deref.ensures.value c.in-Some.ensures (Some c.in-Some-take.cursor)
     (subst (λ o. o ≡ get_or now.cursors.items c.in-Some.queue o) (sym c.in-Some-take.ensures.value) c.index_mut.ensures.value))
