@@ -26,7 +26,7 @@ use Rattle.farm_sound.proofs.Where.{by_cases, find_map}
 use Rattle.farm_pick.specs.Queued.{IdleBoard, idle_board, idle_boards}
 use Rattle.farm_core.specs.Collecting.{Collects, HasWant}
 use Rattle.farm_core.specs.Came.{Seen}
-use Rattle.farm_core.specs.Serving.{give_named}
+use Rattle.farm_core.specs.Serving.{assign_named}
 use Rattle.farm_core.proofs.OneWant.{least_first}
 use Rattle.farm_core.proofs.Serving.{names_of, numbers_of}
 
@@ -115,12 +115,12 @@ picks_one F w v same names n picked at =
     by (Some b) is = let one : names ≡ b.name ∷ [] = cc in ap (λ ns. slice_get ns 0) one
 
 module _ (F : Farm) (number : ℕ) (j : JobRow) (has : HasWant F number j) where
-  pub takes_one : (name : List ℕ) → Some name ≡ option_map (λ (b : BoardRow). b.name) (first_free F j.want) → give_named S F (number, name) ≡ collect_member F j
+  pub takes_one : (name : List ℕ) → Some name ≡ option_map (λ (b : BoardRow). b.name) (first_free F j.want) → assign_named S F (number, name) ≡ collect_member F j
   takes_one name some = by (first_free F j.want) some
     where
-      by : (o : Option BoardRow) → Some name ≡ option_map (λ (b : BoardRow). b.name) o → give_named S F (number, name) ≡ option_map_or (λ b. give_member S F (j, b)) o F
+      by : (o : Option BoardRow) → Some name ≡ option_map (λ (b : BoardRow). b.name) o → assign_named S F (number, name) ≡ option_map_or (λ b. give_member S F (j, b)) o F
       by None is = cc
-      by (Some b) is = let same : name ≡ b.name = cc in λ i. give_named S F (sym has.0 i, same i)
+      by (Some b) is = let same : name ≡ b.name = cc in λ i. assign_named S F (sym has.0 i, same i)
 
 -- ---- the members, one after the other
 

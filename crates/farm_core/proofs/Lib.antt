@@ -15,11 +15,11 @@ pub mod Passing
 pub mod Checking
 pub mod Whole
 pub mod Free
-pub mod Given
+pub mod Assigned
 pub mod Leasing
 pub mod Skipping
 pub mod Next
-pub mod Foreseen
+pub mod Lookahead
 pub mod Trying
 pub mod OneTried
 pub mod Commanded

@@ -12,11 +12,11 @@ use Rattle.farm_types.specs.declared.claims.ClaimKind.{ClaimKind}
 use Rattle.farm_types.specs.declared.rows.JobRow.{JobRow}
 use Rattle.farm_types.specs.declared.rows.Want.{Want}
 use Rattle.farm_core.specs.Edits.{job_changed}
-use Rattle.farm_core.specs.Marks.{AreMarks, IsMark, IsMarked, IsMarkedUpTo, IsNumber, IsNumbered, number_at}
+use Rattle.farm_core.specs.Marks.{AreMarks, IsMark, IsMarked, IsMarkedPrefix, IsWantId, IsInterned, want_id_at}
 use Rattle.farm_table.specs.Near.{IsFitJob}
 use Rattle.farm_table.specs.Tabled.{IsPartly, upto}
 use Rattle.farm_table.proofs.Upto.{upto_long}
-use Rattle.farm_core.specs.Placed.{IsPlaceOf}
+use Rattle.farm_core.specs.PartitionPoint.{IsPartitionPoint}
 use Rattle.farm_core.specs.Serving.{member_wants, want_at, want_in, wants_of}
 use Rattle.farm_core.proofs.JobLemmas.{filter_near}
 use Rattle.farm_core.proofs.Windows.{no_member, none_before}
@@ -44,8 +44,8 @@ same_number n = by (n == n) refl
     by true is = refl
     by false is = absurd (grind (arith, nat_tests))
 
-number_stays : (f : ℕ → Want) (last : ℕ) (w x : Want) (k : ℕ) → IsNumber f last x k → IsNumber (with_one f (last + 1) w) (last + 1) x k
-number_stays f last w x k is = (omega (arith, is.0), λ some. ap (λ v. cond v w (f k)) (other_number k last is.0) ∙ is.1 some)
+want_id_stays : (f : ℕ → Want) (last : ℕ) (w x : Want) (k : ℕ) → IsWantId f last x k → IsWantId (with_one f (last + 1) w) (last + 1) x k
+want_id_stays f last w x k is = (omega (arith, is.0), λ some. ap (λ v. cond v w (f k)) (other_number k last is.0) ∙ is.1 some)
 
 marks_stay : (f : ℕ → Want) (last : ℕ) (w : Want) (rows : List JobRow) (marks : List Mark) → AreMarks f last rows marks → AreMarks (with_one f (last + 1) w) (last + 1) rows marks
 marks_stay f last w rows [] are = tt
@@ -54,13 +54,13 @@ marks_stay f last w (r ∷ rows) (m ∷ marks) are = (
   record {
     number = are.0.number;
     group = are.0.group;
-    want = number_stays f last w r.want m.want are.0.want;
+    want = want_id_stays f last w r.want m.want are.0.want;
   },
   marks_stay f last w rows marks are.1,
 )
 
-pub numbered_anew : (rows : List JobRow) (marks : List Mark) (last : ℕ) (w : Want) → IsNumbered rows marks last (last + 1) w (last + 1)
-numbered_anew rows marks last w f are =
+pub interned_anew : (rows : List JobRow) (marks : List Mark) (last : ℕ) (w : Want) → IsInterned rows marks last (last + 1) w (last + 1)
+interned_anew rows marks last w f are =
     (with_one f (last + 1) w, marks_stay f last w rows marks are, (omega arith, λ some. ap (λ v. cond v w (f (last + 1))) (same_number (last + 1))))
 
 -- ---- the mark at a place
@@ -72,9 +72,9 @@ module _ (f : ℕ → Want) (last : ℕ) where
   mark_at (q ∷ rows) (n ∷ marks) zero r m are low row mark = subst (λ x. IsMark f last x m) (sym row) (subst (λ y. IsMark f last q y) (sym mark) are.0)
   mark_at (q ∷ rows) (n ∷ marks) (suc i) r m are low row mark = mark_at rows marks i r m are.1 (omega arith) row mark
 
-  pub number_like : (rows : List JobRow) (marks : List Mark) (i : ℕ) (r : JobRow) (m : Mark) (w : Want) → AreMarks f last rows marks → i < length marks → r ≡ get_or rows i r → m ≡ get_or marks i m → r.want ≡ w
-      → IsNumber f last w m.want
-  number_like rows marks i r m w are low row mark same = subst (λ x. IsNumber f last x m.want) same (mark_at rows marks i r m are low row mark).want
+  pub want_id_like : (rows : List JobRow) (marks : List Mark) (i : ℕ) (r : JobRow) (m : Mark) (w : Want) → AreMarks f last rows marks → i < length marks → r ≡ get_or rows i r → m ≡ get_or marks i m → r.want ≡ w
+      → IsWantId f last w m.want
+  want_id_like rows marks i r m w are low row mark same = subst (λ x. IsWantId f last x m.want) same (mark_at rows marks i r m are low row mark).want
 
   -- the row of a mark
   pub row_of_mark : (rows : List JobRow) (marks : List Mark) (i : ℕ) (m : Mark) → AreMarks f last rows marks → i < length marks → m ≡ get_or marks i m
@@ -116,33 +116,33 @@ module _ (f : ℕ → Want) (last : ℕ) where
   marks_change edit test [] (m ∷ marks) are = absurd are
   marks_change edit test (r ∷ rows) (m ∷ marks) are = (mark_changed edit r m are.0 (test r), marks_change edit test rows marks are.1)
 
-  pub marks_upto : (edit : JobEdit) (test : JobRow → Bool) (n : ℕ) (rows : List JobRow) (marks : List Mark) → AreMarks f last rows marks → AreMarks f last (upto test (job_changed edit) n rows) marks
+  pub marks_prefix : (edit : JobEdit) (test : JobRow → Bool) (n : ℕ) (rows : List JobRow) (marks : List Mark) → AreMarks f last rows marks → AreMarks f last (upto test (job_changed edit) n rows) marks
   unfolding upto
-  marks_upto edit test zero rows marks are = are
-  marks_upto edit test (suc n) rows [] are = tt
-  marks_upto edit test (suc n) [] (m ∷ marks) are = absurd are
-  marks_upto edit test (suc n) (r ∷ rows) (m ∷ marks) are = (mark_changed edit r m are.0 (test r), marks_upto edit test n rows marks are.1)
+  marks_prefix edit test zero rows marks are = are
+  marks_prefix edit test (suc n) rows [] are = tt
+  marks_prefix edit test (suc n) [] (m ∷ marks) are = absurd are
+  marks_prefix edit test (suc n) (r ∷ rows) (m ∷ marks) are = (mark_changed edit r m are.0 (test r), marks_prefix edit test n rows marks are.1)
 
   -- ---- numbers that are the same
 
-  want_numbered : (rows : List JobRow) (marks : List Mark) (group i : ℕ) → AreMarks f last rows marks → length marks ≡ length rows → IfSome (number_at marks group i) (λ k. k ≡ 0 → ⊥)
-      → want_at rows group i ≡ option_map f (number_at marks group i)
-  want_numbered [] [] group i are all given = refl
-  want_numbered [] (m ∷ marks) group i are all given = absurd are
-  want_numbered (r ∷ rows) [] group i are all given = absurd (omega arith)
-  want_numbered (r ∷ rows) (m ∷ marks) group zero are all given =
+  want_interned : (rows : List JobRow) (marks : List Mark) (group i : ℕ) → AreMarks f last rows marks → length marks ≡ length rows → IfSome (want_id_at marks group i) (λ k. k ≡ 0 → ⊥)
+      → want_at rows group i ≡ option_map f (want_id_at marks group i)
+  want_interned [] [] group i are all given = refl
+  want_interned [] (m ∷ marks) group i are all given = absurd are
+  want_interned (r ∷ rows) [] group i are all given = absurd (omega arith)
+  want_interned (r ∷ rows) (m ∷ marks) group zero are all given =
       ap (λ g. cond (g == group) (Some r.want) None) (sym are.0.group) ∙ by (m.group == group) given
     where
       by : (v : Bool) → IfSome (cond v (Some m.want) None) (λ k. k ≡ 0 → ⊥) → cond v (Some r.want) None ≡ option_map f (cond v (Some m.want) None)
       by true given = ap Some (sym (are.0.want.1 given))
       by false given = refl
-  want_numbered (r ∷ rows) (m ∷ marks) group (suc i) are all given = want_numbered rows marks group i are.1 (omega arith) given
+  want_interned (r ∷ rows) (m ∷ marks) group (suc i) are all given = want_interned rows marks group i are.1 (omega arith) given
 
-  pub wants_alike : (rows : List JobRow) (marks : List Mark) (group i other j : ℕ) → AreMarks f last rows marks → length marks ≡ length rows → IfSome (number_at marks group i) (λ k. k ≡ 0 → ⊥)
-      → number_at marks group i ≡ number_at marks other j → want_at rows group i ≡ want_at rows other j
+  pub wants_alike : (rows : List JobRow) (marks : List Mark) (group i other j : ℕ) → AreMarks f last rows marks → length marks ≡ length rows → IfSome (want_id_at marks group i) (λ k. k ≡ 0 → ⊥)
+      → want_id_at marks group i ≡ want_id_at marks other j → want_at rows group i ≡ want_at rows other j
   wants_alike rows marks group i other j are all given same =
-      want_numbered rows marks group i are all given ∙ ap (option_map f) same
-      ∙ sym (want_numbered rows marks other j are all (subst (λ o. IfSome o (λ k. k ≡ 0 → ⊥)) same given))
+      want_interned rows marks group i are all given ∙ ap (option_map f) same
+      ∙ sym (want_interned rows marks other j are all (subst (λ o. IfSome o (λ k. k ≡ 0 → ⊥)) same given))
 
 -- ---- the rows from a place on
 
@@ -155,7 +155,7 @@ pub want_dropped : (rows : List JobRow) (start group i : ℕ) → want_at (drop 
 want_dropped rows start group i = ap (want_in group) (got_dropped start rows i)
 
 -- the members of a group are among the four rows from its place on
-pub members_near : (F : Farm) (group start : ℕ) → IsStrictlySortedBy job_cmp F.jobs → AllByRecursion IsFitJob F.jobs → start ≤ length F.jobs → IsPlaceOf (λ (r : JobRow). r.number) F.jobs group start
+pub members_near : (F : Farm) (group start : ℕ) → IsStrictlySortedBy job_cmp F.jobs → AllByRecursion IsFitJob F.jobs → start ≤ length F.jobs → IsPartitionPoint (λ (r : JobRow). r.number) F.jobs group start
     → member_wants (take most_wants (drop start F.jobs)) group ≡ wants_of F ClaimKind.Group group
 members_near F group start sorted fit low place =
     ap (map (λ (m : JobRow). m.want))
@@ -176,10 +176,10 @@ pub marked_partly : (last : ℕ) (edit : JobEdit) (test : JobRow → Bool) (rows
 marked_partly last edit test rows new marks is partly = rw partly.1 (record {
   all = is.all ∙ sym (upto_long test (job_changed edit) partly.0 rows);
   want_of = is.want_of;
-  are = marks_upto is.want_of last edit test partly.0 rows marks is.are;
+  are = marks_prefix is.want_of last edit test partly.0 rows marks is.are;
 })
 
-pub marked_set : (last next : ℕ) (rows : List JobRow) (marks : List Mark) (i : ℕ) (r : JobRow) (m : Mark) → IsMarked last rows marks → IsNumbered rows marks last next r.want m.want → m.number ≡ r.number → m.group ≡ r.group
+pub marked_set : (last next : ℕ) (rows : List JobRow) (marks : List Mark) (i : ℕ) (r : JobRow) (m : Mark) → IsMarked last rows marks → IsInterned rows marks last next r.want m.want → m.number ≡ r.number → m.group ≡ r.group
     → IsMarked next (set rows i r) (set marks i m)
 marked_set last next rows marks i r m is given number group =
     let more = given is.want_of is.are in
@@ -189,7 +189,7 @@ marked_set last next rows marks i r m is given number group =
       are = marks_set more.0 next rows marks i r m more.1 (record { number = number; group = group; want = more.2 });
     }
 
-pub marked_insert : (last next : ℕ) (rows : List JobRow) (marks : List Mark) (i : ℕ) (r : JobRow) (m : Mark) → IsMarked last rows marks → i ≤ length rows → IsNumbered rows marks last next r.want m.want → m.number ≡ r.number → m.group ≡ r.group
+pub marked_insert : (last next : ℕ) (rows : List JobRow) (marks : List Mark) (i : ℕ) (r : JobRow) (m : Mark) → IsMarked last rows marks → i ≤ length rows → IsInterned rows marks last next r.want m.want → m.number ≡ r.number → m.group ≡ r.group
     → IsMarked next (insert rows i r) (insert marks i m)
 marked_insert last next rows marks i r m is low given number group =
     let more = given is.want_of is.are in
@@ -204,8 +204,8 @@ marked_insert last next rows marks i r m is low given number group =
     longer [] (suc i) x low = absurd (omega arith)
     longer (y ∷ xs) (suc i) x low = let rest = longer xs i x (omega arith) in omega (arith, rest)
 
-pub marked_push : (at last next : ℕ) (rows : List JobRow) (marks : List Mark) (r : JobRow) (m : Mark) → IsMarkedUpTo at last rows marks → at < length rows → r ≡ get_or rows at r → IsNumbered rows marks last next r.want m.want → m.number ≡ r.number → m.group ≡ r.group
-    → IsMarkedUpTo (at + 1) next rows (marks ++ m ∷ [])
+pub marked_push : (at last next : ℕ) (rows : List JobRow) (marks : List Mark) (r : JobRow) (m : Mark) → IsMarkedPrefix at last rows marks → at < length rows → r ≡ get_or rows at r → IsInterned rows marks last next r.want m.want → m.number ≡ r.number → m.group ≡ r.group
+    → IsMarkedPrefix (at + 1) next rows (marks ++ m ∷ [])
 marked_push at last next rows marks r m is low row given number group =
     let more = given is.want_of is.are in
     record {
@@ -218,15 +218,15 @@ marked_push at last next rows marks r m is low row given number group =
     longer [] = refl
     longer (x ∷ xs) = let rest = longer xs in omega (arith, rest)
 
-pub marked_first : (last : ℕ) (rows : List JobRow) (marks : List Mark) → marks ≡ [] → IsMarkedUpTo 0 last rows marks
-marked_first last rows marks none = subst (IsMarkedUpTo 0 last rows) (sym none) (record { all = refl; want_of = λ k. nothing; are = tt })
+pub marked_first : (last : ℕ) (rows : List JobRow) (marks : List Mark) → marks ≡ [] → IsMarkedPrefix 0 last rows marks
+marked_first last rows marks none = subst (IsMarkedPrefix 0 last rows) (sym none) (record { all = refl; want_of = λ k. nothing; are = tt })
   where
     nothing : Want
     nothing = record { kind = None; tags = [] }
 
 -- the same rows and marks
-pub numbered_same : (rows rows' : List JobRow) (marks marks' : List Mark) (last next : ℕ) (w : Want) (k : ℕ) → rows ≡ rows' → marks ≡ marks' → IsNumbered rows marks last next w k → IsNumbered rows' marks' last next w k
-numbered_same rows rows' marks marks' last next w k one two given = subst (λ ms. IsNumbered rows' ms last next w k) two (subst (λ rs. IsNumbered rs marks last next w k) one given)
+pub interned_same : (rows rows' : List JobRow) (marks marks' : List Mark) (last next : ℕ) (w : Want) (k : ℕ) → rows ≡ rows' → marks ≡ marks' → IsInterned rows marks last next w k → IsInterned rows' marks' last next w k
+interned_same rows rows' marks marks' last next w k one two given = subst (λ ms. IsInterned rows' ms last next w k) two (subst (λ rs. IsInterned rs marks last next w k) one given)
 
 pub marked_same : (last : ℕ) (rows rows' : List JobRow) (marks marks' : List Mark) → rows' ≡ rows → marks' ≡ marks → IsMarked last rows marks → IsMarked last rows' marks'
 marked_same last rows rows' marks marks' one two is = subst (λ ms. IsMarked last rows' ms) (sym two) (subst (λ rs. IsMarked last rs marks) (sym one) is)

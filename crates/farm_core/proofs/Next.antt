@@ -26,9 +26,9 @@ use Rattle.farm_pick.proofs.Closed.{closed_is_unmet}
 use Rattle.farm_pick.proofs.Later.{after_itself, less_from, not_back}
 use Rattle.farm_pick.proofs.Merging.{found_among, some_want}
 use Rattle.farm_pick.proofs.Ordered.{tied_same}
-use Rattle.farm_core.specs.Ahead.{ComesNext, IsReached, claim_of, coming_of, earlier_coming}
+use Rattle.farm_core.specs.Lookahead.{ComesNext, IsNextCandidate, claim_of, upcoming_of, earlier_upcoming}
 use Rattle.farm_core.specs.Serving.{IsSkipped, IsMissed, IsNext}
-use Rattle.farm_core.specs.declared.pass.lookahead.Coming.{Coming}
+use Rattle.farm_core.specs.declared.pass.lookahead.Upcoming.{Upcoming}
 use Rattle.farm_core.proofs.Passing.{asks_claim}
 use Rattle.farm_core.proofs.Skipping.{wants_asked}
 
@@ -253,56 +253,56 @@ abbrev pub lent_after : QueueLists → Option (ℕ × ℕ) → List Claim
 lent_after queues place = claims_after (is_open queues.boards) (last_spot place) queues.claims
 
 -- the claim that was reached
-lent_of : (F : Farm) (place : Option (ℕ × ℕ)) (o : Option Coming) → IsReached F place o → Option Claim
-lent_of F place None reached = None
-lent_of F place (Some x) reached = Some (shown_claim reached.0.0)
+lent_of : (F : Farm) (place : Option (ℕ × ℕ)) (o : Option Upcoming) → IsNextCandidate F place o → Option Claim
+lent_of F place None candidate = None
+lent_of F place (Some x) candidate = Some (shown_claim candidate.0.0)
 
-lent_is : (F : Farm) (place : Option (ℕ × ℕ)) (o : Option Coming) (reached : IsReached F place o) → option_map coming_of (lent_of F place o reached) ≡ o
+lent_is : (F : Farm) (place : Option (ℕ × ℕ)) (o : Option Upcoming) (candidate : IsNextCandidate F place o) → option_map upcoming_of (lent_of F place o candidate) ≡ o
 unfolding lent_of
-lent_is F place None reached = refl
-lent_is F place (Some x) reached = ap Some reached.0.2
+lent_is F place None candidate = refl
+lent_is F place (Some x) candidate = ap Some candidate.0.2
 
-lent_first : (F : Farm) (sound : IsSound F) (place : Option (ℕ × ℕ)) (o : Option Coming) (reached : IsReached F place o)
-    → First F sound place (every F sound place) (IsMissedThere F sound place) (lent_of F place o reached)
+lent_first : (F : Farm) (sound : IsSound F) (place : Option (ℕ × ℕ)) (o : Option Upcoming) (candidate : IsNextCandidate F place o)
+    → First F sound place (every F sound place) (IsMissedThere F sound place) (lent_of F place o candidate)
 unfolding lent_of
-lent_first F sound place None reached = record { stands = tt; before = λ e at behind _ less. reached e at behind }
-lent_first F sound place (Some x) reached =
-    let is : coming_of (shown_claim reached.0.0) ≡ x = reached.0.2 in
+lent_first F sound place None candidate = record { stands = tt; before = λ e at behind _ less. candidate e at behind }
+lent_first F sound place (Some x) candidate =
+    let is : upcoming_of (shown_claim candidate.0.0) ≡ x = candidate.0.2 in
     record {
-      stands = (reached.0.0, reached.0.1, refl, ap (λ y. is_later (last_spot place) (claim_of [] y)) is ∙ reached.1);
-      before = λ e at behind _ less. reached.2 e at behind (sym (ap (λ y. is_lt (shown_cmp (shown_claim e) (claim_of [] y))) is) ∙ less);
+      stands = (candidate.0.0, candidate.0.1, refl, ap (λ y. is_later (last_spot place) (claim_of [] y)) is ∙ candidate.1);
+      before = λ e at behind _ less. candidate.2 e at behind (sym (ap (λ y. is_lt (shown_cmp (shown_claim e) (claim_of [] y))) is) ∙ less);
     }
 
 -- the first of two, but for the owner
-earlier_same : (a b : Option Claim) → option_map coming_of (earlier_of a b) ≡ earlier_coming (option_map coming_of a) (option_map coming_of b)
+earlier_same : (a b : Option Claim) → option_map upcoming_of (earlier_of a b) ≡ earlier_upcoming (option_map upcoming_of a) (option_map upcoming_of b)
 earlier_same None b = refl
 earlier_same (Some a) None = refl
 earlier_same (Some a) (Some b) = by (is_lt (shown_cmp b a))
   where
-    by : (v : Bool) → option_map coming_of (cond v (Some b) (Some a)) ≡ cond v (Some (coming_of b)) (Some (coming_of a))
+    by : (v : Bool) → option_map upcoming_of (cond v (Some b) (Some a)) ≡ cond v (Some (upcoming_of b)) (Some (upcoming_of a))
     by true = refl
     by false = refl
 
-comes_next : (F : Farm) (place : Option (ℕ × ℕ)) (o : Option Claim) → IsNext F place o → ComesNext F place (option_map coming_of o)
+comes_next : (F : Farm) (place : Option (ℕ × ℕ)) (o : Option Claim) → IsNext F place o → ComesNext F place (option_map upcoming_of o)
 comes_next F place None next = next
 comes_next F place (Some c) next = (c.owner, next)
 
 -- the queues are those of the farm
-pub next_lent : (F : Farm) (sound : IsSound F) (place : Option (ℕ × ℕ)) (queues : QueueLists) → queues ≡ queue_lists F → (o : Option Coming) → IsReached F place o
-    → ComesNext F place (if F.collector == 0 then earlier_coming o (option_map coming_of (lent_several queues place)) else o)
-next_lent F sound place queues fits o reached = by (F.collector == 0) refl
+pub next_lent : (F : Farm) (sound : IsSound F) (place : Option (ℕ × ℕ)) (queues : QueueLists) → queues ≡ queue_lists F → (o : Option Upcoming) → IsNextCandidate F place o
+    → ComesNext F place (if F.collector == 0 then earlier_upcoming o (option_map upcoming_of (lent_several queues place)) else o)
+next_lent F sound place queues fits o candidate = by (F.collector == 0) refl
   where
-    first : First F sound place (every F sound place) (IsMissedThere F sound place) (lent_of F place o reached)
-    first = lent_first F sound place o reached
+    first : First F sound place (every F sound place) (IsMissedThere F sound place) (lent_of F place o candidate)
+    first = lent_first F sound place o candidate
 
-    by : (v : Bool) → (F.collector == 0) ≡ v → ComesNext F place (cond v (earlier_coming o (option_map coming_of (lent_several queues place))) o)
+    by : (v : Bool) → (F.collector == 0) ≡ v → ComesNext F place (cond v (earlier_upcoming o (option_map upcoming_of (lent_several queues place))) o)
     by true nobody =
-        let next : IsNext F place (earlier_of (lent_of F place o reached) (lent_several queues place)) = next_of_both F sound place (lent_of F place o reached) (lent_several queues place) first
+        let next : IsNext F place (earlier_of (lent_of F place o candidate) (lent_several queues place)) = next_of_both F sound place (lent_of F place o candidate) (lent_several queues place) first
         (first_several F sound place (lent_several queues place) (ap (λ (l : QueueLists). lent_several l place) fits)) in
         subst (ComesNext F place)
-        (earlier_same (lent_of F place o reached) (lent_several queues place) ∙ ap (λ p. earlier_coming p (option_map coming_of (lent_several queues place))) (lent_is F place o reached))
-        (comes_next F place (earlier_of (lent_of F place o reached) (lent_several queues place)) next)
+        (earlier_same (lent_of F place o candidate) (lent_several queues place) ∙ ap (λ p. earlier_upcoming p (option_map upcoming_of (lent_several queues place))) (lent_is F place o candidate))
+        (comes_next F place (earlier_of (lent_of F place o candidate) (lent_several queues place)) next)
     by false one =
-        subst (ComesNext F place) (lent_is F place o reached)
-        (comes_next F place (lent_of F place o reached)
-        (next_alone F sound place (λ none. true≢false (sym (itself 0) ∙ ap (λ n. n == 0) (sym none) ∙ one)) (lent_of F place o reached) first))
+        subst (ComesNext F place) (lent_is F place o candidate)
+        (comes_next F place (lent_of F place o candidate)
+        (next_alone F sound place (λ none. true≢false (sym (itself 0) ∙ ap (λ n. n == 0) (sym none) ∙ one)) (lent_of F place o candidate) first))

@@ -23,7 +23,7 @@ module _ (D : Seen) (kind : ClaimKind) (number boards : ℕ) (sound : IsSound D.
 
   -- where it isn't, nothing has changed yet
   pub still_same : served ≡ false → E ≡ D
-  still_same out = ((asked waits.0 waits.2 waits.3 waits.1).unmet out).0
+  still_same out = ((asked waits.0 waits.2 waits.3 waits.1).misses out).0
 
   -- and it is passed over
   pub passed_serves : served ≡ false → (G : Seen)
@@ -31,7 +31,7 @@ module _ (D : Seen) (kind : ClaimKind) (number boards : ℕ) (sound : IsSound D.
       → least E.farm.boards (is_free E.farm.types) c.wants ≡ None → Serves E c false G)
       → (c : Claimed) → (shown_claim c).kind ≡ kind → c.number ≡ number → IsAmong c (queue D.farm) → Serves D c false G
   passed_serves out G over c is same at =
-      let two = (asked c is same at).unmet out in
+      let two = (asked c is same at).misses out in
       let one : c ≡ waits.0 = one_of c waits.0 (queue D.farm) (numbers_differ D.farm sound) at waits.1 (same ∙ sym waits.3) in
       subst (λ (X : Seen). Serves X c false G) two.0
       (over c is same (ap (λ (e : Claimed). length e.wants) one ∙ waits.4) (subst (λ (X : Seen). least X.farm.boards (is_free X.farm.types) c.wants ≡ None) (sym two.0) two.1))

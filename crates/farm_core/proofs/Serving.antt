@@ -20,7 +20,7 @@ use Rattle.farm_sound.proofs.Lists.{filter_all}
 use Rattle.farm_sound.proofs.Where.{AllByRecursion-map}
 use Rattle.farm_table.specs.Near.{IsFitJob}
 use Rattle.farm_core.specs.Came.{Seen}
-use Rattle.farm_core.specs.Serving.{Asks, Serves, Tries, give_first, give_named}
+use Rattle.farm_core.specs.Serving.{Asks, Serves, Tries, assign_first, assign_named}
 
 -- ---- the numbers of members, and the names of boards
 
@@ -79,10 +79,10 @@ small_at (n ∷ ns) zero all low = all.0
 small_at (n ∷ ns) (suc k) all low = small_at ns k all.1 (omega arith)
 
 -- members are given boards by their numbers and names
-pub given_named : (state : JobState) (ms : List JobRow) (bs : List BoardRow) (F : Farm) → fold (give_member state) F (zip ms bs) ≡ fold (give_named state) F (zip (numbers_of ms) (names_of bs))
-given_named state [] bs F = refl
-given_named state (m ∷ ms) [] F = refl
-given_named state (m ∷ ms) (b ∷ bs) F = given_named state ms bs (give_member state F (m, b))
+pub assigned_named : (state : JobState) (ms : List JobRow) (bs : List BoardRow) (F : Farm) → fold (give_member state) F (zip ms bs) ≡ fold (assign_named state) F (zip (numbers_of ms) (names_of bs))
+assigned_named state [] bs F = refl
+assigned_named state (m ∷ ms) [] F = refl
+assigned_named state (m ∷ ms) (b ∷ bs) F = assigned_named state ms bs (give_member state F (m, b))
 
 -- the numbers of a group's members among some rows
 pub numbers_small : (rows : List JobRow) (group : ℕ) (numbers : List ℕ) → numbers ≡ numbers_of (filter (λ (j : JobRow). j.group == group) rows) → AllByRecursion IsFitJob rows → AllByRecursion IsSmall numbers
@@ -113,14 +113,14 @@ module _ (F : Farm) (c : Claimed) (n : ℕ) (wants : List Want) (asks : c.wants 
 -- a group
 pub group_served : (F G : Farm) (group : ℕ) (c : Claimed) (n : ℕ) (names : List (List ℕ)) (numbers : List ℕ) → c.reservation ≡ false → c.number ≡ group → Asks false F c
     → Some names ≡ option_map names_of (least F.boards (is_free F.types) (wants_of (members F group))) → numbers ≡ numbers_of (members F group)
-    → G ≡ fold (give_named JobState.Scheduled) F (zip numbers names) → serve F.clock (record { farm = F; claims = n }) c ≡ record { farm = G; claims = n + 1 }
+    → G ≡ fold (assign_named JobState.Scheduled) F (zip numbers names) → serve F.clock (record { farm = F; claims = n }) c ≡ record { farm = G; claims = n + 1 }
 group_served F G group c n names numbers of_group same asks picked are made =
     is_served F c n (wants_of (members F group)) (asks ∙ ap (λ g. wants_of (members F g)) same) G names picked
     (λ bs called.
     ap (λ v. cond v (give_res F c.number bs F.clock) (give_group F c.number bs)) of_group
     ∙ ap (λ g. give_group F g bs) same
-    ∙ given_named JobState.Scheduled (members F group) bs F
-    ∙ (λ i. fold (give_named JobState.Scheduled) F (zip (sym are i) (sym called i)))
+    ∙ assigned_named JobState.Scheduled (members F group) bs F
+    ∙ (λ i. fold (assign_named JobState.Scheduled) F (zip (sym are i) (sym called i)))
     ∙ sym made)
 
 -- a reservation
@@ -135,12 +135,12 @@ asked F c asks = by (res_of F c.number) refl asks
 abbrev pub Picks : Farm → ℕ → Option (List (List ℕ)) → Type 0
 Picks F number picked = (r : ResRow) → res_of F number ≡ Some r → picked ≡ option_map names_of (least F.boards (is_free F.types) (r.want ∷ []))
 
-first_given : (F : Farm) (number : ℕ) (bs : List BoardRow) → give_res F number bs F.clock ≡ give_first F number (names_of bs)
+first_given : (F : Farm) (number : ℕ) (bs : List BoardRow) → give_res F number bs F.clock ≡ assign_first F number (names_of bs)
 first_given F number [] = refl
 first_given F number (b ∷ bs) = refl
 
 pub res_served : (F G : Farm) (number : ℕ) (c : Claimed) (n : ℕ) (names : List (List ℕ)) → c.reservation ≡ true → c.number ≡ number → Asks true F c → Picks F number (Some names)
-    → G ≡ give_first F number names → serve F.clock (record { farm = F; claims = n }) c ≡ record { farm = G; claims = n + 1 }
+    → G ≡ assign_first F number names → serve F.clock (record { farm = F; claims = n }) c ≡ record { farm = G; claims = n + 1 }
 res_served F G number c n names of_res same asks picked made =
     let it = asked F c asks in
     is_served F c n (it.0.want ∷ []) it.2 G names (picked it.0 (ap (res_of F) (sym same) ∙ it.1))
@@ -148,7 +148,7 @@ res_served F G number c n names of_res same asks picked made =
     ap (λ v. cond v (give_res F c.number bs F.clock) (give_group F c.number bs)) of_res
     ∙ ap (λ k. give_res F k bs F.clock) same
     ∙ first_given F number bs
-    ∙ ap (give_first F number) (sym called)
+    ∙ ap (assign_first F number) (sym called)
     ∙ sym made)
 
 -- the kind that is shown
@@ -163,4 +163,4 @@ shown_group false is = refl
 -- ---- what came of a claim
 
 pub met : {D E : Seen} {c : Claimed} → Serves D c true E → Tries D c true E
-met serves = record { met = λ _. serves; unmet = λ is. cc }
+met serves = record { met = λ _. serves; misses = λ is. cc }

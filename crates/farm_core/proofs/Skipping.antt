@@ -22,8 +22,8 @@ use Rattle.farm_pick.proofs.Collects.{collecting_follows}
 use Rattle.farm_pick.proofs.Later.{among_later}
 use Rattle.farm_pick.proofs.Merging.{unmet_stays}
 use Rattle.farm_core.specs.Came.{Seen}
-use Rattle.farm_core.specs.declared.pass.lookahead.unsatisfiable.Known.{Known}
-use Rattle.farm_core.specs.Serving.{AreUnmet, Asks, IfUnmet, IsLike, IsMissed, IsUnmet, Serves, WantAlike, count_after, member_wants, want_at, want_in, wants_of}
+use Rattle.farm_core.specs.declared.pass.lookahead.unsatisfiable.CachedMiss.{CachedMiss}
+use Rattle.farm_core.specs.Serving.{AreMisses, Asks, IfMiss, IsLike, IsMissed, IsWaitingMiss, Serves, WantAlike, count_after, member_wants, want_at, want_in, wants_of}
 use Rattle.farm_core.proofs.Passing.{asks_claim}
 
 -- ---- the wants of members, one by one
@@ -86,28 +86,28 @@ wants_asked F c asks = by c.reservation asks
     by true asks = some (res_of F c.number) asks
     by false asks = asks
 
-module _ (F : Farm) (kind : ClaimKind) (number : ℕ) (sound : IsSound F) (u : IsUnmet F kind number) where
+module _ (F : Farm) (kind : ClaimKind) (number : ℕ) (sound : IsSound F) (u : IsWaitingMiss F kind number) where
   is_claim : IsClaim F u.claimed
   is_claim = among_has (IsClaim F) u.claimed (queue F) (queue_claims F sound.steady) u.among
 
-  pub wants_unmet : least F.boards (is_free F.types) (wants_of F kind number) ≡ None
-  wants_unmet =
+  pub wants_missed : least F.boards (is_free F.types) (wants_of F kind number) ≡ None
+  wants_missed =
       let wants : u.claimed.wants ≡ wants_of F kind number = wants_asked F u.claimed (asks_claim F u.claimed is_claim) ∙ (λ i. wants_of F (u.of_kind i) (u.numbered i)) in
-      ap (least F.boards (is_free F.types)) (sym wants) ∙ u.unmet
+      ap (least F.boards (is_free F.types)) (sym wants) ∙ u.misses
 
 -- each that is remembered
-pub unmet_at : (F : Farm) (places : List (Option Known)) (i : ℕ) (d x : Option Known) → AreUnmet F places → i < length places → get_or places i d ≡ x
-    → IfUnmet F x
-unmet_at F [] i d x all low is = absurd (omega arith)
-unmet_at F (p ∷ places) zero d x all low is = subst (IfUnmet F) is all.0
-unmet_at F (p ∷ places) (suc i) d x all low is = unmet_at F places i d x all.1 (omega arith) is
+pub miss_at : (F : Farm) (places : List (Option CachedMiss)) (i : ℕ) (d x : Option CachedMiss) → AreMisses F places → i < length places → get_or places i d ≡ x
+    → IfMiss F x
+miss_at F [] i d x all low is = absurd (omega arith)
+miss_at F (p ∷ places) zero d x all low is = subst (IfMiss F) is all.0
+miss_at F (p ∷ places) (suc i) d x all low is = miss_at F places i d x all.1 (omega arith) is
 
 -- a claim that wants what one that is remembered does
-pub like_unmet : (F : Farm) (places : List (Option Known)) (wants : List Want) (i : ℕ) (d : Option Known) → IsSound F → AreUnmet F places → i < length places
+pub like_missed : (F : Farm) (places : List (Option CachedMiss)) (wants : List Want) (i : ℕ) (d : Option CachedMiss) → IsSound F → AreMisses F places → i < length places
     → IsLike F wants (get_or places i d) → least F.boards (is_free F.types) wants ≡ None
-like_unmet F places wants i d sound all low like =
+like_missed F places wants i d sound all low like =
     ap (least F.boards (is_free F.types)) like.2
-    ∙ wants_unmet F like.0.kind like.0.number sound (unmet_at F places i d (Some like.0) all low like.1)
+    ∙ wants_missed F like.0.kind like.0.number sound (miss_at F places i d (Some like.0) all low like.1)
 
 -- ---- those that pass
 
@@ -137,13 +137,13 @@ module _ (F G : Farm) (c : Claimed) (served : Bool) (sound : IsSound F) (at : Is
   come o = (option_map_or {U = Served} (λ bs. record { farm = give F c bs F.clock; claims = 0 + 1 }) o (record { farm = pass_over F c; claims = 0 })).farm
 
   still_among : (d : Claimed) → IsAmong d (queue F) → least F.boards (is_free F.types) d.wants ≡ None → IsAmong d (queue G)
-  still_among d here unmet =
+  still_among d here misses =
       subst (λ (H : Farm). IsAmong d (queue H)) (ap (λ (s : Served). s.farm) (serves 0)) (by (least F.boards (is_free F.types) c.wants) refl)
     where
       other : (bs : List BoardRow) → least F.boards (is_free F.types) c.wants ≡ Some bs → (v : Bool) → (d.number == c.number) ≡ v → not (d.number == c.number) ≡ true
       other bs met true same =
           let is : d ≡ c = one_of d c (queue F) (numbers_differ F sound) here at (same_number d.number c.number same) in
-          let both : ◌≡◌ {A = Option (List BoardRow)} None (Some bs) = sym unmet ∙ ap (λ (e : Claimed). least F.boards (is_free F.types) e.wants) is ∙ met in
+          let both : ◌≡◌ {A = Option (List BoardRow)} None (Some bs) = sym misses ∙ ap (λ (e : Claimed). least F.boards (is_free F.types) e.wants) is ∙ met in
           cc
       other bs met false differs = ap not differs
 
@@ -177,34 +177,34 @@ module _ (F G : Farm) (c : Claimed) (served : Bool) (sound : IsSound F) (at : Is
           let two = giving_follows F c bs F.clock sound (omega arith) at is in
           (among_filter (λ (e : Claimed). not (e.number == c.number)) d (queue F) (subst (IsAmong d) two.0 there)).0
 
-  unmet_on : (kind : ClaimKind) (number : ℕ) → IsUnmet F kind number → IsUnmet G kind number
-  unmet_on kind number u = record {
+  misses_on : (kind : ClaimKind) (number : ℕ) → IsWaitingMiss F kind number → IsWaitingMiss G kind number
+  misses_on kind number u = record {
     claimed = u.claimed;
-    among = still_among u.claimed u.among u.unmet;
+    among = still_among u.claimed u.among u.misses;
     of_kind = u.of_kind;
     numbered = u.numbered;
-    unmet = subst (λ (s : Served). least s.farm.boards (is_free s.farm.types) u.claimed.wants ≡ None) (serves 0)
-        (unmet_stays F.clock (record { farm = F; claims = 0 }) c u.claimed.wants sound (omega arith) at u.unmet);
+    misses = subst (λ (s : Served). least s.farm.boards (is_free s.farm.types) u.claimed.wants ≡ None) (serves 0)
+        (unmet_stays F.clock (record { farm = F; claims = 0 }) c u.claimed.wants sound (omega arith) at u.misses);
   }
 
   pub missed_on : IsSound G → (e : Claimed) → IsAmong e (queue F) → IsMissed F (shown_claim e).kind e.number → IsMissed G (shown_claim e).kind e.number
   missed_on sound' e here missed =
-      wants_unmet G (shown_claim e).kind e.number sound' (unmet_on (shown_claim e).kind e.number (record {
+      wants_missed G (shown_claim e).kind e.number sound' (misses_on (shown_claim e).kind e.number (record {
         claimed = e;
         among = here;
         of_kind = refl;
         numbered = refl;
-        unmet = ap (least F.boards (is_free F.types)) (wants_asked F e (asks_claim F e (among_has (IsClaim F) e (queue F) (queue_claims F sound.steady) here))) ∙ missed;
+        misses = ap (least F.boards (is_free F.types)) (wants_asked F e (asks_claim F e (among_has (IsClaim F) e (queue F) (queue_claims F sound.steady) here))) ∙ missed;
       }))
 
-  pub all_on : (places : List (Option Known)) → AreUnmet F places → AreUnmet G places
+  pub all_on : (places : List (Option CachedMiss)) → AreMisses F places → AreMisses G places
   all_on [] all = tt
   all_on (None ∷ places) all = (tt, all_on places all.1)
-  all_on (Some k ∷ places) all = (unmet_on k.kind k.number all.0, all_on places all.1)
+  all_on (Some k ∷ places) all = (misses_on k.kind k.number all.0, all_on places all.1)
 
   -- a claim that wasn't served is unmet
-  pub not_met : served ≡ false → IsUnmet G (shown_claim c).kind c.number
-  not_met is = unmet_on (shown_claim c).kind c.number (record { claimed = c; among = at; of_kind = refl; numbered = refl; unmet = by (least F.boards (is_free F.types) c.wants) refl })
+  pub not_met : served ≡ false → IsWaitingMiss G (shown_claim c).kind c.number
+  not_met is = misses_on (shown_claim c).kind c.number (record { claimed = c; among = at; of_kind = refl; numbered = refl; misses = by (least F.boards (is_free F.types) c.wants) refl })
     where
       by : (o : Option (List BoardRow)) → least F.boards (is_free F.types) c.wants ≡ o → o ≡ None
       by None same = refl
@@ -216,7 +216,7 @@ module _ (F G : Farm) (c : Claimed) (served : Bool) (sound : IsSound F) (at : Is
 
 -- ---- the places
 
-all_taken : (F : Farm) (places : List (Option Known)) (n : ℕ) → AreUnmet F places → AreUnmet F (take n places)
+all_taken : (F : Farm) (places : List (Option CachedMiss)) (n : ℕ) → AreMisses F places → AreMisses F (take n places)
 all_taken F [] zero all = tt
 all_taken F [] (suc n) all = tt
 all_taken F (p ∷ places) zero all = tt
@@ -225,12 +225,12 @@ all_taken F (p ∷ places) (suc n) all = (all.0, all_taken F places n all.1)
 -- ---- a claim that is tried
 
 module _ (D E : Seen) (c : Claimed) (served : Bool) (sound : IsSound D.farm) (at : IsAmong c (queue D.farm)) (serves : Serves D c served E)
-    (places : List (Option Known)) (all : AreUnmet D.farm places) where
-  pub known_on : AreUnmet E.farm places
+    (places : List (Option CachedMiss)) (all : AreMisses D.farm places) where
+  pub known_on : AreMisses E.farm places
   known_on = all_on D.farm E.farm c served sound at serves.0 places all
 
-  pub known_more : served ≡ false → (k : Known) → (shown_claim c).kind ≡ k.kind → c.number ≡ k.number → AreUnmet E.farm (Some k ∷ take 7 places)
-  known_more unmet k is same = (
-    subst (λ n. IsUnmet E.farm k.kind n) same (subst (λ kind. IsUnmet E.farm kind c.number) is (not_met D.farm E.farm c served sound at serves.0 unmet)),
+  pub known_more : served ≡ false → (k : CachedMiss) → (shown_claim c).kind ≡ k.kind → c.number ≡ k.number → AreMisses E.farm (Some k ∷ take 7 places)
+  known_more misses k is same = (
+    subst (λ n. IsWaitingMiss E.farm k.kind n) same (subst (λ kind. IsWaitingMiss E.farm kind c.number) is (not_met D.farm E.farm c served sound at serves.0 misses)),
     all_taken E.farm places 7 known_on,
   )

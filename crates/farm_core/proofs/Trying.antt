@@ -44,12 +44,12 @@ use Rattle.farm_pick.proofs.Later.{after_itself, later, later_none}
 use Rattle.farm_pick.proofs.Merging.{Begins, Goes, IsTrying, Skips, begins_with, begins_without, found_among, none_by, one_group, passed_by, serve_but, some_want, tried_by, unserved}
 use Rattle.farm_core.specs.Following.{without_board, without_boards}
 use Rattle.farm_core.specs.Came.{Seen}
-use Rattle.farm_core.specs.Ahead.{ComesNext, Foresees}
-use Rattle.farm_core.specs.declared.pass.lookahead.Coming.{Coming}
+use Rattle.farm_core.specs.Lookahead.{ComesNext, IsValidLookahead}
+use Rattle.farm_core.specs.declared.pass.lookahead.Upcoming.{Upcoming}
 use Rattle.farm_core.specs.Serving.{Begins as FirstServed, IsSkipped, IsNext, Serves, boards_for, count_after, queues_given}
-use Rattle.farm_core.proofs.Given.{all_pass, taken_more}
+use Rattle.farm_core.proofs.Assigned.{all_pass, taken_more}
 use Rattle.farm_core.proofs.Passing.{asks_claim, small_claim}
-use Rattle.farm_core.proofs.Foreseen.{foreseen_on, foreseen_past}
+use Rattle.farm_core.proofs.Lookahead.{valid_on, valid_past}
 use Rattle.farm_core.proofs.Next.{found_nowhere}
 use Rattle.farm_core.proofs.Serving.{names_of, shown_group}
 use Rattle.farm_core.proofs.Skipping.{one_of, wants_asked}
@@ -338,10 +338,10 @@ module _ (F : Farm) (former : ℕ) (G : Farm) (queues : QueueLists) (count : ℕ
 -- ---- a turn of the program
 
 -- the claim that comes next
-pub next_here : (F : Farm) (place : Option (ℕ × ℕ)) (o : Option Coming) (x : Coming) → o ≡ Some x → ComesNext F place o → ComesNext F place (Some x)
+pub next_here : (F : Farm) (place : Option (ℕ × ℕ)) (o : Option Upcoming) (x : Upcoming) → o ≡ Some x → ComesNext F place o → ComesNext F place (Some x)
 next_here F place o x is next = subst (ComesNext F place) is next
 
-pub none_here : (F : Farm) (place : Option (ℕ × ℕ)) (o : Option Coming) → o ≡ None → ComesNext F place o → IsNext F place None
+pub none_here : (F : Farm) (place : Option (ℕ × ℕ)) (o : Option Upcoming) → o ≡ None → ComesNext F place o → IsNext F place None
 none_here F place o is next = subst (ComesNext F place) is next
 
 abbrev pub place_after : Claim → Option (ℕ × ℕ)
@@ -371,8 +371,8 @@ module _ (F : Farm) (former : ℕ) (D : Seen) (count : ℕ) (place : Option (ℕ
     pub passed_less : left D.queues (place_after claim) < left D.queues place
     passed_less = goes_less F former D.farm D.queues count place trying claim next D.farm D.queues count own_went (omega arith) refl trying.fits
 
-  pub passed_ahead : (xs : List Coming) → Foresees D.farm place xs → Foresees D.farm (place_after claim) xs
-  passed_ahead xs foresees = foreseen_past D.farm place xs claim foresees next.3
+  pub passed_covered : (xs : List Upcoming) → IsValidLookahead D.farm place xs → IsValidLookahead D.farm (place_after claim) xs
+  passed_covered xs valid_lookahead = valid_past D.farm place xs claim valid_lookahead next.3
 
   -- another is tried
   module _ (other : (c : Claimed) → (shown_claim c).kind ≡ claim.kind → c.number ≡ claim.number → is_group former c ≡ false)
@@ -401,9 +401,9 @@ module _ (F : Farm) (former : ℕ) (D : Seen) (count : ℕ) (place : Option (ℕ
         (goes_on F former D.farm D.queues count place trying claim next E.farm E.queues (count_after count served) went (high served) clock fits)
 
     -- the claims that were looked at ahead stand in the queue as they did
-    pub tried_ahead : (xs : List Coming) → Foresees D.farm place xs → Foresees E.farm (place_after claim) xs
-    tried_ahead xs foresees = subst (λ (k : Claim). Foresees E.farm (place_after k) xs) next.2
-        (foreseen_on D.farm E.farm next.0 served trying.on.sound next.1 serves.0 (tried_on served refl).on.sound place xs foresees
+    pub tried_covered : (xs : List Upcoming) → IsValidLookahead D.farm place xs → IsValidLookahead E.farm (place_after claim) xs
+    tried_covered xs valid_lookahead = subst (λ (k : Claim). IsValidLookahead E.farm (place_after k) xs) next.2
+        (valid_on D.farm E.farm next.0 served trying.on.sound next.1 serves.0 (tried_on served refl).on.sound place xs valid_lookahead
         (ap (is_later (last_spot place)) next.2 ∙ next.3))
 
     pub tried_less : left E.queues (place_after claim) < left D.queues place

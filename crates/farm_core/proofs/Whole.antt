@@ -17,7 +17,7 @@ use Rattle.farm_pick.proofs.Checking.{checks_follow}
 use Rattle.farm_pick.proofs.Ending.{ends_follow}
 use Rattle.farm_pick.proofs.Filling.{queued_filter}
 use Rattle.farm_core.specs.Following.{without_all}
-use Rattle.farm_core.proofs.Given.{without_each}
+use Rattle.farm_core.proofs.Assigned.{without_each}
 use Rattle.farm_sound.proofs.Checks.{IsSound-checks, check_clock}
 use Rattle.farm_sound.proofs.Jobs.{IsSound-back}
 use Rattle.farm_sound.proofs.Reservations.{IsSound-expire}

@@ -18,7 +18,7 @@ use Rattle.farm_core.specs.declared.command.job_edit.JobFilter.{JobFilter}
 use Rattle.farm_types.specs.declared.rows.ResRow.{ResRow}
 use Rattle.farm_core.specs.Edits.{job_passes, first_of}
 use Rattle.farm_table.specs.Near.{IsFitJob, IsNear}
-use Rattle.farm_core.specs.Placed.{IsPlaceOf}
+use Rattle.farm_core.specs.PartitionPoint.{IsPartitionPoint}
 
 same_or_less : (j k : ℕ) → j ≤ k → (j ≡ k) ⊎ (j < k)
 same_or_less j k le = grind arith
@@ -35,7 +35,7 @@ module _ {R : Type 0} (key : R → ℕ) where
   rises rows j k d sorted less in_range = ranked (key (get_or rows j d)) (key (get_or rows k d)) Less (sym (Less-from_sorted (λ a b. nat_cmp (key a) (key b)) rows j k d sorted less in_range))
 
   -- where a row of a number stands
-  pub placed : (rows : List R) (number i : ℕ) → Rise rows → i < length rows → ((d : R) → key (get_or rows i d) ≡ number) → IsPlaceOf key rows number i
+  pub placed : (rows : List R) (number i : ℕ) → Rise rows → i < length rows → ((d : R) → key (get_or rows i d) ≡ number) → IsPartitionPoint key rows number i
   placed rows number i sorted in_range equal = record {
     below = λ k d less.
         let tie = equal d in
@@ -48,7 +48,7 @@ module _ {R : Type 0} (key : R → ℕ) where
         ];
   }
 
-  pub placed_at : (rows : List R) (number i : ℕ) (x : R) → Rise rows → i < length rows → x ≡ get_or rows i x → key x ≡ number → IsPlaceOf key rows number i
+  pub placed_at : (rows : List R) (number i : ℕ) (x : R) → Rise rows → i < length rows → x ≡ get_or rows i x → key x ≡ number → IsPartitionPoint key rows number i
   placed_at rows number i x sorted in_range is equal =
       placed rows number i sorted in_range (λ d. ap key (get_or_default rows i d x in_range) ∙ sym (ap key is) ∙ equal)
 
@@ -64,7 +64,7 @@ module _ {R : Type 0} (key : R → ℕ) where
       omega (arith, less, more)
 
   -- rows from some places on have numbers that are so much greater
-  pub far_on : (rows : List R) (number start reach : ℕ) → Rise rows → IsPlaceOf key rows number start → (k : ℕ) (d : R) → start + reach ≤ k → k < length rows
+  pub far_on : (rows : List R) (number start reach : ℕ) → Rise rows → IsPartitionPoint key rows number start → (k : ℕ) (d : R) → start + reach ≤ k → k < length rows
       → number + reach ≤ key (get_or rows k d)
   far_on rows number start reach sorted place k d far low =
       let first = place.above start d (omega arith) (omega arith) in
@@ -74,7 +74,7 @@ module _ {R : Type 0} (key : R → ℕ) where
       omega (arith, first, rise, there, far)
 
   -- where a binary search ends
-  pub searched : (rows : List R) (number : ℕ) → Rise rows → (found : Result ℕ ℕ) → IsSearchInRange found (length rows) → IsBinarySearchResult (λ r. nat_cmp (key r) number) rows found → MatchResult found (IsPlaceOf key rows number) (IsPlaceOf key rows number)
+  pub searched : (rows : List R) (number : ℕ) → Rise rows → (found : Result ℕ ℕ) → IsSearchInRange found (length rows) → IsBinarySearchResult (λ r. nat_cmp (key r) number) rows found → MatchResult found (IsPartitionPoint key rows number) (IsPartitionPoint key rows number)
   searched rows number sorted (Ok i) in_range equal = placed rows number i sorted in_range (λ d. ranked (key (get_or rows i d)) number Equal (sym (equal d)))
   searched rows number sorted (Err i) in_range parted =
       let ascending : IsSortedBy (λ a b. is_lt (nat_cmp (key a) (key b))) rows = λ j d low high. ap is_lt (nat_cmp_total.antisymm (key (get_or rows (j + 1) d)) (key (get_or rows j d)) ∙ ap ordering_reverse (Less-from_sorted (λ a b. nat_cmp (key a) (key b)) rows j (j + 1) d sorted (omega arith) high)) in
@@ -84,7 +84,7 @@ module _ {R : Type 0} (key : R → ℕ) where
         above = λ k d le low. let more = ranked (key (get_or rows k d)) number Greater (sym (both.1 k d le low)) in omega arith;
       }
 
-  pub places_rise : (reach : ℕ) (rows : List R) (first start end : ℕ) → start ≤ length rows → end ≤ length rows → IsPlaceOf key rows first start → IsPlaceOf key rows (first + reach) end → start ≤ end
+  pub places_rise : (reach : ℕ) (rows : List R) (first start end : ℕ) → start ≤ length rows → end ≤ length rows → IsPartitionPoint key rows first start → IsPartitionPoint key rows (first + reach) end → start ≤ end
   places_rise reach [] first start end low high at last = omega arith
   places_rise reach (r ∷ rows) first start end low high at last = elim (less_or_more start end) [
     | inl le ↦ le
@@ -117,14 +117,14 @@ out_of_reach filter j near true passes out = absurd (out (in_reach filter j near
 out_of_reach filter j near false passes out = refl
 
 module _ (jobs : List JobRow) (filter : JobFilter) (fit : AllByRecursion IsFitJob jobs) where
-  pub none_before : (start : ℕ) → start ≤ length jobs → IsPlaceOf (λ (r : JobRow). r.number) jobs (first_of filter) start → (k : ℕ) (d : JobRow) → k < start → job_passes filter (get_or jobs k d) ≡ false
+  pub none_before : (start : ℕ) → start ≤ length jobs → IsPartitionPoint (λ (r : JobRow). r.number) jobs (first_of filter) start → (k : ℕ) (d : JobRow) → k < start → job_passes filter (get_or jobs k d) ≡ false
   none_before start in_range place k d low = out_of_reach filter (get_or jobs k d) (all_at IsFitJob jobs k d fit (omega arith)).near _ refl (λ both. let less = place.below k d low in absurd (omega (arith, both.0)))
 
-  pub none_behind : (end : ℕ) → IsPlaceOf (λ (r : JobRow). r.number) jobs (first_of filter + 4) end → (k : ℕ) (d : JobRow) → end ≤ k → k < length jobs → job_passes filter (get_or jobs k d) ≡ false
+  pub none_behind : (end : ℕ) → IsPartitionPoint (λ (r : JobRow). r.number) jobs (first_of filter + 4) end → (k : ℕ) (d : JobRow) → end ≤ k → k < length jobs → job_passes filter (get_or jobs k d) ≡ false
   none_behind end place k d high low = out_of_reach filter (get_or jobs k d) (all_at IsFitJob jobs k d fit low).near _ refl (λ both. let more = place.above k d high low in absurd (omega (arith, both.1)))
 
 -- none from four places behind a group's first one on is a member
-pub no_member : (jobs : List JobRow) (fit : AllByRecursion IsFitJob jobs) (group start : ℕ) → IsStrictlySortedBy job_cmp jobs → IsPlaceOf (λ (r : JobRow). r.number) jobs group start
+pub no_member : (jobs : List JobRow) (fit : AllByRecursion IsFitJob jobs) (group start : ℕ) → IsStrictlySortedBy job_cmp jobs → IsPartitionPoint (λ (r : JobRow). r.number) jobs group start
     → (k : ℕ) (d : JobRow) → start + 4 ≤ k → k < length jobs → ((get_or jobs k d).group == group) ≡ false
 no_member jobs fit group start sorted place k d far low =
     let high = far_on (λ (r : JobRow). r.number) jobs group start 4 sorted place k d far low in

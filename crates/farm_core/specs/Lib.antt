@@ -1,5 +1,5 @@
 pub mod Plain
-pub mod Placed
+pub mod PartitionPoint
 pub mod Leases
 pub mod Replies
 pub mod Marks
@@ -9,6 +9,6 @@ pub mod Came
 pub mod Edits
 pub mod Collecting
 pub mod Serving
-pub mod Ahead
+pub mod Lookahead
 pub mod Shown
 pub mod Answers

@@ -25,20 +25,20 @@ use Rattle.farm_types.specs.declared.rows.JobRow.{JobRow}
 use Rattle.farm_types.specs.declared.rows.Want.{Want}
 use Rattle.farm_core.specs.Came.{Seen}
 use Rattle.farm_core.specs.Following.{without_boards}
-use Rattle.farm_core.specs.declared.pass.lookahead.unsatisfiable.Known.{Known}
+use Rattle.farm_core.specs.declared.pass.lookahead.unsatisfiable.CachedMiss.{CachedMiss}
 
 -- a job, told by its number, is in a state and holds the board of a name
-abbrev pub give_named : JobState → Farm → ℕ × List ℕ → Farm
-give_named state F (number, name) = record F {
+abbrev pub assign_named : JobState → Farm → ℕ × List ℕ → Farm
+assign_named state F (number, name) = record F {
   jobs = change_where (λ m. m.number == number) (placed_job state name) F.jobs;
   boards = change_where (λ c. bytes_eq c.name name) (held_board (Holder.Job number) State.Reserved)
       F.boards;
 }
 
 -- a reservation is given the first board of some names, for a lease from now on
-abbrev pub give_first : Farm → ℕ → List (List ℕ) → Farm
-give_first F number [] = F
-give_first F number (name ∷ names) = record F {
+abbrev pub assign_first : Farm → ℕ → List (List ℕ) → Farm
+assign_first F number [] = F
+assign_first F number (name ∷ names) = record F {
   reservations = change_where (λ r. r.number == number) (allocated_reservation name F.clock) F.reservations;
   boards = change_where (λ c. bytes_eq c.name name) (held_board (Holder.Res number) State.Reserved)
       F.boards;
@@ -77,29 +77,29 @@ abbrev pub IsMissed : Farm → ClaimKind → ℕ → Type 0
 IsMissed F kind number = least F.boards (is_free F.types) (wants_of F kind number) ≡ None
 
 -- a claim that waits and that no free boards meet
-pub record IsUnmet (F : Farm) (kind : ClaimKind) (number : ℕ) : Type 0 where
+pub record IsWaitingMiss (F : Farm) (kind : ClaimKind) (number : ℕ) : Type 0 where
   pub claimed : Claimed
   pub among : IsAmong claimed (queue F)
   pub of_kind : (shown_claim claimed).kind ≡ kind
   pub numbered : claimed.number ≡ number
-  pub unmet : least F.boards (is_free F.types) claimed.wants ≡ None
+  pub misses : least F.boards (is_free F.types) claimed.wants ≡ None
 
 -- each claim that is remembered is such a one
-abbrev pub IfUnmet : Farm → Option Known → Type 0
-IfUnmet F None = Unit {0}
-IfUnmet F (Some known) = IsUnmet F known.kind known.number
+abbrev pub IfMiss : Farm → Option CachedMiss → Type 0
+IfMiss F None = Unit {0}
+IfMiss F (Some miss) = IsWaitingMiss F miss.kind miss.number
 
-abbrev pub AreUnmet : Farm → List (Option Known) → Type 0
-AreUnmet F places = AllByRecursion (IfUnmet F) places
+abbrev pub AreMisses : Farm → List (Option CachedMiss) → Type 0
+AreMisses F places = AllByRecursion (IfMiss F) places
 
 -- where the first place is empty, all are
-abbrev pub AreFilledInTurn : List (Option Known) → Type 0
+abbrev pub AreFilledInTurn : List (Option CachedMiss) → Type 0
 AreFilledInTurn places = slice_get places 0 ≡ Some None → AllByRecursion (λ o. o ≡ None) places
 
 -- a claim with some wants wants the same as one that is remembered
-abbrev pub IsLike : Farm → List Want → Option Known → Type 0
-IsLike F wants known =
-    (k : Known) × (known ≡ Some k) × (wants ≡ wants_of F k.kind k.number)
+abbrev pub IsLike : Farm → List Want → Option CachedMiss → Type 0
+IsLike F wants miss =
+    (k : CachedMiss) × (miss ≡ Some k) × (wants ≡ wants_of F k.kind k.number)
 
 -- to serve a claim changes nothing: no free boards meet it, and it may not collect
 abbrev pub IsSkipped : Farm → Claim → Type 0
@@ -137,7 +137,7 @@ Serves D c served E =
 -- a claim that is met is served, and one that isn't leaves all as it is
 pub record Tries (D : Seen) (c : Claimed) (served : Bool) (E : Seen) : Type 0 where
   pub met : served ≡ true → Serves D c true E
-  pub unmet : served ≡ false → (E ≡ D) × (least D.farm.boards (is_free D.farm.types) c.wants ≡ None)
+  pub misses : served ≡ false → (E ≡ D) × (least D.farm.boards (is_free D.farm.types) c.wants ≡ None)
 
 -- for how many boards a group waits, if it is a claim, and else none
 abbrev pub boards_for : Farm → ℕ → ℕ

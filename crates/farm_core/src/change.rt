@@ -101,7 +101,7 @@ impl Tables {
             Cmd::Pass => self.pass(),
             _ => {
                 let number = self.act_numbered(call)?;
-                self.follow_boards()?;
+                self.refresh_free_boards()?;
                 Ok(Reply(number, 0, 0))
             }
         }

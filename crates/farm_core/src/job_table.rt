@@ -13,8 +13,8 @@ ghost use Rattle.farm_sound.specs.Place.{job_in};
 ghost use Rattle.farm_table.specs.Near.{IsFitJob};
 ghost use Rattle.farm_table.specs.Tabled.{Leads};
 ghost use Rattle.farm_core.specs.Edits.{job_passes, job_changed, first_of};
-ghost use Rattle.farm_core.specs.Marks.{AreMarks, IsNumber, IsNumbered, number_at};
-ghost use Rattle.farm_core.specs.Placed.{IsPlaceOf};
+ghost use Rattle.farm_core.specs.Marks.{AreMarks, IsWantId, IsInterned, want_id_at};
+ghost use Rattle.farm_core.specs.PartitionPoint.{IsPartitionPoint};
 ghost use Rattle.farm_core.specs.Serving.{member_wants};
 
 use crate::command::job_edit::JobEdit;
@@ -31,8 +31,8 @@ const MOST: usize = 8;
 /// How far the numbers of a group's members reach.
 const GROUP_REACH: u64 = MOST_WANTS as u64;
 
-/// What a pass compares of a job: its numbers, and a number of its want. Jobs whose wants have one
-/// number want the same, and those of two numbers may; 0 is no number. Marks take 24 bytes a job
+/// What a pass compares of a job: its numbers, and an id of its want. Jobs whose wants have one id
+/// want the same, and those of two ids may; 0 is no id. Marks take 24 bytes a job
 /// and lie side by side, so a pass that compares them waits for no row and no text to come from
 /// memory.
 #[derive(Clone, Copy, Debug, PartialEq, Eq)]
@@ -42,20 +42,19 @@ struct Mark {
     want: u64,
 }
 
-/// The last number that was given to a want, and where the jobs stand that were the first of
-/// theirs, of the last eight numbers, as guesses. A want that comes again after eight others gets a
-/// new number.
+/// The ids of wants: the last one, and where the jobs stand that were the first of theirs, of the
+/// last eight ids, as guesses. A want that comes again after eight others gets a new id.
 #[derive(Clone, Copy, Debug)]
-struct Numbers {
+struct WantIds {
     last: u64,
     places: [usize; MOST],
     turn: usize,
 }
 
-/// The number of the want of the job at a place, if it is this want.
-fn number_like(rows: &[JobRow], marks: &[Mark], place: usize, want: &Want) -> Option<u64>
+/// The id of the want of the job at a place, if it is this want.
+fn want_id_like(rows: &[JobRow], marks: &[Mark], place: usize, want: &Want) -> Option<u64>
     ensures { IfSome result (λ k. (f : ℕ → Want) (last : ℕ) → AreMarks f last rows.now marks.now
-        → IsNumber f last want.now k) }
+        → IsWantId f last want.now k) }
 {
     let mark = marks.get(place)?;
     let row = rows.get(place)?;
@@ -66,37 +65,37 @@ fn number_like(rows: &[JobRow], marks: &[Mark], place: usize, want: &Want) -> Op
     }
 }
 
-impl Numbers {
-    /// No want has a number.
-    fn none() -> Numbers
+impl WantIds {
+    /// No want has an id.
+    fn none() -> WantIds
         ensures { result.last ≡ 0 }
     {
-        Numbers {
+        WantIds {
             last: 0,
             places: [0; MOST],
             turn: 0,
         }
     }
 
-    /// The number of this want, if one of the jobs at the eight places has it.
-    fn known(&self, rows: &[JobRow], marks: &[Mark], want: &Want) -> Option<u64>
+    /// The id of this want, if one of the jobs at the eight places has it.
+    fn find(&self, rows: &[JobRow], marks: &[Mark], want: &Want) -> Option<u64>
         ensures { IfSome result (λ k. (f : ℕ → Want) (last : ℕ)
-            → AreMarks f last rows.now marks.now → IsNumber f last want.now k) }
+            → AreMarks f last rows.now marks.now → IsWantId f last want.now k) }
     {
         for at in 0..MOST {
-            if let Some(number) = number_like(rows, marks, self.places[at], want) {
+            if let Some(number) = want_id_like(rows, marks, self.places[at], want) {
                 return Some(number);
             }
         }
         None
     }
 
-    /// A number for the want of the job that stands, or will stand, at a place: that of an equal
+    /// An id for the want of the job that stands, or will stand, at a place: that of an equal
     /// want at one of the eight places, or else a new one.
-    fn give(&mut self, rows: &[JobRow], marks: &[Mark], place: usize, want: &Want) -> u64
-        ensures { IsNumbered rows.now marks.now self.old.last self.new.last want.now result }
+    fn intern(&mut self, rows: &[JobRow], marks: &[Mark], place: usize, want: &Want) -> u64
+        ensures { IsInterned rows.now marks.now self.old.last self.new.last want.now result }
     {
-        if let Some(number) = self.known(rows, marks, want) {
+        if let Some(number) = self.find(rows, marks, want) {
             return number;
         }
         if self.last == u64::MAX {
@@ -108,21 +107,21 @@ impl Numbers {
         self.last
     }
 
-    /// A number for the want of the job at a place, if it waits; of others none is compared.
-    fn give_waiting(&mut self, rows: &[JobRow], marks: &[Mark], place: usize, row: &JobRow) -> u64
-        ensures { IsNumbered rows.now marks.now self.old.last self.new.last row.now.want result }
+    /// An id for the want of the job at a place, if it waits; of others none is compared.
+    fn intern_waiting(&mut self, rows: &[JobRow], marks: &[Mark], place: usize, row: &JobRow) -> u64
+        ensures { IsInterned rows.now marks.now self.old.last self.new.last row.now.want result }
     {
         if matches!(row.state, JobState::Submitted | JobState::Scheduling) {
-            self.give(rows, marks, place, &row.want)
+            self.intern(rows, marks, place, &row.want)
         } else {
             0
         }
     }
 }
 
-/// The number of the want of the job at a place, if it is a member of the group.
-fn number_at(marks: &[Mark], place: usize, group: u64) -> Option<u64>
-    ensures { result ≡ number_at marks.now group place }
+/// The id of the want of the job at a place, if it is a member of the group.
+fn want_id_at(marks: &[Mark], place: usize, group: u64) -> Option<u64>
+    ensures { result ≡ want_id_at marks.now group place }
 {
     match marks.get(place) {
         None => None,
@@ -136,8 +135,8 @@ fn number_at(marks: &[Mark], place: usize, group: u64) -> Option<u64>
     }
 }
 
-/// Whether two numbers are one that is given, or neither is there.
-fn same_number(first: Option<u64>, second: Option<u64>) -> bool
+/// Whether two ids are one that is given, or neither is there.
+fn same_want_id(first: Option<u64>, second: Option<u64>) -> bool
     ensures same { result ≡ true → first ≡ second }
     ensures given { result ≡ true → IfSome first (λ k. k ≡ 0 → ⊥) }
 {
@@ -151,7 +150,7 @@ fn same_number(first: Option<u64>, second: Option<u64>) -> bool
 /// How many jobs have a smaller number, by binary search.
 fn place_in(jobs: &Table<JobRow>, number: u64) -> usize
     ensures within { result ≤ length jobs.now.rows }
-    ensures place { IsPlaceOf (λ (r : JobRow). r.number) jobs.now.rows number result }
+    ensures place { IsPartitionPoint (λ (r : JobRow). r.number) jobs.now.rows number result }
 {
     match jobs.place_of(&number) {
         Ok(at) => at,
@@ -165,7 +164,7 @@ pub struct JobTable {
     table: Table<JobRow>,
     /// The mark of each row, at the row's place.
     marks: Vec<Mark>,
-    numbers: Numbers,
+    want_ids: WantIds,
 }
 
 impl Model for JobTable {
@@ -177,7 +176,7 @@ impl Model for JobTable {
 
     ghost view = { λ t. t.table };
 
-    ghost invariant = { λ t. IsMarked t.numbers.last t.table.rows t.marks.items };
+    ghost invariant = { λ t. IsMarked t.want_ids.last t.table.rows t.marks.items };
 }
 
 impl JobTable {
@@ -188,7 +187,7 @@ impl JobTable {
         JobTable {
             table: Table::new(alloc),
             marks: Vec::new(alloc),
-            numbers: Numbers::none(),
+            want_ids: WantIds::none(),
         }
     }
 
@@ -200,10 +199,10 @@ impl JobTable {
         ensures { IfOk result (λ table. table ≡ record { rows = rows.items; log = [] }) }
     {
         let mut marks = Vec::with_capacity(alloc, rows.len())?;
-        let mut numbers = Numbers::none();
+        let mut want_ids = WantIds::none();
         for at in 0..rows.len() {
             let row = &rows[at];
-            let want = numbers.give_waiting(&rows, &marks, at, row);
+            let want = want_ids.intern_waiting(&rows, &marks, at, row);
             marks.push(Mark {
                 number: row.number,
                 group: row.group,
@@ -213,7 +212,7 @@ impl JobTable {
         Ok(JobTable {
             table: Table::of(rows),
             marks,
-            numbers,
+            want_ids,
         })
     }
 
@@ -264,8 +263,8 @@ impl JobTable {
             Err(at) => at,
         };
         let want = self
-            .numbers
-            .give(self.table.rows(), &self.marks, at, &row.want);
+            .want_ids
+            .intern(self.table.rows(), &self.marks, at, &row.want);
         let mark = Mark {
             number: row.number,
             group: row.group,
@@ -301,7 +300,7 @@ impl JobTable {
     /// guess on by their marks alone, else by binary search.
     pub fn place_near(&self, guess: usize, number: u64) -> usize
         ensures within { result ≤ length self.now.rows }
-        ensures place { IsPlaceOf (λ (r : JobRow). r.number) self.now.rows number result }
+        ensures place { IsPartitionPoint (λ (r : JobRow). r.number) self.now.rows number result }
         ensures sorted { IsStrictlySortedBy job_cmp self.now.rows }
         ensures fit { AllByRecursion IsFitJob self.now.rows }
     {
@@ -322,7 +321,7 @@ impl JobTable {
     /// place; else it costs a binary search.
     pub fn place_of(&self, number: u64) -> usize
         ensures within { result ≤ length self.now.rows }
-        ensures place { IsPlaceOf (λ (r : JobRow). r.number) self.now.rows number result }
+        ensures place { IsPartitionPoint (λ (r : JobRow). r.number) self.now.rows number result }
         ensures sorted { IsStrictlySortedBy job_cmp self.now.rows }
         ensures fit { AllByRecursion IsFitJob self.now.rows }
     {
@@ -345,9 +344,9 @@ impl JobTable {
         // as many as have a place, so that the sums of places don't wrap
         let _jobs = self.table.len();
         for step in 0..MOST_WANTS {
-            let first = number_at(&self.marks, start + step, group);
-            let second = number_at(&self.marks, other_start + step, other);
-            if !same_number(first, second) {
+            let first = want_id_at(&self.marks, start + step, group);
+            let second = want_id_at(&self.marks, other_start + step, other);
+            if !same_want_id(first, second) {
                 return false;
             }
         }

@@ -8,11 +8,11 @@ ghost use Rattle.farm_pick.specs.Queued.{queue_lists};
 ghost use Rattle.farm_core.specs.Came.{CameTo, seen};
 ghost use Rattle.farm_core.specs.Plain.{plain_farm};
 
+pub(crate) mod assign;
 pub(crate) mod checks;
 pub(crate) mod collect;
 pub(crate) mod expire;
 pub(crate) mod free_index;
-pub(crate) mod give;
 pub(crate) mod lookahead;
 pub(crate) mod serve;
 
@@ -59,7 +59,7 @@ impl Tables {
         self.give_back()?;
         let ended = self.expire()?;
         let checked = self.checks()?;
-        self.follow_boards()?;
+        self.refresh_free_boards()?;
         self.make_room()?;
         let served = self.serve(former)?;
         Ok(Reply(checked, ended, served))

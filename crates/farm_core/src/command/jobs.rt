@@ -15,7 +15,7 @@ ghost use Rattle.farm_table.specs.Near.{IsFitJob};
 ghost use Rattle.farm_core.specs.Edits.{outcome_of};
 ghost use Rattle.farm_core.specs.Came.{Acts, CameTo, seen, seen_at};
 ghost use Rattle.farm_core.specs.Plain.{plain_farm};
-ghost use Rattle.farm_core.specs.Placed.{IsPlaceOf};
+ghost use Rattle.farm_core.specs.PartitionPoint.{IsPartitionPoint};
 
 use crate::board_effect::BoardEffect;
 use crate::command::job_edit::{JobEdit, JobFilter, Placement};
@@ -73,9 +73,9 @@ impl Tables {
 
     /// The few rows from a place on that stand where the members of a group do: no other row is a
     /// member.
-    pub fn near_from(&self, group: u64, start: usize) -> &[JobRow]
+    pub fn member_rows_from(&self, group: u64, start: usize) -> &[JobRow]
         requires within { start ≤ length (plain_farm self.now).jobs }
-        requires place { IsPlaceOf (λ (r : JobRow). r.number) (plain_farm self.now).jobs group start }
+        requires place { IsPartitionPoint (λ (r : JobRow). r.number) (plain_farm self.now).jobs group start }
         ensures members { filter (λ j. j.group == group) result.now
             ≡ members (plain_farm self.now) group }
         ensures few { length result.now ≤ most_wants }
@@ -87,7 +87,7 @@ impl Tables {
     }
 
     /// The few rows that stand where the members of a group do: no other row is a member.
-    pub fn near(&self, group: u64) -> &[JobRow]
+    pub fn member_rows(&self, group: u64) -> &[JobRow]
         requires small { IsSmall group }
         ensures members { filter (λ j. j.group == group) result.now
             ≡ members (plain_farm self.now) group }
@@ -95,7 +95,7 @@ impl Tables {
         ensures fit { AllByRecursion IsFitJob result.now }
     {
         let start = self.jobs.place_of(group);
-        self.near_from(group, start)
+        self.member_rows_from(group, start)
     }
 
     /// Whether some member of a group can be canceled.
@@ -103,7 +103,7 @@ impl Tables {
         requires small { IsSmall group }
         ensures { result ≡ list_any can_cancel (members (plain_farm self.now) group) }
     {
-        some_can_cancel(self.near(group), group)
+        some_can_cancel(self.member_rows(group), group)
     }
 
     /// Why a job isn't canceled.
@@ -157,7 +157,7 @@ impl Tables {
 
 impl Tables {
     /// The group collects no more, if it did.
-    fn collects_no_more(&mut self, group: u64)
+    fn stop_collecting(&mut self, group: u64)
         ensures { CameTo self.old (seen_at (record (plain_farm self.old) {
           collector = if self.old.collector == group then 0 else self.old.collector;
         }) (seen self.old)) self.new }
@@ -183,7 +183,7 @@ impl Tables {
             placement: Placement::Stays,
         };
         self.edit_jobs_and_boards(end, BoardEffect::Free)?;
-        self.collects_no_more(group);
+        self.stop_collecting(group);
         self.jobs.edit(JobEdit {
             jobs: JobFilter::Running(group),
             state: JobState::Canceling,

@@ -125,7 +125,7 @@ impl Tables {
         let row = check_job(*self.boards.allocator(), number, board)?;
         let name = board.name.copy()?;
         self.jobs.put(row)?;
-        self.hold_board(&name, Holder::Job(number))?;
+        self.reserve_board(&name, Holder::Job(number))?;
         self.next = number + 1;
         Ok(())
     }

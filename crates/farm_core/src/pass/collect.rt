@@ -71,7 +71,7 @@ impl Tables {
         match self.pick_for_job(number)? {
             None => Ok(()),
             Some(name) => {
-                self.give_job(JobState::Scheduling, number, &name)?;
+                self.assign_job(JobState::Scheduling, number, &name)?;
                 self.queues.take_board(&name);
                 Ok(())
             }
@@ -91,7 +91,7 @@ impl Tables {
           };
         }) self.new) }
     {
-        let numbers = numbers_in(self.near(group), group);
+        let numbers = numbers_in(self.member_rows(group), group);
         let members = numbers.as_slice();
         for at in 0..members.len() {
             self.collect_member(members[at])?;

@@ -55,7 +55,7 @@ fn take_boards(queues: &mut Queues, names: &[Name])
 
 impl Tables {
     /// The free boards follow the boards that are logged.
-    pub fn follow_boards(&mut self) -> Result<(), AllocError>
+    pub fn refresh_free_boards(&mut self) -> Result<(), AllocError>
         requires { FollowsLog self.old }
         ensures { OnOk result (CameTo self.old (record (seen self.old) {
           queues = record self.old.queues { boards = idle_boards (plain_farm self.old) };
@@ -66,7 +66,7 @@ impl Tables {
     }
 
     /// The claim of a number was given boards: it waits no more, and they are free no more.
-    pub fn take_given(&mut self, number: u64, names: &[Name])
+    pub fn take_assigned(&mut self, number: u64, names: &[Name])
         ensures { CameTo self.old (record (seen self.old) {
           queues = record {
             claims = filter (λ x. not (x.claim.number == number)) self.old.queues.claims;

@@ -3,7 +3,7 @@ ghost use Rattle.std.specs.Prelude.{◌≡◌, []};
 ghost use Rattle.std.specs.Ordering.{is_lt};
 ghost use Rattle.farm_types.specs.Pick.{shown_cmp};
 ghost use Rattle.farm_pick.specs.Heads.{is_later, last_spot};
-ghost use Rattle.farm_core.specs.Ahead.{claim_of, coming_of, earlier_coming};
+ghost use Rattle.farm_core.specs.Lookahead.{claim_of, upcoming_of, earlier_upcoming};
 
 pub(crate) mod next_candidate;
 pub(crate) mod same_wants;
@@ -14,19 +14,19 @@ use farm_types::{Claim, ClaimKind, Priority};
 
 /// What a pass asks of a claim that it comes to: all but its owner's name.
 #[derive(Debug, Drop)]
-pub struct Coming {
+pub struct Upcoming {
     pub kind: ClaimKind,
     pub number: u64,
     pub priority: Priority,
     pub boards: u64,
 }
 
-impl Coming {
+impl Upcoming {
     /// What is asked of a claim.
-    pub fn of(claim: &Claim) -> Coming
-        ensures { result ≡ coming_of claim.now }
+    pub fn of(claim: &Claim) -> Upcoming
+        ensures { result ≡ upcoming_of claim.now }
     {
-        Coming {
+        Upcoming {
             kind: claim.kind,
             number: claim.number,
             priority: claim.priority,
@@ -35,10 +35,10 @@ impl Coming {
     }
 
     /// The same once more.
-    pub fn again(&self) -> Coming
+    pub fn again(&self) -> Upcoming
         ensures { result ≡ self.now }
     {
-        Coming {
+        Upcoming {
             kind: self.kind,
             number: self.number,
             priority: self.priority,
@@ -62,7 +62,7 @@ impl Coming {
     }
 
     /// Whether it is served before another.
-    fn goes_before(&self, other: &Coming) -> bool
+    fn goes_before(&self, other: &Upcoming) -> bool
         ensures { result ≡ is_lt (shown_cmp (claim_of [] self.now) (claim_of [] other.now)) }
     {
         let by_priority = other.priority.get().cmp(&self.priority.get());
@@ -71,8 +71,8 @@ impl Coming {
 }
 
 /// Of two claims the one that goes first; of one alone this one.
-pub fn earlier(first: Option<Coming>, second: Option<Coming>) -> Option<Coming>
-    ensures { result ≡ earlier_coming first second }
+pub fn earlier(first: Option<Upcoming>, second: Option<Upcoming>) -> Option<Upcoming>
+    ensures { result ≡ earlier_upcoming first second }
 {
     match (first, second) {
         (None, second) => second,

@@ -18,10 +18,10 @@ ghost use Rattle.farm_pick.specs.Heads.{is_later, last_spot};
 ghost use Rattle.farm_pick.specs.Queued.{Queued, idle_boards, is_open, queue_lists};
 ghost use Rattle.farm_core.specs.Came.{CameTo, LeadOn, seen};
 ghost use Rattle.farm_core.specs.Plain.{plain_farm};
-ghost use Rattle.farm_core.specs.Serving.{AreUnmet, Asks, Begins, Serves, Tries, boards_for};
+ghost use Rattle.farm_core.specs.Serving.{AreMisses, Asks, Begins, Serves, Tries, boards_for};
 ghost use Rattle.farm_core.specs.Serving.{count_after, wants_of};
 
-use crate::pass::lookahead::unsatisfiable::{Known, Unmet};
+use crate::pass::lookahead::unsatisfiable::{CachedMiss, MissCache};
 use crate::tables::Tables;
 use arrayvec::ArrayVec;
 use farm_types::{ClaimKind, JobRow, JobState, MOST_WANTS, Name, Priority, Want};
@@ -119,19 +119,19 @@ impl Tables {
     }
 
     /// The names of the boards for a group, whose members are among some rows.
-    fn pick_for_group(&self, near: &[JobRow], group: u64) -> Result<Option<Vec<Name>>, AllocError>
-        requires near { filter (λ j. j.group == group) near.now ≡ members (plain_farm self.now) group }
-        requires few { length near.now ≤ most_wants }
+    fn pick_for_group(&self, rows: &[JobRow], group: u64) -> Result<Option<Vec<Name>>, AllocError>
+        requires rows { filter (λ j. j.group == group) rows.now ≡ members (plain_farm self.now) group }
+        requires few { length rows.now ≤ most_wants }
         requires free { self.now.queues.boards ≡ idle_boards (plain_farm self.now) }
         ensures { IfOk result (λ picked. option_map (λ names. names.items) picked
             ≡ option_map (map (λ (b : BoardRow). b.name))
             (least (plain_farm self.now).boards (is_free (plain_farm self.now).types)
             (map (λ m. m.want) (members (plain_farm self.now) group)))) }
     {
-        let Some(first) = near.first() else {
+        let Some(first) = rows.first() else {
             return self.pick(&[]);
         };
-        let (wants, count) = wants_in(near, group, &first.want);
+        let (wants, count) = wants_in(rows, group, &first.want);
         self.pick(&wants[..count])
     }
 
@@ -154,9 +154,9 @@ impl Tables {
         requires small { IsSmall group }
         ensures { result ≡ boards_for (plain_farm self.now) group }
     {
-        let near = self.near(group);
+        let rows = self.member_rows(group);
         match self.find_job(group) {
-            Some(job) if job.group == group && all_wait(near, group) => count_in(near, group),
+            Some(job) if job.group == group && all_wait(rows, group) => count_in(rows, group),
             _ => 0,
         }
     }
@@ -170,13 +170,13 @@ impl Tables {
             → Tries (seen self.old) c served (seen self.new)) }
         ensures logs { OnOk result (LeadOn self.old self.new) }
     {
-        let near = self.near(group);
-        match self.pick_for_group(near, group)? {
+        let rows = self.member_rows(group);
+        match self.pick_for_group(rows, group)? {
             None => Ok(false),
             Some(names) => {
-                let numbers = numbers_in(near, group);
-                self.give_jobs(&numbers, &names)?;
-                self.take_given(group, &names);
+                let numbers = numbers_in(rows, group);
+                self.assign_jobs(&numbers, &names)?;
+                self.take_assigned(group, &names);
                 Ok(true)
             }
         }
@@ -195,8 +195,8 @@ impl Tables {
         match self.pick_for_reservation(number)? {
             None => Ok(false),
             Some(names) => {
-                self.give_first(number, &names)?;
-                self.take_given(number, &names);
+                self.assign_first(number, &names)?;
+                self.take_assigned(number, &names);
                 Ok(true)
             }
         }
@@ -241,7 +241,7 @@ impl Tables {
     /// what was unmet stays so; and it may collect.
     fn try_claim(
         &mut self,
-        unmet: &mut Unmet,
+        misses: &mut MissCache,
         kind: ClaimKind,
         number: u64,
         boards: u64,
@@ -252,11 +252,11 @@ impl Tables {
         requires small { IsSmall number }
         requires clock { self.old.clock ≤ last_moment }
         requires free { self.old.queues.boards ≡ idle_boards (plain_farm self.old) }
-        requires known { AreUnmet (plain_farm self.old) unmet.old }
+        requires miss { AreMisses (plain_farm self.old) misses.old }
         ensures serves { IfOk result (λ served. (c : Claimed) → (shown_claim c).kind ≡ kind
             → c.number ≡ number → IsAmong c (queue (plain_farm self.old))
             → Serves (seen self.old) c served (seen self.new)) }
-        ensures known { OnOk result (AreUnmet (plain_farm self.new) unmet.new) }
+        ensures miss { OnOk result (AreMisses (plain_farm self.new) misses.new) }
         ensures logs { OnOk result (LeadOn self.old self.new) }
     {
         let served = self.serve_claim(kind, number)?;
@@ -264,7 +264,7 @@ impl Tables {
             return Ok(true);
         }
         let place = self.place_of_claim(kind, number);
-        unmet.note(Known {
+        misses.note(CachedMiss {
             kind,
             number,
             place,
@@ -275,20 +275,20 @@ impl Tables {
 
     /// Tries the group that collected before, if it is still a claim: it goes first. Gives how many
     /// were served, one or none.
-    fn serve_former(&mut self, unmet: &mut Unmet, former: u64) -> Result<u64, AllocError>
+    fn serve_former(&mut self, misses: &mut MissCache, former: u64) -> Result<u64, AllocError>
         requires sound { IsSound (plain_farm self.old) }
         requires small { IsSmall former }
         requires fits { self.old.queues ≡ queue_lists (plain_farm self.old) }
-        requires known { AreUnmet (plain_farm self.old) unmet.old }
+        requires miss { AreMisses (plain_farm self.old) misses.old }
         ensures begun { IfOk result (λ n. Begins (seen self.old) former n (seen self.new)) }
-        ensures known { OnOk result (AreUnmet (plain_farm self.new) unmet.new) }
+        ensures miss { OnOk result (AreMisses (plain_farm self.new) misses.new) }
         ensures logs { OnOk result (LeadOn self.old self.new) }
     {
         let boards = self.waits_for(former);
         if boards == 0 {
             return Ok(0);
         }
-        let served = self.try_claim(unmet, ClaimKind::Group, former, boards)?;
+        let served = self.try_claim(misses, ClaimKind::Group, former, boards)?;
         Ok(u64::from(served))
     }
 
@@ -315,15 +315,15 @@ impl Tables {
         ensures count { IfOk result
             (λ n. n ≡ (serve_all (plain_farm self.old) former self.old.clock).claims) }
     {
-        let mut unmet = Unmet::none();
-        let mut count = self.serve_former(&mut unmet, former)?;
-        let mut ahead = VecDeque::new(*self.boards.allocator());
+        let mut misses = MissCache::none();
+        let mut count = self.serve_former(&mut misses, former)?;
+        let mut lookahead = VecDeque::new(*self.boards.allocator());
         let mut last = None;
-        while let Some(claim) = self.next_claim(&mut ahead, &unmet, last)? {
+        while let Some(claim) = self.next_claim(&mut lookahead, &misses, last)? {
             let (kind, number, boards) = (claim.kind, claim.number, claim.boards);
             last = Some((claim.priority, number));
             if !is_of_group(kind, number, former) {
-                let served = self.try_claim(&mut unmet, kind, number, boards)?;
+                let served = self.try_claim(&mut misses, kind, number, boards)?;
                 if served {
                     count += 1;
                 }

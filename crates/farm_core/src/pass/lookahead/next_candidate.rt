@@ -12,15 +12,15 @@ ghost use Rattle.farm_pick.specs.Heads.{is_later, last_spot};
 ghost use Rattle.farm_pick.specs.Merged.{lent_several};
 ghost use Rattle.farm_pick.specs.Queued.{queue_lists};
 ghost use Rattle.farm_core.specs.Plain.{plain_farm};
-ghost use Rattle.farm_core.specs.Placed.{IsPlaceOf};
-ghost use Rattle.farm_core.specs.Ahead.{ComesNext, Foresees, IsReached};
-ghost use Rattle.farm_core.specs.Ahead.{claim_of, coming_of, earlier_coming};
-ghost use Rattle.farm_core.specs.Serving.{AreUnmet, IsLike, IsMissed, member_wants, wants_of};
+ghost use Rattle.farm_core.specs.PartitionPoint.{IsPartitionPoint};
+ghost use Rattle.farm_core.specs.Lookahead.{ComesNext, IsValidLookahead, IsNextCandidate};
+ghost use Rattle.farm_core.specs.Lookahead.{claim_of, upcoming_of, earlier_upcoming};
+ghost use Rattle.farm_core.specs.Serving.{AreMisses, IsLike, IsMissed, member_wants, wants_of};
 
 use crate::edits::GUESS_REACH;
 use crate::pass::lookahead::same_wants::{same_members, same_want};
-use crate::pass::lookahead::unsatisfiable::{Known, Unmet};
-use crate::pass::lookahead::{Coming, earlier};
+use crate::pass::lookahead::unsatisfiable::{CachedMiss, MissCache};
+use crate::pass::lookahead::{Upcoming, earlier};
 use crate::tables::Tables;
 use farm_sound::seek;
 use farm_types::{ClaimKind, JobRow, Priority, ResRow, Want};
@@ -28,7 +28,7 @@ use std::alloc::AllocError;
 use std::collections::VecDeque;
 
 /// How many claims are looked at ahead of the one that is tried.
-const AHEAD: usize = 16;
+const LOOKAHEAD: usize = 16;
 
 /// An equal priority and number.
 fn copied(last: &Option<(Priority, u64)>) -> Option<(Priority, u64)>
@@ -90,33 +90,33 @@ impl Tables {
 
     /// Whether a group, whose members are among some rows, wants the same as one that is
     /// remembered.
-    fn is_like_group(&self, rows: &[JobRow], group: u64, known: &Option<Known>) -> bool
+    fn is_like_group(&self, rows: &[JobRow], group: u64, miss: &Option<CachedMiss>) -> bool
         requires few { length rows.now ≤ most_wants }
-        ensures { result ≡ true → IsLike (plain_farm self.now) (member_wants rows.now group) known.now }
+        ensures { result ≡ true → IsLike (plain_farm self.now) (member_wants rows.now group) miss.now }
     {
-        match known {
+        match miss {
             None => false,
-            Some(known) => match known.kind {
+            Some(miss) => match miss.kind {
                 ClaimKind::Reservation => false,
                 ClaimKind::Group => {
-                    let start = self.jobs.place_near(known.place, known.number);
-                    let others = self.near_from(known.number, start);
-                    same_members(rows, group, others, known.number)
+                    let start = self.jobs.place_near(miss.place, miss.number);
+                    let others = self.member_rows_from(miss.number, start);
+                    same_members(rows, group, others, miss.number)
                 }
             },
         }
     }
 
     /// Whether a reservation's want is that of one that is remembered.
-    fn is_like_reservation(&self, want: &Want, known: &Option<Known>) -> bool
-        ensures { result ≡ true → IsLike (plain_farm self.now) (want.now ∷ []) known.now }
+    fn is_like_reservation(&self, want: &Want, miss: &Option<CachedMiss>) -> bool
+        ensures { result ≡ true → IsLike (plain_farm self.now) (want.now ∷ []) miss.now }
     {
-        match known {
+        match miss {
             None => false,
-            Some(known) => match known.kind {
+            Some(miss) => match miss.kind {
                 ClaimKind::Group => false,
                 ClaimKind::Reservation => {
-                    match self.reservation_near(known.place, known.number) {
+                    match self.reservation_near(miss.place, miss.number) {
                         None => false,
                         Some((_place, row)) => same_want(want, &row.want),
                     }
@@ -128,19 +128,19 @@ impl Tables {
     /// Whether a group, whose first row stands at a place, wants the same as one that was found
     /// unmet. Its rows are looked at only where the numbers of the wants don't tell: equal wants
     /// have two numbers where more wants than are remembered came between them.
-    fn is_group_unmet(&self, unmet: &Unmet, group: u64, start: usize) -> bool
+    fn is_group_miss(&self, misses: &MissCache, group: u64, start: usize) -> bool
         requires sound { IsSound (plain_farm self.now) }
         requires within { start ≤ length (plain_farm self.now).jobs }
-        requires place { IsPlaceOf (λ (r : JobRow). r.number) (plain_farm self.now).jobs group start }
-        requires known { AreUnmet (plain_farm self.now) unmet.now }
+        requires place { IsPartitionPoint (λ (r : JobRow). r.number) (plain_farm self.now).jobs group start }
+        requires miss { AreMisses (plain_farm self.now) misses.now }
         ensures { result ≡ true → IsMissed (plain_farm self.now) ClaimKind.Group group }
     {
-        if self.is_unmet_by_numbers(unmet, group, start) {
+        if self.is_miss_by_want_ids(misses, group, start) {
             return true;
         }
-        let rows = self.near_from(group, start);
-        for known in unmet.claims() {
-            if self.is_like_group(rows, group, known) {
+        let rows = self.member_rows_from(group, start);
+        for miss in misses.claims() {
+            if self.is_like_group(rows, group, miss) {
                 return true;
             }
         }
@@ -148,14 +148,14 @@ impl Tables {
     }
 
     /// Whether a reservation wants the same as one that was found unmet.
-    fn is_reservation_unmet(&self, unmet: &Unmet, row: &ResRow, number: u64) -> bool
+    fn is_reservation_miss(&self, misses: &MissCache, row: &ResRow, number: u64) -> bool
         requires sound { IsSound (plain_farm self.now) }
         requires row { res_of (plain_farm self.now) number ≡ Some row.now }
-        requires known { AreUnmet (plain_farm self.now) unmet.now }
+        requires miss { AreMisses (plain_farm self.now) misses.now }
         ensures { result ≡ true → IsMissed (plain_farm self.now) ClaimKind.Reservation number }
     {
-        for known in unmet.claims() {
-            if self.is_like_reservation(&row.want, known) {
+        for miss in misses.claims() {
+            if self.is_like_reservation(&row.want, miss) {
                 return true;
             }
         }
@@ -167,25 +167,25 @@ impl Tables {
     /// they are near it costs a comparison for each of the eight that is looked at, else with J
     /// jobs and R reservations O(log (J + R)) besides. Of jobs the marks are compared first, so
     /// where they tell no row and no text of them is read, and where none was found unmet nothing is.
-    fn is_unmet(&self, unmet: &Unmet, claim: &Coming, guess: &mut Guess) -> bool
+    fn is_known_miss(&self, misses: &MissCache, claim: &Upcoming, guess: &mut Guess) -> bool
         requires sound { IsSound (plain_farm self.now) }
-        requires known { AreUnmet (plain_farm self.now) unmet.now }
+        requires miss { AreMisses (plain_farm self.now) misses.now }
         ensures { result ≡ true → IsMissed (plain_farm self.now) claim.now.kind claim.now.number }
     {
-        if unmet.is_empty() {
+        if misses.is_empty() {
             return false;
         }
         match claim.kind {
             ClaimKind::Group => {
                 guess.job = self.jobs.place_near(guess.job, claim.number);
-                self.is_group_unmet(unmet, claim.number, guess.job)
+                self.is_group_miss(misses, claim.number, guess.job)
             }
             ClaimKind::Reservation => {
                 match self.reservation_near(guess.reservation, claim.number) {
                     None => false,
                     Some((place, row)) => {
                         guess.reservation = place;
-                        self.is_reservation_unmet(unmet, row, claim.number)
+                        self.is_reservation_miss(misses, row, claim.number)
                     }
                 }
             }
@@ -198,28 +198,28 @@ impl Tables {
     /// With K queues, C claims in open ones and J jobs it costs O(K log C + log J) to begin, and
     /// then a comparison a queue, and one for each of the eight that were found unmet, for each
     /// claim.
-    fn look_ahead(
+    fn fill_lookahead(
         &self,
-        ahead: &mut VecDeque<Coming>,
-        unmet: &Unmet,
+        lookahead: &mut VecDeque<Upcoming>,
+        misses: &MissCache,
         last: Option<(Priority, u64)>,
     ) -> Result<(), AllocError>
         requires sound { IsSound (plain_farm self.now) }
         requires fits { self.now.queues ≡ queue_lists (plain_farm self.now) }
-        requires known { AreUnmet (plain_farm self.now) unmet.now }
-        requires none { ahead.old.items ≡ [] }
-        ensures foreseen { OnOk result (Foresees (plain_farm self.now) last ahead.new.items) }
+        requires miss { AreMisses (plain_farm self.now) misses.now }
+        requires none { lookahead.old.items ≡ [] }
+        ensures valid { OnOk result (IsValidLookahead (plain_farm self.now) last lookahead.new.items) }
         ensures after { OnOk result (AllByRecursion (λ x. is_later (last_spot last) (claim_of [] x)
-            ≡ true) ahead.new.items) }
-        ensures none { OnOk result (ahead.new.items ≡ []
-            → IsReached (plain_farm self.now) last None) }
+            ≡ true) lookahead.new.items) }
+        ensures none { OnOk result (lookahead.new.items ≡ []
+            → IsNextCandidate (plain_farm self.now) last None) }
     {
         let mut guess = Guess::none();
         for claim in self.queues.walk(last)? {
-            let claim = Coming::of(claim);
-            if !self.is_unmet(unmet, &claim, &mut guess) {
-                ahead.push_back(claim)?;
-                if ahead.len() >= AHEAD {
+            let claim = Upcoming::of(claim);
+            if !self.is_known_miss(misses, &claim, &mut guess) {
+                lookahead.push_back(claim)?;
+                if lookahead.len() >= LOOKAHEAD {
                     return Ok(());
                 }
             }
@@ -229,26 +229,26 @@ impl Tables {
 
     /// Of the claims that were looked at ahead the first that comes after a priority and a number,
     /// if they are given, and isn't known to be unmet; those before it are forgotten.
-    fn first_ahead(
+    fn first_upcoming(
         &self,
-        ahead: &mut VecDeque<Coming>,
-        unmet: &Unmet,
+        lookahead: &mut VecDeque<Upcoming>,
+        misses: &MissCache,
         last: &Option<(Priority, u64)>,
-    ) -> Option<Coming>
+    ) -> Option<Upcoming>
         requires sound { IsSound (plain_farm self.now) }
-        requires known { AreUnmet (plain_farm self.now) unmet.now }
-        requires foreseen { Foresees (plain_farm self.now) last.now ahead.old.items }
-        ensures foreseen { Foresees (plain_farm self.now) last.now ahead.new.items }
-        ensures reached { IfSome result
-            (λ claim. IsReached (plain_farm self.now) last.now (Some claim)) }
-        ensures none { IfNone result (ahead.new.items ≡ []) }
+        requires miss { AreMisses (plain_farm self.now) misses.now }
+        requires valid { IsValidLookahead (plain_farm self.now) last.now lookahead.old.items }
+        ensures valid { IsValidLookahead (plain_farm self.now) last.now lookahead.new.items }
+        ensures candidate { IfSome result
+            (λ claim. IsNextCandidate (plain_farm self.now) last.now (Some claim)) }
+        ensures none { IfNone result (lookahead.new.items ≡ []) }
     {
         let mut guess = Guess::none();
-        while let Some(claim) = ahead.front() {
-            if claim.is_after(last) && !self.is_unmet(unmet, claim, &mut guess) {
+        while let Some(claim) = lookahead.front() {
+            if claim.is_after(last) && !self.is_known_miss(misses, claim, &mut guess) {
                 return Some(claim.again());
             }
-            let _passed = ahead.pop_front();
+            let _passed = lookahead.pop_front();
         }
         None
     }
@@ -258,22 +258,22 @@ impl Tables {
     /// looked at then.
     fn next_open(
         &self,
-        ahead: &mut VecDeque<Coming>,
-        unmet: &Unmet,
+        lookahead: &mut VecDeque<Upcoming>,
+        misses: &MissCache,
         last: Option<(Priority, u64)>,
-    ) -> Result<Option<Coming>, AllocError>
+    ) -> Result<Option<Upcoming>, AllocError>
         requires sound { IsSound (plain_farm self.now) }
         requires fits { self.now.queues ≡ queue_lists (plain_farm self.now) }
-        requires known { AreUnmet (plain_farm self.now) unmet.now }
-        requires foreseen { Foresees (plain_farm self.now) last ahead.old.items }
-        ensures foreseen { OnOk result (Foresees (plain_farm self.now) last ahead.new.items) }
-        ensures reached { IfOk result (λ claim. IsReached (plain_farm self.now) last claim) }
+        requires miss { AreMisses (plain_farm self.now) misses.now }
+        requires valid { IsValidLookahead (plain_farm self.now) last lookahead.old.items }
+        ensures valid { OnOk result (IsValidLookahead (plain_farm self.now) last lookahead.new.items) }
+        ensures candidate { IfOk result (λ claim. IsNextCandidate (plain_farm self.now) last claim) }
     {
-        if let Some(claim) = self.first_ahead(ahead, unmet, &last) {
+        if let Some(claim) = self.first_upcoming(lookahead, misses, &last) {
             return Ok(Some(claim));
         }
-        self.look_ahead(ahead, unmet, last)?;
-        match ahead.front() {
+        self.fill_lookahead(lookahead, misses, last)?;
+        match lookahead.front() {
             None => Ok(None),
             Some(claim) => Ok(Some(claim.again())),
         }
@@ -281,9 +281,9 @@ impl Tables {
 
     /// Of a claim, if there is one, and the first one of two boards or more after a priority and a
     /// number the one that goes first; where a group collects already, that claim.
-    fn or_several(&self, claim: Option<Coming>, last: Option<(Priority, u64)>) -> Option<Coming>
+    fn or_several(&self, claim: Option<Upcoming>, last: Option<(Priority, u64)>) -> Option<Upcoming>
         ensures { result ≡ (if self.now.collector == 0
-            then earlier_coming claim (option_map coming_of (lent_several self.now.queues last))
+            then earlier_upcoming claim (option_map upcoming_of (lent_several self.now.queues last))
             else claim) }
     {
         if self.collector != 0 {
@@ -291,7 +291,7 @@ impl Tables {
         }
         match self.queues.next_several(last) {
             None => claim,
-            Some(several) => earlier(claim, Some(Coming::of(several))),
+            Some(several) => earlier(claim, Some(Upcoming::of(several))),
         }
     }
 
@@ -305,18 +305,18 @@ impl Tables {
     /// O(log C).
     pub fn next_claim(
         &self,
-        ahead: &mut VecDeque<Coming>,
-        unmet: &Unmet,
+        lookahead: &mut VecDeque<Upcoming>,
+        misses: &MissCache,
         last: Option<(Priority, u64)>,
-    ) -> Result<Option<Coming>, AllocError>
+    ) -> Result<Option<Upcoming>, AllocError>
         requires sound { IsSound (plain_farm self.now) }
         requires fits { self.now.queues ≡ queue_lists (plain_farm self.now) }
-        requires known { AreUnmet (plain_farm self.now) unmet.now }
-        requires foreseen { Foresees (plain_farm self.now) last ahead.old.items }
-        ensures foreseen { OnOk result (Foresees (plain_farm self.now) last ahead.new.items) }
+        requires miss { AreMisses (plain_farm self.now) misses.now }
+        requires valid { IsValidLookahead (plain_farm self.now) last lookahead.old.items }
+        ensures valid { OnOk result (IsValidLookahead (plain_farm self.now) last lookahead.new.items) }
         ensures next { IfOk result (λ claim. ComesNext (plain_farm self.now) last claim) }
     {
-        let open = self.next_open(ahead, unmet, copied(&last))?;
+        let open = self.next_open(lookahead, misses, copied(&last))?;
         Ok(self.or_several(open, last))
     }
 }

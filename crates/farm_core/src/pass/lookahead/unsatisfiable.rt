@@ -10,7 +10,7 @@ const MOST: usize = 8;
 
 /// A claim that was found unmet, and where its first row stands in its table, as a guess.
 #[derive(Clone, Copy, Debug, PartialEq, Eq)]
-pub struct Known {
+pub struct CachedMiss {
     pub kind: ClaimKind,
     pub number: u64,
     pub place: usize,
@@ -19,34 +19,34 @@ pub struct Known {
 /// The last eight claims that were found unmet in a pass, the newest first. It takes no memory.
 /// Contracts see the eight places.
 #[derive(Drop)]
-pub struct Unmet {
-    claims: [Option<Known>; MOST],
+pub struct MissCache {
+    claims: [Option<CachedMiss>; MOST],
 }
 
-impl Model for Unmet {
+impl Model for MissCache {
     ghost use Rattle.std.specs.Prelude.{List, Option};
     ghost use Rattle.farm_core.specs.Serving.{AreFilledInTurn};
-    ghost use Rattle.farm_core.specs.declared.pass.lookahead.unsatisfiable.Known.{Known};
+    ghost use Rattle.farm_core.specs.declared.pass.lookahead.unsatisfiable.CachedMiss.{CachedMiss};
 
-    ghost Value = { List (Option Known) };
+    ghost Value = { List (Option CachedMiss) };
 
     ghost view = { λ u. u.claims };
 
     ghost invariant = { λ u. AreFilledInTurn u.claims };
 }
 
-impl Unmet {
+impl MissCache {
     /// No claims.
-    pub fn none() -> Unmet
+    pub fn none() -> MissCache
         ensures { AllByRecursion (λ o. o ≡ None) result }
     {
-        Unmet {
+        MissCache {
             claims: [None; MOST],
         }
     }
 
     /// The claims that are remembered.
-    pub fn claims(&self) -> &[Option<Known>]
+    pub fn claims(&self) -> &[Option<CachedMiss>]
         ensures { result.now ≡ self.now }
     {
         &self.claims
@@ -60,7 +60,7 @@ impl Unmet {
     }
 
     /// Remembers a claim, and forgets the oldest of eight.
-    pub fn note(&mut self, claim: Known)
+    pub fn note(&mut self, claim: CachedMiss)
         ensures { self.new ≡ Some claim ∷ take 7 self.old }
     {
         let [first, second, third, fourth, fifth, sixth, seventh, _] = self.claims;

@@ -5,29 +5,29 @@ ghost use Rattle.farm_types.specs.Sound.{IsSound};
 ghost use Rattle.farm_types.specs.declared.claims.ClaimKind.{ClaimKind};
 ghost use Rattle.farm_types.specs.declared.rows.JobRow.{JobRow};
 ghost use Rattle.farm_core.specs.Plain.{plain_farm};
-ghost use Rattle.farm_core.specs.Placed.{IsPlaceOf};
-ghost use Rattle.farm_core.specs.Serving.{AreUnmet, IsLike, IsMissed, wants_of};
+ghost use Rattle.farm_core.specs.PartitionPoint.{IsPartitionPoint};
+ghost use Rattle.farm_core.specs.Serving.{AreMisses, IsLike, IsMissed, wants_of};
 
-use crate::pass::lookahead::unsatisfiable::{Known, Unmet};
+use crate::pass::lookahead::unsatisfiable::{CachedMiss, MissCache};
 use crate::tables::Tables;
 use farm_types::ClaimKind;
 
 impl Tables {
     /// Whether a group, whose first row stands at a place, wants the same as one that is
     /// remembered, by the numbers of their wants alone: no row is looked at.
-    fn is_numbered_like(&self, start: usize, group: u64, known: &Option<Known>) -> bool
+    fn has_want_ids_of(&self, start: usize, group: u64, miss: &Option<CachedMiss>) -> bool
         requires within { start ≤ length (plain_farm self.now).jobs }
-        requires place { IsPlaceOf (λ (r : JobRow). r.number) (plain_farm self.now).jobs group start }
+        requires place { IsPartitionPoint (λ (r : JobRow). r.number) (plain_farm self.now).jobs group start }
         ensures { result ≡ true → IsLike (plain_farm self.now)
-            (wants_of (plain_farm self.now) ClaimKind.Group group) known.now }
+            (wants_of (plain_farm self.now) ClaimKind.Group group) miss.now }
     {
-        match known {
+        match miss {
             None => false,
-            Some(known) => match known.kind {
+            Some(miss) => match miss.kind {
                 ClaimKind::Reservation => false,
                 ClaimKind::Group => {
-                    let other_start = self.jobs.place_near(known.place, known.number);
-                    self.jobs.are_alike(start, group, other_start, known.number)
+                    let other_start = self.jobs.place_near(miss.place, miss.number);
+                    self.jobs.are_alike(start, group, other_start, miss.number)
                 }
             },
         }
@@ -36,15 +36,15 @@ impl Tables {
     /// Whether a group, whose first row stands at a place, wants the same as one that was found
     /// unmet, by the numbers of their wants alone: it costs a few comparisons for each of the
     /// eight.
-    pub fn is_unmet_by_numbers(&self, unmet: &Unmet, group: u64, start: usize) -> bool
+    pub fn is_miss_by_want_ids(&self, misses: &MissCache, group: u64, start: usize) -> bool
         requires sound { IsSound (plain_farm self.now) }
         requires within { start ≤ length (plain_farm self.now).jobs }
-        requires place { IsPlaceOf (λ (r : JobRow). r.number) (plain_farm self.now).jobs group start }
-        requires known { AreUnmet (plain_farm self.now) unmet.now }
+        requires place { IsPartitionPoint (λ (r : JobRow). r.number) (plain_farm self.now).jobs group start }
+        requires miss { AreMisses (plain_farm self.now) misses.now }
         ensures { result ≡ true → IsMissed (plain_farm self.now) ClaimKind.Group group }
     {
-        for known in unmet.claims() {
-            if self.is_numbered_like(start, group, known) {
+        for miss in misses.claims() {
+            if self.has_want_ids_of(start, group, miss) {
                 return true;
             }
         }

@@ -2,7 +2,7 @@ use Rattle.std.proofs.Common.{◌≡◌, ◌∙◌, ◌+◌, take, drop, IfSome,
 use Rattle.farm_types.specs.Limits.{most_wants}
 use Rattle.farm_types.specs.declared.rows.JobRow.{JobRow}
 use Rattle.farm_table.specs.Tabled.{Tabled}
-use Rattle.farm_core.specs.Marks.{number_at}
+use Rattle.farm_core.specs.Marks.{want_id_at}
 use Rattle.farm_core.specs.Serving.{member_wants}
 use Rattle.farm_core.proofs.Marks.{want_dropped, wants_alike}
 use Rattle.farm_core.proofs.Skipping.{same_members_more}
@@ -16,15 +16,15 @@ loop-step-preserved c =
     let step = c.loop-step.step in
     let start = c.args.start in
     let other_start = c.args.other_start in
-    let one : c.number_at-first.result ≡ number_at marks c.args.group (start + step) =
-    c.number_at-first.ensures ∙ ap (λ ms. number_at ms c.args.group (start + step)) c.deref.ensures.value in
-    let two : c.number_at-second.result ≡ number_at marks c.args.other (other_start + step) =
-    c.number_at-second.ensures ∙ ap (λ ms. number_at ms c.args.other (other_start + step)) c.deref-in-loop-step.ensures.value in
-    let same = c.same_number.ensures.same c.if-not-same_number.false in
-    let given = subst (λ o. IfSome o (λ k. k ≡ 0 → ⊥)) one (c.same_number.ensures.given c.if-not-same_number.false) in
+    let one : c.want_id_at-first.result ≡ want_id_at marks c.args.group (start + step) =
+    c.want_id_at-first.ensures ∙ ap (λ ms. want_id_at ms c.args.group (start + step)) c.deref.ensures.value in
+    let two : c.want_id_at-second.result ≡ want_id_at marks c.args.other (other_start + step) =
+    c.want_id_at-second.ensures ∙ ap (λ ms. want_id_at ms c.args.other (other_start + step)) c.deref-in-loop-step.ensures.value in
+    let same = c.same_want_id.ensures.same c.if-not-same_want_id.false in
+    let given = subst (λ o. IfSome o (λ k. k ≡ 0 → ⊥)) one (c.same_want_id.ensures.given c.if-not-same_want_id.false) in
     same_members_more (drop start rows) (drop other_start rows) c.args.group c.args.other step c.loop-step.invariant
     (want_dropped rows start c.args.group step
-    ∙ wants_alike inv.want_of c.self.inside.numbers.last rows marks c.args.group (start + step) c.args.other (other_start + step) inv.are inv.all given (sym one ∙ same ∙ two)
+    ∙ wants_alike inv.want_of c.self.inside.want_ids.last rows marks c.args.group (start + step) c.args.other (other_start + step) inv.are inv.all given (sym one ∙ same ∙ two)
     ∙ sym (want_dropped rows other_start c.args.other step))
 
 pub returns : goal.returns

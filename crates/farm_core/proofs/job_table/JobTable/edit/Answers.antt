@@ -29,11 +29,11 @@ change_between-requires-clause-behind c =
 
 pub invariant_of-self : goal.invariant_of-self
 invariant_of-self c =
-    marked_partly c.self.inside.numbers.last c.args.edit (job_passes c.args.edit.jobs) c.self.inside.table.rows c.change_between.new.self.rows c.self.inside.marks.items c.self.invariant c.in_err-change_between.ensures.partly
+    marked_partly c.self.inside.want_ids.last c.args.edit (job_passes c.args.edit.jobs) c.self.inside.table.rows c.change_between.new.self.rows c.self.inside.marks.items c.self.invariant c.in_err-change_between.ensures.partly
 
 pub invariant_of-self-2 : goal.invariant_of-self-2
 invariant_of-self-2 c =
-    marked_change c.self.inside.numbers.last c.args.edit (job_passes c.args.edit.jobs) c.self.inside.table.rows c.change_between.new.self.rows c.self.inside.marks.items c.self.invariant c.in_ok-change_between.ensures.rows
+    marked_change c.self.inside.want_ids.last c.args.edit (job_passes c.args.edit.jobs) c.self.inside.table.rows c.change_between.new.self.rows c.self.inside.marks.items c.self.invariant c.in_ok-change_between.ensures.rows
 
 pub returns-clause-leads : goal.returns-clause-leads
 returns-clause-leads c = subst (λ (t : Tabled JobRow). Leads job_cmp t c.change_between.new.self) c.self.view_is c.in_ok-change_between.ensures.leads

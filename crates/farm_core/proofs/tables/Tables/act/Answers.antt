@@ -21,8 +21,8 @@ act_numbered-requires c =
       fresh = subst (λ (q : QueueLists). IsFresh F.next q.claims) (sym c.requires.fits) (fresh_shown F c.requires.sound);
     }
 
-pub follow_boards-requires : goal.follow_boards-requires
-follow_boards-requires c =
+pub refresh_free_boards-requires : goal.refresh_free_boards-requires
+refresh_free_boards-requires c =
     let T = c.args.self.now in
     let F : Farm = plain_farm T in
     let k = c.args.call.now in
@@ -36,12 +36,12 @@ follow_boards-requires c =
       free = boards ∙ sym (c.requires.follow.free c.in_default.not-Pass) ∙ (λ i. free_of (types i) F.boards);
     }
 
-pub returns-in_ok-follow_boards-in_default : goal.returns-in_ok-follow_boards-in_default
-returns-in_ok-follow_boards-in_default c =
+pub returns-in_ok-refresh_free_boards-in_default : goal.returns-in_ok-refresh_free_boards-in_default
+returns-in_ok-refresh_free_boards-in_default c =
     let F : Farm = plain_farm c.args.self.now in
     let k = c.args.call.now in
     let acts = c.in_ok-number-in_default.ensures in
-    let followed = c.in_ok-follow_boards-in_default.ensures in
+    let followed = c.in_ok-refresh_free_boards-in_default.ensures in
     let farm = ap (λ (s : Seen). s.farm) followed.now ∙ sym (ap (λ (d : Done). d.farm) acts.done) in
     let claims = ap (λ (s : Seen). s.queues.claims) followed.now ∙ ap (λ (q : QueueLists). q.claims) acts.queues ∙ ap (λ (q : QueueLists). (queues_after F k.caller k.cmd q).claims) c.requires.fits ∙ c.requires.follow.claims c.in_default.not-Pass in
     let boards = ap (λ (s : Seen). s.queues.boards) followed.now ∙ ap idle_boards (sym (ap (λ (d : Done). d.farm) acts.done)) in

@@ -13,8 +13,8 @@ pub returns : goal.returns
 returns c =
     let found = sym c.in-Some.ensures.found in
     let ended = c.in_ok-edit_jobs_and_boards.ensures in
-    let cleared = c.collects_no_more.ensures in
-    let K : Farm = plain_farm c.collects_no_more.new.self in
+    let cleared = c.stop_collecting.ensures in
+    let K : Farm = plain_farm c.stop_collecting.new.self in
     let logs = jobs_lead _ _ _ (lead_on_join _ _ _ ended.logs cleared.logs) c.in_ok-edit.ensures.leads in
     let queues = ap (λ (s : Seen). s.queues) cleared.now ∙ ap (λ (s : Seen). s.queues) ended.now in
     record {

@@ -17,7 +17,7 @@ pub collect_member-requires-clause-small : goal.collect_member-requires-clause-s
 collect_member-requires-clause-small c =
     small_at c.as_slice-members.result.now c.loop-at.at
     (subst (AllByRecursion IsSmall) (sym c.as_slice-members.ensures.value)
-    (numbers_small c.near.result.now c.args.group c.numbers_in-numbers.result.items c.numbers_in-numbers.ensures c.near.ensures.fit))
+    (numbers_small c.member_rows.result.now c.args.group c.numbers_in-numbers.result.items c.numbers_in-numbers.ensures c.member_rows.ensures.fit))
     (omega arith)
 
 pub collect_member-requires-clause-free : goal.collect_member-requires-clause-free
@@ -26,7 +26,7 @@ collect_member-requires-clause-free c = ap (λ (q : QueueLists). q.boards) c.loo
 pub loop-at-preserved : goal.loop-at-preserved
 loop-at-preserved c =
     let are : c.as_slice-members.result.now ≡ numbers_of (members (plain_farm c.args.self.now) c.args.group) =
-    c.as_slice-members.ensures.value ∙ c.numbers_in-numbers.ensures ∙ ap numbers_of c.near.ensures.members in
+    c.as_slice-members.ensures.value ∙ c.numbers_in-numbers.ensures ∙ ap numbers_of c.member_rows.ensures.members in
     record {
       takes = takes_on (seen c.args.self.now) (seen c.loop-at.self) c.args.group c.loop-at.at c.loop-at.invariant.takes c.as_slice-members.result.now are
           (omega arith) (seen c.collect_member.new.self) c.in_ok-collect_member.ensures.collects;
@@ -36,7 +36,7 @@ loop-at-preserved c =
 pub returns : goal.returns
 returns c =
     let are : c.as_slice-members.result.now ≡ numbers_of (members (plain_farm c.args.self.now) c.args.group) =
-    c.as_slice-members.ensures.value ∙ c.numbers_in-numbers.ensures ∙ ap numbers_of c.near.ensures.members in
+    c.as_slice-members.ensures.value ∙ c.numbers_in-numbers.ensures ∙ ap numbers_of c.member_rows.ensures.members in
     let D : Seen = seen c.args.self.now in
     let takes = c.loop-at.invariant.takes in
     let logs = c.loop-at.invariant.logs in

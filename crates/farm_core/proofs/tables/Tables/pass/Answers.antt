@@ -14,8 +14,8 @@ use Rattle.farm_core.proofs.Steps.{lead_on_join}
 use Rattle.farm_core.proofs.Whole.{is_expired, is_prepared, prepared, prepared_nobody, prepared_queue, prepared_sound, served_is}
 use Rattle.farm_core.proofs.tables.Tables.pass.Goals as goal
 
-pub follow_boards-requires : goal.follow_boards-requires
-follow_boards-requires c =
+pub refresh_free_boards-requires : goal.refresh_free_boards-requires
+refresh_free_boards-requires c =
     let T = c.args.self.now in
     let F : Farm = plain_farm T in
     let back = c.in_ok-give_back.ensures in
@@ -37,7 +37,7 @@ follow_boards-requires c =
 pub serve-requires-clause-sound : goal.serve-requires-clause-sound
 serve-requires-clause-sound c =
     let F : Farm = plain_farm c.args.self.now in
-    let followed = c.in_ok-make_room.ensures.now ∙ c.in_ok-follow_boards.ensures.now in
+    let followed = c.in_ok-make_room.ensures.now ∙ c.in_ok-refresh_free_boards.ensures.now in
     let farm = is_prepared F (plain_farm c.give_back.new.self) (plain_farm c.expire.new.self) (plain_farm c.checks.new.self) (ap (λ (s : Seen). s.farm) c.in_ok-give_back.ensures.now) (ap (λ (s : Seen). s.farm) c.in_ok-ended.ensures.left.now) (ap (λ (s : Seen). s.farm) c.in_ok-checked.ensures.came.now) in
     let here = ap (λ (s : Seen). s.farm) followed ∙ farm in
     subst IsSound (sym here) (prepared_sound F c.requires.sound)
@@ -45,7 +45,7 @@ serve-requires-clause-sound c =
 pub serve-requires-clause-nobody : goal.serve-requires-clause-nobody
 serve-requires-clause-nobody c =
     let F : Farm = plain_farm c.args.self.now in
-    let followed = c.in_ok-make_room.ensures.now ∙ c.in_ok-follow_boards.ensures.now in
+    let followed = c.in_ok-make_room.ensures.now ∙ c.in_ok-refresh_free_boards.ensures.now in
     let farm = is_prepared F (plain_farm c.give_back.new.self) (plain_farm c.expire.new.self) (plain_farm c.checks.new.self) (ap (λ (s : Seen). s.farm) c.in_ok-give_back.ensures.now) (ap (λ (s : Seen). s.farm) c.in_ok-ended.ensures.left.now) (ap (λ (s : Seen). s.farm) c.in_ok-checked.ensures.came.now) in
     let here = ap (λ (s : Seen). s.farm) followed ∙ farm in
     ap (λ (G : Farm). G.collector) here ∙ prepared_nobody F
@@ -56,7 +56,7 @@ serve-requires-clause-small c = small_collector (plain_farm c.args.self.now) c.r
 pub serve-requires-clause-fits : goal.serve-requires-clause-fits
 serve-requires-clause-fits c =
     let F : Farm = plain_farm c.args.self.now in
-    let followed = c.in_ok-make_room.ensures.now ∙ c.in_ok-follow_boards.ensures.now in
+    let followed = c.in_ok-make_room.ensures.now ∙ c.in_ok-refresh_free_boards.ensures.now in
     let farm = is_prepared F (plain_farm c.give_back.new.self) (plain_farm c.expire.new.self) (plain_farm c.checks.new.self) (ap (λ (s : Seen). s.farm) c.in_ok-give_back.ensures.now) (ap (λ (s : Seen). s.farm) c.in_ok-ended.ensures.left.now) (ap (λ (s : Seen). s.farm) c.in_ok-checked.ensures.came.now) in
     let here = ap (λ (s : Seen). s.farm) followed ∙ farm in
     let claims = ap (λ (s : Seen). s.queues.claims) followed ∙ ap (λ (s : Seen). s.queues.claims) c.in_ok-checked.ensures.came.now ∙ ap (λ (s : Seen). s.queues.claims) c.in_ok-ended.ensures.left.now
@@ -72,12 +72,12 @@ returns-clause-came c =
     let over = c.in_ok-ended.ensures.left in
     let done = c.in_ok-checked.ensures.came in
     let last = c.in_ok-served.ensures.came in
-    let followed = ap (λ (s : Seen). s.farm) (c.in_ok-make_room.ensures.now ∙ c.in_ok-follow_boards.ensures.now) in
+    let followed = ap (λ (s : Seen). s.farm) (c.in_ok-make_room.ensures.now ∙ c.in_ok-refresh_free_boards.ensures.now) in
     let served = (λ i. serve_all (followed i) F.collector (followed i).clock)
     ∙ served_is F (plain_farm c.give_back.new.self) (plain_farm c.expire.new.self) (plain_farm c.checks.new.self) (ap (λ (s : Seen). s.farm) back.now) (ap (λ (s : Seen). s.farm) over.now) (ap (λ (s : Seen). s.farm) done.now) F.collector in
     record {
       now = last.now ∙ (λ i. record { farm = (served i).farm; queues = queue_lists (served i).farm });
-      logs = lead_on_join _ _ _ (lead_on_join _ _ _ (lead_on_join _ _ _ (lead_on_join _ _ _ (lead_on_join _ _ _ back.logs over.logs) done.logs) c.in_ok-follow_boards.ensures.logs) c.in_ok-make_room.ensures.logs) last.logs;
+      logs = lead_on_join _ _ _ (lead_on_join _ _ _ (lead_on_join _ _ _ (lead_on_join _ _ _ (lead_on_join _ _ _ back.logs over.logs) done.logs) c.in_ok-refresh_free_boards.ensures.logs) c.in_ok-make_room.ensures.logs) last.logs;
     }
 
 pub returns-clause-reply : goal.returns-clause-reply
@@ -86,7 +86,7 @@ returns-clause-reply c =
     let given = ap (λ (s : Seen). s.farm) c.in_ok-give_back.ensures.now in
     let ended = ap (λ (s : Seen). s.farm) c.in_ok-ended.ensures.left.now in
     let farm = ap (λ (s : Seen). s.farm) c.in_ok-checked.ensures.came.now in
-    let followed = ap (λ (s : Seen). s.farm) (c.in_ok-make_room.ensures.now ∙ c.in_ok-follow_boards.ensures.now) in
+    let followed = ap (λ (s : Seen). s.farm) (c.in_ok-make_room.ensures.now ∙ c.in_ok-refresh_free_boards.ensures.now) in
     let B = plain_farm c.give_back.new.self in
     let E = plain_farm c.expire.new.self in
     let K = plain_farm c.checks.new.self in

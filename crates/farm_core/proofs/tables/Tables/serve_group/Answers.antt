@@ -8,31 +8,31 @@ use Rattle.farm_pick.specs.Queued.{Queued}
 use Rattle.farm_core.specs.Came.{Seen}
 use Rattle.farm_core.specs.Following.{without_boards}
 use Rattle.farm_core.specs.Plain.{plain_farm}
-use Rattle.farm_core.specs.Serving.{give_named}
-use Rattle.farm_core.proofs.Given.{queues_left}
+use Rattle.farm_core.specs.Serving.{assign_named}
+use Rattle.farm_core.proofs.Assigned.{queues_left}
 use Rattle.farm_core.proofs.Serving.{group_served, met, names_of, numbers_of, numbers_small, wants_of}
 use Rattle.farm_core.proofs.Steps.{lead_on_join}
 use Rattle.farm_core.proofs.tables.Tables.serve_group.Goals as goal
 
-pub give_jobs-requires : goal.give_jobs-requires
-give_jobs-requires c =
-    rw c.deref.ensures.0 (numbers_small c.near-near.result.now c.args.group _ c.numbers_in-numbers.ensures c.near-near.ensures.fit)
+pub assign_jobs-requires : goal.assign_jobs-requires
+assign_jobs-requires c =
+    rw c.deref.ensures.0 (numbers_small c.member_rows-rows.result.now c.args.group _ c.numbers_in-numbers.ensures c.member_rows-rows.ensures.fit)
 
-pub returns-in_ok-give_jobs-in-Some-clause-tries : goal.returns-in_ok-give_jobs-in-Some-clause-tries
-returns-in_ok-give_jobs-in-Some-clause-tries c = λ d of_group same asks.
+pub returns-in_ok-assign_jobs-in-Some-clause-tries : goal.returns-in_ok-assign_jobs-in-Some-clause-tries
+returns-in_ok-assign_jobs-in-Some-clause-tries c = λ d of_group same asks.
     let F : Farm = plain_farm c.args.self.now in
-    let given = c.in_ok-give_jobs-in-Some.ensures in
-    let taken = c.take_given.ensures in
+    let given = c.in_ok-assign_jobs-in-Some.ensures in
+    let taken = c.take_assigned.ensures in
     let stayed = ap (λ (s : Seen). s.queues) given.now in
     let names = c.in-Some.names.items in
     let numbers = c.numbers_in-numbers.result.items in
     let picked : Some names ≡ option_map names_of (least F.boards (is_free F.types) (wants_of (members F c.args.group))) =
     let h = c.in_ok-pick_for_group.ensures in rw c.in-Some.is at h in
-    let made : plain_farm c.take_given.new.self ≡ fold (give_named JobState.Scheduled) F (zip numbers names) =
+    let made : plain_farm c.take_assigned.new.self ≡ fold (assign_named JobState.Scheduled) F (zip numbers names) =
     ap (λ (s : Seen). s.farm) taken.now ∙ ap (λ (s : Seen). s.farm) given.now
-    ∙ (λ i. fold (give_named JobState.Scheduled) F (zip (c.deref.ensures.0 i) (c.deref-in-Some.ensures.value i))) in met (
-      λ n. group_served F (plain_farm c.take_given.new.self) c.args.group d n names numbers of_group same asks picked
-          (c.numbers_in-numbers.ensures ∙ ap numbers_of c.near-near.ensures.members)
+    ∙ (λ i. fold (assign_named JobState.Scheduled) F (zip (c.deref.ensures.0 i) (c.deref-in-Some.ensures.value i))) in met (
+      λ n. group_served F (plain_farm c.take_assigned.new.self) c.args.group d n names numbers of_group same asks picked
+          (c.numbers_in-numbers.ensures ∙ ap numbers_of c.member_rows-rows.ensures.members)
           made,
       ap (λ (s : Seen). s.queues) taken.now
           ∙ (λ i. record {
@@ -42,5 +42,5 @@ returns-in_ok-give_jobs-in-Some-clause-tries c = λ d of_group same asks.
           ∙ queues_left F d (wants_of (members F c.args.group)) (asks ∙ ap (λ g. wants_of (members F g)) same) c.args.self.now.queues names picked,
     )
 
-pub returns-in_ok-give_jobs-in-Some-clause-logs : goal.returns-in_ok-give_jobs-in-Some-clause-logs
-returns-in_ok-give_jobs-in-Some-clause-logs c = lead_on_join _ _ _ c.in_ok-give_jobs-in-Some.ensures.logs c.take_given.ensures.logs
+pub returns-in_ok-assign_jobs-in-Some-clause-logs : goal.returns-in_ok-assign_jobs-in-Some-clause-logs
+returns-in_ok-assign_jobs-in-Some-clause-logs c = lead_on_join _ _ _ c.in_ok-assign_jobs-in-Some.ensures.logs c.take_assigned.ensures.logs

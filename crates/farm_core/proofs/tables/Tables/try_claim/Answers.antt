@@ -3,7 +3,7 @@ use Rattle.farm_types.specs.Sound.{IsSound}
 use Rattle.farm_pick.specs.Queued.{idle_boards}
 use Rattle.farm_core.specs.Came.{Seen, seen}
 use Rattle.farm_core.specs.Plain.{plain_farm}
-use Rattle.farm_core.specs.Serving.{AreUnmet}
+use Rattle.farm_core.specs.Serving.{AreMisses}
 use Rattle.farm_core.proofs.Skipping.{known_more, known_on}
 use Rattle.farm_core.proofs.OneTried.{met_serves, passed_serves, still_same}
 use Rattle.farm_core.proofs.Steps.{lead_on_join}
@@ -13,12 +13,12 @@ pub returns-then-served-clause-serves : goal.returns-then-served-clause-serves
 returns-then-served-clause-serves c =
     met_serves (seen c.args.self.now) c.args.kind c.args.number c.args.boards c.requires.sound c.requires.waits (seen c.serve_claim.new.self) c.in_ok-served.served c.in_ok-served.ensures.tries c.if-served.true
 
-pub returns-then-served-clause-known : goal.returns-then-served-clause-known
-returns-then-served-clause-known c =
+pub returns-then-served-clause-miss : goal.returns-then-served-clause-miss
+returns-then-served-clause-miss c =
     let it = c.requires.waits in
     known_on (seen c.args.self.now) (seen c.serve_claim.new.self) it.0 true c.requires.sound it.1
     (met_serves (seen c.args.self.now) c.args.kind c.args.number c.args.boards c.requires.sound it (seen c.serve_claim.new.self) c.in_ok-served.served c.in_ok-served.ensures.tries c.if-served.true it.0 it.2 it.3 it.1)
-    c.args.unmet.now c.requires.known
+    c.args.misses.now c.requires.miss
 
 pub pass_over-requires-clause-sound : goal.pass_over-requires-clause-sound
 pass_over-requires-clause-sound c =
@@ -37,14 +37,14 @@ returns-clause-serves c =
     passed_serves (seen c.args.self.now) c.args.kind c.args.number c.args.boards c.requires.sound c.requires.waits (seen c.serve_claim.new.self) c.in_ok-served.served c.in_ok-served.ensures.tries c.if-served.false
     (seen c.pass_over.new.self) c.in_ok-pass_over.ensures.serves
 
-pub returns-clause-known : goal.returns-clause-known
-returns-clause-known c =
+pub returns-clause-miss : goal.returns-clause-miss
+returns-clause-miss c =
     let it = c.requires.waits in
-    subst (AreUnmet (plain_farm c.pass_over.new.self)) (sym c.note.ensures)
+    subst (AreMisses (plain_farm c.pass_over.new.self)) (sym c.note.ensures)
     (known_more (seen c.args.self.now) (seen c.pass_over.new.self) it.0 false c.requires.sound it.1
     (passed_serves (seen c.args.self.now) c.args.kind c.args.number c.args.boards c.requires.sound it (seen c.serve_claim.new.self) c.in_ok-served.served c.in_ok-served.ensures.tries c.if-served.false
     (seen c.pass_over.new.self) c.in_ok-pass_over.ensures.serves it.0 it.2 it.3 it.1)
-    c.args.unmet.now c.requires.known refl (record { kind = c.args.kind; number = c.args.number; place = c.place_of_claim-place.result }) it.2 it.3)
+    c.args.misses.now c.requires.miss refl (record { kind = c.args.kind; number = c.args.number; place = c.place_of_claim-place.result }) it.2 it.3)
 
 pub returns-clause-logs : goal.returns-clause-logs
 returns-clause-logs c = lead_on_join _ _ _ c.in_ok-served.ensures.logs c.in_ok-pass_over.ensures.logs
