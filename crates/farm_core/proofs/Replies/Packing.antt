@@ -1,9 +1,8 @@
 -- Packed entries and their rows.
-use Rattle.std.proofs.Common.{◌≡◌, ◌∙◌, ◌+◌, ◌-◌, ◌<◌, ◌≤◌, ◌++◌, ◌&&◌, ℕ, List, [], ◌∷◌, map, length, take, drop, get_or, Bool, true, false, cond, Option, Some, None, refl, sym, ap, subst, arith, length-append, length-drop, Result, Ok, Err, MatchResult}
+use Rattle.std.proofs.Common.{◌≡◌, ◌∙◌, ◌+◌, ◌≤◌, ◌++◌, ◌&&◌, ℕ, List, [], ◌∷◌, map, length, take, drop, get_or, Bool, true, false, cond, Some, None, refl, sym, ap, arith, length-append, length-drop, Result, Ok, Err, MatchResult}
 use Rattle.std.specs.Prelude.{option_map}
 use Rattle.std.specs.List.{AllByRecursion, find}
 use Rattle.std.specs.List.Sorted.{IsBinarySearchResult, IsSearchInRange, IsStrictlySortedBy}
-use Rattle.std.specs.Cmp.{IsTotalOrder}
 use Rattle.std.specs.Str.{bytes_eq}
 use Rattle.std.specs.Ordering.{is_eq, ordering_then}
 use Rattle.std.specs.declared.cmp.Ordering.{Ordering}

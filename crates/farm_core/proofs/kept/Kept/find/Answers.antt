@@ -3,7 +3,7 @@ use Rattle.std.specs.Prelude.{option_map}
 use Rattle.std.specs.List.{find}
 use Rattle.std.specs.Option.{option_copied}
 use Rattle.std.specs.Str.{bytes_eq}
-use Rattle.farm_core.specs.Replies.{asked_row, kept_reply, kept_row, packed_rows}
+use Rattle.farm_core.specs.Replies.{asked_row, kept_reply, kept_row}
 use Rattle.farm_core.proofs.Replies.{rows_find, told_above, told_below}
 use Rattle.farm_core.proofs.kept.Kept.find.Goals as goal
 

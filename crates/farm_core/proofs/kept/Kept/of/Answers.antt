@@ -1,4 +1,4 @@
-use Rattle.std.proofs.Common.{◌∙◌, [], map, ap, sym, not}
+use Rattle.std.proofs.Common.{◌∙◌, [], ap, not}
 use Rattle.std.specs.List.{filter}
 use Rattle.farm_types.specs.Table.{put_all, kept_cmp}
 use Rattle.farm_core.specs.Replies.{is_packable}
