@@ -1,23 +1,33 @@
 -- The kept replies as a map's entries show them.
-use Rattle.std.proofs.Common.{◌≡◌, ◌∙◌, ◌<◌, ◌≤◌, ◌+◌, ◌&&◌, ℕ, zero, suc, List, [], ◌∷◌, map, length, take, get_or, Bool, true, false, cond, Some, IsTrue, nat_le, add-one, refl, sym, ap, subst, arith}
-use Rattle.std.specs.Prelude.{option_map}
-use Rattle.std.specs.List.{AllByRecursion, find, list_all}
+pub mod Merged
+pub mod Packing
+use Rattle.std.proofs.Common.{◌≡◌, ◌∙◌, ◌<◌, ◌≤◌, ◌+◌, ◌++◌, ◌&&◌, ℕ, List, [], ◌∷◌, map, length, Bool, true, false, cond, Option, Some, None, IsTrue, nat_le, refl, sym, ap, subst, arith}
+use Rattle.std.specs.Prelude.{not, option_map}
+use Rattle.std.specs.List.{AllByRecursion, filter, find, list_all}
 use Rattle.std.specs.List.Sorted.{IsStrictlySortedBy}
 use Rattle.std.specs.Map.{lookup}
 use Rattle.std.specs.BTreeMap.{insert_entry}
 use Rattle.std.specs.Str.{bytes_eq}
-use Rattle.std.specs.Ordering.{is_eq, match_ordering, ordering_then, ordering_reverse}
+use Rattle.std.specs.Option.{option_or, is_some}
+use Rattle.std.specs.Ordering.{is_eq, match_ordering, ordering_then}
 use Rattle.std.specs.declared.cmp.Ordering.{Ordering}
 use Rattle.std.specs.declared.cmp.Ordering.TheVariants.{Less, Equal, Greater}
 use Rattle.std.proofs.lemmas.Bool.Decides.{nat_tests}
+use Rattle.std.proofs.lemmas.List.Kept.{IsStrictlySortedBy-filter}
 use Rattle.std.proofs.lemmas.Slice.Eq.{bytes_eq-Decides}
-use Rattle.farm_types.specs.Table.{put, kept_cmp}
+use Rattle.farm_types.specs.Small.{IsSmallKept}
+use Rattle.farm_types.specs.Table.{put, put_all, kept_cmp}
 use Rattle.farm_types.specs.Words.{text_cmp, is_word, is_name_byte}
 use Rattle.farm_types.specs.declared.rows.KeptRow.{KeptRow}
+use Rattle.farm_types.proofs.Put.{put_sorted}
 use Rattle.farm_types.proofs.Searched.{same_names}
 use Rattle.farm_sound.proofs.Grow.{same_texts}
 use Rattle.farm_sound.proofs.Numbers.{kept_total}
-use Rattle.farm_core.specs.Replies.{key_cmp, kept_row, kept_reply}
+use Rattle.farm_table.proofs.Steps.{all_push}
+use Rattle.farm_core.proofs.Replies.Merged.{find_over, length_put_is, put_above, put_all_sorted, split_rows}
+use Rattle.farm_core.proofs.Replies.Packing.{is_asked, texts_tie}
+use Rattle.farm_core.specs.Replies.{IsKept, is_packable, key_cmp, kept_row, kept_rows, kept_reply, packed_rows}
+use Rattle.farm_core.specs.declared.kept.packed.Packed.{Packed}
 use Rattle.farm_core.specs.declared.kept.KeptKey.{KeptKey}
 use Rattle.farm_core.specs.declared.kept.KeptReply.{KeptReply}
 
@@ -93,21 +103,63 @@ rows_find k (e ∷ es) =
     by true rest = refl
     by false rest = rest
 
--- rows in order, put one after the other, stay as they are
-pub put_next : (rows : List KeptRow) (i : ℕ) (d row : KeptRow) → IsStrictlySortedBy kept_cmp rows → i < length rows → get_or rows i d ≡ row
-    → put kept_cmp (take i rows) row ≡ take (i + 1) rows
-unfolding IsStrictlySortedBy
-put_next rows i d row sorted low at = by_suc rows i sorted low at ∙ ap (λ n. take n rows) (sym (add-one i))
-  where
-    below : (r : KeptRow) (rows : List KeptRow) (i : ℕ) → AllByRecursion (λ y. kept_cmp r y ≡ Less) rows → i < length rows → get_or rows i d ≡ row → kept_cmp r row ≡ Less
-    below r [] i all low at = absurd (omega arith)
-    below r (q ∷ rows) zero all low at = subst (λ y. kept_cmp r y ≡ Less) at all.0
-    below r (q ∷ rows) (suc i) all low at = below r rows i all.1 (omega arith) at
+-- ---- the packed rows and the others
 
-    by_suc : (rows : List KeptRow) (i : ℕ) → IsStrictlySortedBy kept_cmp rows → i < length rows → get_or rows i d ≡ row → put kept_cmp (take i rows) row ≡ take (suc i) rows
-    by_suc [] i sorted low at = absurd (omega arith)
-    by_suc (r ∷ rows) zero sorted low at = ap (λ x. x ∷ []) (sym at)
-    by_suc (r ∷ rows) (suc i) sorted low at =
-        let less : kept_cmp r row ≡ Less = below r rows i sorted.0 (omega arith) at in
-        let flipped : kept_cmp row r ≡ Greater = kept_total.antisymm row r ∙ ap ordering_reverse less in
-        rw flipped (ap (λ rest. r ∷ rest) (by_suc rows i sorted.1 (omega arith) at))
+module _ (p : Packed) (es : List (KeptKey × KeptReply)) where
+  -- a row of the map is told, and where it has none a packed one
+  found_over : (q : KeptRow) → IsStrictlySortedBy kept_cmp (map kept_row es) → find (is_asked q) (kept_rows p es) ≡ option_or (find (is_asked q) (map kept_row es)) (find (is_asked q) (packed_rows p))
+  found_over q sorted =
+      (λ i. find (λ r. texts_tie r q i) (kept_rows p es)) ∙ find_over kept_cmp kept_total q (map kept_row es) sorted (packed_rows p)
+      ∙ (λ i. option_or (find (λ r. sym (texts_tie r q) i) (map kept_row es)) (find (λ r. sym (texts_tie r q) i) (packed_rows p)))
+
+  pub told_above : (q : KeptRow) (reply : KeptReply) → IsStrictlySortedBy kept_cmp (map kept_row es) → Some reply ≡ option_map kept_reply (find (is_asked q) (map kept_row es))
+      → Some reply ≡ option_map kept_reply (find (is_asked q) (kept_rows p es))
+  told_above q reply sorted told =
+      by (find (is_asked q) (map kept_row es)) told ∙ ap (option_map kept_reply) (sym (found_over q sorted))
+    where
+      by : (above : Option KeptRow) → Some reply ≡ option_map kept_reply above → Some reply ≡ option_map kept_reply (option_or above (find (is_asked q) (packed_rows p)))
+      by None told = cc
+      by (Some r) told = told
+
+  pub told_below : (q : KeptRow) → IsStrictlySortedBy kept_cmp (map kept_row es) → None ≡ option_map kept_reply (find (is_asked q) (map kept_row es))
+      → option_map kept_reply (find (is_asked q) (packed_rows p)) ≡ option_map kept_reply (find (is_asked q) (kept_rows p es))
+  told_below q sorted none =
+      by (find (is_asked q) (map kept_row es)) none ∙ ap (option_map kept_reply) (sym (found_over q sorted))
+    where
+      by : (above : Option KeptRow) → None ≡ option_map kept_reply above → option_map kept_reply (find (is_asked q) (packed_rows p)) ≡ option_map kept_reply (option_or above (find (is_asked q) (packed_rows p)))
+      by None none = refl
+      by (Some r) none = let wrong : None ≡ Some (kept_reply r) = none in cc
+
+  -- rows that are split between the two are the rows of both
+  pub kept_split : (rows : List KeptRow) → IsStrictlySortedBy kept_cmp rows → packed_rows p ≡ filter is_packable rows
+      → map kept_row es ≡ put_all kept_cmp [] (filter (λ r. not (is_packable r)) rows) → kept_rows p es ≡ rows
+  kept_split rows sorted packed others =
+      (λ i. put_all kept_cmp (packed i) (others i)) ∙ split_rows kept_cmp kept_total is_packable rows sorted
+
+  pub kept_made : (rows log : List KeptRow) → IsStrictlySortedBy kept_cmp rows → packed_rows p ≡ filter is_packable rows
+      → map kept_row es ≡ put_all kept_cmp [] (filter (λ r. not (is_packable r)) rows) → log ≡ [] → (len : ℕ) → len ≡ length rows → IsKept p es len log
+  unfolding IsStrictlySortedBy
+  kept_made rows log sorted packed others none len long = record {
+    packed = subst (IsStrictlySortedBy kept_cmp) (sym packed) (IsStrictlySortedBy-filter kept_cmp is_packable rows sorted);
+    others = subst (IsStrictlySortedBy kept_cmp) (sym others) (put_all_sorted kept_cmp kept_total (filter (λ r. not (is_packable r)) rows) [] tt);
+    count = long ∙ ap length (sym (kept_split rows sorted packed others));
+    logged = subst (AllByRecursion IsSmallKept) (sym none) tt;
+  }
+
+  -- a row that is put among those of the map is put into all
+  pub kept_put : (more : List (KeptKey × KeptReply)) (row : KeptRow) → IsStrictlySortedBy kept_cmp (map kept_row es) → map kept_row more ≡ put kept_cmp (map kept_row es) row
+      → kept_rows p more ≡ put kept_cmp (kept_rows p es) row
+  kept_put more row sorted is = ap (put_all kept_cmp (packed_rows p)) is ∙ put_above kept_cmp kept_total row (map kept_row es) sorted (packed_rows p)
+
+  pub kept_next : (more : List (KeptKey × KeptReply)) (row : KeptRow) (log : List KeptRow) (len many : ℕ) → IsKept p es len log → map kept_row more ≡ put kept_cmp (map kept_row es) row
+      → IsSmallKept row → many ≡ len + cond (is_some (find (is_asked row) (kept_rows p es))) 0 1 → IsKept p more many (log ++ row ∷ [])
+  kept_next more row log len many kept is small long = record {
+    packed = kept.packed;
+    others = subst (IsStrictlySortedBy kept_cmp) (sym is) (put_sorted kept_cmp kept_total row (map kept_row es) kept.others);
+    count =
+        long ∙ ap (λ n. n + cond (is_some (find (is_asked row) (kept_rows p es))) 0 1) kept.count
+        ∙ (λ i. length (kept_rows p es) + cond (is_some (find (λ r. texts_tie r row i) (kept_rows p es))) 0 1)
+        ∙ sym (length_put_is kept_cmp kept_total row (kept_rows p es) (put_all_sorted kept_cmp kept_total (map kept_row es) (packed_rows p) kept.packed))
+        ∙ ap length (sym (kept_put more row kept.others is));
+    logged = all_push IsSmallKept log row kept.logged small;
+  }

@@ -1,16 +1,24 @@
--- How the kept replies are kept: in one ordered map, by caller and key.
+-- How the kept replies are kept: those that came with the farm packed, and those kept since, and any
+-- with larger numbers, in an ordered map, by caller and key.
+use Rattle.std.specs.Prelude.{◌≡◌, ◌+◌, ◌^◌, ◌≤◌, ◌&&◌, ℕ, nat_lt, Bool, List, map, length, take, drop}
+use Rattle.std.specs.List.{AllByRecursion}
+use Rattle.std.specs.List.Sorted.{IsStrictlySortedBy}
 use Rattle.std.specs.Ordering.{on, then_cmp}
 use Rattle.std.specs.declared.cmp.Ordering.{Ordering}
+use Rattle.farm_types.specs.Small.{IsSmallKept}
+use Rattle.farm_types.specs.Table.{put_all, kept_cmp}
 use Rattle.farm_types.specs.Words.{text_cmp}
 use Rattle.farm_types.specs.declared.rows.KeptRow.{KeptRow}
 use Rattle.farm_core.specs.declared.kept.KeptKey.{KeptKey}
 use Rattle.farm_core.specs.declared.kept.KeptReply.{KeptReply}
+use Rattle.farm_core.specs.declared.kept.packed.Entry.{Entry}
+use Rattle.farm_core.specs.declared.kept.packed.Packed.{Packed}
 
 -- by caller, and then by key
 abbrev pub key_cmp : KeptKey → KeptKey → Ordering
 key_cmp = then_cmp (on (λ k. k.caller.bytes) text_cmp) (on (λ k. k.key.bytes) text_cmp)
 
--- the row of an entry
+-- the row of a map's entry
 abbrev pub kept_row : KeptKey × KeptReply → KeptRow
 kept_row e = record {
   caller = e.0.caller.bytes;
@@ -19,6 +27,46 @@ kept_row e = record {
   reply = e.1.reply;
 }
 
+-- the row of a packed entry: its texts are parts of the text of all
+abbrev pub entry_row : List ℕ → Entry → KeptRow
+entry_row texts e = record {
+  caller = take e.caller (drop e.start texts);
+  key = take e.key (drop (e.start + e.caller) texts);
+  kind = e.kind;
+  reply = record { 0 = e.first; 1 = e.second; 2 = e.third };
+}
+
+-- and lie within it
+abbrev pub LiesIn : List ℕ → Entry → Type 0
+LiesIn texts e = e.start + e.caller + e.key ≤ length texts
+
+-- a row whose numbers an entry can hold
+abbrev pub is_packable : KeptRow → Bool
+is_packable r = nat_lt r.kind (2 ^ 8) && nat_lt r.reply.0 (2 ^ 32) && nat_lt r.reply.1 (2 ^ 32) && nat_lt r.reply.2 (2 ^ 32)
+
+abbrev pub packed_rows : Packed → List KeptRow
+packed_rows p = map (entry_row p.texts.items) p.entries.items
+
+-- the rows of both: those of the map are put over the packed ones
+abbrev pub kept_rows : Packed → List (KeptKey × KeptReply) → List KeptRow
+kept_rows p es = put_all kept_cmp (packed_rows p) (map kept_row es)
+
+-- what holds of them: the rows of each rise, they are as many as is told, and the log fits
+pub record IsKept (p : Packed) (es : List (KeptKey × KeptReply)) (len : ℕ) (log : List KeptRow) : Type 0 where
+  pub packed : IsStrictlySortedBy kept_cmp (packed_rows p)
+  pub others : IsStrictlySortedBy kept_cmp (map kept_row es)
+  pub count : len ≡ length (kept_rows p es)
+  pub logged : AllByRecursion IsSmallKept log
+
 -- what is told of a row that is found
 abbrev pub kept_reply : KeptRow → KeptReply
 kept_reply r = record { kind = r.kind; reply = r.reply }
+
+-- a row with that caller and key, to be compared with others
+abbrev pub asked_row : List ℕ → List ℕ → KeptRow
+asked_row caller key = record {
+  caller = caller;
+  key = key;
+  kind = 0;
+  reply = record { 0 = 0; 1 = 0; 2 = 0 };
+}

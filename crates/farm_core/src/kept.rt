@@ -1,18 +1,21 @@
 //! The kept replies.
-ghost use Rattle.std.specs.Prelude.{◌≡◌, ◌&&◌, [], IfOk, OnOk, OnErr, length, map, option_map};
+ghost use Rattle.std.specs.Prelude.{◌≡◌, ◌&&◌, [], IfOk, OnOk, OnErr, length, map, not, option_map};
 ghost use Rattle.std.specs.Cmp.{partial_order_from_own_ties};
 ghost use Rattle.std.specs.Cmp.Rules.{comparing};
 ghost use Rattle.std.proofs.Common.{rules};
-ghost use Rattle.std.specs.List.{AllByRecursion, find};
+ghost use Rattle.std.specs.List.{AllByRecursion, filter, find};
 ghost use Rattle.std.specs.List.Sorted.{IsStrictlySortedBy};
 ghost use Rattle.std.specs.Ordering.{on, then_cmp, as_partial_cmp};
 ghost use Rattle.std.specs.Str.{bytes_eq};
-ghost use Rattle.farm_types.specs.Table.{put, kept_cmp};
+ghost use Rattle.farm_types.specs.Table.{put, put_all, kept_cmp};
 ghost use Rattle.farm_types.specs.Small.{IsSmallKept};
 ghost use Rattle.farm_types.specs.Words.{text_cmp};
 ghost use Rattle.farm_table.specs.Tabled.{Leads};
-ghost use Rattle.farm_core.specs.Replies.{kept_reply, kept_row};
+ghost use Rattle.farm_core.specs.Replies.{is_packable, kept_reply, kept_row};
 
+mod packed;
+
+use crate::kept::packed::{Packed, is_packable};
 use arrayvec::ArrayString;
 use farm_types::{KeptRow, Key, LONGEST_KEY, LONGEST_NAME, Name, Reply};
 use std::alloc::{AllocError, Global};
@@ -84,33 +87,38 @@ pub struct KeptReply {
 /// The kept replies in order of caller and key, and the log: each reply that was kept since it
 /// began.
 ///
-/// They stand in an ordered map: with K replies a look-up and a new reply cost O(log K) each, and a
-/// new one moves O(log K) others. An entry takes 160 bytes, and no memory beside the map's.
+/// Those that came with the farm's rows are packed: 20 bytes each beside their texts, and nothing
+/// to spare. Those kept since stand in an ordered map, in entries of 160 bytes; so do those whose
+/// numbers no packed entry can hold, of which a sound farm has none. With K replies a look-up costs
+/// O(log K), first in the map and then among the packed ones, and takes no memory; a new one costs
+/// O(log K), and moves as many others.
 #[derive(Drop)]
 pub struct Kept {
-    rows: BTreeMap<KeptKey, KeptReply>,
+    packed: Packed,
+    others: BTreeMap<KeptKey, KeptReply>,
+    len: usize,
     log: Vec<KeptRow>,
 }
 
 impl Model for Kept {
-    ghost use Rattle.std.specs.Prelude.{map};
-    ghost use Rattle.std.specs.List.{AllByRecursion};
-    ghost use Rattle.farm_types.specs.Small.{IsSmallKept};
     ghost use Rattle.farm_types.specs.declared.rows.KeptRow.{KeptRow};
     ghost use Rattle.farm_table.specs.Tabled.{Tabled};
-    ghost use Rattle.farm_core.specs.Replies.{kept_row};
+    ghost use Rattle.farm_core.specs.Replies.{IsKept, kept_rows};
 
     ghost Value = { Tabled KeptRow };
 
-    ghost view = { λ k. record { rows = map kept_row k.rows.entries; log = k.log.items } };
+    ghost view = { λ k. record { rows = kept_rows k.packed k.others.entries; log = k.log.items } };
 
-    ghost invariant = { λ k. AllByRecursion IsSmallKept k.log.items };
+    ghost invariant = { λ k. IsKept k.packed k.others.entries k.len k.log.items };
 }
 
 // The log is no part of the farm.
 impl fmt::Debug for Kept {
     fn fmt<W: fmt::Write>(&self, f: &mut fmt::Formatter<W>) -> fmt::Result {
-        f.debug_struct("Kept").field("rows", &self.rows).finish()
+        f.debug_struct("Kept")
+            .field("packed", &self.packed)
+            .field("others", &self.others)
+            .finish()
     }
 }
 
@@ -129,29 +137,46 @@ fn insert(rows: &mut BTreeMap<KeptKey, KeptReply>, row: &KeptRow) -> Result<(), 
     Ok(())
 }
 
+/// Those of the rows that no packed entry can hold.
+fn others_of(alloc: Global, rows: &[KeptRow]) -> Result<BTreeMap<KeptKey, KeptReply>, AllocError>
+    ensures { IfOk result (λ others. map kept_row others.entries
+        ≡ put_all kept_cmp [] (filter (λ r. not (is_packable r)) rows.now)) }
+{
+    let mut others = BTreeMap::new(alloc);
+    for row in rows {
+        if !is_packable(row) {
+            insert(&mut others, row)?;
+        }
+    }
+    Ok(others)
+}
+
 impl Kept {
     /// No replies.
     pub fn new(alloc: Global) -> Kept
         ensures { result ≡ record { rows = []; log = [] } }
     {
         Kept {
-            rows: BTreeMap::new(alloc),
+            packed: Packed::new(alloc),
+            others: BTreeMap::new(alloc),
+            len: 0,
             log: Vec::new(alloc),
         }
     }
 
-    /// The replies of K rows, at the cost of K puts. Each row's memory is free once its reply is put.
+    /// The replies of rows, at the cost of reading each three times. The rows' memory is free once
+    /// all are packed.
     pub fn of(rows: Vec<KeptRow>) -> Result<Kept, AllocError>
         requires { IsStrictlySortedBy kept_cmp rows.items }
         ensures { IfOk result (λ kept. kept ≡ record { rows = rows.items; log = [] }) }
     {
         let alloc = *rows.allocator();
-        let mut kept = BTreeMap::new(alloc);
-        for row in rows {
-            insert(&mut kept, &row)?;
-        }
+        let packed = Packed::of(alloc, &rows)?;
+        let others = others_of(alloc, &rows)?;
         Ok(Kept {
-            rows: kept,
+            packed,
+            others,
+            len: rows.len(),
             log: Vec::new(alloc),
         })
     }
@@ -160,7 +185,7 @@ impl Kept {
     pub fn len(&self) -> usize
         ensures { result ≡ length self.now.rows }
     {
-        self.rows.len()
+        self.len
     }
 
     /// What is kept for a caller and a key. With K replies it costs O(log K).
@@ -168,7 +193,10 @@ impl Kept {
         ensures { result ≡ option_map kept_reply (find (λ r. bytes_eq r.caller caller.now
             && bytes_eq r.key key.now) self.now.rows) }
     {
-        self.rows.get(&KeptKey::of(caller, key)).copied()
+        match self.others.get(&KeptKey::of(caller, key)) {
+            Some(reply) => Some(*reply),
+            None => self.packed.find(caller, key),
+        }
     }
 
     /// Keeps a reply. With K replies it costs O(log K). Where memory runs out the table is as it
@@ -179,8 +207,11 @@ impl Kept {
         ensures leads { Leads kept_cmp self.old self.new }
         ensures stays { OnErr result (self.new ≡ self.old) }
     {
+        let more = usize::from(self.find(&row.caller, &row.key).is_none());
+        let len = self.len.checked_add(more).ok_or(AllocError)?;
         self.log.reserve(1)?;
-        insert(&mut self.rows, &row)?;
+        insert(&mut self.others, &row)?;
+        self.len = len;
         self.log.push_reserved(row);
         Ok(())
     }
