@@ -12,8 +12,8 @@ use Rattle.sqlite_wal.specs.Recovery.{Image}
 use Rattle.farm_types.specs.Farm.{empty_farm}
 use Rattle.farm_keep.specs.Kept.{Kept, Keeps}
 use Rattle.farm_keep.specs.declared.fault.KeepFault.{KeepFault}
-use Rattle.farm_order.specs.declared.order.Database.{Database}
-use Rattle.farm_order.specs.declared.order.Order.{Order}
+use Rattle.farm_cli.specs.declared.order.Database.{Database}
+use Rattle.farm_cli.specs.declared.order.Order.{Order}
 use Rattle.farm_desk.specs.Conversations.{Desk, desk}
 use Rattle.farm_desk.specs.InFiles.{FindsFarm, GivesReason, IsOpenFault, LooksForFarmIn, MakesFarm}
 use Rattle.farm_desk.specs.Lines.{migrated_line, ready_line, PrintsLine}

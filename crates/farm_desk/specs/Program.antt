@@ -3,11 +3,11 @@ use Rattle.std.specs.Prelude.{◌≡◌, ◌⊎◌, ℕ, [], List, Option, Some,
 use Rattle.std.specs.Prelude.{string_bytes}
 use Rattle.std.specs.Io.KnownBytes.{Appends, Keeps}
 use Rattle.clap.specs.Words.{Text, fault_of, subcommand_of}
-use Rattle.farm_order.specs.App.{farm_app}
-use Rattle.farm_order.specs.Faults.{IsFaultAmong}
-use Rattle.farm_order.specs.Orders.{form_of, order_in}
-use Rattle.farm_order.specs.declared.fault.OrderFault.{OrderFault}
-use Rattle.farm_order.specs.declared.order.Order.{Order}
+use Rattle.farm_cli.specs.App.{farm_app}
+use Rattle.farm_cli.specs.Faults.{IsFaultAmong}
+use Rattle.farm_cli.specs.Orders.{form_of, order_in}
+use Rattle.farm_cli.specs.declared.fault.OrderFault.{OrderFault}
+use Rattle.farm_cli.specs.declared.order.Order.{Order}
 use Rattle.farm_desk.specs.Faults.{done, exit_status, fault_number, order_status, wrong_words}
 use Rattle.farm_desk.specs.Lines.{GainsPart, fault_line, told_of}
 use Rattle.farm_desk.specs.Orders.{Streams}

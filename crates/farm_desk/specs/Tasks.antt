@@ -5,7 +5,7 @@ use Rattle.sqlite_trees.specs.declared.store.Store.{Ghosts}
 use Rattle.farm_types.specs.Farm.{Farm}
 use Rattle.farm_keep.specs.Kept.{Kept}
 use Rattle.farm_keep.specs.declared.fault.KeepFault.{KeepFault}
-use Rattle.farm_order.specs.declared.order.Report.{Report}
+use Rattle.farm_cli.specs.declared.order.Report.{Report}
 use Rattle.farm_report.specs.Moments.{most_minutes}
 use Rattle.farm_desk.specs.Conversations.{AnswersOne, Desk}
 use Rattle.farm_desk.specs.Ends.{Gains}

@@ -51,7 +51,7 @@ pub use upgrade::migrate_farm;
 
 // The program: its words, the orders they give, and its exit statuses.
 pub use command_line::{DONE, FAILED, NO_ROOM, REFUSED, WRONG_WORDS, perform, program, tell};
-pub use farm_order::{Database, Order, OrderFault, Report, order_of};
+pub use farm_cli::{Database, Order, OrderFault, Report, order_of};
 pub use orders::{End, carry_out, carry_out_from};
 
 // What ends a conversation, an import or an order.

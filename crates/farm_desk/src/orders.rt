@@ -20,7 +20,7 @@ use crate::serving::serve_on_files;
 use crate::upgrade::migrate_farm;
 use farm_http::{Input, Output};
 use farm_keep::{KeepFault, Keeper};
-use farm_order::{Database, Order, Report};
+use farm_cli::{Database, Order, Report};
 use farm_types::Refusal;
 use farm_wire::{OK, write_whole};
 use sqlite::{Alter, Connection, FileFrom, MemStore, Start, Unknown};

@@ -5,7 +5,7 @@ ghost use Rattle.farm_desk.specs.Reports.{Reports, seconds_ahead};
 
 use crate::fault::DeskFault;
 use farm_core::Farm;
-use farm_order::Report;
+use farm_cli::Report;
 use farm_report::{
     MOST_MINUTES, Offset, ReportFault, boards_text, queue_text, reservations_text, zone_of,
 };

@@ -1,6 +1,6 @@
-use Rattle.farm_order.specs.App.{bare_app, import_app, init_app, migrate_app, once_app, report_app, serve_app}
-use Rattle.farm_order.proofs.Commands.{last_sub, sub_added}
-use Rattle.farm_order.proofs.words.farm_command.Goals as goal
+use Rattle.farm_cli.specs.App.{bare_app, import_app, init_app, migrate_app, once_app, report_app, serve_app}
+use Rattle.farm_cli.proofs.Commands.{last_sub, sub_added}
+use Rattle.farm_cli.proofs.words.farm_command.Goals as goal
 
 pub returns : goal.returns
 returns c =

@@ -1,8 +1,8 @@
 use Rattle.std.proofs.Common.{codes, rules, true}
 use Rattle.clap.specs.Words.{new_app}
-use Rattle.farm_order.specs.App.{db_rule, offset_rule, positional_rule}
-use Rattle.farm_order.proofs.Commands.{IsApp, last_rule, rule_added}
-use Rattle.farm_order.proofs.words.report_command.Goals as goal
+use Rattle.farm_cli.specs.App.{db_rule, offset_rule, positional_rule}
+use Rattle.farm_cli.proofs.Commands.{IsApp, last_rule, rule_added}
+use Rattle.farm_cli.proofs.words.report_command.Goals as goal
 
 pub returns : goal.returns
 returns c =

@@ -6,13 +6,13 @@ use Rattle.clap.specs.declared.error.Error.{Error}
 use Rattle.clap.specs.declared.error.kind.ErrorKind.{ErrorKind}
 use Rattle.clap.specs.declared.error.kind.ErrorKind.TheVariants.{DisplayHelp, DisplayVersion, OutOfMemory}
 use Rattle.clap.specs.declared.parser.matches.ArgMatches.{ArgMatches}
-use Rattle.farm_order.specs.App.{farm_app}
-use Rattle.farm_order.specs.Faults.{IsAnswer, IsFaultAmong, IsOfKind}
-use Rattle.farm_order.specs.Orders.{Form, IsInBounds, leaves_choice, order_in}
-use Rattle.farm_order.specs.declared.fault.OrderFault.{OrderFault}
-use Rattle.farm_order.specs.declared.fault.OrderFault.TheVariants.{Help, Words, NoMemory}
-use Rattle.farm_order.proofs.Values.{IsSettled}
-use Rattle.farm_order.proofs.WalkedFarm.{faultless_order}
+use Rattle.farm_cli.specs.App.{farm_app}
+use Rattle.farm_cli.specs.Faults.{IsAnswer, IsFaultAmong, IsOfKind}
+use Rattle.farm_cli.specs.Orders.{Form, IsInBounds, leaves_choice, order_in}
+use Rattle.farm_cli.specs.declared.fault.OrderFault.{OrderFault}
+use Rattle.farm_cli.specs.declared.fault.OrderFault.TheVariants.{Help, Words, NoMemory}
+use Rattle.farm_cli.proofs.Values.{IsSettled}
+use Rattle.farm_cli.proofs.WalkedFarm.{faultless_order}
 
 is_help : OutOfMemory ≡ DisplayHelp → ⊥
 is_help h = cc

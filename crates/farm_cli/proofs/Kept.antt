@@ -17,7 +17,7 @@ use Rattle.clap.specs.declared.error.kind.ErrorKind.{ErrorKind}
 use Rattle.clap.specs.declared.error.kind.ErrorKind.TheVariants.{ArgumentConflict, WrongNumberOfValues}
 use Rattle.clap.specs.declared.parser.matches.ValueSource.{ValueSource}
 use Rattle.clap.specs.declared.parser.matches.ValueSource.TheVariants.{CommandLine, DefaultValue}
-use Rattle.farm_order.specs.App.{memory_rule}
+use Rattle.farm_cli.specs.App.{memory_rule}
 
 -- the first of the values passes
 abbrev pub HasPassing : Rule → List Text → Type 0

@@ -1,7 +1,7 @@
 use Rattle.std.proofs.Common.{Some, None, string_bytes, ◌≡◌, ◌∙◌, rules}
 use Rattle.clap.specs.Words.{first_value, found_of}
 use Rattle.clap.proofs.WalkLemmas.{first_value-rows}
-use Rattle.farm_order.proofs.words.text.Goals as goal
+use Rattle.farm_cli.proofs.words.text.Goals as goal
 
 pub returns-in_ok-from_str-in-Some : goal.returns-in_ok-from_str-in-Some
 returns-in_ok-from_str-in-Some c =

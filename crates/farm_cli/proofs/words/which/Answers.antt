@@ -1,8 +1,8 @@
 use Rattle.std.proofs.Common.{None, Some, codes, option_and_then, ◌≡◌, ◌∙◌, ap, rules}
 use Rattle.clap.specs.Words.{first_value, found_of}
 use Rattle.clap.proofs.WalkLemmas.{first_value-rows}
-use Rattle.farm_order.specs.Orders.{report_of}
-use Rattle.farm_order.proofs.words.which.Goals as goal
+use Rattle.farm_cli.specs.Orders.{report_of}
+use Rattle.farm_cli.proofs.words.which.Goals as goal
 
 pub returns-in_err-get_str : goal.returns-in_err-get_str
 returns-in_err-get_str c =

@@ -11,11 +11,11 @@ use Rattle.clap.specs.Takes.{is_given}
 use Rattle.clap.specs.Kinds.{check_kinds, or_else}
 use Rattle.clap.specs.Walk.{Held, Names, Outcome, Step, Text, Waiting, Walk, after_flag, after_step, answers_to, arg_by_long, done, finished, idle, long_met, long_or_other, next, nothing_held, rows_after, Row, option, plain, plain_word, positional, refused, settled, short_or_plain, bundle, subcommand, subcommand_or_other, trailing, value, waits, walk, walk_from, walked, walked_from, word_met}
 use Rattle.clap.specs.Words.{subcommand_of}
-use Rattle.farm_order.specs.App.{farm_app}
-use Rattle.farm_order.specs.Orders.{leaves_choice, order_in}
-use Rattle.farm_order.proofs.Kept.{neither, no_fault}
-use Rattle.farm_order.proofs.Values.{IsSettled, import_keep, import_rules, import_settles, init_keep, init_rules, init_settles, migrate_keep, migrate_rules, migrate_settles, once_keep, once_rules, once_settles, report_keep, report_rules, report_settles, serve_keep, serve_rules, serve_settles}
-use Rattle.farm_order.proofs.Walked.{leaf_taken}
+use Rattle.farm_cli.specs.App.{farm_app}
+use Rattle.farm_cli.specs.Orders.{leaves_choice, order_in}
+use Rattle.farm_cli.proofs.Kept.{neither, no_fault}
+use Rattle.farm_cli.proofs.Values.{IsSettled, import_keep, import_rules, import_settles, init_keep, init_rules, init_settles, migrate_keep, migrate_rules, migrate_settles, once_keep, once_rules, once_settles, report_keep, report_rules, report_settles, serve_keep, serve_rules, serve_settles}
+use Rattle.farm_cli.proofs.Walked.{leaf_taken}
 
 abbrev top : Shape
 top = (built farm_app).top

@@ -14,10 +14,10 @@ use Rattle.clap.specs.declared.builder.value_parser.Reading.{Reading}
 use Rattle.clap.specs.declared.builder.value_parser.Reading.TheVariants.{AsWritten}
 use Rattle.clap.specs.declared.builder.value_parser.ValueParser.TheVariants as vp
 use Rattle.clap.proofs.ValueTestLemmas.{accepts-Accepts, Accepts-accepts}
-use Rattle.farm_order.specs.Orders.{Form, IsInBounds, DatabaseForm, leaves_choice, minutes_of, argument_number, once, order_named, database_in, port_in, report, serve, argument_text, u16_of, u64_in, which_in}
-use Rattle.farm_order.specs.declared.order.Report.{Report}
-use Rattle.farm_order.proofs.Kept.{AllKeep, AreGood, HasPassing, IsGood, help, help_keeps, memory, memory_keeps, value_keeps, value_rule}
-use Rattle.farm_order.proofs.Walked.{is_missing}
+use Rattle.farm_cli.specs.Orders.{Form, IsInBounds, DatabaseForm, leaves_choice, minutes_of, argument_number, once, order_named, database_in, port_in, report, serve, argument_text, u16_of, u64_in, which_in}
+use Rattle.farm_cli.specs.declared.order.Report.{Report}
+use Rattle.farm_cli.proofs.Kept.{AllKeep, AreGood, HasPassing, IsGood, help, help_keeps, memory, memory_keeps, value_keeps, value_rule}
+use Rattle.farm_cli.proofs.Walked.{is_missing}
 
 -- ---- the value of an argument
 

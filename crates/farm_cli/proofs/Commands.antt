@@ -6,7 +6,7 @@ use Rattle.clap.specs.Words.{App, Rule, Shape, app_of, rule_of, with_rule, with_
 use Rattle.clap.specs.declared.builder.arg.Arg.{Arg}
 use Rattle.clap.specs.declared.builder.command.Command.{Command}
 use Rattle.clap.specs.declared.builder.command.Command.TheViews.{out-Command}
-use Rattle.farm_order.specs.App.{AddsShape}
+use Rattle.farm_cli.specs.App.{AddsShape}
 
 -- the command reads as the app, and none of its arguments is global
 abbrev pub IsApp : App → Command → Type 0

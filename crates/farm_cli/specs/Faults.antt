@@ -7,9 +7,9 @@ use Rattle.clap.specs.Words.{IsAmong, Kinds, Row, Text}
 use Rattle.clap.specs.declared.error.kind.ErrorKind.{ErrorKind}
 use Rattle.clap.specs.declared.error.kind.ErrorKind.TheVariants.{DisplayHelp, DisplayVersion}
 use Rattle.clap.specs.declared.error.kind.ErrorKind.TheVariants.{OutOfMemory}
-use Rattle.farm_order.specs.Orders.{leaves_choice}
-use Rattle.farm_order.specs.declared.fault.OrderFault.{OrderFault}
-use Rattle.farm_order.specs.declared.fault.OrderFault.TheVariants.{Help, Words, NoMemory}
+use Rattle.farm_cli.specs.Orders.{leaves_choice}
+use Rattle.farm_cli.specs.declared.fault.OrderFault.{OrderFault}
+use Rattle.farm_cli.specs.declared.fault.OrderFault.TheVariants.{Help, Words, NoMemory}
 
 -- help or the version was asked for
 abbrev pub IsAnswer : ErrorKind → Type 0

@@ -2,9 +2,9 @@ use Rattle.std.proofs.Common.{option_and_then, ◌∙◌, ap}
 use Rattle.std.specs.Str.Parse.{ParsesUnsigned, ExplainsUnsignedError, HasUnsignedDigitsIfOk}
 use Rattle.clap.specs.Words.{found_of, one_text}
 use Rattle.clap.proofs.WalkLemmas.{one_text-rows}
-use Rattle.farm_order.specs.Orders.{u64_in}
-use Rattle.farm_order.proofs.Readings.{number_read}
-use Rattle.farm_order.proofs.words.number.Goals as goal
+use Rattle.farm_cli.specs.Orders.{u64_in}
+use Rattle.farm_cli.proofs.Readings.{number_read}
+use Rattle.farm_cli.proofs.words.number.Goals as goal
 
 pub returns : goal.returns
 returns c =

@@ -1,11 +1,11 @@
 use Rattle.std.proofs.Common.{None, Some, ◌≡◌, ◌∙◌, ap, inl, inr, map, rules, string_bytes, sym, subst, true}
 use Rattle.clap.specs.Words.{App, app_of, kind_of, subcommand_rows_of, takes}
 use Rattle.clap.specs.declared.error.kind.ErrorKind.TheVariants.{OutOfMemory}
-use Rattle.farm_order.specs.App.{farm_app}
-use Rattle.farm_order.specs.Faults.{open_text}
-use Rattle.farm_order.specs.Orders.{form_of, order_in}
-use Rattle.farm_order.proofs.Outcomes.{memory_fault, named_bounds, parse_fault, parse_faultless, parse_named, unnamed}
-use Rattle.farm_order.proofs.words.order_of.Goals as goal
+use Rattle.farm_cli.specs.App.{farm_app}
+use Rattle.farm_cli.specs.Faults.{open_text}
+use Rattle.farm_cli.specs.Orders.{form_of, order_in}
+use Rattle.farm_cli.proofs.Outcomes.{memory_fault, named_bounds, parse_fault, parse_faultless, parse_named, unnamed}
+use Rattle.farm_cli.proofs.words.order_of.Goals as goal
 
 pub returns-in-Some-clause-order : goal.returns-in-Some-clause-order
 returns-in-Some-clause-order c =

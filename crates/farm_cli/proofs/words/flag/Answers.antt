@@ -3,8 +3,8 @@ use Rattle.std.specs.Option.{option_map_or}
 use Rattle.std.specs.Str.{bytes_eq}
 use Rattle.clap.specs.Words.{found_of, one_text}
 use Rattle.clap.proofs.WalkLemmas.{one_text-rows}
-use Rattle.farm_order.proofs.Readings.{flag_read}
-use Rattle.farm_order.proofs.words.flag.Goals as goal
+use Rattle.farm_cli.proofs.Readings.{flag_read}
+use Rattle.farm_cli.proofs.words.flag.Goals as goal
 
 pub returns : goal.returns
 returns c =

@@ -1,6 +1,6 @@
 //! Why words give no order.
 ghost use Rattle.clap.specs.Words.{kind_of};
-ghost use Rattle.farm_order.specs.Faults.{IsOfKind};
+ghost use Rattle.farm_cli.specs.Faults.{IsOfKind};
 
 use clap::Error as ClapError;
 use clap::error::ErrorKind;
@@ -22,7 +22,7 @@ pub enum OrderFault {
 
 impl From<AllocError> for OrderFault {
     ghost use Rattle.std.specs.Prelude.{◌≡◌};
-    ghost use Rattle.farm_order.specs.declared.fault.OrderFault.TheVariants.{NoMemory};
+    ghost use Rattle.farm_cli.specs.declared.fault.OrderFault.TheVariants.{NoMemory};
 
     ghost from_gives = { λ _ e. e ≡ NoMemory };
 

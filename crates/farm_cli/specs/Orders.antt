@@ -7,14 +7,14 @@ use Rattle.std.specs.Str.{bytes_eq}
 use Rattle.std.specs.Str.Parse.{digits_value, without_leading_plus}
 use Rattle.clap.specs.ValueTests.{is_unsigned_in}
 use Rattle.clap.specs.Words.{Row, Text, first_of, one_of}
-use Rattle.farm_order.specs.App.{last_port, most_minutes}
-use Rattle.farm_order.specs.declared.order.Order.{Order}
-use Rattle.farm_order.specs.declared.order.Order.TheVariants.{Once, Init, Migrate, Import, Serve}
-use Rattle.farm_order.specs.declared.order.Order.TheVariants as order
-use Rattle.farm_order.specs.declared.order.Database.{Database}
-use Rattle.farm_order.specs.declared.order.Database.TheVariants.{Memory, File}
-use Rattle.farm_order.specs.declared.order.Report.{Report}
-use Rattle.farm_order.specs.declared.order.Report.TheVariants.{Queue, Boards, Reservations}
+use Rattle.farm_cli.specs.App.{last_port, most_minutes}
+use Rattle.farm_cli.specs.declared.order.Order.{Order}
+use Rattle.farm_cli.specs.declared.order.Order.TheVariants.{Once, Init, Migrate, Import, Serve}
+use Rattle.farm_cli.specs.declared.order.Order.TheVariants as order
+use Rattle.farm_cli.specs.declared.order.Database.{Database}
+use Rattle.farm_cli.specs.declared.order.Database.TheVariants.{Memory, File}
+use Rattle.farm_cli.specs.declared.order.Report.{Report}
+use Rattle.farm_cli.specs.declared.order.Report.TheVariants.{Queue, Boards, Reservations}
 
 -- ---- an order, with its texts as bytes
 

@@ -3,16 +3,16 @@ ghost use Rattle.std.specs.Prelude.{◌≡◌, ◌⊎◌, [], IfErr, IfOk, Some,
 ghost use Rattle.std.specs.Prelude.{string_bytes};
 ghost use Rattle.clap.specs.Words.{app_of, fault_of as kinds_of, found_of, rows_of};
 ghost use Rattle.clap.specs.Words.{rule_of, subcommand_of, subcommand_rows_of, takes};
-ghost use Rattle.farm_order.specs.App.{AddsShape, at_rule, bare_app, db_rule, farm_app};
-ghost use Rattle.farm_order.specs.App.{import_app, init_app, max_rule, memory_rule, migrate_app};
-ghost use Rattle.farm_order.specs.App.{offset_rule, once_app};
-ghost use Rattle.farm_order.specs.App.{port_rule, positional_rule, report_app, serve_app};
-ghost use Rattle.farm_order.specs.Faults.{IsFaultAmong, open_text};
-ghost use Rattle.farm_order.specs.Orders.{IsInBounds, form_of, has_flag, import_in, init_in};
-ghost use Rattle.farm_order.specs.Orders.{leaves_choice, migrate_in, argument_number, once_in, order_in};
-ghost use Rattle.farm_order.specs.Orders.{database_form, database_in, port_in, report_in};
-ghost use Rattle.farm_order.specs.Orders.{report_of, serve_in, argument_text, which_in};
-ghost use Rattle.farm_order.specs.declared.fault.OrderFault.TheVariants.{NoMemory};
+ghost use Rattle.farm_cli.specs.App.{AddsShape, at_rule, bare_app, db_rule, farm_app};
+ghost use Rattle.farm_cli.specs.App.{import_app, init_app, max_rule, memory_rule, migrate_app};
+ghost use Rattle.farm_cli.specs.App.{offset_rule, once_app};
+ghost use Rattle.farm_cli.specs.App.{port_rule, positional_rule, report_app, serve_app};
+ghost use Rattle.farm_cli.specs.Faults.{IsFaultAmong, open_text};
+ghost use Rattle.farm_cli.specs.Orders.{IsInBounds, form_of, has_flag, import_in, init_in};
+ghost use Rattle.farm_cli.specs.Orders.{leaves_choice, migrate_in, argument_number, once_in, order_in};
+ghost use Rattle.farm_cli.specs.Orders.{database_form, database_in, port_in, report_in};
+ghost use Rattle.farm_cli.specs.Orders.{report_of, serve_in, argument_text, which_in};
+ghost use Rattle.farm_cli.specs.declared.fault.OrderFault.TheVariants.{NoMemory};
 
 use crate::fault::{OrderFault, fault_of};
 use crate::order::{Database, Order, Report};
