@@ -1,4 +1,4 @@
--- What a report tells of a farm.
+-- What a report lists of a farm.
 use Rattle.std.specs.Prelude.{◌≡◌, ◌*ℤ◌, ◌+ℤ◌, neg_ℤ, pos, ℕ, ℤ, List, map}
 use Rattle.farm_types.specs.Farm.{Farm}
 use Rattle.farm_types.specs.Pick.{queue, shown_claim}
