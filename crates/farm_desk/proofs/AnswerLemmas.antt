@@ -16,75 +16,75 @@ use Rattle.farm_wire.specs.Replies.{reply_bytes}
 use Rattle.farm_wire.specs.declared.ask.Ask.{Ask}
 use Rattle.farm_wire.specs.declared.answers.Out.{Out}
 use Rattle.farm_wire.specs.declared.fault.AskFault.{AskFault}
-use Rattle.farm_desk.specs.Answers.{Says, out_of_denial, refusal, out_of_answer}
-use Rattle.farm_desk.specs.Response.{Closes, IsResponse, IsResponseTo, RunsOut}
-use Rattle.farm_desk.specs.Heard.{HearsNothing}
-use Rattle.farm_desk.specs.Made.{IsMadeOf, IsMadeOfNothing, IsMadeOfOne}
+use Rattle.farm_desk.specs.Answers.{Encodes, out_of_denial, refusal, out_of_answer}
+use Rattle.farm_desk.specs.Response.{Closes, IsResponse, IsResponseTo, RunsOutOfMemory}
+use Rattle.farm_desk.specs.Received.{ReceivesBadRequest}
+use Rattle.farm_desk.specs.Encoding.{IsEncoded, IsDenialEncoded, IsEncodedOne}
 use Rattle.farm_desk.specs.declared.fault.DeskFault.{DeskFault}
 
-response_when_short : {S : Type 0} (g : Ghosts S) (old new : Kept S) (what : Result Ask Denial) (bytes : List ℕ) (end : DeskFault)
-    → end ≡ DeskFault.NoMemory → RunsOut g old new what bytes → IsResponseTo g old new what bytes (Err end)
-response_when_short g old new what bytes DeskFault.NoMemory e out = out
-response_when_short g old new what bytes DeskFault.Read e out = absurd (cc)
-response_when_short g old new what bytes DeskFault.Write e out = absurd (cc)
-response_when_short g old new what bytes (DeskFault.Keep fault) e out = absurd (cc)
-response_when_short g old new what bytes (DeskFault.File fault) e out = absurd (cc)
+response_without_memory : {S : Type 0} (g : Ghosts S) (old new : Kept S) (what : Result Ask Denial) (bytes : List ℕ) (end : DeskFault)
+    → end ≡ DeskFault.NoMemory → RunsOutOfMemory g old new what bytes → IsResponseTo g old new what bytes (Err end)
+response_without_memory g old new what bytes DeskFault.NoMemory e out = out
+response_without_memory g old new what bytes DeskFault.Read e out = absurd (cc)
+response_without_memory g old new what bytes DeskFault.Write e out = absurd (cc)
+response_without_memory g old new what bytes (DeskFault.Keep fault) e out = absurd (cc)
+response_without_memory g old new what bytes (DeskFault.File fault) e out = absurd (cc)
 
 -- an answer that is one of some
-pub made_of_one : (P : Out → Type 0) (out : Out) (bytes : List ℕ) (end : Result ℕ DeskFault) → P out → IsMadeOf out bytes end → IsMadeOfOne P bytes end
-made_of_one P out bytes (Ok status) is made = (out, is, made)
-made_of_one P out bytes (Err fault) is made = made
+pub encoded_one : (P : Out → Type 0) (out : Out) (bytes : List ℕ) (end : Result ℕ DeskFault) → P out → IsEncoded out bytes end → IsEncodedOne P bytes end
+encoded_one P out bytes (Ok status) is made = (out, is, made)
+encoded_one P out bytes (Err fault) is made = made
 
 -- there was no memory for any of them
-pub short_of_all : (P : Out → Type 0) (bytes : List ℕ) (end : Result ℕ DeskFault) → bytes ≡ reply_bytes (refusal no_memory) → end ≡ Err DeskFault.NoMemory → IsMadeOfOne P bytes end
-short_of_all P bytes end says ends = subst (IsMadeOfOne P bytes) (sym ends) (record { fault_is = refl; bytes_are = says })
+pub encoded_no_memory : (P : Out → Type 0) (bytes : List ℕ) (end : Result ℕ DeskFault) → bytes ≡ reply_bytes (refusal no_memory) → end ≡ Err DeskFault.NoMemory → IsEncodedOne P bytes end
+encoded_no_memory P bytes end encodes ends = subst (IsEncodedOne P bytes) (sym ends) (record { fault_is = refl; bytes_are = encodes })
 
 -- a denial that was made, or for which there was no memory
 pub denial_is_response : {S : Type 0} (g : Ghosts S) (k : Kept S) (why : Denial) (bytes : List ℕ) (end : Result ℕ DeskFault)
-    → IsMadeOf (out_of_denial why) bytes end → IsResponseTo g k k (Err why) bytes end
-denial_is_response g k why bytes (Ok status) made = record { says = made; rests = refl }
+    → IsEncoded (out_of_denial why) bytes end → IsResponseTo g k k (Err why) bytes end
+denial_is_response g k why bytes (Ok status) made = record { encodes = made; unchanged = refl }
 denial_is_response g k why bytes (Err fault) made =
-    response_when_short g k k (Err why) bytes fault made.fault_is (record { says = made.bytes_are; was_open = tt; stays_open = refl; farm = refl })
+    response_without_memory g k k (Err why) bytes fault made.fault_is (record { encodes = made.bytes_are; was_open = tt; stays_open = refl; farm = refl })
 
--- nothing was asked, and the answer says why
-pub nothing_is_response : {S : Type 0} (g : Ghosts S) (k : Kept S) (input rest : Option (List ℕ)) (now : ℕ) (fault : AskFault) (bytes : List ℕ) (end : Result ℕ DeskFault)
-    → HearsNothing input rest now fault → IsMadeOfNothing fault bytes end → IsResponse g k k input rest now bytes end
-nothing_is_response g k input rest now AskFault.NoMemory bytes end hears made =
-    inr (record { fault = made.0; hears = hears; says = made.1; rests = refl })
-nothing_is_response g k input rest now (AskFault.Refused refusal) bytes end hears made =
-    inl (record { what = Err (refused refusal.code); hears = hears; response = denial_is_response g k (refused refusal.code) bytes end made })
-nothing_is_response g k input rest now (AskFault.Method allowed) bytes end hears made =
-    inl (record { what = Err (other_methods allowed); hears = hears; response = denial_is_response g k (other_methods allowed) bytes end made })
+-- nothing was asked, and the answer shows why
+pub bad_request_is_response : {S : Type 0} (g : Ghosts S) (k : Kept S) (input rest : Option (List ℕ)) (now : ℕ) (fault : AskFault) (bytes : List ℕ) (end : Result ℕ DeskFault)
+    → ReceivesBadRequest input rest now fault → IsDenialEncoded fault bytes end → IsResponse g k k input rest now bytes end
+bad_request_is_response g k input rest now AskFault.NoMemory bytes end receives made =
+    inr (record { fault = made.0; receives = receives; encodes = made.1; unchanged = refl })
+bad_request_is_response g k input rest now (AskFault.Refused refusal) bytes end receives made =
+    inl (record { what = Err (refused refusal.code); receives = receives; response = denial_is_response g k (refused refusal.code) bytes end made })
+bad_request_is_response g k input rest now (AskFault.Method allowed) bytes end receives made =
+    inl (record { what = Err (other_methods allowed); receives = receives; response = denial_is_response g k (other_methods allowed) bytes end made })
 
 -- ---- calls
 
 -- a call that the machine answered, or for whose answer there was no memory
-pub call_is_response : {S : Type 0} (g : Ghosts S) (old new : Kept S) (call : Call) (told : Answered) (bytes : List ℕ) (end : Result ℕ DeskFault)
-    → told ≡ answer old.farm.farm call → new.farm.farm ≡ step old.farm.farm call
+pub call_is_response : {S : Type 0} (g : Ghosts S) (old new : Kept S) (call : Call) (answered : Answered) (bytes : List ℕ) (end : Result ℕ DeskFault)
+    → answered ≡ answer old.farm.farm call → new.farm.farm ≡ step old.farm.farm call
     → (old.is_open ≡ true) × (new.is_open ≡ true) → (Keeps g old → Keeps g new)
-    → IsMadeOf (out_of_answer (kind_of call.cmd) told) bytes end
+    → IsEncoded (out_of_answer (kind_of call.cmd) answered) bytes end
     → IsResponseTo g old new (Ok (Ask.Call call)) bytes end
-call_is_response g old new call told bytes (Ok status) same farm opened stands made =
+call_is_response g old new call answered bytes (Ok status) same farm opened keeps made =
     record {
       was_open = opened.0;
       stays_open = opened.1;
-      says = subst (λ a. Says (out_of_answer (kind_of call.cmd) a) bytes status) same made;
+      encodes = subst (λ a. Encodes (out_of_answer (kind_of call.cmd) a) bytes status) same made;
       farm = farm;
-      stands = stands;
+      keeps = keeps;
     }
-call_is_response g old new call told bytes (Err fault) same farm opened stands made =
-    response_when_short g old new (Ok (Ask.Call call)) bytes fault made.fault_is
-    (record { says = made.bytes_are; was_open = opened.0; stays_open = opened.1 ∙ sym opened.0; farm = inr (record { was_open = opened.0; farm = farm; stands = stands }) })
+call_is_response g old new call answered bytes (Err fault) same farm opened keeps made =
+    response_without_memory g old new (Ok (Ask.Call call)) bytes fault made.fault_is
+    (record { encodes = made.bytes_are; was_open = opened.0; stays_open = opened.1 ∙ sym opened.0; farm = inr (record { was_open = opened.0; farm = farm; keeps = keeps }) })
 
 open_unless : (b : Bool) → (b ≡ false → ⊥) → b ≡ true
 open_unless true h = refl
 open_unless false h = absurd (h refl)
 
--- what the keeper gave then
+-- what the keeper returned then
 abbrev acted : KeepFault → Result Answer KeepFault
 acted fault = Err fault
 
--- a call at which the keeper gave a fault
+-- a call at which the keeper returned a fault
 pub fault_is_response : {S : Type 0} (g : Ghosts S) (old new : Kept S) (call : Call) (fault : KeepFault) (bytes : List ℕ) (end : Result ℕ DeskFault)
     → (acted fault ≡ Err KeepFault.NoMemory → (new.is_open ≡ false) × (new.conn ≡ old.conn) × IsChange (answer old.farm.farm call))
     → (acted fault ≡ Err KeepFault.Store → (new.is_open ≡ false) × IsChange (answer old.farm.farm call)
@@ -94,31 +94,31 @@ pub fault_is_response : {S : Type 0} (g : Ghosts S) (old new : Kept S) (call : C
     → IsActFault fault
     → bytes ≡ reply_bytes (refusal (fault_code fault)) → end ≡ Err (DeskFault.Keep fault)
     → IsResponseTo g old new (Ok (Ask.Call call)) bytes end
-fault_is_response g old new call KeepFault.NoMemory bytes end memory store closed still other says ends =
+fault_is_response g old new call KeepFault.NoMemory bytes end memory store closed still other encodes ends =
     let lacks = memory refl in
     let closes : Closes g old new (Ask.Call call) KeepFault.NoMemory bytes = record {
-      says = says;
+      encodes = encodes;
       is_closed = lacks.0;
       cause = record { was_open = open_unless old.is_open (λ shut. let e = closed.1 shut in absurd (cc)); change = lacks.2; store = lacks.1 };
     } in
     subst (λ e. IsResponseTo g old new (Ok (Ask.Call call)) bytes e) (sym ends) closes
-fault_is_response g old new call KeepFault.Store bytes end memory store closed still other says ends =
+fault_is_response g old new call KeepFault.Store bytes end memory store closed still other encodes ends =
     let loses = store refl in
     let closes : Closes g old new (Ask.Call call) KeepFault.Store bytes = record {
-      says = says;
+      encodes = encodes;
       is_closed = loses.0;
       cause = record { was_open = open_unless old.is_open (λ shut. let e = closed.1 shut in absurd (cc)); change = loses.1; leaves = loses.2 };
     } in
     subst (λ e. IsResponseTo g old new (Ok (Ask.Call call)) bytes e) (sym ends) closes
-fault_is_response g old new call KeepFault.Closed bytes end memory store closed still other says ends =
+fault_is_response g old new call KeepFault.Closed bytes end memory store closed still other encodes ends =
     let same = still refl in
     let shut = closed.0 refl in
     let closes : Closes g old new (Ask.Call call) KeepFault.Closed bytes = record {
-      says = says;
+      encodes = encodes;
       is_closed = ap (λ (k : Kept _). k.is_open) same ∙ shut;
-      cause = record { was_closed = shut; rests = same };
+      cause = record { was_closed = shut; unchanged = same };
     } in
     subst (λ e. IsResponseTo g old new (Ok (Ask.Call call)) bytes e) (sym ends) closes
-fault_is_response g old new call KeepFault.BadStore bytes end memory store closed still other says ends = absurd other
-fault_is_response g old new call KeepFault.OldSchema bytes end memory store closed still other says ends = absurd other
-fault_is_response g old new call KeepFault.NewSchema bytes end memory store closed still other says ends = absurd other
+fault_is_response g old new call KeepFault.BadStore bytes end memory store closed still other encodes ends = absurd other
+fault_is_response g old new call KeepFault.OldSchema bytes end memory store closed still other encodes ends = absurd other
+fault_is_response g old new call KeepFault.NewSchema bytes end memory store closed still other encodes ends = absurd other

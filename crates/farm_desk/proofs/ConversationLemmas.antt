@@ -20,47 +20,47 @@ use Rattle.farm_wire.specs.Reading.{Denial}
 use Rattle.farm_wire.specs.declared.ask.Ask.{Ask}
 use Rattle.farm_wire.specs.declared.ask.View.{View}
 use Rattle.farm_wire.specs.declared.answers.Out.{Out}
-use Rattle.farm_desk.specs.Heard.{Asks, Hears}
-use Rattle.farm_desk.specs.Answers.{Answers, Says, Shows, IsView, out_of_denial, out_of_answer}
+use Rattle.farm_desk.specs.Received.{Asks, Receives}
+use Rattle.farm_desk.specs.Answers.{Answers, Encodes, Shows, IsView, out_of_denial, out_of_answer}
 use Rattle.farm_desk.specs.Response.{IsResponse}
 use Rattle.farm_desk.specs.Ends.{IsAnswered}
 use Rattle.farm_desk.specs.Imports.{Reaches}
-use Rattle.farm_desk.specs.Conversations.{Desk, Converses, Talk, ConverseInTurn, ConverseApart, AnswersAll, StopsAt, Exchange, talk_of, calls_in, calls_of, MachineSays, AreTold, ActAsRun, AnsweredActAsRun, IsSentAgain}
+use Rattle.farm_desk.specs.Conversations.{Desk, Converses, Conversation, ConverseInTurn, ConverseApart, AnswersAll, StopsAt, Exchange, conversation_of, calls_in, calls_of, IsMachineAnswer, AreAnswered, ActAsRun, AnsweredActAsRun, IsSentAgain}
 use Rattle.farm_desk.specs.declared.fault.DeskFault.{DeskFault}
 
 -- ---- two lists
 
-pub apart : {S : Type 0} (g : Ghosts S) (first second : List Talk) (old new : Desk S) → ConverseInTurn g (first ++ second) old new → ConverseApart g first second old new
+pub apart : {S : Type 0} (g : Ghosts S) (first second : List Conversation) (old new : Desk S) → ConverseInTurn g (first ++ second) old new → ConverseApart g first second old new
 apart g [] second old new h = (old, refl, h)
-apart g (talk ∷ first) second old new h =
+apart g (conversation ∷ first) second old new h =
     let others = apart g first second h.0 new h.2 in
     (others.0, (h.0, h.1, others.1), others.2)
 
-pub together : {S : Type 0} (g : Ghosts S) (first second : List Talk) (old between new : Desk S) → ConverseInTurn g first old between → ConverseInTurn g second between new → ConverseInTurn g (first ++ second) old new
+pub together : {S : Type 0} (g : Ghosts S) (first second : List Conversation) (old between new : Desk S) → ConverseInTurn g first old between → ConverseInTurn g second between new → ConverseInTurn g (first ++ second) old new
 together g [] second old between new a b = subst (λ desk. ConverseInTurn g second desk new) a b
-together g (talk ∷ first) second old between new a b = (a.0, a.1, together g first second a.0 between new a.2 b)
+together g (conversation ∷ first) second old between new a b = (a.0, a.1, together g first second a.0 between new a.2 b)
 
 -- ---- at moments
 
 pub none_yet : {S : Type 0} (g : Ghosts S) (old : Desk S) → AnswersAll g old old []
-none_yet g old = record { talks = []; at_moments = refl; answered = tt; in_turn = refl }
+none_yet g old = record { conversations = []; at_moments = refl; answered = tt; in_turn = refl }
 
-all_answered : (talks : List Talk) (last : Talk) → AllByRecursion (λ talk. IsOk talk.end) talks → IsOk last.end → AllByRecursion (λ talk. IsOk talk.end) (talks ++ last ∷ [])
+all_answered : (conversations : List Conversation) (last : Conversation) → AllByRecursion (λ conversation. IsOk conversation.end) conversations → IsOk last.end → AllByRecursion (λ conversation. IsOk conversation.end) (conversations ++ last ∷ [])
 all_answered [] last all ok = (ok, tt)
-all_answered (talk ∷ talks) last all ok = (all.0, all_answered talks last all.1 ok)
+all_answered (conversation ∷ conversations) last all ok = (all.0, all_answered conversations last all.1 ok)
 
 pub one_more : {S : Type 0} (g : Ghosts S) (old between new : Desk S) (moments : List ℕ) (i now status : ℕ) → i < length moments → now ≡ get_or moments i 0
     → AnswersAll g old between (take i moments) → Converses g between new now (Ok status) → AnswersAll g old new (take (i + 1) moments)
 one_more g old between new moments i now status low here all h =
-    let last : Talk = record { now = now; end = Ok status } in
+    let last : Conversation = record { now = now; end = Ok status } in
     record {
-      talks = all.talks ++ last ∷ [];
-      at_moments = map-append (λ talk. talk.now) all.talks (last ∷ [])
+      conversations = all.conversations ++ last ∷ [];
+      at_moments = map-append (λ conversation. conversation.now) all.conversations (last ∷ [])
           ∙ ap (λ ms. ms ++ now ∷ []) all.at_moments
           ∙ ap (λ m. take i moments ++ m ∷ []) here
           ∙ sym (take_more moments i 0 low);
-      answered = all_answered all.talks last all.answered refl;
-      in_turn = together g all.talks (last ∷ []) old between new all.in_turn (new, h, refl);
+      answered = all_answered all.conversations last all.answered refl;
+      in_turn = together g all.conversations (last ∷ []) old between new all.in_turn (new, h, refl);
     }
 
 -- the fault that ended it, if one did
@@ -84,63 +84,63 @@ stops_at g old between new moments i now fault low here all h =
 
 -- ---- what is due
 
--- what the conversation came to before its answer was written: nothing was read, or an answer was due, which ends it unless the writer failed
-pub record IsLed {S : Type 0} (g : Ghosts S) (old new : Desk S) (now : ℕ) (end : Result ℕ DeskFault) : Type 0 where
+-- before an answer was written: nothing was read, or an answer was due, which ends the conversation unless the writer failed
+pub record HasResponse {S : Type 0} (g : Ghosts S) (old new : Desk S) (now : ℕ) (end : Result ℕ DeskFault) : Type 0 where
   pub bytes : List ℕ
   pub response_end : Result ℕ DeskFault
   pub response : IsResponse g old.keeper new.keeper old.input new.input now bytes response_end
   pub same : (end ≡ response_end) ⊎ (end ≡ Err DeskFault.Write)
 
-led_told : {S : Type 0} (g : Ghosts S) (old new : Desk S) (now : ℕ) (end : Result ℕ DeskFault)
-    → IsAnswered (IsResponse g old.keeper new.keeper old.input new.input now) old.output new.output end → IsLed g old new now end
-led_told g old new now end a = record { bytes = a.bytes; response_end = end; response = a.response; same = inl refl }
+written_response : {S : Type 0} (g : Ghosts S) (old new : Desk S) (now : ℕ) (end : Result ℕ DeskFault)
+    → IsAnswered (IsResponse g old.keeper new.keeper old.input new.input now) old.output new.output end → HasResponse g old new now end
+written_response g old new now end a = record { bytes = a.bytes; response_end = end; response = a.response; same = inl refl }
 
-pub led : {S : Type 0} (g : Ghosts S) (old new : Desk S) (now : ℕ) (end : Result ℕ DeskFault)
-    → Converses g old new now end → (new.keeper ≡ old.keeper) ⊎ IsLed g old new now end
-led g old new now (Ok status) h = inr (led_told g old new now (Ok status) (h.answered tt))
-led g old new now (Err DeskFault.NoMemory) h = inr (led_told g old new now (Err DeskFault.NoMemory) (h.answered tt))
-led g old new now (Err DeskFault.Read) h = inl (h.unread refl).rests
-led g old new now (Err DeskFault.Write) h =
+pub has_response : {S : Type 0} (g : Ghosts S) (old new : Desk S) (now : ℕ) (end : Result ℕ DeskFault)
+    → Converses g old new now end → (new.keeper ≡ old.keeper) ⊎ HasResponse g old new now end
+has_response g old new now (Ok status) h = inr (written_response g old new now (Ok status) (h.answered tt))
+has_response g old new now (Err DeskFault.NoMemory) h = inr (written_response g old new now (Err DeskFault.NoMemory) (h.answered tt))
+has_response g old new now (Err DeskFault.Read) h = inl (h.unread refl).unchanged
+has_response g old new now (Err DeskFault.Write) h =
     let u = h.unwritten refl in
     inr (record { bytes = u.bytes; response_end = u.end; response = u.response; same = inr refl })
-led g old new now (Err (DeskFault.Keep fault)) h = inr (led_told g old new now (Err (DeskFault.Keep fault)) (h.answered tt))
-led g old new now (Err (DeskFault.File fault)) h = inr (led_told g old new now (Err (DeskFault.File fault)) (h.answered tt))
+has_response g old new now (Err (DeskFault.Keep fault)) h = inr (written_response g old new now (Err (DeskFault.Keep fault)) (h.answered tt))
+has_response g old new now (Err (DeskFault.File fault)) h = inr (written_response g old new now (Err (DeskFault.File fault)) (h.answered tt))
 
 -- ---- one answer
 
--- what an answer says of the keeper
+-- what an answer shows of the keeper
 pub record IsReached {S : Type 0} (g : Ghosts S) (old new : Kept S) (asked : Result Ask Denial) (bytes : List ℕ) (status : ℕ) : Type 0 where
   pub out : Out
-  pub machine : MachineSays old.farm.farm asked out
-  pub says : Says out bytes status
+  pub machine : IsMachineAnswer old.farm.farm asked out
+  pub encodes : Encodes out bytes status
   pub reaches : Reaches g old new (calls_in asked)
 
--- a keeper that rests has the farm after no calls
-pub resting : {S : Type 0} (g : Ghosts S) (old new : Kept S) → new ≡ old → Reaches g old new []
-resting g old new rests =
+-- an unchanged keeper has the farm after no calls
+pub reaches_nothing : {S : Type 0} (g : Ghosts S) (old new : Kept S) → new ≡ old → Reaches g old new []
+reaches_nothing g old new unchanged =
     record {
-      opened = ap (λ k. k.is_open) rests;
-      farm = ap (λ k. k.farm.farm) rests;
-      stands = λ keeps. subst (λ k. Keeps g k) (sym rests) keeps;
+      opened = ap (λ k. k.is_open) unchanged;
+      farm = ap (λ k. k.farm.farm) unchanged;
+      keeps = λ keeps. subst (λ k. Keeps g k) (sym unchanged) keeps;
     }
 
 shown : {S : Type 0} (g : Ghosts S) (old new : Kept S) (view : View) (bytes : List ℕ) (status : ℕ)
-    → Shows old new view bytes status → (out : Out) × IsView view old.farm.farm out × Says out bytes status × Reaches g old new []
-shown g old new view bytes status a = (a.out, a.shows, a.says, resting g old new a.rests)
+    → Shows old new view bytes status → (out : Out) × IsView view old.farm.farm out × Encodes out bytes status × Reaches g old new []
+shown g old new view bytes status a = (a.out, a.shows, a.encodes, reaches_nothing g old new a.unchanged)
 
 pub reached : {S : Type 0} (g : Ghosts S) (old new : Kept S) (asked : Result Ask Denial) (bytes : List ℕ) (status : ℕ)
     → Answers g old new asked bytes status → IsReached g old new asked bytes status
 reached g old new (Err why) bytes status a =
-    record { out = out_of_denial why; machine = refl; says = a.says; reaches = resting g old new a.rests }
+    record { out = out_of_denial why; machine = refl; encodes = a.encodes; reaches = reaches_nothing g old new a.unchanged }
 reached g old new (Ok (Ask.Call call)) bytes status a =
     record {
       out = out_of_answer (kind_of call.cmd) (answer old.farm.farm call);
       machine = refl;
-      says = a.says;
-      reaches = record { opened = a.stays_open ∙ sym a.was_open; farm = a.farm; stands = a.stands };
+      encodes = a.encodes;
+      reaches = record { opened = a.stays_open ∙ sym a.was_open; farm = a.farm; keeps = a.keeps };
     }
 reached g old new (Ok (Ask.View view)) bytes status a =
-    record { out = a.out; machine = a.shows; says = a.says; reaches = resting g old new a.rests }
+    record { out = a.out; machine = a.shows; encodes = a.encodes; reaches = reaches_nothing g old new a.unchanged }
 
 -- ---- known bytes
 
@@ -163,8 +163,8 @@ pub record IsOne {S : Type 0} (g : Ghosts S) (old new : Desk S) (input held : Li
   pub left : new.input ≡ Some rest
   pub taken : input ≡ exchange.request ++ rest
   pub asks : Asks exchange.request (exchange.request ≡ input) exchange.now exchange.asked
-  pub machine : MachineSays old.keeper.farm.farm exchange.asked exchange.told
-  pub says : Says exchange.told exchange.answer exchange.status
+  pub machine : IsMachineAnswer old.keeper.farm.farm exchange.asked exchange.out
+  pub encodes : Encodes exchange.out exchange.answer exchange.status
   pub written : new.output ≡ Some (held ++ exchange.answer)
   pub reaches : Reaches g old.keeper new.keeper (calls_in exchange.asked)
 
@@ -174,19 +174,19 @@ not_memory status e = cc
 one_of : {S : Type 0} (g : Ghosts S) (old new : Desk S) (input held bytes : List ℕ) (now status : ℕ) → old.input ≡ Some input → old.output ≡ Some held
     → IsResponse g old.keeper new.keeper old.input new.input now bytes (Ok status) → Appends old.output new.output bytes → IsOne g old new input held now (Ok status)
 one_of g old new input held bytes now status i o (inl response) w =
-    let hears : Hears (Some input) new.input now response.what = subst (λ x. Hears x new.input now response.what) i response.hears in
-    let known = known_rest input new.input hears.used hears.taken in
+    let receives : Receives (Some input) new.input now response.what = subst (λ x. Receives x new.input now response.what) i response.receives in
+    let known = known_rest input new.input receives.used receives.taken in
     let all = reached g old.keeper new.keeper response.what bytes status response.response in
     record {
-      exchange = record { now = now; request = hears.used; asked = response.what; told = all.out; answer = bytes; status = status };
+      exchange = record { now = now; request = receives.used; asked = response.what; out = all.out; answer = bytes; status = status };
       rest = known.0;
       when = refl;
       status = refl;
       left = known.1;
       taken = known.2;
-      asks = hears.asks;
+      asks = receives.asks;
       machine = all.machine;
-      says = all.says;
+      encodes = all.encodes;
       written = known_written held new.output bytes (subst (λ x. Appends x new.output bytes) o w);
       reaches = all.reaches;
     }
@@ -205,21 +205,21 @@ reaches_on g old next new first others a b =
     record {
       opened = b.opened ∙ a.opened;
       farm = b.farm ∙ ap (λ F. run F others) a.farm ∙ sym (fold-append step old.farm.farm first others);
-      stands = λ keeps. b.stands (a.stands keeps);
+      keeps = λ keeps. b.keeps (a.keeps keeps);
     }
 
-acts_on : {S : Type 0} (g : Ghosts S) (talk : Talk) (talks : List Talk) (old next new : Desk S) (input held : List ℕ)
-    → (x : IsOne g old next input held talk.now talk.end) → (xs : List Exchange)
-    → ActAsRun g talks next new x.rest (held ++ x.exchange.answer) xs → ActAsRun g (talk ∷ talks) old new input held (x.exchange ∷ xs)
-acts_on g talk talks old next new input held x xs all =
-    let head : talk_of x.exchange ≡ talk = ap (λ t. record { now = t; end = Ok x.exchange.status }) x.when ∙ ap (λ e. record { now = talk.now; end = e }) x.status in
+acts_on : {S : Type 0} (g : Ghosts S) (conversation : Conversation) (conversations : List Conversation) (old next new : Desk S) (input held : List ℕ)
+    → (x : IsOne g old next input held conversation.now conversation.end) → (xs : List Exchange)
+    → ActAsRun g conversations next new x.rest (held ++ x.exchange.answer) xs → ActAsRun g (conversation ∷ conversations) old new input held (x.exchange ∷ xs)
+acts_on g conversation conversations old next new input held x xs all =
+    let head : conversation_of x.exchange ≡ conversation = ap (λ t. record { now = t; end = Ok x.exchange.status }) x.when ∙ ap (λ e. record { now = conversation.now; end = e }) x.status in
     record {
       rest = all.rest;
-      each = ap (λ t. t ∷ map talk_of xs) head ∙ ap (λ ts. talk ∷ ts) all.each;
+      each = ap (λ t. t ∷ map conversation_of xs) head ∙ ap (λ ts. conversation ∷ ts) all.each;
       left = all.left;
       taken = x.taken ∙ ap (λ l. x.exchange.request ++ l) all.taken ∙ sym (append_assoc x.exchange.request (flat_map (λ y. y.request) xs) all.rest);
-      heard = (x.rest, x.taken, x.asks, all.heard);
-      told = (x.machine, x.says, subst (λ F. AreTold F xs) x.reaches.farm all.told);
+      received = (x.rest, x.taken, x.asks, all.received);
+      answers = (x.machine, x.encodes, subst (λ F. AreAnswered F xs) x.reaches.farm all.answers);
       written = all.written ∙ ap (λ l. Some l) (append_assoc held x.exchange.answer (flat_map (λ y. y.answer) xs));
       reaches = reaches_on g old.keeper next.keeper new.keeper (calls_in x.exchange.asked) (calls_of xs) x.reaches all.reaches;
     }
@@ -232,25 +232,25 @@ acts_as_run g [] old new input held i o ok h = (
     each = refl;
     left = ap (λ desk. desk.input) h ∙ i;
     taken = refl;
-    heard = tt;
-    told = tt;
+    received = tt;
+    answers = tt;
     written = ap (λ desk. desk.output) h ∙ o ∙ ap (λ l. Some l) (sym (append-nil held));
-    reaches = resting g old.keeper new.keeper (ap (λ desk. desk.keeper) h);
+    reaches = reaches_nothing g old.keeper new.keeper (ap (λ desk. desk.keeper) h);
   },
 )
-acts_as_run g (talk ∷ talks) old new input held i o ok h =
-    let x = one g old h.0 input held talk.now talk.end i o ok.0 h.1 in
-    let others = acts_as_run g talks h.0 new x.rest (held ++ x.exchange.answer) x.left x.written ok.1 h.2 in
-    (x.exchange ∷ others.0, acts_on g talk talks old h.0 new input held x others.0 others.1)
+acts_as_run g (conversation ∷ conversations) old new input held i o ok h =
+    let x = one g old h.0 input held conversation.now conversation.end i o ok.0 h.1 in
+    let others = acts_as_run g conversations h.0 new x.rest (held ++ x.exchange.answer) x.left x.written ok.1 h.2 in
+    (x.exchange ∷ others.0, acts_on g conversation conversations old h.0 new input held x others.0 others.1)
 
 -- ---- sent again
 
--- each is told at its place
-pub told_at : (F : Farm) (before after : List Exchange) (x : Exchange) → AreTold F (before ++ x ∷ after) → MachineSays (run F (calls_of before)) x.asked x.told
-told_at F [] after x h = h.0
-told_at F (y ∷ before) after x h =
-    subst (λ G. MachineSays G x.asked x.told) (sym (fold-append step F (calls_in y.asked) (calls_of before)))
-    (told_at (run F (calls_in y.asked)) before after x h.2)
+-- each has its answer at its place
+pub answered_at : (F : Farm) (before after : List Exchange) (x : Exchange) → AreAnswered F (before ++ x ∷ after) → IsMachineAnswer (run F (calls_of before)) x.asked x.out
+answered_at F [] after x h = h.0
+answered_at F (y ∷ before) after x h =
+    subst (λ G. IsMachineAnswer G x.asked x.out) (sym (fold-append step F (calls_in y.asked) (calls_of before)))
+    (answered_at (run F (calls_in y.asked)) before after x h.2)
 
 calls_through : (before between : List Exchange) (first : Exchange) (call : Call) → first.asked ≡ Ok (Ask.Call call)
     → calls_of (before ++ first ∷ between) ≡ calls_of before ++ call ∷ calls_of between
@@ -258,15 +258,15 @@ calls_through before between first call asks =
     flat_map-append (λ x. calls_in x.asked) before (first ∷ between)
     ∙ ap (λ asked. calls_of before ++ (calls_in asked ++ calls_of between)) asks
 
-pub told_again : (F : Farm) (before between after : List Exchange) (first second : Exchange) (call repeated : Call) (key : List ℕ) (reply : Reply)
+pub answered_again : (F : Farm) (before between after : List Exchange) (first second : Exchange) (call repeated : Call) (key : List ℕ) (reply : Reply)
     → IsSentAgain F before between after first second call repeated key reply
-    → second.told ≡ out_of_answer (kind_of repeated.cmd) (answer_again call reply repeated)
-told_again F before between after first second call repeated key reply is =
-    let placed : AreTold F ((before ++ first ∷ between) ++ second ∷ after) =
-    subst (λ l. AreTold F l) (sym (append_assoc before (first ∷ between) (second ∷ after))) is.told in
-    let says = told_at F (before ++ first ∷ between) after second placed in
-    let machine : second.told ≡ out_of_answer (kind_of repeated.cmd) (answer (run F (calls_of (before ++ first ∷ between))) repeated) =
-    subst (λ asked. MachineSays (run F (calls_of (before ++ first ∷ between))) asked second.told) is.asks_again says in
+    → second.out ≡ out_of_answer (kind_of repeated.cmd) (answer_again call reply repeated)
+answered_again F before between after first second call repeated key reply is =
+    let placed : AreAnswered F ((before ++ first ∷ between) ++ second ∷ after) =
+    subst (λ l. AreAnswered F l) (sym (append_assoc before (first ∷ between) (second ∷ after))) is.answers in
+    let encodes = answered_at F (before ++ first ∷ between) after second placed in
+    let machine : second.out ≡ out_of_answer (kind_of repeated.cmd) (answer (run F (calls_of (before ++ first ∷ between))) repeated) =
+    subst (λ asked. IsMachineAnswer (run F (calls_of (before ++ first ∷ between))) asked second.out) is.asks_again encodes in
     machine
     ∙ ap (λ calls. out_of_answer (kind_of repeated.cmd) (answer (run F calls) repeated)) (calls_through before between first call is.asks)
     ∙ ap (λ told. out_of_answer (kind_of repeated.cmd) told)

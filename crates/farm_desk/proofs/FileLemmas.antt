@@ -24,7 +24,7 @@ use Rattle.farm_desk.specs.declared.fault.DeskFault.{DeskFault}
 
 -- ---- any store
 
--- a connection that was opened on tables stands for them
+-- a connection that was opened on tables represents them
 abbrev pub IsStanding : {S : Type 0} → store.Ghosts S → Held S → Type 0
 IsStanding {S} g conn = Opens (state g conn) → IsLive (state g conn) → (T : Tables) → Holds (state g conn).committed.trees T → Stands (state g conn) T
 
@@ -38,12 +38,12 @@ finds_tables g conn k standing made = record {
   sound = made.sound;
   clean = made.clean;
   exact = λ clean F sound on. made.exact clean F sound (stands_on g conn (rows_of F) standing on);
-  stands = λ F on clean. made.stands clean (rows_of F) (stands_on g conn (rows_of F) standing on);
+  keeps = λ F on clean. made.stands clean (rows_of F) (stands_on g conn (rows_of F) standing on);
   ours = made.ours;
   rows = λ clean T on. sym (made.rows clean T (stands_on g conn T standing on));
 }
 
--- a store that gives none was opened on no such tables
+-- a store of which no keeper is made was opened on no such tables
 pub denies_tables : {S : Type 0} (g : store.Ghosts S) (conn : Held S) (fault : KeepFault) → IsStanding g conn → GivesNoKeeper (state g conn) fault
     → DeniesTables g conn (DeskFault.Keep fault)
 denies_tables g conn KeepFault.BadStore standing denied = λ F sound on. denied F sound (stands_on g conn (rows_of F) standing on)
@@ -117,11 +117,11 @@ finds_farm image conn k made shows = record {
   finds = λ clean F sound held.
       let early : HasCleanDisk (file_state conn) = omega (arith, made.clean) in
       let on = opens_tables image conn (rows_of F) shows early held in
-      record { farm = made.exact clean F sound on; stands = made.stands F on };
+      record { farm = made.exact clean F sound on; keeps = made.keeps F on };
   only = are_farms image conn k made shows;
 }
 
--- files whose store gives none hold no such farm
+-- files of whose store no keeper is made hold no such farm
 pub denies_farm : {D : Type 0} {g : Ghosts D} (image : Image) (conn : Held (FileStore D g)) (fault : DeskFault)
     → HasCleanDisk (file_state conn) → DeniesTables over_files conn fault → ShowsFiles image conn → DeniesFarm image fault
 denies_farm image conn (DeskFault.Keep KeepFault.BadStore) clean denied shows = λ F sound held.
@@ -154,6 +154,6 @@ pub makes_farm : {D : Type 0} {g : Ghosts D} (image : Image) (conn : Held (FileS
     → MakesTables over_files conn k → ShowsFiles image conn → MakesFarm image k
 makes_farm image conn k made shows = record {
   opened = made.opened;
-  has = record { farm = made.farm; stands = made.keeps };
+  has = record { farm = made.farm; keeps = made.keeps };
   only = are_free image conn k made shows;
 }

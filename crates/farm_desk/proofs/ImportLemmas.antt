@@ -22,18 +22,18 @@ use Rattle.farm_desk.specs.Imports.{Counts, EndsBy, IsCounted, IsStopped, Import
 
 -- ---- one more call
 
--- the farm G is that of the first calls, the next one is this, and it was told this
-pub record IsNext (F G : Farm) (calls : List Call) (i : ℕ) (call : Call) (told : Answered) : Type 0 where
+-- the farm G is that of the first calls, the next one is this, and this is its answer
+pub record IsNext (F G : Farm) (calls : List Call) (i : ℕ) (call : Call) (answered : Answered) : Type 0 where
   pub low : i < length calls
   pub here : call ≡ get_or calls i call
   pub before : G ≡ run F (take i calls)
-  pub told_is : told ≡ answer G call
+  pub answer_is : answered ≡ answer G call
 
-answers_with : (F G : Farm) (calls : List Call) (i : ℕ) (call : Call) (told : Answered) → IsNext F G calls i call told
-    → answers_of F (take (i + 1) calls) ≡ answers_of F (take i calls) ++ told ∷ []
-answers_with F G calls i call told turn =
-    let said : answer (run F (take i calls)) (get_or calls i call) ≡ told =
-    ap (answer (run F (take i calls))) (sym turn.here) ∙ ap (λ H. answer H call) (sym turn.before) ∙ sym turn.told_is in
+answers_with : (F G : Farm) (calls : List Call) (i : ℕ) (call : Call) (answered : Answered) → IsNext F G calls i call answered
+    → answers_of F (take (i + 1) calls) ≡ answers_of F (take i calls) ++ answered ∷ []
+answers_with F G calls i call answered turn =
+    let said : answer (run F (take i calls)) (get_or calls i call) ≡ answered =
+    ap (answer (run F (take i calls))) (sym turn.here) ∙ ap (λ H. answer H call) (sym turn.before) ∙ sym turn.answer_is in
     answers_more F calls i call turn.low ∙ ap (λ a. answers_of F (take i calls) ++ a ∷ []) said
 
 -- the farm after it
@@ -46,23 +46,23 @@ farm_after F G calls i call low here before =
 abbrev so_far : (p : Answered → Bool) (F : Farm) (calls : List Call) (i : ℕ) → ℕ
 so_far p F calls i = count_by p (answers_of F (take i calls))
 
-one_more : (p : Answered → Bool) (F G : Farm) (calls : List Call) (i : ℕ) (call : Call) (told : Answered) → IsNext F G calls i call told
-    → so_far p F calls (i + 1) ≡ so_far p F calls i + cond (p told) 1 0
-one_more p F G calls i call told turn =
-    let e : so_far p F calls (i + 1) ≡ so_far p F calls i + (0 + cond (p told) 1 0) =
-    ap (count_by p) (answers_with F G calls i call told turn) ∙ sum_by-append (λ a. cond (p a) 1 0) (answers_of F (take i calls)) (told ∷ []) in
+one_more : (p : Answered → Bool) (F G : Farm) (calls : List Call) (i : ℕ) (call : Call) (answered : Answered) → IsNext F G calls i call answered
+    → so_far p F calls (i + 1) ≡ so_far p F calls i + cond (p answered) 1 0
+one_more p F G calls i call answered turn =
+    let e : so_far p F calls (i + 1) ≡ so_far p F calls i + (0 + cond (p answered) 1 0) =
+    ap (count_by p) (answers_with F G calls i call answered turn) ∙ sum_by-append (λ a. cond (p a) 1 0) (answers_of F (take i calls)) (answered ∷ []) in
     omega (arith, e)
 
 -- a call more was accepted
-one_accepted : (F G : Farm) (calls : List Call) (i : ℕ) (call : Call) (told : Answered) (accepted kept : ℕ) → IsNext F G calls i call told
-    → is_accepted told ≡ true → is_kept told ≡ false → accepted + kept ≡ i → IsCounted F calls accepted kept
+one_accepted : (F G : Farm) (calls : List Call) (i : ℕ) (call : Call) (answered : Answered) (accepted kept : ℕ) → IsNext F G calls i call answered
+    → is_accepted answered ≡ true → is_kept answered ≡ false → accepted + kept ≡ i → IsCounted F calls accepted kept
     → IsCounted F calls (accepted + 1) kept
-one_accepted F G calls i call told accepted kept turn is not_kept done was =
+one_accepted F G calls i call answered accepted kept turn is not_kept done was =
     let there : accepted + 1 + kept ≡ i + 1 = omega (arith, done) in
     let more : so_far is_accepted F calls (i + 1) ≡ so_far is_accepted F calls i + 1 =
-    one_more is_accepted F G calls i call told turn ∙ ap (λ b. so_far is_accepted F calls i + cond b 1 0) is in
+    one_more is_accepted F G calls i call answered turn ∙ ap (λ b. so_far is_accepted F calls i + cond b 1 0) is in
     let same : so_far is_kept F calls (i + 1) ≡ so_far is_kept F calls i + 0 =
-    one_more is_kept F G calls i call told turn ∙ ap (λ b. so_far is_kept F calls i + cond b 1 0) not_kept in
+    one_more is_kept F G calls i call answered turn ∙ ap (λ b. so_far is_kept F calls i + cond b 1 0) not_kept in
     let a : accepted ≡ so_far is_accepted F calls i = was.accepted_are ∙ ap (so_far is_accepted F calls) done in
     let k : kept ≡ so_far is_kept F calls i = was.kept_are ∙ ap (so_far is_kept F calls) done in
     let a' : accepted + 1 ≡ so_far is_accepted F calls (i + 1) = omega (arith, more, a) in
@@ -74,15 +74,15 @@ one_accepted F G calls i call told accepted kept turn is not_kept done was =
     }
 
 -- a call more had been accepted before
-one_kept : (F G : Farm) (calls : List Call) (i : ℕ) (call : Call) (told : Answered) (accepted kept : ℕ) → IsNext F G calls i call told
-    → is_accepted told ≡ false → is_kept told ≡ true → accepted + kept ≡ i → IsCounted F calls accepted kept
+one_kept : (F G : Farm) (calls : List Call) (i : ℕ) (call : Call) (answered : Answered) (accepted kept : ℕ) → IsNext F G calls i call answered
+    → is_accepted answered ≡ false → is_kept answered ≡ true → accepted + kept ≡ i → IsCounted F calls accepted kept
     → IsCounted F calls accepted (kept + 1)
-one_kept F G calls i call told accepted kept turn not_new is done was =
+one_kept F G calls i call answered accepted kept turn not_new is done was =
     let there : accepted + (kept + 1) ≡ i + 1 = omega (arith, done) in
     let same : so_far is_accepted F calls (i + 1) ≡ so_far is_accepted F calls i + 0 =
-    one_more is_accepted F G calls i call told turn ∙ ap (λ b. so_far is_accepted F calls i + cond b 1 0) not_new in
+    one_more is_accepted F G calls i call answered turn ∙ ap (λ b. so_far is_accepted F calls i + cond b 1 0) not_new in
     let more : so_far is_kept F calls (i + 1) ≡ so_far is_kept F calls i + 1 =
-    one_more is_kept F G calls i call told turn ∙ ap (λ b. so_far is_kept F calls i + cond b 1 0) is in
+    one_more is_kept F G calls i call answered turn ∙ ap (λ b. so_far is_kept F calls i + cond b 1 0) is in
     let a : accepted ≡ so_far is_accepted F calls i = was.accepted_are ∙ ap (so_far is_accepted F calls) done in
     let k : kept ≡ so_far is_kept F calls i = was.kept_are ∙ ap (so_far is_kept F calls) done in
     let a' : accepted ≡ so_far is_accepted F calls (i + 1) = omega (arith, same, a) in
@@ -101,9 +101,9 @@ pub record GoesOn (F : Farm) (calls : List Call) (i : ℕ) (old new : ImportEnd)
   pub fault : new.fault ≡ old.fault
 
 -- the next call was counted
-pub counts_on : (F G : Farm) (calls : List Call) (i : ℕ) (call : Call) (told : Answered) (old new : ImportEnd) (refusal : Option Refusal)
-    → IsNext F G calls i call told → old.accepted + old.kept ≡ i → IsCounted F calls old.accepted old.kept
-    → refusal ≡ None → Counts told old new refusal → GoesOn F calls (i + 1) old new
+pub counts_on : (F G : Farm) (calls : List Call) (i : ℕ) (call : Call) (answered : Answered) (old new : ImportEnd) (refusal : Option Refusal)
+    → IsNext F G calls i call answered → old.accepted + old.kept ≡ i → IsCounted F calls old.accepted old.kept
+    → refusal ≡ None → Counts answered old new refusal → GoesOn F calls (i + 1) old new
 counts_on F G calls i call (Changed reply) old new refusal turn done was none counts = subst (GoesOn F calls (i + 1) old) (sym counts.0) (record {
   done = omega (arith, done);
   counted = one_accepted F G calls i call (Changed reply) old.accepted old.kept turn refl refl done was;
@@ -119,8 +119,8 @@ counts_on F G calls i call (Repeated reply) old new refusal turn done was none c
 counts_on F G calls i call (Denied code) old new refusal turn done was none counts = absurd (let e = sym none ∙ counts.1 in cc)
 
 -- the next call was refused
-pub counts_out : (told : Answered) (old new : ImportEnd) (given : Option Refusal) (refusal : Refusal)
-    → given ≡ Some refusal → Counts told old new given → (told ≡ Denied refusal.code) × (new ≡ old)
+pub counts_out : (answered : Answered) (old new : ImportEnd) (given : Option Refusal) (refusal : Refusal)
+    → given ≡ Some refusal → Counts answered old new given → (answered ≡ Denied refusal.code) × (new ≡ old)
 counts_out (Changed reply) old new given refusal some counts = absurd (let e = sym some ∙ counts.1 in cc)
 counts_out (Repeated reply) old new given refusal some counts = absurd (let e = sym some ∙ counts.1 in cc)
 counts_out (Denied code) old new given refusal some counts = (ap code_given (sym counts.1 ∙ some), counts.0)
@@ -136,34 +136,34 @@ pub stopped_at : {S : Type 0} (g : Ghosts S) (old mid new : Kept S) (calls : Lis
     → IsNext old.farm.farm mid.farm.farm calls i call (Denied code) → done ≡ i
     → mid.is_open ≡ old.is_open → (Keeps g old → Keeps g mid) → new ≡ mid
     → IsStopped g old new calls done (done + 1) code
-stopped_at g old mid new calls i done call code turn same opened stands rests =
+stopped_at g old mid new calls i done call code turn same opened keeps unchanged =
     subst (λ n. IsStopped g old new calls n (n + 1) code) (sym same) (record {
       next = refl;
       within = omega (arith, turn.low);
       refused = answers_with old.farm.farm mid.farm.farm calls i call (Denied code) turn;
-      reaches = subst (λ k. Reaches g old k (take i calls)) (sym rests) (record { opened = opened; farm = turn.before; stands = stands });
+      reaches = subst (λ k. Reaches g old k (take i calls)) (sym unchanged) (record { opened = opened; farm = turn.before; keeps = keeps });
     })
 
 -- all calls were done
 pub whole_at : {S : Type 0} (g : Ghosts S) (old new : Kept S) (calls : List Call) (i done : ℕ) → length calls ≤ i → done ≡ i → done ≤ length calls
     → new.is_open ≡ old.is_open → new.farm.farm ≡ run old.farm.farm (take i calls) → (Keeps g old → Keeps g new)
     → ImportsAll g old new calls done
-whole_at g old new calls i done far same within opened farm stands = record {
+whole_at g old new calls i done far same within opened farm keeps = record {
   all = omega (arith, far, same, within);
-  reaches = record { opened = opened; farm = farm ∙ ap (run old.farm.farm) (take_all i calls far); stands = stands };
+  reaches = record { opened = opened; farm = farm ∙ ap (run old.farm.farm) (take_all i calls far); keeps = keeps };
 }
 
 -- a refusal leaves the keeper
-pub rests_when_denied : (a : Answer) (code : ℕ) (P : Type 0) → answer_of a ≡ Denied code → IfNoChange a P → P
-rests_when_denied (Answer.Did reply changes) code P denied rests = absurd (cc)
-rests_when_denied (Answer.Kept reply) code P denied rests = rests
-rests_when_denied (Answer.Refused refusal) code P denied rests = rests
+pub unchanged_when_denied : (a : Answer) (code : ℕ) (P : Type 0) → answer_of a ≡ Denied code → IfNoChange a P → P
+unchanged_when_denied (Answer.Did reply changes) code P denied unchanged = absurd (cc)
+unchanged_when_denied (Answer.Kept reply) code P denied unchanged = unchanged
+unchanged_when_denied (Answer.Refused refusal) code P denied unchanged = unchanged
 
--- what the keeper gave then
+-- what the keeper returned then
 abbrev acted : KeepFault → Result Answer KeepFault
 acted fault = Err fault
 
--- the keeper gave a fault at a call
+-- the keeper returned a fault at a call
 pub faulted_at : {S : Type 0} (g : Ghosts S) (old mid new : Kept S) (calls : List Call) (i done : ℕ) (call : Call) (fault : KeepFault)
     → i < length calls → call ≡ get_or calls i call → mid.farm.farm ≡ run old.farm.farm (take i calls) → done ≡ i
     → mid.is_open ≡ old.is_open → (Keeps g old → Keeps g mid) → (old.is_open ≡ false → (i ≡ 0) × (mid ≡ old))
@@ -174,27 +174,27 @@ pub faulted_at : {S : Type 0} (g : Ghosts S) (old mid new : Kept S) (calls : Lis
     → (acted fault ≡ Err KeepFault.Closed → new ≡ mid)
     → IsActFault fault
     → EndsBy g old new calls done None (Some (DeskFault.Keep fault))
-faulted_at g old mid new calls i done call KeepFault.NoMemory low here before same opened stands still memory store closed rests other =
+faulted_at g old mid new calls i done call KeepFault.NoMemory low here before same opened keeps still memory store closed unchanged other =
     let lacks = memory refl in
     subst (λ n. EndsBy g old new calls n None (Some (DeskFault.Keep KeepFault.NoMemory))) (sym same) (record {
       within = low;
       change = next_change old.farm.farm mid.farm.farm calls i call low here before lacks.2;
       is_closed = lacks.0;
-      stands = λ keeps. subst (KeepsFarm g new) before (subst (λ c. KeepsFarm g (record { conn = c; farm = mid.farm; is_open = mid.is_open }) mid.farm.farm) (sym lacks.1) (stands keeps));
+      keeps = λ kept. subst (KeepsFarm g new) before (subst (λ c. KeepsFarm g (record { conn = c; farm = mid.farm; is_open = mid.is_open }) mid.farm.farm) (sym lacks.1) (keeps kept));
     })
-faulted_at g old mid new calls i done call KeepFault.Store low here before same opened stands still memory store closed rests other =
+faulted_at g old mid new calls i done call KeepFault.Store low here before same opened keeps still memory store closed unchanged other =
     let loses = store refl in
     subst (λ n. EndsBy g old new calls n None (Some (DeskFault.Keep KeepFault.Store))) (sym same) (record {
       within = low;
       change = next_change old.farm.farm mid.farm.farm calls i call low here before loses.1;
       is_closed = loses.0;
-      leaves = λ keeps. subst (λ H. KeepsEither g new (run old.farm.farm (take i calls)) H) (farm_after old.farm.farm mid.farm.farm calls i call low here before)
-          (subst (λ H. KeepsEither g new H (step mid.farm.farm call)) before (loses.2 (stands keeps)));
+      leaves = λ kept. subst (λ H. KeepsEither g new (run old.farm.farm (take i calls)) H) (farm_after old.farm.farm mid.farm.farm calls i call low here before)
+          (subst (λ H. KeepsEither g new H (step mid.farm.farm call)) before (loses.2 (keeps kept)));
     })
-faulted_at g old mid new calls i done call KeepFault.Closed low here before same opened stands still memory store closed rests other =
+faulted_at g old mid new calls i done call KeepFault.Closed low here before same opened keeps still memory store closed unchanged other =
     let shut = sym opened ∙ closed.0 refl in
     let was = still shut in
-    record { was_closed = shut; nothing = same ∙ was.0; rests = rests refl ∙ was.1 }
-faulted_at g old mid new calls i done call KeepFault.BadStore low here before same opened stands still memory store closed rests other = absurd other
-faulted_at g old mid new calls i done call KeepFault.OldSchema low here before same opened stands still memory store closed rests other = absurd other
-faulted_at g old mid new calls i done call KeepFault.NewSchema low here before same opened stands still memory store closed rests other = absurd other
+    record { was_closed = shut; nothing = same ∙ was.0; unchanged = unchanged refl ∙ was.1 }
+faulted_at g old mid new calls i done call KeepFault.BadStore low here before same opened keeps still memory store closed unchanged other = absurd other
+faulted_at g old mid new calls i done call KeepFault.OldSchema low here before same opened keeps still memory store closed unchanged other = absurd other
+faulted_at g old mid new calls i done call KeepFault.NewSchema low here before same opened keeps still memory store closed unchanged other = absurd other

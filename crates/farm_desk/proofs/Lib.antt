@@ -1,5 +1,5 @@
 mod AnswerLemmas
-mod HeardLemmas
+mod ReceivedLemmas
 mod ConverseLemmas
 mod ImportLemmas
 mod FileLemmas
@@ -7,6 +7,6 @@ mod UpgradeLemmas
 mod ConversationLemmas
 mod PrefixLemmas
 mod ServingLemmas
-mod VisitLemmas
+mod ConnectionLemmas
 mod LineLemmas
 mod LabLemmas

@@ -6,37 +6,37 @@ use Rattle.std.specs.declared.io.Error.{Error}
 use Rattle.std.proofs.lemmas.List.{append-nil, take-append-drop}
 use Rattle.farm_http.specs.Faults.{WritesPrefix}
 use Rattle.farm_http.specs.declared.fault.WireFault.{WireFault}
-use Rattle.farm_desk.specs.Lines.{GainsPart}
+use Rattle.farm_desk.specs.Lines.{WritesPart}
 
 -- what stays gains nothing
-pub gains_nothing : (held holds : Option (List ℕ)) → Keeps held holds → Appends held holds []
-gains_nothing None holds kept = tt
-gains_nothing (Some xs) None kept = absurd kept
-gains_nothing (Some xs) (Some ys) kept = kept ∙ sym (append-nil xs)
+pub writes_nothing : (held holds : Option (List ℕ)) → Keeps held holds → Appends held holds []
+writes_nothing None holds kept = tt
+writes_nothing (Some xs) None kept = absurd kept
+writes_nothing (Some xs) (Some ys) kept = kept ∙ sym (append-nil xs)
 
 -- nothing is a part of any line
-pub part_none : (held holds : Option (List ℕ)) (line : List ℕ) → Keeps held holds → GainsPart held holds line
-part_none held holds line kept = record { part = []; rest = line; bytes_are = refl; gained = gains_nothing held holds kept }
+pub part_none : (held holds : Option (List ℕ)) (line : List ℕ) → Keeps held holds → WritesPart held holds line
+part_none held holds line kept = record { part = []; rest = line; bytes_are = refl; written = writes_nothing held holds kept }
 
 -- the first bytes of a line are a part of it
-pub part_taken : (held holds : Option (List ℕ)) (line : List ℕ) (n : ℕ) → Appends held holds (take n line) → GainsPart held holds line
-part_taken held holds line n gained = record { part = take n line; rest = drop n line; bytes_are = sym (take-append-drop n line); gained = gained }
+pub part_taken : (held holds : Option (List ℕ)) (line : List ℕ) (n : ℕ) → Appends held holds (take n line) → WritesPart held holds line
+part_taken held holds line n written = record { part = take n line; rest = drop n line; bytes_are = sym (take-append-drop n line); written = written }
 
 -- so is the whole line
-pub part_whole : (held holds : Option (List ℕ)) (line : List ℕ) → Appends held holds line → GainsPart held holds line
-part_whole held holds line gained = record { part = line; rest = []; bytes_are = sym (append-nil line); gained = gained }
+pub part_whole : (held holds : Option (List ℕ)) (line : List ℕ) → Appends held holds line → WritesPart held holds line
+part_whole held holds line written = record { part = line; rest = []; bytes_are = sym (append-nil line); written = written }
 
 -- a call of a writer gains a part
-pub part_written : (held holds : Option (List ℕ)) (line : List ℕ) (result : Result ℕ Error) → WriteAppends held holds result line → GainsPart held holds line
-part_written held holds line (Ok n) gained = part_taken held holds line n gained
+pub part_written : (held holds : Option (List ℕ)) (line : List ℕ) (result : Result ℕ Error) → WriteAppends held holds result line → WritesPart held holds line
+part_written held holds line (Ok n) written = part_taken held holds line n written
 part_written held holds line (Err error) kept = part_none held holds line kept
 
-pub part_of_prefix : (held holds : Option (List ℕ)) (line : List ℕ) → WritesPrefix held holds line → GainsPart held holds line
+pub part_of_prefix : (held holds : Option (List ℕ)) (line : List ℕ) → WritesPrefix held holds line → WritesPart held holds line
 part_of_prefix held holds line prefix = part_taken held holds line prefix.0 prefix.2
 
 -- a write that was tried gains a part
 pub part_tried : {X : Type 0} (held holds : Option (List ℕ)) (line : List ℕ) (result : Result X WireFault)
-    → OnOk result (Appends held holds line) → OnErr result (WritesPrefix held holds line) → GainsPart held holds line
+    → OnOk result (Appends held holds line) → OnErr result (WritesPrefix held holds line) → WritesPart held holds line
 part_tried held holds line (Ok done) whole prefix = part_whole held holds line whole
 part_tried held holds line (Err fault) whole prefix = part_of_prefix held holds line prefix
 

@@ -13,12 +13,12 @@ use Rattle.farm_keep.specs.Kept.{Kept, Keeps, KeepsFarm, KeepsEither}
 use Rattle.farm_keep.specs.declared.fault.KeepFault.{KeepFault}
 use Rattle.farm_wire.specs.Reading.{Denial}
 use Rattle.farm_wire.specs.declared.ask.Ask.{Ask}
-use Rattle.farm_desk.specs.Heard.{Hears}
-use Rattle.farm_desk.specs.Response.{IsResponse, IsResponseTo, RestsOrIsDone, IsCause}
+use Rattle.farm_desk.specs.Received.{Receives}
+use Rattle.farm_desk.specs.Response.{IsResponse, IsResponseTo, UnchangedOrDone, IsCause}
 use Rattle.farm_desk.specs.Imports.{Reaches}
-use Rattle.farm_desk.specs.Conversations.{Desk, Converses, Talk, ConverseInTurn, calls_in, AsksCalls, IsDoneOf, LeavesOpen, LeavesBy, IsClosing, OpenKeepsDone, ClosedKeepsPrefix}
+use Rattle.farm_desk.specs.Conversations.{Desk, Converses, Conversation, ConverseInTurn, calls_in, AsksCalls, IsDoneOf, LeavesOpen, LeavesBy, IsClosing, OpenKeepsDone, ClosedKeepsPrefix}
 use Rattle.farm_desk.specs.declared.fault.DeskFault.{DeskFault}
-use Rattle.farm_desk.proofs.ConversationLemmas.{IsLed, led, reached, resting, reaches_on}
+use Rattle.farm_desk.proofs.ConversationLemmas.{HasResponse, has_response, reached, reaches_nothing, reaches_on}
 
 -- ---- open or closed
 
@@ -39,25 +39,25 @@ asked_closes g old new asked bytes (Err (DeskFault.File fault)) response = absur
 response_closes : {S : Type 0} (g : Ghosts S) (old new : Desk S) (now : ℕ) (bytes : List ℕ) (end : Result ℕ DeskFault)
     → IsResponse g old.keeper new.keeper old.input new.input now bytes end → (new.keeper.is_open ≡ old.keeper.is_open) ⊎ (new.keeper.is_open ≡ false)
 response_closes g old new now bytes end (inl response) = asked_closes g old.keeper new.keeper response.what bytes end response.response
-response_closes g old new now bytes end (inr short) = inl (ap (λ k. k.is_open) short.rests)
+response_closes g old new now bytes end (inr short) = inl (ap (λ k. k.is_open) short.unchanged)
 
 still_closed : {S : Type 0} (g : Ghosts S) (old new : Desk S) (now : ℕ) (end : Result ℕ DeskFault)
     → Converses g old new now end → old.keeper.is_open ≡ false → new.keeper.is_open ≡ false
-still_closed g old new now end h closed = by (led g old new now end h)
+still_closed g old new now end h closed = by (has_response g old new now end h)
   where
     from : (new.keeper.is_open ≡ old.keeper.is_open) ⊎ (new.keeper.is_open ≡ false) → new.keeper.is_open ≡ false
     from (inl same) = same ∙ closed
     from (inr shut) = shut
 
-    by : (new.keeper ≡ old.keeper) ⊎ IsLed g old new now end → new.keeper.is_open ≡ false
-    by (inl rests) = ap (λ k. k.is_open) rests ∙ closed
+    by : (new.keeper ≡ old.keeper) ⊎ HasResponse g old new now end → new.keeper.is_open ≡ false
+    by (inl unchanged) = ap (λ k. k.is_open) unchanged ∙ closed
     by (inr l) = from (response_closes g old new now l.bytes l.response_end l.response)
 
 -- a closed keeper stays closed over all of them
-all_closed : {S : Type 0} (g : Ghosts S) (talks : List Talk) (old new : Desk S) → ConverseInTurn g talks old new → old.keeper.is_open ≡ false → new.keeper.is_open ≡ false
+all_closed : {S : Type 0} (g : Ghosts S) (conversations : List Conversation) (old new : Desk S) → ConverseInTurn g conversations old new → old.keeper.is_open ≡ false → new.keeper.is_open ≡ false
 all_closed g [] old new h closed = ap (λ desk. desk.keeper.is_open) h ∙ closed
-all_closed g (talk ∷ talks) old new h closed =
-    all_closed g talks h.0 new h.2 (still_closed g old h.0 talk.now talk.end h.1 closed)
+all_closed g (conversation ∷ conversations) old new h closed =
+    all_closed g conversations h.0 new h.2 (still_closed g old h.0 conversation.now conversation.end h.1 closed)
 
 -- ---- a conversation that leaves the keeper open
 
@@ -84,82 +84,82 @@ pub record IsPart {S : Type 0} (g : Ghosts S) (old new : Desk S) (now : ℕ) (en
   pub reaches : Reaches g old.keeper new.keeper done
 
 nothing_done : {S : Type 0} (g : Ghosts S) (old new : Desk S) (now : ℕ) (end : Result ℕ DeskFault) → new.keeper ≡ old.keeper → IsPart g old new now end
-nothing_done g old new now end rests =
-    record { done = []; asked = []; asks = inr refl; done_of = none_of end; reaches = resting g old.keeper new.keeper rests }
+nothing_done g old new now end unchanged =
+    record { done = []; asked = []; asks = inr refl; done_of = none_of end; reaches = reaches_nothing g old.keeper new.keeper unchanged }
 
 out_of_memory : {S : Type 0} (g : Ghosts S) (old new : Desk S) (now : ℕ) (end : Result ℕ DeskFault) (asked : Result Ask Denial)
-    → (end ≡ Err DeskFault.NoMemory) ⊎ (end ≡ Err DeskFault.Write) → Hears old.input new.input now asked
-    → new.keeper.is_open ≡ old.keeper.is_open → RestsOrIsDone g old.keeper new.keeper asked → IsPart g old new now end
-out_of_memory g old new now end (Ok (Ask.Call call)) lost hears same (inl rests) =
+    → (end ≡ Err DeskFault.NoMemory) ⊎ (end ≡ Err DeskFault.Write) → Receives old.input new.input now asked
+    → new.keeper.is_open ≡ old.keeper.is_open → UnchangedOrDone g old.keeper new.keeper asked → IsPart g old new now end
+out_of_memory g old new now end (Ok (Ask.Call call)) lost receives same (inl unchanged) =
     record {
       done = [];
       asked = call ∷ [];
-      asks = inl (Ok (Ask.Call call), hears, refl);
+      asks = inl (Ok (Ask.Call call), receives, refl);
       done_of = lost_none end DeskFault.NoMemory (call ∷ []) lost;
-      reaches = resting g old.keeper new.keeper rests;
+      reaches = reaches_nothing g old.keeper new.keeper unchanged;
     }
-out_of_memory g old new now end (Ok (Ask.Call call)) lost hears same (inr d) =
+out_of_memory g old new now end (Ok (Ask.Call call)) lost receives same (inr d) =
     record {
       done = call ∷ [];
       asked = call ∷ [];
-      asks = inl (Ok (Ask.Call call), hears, refl);
+      asks = inl (Ok (Ask.Call call), receives, refl);
       done_of = all_of end (call ∷ []);
-      reaches = record { opened = same; farm = d.farm; stands = d.stands };
+      reaches = record { opened = same; farm = d.farm; keeps = d.keeps };
     }
-out_of_memory g old new now end (Ok view) lost hears same rests = nothing_done g old new now end rests
-out_of_memory g old new now end (Err why) lost hears same rests = nothing_done g old new now end rests
+out_of_memory g old new now end (Ok view) lost receives same unchanged = nothing_done g old new now end unchanged
+out_of_memory g old new now end (Err why) lost receives same unchanged = nothing_done g old new now end unchanged
 
 asked_part : {S : Type 0} (g : Ghosts S) (old new : Desk S) (now : ℕ) (end response_end : Result ℕ DeskFault) (asked : Result Ask Denial) (bytes : List ℕ)
-    → (end ≡ response_end) ⊎ (end ≡ Err DeskFault.Write) → new.keeper.is_open ≡ true → Hears old.input new.input now asked
+    → (end ≡ response_end) ⊎ (end ≡ Err DeskFault.Write) → new.keeper.is_open ≡ true → Receives old.input new.input now asked
     → IsResponseTo g old.keeper new.keeper asked bytes response_end → IsPart g old new now end
-asked_part g old new now end (Ok status) asked bytes same opened hears response =
+asked_part g old new now end (Ok status) asked bytes same opened receives response =
     record {
       done = calls_in asked;
       asked = calls_in asked;
-      asks = inl (asked, hears, refl);
+      asks = inl (asked, receives, refl);
       done_of = all_of end (calls_in asked);
       reaches = (reached g old.keeper new.keeper asked bytes status response).reaches;
     }
-asked_part g old new now end (Err DeskFault.NoMemory) asked bytes same opened hears response =
-    out_of_memory g old new now end asked same hears response.stays_open response.farm
-asked_part g old new now end (Err (DeskFault.Keep fault)) (Ok what) bytes same opened hears response = both_ways new.keeper.is_open opened response.is_closed
-asked_part g old new now end (Err (DeskFault.Keep fault)) (Err why) bytes same opened hears response = absurd response
-asked_part g old new now end (Err DeskFault.Read) asked bytes same opened hears response = absurd response
-asked_part g old new now end (Err DeskFault.Write) asked bytes same opened hears response = absurd response
-asked_part g old new now end (Err (DeskFault.File fault)) asked bytes same opened hears response = absurd response
+asked_part g old new now end (Err DeskFault.NoMemory) asked bytes same opened receives response =
+    out_of_memory g old new now end asked same receives response.stays_open response.farm
+asked_part g old new now end (Err (DeskFault.Keep fault)) (Ok what) bytes same opened receives response = both_ways new.keeper.is_open opened response.is_closed
+asked_part g old new now end (Err (DeskFault.Keep fault)) (Err why) bytes same opened receives response = absurd response
+asked_part g old new now end (Err DeskFault.Read) asked bytes same opened receives response = absurd response
+asked_part g old new now end (Err DeskFault.Write) asked bytes same opened receives response = absurd response
+asked_part g old new now end (Err (DeskFault.File fault)) asked bytes same opened receives response = absurd response
 
 part : {S : Type 0} (g : Ghosts S) (old new : Desk S) (now : ℕ) (end : Result ℕ DeskFault) → new.keeper.is_open ≡ true → Converses g old new now end → IsPart g old new now end
-part g old new now end opened h = by (led g old new now end h)
+part g old new now end opened h = by (has_response g old new now end h)
   where
     response_part : (bytes : List ℕ) (response_end : Result ℕ DeskFault) → (end ≡ response_end) ⊎ (end ≡ Err DeskFault.Write)
         → IsResponse g old.keeper new.keeper old.input new.input now bytes response_end → IsPart g old new now end
-    response_part bytes response_end same (inl response) = asked_part g old new now end response_end response.what bytes same opened response.hears response.response
-    response_part bytes response_end same (inr short) = nothing_done g old new now end short.rests
+    response_part bytes response_end same (inl response) = asked_part g old new now end response_end response.what bytes same opened response.receives response.response
+    response_part bytes response_end same (inr short) = nothing_done g old new now end short.unchanged
 
-    by : (new.keeper ≡ old.keeper) ⊎ IsLed g old new now end → IsPart g old new now end
-    by (inl rests) = nothing_done g old new now end rests
+    by : (new.keeper ≡ old.keeper) ⊎ HasResponse g old new now end → IsPart g old new now end
+    by (inl unchanged) = nothing_done g old new now end unchanged
     by (inr l) = response_part l.bytes l.response_end l.same l.response
 
-leaves_open : {S : Type 0} (g : Ghosts S) (old new : Desk S) (talk : Talk) → new.keeper.is_open ≡ true → (p : IsPart g old new talk.now talk.end) → LeavesOpen g old new talk p.done
-leaves_open g old new talk opened p =
-    record { asked = p.asked; asks = p.asks; done_of = p.done_of; is_open = opened; farm = p.reaches.farm; stands = p.reaches.stands }
+leaves_open : {S : Type 0} (g : Ghosts S) (old new : Desk S) (conversation : Conversation) → new.keeper.is_open ≡ true → (p : IsPart g old new conversation.now conversation.end) → LeavesOpen g old new conversation p.done
+leaves_open g old new conversation opened p =
+    record { asked = p.asked; asks = p.asks; done_of = p.done_of; is_open = opened; farm = p.reaches.farm; keeps = p.reaches.keeps }
 
 -- the end of a list is open only where each place before it is
-was_open : {S : Type 0} (g : Ghosts S) (talks : List Talk) (next new : Desk S) → ConverseInTurn g talks next new → new.keeper.is_open ≡ true → next.keeper.is_open ≡ true
-was_open g talks next new h opened = by next.keeper.is_open refl
+was_open : {S : Type 0} (g : Ghosts S) (conversations : List Conversation) (next new : Desk S) → ConverseInTurn g conversations next new → new.keeper.is_open ≡ true → next.keeper.is_open ≡ true
+was_open g conversations next new h opened = by next.keeper.is_open refl
   where
     by : (b : Bool) → next.keeper.is_open ≡ b → next.keeper.is_open ≡ true
     by true e = e
-    by false e = both_ways new.keeper.is_open opened (all_closed g talks next new h e)
+    by false e = both_ways new.keeper.is_open opened (all_closed g conversations next new h e)
 
 pub open_keeps_done : {S : Type 0} (g : Ghosts S) → OpenKeepsDone g
 open_keeps_done g [] old new opened still h =
-    ([], (h, refl), resting g old.keeper new.keeper (ap (λ desk. desk.keeper) h))
-open_keeps_done g (talk ∷ talks) old new opened still h =
-    let next_open = was_open g talks h.0 new h.2 still in
-    let p = part g old h.0 talk.now talk.end next_open h.1 in
-    let others = open_keeps_done g talks h.0 new next_open still h.2 in
-    (p.done ++ others.0, (h.0, p.done, others.0, leaves_open g old h.0 talk next_open p, others.1, refl), reaches_on g old.keeper h.0.keeper new.keeper p.done others.0 p.reaches others.2)
+    ([], (h, refl), reaches_nothing g old.keeper new.keeper (ap (λ desk. desk.keeper) h))
+open_keeps_done g (conversation ∷ conversations) old new opened still h =
+    let next_open = was_open g conversations h.0 new h.2 still in
+    let p = part g old h.0 conversation.now conversation.end next_open h.1 in
+    let others = open_keeps_done g conversations h.0 new next_open still h.2 in
+    (p.done ++ others.0, (h.0, p.done, others.0, leaves_open g old h.0 conversation next_open p, others.1, refl), reaches_on g old.keeper h.0.keeper new.keeper p.done others.0 p.reaches others.2)
 
 -- ---- a conversation that closes it
 
@@ -171,20 +171,20 @@ pub record IsCut {S : Type 0} (g : Ghosts S) (old new : Desk S) (now : ℕ) (end
   pub closing : IsClosing end
   pub leaves : Keeps g old.keeper → LeavesBy g new.keeper end old.keeper.farm.farm (step old.keeper.farm.farm call)
 
--- a store that stands for a farm leaves no other
+-- a store that represents a farm leaves no other
 keeps_either : {S : Type 0} (g : Ghosts S) (k : Kept S) (F G : Farm) → KeepsFarm g k F → KeepsEither g k F G
 keeps_either g k F G keeps clean db may = inl ((keeps clean).left db may)
 
 cut_by : {S : Type 0} (g : Ghosts S) (old new : Desk S) (now : ℕ) (end : Result ℕ DeskFault) (what : Ask) (fault : KeepFault)
-    → old.keeper.is_open ≡ true → (end ≡ Err (DeskFault.Keep fault)) ⊎ (end ≡ Err DeskFault.Write) → Hears old.input new.input now (Ok what)
+    → old.keeper.is_open ≡ true → (end ≡ Err (DeskFault.Keep fault)) ⊎ (end ≡ Err DeskFault.Write) → Receives old.input new.input now (Ok what)
     → IsCause g old.keeper new.keeper what fault → IsCut g old new now end
-cut_by g old new now end what KeepFault.Closed opened same hears cause = both_ways old.keeper.is_open opened cause.was_closed
-cut_by g old new now end (Ask.Call call) KeepFault.NoMemory opened same hears cause =
+cut_by g old new now end what KeepFault.Closed opened same receives cause = both_ways old.keeper.is_open opened cause.was_closed
+cut_by g old new now end (Ask.Call call) KeepFault.NoMemory opened same receives cause =
     let kept : Keeps g old.keeper → KeepsFarm g new.keeper old.keeper.farm.farm =
     λ keeps. subst (λ conn. StandsFor (state g conn) old.keeper.farm.farm) (sym cause.store) keeps in
     record {
       call = call;
-      asks = inl (Ok (Ask.Call call), hears, refl);
+      asks = inl (Ok (Ask.Call call), receives, refl);
       change = cause.change;
       closing = (elim same as (λ s. IsClosing end) [ inl e ↦ subst (λ r. IsClosing r) (sym e) tt | inr e ↦ subst (λ r. IsClosing r) (sym e) tt ]);
       leaves = λ keeps.
@@ -194,10 +194,10 @@ cut_by g old new now end (Ask.Call call) KeepFault.NoMemory opened same hears ca
                 (keeps_either g new.keeper old.keeper.farm.farm (step old.keeper.farm.farm call) (kept keeps))
           ]);
     }
-cut_by g old new now end (Ask.Call call) KeepFault.Store opened same hears cause =
+cut_by g old new now end (Ask.Call call) KeepFault.Store opened same receives cause =
     record {
       call = call;
-      asks = inl (Ok (Ask.Call call), hears, refl);
+      asks = inl (Ok (Ask.Call call), receives, refl);
       change = cause.change;
       closing = (elim same as (λ s. IsClosing end) [ inl e ↦ subst (λ r. IsClosing r) (sym e) tt | inr e ↦ subst (λ r. IsClosing r) (sym e) tt ]);
       leaves = λ keeps.
@@ -206,39 +206,39 @@ cut_by g old new now end (Ask.Call call) KeepFault.Store opened same hears cause
             | inr e ↦ subst (λ r. LeavesBy g new.keeper r old.keeper.farm.farm (step old.keeper.farm.farm call)) (sym e) (cause.leaves keeps)
           ]);
     }
-cut_by g old new now end what fault opened same hears cause = absurd cause
+cut_by g old new now end what fault opened same receives cause = absurd cause
 
 asked_cut : {S : Type 0} (g : Ghosts S) (old new : Desk S) (now : ℕ) (end response_end : Result ℕ DeskFault) (asked : Result Ask Denial) (bytes : List ℕ)
-    → old.keeper.is_open ≡ true → new.keeper.is_open ≡ false → (end ≡ response_end) ⊎ (end ≡ Err DeskFault.Write) → Hears old.input new.input now asked
+    → old.keeper.is_open ≡ true → new.keeper.is_open ≡ false → (end ≡ response_end) ⊎ (end ≡ Err DeskFault.Write) → Receives old.input new.input now asked
     → IsResponseTo g old.keeper new.keeper asked bytes response_end → IsCut g old new now end
-asked_cut g old new now end (Ok status) asked bytes opened closed same hears response =
+asked_cut g old new now end (Ok status) asked bytes opened closed same receives response =
     both_ways new.keeper.is_open ((reached g old.keeper new.keeper asked bytes status response).reaches.opened ∙ opened) closed
-asked_cut g old new now end (Err DeskFault.NoMemory) asked bytes opened closed same hears response =
+asked_cut g old new now end (Err DeskFault.NoMemory) asked bytes opened closed same receives response =
     both_ways new.keeper.is_open (response.stays_open ∙ opened) closed
-asked_cut g old new now end (Err (DeskFault.Keep fault)) (Ok what) bytes opened closed same hears response = cut_by g old new now end what fault opened same hears response.cause
-asked_cut g old new now end (Err (DeskFault.Keep fault)) (Err why) bytes opened closed same hears response = absurd response
-asked_cut g old new now end (Err DeskFault.Read) asked bytes opened closed same hears response = absurd response
-asked_cut g old new now end (Err DeskFault.Write) asked bytes opened closed same hears response = absurd response
-asked_cut g old new now end (Err (DeskFault.File fault)) asked bytes opened closed same hears response = absurd response
+asked_cut g old new now end (Err (DeskFault.Keep fault)) (Ok what) bytes opened closed same receives response = cut_by g old new now end what fault opened same receives response.cause
+asked_cut g old new now end (Err (DeskFault.Keep fault)) (Err why) bytes opened closed same receives response = absurd response
+asked_cut g old new now end (Err DeskFault.Read) asked bytes opened closed same receives response = absurd response
+asked_cut g old new now end (Err DeskFault.Write) asked bytes opened closed same receives response = absurd response
+asked_cut g old new now end (Err (DeskFault.File fault)) asked bytes opened closed same receives response = absurd response
 
 cut : {S : Type 0} (g : Ghosts S) (old new : Desk S) (now : ℕ) (end : Result ℕ DeskFault) → old.keeper.is_open ≡ true → new.keeper.is_open ≡ false → Converses g old new now end → IsCut g old new now end
-cut g old new now end opened closed h = by (led g old new now end h)
+cut g old new now end opened closed h = by (has_response g old new now end h)
   where
     shut : {A : Type 0} → new.keeper ≡ old.keeper → A
-    shut rests = both_ways new.keeper.is_open (ap (λ k. k.is_open) rests ∙ opened) closed
+    shut unchanged = both_ways new.keeper.is_open (ap (λ k. k.is_open) unchanged ∙ opened) closed
 
     response_cut : (bytes : List ℕ) (response_end : Result ℕ DeskFault) → (end ≡ response_end) ⊎ (end ≡ Err DeskFault.Write)
         → IsResponse g old.keeper new.keeper old.input new.input now bytes response_end → IsCut g old new now end
-    response_cut bytes response_end same (inl response) = asked_cut g old new now end response_end response.what bytes opened closed same response.hears response.response
-    response_cut bytes response_end same (inr short) = shut short.rests
+    response_cut bytes response_end same (inl response) = asked_cut g old new now end response_end response.what bytes opened closed same response.receives response.response
+    response_cut bytes response_end same (inr short) = shut short.unchanged
 
-    by : (new.keeper ≡ old.keeper) ⊎ IsLed g old new now end → IsCut g old new now end
-    by (inl rests) = shut rests
+    by : (new.keeper ≡ old.keeper) ⊎ HasResponse g old new now end → IsCut g old new now end
+    by (inl unchanged) = shut unchanged
     by (inr l) = response_cut l.bytes l.response_end l.same l.response
 
 pub closed_keeps_prefix : {S : Type 0} (g : Ghosts S) → ClosedKeepsPrefix g
-closed_keeps_prefix g talks last old between new opened still closed h ends =
-    let before = open_keeps_done g talks old between opened still h in
+closed_keeps_prefix g conversations last old between new opened still closed h ends =
+    let before = open_keeps_done g conversations old between opened still h in
     let c = cut g between new last.now last.end still closed ends in
     let farm = before.2.farm in
     let more : step between.keeper.farm.farm c.call ≡ run old.keeper.farm.farm (before.0 ++ c.call ∷ []) =
@@ -252,6 +252,6 @@ closed_keeps_prefix g talks last old between new opened still closed h ends =
         closing = c.closing;
         leaves = λ keeps.
             subst (λ G. LeavesBy g new.keeper last.end (run old.keeper.farm.farm before.0) G) more
-            (subst (λ F. LeavesBy g new.keeper last.end F (step between.keeper.farm.farm c.call)) farm (c.leaves (before.2.stands keeps)));
+            (subst (λ F. LeavesBy g new.keeper last.end F (step between.keeper.farm.farm c.call)) farm (c.leaves (before.2.keeps keeps)));
       },
     )

@@ -13,7 +13,7 @@ use Rattle.farm_keep.specs.declared.fault.KeepFault.{KeepFault}
 use Rattle.farm_wire.specs.Reading.{Denial}
 use Rattle.farm_wire.specs.declared.ask.Ask.{Ask}
 use Rattle.farm_desk.specs.Answers.{Answers}
-use Rattle.farm_desk.specs.Response.{Closes, ClosesIfAsked, IsResponse, IsResponseTo, RestsOrIsDone}
+use Rattle.farm_desk.specs.Response.{Closes, ClosesIfAsked, IsResponse, IsResponseTo, UnchangedOrDone}
 use Rattle.farm_desk.specs.Ends.{WritesAnswer}
 use Rattle.farm_desk.specs.Serving.{ServingCloses, PassesOn, ServesClients, ServesUntil}
 use Rattle.farm_desk.specs.declared.fault.DeskFault.{DeskFault}
@@ -26,37 +26,37 @@ serves_none g k max opened = record {
   was_open = opened;
   calls = [];
   few = omega arith;
-  reaches = record { opened = refl; farm = refl; stands = λ keeps. keeps };
+  reaches = record { opened = refl; farm = refl; keeps = λ keeps. keeps };
 }
 
-rests : {S : Type 0} (g : Ghosts S) (old new : Kept S) (max : ℕ) → old.is_open ≡ true → new ≡ old → ServesClients g old new max
-rests g old new max opened same = subst (λ k. ServesClients g old k max) (sym same) (serves_none g old max opened)
+unchanged : {S : Type 0} (g : Ghosts S) (old new : Kept S) (max : ℕ) → old.is_open ≡ true → new ≡ old → ServesClients g old new max
+unchanged g old new max opened same = subst (λ k. ServesClients g old k max) (sym same) (serves_none g old max opened)
 
 -- a call is done
 serves_call : {S : Type 0} (g : Ghosts S) (old new : Kept S) (call : Call) → old.is_open ≡ true → new.is_open ≡ old.is_open
     → new.farm.farm ≡ step old.farm.farm call → (Keeps g old → Keeps g new) → ServesClients g old new 1
-serves_call g old new call opened stays farm stands = record {
+serves_call g old new call opened stays farm keeps = record {
   was_open = opened;
   calls = call ∷ [];
   few = omega arith;
-  reaches = record { opened = stays; farm = farm; stands = stands };
+  reaches = record { opened = stays; farm = farm; keeps = keeps };
 }
 
 answered : {S : Type 0} (g : Ghosts S) (old new : Kept S) (what : Result Ask Denial) (bytes : List ℕ) (status : ℕ)
     → old.is_open ≡ true → Answers g old new what bytes status → ServesClients g old new 1
-answered g old new (Err why) bytes status opened response = rests g old new 1 opened response.rests
+answered g old new (Err why) bytes status opened response = unchanged g old new 1 opened response.unchanged
 answered g old new (Ok (Ask.Call call)) bytes status opened response =
-    serves_call g old new call opened (response.stays_open ∙ sym response.was_open) response.farm response.stands
-answered g old new (Ok (Ask.View view)) bytes status opened response = rests g old new 1 opened response.rests
+    serves_call g old new call opened (response.stays_open ∙ sym response.was_open) response.farm response.keeps
+answered g old new (Ok (Ask.View view)) bytes status opened response = unchanged g old new 1 opened response.unchanged
 
 ran_out : {S : Type 0} (g : Ghosts S) (old new : Kept S) (what : Result Ask Denial)
-    → old.is_open ≡ true → new.is_open ≡ old.is_open → RestsOrIsDone g old new what → ServesClients g old new 1
-ran_out g old new (Err why) opened stays same = rests g old new 1 opened same
-ran_out g old new (Ok (Ask.Call call)) opened stays (inl same) = rests g old new 1 opened same
-ran_out g old new (Ok (Ask.Call call)) opened stays (inr done) = serves_call g old new call opened stays done.farm done.stands
-ran_out g old new (Ok (Ask.View view)) opened stays same = rests g old new 1 opened same
+    → old.is_open ≡ true → new.is_open ≡ old.is_open → UnchangedOrDone g old new what → ServesClients g old new 1
+ran_out g old new (Err why) opened stays same = unchanged g old new 1 opened same
+ran_out g old new (Ok (Ask.Call call)) opened stays (inl same) = unchanged g old new 1 opened same
+ran_out g old new (Ok (Ask.Call call)) opened stays (inr done) = serves_call g old new call opened stays done.farm done.keeps
+ran_out g old new (Ok (Ask.View view)) opened stays same = unchanged g old new 1 opened same
 
--- what the keeper's fault is told as
+-- the keeper's fault as one of a conversation
 abbrev given : KeepFault → Result ℕ DeskFault
 given fault = Err (DeskFault.Keep fault)
 
@@ -93,58 +93,58 @@ closed_if_asked g old new (Ok what) fault bytes response = closed g old new what
 closed_if_asked g old new (Err why) fault bytes response = absurd response
 
 -- the same fault, of whatever there is besides
-retold : {S A : Type 0} (g : Ghosts S) (old new : Kept S) (max : ℕ) (fault : KeepFault) → ServesUntil g old new max (given fault)
-    → (told : Result A DeskFault) → told ≡ Err (DeskFault.Keep fault) → ServesUntil g old new max told
-retold g old new max KeepFault.NoMemory serves told same = subst (ServesUntil g old new max) (sym same) serves
-retold g old new max KeepFault.Store serves told same = subst (ServesUntil g old new max) (sym same) serves
-retold g old new max KeepFault.Closed serves told same = subst (ServesUntil g old new max) (sym same) serves
-retold g old new max KeepFault.BadStore serves told same = absurd serves
-retold g old new max KeepFault.OldSchema serves told same = absurd serves
-retold g old new max KeepFault.NewSchema serves told same = absurd serves
+repeated_answer : {S A : Type 0} (g : Ghosts S) (old new : Kept S) (max : ℕ) (fault : KeepFault) → ServesUntil g old new max (given fault)
+    → (writes : Result A DeskFault) → writes ≡ Err (DeskFault.Keep fault) → ServesUntil g old new max writes
+repeated_answer g old new max KeepFault.NoMemory serves writes same = subst (ServesUntil g old new max) (sym same) serves
+repeated_answer g old new max KeepFault.Store serves writes same = subst (ServesUntil g old new max) (sym same) serves
+repeated_answer g old new max KeepFault.Closed serves writes same = subst (ServesUntil g old new max) (sym same) serves
+repeated_answer g old new max KeepFault.BadStore serves writes same = absurd serves
+repeated_answer g old new max KeepFault.OldSchema serves writes same = absurd serves
+repeated_answer g old new max KeepFault.NewSchema serves writes same = absurd serves
 
-asked : {S A : Type 0} (g : Ghosts S) (old new : Kept S) (what : Result Ask Denial) (bytes : List ℕ) (end : Result ℕ DeskFault) (told : Result A DeskFault)
-    → old.is_open ≡ true → PassesOn end told → IsResponseTo g old new what bytes end → ServesUntil g old new 1 told
+asked : {S A : Type 0} (g : Ghosts S) (old new : Kept S) (what : Result Ask Denial) (bytes : List ℕ) (end : Result ℕ DeskFault) (writes : Result A DeskFault)
+    → old.is_open ≡ true → PassesOn end writes → IsResponseTo g old new what bytes end → ServesUntil g old new 1 writes
 asked g old new what bytes (Ok status) (Ok done) opened passes response = answered g old new what bytes status opened response
 asked g old new what bytes (Ok status) (Err fault) opened passes response = absurd passes
 asked g old new what bytes (Err DeskFault.NoMemory) (Ok done) opened passes response = ran_out g old new what opened response.stays_open response.farm
 asked g old new what bytes (Err DeskFault.NoMemory) (Err fault) opened passes response = absurd passes
-asked g old new what bytes (Err DeskFault.Read) told opened passes response = absurd response
-asked g old new what bytes (Err DeskFault.Write) told opened passes response = absurd response
-asked g old new what bytes (Err (DeskFault.File fault)) told opened passes response = absurd response
-asked g old new what bytes (Err (DeskFault.Keep fault)) told opened passes response =
-    retold g old new 1 fault (closed_if_asked g old new what fault bytes response) told passes
+asked g old new what bytes (Err DeskFault.Read) writes opened passes response = absurd response
+asked g old new what bytes (Err DeskFault.Write) writes opened passes response = absurd response
+asked g old new what bytes (Err (DeskFault.File fault)) writes opened passes response = absurd response
+asked g old new what bytes (Err (DeskFault.Keep fault)) writes opened passes response =
+    repeated_answer g old new 1 fault (closed_if_asked g old new what fault bytes response) writes passes
 
-not_understood : {S A : Type 0} (g : Ghosts S) (old new : Kept S) (end : Result ℕ DeskFault) (told : Result A DeskFault)
-    → old.is_open ≡ true → PassesOn end told → end ≡ Err DeskFault.NoMemory → new ≡ old → ServesUntil g old new 1 told
-not_understood g old new end (Ok done) opened passes short same = rests g old new 1 opened same
+not_understood : {S A : Type 0} (g : Ghosts S) (old new : Kept S) (end : Result ℕ DeskFault) (writes : Result A DeskFault)
+    → old.is_open ≡ true → PassesOn end writes → end ≡ Err DeskFault.NoMemory → new ≡ old → ServesUntil g old new 1 writes
+not_understood g old new end (Ok done) opened passes short same = unchanged g old new 1 opened same
 not_understood {A = A} g old new end (Err fault) opened passes short same =
     absurd (subst (λ e. PassesOn {A = A} e (Err fault)) short passes)
 
-response_serves : {S A : Type 0} (g : Ghosts S) (old new : Kept S) (input rest : Option (List ℕ)) (now : ℕ) (bytes : List ℕ) (end : Result ℕ DeskFault) (told : Result A DeskFault)
-    → old.is_open ≡ true → PassesOn end told → IsResponse g old new input rest now bytes end → ServesUntil g old new 1 told
-response_serves g old new input rest now bytes end told opened passes (inl response) = asked g old new response.what bytes end told opened passes response.response
-response_serves g old new input rest now bytes end told opened passes (inr short) = not_understood g old new end told opened passes short.fault short.rests
+response_serves : {S A : Type 0} (g : Ghosts S) (old new : Kept S) (input rest : Option (List ℕ)) (now : ℕ) (bytes : List ℕ) (end : Result ℕ DeskFault) (writes : Result A DeskFault)
+    → old.is_open ≡ true → PassesOn end writes → IsResponse g old new input rest now bytes end → ServesUntil g old new 1 writes
+response_serves g old new input rest now bytes end writes opened passes (inl response) = asked g old new response.what bytes end writes opened passes response.response
+response_serves g old new input rest now bytes end writes opened passes (inr short) = not_understood g old new end writes opened passes short.fault short.unchanged
 
 -- a conversation, by its end
 pub conversation_serves : {S A : Type 0} (g : Ghosts S) (old new : Kept S) (input rest : Option (List ℕ)) (now : ℕ) (Room : ℕ → Type 0) (failed : _) (held holds : Option (List ℕ))
-    (end : Result ℕ DeskFault) (told : Result A DeskFault)
-    → old.is_open ≡ true → PassesOn end told
+    (end : Result ℕ DeskFault) (writes : Result A DeskFault)
+    → old.is_open ≡ true → PassesOn end writes
     → (end ≢ Err DeskFault.Read → WritesAnswer (IsResponse g old new input rest now) Room failed held holds end)
     → (end ≡ Err DeskFault.Read → new ≡ old)
-    → ServesUntil g old new 1 told
-conversation_serves g old new input rest now Room failed held holds (Err DeskFault.Read) (Ok done) opened passes tells unread =
-    rests g old new 1 opened (unread refl)
-conversation_serves g old new input rest now Room failed held holds (Err DeskFault.Read) (Err fault) opened passes tells unread = absurd passes
-conversation_serves g old new input rest now Room failed held holds (Ok status) told opened passes tells unread =
-    let t = tells (λ e. cc) in response_serves g old new input rest now t.bytes (Ok status) told opened passes t.response
-conversation_serves g old new input rest now Room failed held holds (Err DeskFault.NoMemory) told opened passes tells unread =
-    let t = tells (λ e. cc) in response_serves g old new input rest now t.bytes (Err DeskFault.NoMemory) told opened passes t.response
-conversation_serves g old new input rest now Room failed held holds (Err DeskFault.Write) told opened passes tells unread =
-    let t = tells (λ e. cc) in response_serves g old new input rest now t.bytes (Err DeskFault.Write) told opened passes t.response
-conversation_serves g old new input rest now Room failed held holds (Err (DeskFault.Keep fault)) told opened passes tells unread =
-    let t = tells (λ e. cc) in response_serves g old new input rest now t.bytes (Err (DeskFault.Keep fault)) told opened passes t.response
-conversation_serves g old new input rest now Room failed held holds (Err (DeskFault.File fault)) told opened passes tells unread =
-    let t = tells (λ e. cc) in response_serves g old new input rest now t.bytes (Err (DeskFault.File fault)) told opened passes t.response
+    → ServesUntil g old new 1 writes
+conversation_serves g old new input rest now Room failed held holds (Err DeskFault.Read) (Ok done) opened passes prints unread =
+    unchanged g old new 1 opened (unread refl)
+conversation_serves g old new input rest now Room failed held holds (Err DeskFault.Read) (Err fault) opened passes prints unread = absurd passes
+conversation_serves g old new input rest now Room failed held holds (Ok status) writes opened passes prints unread =
+    let t = prints (λ e. cc) in response_serves g old new input rest now t.bytes (Ok status) writes opened passes t.response
+conversation_serves g old new input rest now Room failed held holds (Err DeskFault.NoMemory) writes opened passes prints unread =
+    let t = prints (λ e. cc) in response_serves g old new input rest now t.bytes (Err DeskFault.NoMemory) writes opened passes t.response
+conversation_serves g old new input rest now Room failed held holds (Err DeskFault.Write) writes opened passes prints unread =
+    let t = prints (λ e. cc) in response_serves g old new input rest now t.bytes (Err DeskFault.Write) writes opened passes t.response
+conversation_serves g old new input rest now Room failed held holds (Err (DeskFault.Keep fault)) writes opened passes prints unread =
+    let t = prints (λ e. cc) in response_serves g old new input rest now t.bytes (Err (DeskFault.Keep fault)) writes opened passes t.response
+conversation_serves g old new input rest now Room failed held holds (Err (DeskFault.File fault)) writes opened passes prints unread =
+    let t = prints (λ e. cc) in response_serves g old new input rest now t.bytes (Err (DeskFault.File fault)) writes opened passes t.response
 
 -- ---- one connection after others
 
@@ -162,7 +162,7 @@ closes_on g old mid new n Leaves Leaves' first last further = record {
   call = last.call;
   few = omega (arith, first.few, last.few, length-append first.calls last.calls);
   change = subst (λ F. IsChange (answer F last.call)) (run_on old.farm.farm mid.farm.farm first.calls last.calls first.reaches.farm) last.change;
-  leaves = λ keeps. further last.calls last.call (last.leaves (first.reaches.stands keeps));
+  leaves = λ keeps. further last.calls last.call (last.leaves (first.reaches.keeps keeps));
 }
 
 -- one more connection is served
@@ -175,7 +175,7 @@ serves_next g old mid new n (Ok done) first last = record {
   reaches = record {
     opened = last.reaches.opened ∙ first.reaches.opened;
     farm = last.reaches.farm ∙ run_on old.farm.farm mid.farm.farm first.calls last.calls first.reaches.farm;
-    stands = λ keeps. last.reaches.stands (first.reaches.stands keeps);
+    keeps = λ keeps. last.reaches.keeps (first.reaches.keeps keeps);
   };
 }
 serves_next g old mid new n (Err (DeskFault.Keep KeepFault.NoMemory)) first last =

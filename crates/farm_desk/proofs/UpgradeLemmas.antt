@@ -49,7 +49,7 @@ denies_raise g conn KeepFault.Closed standing bad newer = tt
 
 -- ---- over files
 
--- a connection that was raised stands for the farm of its files
+-- a connection that was raised represents the farm of its files
 pub raises_farm : {D : Type 0} {g : Ghosts D} (image : Image) (conn new : Held (FileStore D g))
     → RaisesTables over_files conn new → ShowsFiles image conn → RaisesFarm image new
 raises_farm image conn new made shows = record {

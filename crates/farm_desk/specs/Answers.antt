@@ -24,12 +24,12 @@ use Rattle.farm_wire.specs.declared.answers.Out.{Out}
 abbrev pub refusal : ℕ → Out
 refusal code = Out.Refused (record { code = code })
 
--- what a denied request is told
+-- what a denied request is answered
 abbrev pub out_of_denial : Denial → Out
 out_of_denial (refused code) = refusal code
 out_of_denial (other_methods allowed) = Out.Method allowed
 
--- what a caller is told of the machine's answer to a command of that kind
+-- the machine's answer to a command of that kind, as it is shown to a caller
 abbrev pub out_of_answer : ℕ → Answered → Out
 out_of_answer kind (Changed reply) = Out.Reply kind reply
 out_of_answer kind (Repeated reply) = Out.Reply kind reply
@@ -37,24 +37,24 @@ out_of_answer kind (Denied code) = refusal code
 
 -- the answer lists these rows
 abbrev pub ListsTypes : List TypeRow → Out → Type 0
-ListsTypes rows (Out.Types lent) = lent.now ≡ rows
+ListsTypes rows (Out.Types borrowed) = borrowed.now ≡ rows
 ListsTypes rows out = ⊥
 
 abbrev pub ListsBoards : List BoardRow → Out → Type 0
-ListsBoards rows (Out.Boards lent) = lent.now ≡ rows
+ListsBoards rows (Out.Boards borrowed) = borrowed.now ≡ rows
 ListsBoards rows out = ⊥
 
 abbrev pub ListsReservations : List ResRow → Out → Type 0
-ListsReservations rows (Out.Reservations lent) = lent.now ≡ rows
+ListsReservations rows (Out.Reservations borrowed) = borrowed.now ≡ rows
 ListsReservations rows out = ⊥
 
 abbrev pub ListsClaims : List Claim → Out → Type 0
-ListsClaims claims (Out.Queue lent) = lent.now ≡ claims
+ListsClaims claims (Out.Queue borrowed) = borrowed.now ≡ claims
 ListsClaims claims out = ⊥
 
--- the answer shows the job, or says that there is none
+-- the answer shows the job, or that there is none
 abbrev pub ShowsJob : Option JobRow → Out → Type 0
-ShowsJob (Some job) (Out.Job lent) = lent.now ≡ job
+ShowsJob (Some job) (Out.Job borrowed) = borrowed.now ≡ job
 ShowsJob (Some job) out = ⊥
 ShowsJob None out = out ≡ refusal no_job
 
@@ -76,15 +76,15 @@ http_status out = ok_status
 -- ---- in bytes
 
 -- these are the bytes of the answer, under this status
-pub record Says (out : Out) (bytes : List ℕ) (status : ℕ) : Type 0 where
+pub record Encodes (out : Out) (bytes : List ℕ) (status : ℕ) : Type 0 where
   pub bytes_are : bytes ≡ reply_bytes out
   pub status_is : status ≡ http_status out
 
 -- the request is denied, and the keeper stays as it was
 pub record AnswersRefusal {S : Type 0} (old new : Kept S) (why : Denial) (bytes : List ℕ) (status : ℕ)
     : Type 0 where
-  pub says : Says (out_of_denial why) bytes status
-  pub rests : new ≡ old
+  pub encodes : Encodes (out_of_denial why) bytes status
+  pub unchanged : new ≡ old
 
 -- the call is done: the answer is the machine's, the farm is the machine's, and the store stands
 -- for it
@@ -92,9 +92,9 @@ pub record Does {S : Type 0} (g : Ghosts S) (old new : Kept S) (call : Call) (by
     (status : ℕ) : Type 0 where
   pub was_open : old.is_open ≡ true
   pub stays_open : new.is_open ≡ true
-  pub says : Says (out_of_answer (kind_of call.cmd) (answer old.farm.farm call)) bytes status
+  pub encodes : Encodes (out_of_answer (kind_of call.cmd) (answer old.farm.farm call)) bytes status
   pub farm : new.farm.farm ≡ step old.farm.farm call
-  pub stands : Keeps g old → Keeps g new
+  pub keeps : Keeps g old → Keeps g new
 
 -- the view is shown, and the keeper stays as it was
 pub record Shows {S : Type 0} (old new : Kept S) (view : View) (bytes : List ℕ) (status : ℕ)
@@ -102,8 +102,8 @@ pub record Shows {S : Type 0} (old new : Kept S) (view : View) (bytes : List ℕ
   pub was_open : old.is_open ≡ true
   pub out : Out
   pub shows : IsView view old.farm.farm out
-  pub says : Says out bytes status
-  pub rests : new ≡ old
+  pub encodes : Encodes out bytes status
+  pub unchanged : new ≡ old
 
 -- what was asked is answered
 abbrev pub Answers : {S : Type 0} → Ghosts S → Kept S → Kept S → Result Ask Denial → List ℕ → ℕ

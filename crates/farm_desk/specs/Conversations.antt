@@ -15,10 +15,10 @@ use Rattle.farm_keep.specs.declared.fault.KeepFault.{KeepFault}
 use Rattle.farm_wire.specs.Reading.{Denial}
 use Rattle.farm_wire.specs.declared.ask.Ask.{Ask}
 use Rattle.farm_wire.specs.declared.answers.Out.{Out}
-use Rattle.farm_desk.specs.Heard.{Asks, Hears}
-use Rattle.farm_desk.specs.Answers.{Says, IsView, out_of_denial, out_of_answer}
+use Rattle.farm_desk.specs.Received.{Asks, Receives}
+use Rattle.farm_desk.specs.Answers.{Encodes, IsView, out_of_denial, out_of_answer}
 use Rattle.farm_desk.specs.Response.{IsResponse}
-use Rattle.farm_desk.specs.Ends.{IsAnswered, IsUnwritten, IsUnread, IsToldBy, HasNoRoom}
+use Rattle.farm_desk.specs.Ends.{IsAnswered, IsUnwritten, IsUnread, EndsWritten, HasNoRoom}
 use Rattle.farm_desk.specs.Faults.{ended_order}
 use Rattle.farm_desk.specs.Imports.{Reaches}
 use Rattle.farm_desk.specs.declared.fault.DeskFault.{DeskFault}
@@ -26,7 +26,7 @@ use Rattle.farm_desk.specs.declared.orders.End.{End}
 
 -- ---- one conversation, and several in a row
 
--- what a conversation changes: a keeper, what is left of an input, and what stands written
+-- what a conversation changes: a keeper, what is left of an input, and what an output holds
 pub record Desk (S : Type 0) : Type 0 where
   pub keeper : Kept S
   pub input : Option (List ℕ)
@@ -35,7 +35,7 @@ pub record Desk (S : Type 0) : Type 0 where
 -- a conversation at this moment ends so
 pub record Converses {S : Type 0} (g : Ghosts S) (old new : Desk S) (now : ℕ)
     (end : Result ℕ DeskFault) : Type 0 where
-  pub answered : IsToldBy end
+  pub answered : EndsWritten end
       → IsAnswered (IsResponse g old.keeper new.keeper old.input new.input now) old.output new.output end
   pub unwritten : end ≡ Err DeskFault.Write
       → IsUnwritten (IsResponse g old.keeper new.keeper old.input new.input now) old.output new.output
@@ -43,9 +43,9 @@ pub record Converses {S : Type 0} (g : Ghosts S) (old new : Desk S) (now : ℕ)
 
 -- with a reader that never fails a conversation doesn't end as unread, and with a writer that has
 -- room for the answer that is due it doesn't end as unwritten
-pub record IsHeardOut {S : Type 0} (g : Ghosts S) (old new : Desk S) (now : ℕ) (Sure : Type 0)
+pub record IsComplete {S : Type 0} (g : Ghosts S) (old new : Desk S) (now : ℕ) (Sure : Type 0)
     (Room : ℕ → Type 0) (end : Result ℕ DeskFault) : Type 0 where
-  pub heard : Sure → end ≢ Err DeskFault.Read
+  pub received : Sure → end ≢ Err DeskFault.Read
   pub answered : end ≡ Err DeskFault.Write
       → HasNoRoom (IsResponse g old.keeper new.keeper old.input new.input now) Room
 
@@ -54,30 +54,31 @@ pub record ConversesOnce {S : Type 0} (g : Ghosts S) (old new : Desk S) (now : �
     (Room : ℕ → Type 0) : Type 0 where
   pub end : Result ℕ DeskFault
   pub converses : Converses g old new now end
-  pub heard_out : IsHeardOut g old new now Sure Room end
+  pub complete : IsComplete g old new now Sure Room end
 
 -- an order that is one conversation at this moment: it ends as the conversation does
 pub record AnswersOne {S : Type 0} (g : Ghosts S) (old new : Desk S) (now : ℕ) (Sure : Type 0)
     (Room : ℕ → Type 0) (result : Result End DeskFault) : Type 0 where
   pub end : Result ℕ DeskFault
   pub converses : Converses g old new now end
-  pub heard_out : IsHeardOut g old new now Sure Room end
+  pub complete : IsComplete g old new now Sure Room end
   pub ends : result ≡ ended_order end
 
 -- the moment of a conversation, and how it ends
-pub record Talk : Type 0 where
+pub record Conversation : Type 0 where
   pub now : ℕ
   pub end : Result ℕ DeskFault
 
 -- each conversation begins where the one before it ended
-abbrev pub ConverseInTurn : {S : Type 0} → Ghosts S → List Talk → Desk S → Desk S → Type 0
+abbrev pub ConverseInTurn : {S : Type 0} → Ghosts S → List Conversation → Desk S → Desk S → Type 0
 ConverseInTurn {S} g [] old new = new ≡ old
-ConverseInTurn {S} g (talk ∷ talks) old new =
-    (next : Desk S) × Converses g old next talk.now talk.end × ConverseInTurn g talks next new
+ConverseInTurn {S} g (conversation ∷ conversations) old new =
+    (next : Desk S) × Converses g old next conversation.now conversation.end
+    × ConverseInTurn g conversations next new
 
 -- those of the first list lead to a desk, and those of the second list on from it
-abbrev pub ConverseApart : {S : Type 0} → Ghosts S → List Talk → List Talk → Desk S → Desk S
-    → Type 0
+abbrev pub ConverseApart : {S : Type 0} → Ghosts S → List Conversation → List Conversation → Desk S
+    → Desk S → Type 0
 ConverseApart {S} g first second old new =
     (between : Desk S) × ConverseInTurn g first old between × ConverseInTurn g second between new
 
@@ -88,10 +89,10 @@ desk keeper input output = record { keeper = keeper; input = input; output = out
 -- one conversation at each of these moments, and each is answered
 pub record AnswersAll {S : Type 0} (g : Ghosts S) (old new : Desk S) (moments : List ℕ)
     : Type 0 where
-  pub talks : List Talk
-  pub at_moments : map (λ talk. talk.now) talks ≡ moments
-  pub answered : AllByRecursion (λ talk. IsOk talk.end) talks
-  pub in_turn : ConverseInTurn g talks old new
+  pub conversations : List Conversation
+  pub at_moments : map (λ conversation. conversation.now) conversations ≡ moments
+  pub answered : AllByRecursion (λ conversation. IsOk conversation.end) conversations
+  pub in_turn : ConverseInTurn g conversations old new
 
 -- the conversations at the first moments are answered, and the next ends with this fault
 pub record StopsAt {S : Type 0} (g : Ghosts S) (old new : Desk S) (moments : List ℕ)
@@ -106,18 +107,18 @@ pub record StopsAt {S : Type 0} (g : Ghosts S) (old new : Desk S) (moments : Lis
 
 -- ---- where each of them is answered
 
--- a request and its answer: when it came, its bytes, what they ask, what is told, the bytes of
+-- a request and its answer: when it came, its bytes, what they ask, what is answered, the bytes of
 -- that, and their status
 pub record Exchange : Type 0 where
   pub now : ℕ
   pub request : List ℕ
   pub asked : Result Ask Denial
-  pub told : Out
+  pub out : Out
   pub answer : List ℕ
   pub status : ℕ
 
-abbrev pub talk_of : Exchange → Talk
-talk_of x = record { now = x.now; end = Ok x.status }
+abbrev pub conversation_of : Exchange → Conversation
+conversation_of x = record { now = x.now; end = Ok x.status }
 
 -- the call that is asked, if it is one
 abbrev pub calls_in : Result Ask Denial → List Call
@@ -128,47 +129,48 @@ calls_in asked = []
 abbrev pub calls_of : List Exchange → List Call
 calls_of exchanges = flat_map (λ x. calls_in x.asked) exchanges
 
--- what the machine says of that farm to what is asked
-abbrev pub MachineSays : Farm → Result Ask Denial → Out → Type 0
-MachineSays F (Err why) out = out ≡ out_of_denial why
-MachineSays F (Ok (Ask.Call call)) out = out ≡ out_of_answer (kind_of call.cmd) (answer F call)
-MachineSays F (Ok (Ask.View view)) out = IsView view F out
+-- the machine's answer of that farm to what is asked
+abbrev pub IsMachineAnswer : Farm → Result Ask Denial → Out → Type 0
+IsMachineAnswer F (Err why) out = out ≡ out_of_denial why
+IsMachineAnswer F (Ok (Ask.Call call)) out = out ≡ out_of_answer (kind_of call.cmd) (answer F call)
+IsMachineAnswer F (Ok (Ask.View view)) out = IsView view F out
 
--- each is told what the machine says of the farm after the calls before it
-abbrev pub AreTold : Farm → List Exchange → Type 0
-AreTold F [] = Unit {0}
-AreTold F (x ∷ xs) =
-    MachineSays F x.asked x.told × Says x.told x.answer x.status
-    × AreTold (run F (calls_in x.asked)) xs
+-- each has the machine's answer of the farm after the calls before it
+abbrev pub AreAnswered : Farm → List Exchange → Type 0
+AreAnswered F [] = Unit {0}
+AreAnswered F (x ∷ xs) =
+    IsMachineAnswer F x.asked x.out × Encodes x.out x.answer x.status
+    × AreAnswered (run F (calls_in x.asked)) xs
 
 -- the requests stand at the front of the input, one behind another, and each asks what is said of
 -- it at its moment
-abbrev pub AreHeard : List ℕ → List Exchange → Type 0
-AreHeard input [] = Unit {0}
-AreHeard input (x ∷ xs) =
+abbrev pub AreReceived : List ℕ → List Exchange → Type 0
+AreReceived input [] = Unit {0}
+AreReceived input (x ∷ xs) =
     (rest : List ℕ) × (input ≡ x.request ++ rest) × Asks x.request (x.request ≡ input) x.now x.asked
-    × AreHeard rest xs
+    × AreReceived rest xs
 
 -- the conversations are these exchanges: the requests left the input and the answers were written,
 -- in order; each is the machine's at its place; the keeper has the farm after the calls that were
 -- asked, and its store keeps that farm
-pub record ActAsRun {S : Type 0} (g : Ghosts S) (talks : List Talk) (old new : Desk S)
+pub record ActAsRun {S : Type 0} (g : Ghosts S) (conversations : List Conversation) (old new : Desk S)
     (input held : List ℕ) (exchanges : List Exchange) : Type 0 where
   pub rest : List ℕ
-  pub each : map talk_of exchanges ≡ talks
+  pub each : map conversation_of exchanges ≡ conversations
   pub left : new.input ≡ Some rest
   pub taken : input ≡ flat_map (λ x. x.request) exchanges ++ rest
-  pub heard : AreHeard input exchanges
-  pub told : AreTold old.keeper.farm.farm exchanges
+  pub received : AreReceived input exchanges
+  pub answers : AreAnswered old.keeper.farm.farm exchanges
   pub written : new.output ≡ Some (held ++ flat_map (λ x. x.answer) exchanges)
   pub reaches : Reaches g old.keeper new.keeper (calls_of exchanges)
 
 -- answered conversations over a known input and a known output are one run of the machine
 abbrev pub AnsweredActAsRun : {S : Type 0} → Ghosts S → Type 0
-AnsweredActAsRun {S} g = (talks : List Talk) (old new : Desk S) (input held : List ℕ)
-    → old.input ≡ Some input → old.output ≡ Some held → AllByRecursion (λ talk. IsOk talk.end) talks
-    → ConverseInTurn g talks old new
-    → (exchanges : List Exchange) × ActAsRun g talks old new input held exchanges
+AnsweredActAsRun {S} g = (conversations : List Conversation) (old new : Desk S) (input held : List ℕ)
+    → old.input ≡ Some input → old.output ≡ Some held
+    → AllByRecursion (λ conversation. IsOk conversation.end) conversations
+    → ConverseInTurn g conversations old new
+    → (exchanges : List Exchange) × ActAsRun g conversations old new input held exchanges
 
 -- ---- a request that is sent again
 
@@ -176,7 +178,7 @@ AnsweredActAsRun {S} g = (talks : List Talk) (old new : Desk S) (input held : Li
 -- of them is accepted
 pub record IsSentAgain (F : Farm) (before between after : List Exchange) (first second : Exchange)
     (call repeated : Call) (key : List ℕ) (reply : Reply) : Type 0 where
-  pub told : AreTold F (before ++ first ∷ (between ++ second ∷ after))
+  pub answers : AreAnswered F (before ++ first ∷ (between ++ second ∷ after))
   pub asks : first.asked ≡ Ok (Ask.Call call)
   pub asks_again : second.asked ≡ Ok (Ask.Call repeated)
   pub keyed : call.key ≡ Some key
@@ -184,19 +186,19 @@ pub record IsSentAgain (F : Farm) (before between after : List Exchange) (first 
   pub same_caller : repeated.caller ≡ call.caller
   pub accepted : answer (run F (calls_of before)) call ≡ Changed reply
 
--- the second is told the kept reply, or is refused for its key or its moment
-abbrev pub IsToldAgain : Type 0
-IsToldAgain = (F : Farm) (before between after : List Exchange) (first second : Exchange)
+-- the second gets the kept reply, or is refused for its key or its moment
+abbrev pub IsAnsweredAgain : Type 0
+IsAnsweredAgain = (F : Farm) (before between after : List Exchange) (first second : Exchange)
     (call repeated : Call) (key : List ℕ) (reply : Reply)
     → IsSentAgain F before between after first second call repeated key reply
-    → second.told ≡ out_of_answer (kind_of repeated.cmd) (answer_again call reply repeated)
+    → second.out ≡ out_of_answer (kind_of repeated.cmd) (answer_again call reply repeated)
 
 -- ---- however they end
 
 -- the bytes that left the reader ask these calls, or nothing was understood
 abbrev pub AsksCalls : Option (List ℕ) → Option (List ℕ) → ℕ → List Call → Type 0
 AsksCalls input rest now calls =
-    ((asked : Result Ask Denial) × Hears input rest now asked × (calls ≡ calls_in asked))
+    ((asked : Result Ask Denial) × Receives input rest now asked × (calls ≡ calls_in asked))
     ⊎ (calls ≡ [])
 
 -- a call that was answered is done; one whose answer was not is done or not
@@ -205,21 +207,22 @@ IsDoneOf (Ok status) asked done = done ≡ asked
 IsDoneOf (Err fault) asked done = (done ≡ []) ⊎ (done ≡ asked)
 
 -- a conversation does these calls and leaves the keeper open
-pub record LeavesOpen {S : Type 0} (g : Ghosts S) (old new : Desk S) (talk : Talk)
+pub record LeavesOpen {S : Type 0} (g : Ghosts S) (old new : Desk S) (conversation : Conversation)
     (done : List Call) : Type 0 where
   pub asked : List Call
-  pub asks : AsksCalls old.input new.input talk.now asked
-  pub done_of : IsDoneOf talk.end asked done
+  pub asks : AsksCalls old.input new.input conversation.now asked
+  pub done_of : IsDoneOf conversation.end asked done
   pub is_open : new.keeper.is_open ≡ true
   pub farm : new.keeper.farm.farm ≡ run old.keeper.farm.farm done
-  pub stands : Keeps g old.keeper → Keeps g new.keeper
+  pub keeps : Keeps g old.keeper → Keeps g new.keeper
 
 -- one after another they do these calls and leave it open
-abbrev pub LeaveOpen : {S : Type 0} → Ghosts S → List Talk → Desk S → Desk S → List Call → Type 0
+abbrev pub LeaveOpen : {S : Type 0} → Ghosts S → List Conversation → Desk S → Desk S → List Call
+    → Type 0
 LeaveOpen {S} g [] old new done = (new ≡ old) × (done ≡ [])
-LeaveOpen {S} g (talk ∷ talks) old new done =
+LeaveOpen {S} g (conversation ∷ conversations) old new done =
     (next : Desk S) × (first : List Call) × (others : List Call)
-    × LeavesOpen g old next talk first × LeaveOpen g talks next new others
+    × LeavesOpen g old next conversation first × LeaveOpen g conversations next new others
     × (done ≡ first ++ others)
 
 -- a stop then leaves the farm before the call or, not after want of memory, the one after it
@@ -237,27 +240,29 @@ IsClosing (Err DeskFault.Write) = Unit {0}
 IsClosing end = ⊥
 
 -- after these calls were done, a conversation closes the keeper over one call more, a change
-pub record ClosesAfter {S : Type 0} (g : Ghosts S) (start : Kept S) (old new : Desk S) (talk : Talk)
-    (done : List Call) : Type 0 where
+pub record ClosesAfter {S : Type 0} (g : Ghosts S) (start : Kept S) (old new : Desk S)
+    (conversation : Conversation) (done : List Call) : Type 0 where
   pub call : Call
-  pub asks : AsksCalls old.input new.input talk.now (call ∷ [])
+  pub asks : AsksCalls old.input new.input conversation.now (call ∷ [])
   pub change : IsChange (answer (run start.farm.farm done) call)
-  pub closing : IsClosing talk.end
-  pub leaves : Keeps g start → LeavesBy g new.keeper talk.end (run start.farm.farm done)
+  pub closing : IsClosing conversation.end
+  pub leaves : Keeps g start → LeavesBy g new.keeper conversation.end (run start.farm.farm done)
       (run start.farm.farm (done ++ call ∷ []))
 
 -- while the keeper stays open, it has the farm after the calls that were done, and its store keeps
 -- that farm
 abbrev pub OpenKeepsDone : {S : Type 0} → Ghosts S → Type 0
-OpenKeepsDone {S} g = (talks : List Talk) (old new : Desk S)
-    → old.keeper.is_open ≡ true → new.keeper.is_open ≡ true → ConverseInTurn g talks old new
-    → (done : List Call) × LeaveOpen g talks old new done × Reaches g old.keeper new.keeper done
+OpenKeepsDone {S} g = (conversations : List Conversation) (old new : Desk S)
+    → old.keeper.is_open ≡ true → new.keeper.is_open ≡ true → ConverseInTurn g conversations old new
+    → (done : List Call) × LeaveOpen g conversations old new done
+    × Reaches g old.keeper new.keeper done
 
 -- where one more conversation closes it, a stop leaves the farm after the calls that were done, or
 -- after one call more
 abbrev pub ClosedKeepsPrefix : {S : Type 0} → Ghosts S → Type 0
-ClosedKeepsPrefix {S} g = (talks : List Talk) (last : Talk) (old between new : Desk S)
+ClosedKeepsPrefix {S} g =
+    (conversations : List Conversation) (last : Conversation) (old between new : Desk S)
     → old.keeper.is_open ≡ true → between.keeper.is_open ≡ true → new.keeper.is_open ≡ false
-    → ConverseInTurn g talks old between → Converses g between new last.now last.end
-    → (done : List Call) × LeaveOpen g talks old between done
+    → ConverseInTurn g conversations old between → Converses g between new last.now last.end
+    → (done : List Call) × LeaveOpen g conversations old between done
     × ClosesAfter g old.keeper between new last done

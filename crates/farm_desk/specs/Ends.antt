@@ -22,16 +22,16 @@ pub record IsUnwritten (Response : List ℕ → Result ℕ DeskFault → Type 0)
 
 -- a writer that has room for so many bytes gained all of the bytes, or where it failed a part of
 -- them, for want of room
-abbrev pub Gains : (ℕ → Type 0) → Bool → Option (List ℕ) → Option (List ℕ) → List ℕ → Type 0
-Gains Room false held holds bytes = Appends held holds bytes
-Gains Room true held holds bytes = WritesPrefix held holds bytes × (¬ Room (length bytes))
+abbrev pub Writes : (ℕ → Type 0) → Bool → Option (List ℕ) → Option (List ℕ) → List ℕ → Type 0
+Writes Room false held holds bytes = Appends held holds bytes
+Writes Room true held holds bytes = WritesPrefix held holds bytes × (¬ Room (length bytes))
 
 -- the writer gained the answer that was due, or where it failed a part of it
 pub record WritesAnswer (Response : List ℕ → Result ℕ DeskFault → Type 0) (Room : ℕ → Type 0)
     (failed : Bool) (held holds : Option (List ℕ)) (end : Result ℕ DeskFault) : Type 0 where
   pub bytes : List ℕ
   pub response : Response bytes end
-  pub written : Gains Room failed held holds bytes
+  pub written : Writes Room failed held holds bytes
 
 -- the writer had no room for the answer that was due
 pub record HasNoRoom (Response : List ℕ → Result ℕ DeskFault → Type 0) (Room : ℕ → Type 0)
@@ -41,13 +41,13 @@ pub record HasNoRoom (Response : List ℕ → Result ℕ DeskFault → Type 0) (
   pub response : Response bytes end
   pub no_room : ¬ Room (length bytes)
 
--- the reader gave no request: nothing is written, and the keeper stays as it was
+-- the reader returned no request: nothing is written, and the keeper stays as it was
 pub record IsUnread {S : Type 0} (old new : Kept S) (held holds : Option (List ℕ)) : Type 0 where
-  pub silent : Keeps held holds
-  pub rests : new ≡ old
+  pub nothing_written : Keeps held holds
+  pub unchanged : new ≡ old
 
 -- with this end the answer was written
-abbrev pub IsToldBy : Result ℕ DeskFault → Type 0
-IsToldBy (Err DeskFault.Read) = ⊥
-IsToldBy (Err DeskFault.Write) = ⊥
-IsToldBy end = Unit {0}
+abbrev pub EndsWritten : Result ℕ DeskFault → Type 0
+EndsWritten (Err DeskFault.Read) = ⊥
+EndsWritten (Err DeskFault.Write) = ⊥
+EndsWritten end = Unit {0}

@@ -24,7 +24,7 @@ fault_number (DeskFault.File fault) = code_of fault
 abbrev pub done : ℕ
 done = 0
 
--- the words give no order
+-- the words name no order
 abbrev pub wrong_words : ℕ
 wrong_words = 2
 
@@ -37,14 +37,14 @@ abbrev pub failed : ℕ
 failed = 4
 
 -- there was no memory
-abbrev pub no_room : ℕ
-no_room = 5
+abbrev pub out_of_memory : ℕ
+out_of_memory = 5
 
 -- want of memory has a status of its own, and so has a file that is refused
 abbrev pub exit_status : DeskFault → ℕ
-exit_status DeskFault.NoMemory = no_room
-exit_status (DeskFault.Keep KeepFault.NoMemory) = no_room
-exit_status (DeskFault.File FileFault.NoMemory) = no_room
+exit_status DeskFault.NoMemory = out_of_memory
+exit_status (DeskFault.Keep KeepFault.NoMemory) = out_of_memory
+exit_status (DeskFault.File FileFault.NoMemory) = out_of_memory
 exit_status (DeskFault.File fault) = refused
 exit_status fault = failed
 

@@ -31,7 +31,7 @@ is_kept (Changed reply) = false
 is_kept (Repeated reply) = true
 is_kept (Denied code) = false
 
--- an answer is counted, or it is a refusal and given back
+-- an answer is counted, or it is a refusal and returned
 abbrev pub Counts : Answered → ImportEnd → ImportEnd → Option Refusal → Type 0
 Counts (Changed reply) old new refusal = (new ≡ record old { accepted = old.accepted + 1 })
     × (refusal ≡ None)
@@ -56,7 +56,7 @@ pub record IsCounted (F : Farm) (calls : List Call) (accepted kept : ℕ) : Type
 pub record Reaches {S : Type 0} (g : Ghosts S) (old new : Kept S) (calls : List Call) : Type 0 where
   pub opened : new.is_open ≡ old.is_open
   pub farm : new.farm.farm ≡ run old.farm.farm calls
-  pub stands : Keeps g old → Keeps g new
+  pub keeps : Keeps g old → Keeps g new
 
 -- all calls were done
 pub record ImportsAll {S : Type 0} (g : Ghosts S) (old new : Kept S) (calls : List Call) (done : ℕ)
@@ -80,7 +80,7 @@ pub record LacksMemoryFor {S : Type 0} (g : Ghosts S) (old new : Kept S) (calls 
   pub within : done < length calls
   pub change : IsNextChange old.farm.farm calls done
   pub is_closed : new.is_open ≡ false
-  pub stands : Keeps g old → KeepsFarm g new (run old.farm.farm (take done calls))
+  pub keeps : Keeps g old → KeepsFarm g new (run old.farm.farm (take done calls))
 
 -- the store refused the next call's change: the keeper is closed, and a stop leaves the farm before
 -- it or after it
@@ -92,11 +92,11 @@ pub record LosesStoreAt {S : Type 0} (g : Ghosts S) (old new : Kept S) (calls : 
   pub leaves : Keeps g old → KeepsEither g new (run old.farm.farm (take done calls))
       (run old.farm.farm (take (done + 1) calls))
 
--- the keeper was closed before, and nothing is done
-pub record WasShut {S : Type 0} (old new : Kept S) (done : ℕ) : Type 0 where
+-- the keeper was closed before, and nothing is imported
+pub record ImportsNothing {S : Type 0} (old new : Kept S) (done : ℕ) : Type 0 where
   pub was_closed : old.is_open ≡ false
   pub nothing : done ≡ 0
-  pub rests : new ≡ old
+  pub unchanged : new ≡ old
 
 -- how it ended, by its refusal or its fault
 abbrev pub EndsBy : {S : Type 0} → Ghosts S → Kept S → Kept S → List Call → ℕ → Option (ℕ × Refusal)
@@ -107,7 +107,8 @@ EndsBy g old new calls done None (Some (DeskFault.Keep KeepFault.NoMemory)) =
     LacksMemoryFor g old new calls done
 EndsBy g old new calls done None (Some (DeskFault.Keep KeepFault.Store)) =
     LosesStoreAt g old new calls done
-EndsBy g old new calls done None (Some (DeskFault.Keep KeepFault.Closed)) = WasShut old new done
+EndsBy g old new calls done None (Some (DeskFault.Keep KeepFault.Closed)) =
+    ImportsNothing old new done
 EndsBy g old new calls done stopped fault = ⊥
 
 -- these calls were done up to the first refusal or fault
@@ -118,20 +119,20 @@ pub record DoesCalls {S : Type 0} (g : Ghosts S) (old new : Kept S) (calls : Lis
 
 -- ---- the file
 
--- the text spells calls, and these were done
+-- the text parses to calls, and these were done
 pub record Imports {S : Type 0} (g : Ghosts S) (old new : Kept S) (text : List ℕ) (now : ℕ)
     (end : ImportEnd) : Type 0 where
   pub calls : List Call
-  pub spelled : lab text now ≡ Ok (map entry_of calls)
+  pub parsed : lab text now ≡ Ok (map entry_of calls)
   pub does : DoesCalls g old new calls end
 
--- the text spells none, or there was no memory to read it: nothing was done
+-- the text parses to none, or there was no memory to read it: nothing was done
 pub record IsFileRefused {S : Type 0} (old new : Kept S) (text : List ℕ) (now : ℕ) (fault : FileFault)
     (end : ImportEnd) : Type 0 where
   pub fault_is : FaultOrNoMemory fault (lab text now)
   pub nothing : done_by end ≡ 0
   pub never_began : end.stopped ≡ None
-  pub rests : new ≡ old
+  pub unchanged : new ≡ old
 
 abbrev pub ImportsBy : {S : Type 0} → Ghosts S → Kept S → Kept S → List ℕ → ℕ → ImportEnd
     → Option DeskFault → Type 0

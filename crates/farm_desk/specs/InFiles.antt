@@ -1,4 +1,4 @@
--- Which farm stands in a file and the log beside it.
+-- Which farm a file and the log beside it hold.
 use Rattle.std.specs.Prelude.{◌≡◌, ◌≤◌, ◌⊎◌, ℕ, true, List, take, Option, Some, None, Result, Ok, Err}
 use Rattle.std.specs.Prelude.{IfErr, ⊤}
 use Rattle.sqlite.specs.Effect.{Database, IsDatabase}
@@ -49,14 +49,14 @@ HoldsFarm image F = HoldsTables image (rows_of F)
 -- an open keeper has this farm, and its store keeps it
 pub record HasFarm {D : Type 0} {g : Ghosts D} (k : Kept (FileStore D g)) (F : Farm) : Type 0 where
   pub farm : k.farm.farm ≡ F
-  pub stands : KeepsFarm over_files k F
+  pub keeps : KeepsFarm over_files k F
 
 -- the trees list the farm's six tables, and no other table, column, index or view
 abbrev pub ListFarm : Trees → Type 0
 ListFarm trees = AreListed (trees catalog_tree) farm_schema
 
 -- the files are this farm's: what they recover to lists the farm's tables, so does whatever
--- database they hold, and no other tables stand there than those of this farm
+-- database they hold, and they hold no other tables than those of this farm
 pub record AreFarms (image : Image) (F : Farm) : Type 0 where
   pub found : (trees : Trees) × AreFoundIn image trees × ListFarm trees
   pub ours : (trees : Trees) → HoldsDatabase image trees → ListFarm trees
@@ -77,7 +77,7 @@ abbrev pub ListNothing : Trees → Type 0
 ListNothing trees = AreListed (trees catalog_tree) no_schema
 
 -- the files were free: what they recover to lists no table, nor does whatever database they hold,
--- and no farm's tables stand there
+-- and they hold no farm's tables
 pub record AreFree (image : Image) : Type 0 where
   pub found : (trees : Trees) × AreFoundIn image trees × ListNothing trees
   pub free : (trees : Trees) → HoldsDatabase image trees → ListNothing trees
@@ -106,12 +106,12 @@ DeniesFarm image (DeskFault.Keep KeepFault.OldSchema) = (T : Tables) → HoldsTa
 DeniesFarm image other = ⊤
 
 -- so it is on a disk that always returns what was written
-abbrev pub GivesReason : {D : Type 0} {g : Ghosts D} → Image
+abbrev pub HasReason : {D : Type 0} {g : Ghosts D} → Image
     → Result (Kept (FileStore D g)) DeskFault → Type 0
-GivesReason {D} {g} image result = IsAlwaysClean (over_files {D = D} {g = g})
+HasReason {D} {g} image result = IsAlwaysClean (over_files {D = D} {g = g})
     → IfErr result (DeniesFarm image)
 
--- ---- which version they tell
+-- ---- which version they have
 
 -- an open finds this database in the files: its trees are what they recover to, and whatever
 -- database they hold, and these list its schema and no other
@@ -127,14 +127,15 @@ keep_fault (Ok done) = None
 keep_fault (Err (DeskFault.Keep fault)) = Some fault
 keep_fault (Err fault) = None
 
--- a database is found in the files, and its version was looked at before anything else of it; or the
--- store failed
+-- a database is found in the files, and its version was looked at before anything else of it; or
+-- the store failed
 abbrev pub LooksIn : {A : Type 0} → (Option KeepFault → Database → Type 0) → Image
     → Result A DeskFault → Type 0
 LooksIn Looks image result = (result ≡ Err (DeskFault.Keep KeepFault.Store))
     ⊎ ((db : Database) × IsFoundIn image db × Looks (keep_fault result) db)
 
--- so it is where a farm of this edition is looked for, on a disk that always returns what was written
+-- so it is where a farm of this edition is looked for, on a disk that always returns what was
+-- written
 abbrev pub LooksForFarmIn : {D : Type 0} {g : Ghosts D} → Image
     → Result (Kept (FileStore D g)) DeskFault → Type 0
 LooksForFarmIn {D} {g} image result = IsAlwaysClean (over_files {D = D} {g = g})
@@ -163,7 +164,7 @@ pub record FindsTables {S : Type 0} (g : store.Ghosts S) (conn : Held S) (k : Ke
   pub clean : doubt (state g conn).is_clean ≤ doubt (state g k.conn).is_clean
   pub exact : HasCleanDisk (state g k.conn) → (F : Farm) → IsSound F
       → OpensTables g conn (rows_of F) → k.farm.farm ≡ F
-  pub stands : (F : Farm) → OpensTables g conn (rows_of F) → KeepsFarm g k F
+  pub keeps : (F : Farm) → OpensTables g conn (rows_of F) → KeepsFarm g k F
   pub ours : (state g conn).now.schema ≡ farm_schema
   pub rows : HasCleanDisk (state g k.conn) → (T : Tables) → OpensTables g conn T
       → T ≡ rows_of k.farm.farm
@@ -178,7 +179,7 @@ pub record MakesTables {S : Type 0} (g : store.Ghosts S) (conn : Held S) (k : Ke
   pub bare : (state g conn).now.schema ≡ no_schema
   pub free : HasCleanDisk (state g k.conn) → (T : Tables) → ¬ OpensTables g conn T
 
--- why a connection gives no keeper
+-- why no keeper is made from a connection
 abbrev pub DeniesTables : {S : Type 0} → store.Ghosts S → Held S → DeskFault → Type 0
 DeniesTables g conn (DeskFault.Keep KeepFault.BadStore) = (F : Farm) → IsSound F
     → ¬ OpensTables g conn (rows_of F)

@@ -1,9 +1,9 @@
 pub mod Faults
-pub mod Heard
+pub mod Received
 pub mod Answers
 pub mod Response
 pub mod Ends
-pub mod Made
+pub mod Encoding
 pub mod Imports
 pub mod Serving
 pub mod InFiles
@@ -12,9 +12,9 @@ pub mod Reports
 pub mod Conversations
 pub mod Lines
 pub mod Clients
-pub mod Visits
-pub mod Known
-pub mod Agreed
+pub mod Connections
+pub mod Scripts
+pub mod ExitStatuses
 pub mod Tasks
 pub mod Orders
 pub mod Program

@@ -4,7 +4,7 @@ use Rattle.std.specs.Prelude.{Option, Some, None, Result, Ok, Err}
 use Rattle.std.specs.Io.KnownBytes.{Appends, Keeps}
 use Rattle.farm_types.specs.Refusals.{refusal_text}
 use Rattle.farm_types.specs.declared.refusal.Refusal.{Refusal}
-use Rattle.farm_desk.specs.Ends.{Gains}
+use Rattle.farm_desk.specs.Ends.{Writes}
 use Rattle.farm_desk.specs.Faults.{fault_number}
 use Rattle.farm_desk.specs.declared.fault.DeskFault.{DeskFault}
 use Rattle.farm_desk.specs.declared.lab_import.ImportEnd.{ImportEnd}
@@ -15,7 +15,7 @@ abbrev pub counts_line : ℕ → ℕ → List ℕ
 counts_line accepted kept =
     (codes "accepted " ++ (decimal accepted ++ (codes ", kept " ++ decimal kept))) ++ 10 ∷ []
 
--- clients are heard on this port
+-- clients are accepted on this port
 abbrev pub port_line : ℕ → List ℕ
 port_line port = (codes "listening " ++ decimal port) ++ 10 ∷ []
 
@@ -39,38 +39,39 @@ refusal_line code place =
     ++ (decimal code
     ++ (codes " " ++ (refusal_text code ++ (codes " at " ++ (decimal place ++ 10 ∷ [])))))
 
--- what is told beside the output of an order that ended so
-abbrev pub told_of : Result End DeskFault → List ℕ
-told_of (Ok (End.RefusedAt place refusal)) = refusal_line refusal.code place
-told_of (Ok end) = []
-told_of (Err fault) = fault_line (fault_number fault)
+-- what is printed beside the output of an order that ended so
+abbrev pub error_line : Result End DeskFault → List ℕ
+error_line (Ok (End.RefusedAt place refusal)) = refusal_line refusal.code place
+error_line (Ok end) = []
+error_line (Err fault) = fault_line (fault_number fault)
 
 -- a writer gained a part of the bytes from their front on, perhaps all of them
-pub record GainsPart (held holds : Option (List ℕ)) (bytes : List ℕ) : Type 0 where
+pub record WritesPart (held holds : Option (List ℕ)) (bytes : List ℕ) : Type 0 where
   pub part : List ℕ
   pub rest : List ℕ
   pub bytes_are : bytes ≡ part ++ rest
-  pub gained : Appends held holds part
+  pub written : Appends held holds part
 
--- the line of an order that was done is printed; or the output, which has such room, had none for it
+-- the line of an order that was done is printed; or the output, which has such room, had none for
+-- it
 abbrev pub PrintsLine : (ℕ → Type 0) → Option (List ℕ) → Option (List ℕ) → List ℕ
     → Result End DeskFault → Type 0
-PrintsLine Room held holds line (Ok end) = (end ≡ End.Done) × Gains Room false held holds line
+PrintsLine Room held holds line (Ok end) = (end ≡ End.Done) × Writes Room false held holds line
 PrintsLine Room held holds line (Err fault) = (fault ≡ DeskFault.Write)
-    × Gains Room true held holds line
+    × Writes Room true held holds line
 
 -- an import that met a fault ends with it, and one that met a refusal with its place and the
 -- refusal: neither prints anything; any other prints its line, or the writer failed
-abbrev pub TellsBy : Option DeskFault → Option (ℕ × Refusal) → List ℕ → Option (List ℕ)
+abbrev pub PrintsImportBy : Option DeskFault → Option (ℕ × Refusal) → List ℕ → Option (List ℕ)
     → Option (List ℕ) → Result End DeskFault → Type 0
-TellsBy (Some fault) stopped line held holds result = (result ≡ Err fault) × Keeps held holds
-TellsBy None (Some stop) line held holds result = (result ≡ Ok (End.RefusedAt stop.0 stop.1))
+PrintsImportBy (Some fault) stopped line held holds result = (result ≡ Err fault) × Keeps held holds
+PrintsImportBy None (Some stop) line held holds result = (result ≡ Ok (End.RefusedAt stop.0 stop.1))
     × Keeps held holds
-TellsBy None None line held holds (Ok end) = (end ≡ End.Done) × Appends held holds line
-TellsBy None None line held holds (Err fault) = fault ≡ DeskFault.Write
+PrintsImportBy None None line held holds (Ok end) = (end ≡ End.Done) × Appends held holds line
+PrintsImportBy None None line held holds (Err fault) = fault ≡ DeskFault.Write
 
-abbrev pub TellsImport : ImportEnd → Option (List ℕ) → Option (List ℕ) → Result End DeskFault
+abbrev pub PrintsImport : ImportEnd → Option (List ℕ) → Option (List ℕ) → Result End DeskFault
     → Type 0
-TellsImport imported held holds result =
-    TellsBy imported.fault imported.stopped (counts_line imported.accepted imported.kept) held holds
-    result
+PrintsImport imported held holds result =
+    PrintsImportBy imported.fault imported.stopped (counts_line imported.accepted imported.kept)
+    held holds result

@@ -12,13 +12,13 @@ use Rattle.sqlite_wal.specs.Recovery.{Image}
 use Rattle.farm_types.specs.Farm.{empty_farm}
 use Rattle.farm_keep.specs.Kept.{Kept, Keeps}
 use Rattle.farm_keep.specs.declared.fault.KeepFault.{KeepFault}
-use Rattle.farm_order.specs.declared.order.Database.{Database}
-use Rattle.farm_order.specs.declared.order.Order.{Order}
+use Rattle.farm_cli.specs.declared.order.Database.{Database}
+use Rattle.farm_cli.specs.declared.order.Order.{Order}
 use Rattle.farm_desk.specs.Conversations.{Desk, desk}
-use Rattle.farm_desk.specs.InFiles.{FindsFarm, GivesReason, IsOpenFault, LooksForFarmIn, MakesFarm}
+use Rattle.farm_desk.specs.InFiles.{FindsFarm, HasReason, IsOpenFault, LooksForFarmIn, MakesFarm}
 use Rattle.farm_desk.specs.Lines.{migrated_line, ready_line, PrintsLine}
 use Rattle.farm_desk.specs.Tasks.{DoesTask}
-use Rattle.farm_desk.specs.Upgrades.{GivesUpgradeReason, IsUpgradeFault, LooksForFirstIn}
+use Rattle.farm_desk.specs.Upgrades.{HasUpgradeReason, IsUpgradeFault, LooksForFirstIn}
 use Rattle.farm_desk.specs.Upgrades.{RaisesFarm}
 use Rattle.farm_desk.specs.declared.fault.DeskFault.{DeskFault}
 use Rattle.farm_desk.specs.declared.orders.End.{End}
@@ -47,7 +47,7 @@ store_fault = DeskFault.Keep KeepFault.Store
 abbrev pub IsUnlessLost : Result End DeskFault → Result End DeskFault → Type 0
 IsUnlessLost ended result = (result ≡ ended) ⊎ ((result ≡ Err store_fault) × IsOk ended)
 
--- ---- what the files give
+-- ---- what is opened
 
 -- an open keeper of the empty farm, whose store keeps it; or there was no memory, or no store
 abbrev pub OpensMemory : Result (Kept MemStore) DeskFault → Type 0
@@ -58,7 +58,7 @@ OpensMemory (Err fault) = (fault ≡ DeskFault.NoMemory) ⊎ (fault ≡ store_fa
 pub record OpensFarm {D : Type 0} {g : disk.Ghosts D} (image : Image)
     (opened : Result (Kept (FileStore D g)) DeskFault) : Type 0 where
   pub found : IfOk opened (FindsFarm image)
-  pub denied : GivesReason image opened
+  pub denied : HasReason image opened
   pub version : LooksForFarmIn image opened
   pub fault : IfErr opened IsOpenFault
 
@@ -73,32 +73,32 @@ pub record MakesNewFarm {D : Type 0} {g : disk.Ghosts D} (image : Image)
 pub record UpgradesFarm {D : Type 0} {g : disk.Ghosts D} (image : Image)
     (raised : Result (Held (FileStore D g)) DeskFault) : Type 0 where
   pub raises : IfOk raised (RaisesFarm image)
-  pub denied : GivesUpgradeReason image raised
+  pub denied : HasUpgradeReason image raised
   pub version : LooksForFirstIn image raised
   pub fault : IfErr raised IsUpgradeFault
 
 -- ---- making a farm, and bringing it to this edition
 
--- this line tells that something could be done; where it couldn't, the fault ends the order, and
--- nothing is printed
-abbrev pub TellsOf : {A : Type 0} → (ℕ → Type 0) → Option (List ℕ) → Option (List ℕ)
+-- this line is printed once something could be done; where it couldn't, the fault ends the order,
+-- and nothing is printed
+abbrev pub PrintsIfDone : {A : Type 0} → (ℕ → Type 0) → Option (List ℕ) → Option (List ℕ)
     → Result A DeskFault → List ℕ → Result End DeskFault → Type 0
-TellsOf Room held holds (Ok done) line result = PrintsLine Room held holds line result
-TellsOf Room held holds (Err fault) line result = (result ≡ Err fault) × (holds ≡ held)
+PrintsIfDone Room held holds (Ok done) line result = PrintsLine Room held holds line result
+PrintsIfDone Room held holds (Err fault) line result = (result ≡ Err fault) × (holds ≡ held)
 
 module _ (Room : ℕ → Type 0) (held holds : Option (List ℕ)) {D : Type 0} (g : disk.Ghosts D)
     (image : Image) where
-  -- the empty farm is made in the files, and that is told
+  -- the empty farm is made in the files, and its line printed
   pub record Inits (result : Result End DeskFault) : Type 0 where
     pub made : Result (Kept (FileStore D g)) DeskFault
     pub makes : MakesNewFarm image made
-    pub tells : TellsOf Room held holds made ready_line result
+    pub prints : PrintsIfDone Room held holds made ready_line result
 
-  -- the first edition's farm of the files is brought to this one, and that is told
+  -- the first edition's farm of the files is brought to this one, and its line printed
   pub record Migrates (result : Result End DeskFault) : Type 0 where
     pub raised : Result (Held (FileStore D g)) DeskFault
     pub upgrades : UpgradesFarm image raised
-    pub tells : TellsOf Room held holds raised migrated_line result
+    pub prints : PrintsIfDone Room held holds raised migrated_line result
 
 -- ---- tasks, and all orders: what they make of an input and an output, over a reader that never
 -- fails and a writer with such room
@@ -129,7 +129,7 @@ module _ (Sure : Type 0) (Room : ℕ → Type 0) (old new : Streams) where
     pub record DoesWhileThere (task : Task) (result : Result End DeskFault) : Type 0 where
       pub ended : Result End DeskFault
       pub does : DoesInFiles task ended
-      pub told : IsUnlessLost ended result
+      pub ends : IsUnlessLost ended result
 
     -- what the order does, by its kind
     abbrev pub DoesOrder : Order → Result End DeskFault → Type 0

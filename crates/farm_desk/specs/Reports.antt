@@ -1,8 +1,8 @@
--- What a report tells of a farm.
+-- What a report lists of a farm.
 use Rattle.std.specs.Prelude.{◌≡◌, ◌*ℤ◌, ◌+ℤ◌, neg_ℤ, pos, ℕ, ℤ, List, map}
 use Rattle.farm_types.specs.Farm.{Farm}
 use Rattle.farm_types.specs.Pick.{queue, shown_claim}
-use Rattle.farm_order.specs.declared.order.Report.{Report}
+use Rattle.farm_cli.specs.declared.order.Report.{Report}
 use Rattle.farm_report.specs.Lines.{AreLines, IsBoardLine, IsReservationLine, claims_text}
 
 -- the lines of the report, with moments so many seconds ahead of UTC

@@ -13,20 +13,21 @@ use Rattle.farm_wire.specs.Replies.{reply_bytes}
 use Rattle.farm_wire.specs.declared.ask.Ask.{Ask}
 use Rattle.farm_desk.specs.declared.fault.DeskFault.{DeskFault}
 use Rattle.farm_desk.specs.Answers.{Answers, refusal}
-use Rattle.farm_desk.specs.Heard.{Hears, HearsWhole}
+use Rattle.farm_desk.specs.Received.{Receives, ReceivesWhole}
 
 -- ---- no memory for the answer
 
--- the call was done by an open keeper, though nobody is told
-pub record IsDoneUntold {S : Type 0} (g : Ghosts S) (old new : Kept S) (call : Call) : Type 0 where
+-- the call was done by an open keeper, though its answer isn't written
+pub record IsDoneUnanswered {S : Type 0} (g : Ghosts S) (old new : Kept S) (call : Call)
+    : Type 0 where
   pub was_open : old.is_open ≡ true
   pub farm : new.farm.farm ≡ step old.farm.farm call
-  pub stands : Keeps g old → Keeps g new
+  pub keeps : Keeps g old → Keeps g new
 
 -- the keeper stayed as it was, or a call was done
-abbrev pub RestsOrIsDone : {S : Type 0} → Ghosts S → Kept S → Kept S → Result Ask Denial → Type 0
-RestsOrIsDone g old new (Ok (Ask.Call call)) = (new ≡ old) ⊎ IsDoneUntold g old new call
-RestsOrIsDone g old new what = new ≡ old
+abbrev pub UnchangedOrDone : {S : Type 0} → Ghosts S → Kept S → Kept S → Result Ask Denial → Type 0
+UnchangedOrDone g old new (Ok (Ask.Call call)) = (new ≡ old) ⊎ IsDoneUnanswered g old new call
+UnchangedOrDone g old new what = new ≡ old
 
 -- a keeper that was asked anything was open
 abbrev pub WasOpenFor : {S : Type 0} → Kept S → Result Ask Denial → Type 0
@@ -35,12 +36,12 @@ WasOpenFor old (Err why) = Unit {0}
 
 -- there was no memory for the answer: the constant one is due, and an open keeper stays open; a
 -- closed one has its own answer to whatever is asked
-pub record RunsOut {S : Type 0} (g : Ghosts S) (old new : Kept S) (what : Result Ask Denial)
+pub record RunsOutOfMemory {S : Type 0} (g : Ghosts S) (old new : Kept S) (what : Result Ask Denial)
     (bytes : List ℕ) : Type 0 where
-  pub says : bytes ≡ reply_bytes (refusal no_memory)
+  pub encodes : bytes ≡ reply_bytes (refusal no_memory)
   pub was_open : WasOpenFor old what
   pub stays_open : new.is_open ≡ old.is_open
-  pub farm : RestsOrIsDone g old new what
+  pub farm : UnchangedOrDone g old new what
 
 -- ---- a fault of the keeper
 
@@ -59,7 +60,7 @@ pub record LosesStore {S : Type 0} (g : Ghosts S) (old new : Kept S) (call : Cal
 -- the keeper was closed before, whatever is asked
 pub record WasClosed {S : Type 0} (old new : Kept S) : Type 0 where
   pub was_closed : old.is_open ≡ false
-  pub rests : new ≡ old
+  pub unchanged : new ≡ old
 
 -- why the keeper is closed: 61 for calls and views alike, 1 and 60 only where a call changes the
 -- farm
@@ -69,10 +70,11 @@ IsCause g old new (Ask.Call call) KeepFault.NoMemory = LacksMemory old new call
 IsCause g old new (Ask.Call call) KeepFault.Store = LosesStore g old new call
 IsCause g old new what fault = ⊥
 
--- the keeper gave this fault: the constant answer of its number is due, and the keeper is closed
+-- the keeper returned this fault: the constant answer of its number is due, and the keeper is
+-- closed
 pub record Closes {S : Type 0} (g : Ghosts S) (old new : Kept S) (what : Ask) (fault : KeepFault)
     (bytes : List ℕ) : Type 0 where
-  pub says : bytes ≡ reply_bytes (refusal (fault_code fault))
+  pub encodes : bytes ≡ reply_bytes (refusal (fault_code fault))
   pub is_closed : new.is_open ≡ false
   pub cause : IsCause g old new what fault
 
@@ -87,7 +89,7 @@ ClosesIfAsked g old new (Err why) fault bytes = ⊥
 abbrev pub IsResponseTo : {S : Type 0} → Ghosts S → Kept S → Kept S → Result Ask Denial → List ℕ
     → Result ℕ DeskFault → Type 0
 IsResponseTo g old new what bytes (Ok status) = Answers g old new what bytes status
-IsResponseTo g old new what bytes (Err DeskFault.NoMemory) = RunsOut g old new what bytes
+IsResponseTo g old new what bytes (Err DeskFault.NoMemory) = RunsOutOfMemory g old new what bytes
 IsResponseTo g old new what bytes (Err (DeskFault.Keep fault)) = ClosesIfAsked g old new what fault bytes
 IsResponseTo g old new what bytes (Err DeskFault.Read) = ⊥
 IsResponseTo g old new what bytes (Err DeskFault.Write) = ⊥
@@ -98,16 +100,16 @@ pub record IsDueToAsked {S : Type 0} (g : Ghosts S) (old new : Kept S)
     (input rest : Option (List ℕ)) (now : ℕ) (bytes : List ℕ) (end : Result ℕ DeskFault)
     : Type 0 where
   pub what : Result Ask Denial
-  pub hears : Hears input rest now what
+  pub receives : Receives input rest now what
   pub response : IsResponseTo g old new what bytes end
 
 -- there was no memory to read the request or to understand it
 pub record IsNotUnderstood {S : Type 0} (old new : Kept S) (input rest : Option (List ℕ))
     (bytes : List ℕ) (end : Result ℕ DeskFault) : Type 0 where
   pub fault : end ≡ Err DeskFault.NoMemory
-  pub hears : HearsWhole input rest
-  pub says : bytes ≡ reply_bytes (refusal no_memory)
-  pub rests : new ≡ old
+  pub receives : ReceivesWhole input rest
+  pub encodes : bytes ≡ reply_bytes (refusal no_memory)
+  pub unchanged : new ≡ old
 
 -- these bytes are the answer that is due, and the conversation ends so once they are written
 abbrev pub IsResponse : {S : Type 0} → Ghosts S → Kept S → Kept S → Option (List ℕ) → Option (List ℕ) → ℕ

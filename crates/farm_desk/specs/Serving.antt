@@ -52,6 +52,6 @@ ServesUntil g old new max (Err fault) = ⊥
 
 -- of the ends of a conversation the keeper's fault is passed on alone
 abbrev pub PassesOn : {A : Type 0} → Result ℕ DeskFault → Result A DeskFault → Type 0
-PassesOn (Err (DeskFault.Keep fault)) told = told ≡ Err (DeskFault.Keep fault)
+PassesOn (Err (DeskFault.Keep fault)) result = result ≡ Err (DeskFault.Keep fault)
 PassesOn end (Ok done) = Unit {0}
 PassesOn end (Err fault) = ⊥

@@ -5,12 +5,12 @@ use Rattle.sqlite_trees.specs.declared.store.Store.{Ghosts}
 use Rattle.farm_types.specs.Farm.{Farm}
 use Rattle.farm_keep.specs.Kept.{Kept}
 use Rattle.farm_keep.specs.declared.fault.KeepFault.{KeepFault}
-use Rattle.farm_order.specs.declared.order.Report.{Report}
+use Rattle.farm_cli.specs.declared.order.Report.{Report}
 use Rattle.farm_report.specs.Moments.{most_minutes}
 use Rattle.farm_desk.specs.Conversations.{AnswersOne, Desk}
-use Rattle.farm_desk.specs.Ends.{Gains}
+use Rattle.farm_desk.specs.Ends.{Writes}
 use Rattle.farm_desk.specs.Imports.{IsImport}
-use Rattle.farm_desk.specs.Lines.{TellsImport, port_line}
+use Rattle.farm_desk.specs.Lines.{PrintsImport, port_line}
 use Rattle.farm_desk.specs.Reports.{Reports, seconds_ahead}
 use Rattle.farm_desk.specs.Serving.{ServesUntil}
 use Rattle.farm_desk.specs.declared.fault.DeskFault.{DeskFault}
@@ -22,16 +22,16 @@ use Rattle.farm_desk.specs.declared.orders.Task.{Task}
 pub record DoesNothing {S : Type 0} (old new : Kept S) (held holds : Option (List ℕ))
     (fault : DeskFault) (result : Result End DeskFault) : Type 0 where
   pub fault_is : result ≡ Err fault
-  pub rests : new ≡ old
-  pub silent : Keeps held holds
+  pub unchanged : new ≡ old
+  pub nothing_written : Keeps held holds
 
--- a text is imported at that moment, and what came of it is told
+-- a text is imported at that moment, and what was done is printed
 pub record ImportsText {S : Type 0} (g : Ghosts S) (old new : Kept S)
     (held holds : Option (List ℕ)) (now : ℕ) (result : Result End DeskFault) : Type 0 where
   pub text : List ℕ
   pub imported : ImportEnd
   pub imports : IsImport g old new text now imported
-  pub tells : TellsImport imported held holds result
+  pub prints : PrintsImport imported held holds result
 
 -- it is, or nothing is done since no text can be read
 abbrev pub ImportsFile : {S : Type 0} → Ghosts S → Kept S → Kept S → Option (List ℕ)
@@ -48,7 +48,7 @@ pub record PrintsReport (Room : ℕ → Type 0) (failed : Bool) (F : Farm) (held
   pub text : List ℕ
   pub reports : east ≤ most_minutes → west ≤ most_minutes
       → Reports which (seconds_ahead east west) F text
-  pub printed : Gains Room failed held holds text
+  pub printed : Writes Room failed held holds text
 
 -- it is, of an open keeper's farm; or nothing is printed, since there was no memory or the keeper
 -- was closed
@@ -63,22 +63,22 @@ PrintsReportOf Room k held holds east west which (Err (DeskFault.Keep KeepFault.
     (k.is_open ≡ false) × (holds ≡ held)
 PrintsReportOf Room k held holds east west which (Err fault) = ⊥
 
--- the port is told, and then at most so many connections are served
+-- the port is printed, and then at most so many connections are served
 pub record ServesPort {S : Type 0} (g : Ghosts S) (old new : Kept S) (held holds : Option (List ℕ))
     (port max : ℕ) (result : Result End DeskFault) : Type 0 where
-  pub told : Appends held holds (port_line port)
+  pub printed : Appends held holds (port_line port)
   pub serves : ServesUntil g old new max result
 
--- it is, or nothing is done since the port can't be had or told
-abbrev pub ServesIfHeard : {S : Type 0} → Ghosts S → Kept S → Kept S → Option (List ℕ)
+-- it is, or nothing is done since nobody can listen on the port, or since it can't be printed
+abbrev pub ServesIfListening : {S : Type 0} → Ghosts S → Kept S → Kept S → Option (List ℕ)
     → Option (List ℕ) → ℕ → ℕ → Result End DeskFault → Type 0
-ServesIfHeard g old new held holds port max result =
+ServesIfListening g old new held holds port max result =
     ServesPort g old new held holds port max result
     ⊎ (DoesNothing old new held holds DeskFault.Read result
     ⊎ ((new ≡ old) × (result ≡ Err DeskFault.Write)))
 
--- what a task makes of a keeper, an input and an output, over a reader that never fails and a writer
--- with such room
+-- what a task makes of a keeper, an input and an output, over a reader that never fails and a
+-- writer with such room
 abbrev pub DoesTask : {S : Type 0} → Ghosts S → Task → Desk S → Desk S → Type 0 → (ℕ → Type 0)
     → Result End DeskFault → Type 0
 DoesTask g (Task.Answer at) old new Sure Room result = AnswersOne g old new at Sure Room result
@@ -88,4 +88,4 @@ DoesTask g (Task.Report east west which) old new Sure Room result = (new.input �
     × (new.keeper ≡ old.keeper)
     × PrintsReportOf Room old.keeper old.output new.output east west which result
 DoesTask g (Task.Serve port max) old new Sure Room result = (new.input ≡ old.input)
-    × ServesIfHeard g old.keeper new.keeper old.output new.output port max result
+    × ServesIfListening g old.keeper new.keeper old.output new.output port max result

@@ -34,8 +34,8 @@ FilesHoldEither image F = HoldsFirst image F ⊎ HoldsFarm image F
 abbrev pub AreFirst : Tables → Type 0
 AreFirst T = (F : Farm) × IsSoundFirst F × (T ≡ first_rows_of F)
 
--- where the files held a sound farm of the first edition, its tables of this edition stand in the
--- store now; and the files held no other tables
+-- where the files held a sound farm of the first edition, the store now represents its tables of
+-- this edition; and the files held no other tables
 pub record RaisesFarm {D : Type 0} {g : Ghosts D} (image : Image) (conn : Held (FileStore D g))
     : Type 0 where
   pub raised : HasCleanDisk (file_state conn) → (F : Farm) → IsSoundFirst F → HoldsFirst image F
@@ -59,12 +59,12 @@ DeniesUpgrade image (DeskFault.Keep KeepFault.NewSchema) = (T : Tables) → Hold
 DeniesUpgrade image other = ⊤
 
 -- so it is on a disk that always returns what was written
-abbrev pub GivesUpgradeReason : {D : Type 0} {g : Ghosts D} → Image
+abbrev pub HasUpgradeReason : {D : Type 0} {g : Ghosts D} → Image
     → Result (Held (FileStore D g)) DeskFault → Type 0
-GivesUpgradeReason {D} {g} image result = IsAlwaysClean (over_files {D = D} {g = g})
+HasUpgradeReason {D} {g} image result = IsAlwaysClean (over_files {D = D} {g = g})
     → IfErr result (DeniesUpgrade image)
 
--- the version that the files tell is looked at before anything else of them
+-- the version of the files is looked at before anything else of them
 abbrev pub LooksForFirstIn : {D : Type 0} {g : Ghosts D} → Image
     → Result (Held (FileStore D g)) DeskFault → Type 0
 LooksForFirstIn {D} {g} image result = IsAlwaysClean (over_files {D = D} {g = g})
@@ -73,7 +73,7 @@ LooksForFirstIn {D} {g} image result = IsAlwaysClean (over_files {D = D} {g = g}
 -- ---- the same of any store
 
 -- a connection was made from one: where that was just opened on the first edition's tables of a
--- sound farm, its tables of this edition stand now; and it was opened on no other tables
+-- sound farm, it now represents its tables of this edition; and it was opened on no other tables
 pub record RaisesTables {S : Type 0} (g : store.Ghosts S) (conn new : Held S) : Type 0 where
   pub clean : doubt (state g conn).is_clean ≤ doubt (state g new).is_clean
   pub raised : HasCleanDisk (state g new) → (F : Farm) → IsSoundFirst F

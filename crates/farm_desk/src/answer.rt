@@ -1,4 +1,4 @@
-//! Answering what was asked.
+//! What is answered to a call or a view: a call is done, a view is shown.
 ghost use Rattle.std.specs.Prelude.{◌≡◌, ◌≤◌, false, map, Ok};
 ghost use Rattle.sqlite.specs.Held.{state};
 ghost use Rattle.sqlite_trees.specs.View.{doubt};
@@ -8,7 +8,7 @@ ghost use Rattle.farm_types.specs.Pick.{queue, shown_claim};
 ghost use Rattle.farm_types.specs.Refuse.{kind_of};
 ghost use Rattle.farm_desk.specs.Answers.{out_of_answer, IsView, ListsClaims, ShowsJob};
 ghost use Rattle.farm_desk.specs.Response.{IsResponseTo};
-ghost use Rattle.farm_desk.specs.Made.{IsMadeOfOne, bytes_in};
+ghost use Rattle.farm_desk.specs.Encoding.{IsEncodedOne, bytes_in};
 ghost use Rattle.farm_wire.specs.declared.ask.Ask.{Ask as Asking};
 
 use crate::response::Response;
@@ -45,7 +45,7 @@ fn response_to_call<S: Alter>(alloc: Global, keeper: &mut Keeper<S>, call: &Call
     }
 }
 
-/// What a caller is told of the machine's answer.
+/// The machine's answer as it is shown to a caller.
 fn reply_of(call: &Call, answer: &Answer) -> Out<'static>
     ensures { result ≡ out_of_answer (kind_of call.entry.now.cmd) (answer_of answer.now) }
 {
@@ -69,7 +69,7 @@ fn response_to_view<S: Alter>(alloc: Global, keeper: &Keeper<S>, view: View) -> 
 /// What a view shows of a farm.
 fn show(alloc: Global, farm: &Farm, view: View) -> Response
     requires { farm.now.failed ≡ false }
-    ensures { IsMadeOfOne (IsView view farm.now.farm) (bytes_in result.bytes) result.end }
+    ensures { IsEncodedOne (IsView view farm.now.farm) (bytes_in result.bytes) result.end }
 {
     match view {
         View::Types => Response::of(alloc, &Out::Types(farm.types())),
@@ -84,7 +84,7 @@ fn show(alloc: Global, farm: &Farm, view: View) -> Response
 /// What the view of the queue shows.
 fn show_queue(alloc: Global, farm: &Farm) -> Response
     requires { farm.now.failed ≡ false }
-    ensures { IsMadeOfOne (ListsClaims (map shown_claim (queue farm.now.farm)))
+    ensures { IsEncodedOne (ListsClaims (map shown_claim (queue farm.now.farm)))
         (bytes_in result.bytes) result.end }
 {
     match farm.queue() {
@@ -96,7 +96,7 @@ fn show_queue(alloc: Global, farm: &Farm) -> Response
 /// What the view of one job shows.
 fn show_job(alloc: Global, farm: &Farm, number: u64) -> Response
     requires { farm.now.failed ≡ false }
-    ensures { IsMadeOfOne (ShowsJob (job_of farm.now.farm number))
+    ensures { IsEncodedOne (ShowsJob (job_of farm.now.farm number))
         (bytes_in result.bytes) result.end }
 {
     match farm.job(number) {

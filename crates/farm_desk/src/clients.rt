@@ -1,10 +1,10 @@
-//! Clients that come one after another.
+//! Where clients come from: a trait over sockets and over scripted clients.
 ghost use Rattle.std.specs.Prelude.{◌≡◌, Option, MatchOption, IsSome, IsTrue};
-ghost use Rattle.farm_desk.specs.Clients.{Clientele, Brings, Goes, IsOver};
+ghost use Rattle.farm_desk.specs.Clients.{ClientList, Accepts, Departs, IsOver};
 
 use farm_http::{Input, Output};
 
-/// A client that came.
+/// A client that was accepted.
 #[derive(Drop)]
 pub struct Client<R, W> {
     /// The moment of its request, in seconds since 1970-01-01 00:00:00 UTC.
@@ -15,35 +15,35 @@ pub struct Client<R, W> {
     pub writer: W,
 }
 
-/// Clients that come one after another.
+/// Clients that are accepted, served and closed one after another.
 pub trait Clients {
     type Reader: Input + Drop;
 
     type Writer: Output + Drop;
 
-    /// Those that are to come and those that went, where they are known.
-    ghost clientele: { Self → Option Clientele };
+    /// The clients that wait and those that were served, where they are known.
+    ghost client_list: { Self → Option ClientList };
 
-    /// A client that came hasn't gone.
-    ghost has_one: { Self → Type 0 };
+    /// A client that was accepted isn't closed.
+    ghost has_open: { Self → Type 0 };
 
-    /// Whether nobody comes any more.
+    /// Whether no client comes any more.
     fn is_over(&self) -> bool
-        ensures { IsTrue result → IsOver (clientele self.now) };
+        ensures { IsTrue result → IsOver (client_list self.now) };
 
-    /// The next client; none where nobody came, or where the one that came can't be served.
+    /// Accepts the next client; none where nobody came, or where the one that came can't be served.
     fn next(&mut self) -> Option<Client<Self::Reader, Self::Writer>>
-        ensures comes { MatchOption result ((clientele self.new ≡ clientele self.old)
-            × IsOver (clientele self.old))
-            (λ client. Brings (clientele self.old) (clientele self.new) client.now
+        ensures arrives { MatchOption result ((client_list self.new ≡ client_list self.old)
+            × IsOver (client_list self.old))
+            (λ client. Accepts (client_list self.old) (client_list self.new) client.now
             (Self.Reader.remaining client.reader) (Self.Writer.contents client.writer)
             (Self.Writer.has_room client.writer)) }
-        ensures has_one { IsSome result → has_one self.new };
+        ensures has_open { IsSome result → has_open self.new };
 
-    /// Takes leave of a client that came.
-    fn part(&mut self, reader: Self::Reader, writer: Self::Writer)
-        requires { has_one self.old }
-        ensures { Goes (clientele self.old) (clientele self.new) (record {
+    /// Closes the client that was accepted last.
+    fn close(&mut self, reader: Self::Reader, writer: Self::Writer)
+        requires { has_open self.old }
+        ensures { Departs (client_list self.old) (client_list self.new) (record {
           input = Self.Reader.remaining reader;
           output = Self.Writer.contents writer;
         }) };

@@ -2,19 +2,19 @@
 ghost use Rattle.std.specs.Prelude.{◌≡◌, Ok, Result, map, string_bytes};
 ghost use Rattle.std.specs.Io.KnownBytes.{WriteAppends};
 ghost use Rattle.sqlite_wal.specs.Files.{image_at};
-ghost use Rattle.farm_order.specs.declared.order.Order.{Order as Ordered};
-ghost use Rattle.farm_order.specs.declared.fault.OrderFault.{OrderFault as Unordered};
+ghost use Rattle.farm_cli.specs.declared.order.Order.{Order as Ordered};
+ghost use Rattle.farm_cli.specs.declared.fault.OrderFault.{OrderFault as Unordered};
 ghost use Rattle.farm_desk.specs.Faults.{exit_status, fault_number, order_status, wrong_words};
-ghost use Rattle.farm_desk.specs.Lines.{fault_line, refusal_line, told_of, GainsPart};
+ghost use Rattle.farm_desk.specs.Lines.{fault_line, refusal_line, error_line, WritesPart};
 ghost use Rattle.farm_desk.specs.Orders.{streams, DoesOrder};
-ghost use Rattle.farm_desk.specs.Program.{EndsAsRead, EndsTold, EndsUnread, IsReadOf, ShowsHelp};
+ghost use Rattle.farm_desk.specs.Program.{EndsAsRead, EndsOrder, EndsUnread, IsReadOf, ShowsHelp};
 
 use crate::fault::DeskFault;
 use crate::orders::{End, carry_out};
+use farm_cli::{Order, OrderFault, order_of};
 use farm_http::{Input, Output};
 use farm_jobfile::FileFault;
 use farm_keep::KeepFault;
-use farm_order::{Order, OrderFault, order_of};
 use farm_types::Refusal;
 use farm_wire::write_whole;
 use itoa::Buffer;
@@ -26,16 +26,16 @@ use std::io::{IoSlice, Write};
 
 /// The order was carried out; a request was answered 200.
 pub const DONE: u8 = 0;
-/// The words give no order.
+/// The words name no order.
 pub const WRONG_WORDS: u8 = 2;
-/// The request was refused, as its answer tells, or the file of an import.
+/// The request was refused, as its answer shows, or the file of an import.
 pub const REFUSED: u8 = 3;
 /// The store, the input, the output or the listener failed.
 pub const FAILED: u8 = 4;
 /// There was no memory.
-pub const NO_ROOM: u8 = 5;
+pub const OUT_OF_MEMORY: u8 = 5;
 
-/// Carries out the order that the words give, and gives the exit status. Help goes to the output;
+/// Carries out the order that the words name, and returns the exit status. Help goes to the output;
 /// the text of refused words, the line of a fault, `farm: CODE TEXT`, and that of a lab file's
 /// refused command, `farm: CODE TEXT at N`, go to `errors`. The runtime is for the orders that open
 /// files, sockets and the clock.
@@ -47,8 +47,9 @@ pub fn program<R: Input, W: Output, E: Output>(
     output: &mut W,
     errors: &mut E,
 ) -> u8
-    // The words are read as an order or as a fault, and it ends as that wants: an order does what it
-    // is to do with the files, of which nothing is known, and with the input and the output.
+    // The words are read as an order or as a fault. An order does what it is to do with the files,
+    // of which nothing is known, and with the input and the output; a fault of the words is
+    // printed.
     ensures { (read : Result Ordered Unordered) × IsReadOf (map string_bytes words.now) read
         × EndsAsRead (DoesOrder R.never_fails (W.has_room output.old)
         (streams (R.remaining input.old) (W.contents output.old))
@@ -62,7 +63,7 @@ pub fn program<R: Input, W: Output, E: Output>(
     end_as_read(rt, alloc, read, input, output, errors)
 }
 
-/// Carries out the order that was read, or tells why there is none; gives the exit status.
+/// Carries out the order that was read, or prints why there is none; returns the exit status.
 fn end_as_read<R: Input, W: Output, E: Output>(
     rt: &HostRuntime,
     alloc: Global,
@@ -81,43 +82,44 @@ fn end_as_read<R: Input, W: Output, E: Output>(
 {
     match read {
         Ok(order) => perform(rt, alloc, order, input, output, errors),
-        Err(fault) => tell_unread(fault, output, errors),
+        Err(fault) => print_order_fault(fault, output, errors),
     }
 }
 
-/// Tells why words gave no order, and gives the exit status.
-fn tell_unread<W: Output, E: Output>(fault: OrderFault, output: &mut W, errors: &mut E) -> u8
+/// Prints why words name no order, and returns the exit status.
+fn print_order_fault<W: Output, E: Output>(fault: OrderFault, output: &mut W, errors: &mut E) -> u8
     ensures { EndsUnread fault (W.contents output.old) (W.contents output.new)
         (E.contents errors.old) (E.contents errors.new) result }
 {
     match fault {
         OrderFault::Help(text) => show_help(text.as_bytes(), output, errors),
         OrderFault::Words(text) => refuse_words(text.as_bytes(), errors),
-        OrderFault::NoMemory => tell(errors, DeskFault::NoMemory),
+        OrderFault::NoMemory => print_fault(errors, DeskFault::NoMemory),
     }
 }
 
-/// Writes help to the output, and gives the exit status.
+/// Writes help to the output, and returns the exit status.
 fn show_help<W: Output, E: Output>(text: &[u8], output: &mut W, errors: &mut E) -> u8
     ensures { ShowsHelp text.now (W.contents output.old) (W.contents output.new)
         (E.contents errors.old) (E.contents errors.new) result }
 {
     match write_whole(output, text) {
         Ok(()) => DONE,
-        Err(_) => tell(errors, DeskFault::Write),
+        Err(_) => print_fault(errors, DeskFault::Write),
     }
 }
 
-/// Tells what is wrong with the words, and gives the exit status.
+/// Prints what is wrong with the words, and returns the exit status.
 fn refuse_words<E: Output>(text: &[u8], errors: &mut E) -> u8
     ensures status { result ≡ wrong_words }
-    ensures told { GainsPart (E.contents errors.old) (E.contents errors.new) text.now }
+    ensures printed { WritesPart (E.contents errors.old) (E.contents errors.new) text.now }
 {
     let _ = write_whole(errors, text);
     WRONG_WORDS
 }
 
-/// Carries out an order, and gives the exit status.
+/// Carries out an order, and returns the exit status. The lines of faults and of a lab file's
+/// refused command go to `errors`.
 pub fn perform<R: Input, W: Output, E: Output>(
     rt: &HostRuntime,
     alloc: Global,
@@ -126,9 +128,9 @@ pub fn perform<R: Input, W: Output, E: Output>(
     output: &mut W,
     errors: &mut E,
 ) -> u8
-    // The order does what it is to do with some end, and the status and what is told are those of
-    // that end.
-    ensures { EndsTold (DoesOrder R.never_fails (W.has_room output.old)
+    // The order does what it is to do with some end, and the status and what is printed are those
+    // of that end.
+    ensures { EndsOrder (DoesOrder R.never_fails (W.has_room output.old)
         (streams (R.remaining input.old) (W.contents output.old))
         (streams (R.remaining input.new) (W.contents output.new))
         ⟦<FileFrom<Unknown> as Disk>⟧ (image_at ⟦<Unknown as Start>⟧) order)
@@ -138,21 +140,22 @@ pub fn perform<R: Input, W: Output, E: Output>(
     status_of(errors, ended)
 }
 
-/// The exit status of an order that ended so; what no answer tells is told to `errors`.
+/// The exit status of an order that ended so; what no answer shows is printed to `errors`.
 fn status_of<E: Write>(errors: &mut E, ended: Result<End, DeskFault>) -> u8
     ensures status { result ≡ order_status ended }
-    ensures told { GainsPart (E.contents errors.old) (E.contents errors.new) (told_of ended) }
+    ensures printed { WritesPart (E.contents errors.old) (E.contents errors.new) (error_line ended) }
 {
     match ended {
         Ok(end) => status_at(errors, end),
-        Err(fault) => tell(errors, fault),
+        Err(fault) => print_fault(errors, fault),
     }
 }
 
-/// The exit status of an order that met no fault; the refused command of a lab file is told.
+/// The exit status of an order that met no fault; a lab file's refused command is printed.
 fn status_at<E: Write>(errors: &mut E, end: End) -> u8
     ensures status { result ≡ order_status (Ok end) }
-    ensures told { GainsPart (E.contents errors.old) (E.contents errors.new) (told_of (Ok end)) }
+    ensures printed { WritesPart (E.contents errors.old) (E.contents errors.new)
+        (error_line (Ok end)) }
 {
     match end {
         End::Done => DONE,
@@ -164,13 +167,13 @@ fn status_at<E: Write>(errors: &mut E, end: End) -> u8
     }
 }
 
-/// Writes the line of a fault, and gives its exit status. It takes no memory. Where the writer takes
-/// a part of the line, or none of it, nobody can be told.
-pub fn tell<E: Write>(errors: &mut E, fault: DeskFault) -> u8
+/// Writes the line of a fault, `farm: CODE TEXT`, and returns its exit status. It takes no memory.
+/// That the writer took only a part of the line, or none of it, isn't reported.
+pub fn print_fault<E: Write>(errors: &mut E, fault: DeskFault) -> u8
     ensures status { result ≡ exit_status fault }
 
     // What is written is this fault's line, as far as the writer took it.
-    ensures told { GainsPart (E.contents errors.old) (E.contents errors.new)
+    ensures printed { WritesPart (E.contents errors.old) (E.contents errors.new)
         (fault_line (fault_number fault)) }
 {
     let _ = write_fault(errors, fault.code());
@@ -184,13 +187,14 @@ fn status_after(fault: DeskFault) -> u8
     match fault {
         DeskFault::NoMemory
         | DeskFault::Keep(KeepFault::NoMemory)
-        | DeskFault::File(FileFault::NoMemory) => NO_ROOM,
+        | DeskFault::File(FileFault::NoMemory) => OUT_OF_MEMORY,
         DeskFault::File(_) => REFUSED,
         _ => FAILED,
     }
 }
 
-/// Writes the line of a fault of that number, or a part of it, and gives how many bytes were taken.
+/// Writes the line of a fault of that number, or a part of it, and returns how many bytes were
+/// taken.
 fn write_fault<E: Write>(errors: &mut E, code: u16) -> io::Result<usize>
     ensures { WriteAppends (E.contents errors.old) (E.contents errors.new) result
         (fault_line code) }

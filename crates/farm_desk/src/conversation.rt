@@ -1,31 +1,31 @@
-//! One request, one answer.
+//! A conversation: one request is received, and one answer written.
 ghost use Rattle.std.specs.Prelude.{◌≡◌, ◌≢◌, ◌≤◌, ◌↔◌, false, Err, IsOk, IfOk, IfErr, IsTrue};
 ghost use Rattle.sqlite.specs.Held.{state};
 ghost use Rattle.sqlite_trees.specs.View.{doubt};
 ghost use Rattle.farm_http.specs.Counts.{nothing_read, nothing_written, reader_of, reading_of, writer_of};
 ghost use Rattle.farm_http.specs.Counts.{writing_of, IsSameReader, IsSameWriter, IsSpent};
 ghost use Rattle.farm_desk.specs.Response.{IsResponse};
-ghost use Rattle.farm_desk.specs.Ends.{IsAnswered, IsUnwritten, IsUnread, WritesAnswer, IsToldBy};
+ghost use Rattle.farm_desk.specs.Ends.{IsAnswered, IsUnwritten, IsUnread, WritesAnswer, EndsWritten};
 ghost use Rattle.farm_desk.specs.Ends.{HasNoRoom};
-ghost use Rattle.farm_desk.specs.Made.{bytes_in};
+ghost use Rattle.farm_desk.specs.Encoding.{bytes_in};
 
 use crate::answer::response_to;
+use crate::context::Context;
 use crate::fault::DeskFault;
-use crate::hear::Unheard;
+use crate::receive::ReceiveError;
 use crate::response::Response;
-use crate::server::Server;
 use farm_http::{Input, Output};
 use farm_keep::Keeper;
 use farm_wire::{CountedReader, CountedWriter, write_whole_counted};
 use sqlite::Alter;
 use std::alloc::Global;
 
-/// Reads one request, acts on the farm or looks at it, and writes one answer; gives the HTTP status
-/// that was written.
+/// Reads one request, acts on the farm or looks at it, and writes one answer; returns the HTTP
+/// status that was written.
 ///
 /// A refused request is answered with its refusal. Where memory is wanted outside the keeper's own
-/// work, the constant answer of code 1 is written and the keeper stays open; where the keeper gives
-/// a fault, that of 1, 60 or 61, and the keeper is closed. An answer of 1 or 60 doesn't tell
+/// work, the constant answer of code 1 is written and the keeper stays open; where the keeper
+/// returns a fault, that of 1, 60 or 61, and the keeper is closed. An answer of 1 or 60 doesn't say
 /// whether the command was done: the client repeats it with its key.
 ///
 /// Costs what its parts cost: one read of the request, a router of seventeen paths, one command or
@@ -38,7 +38,7 @@ pub fn converse<R: Input, W: Output, S: Alter>(
     now: u64,
 ) -> Result<u16, DeskFault>
     // The answer that is due was written whole.
-    ensures answered { IsToldBy result → IsAnswered
+    ensures answered { EndsWritten result → IsAnswered
         (IsResponse S.Store keeper.old keeper.new (R.remaining reader.old)
         (R.remaining reader.new) now)
         (W.contents writer.old) (W.contents writer.new) result }
@@ -49,13 +49,13 @@ pub fn converse<R: Input, W: Output, S: Alter>(
         (R.remaining reader.new) now)
         (W.contents writer.old) (W.contents writer.new) }
 
-    // The reader gave no request.
+    // The reader returned no request.
     ensures unread { result ≡ Err DeskFault.Read → IsUnread keeper.old keeper.new
         (W.contents writer.old) (W.contents writer.new) }
 
-    // A reader that never fails, as bytes in memory, gives a request or bytes that are refused; a
+    // A reader that never fails, as bytes in memory, returns a request or bytes that are refused; a
     // writer with room for the answer that is due, as a vector, takes it.
-    ensures heard { R.never_fails → result ≢ Err DeskFault.Read }
+    ensures received { R.never_fails → result ≢ Err DeskFault.Read }
     ensures taken { result ≡ Err DeskFault.Write → HasNoRoom
         (IsResponse S.Store keeper.old keeper.new (R.remaining reader.old)
         (R.remaining reader.new) now) (W.has_room writer.old) }
@@ -82,7 +82,7 @@ pub fn converse_counted<R: Input, W: Output, S: Alter>(
     ensures same_writer { IsSameWriter writer.old writer.new }
 
     // The answer that is due was written whole.
-    ensures answered { IsToldBy result → IsAnswered
+    ensures answered { EndsWritten result → IsAnswered
         (IsResponse S.Store keeper.old keeper.new (R.remaining (reader_of reader.old))
         (R.remaining (reader_of reader.new)) now)
         (W.contents (writer_of writer.old)) (W.contents (writer_of writer.new)) result }
@@ -93,12 +93,12 @@ pub fn converse_counted<R: Input, W: Output, S: Alter>(
         (R.remaining (reader_of reader.new)) now)
         (W.contents (writer_of writer.old)) (W.contents (writer_of writer.new)) }
 
-    // The reader gave no request.
+    // The reader returned no request.
     ensures unread { result ≡ Err DeskFault.Read → IsUnread keeper.old keeper.new
         (W.contents (writer_of writer.old)) (W.contents (writer_of writer.new)) }
 
     // With a reader that never fails, and a writer with room, neither comes.
-    ensures heard { R.never_fails → result ≢ Err DeskFault.Read }
+    ensures received { R.never_fails → result ≢ Err DeskFault.Read }
     ensures taken { result ≡ Err DeskFault.Write → HasNoRoom
         (IsResponse S.Store keeper.old keeper.new (R.remaining (reader_of reader.old))
         (R.remaining (reader_of reader.new)) now) (W.has_room (writer_of writer.old)) }
@@ -110,14 +110,14 @@ pub fn converse_counted<R: Input, W: Output, S: Alter>(
     ensures clean { doubt (state S.Store keeper.old.conn).is_clean ≤ doubt
         (state S.Store keeper.new.conn).is_clean }
 {
-    let end = Server::of_one(alloc).converse(keeper, reader, writer, now);
+    let end = Context::for_one(alloc).converse(keeper, reader, writer, now);
     if writer.has_failed() {
         return Err(DeskFault::Write);
     }
     end
 }
 
-impl Server {
+impl Context {
     /// Converses as `converse_counted` does, and ends as the answer that was due ends it, also
     /// where that answer was lost: so a keeper's fault is known in each case.
     pub(crate) fn converse<R: Input, W: Output, S: Alter>(
@@ -133,18 +133,18 @@ impl Server {
         ensures same_writer { IsSameWriter writer.old writer.new }
 
         // The answer that is due was written, or where the writer failed a part of it.
-        ensures told { result ≢ Err DeskFault.Read → WritesAnswer
+        ensures writes { result ≢ Err DeskFault.Read → WritesAnswer
             (IsResponse S.Store keeper.old keeper.new (R.remaining (reader_of reader.old))
             (R.remaining (reader_of reader.new)) now) (W.has_room (writer_of writer.old))
             (writing_of writer.new).failed (W.contents (writer_of writer.old))
             (W.contents (writer_of writer.new)) result }
 
-        // The reader gave no request.
+        // The reader returned no request.
         ensures unread { result ≡ Err DeskFault.Read → IsUnread keeper.old keeper.new
             (W.contents (writer_of writer.old)) (W.contents (writer_of writer.new))
             × IsSpent (reading_of reader.new)
             × ((writing_of writer.new).failed ≡ false) }
-        ensures heard { R.never_fails → result ≢ Err DeskFault.Read }
+        ensures received { R.never_fails → result ≢ Err DeskFault.Read }
         ensures clean { doubt (state S.Store keeper.old.conn).is_clean ≤ doubt
             (state S.Store keeper.new.conn).is_clean }
     {
@@ -154,7 +154,7 @@ impl Server {
         response.end
     }
 
-    /// The answer that is due, unless the reader gave no request.
+    /// The answer that is due, unless the reader returned no request.
     fn response<R: Input, S: Alter>(
         &self,
         keeper: &mut Keeper<S>,
@@ -172,10 +172,10 @@ impl Server {
         ensures clean { doubt (state S.Store keeper.old.conn).is_clean ≤ doubt
             (state S.Store keeper.new.conn).is_clean }
     {
-        match self.hear(reader, now) {
+        match self.receive(reader, now) {
             Ok(ask) => Ok(response_to(self.alloc, keeper, &ask)),
-            Err(Unheard::Unasked(fault)) => Ok(Response::to_nothing(self.alloc, fault)),
-            Err(Unheard::Read) => Err(DeskFault::Read),
+            Err(ReceiveError::BadRequest(fault)) => Ok(Response::denial(self.alloc, fault)),
+            Err(ReceiveError::Read) => Err(DeskFault::Read),
         }
     }
 }

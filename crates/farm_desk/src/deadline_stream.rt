@@ -7,13 +7,13 @@ use std::time::{Clock, Duration};
 /// How long a client may take over its request, and how long over its answer, in seconds.
 pub const LIMIT_SECONDS: u64 = 10;
 
-/// How long a read or a write waits for a client that gives or takes nothing, in seconds.
+/// How long a read or a write waits for a client that sends or takes nothing, in seconds.
 pub const STALL_SECONDS: u64 = 1;
 
-/// The most reads that `drop_rest` makes, of `ROOM` bytes each.
+/// The most reads that `shut_down` makes, of `READ_BYTES` bytes each.
 const MOST_READS: u32 = 32;
 
-const ROOM: usize = 4096;
+const READ_BYTES: usize = 4096;
 
 /// One direction of a client's stream. A read or a write that waits for `STALL_SECONDS` fails, and
 /// so does one that begins later than `LIMIT_SECONDS` after the first. So whoever takes nothing of
@@ -37,7 +37,7 @@ impl<'a, C: Clock> DeadlineStream<'a, C> {
     }
 
     /// Fails where the time is over.
-    fn begin(&mut self) -> io::Result<()> {
+    fn check_limit(&mut self) -> io::Result<()> {
         let now = self.clock.monotonic()?;
         match self.since {
             Some(since) if now.saturating_sub(since) > limit() => {
@@ -54,14 +54,14 @@ impl<'a, C: Clock> DeadlineStream<'a, C> {
 
 impl<C: Clock> Read for DeadlineStream<'_, C> {
     fn read(&mut self, buf: &mut [u8]) -> io::Result<usize> {
-        self.begin()?;
+        self.check_limit()?;
         self.stream.read(buf)
     }
 }
 
 impl<C: Clock> Write for DeadlineStream<'_, C> {
     fn write(&mut self, buf: &[u8]) -> io::Result<usize> {
-        self.begin()?;
+        self.check_limit()?;
         self.stream.write(buf)
     }
 
@@ -76,7 +76,7 @@ pub(crate) fn limit() -> Duration {
 }
 
 /// Lets no read and no write of a stream wait for longer than a client may stall.
-pub(crate) fn limit_waits(stream: &TcpStream) -> io::Result<()> {
+pub(crate) fn set_timeouts(stream: &TcpStream) -> io::Result<()> {
     let stall = Duration::from_secs(STALL_SECONDS);
     stream.set_read_timeout(Some(stall))?;
     stream.set_write_timeout(Some(stall))
@@ -85,12 +85,12 @@ pub(crate) fn limit_waits(stream: &TcpStream) -> io::Result<()> {
 /// Ends an answer, and drops what has come and was not asked for. A close over unread bytes would
 /// reset the connection, and the client could lose its answer (RFC 9112, section 9.6). It waits for
 /// nothing.
-pub(crate) fn drop_rest(stream: &TcpStream) {
+pub(crate) fn shut_down(stream: &TcpStream) {
     if stream.shutdown(Shutdown::Write).is_err() || stream.set_nonblocking(true).is_err() {
         return;
     }
     let mut stream = stream;
-    let mut room = [0u8; ROOM];
+    let mut room = [0u8; READ_BYTES];
     for _ in 0..MOST_READS {
         match stream.read(&mut room) {
             Ok(count) if count > 0 => {}

@@ -14,13 +14,13 @@ pub enum DeskFault {
     /// There was no memory to read the request, to understand it or to answer it.
     #[error("{}", Refusal {code: NO_MEMORY})]
     NoMemory,
-    /// The reader failed, or gave no request in 80,000 calls.
+    /// The reader failed, or returned no request in 80,000 calls.
     #[error("{}", Refusal {code: READ})]
     Read,
     /// The writer failed, took no byte or was interrupted.
     #[error("{}", Refusal {code: WRITE})]
     Write,
-    /// The keeper answered a fault, and is closed.
+    /// The keeper returned a fault, and is closed.
     #[error("{0}")]
     Keep(KeepFault),
     /// The file of an import is bad, or there was no memory to read it.

@@ -1,4 +1,4 @@
-//! Farms in files.
+//! Farms in files: opening one and making one; and reading a lab file.
 ghost use Rattle.std.specs.Prelude.{◌≡◌, ◌⊎◌, ◌+◌, false, take, IfOk, IfErr, IfSome};
 ghost use Rattle.sqlite.specs.Held.{state};
 ghost use Rattle.sqlite_wal.specs.Files.{image_at};
@@ -7,11 +7,11 @@ ghost use Rattle.farm_types.specs.Limits.{longest_lab_file};
 ghost use Rattle.farm_keep.specs.Headline.{IsAlwaysClean};
 ghost use Rattle.farm_keep.specs.Versions.{LooksForFarm};
 ghost use Rattle.farm_desk.specs.InFiles.{ShowsFiles, FindsTables, FindsFarm, MakesTables};
-ghost use Rattle.farm_desk.specs.InFiles.{MakesFarm, DeniesTables, GivesReason, IsOpenFault};
+ghost use Rattle.farm_desk.specs.InFiles.{MakesFarm, DeniesTables, HasReason, IsOpenFault};
 ghost use Rattle.farm_desk.specs.InFiles.{LooksForFarmIn, keep_fault};
 
 use crate::fault::DeskFault;
-use crate::ground::Ground;
+use crate::preflight::Preflight;
 use farm_keep::{KeepFault, Keeper};
 use farm_store::opened_stands;
 use farm_types::LONGEST_LAB_FILE;
@@ -29,7 +29,7 @@ pub type FileKeeper<S> = Keeper<FileStore<FileFrom<S>>>;
 /// made is taken away, once what is left of the store is closed.
 pub(crate) fn open<S: Start>(
     rt: &HostRuntime,
-    ground: &Ground<'_>,
+    preflight: &Preflight<'_>,
     path: &str,
     start: S,
 ) -> Result<Connection<FileStore<FileFrom<S>>>, DeskFault>
@@ -41,16 +41,16 @@ pub(crate) fn open<S: Start>(
         Ok(conn) => Ok(conn),
         Err((_, left)) => {
             drop(left);
-            ground.clear(rt);
+            preflight.clean_up(rt);
             Err(DeskFault::Keep(KeepFault::Store))
         }
     }
 }
 
-/// A keeper of the farm that stands in the file at a path. Where no database stands, or one without
-/// the farm's tables, that is a fault of the store, and one with the tables of no sound farm is
-/// bad. Nothing is made where nothing stands. What a fault leaves of a store is said of
-/// `farm_keep::found`, which is lent the connection.
+/// A keeper of the farm in the file at a path. Where there is no database, or one without the
+/// farm's tables, that is a fault of the store, and one with the tables of no sound farm is bad.
+/// Nothing is made where there is nothing. What a fault leaves of a store the clauses of
+/// `farm_keep::found` say, which borrows the connection.
 ///
 /// Costs one reading of the file.
 pub fn open_farm<S: Start>(
@@ -61,31 +61,31 @@ pub fn open_farm<S: Start>(
 ) -> Result<FileKeeper<S>, DeskFault>
     ensures found { IfOk result (FindsFarm (image_at S.Start)) }
 
-    // On a disk that always returns what was written, the files are told bad only where they hold
-    // no sound farm, and of an old schema only where their tables are of the first edition.
-    ensures denied { GivesReason (image_at S.Start) result }
+    // On a disk that always returns what was written, the files are reported as bad only where they
+    // hold no sound farm, and as of an old schema only where their tables are of the first edition.
+    ensures denied { HasReason (image_at S.Start) result }
 
-    // Whatever else stands in them, they are told to be of an old schema only where their `meta` may
-    // tell 1, and are told so where it does; where it tells neither 1 nor 2 they are bad.
+    // Whatever else they hold, they are reported to be of an old schema only where their `meta` may
+    // have 1, and are reported so where it has; where it has neither 1 nor 2 they are bad.
     ensures version { LooksForFarmIn (image_at S.Start) result }
     ensures fault { IfErr result IsOpenFault }
 {
-    let Some(ground) = Ground::of_farm(rt, alloc, path) else {
+    let Some(preflight) = Preflight::of_farm(rt, alloc, path) else {
         return Err(DeskFault::Keep(KeepFault::Store));
     };
-    let conn = open(rt, &ground, path, start)?;
+    let conn = open(rt, &preflight, path, start)?;
     let found = farm_on(alloc, conn);
     if found.is_err() {
-        ground.clear(rt);
+        preflight.clean_up(rt);
     }
     found
 }
 
-/// A keeper of the empty farm in the file at a path, which is made where nothing stands. A file
+/// A keeper of the empty farm in the file at a path, which is made where there is nothing. A file
 /// that has a table of these names is refused by the store, and stays as it is; so does a file that
 /// is neither empty nor a database, and a log without its file. What was made for a store that
-/// fails is taken away again where it holds nothing. What else a fault leaves of one is said of
-/// `farm_store::create`, which is lent the connection.
+/// fails is taken away again where it holds nothing. What else a fault leaves of one the clauses
+/// of `farm_store::create` say, which borrows the connection.
 pub fn make_farm<S: Start>(
     rt: &HostRuntime,
     alloc: Global,
@@ -95,13 +95,13 @@ pub fn make_farm<S: Start>(
     ensures made { IfOk result (MakesFarm (image_at S.Start)) }
     ensures fault { IfErr result (λ fault. fault ≡ DeskFault.Keep KeepFault.Store) }
 {
-    let Some(ground) = Ground::of_new_farm(rt, alloc, path) else {
+    let Some(preflight) = Preflight::of_new_farm(rt, alloc, path) else {
         return Err(DeskFault::Keep(KeepFault::Store));
     };
-    let conn = open(rt, &ground, path, start)?;
+    let conn = open(rt, &preflight, path, start)?;
     let made = new_farm_on(alloc, conn);
     if made.is_err() {
-        ground.clear(rt);
+        preflight.clean_up(rt);
     }
     made
 }
@@ -114,7 +114,7 @@ fn farm_on<D: Disk + Drop>(
 ) -> Result<Keeper<FileStore<D>>, DeskFault>
     requires { conn.in_transaction ≡ false }
     ensures found { IfOk result (λ k. (image : Image) → ShowsFiles image conn → FindsFarm image k) }
-    ensures denied { (image : Image) → ShowsFiles image conn → GivesReason image result }
+    ensures denied { (image : Image) → ShowsFiles image conn → HasReason image result }
     ensures version { (image : Image) → ShowsFiles image conn → LooksForFarmIn image result }
     ensures fault { IfErr result IsOpenFault }
 {
@@ -168,7 +168,7 @@ pub(crate) fn read_lab(rt: &HostRuntime, alloc: Global, path: &str) -> Result<Ve
     }
 }
 
-/// The first bytes that a reader gives, one more than a lab file may have.
+/// The first bytes of a reader, one more than a lab file may have.
 fn read_lab_from<R: Read + Drop>(alloc: Global, reader: R) -> Result<Vec<u8>, DeskFault>
     ensures bytes { IfOk result (λ bytes. IfSome (R.remaining reader) (λ input.
         bytes.items ≡ take (longest_lab_file + 1) input)) }

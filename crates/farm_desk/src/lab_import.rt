@@ -1,4 +1,4 @@
-//! Importing a lab file.
+//! Importing a lab file's text: its calls are done, up to the first refusal or fault.
 ghost use Rattle.std.specs.Prelude.{◌≤◌};
 ghost use Rattle.sqlite.specs.Held.{state};
 ghost use Rattle.sqlite_trees.specs.View.{doubt};
@@ -29,7 +29,7 @@ impl ImportEnd {
     ghost use Rattle.farm_core.specs.Answers.{answer_of};
     ghost use Rattle.farm_desk.specs.Imports.{Counts};
 
-    /// Counts an answer, or gives the refusal that it is.
+    /// Counts an answer, or returns the refusal that it is.
     fn count(&mut self, answer: &Answer) -> Option<Refusal>
         requires accepted { self.old.accepted + 1 < 2 ^ 64 }
         requires kept { self.old.kept + 1 < 2 ^ 64 }

@@ -3,20 +3,21 @@ ghost use Rattle.std.specs.Prelude.{◌≡◌, ◌≢◌, ◌≤◌, ◌+◌, �
 ghost use Rattle.std.specs.Prelude.{OnOk, IfErr, vec_capacity, ⊤};
 ghost use Rattle.sqlite.specs.Held.{state};
 ghost use Rattle.sqlite_trees.specs.View.{doubt};
-ghost use Rattle.farm_desk.specs.Agreed.{ExitStatusesAgree};
-ghost use Rattle.farm_desk.specs.Conversations.{Desk, Talk, ConverseInTurn, ConverseApart, desk};
-ghost use Rattle.farm_desk.specs.Conversations.{AnswersAll, StopsAt, AnsweredActAsRun, IsToldAgain};
+ghost use Rattle.farm_desk.specs.ExitStatuses.{ExitStatusesAgree};
+ghost use Rattle.farm_desk.specs.Conversations.{Desk, Conversation, ConverseInTurn, desk};
+ghost use Rattle.farm_desk.specs.Conversations.{AnswersAll, StopsAt, AnsweredActAsRun};
+ghost use Rattle.farm_desk.specs.Conversations.{ConverseApart, IsAnsweredAgain};
 ghost use Rattle.farm_desk.specs.Conversations.{OpenKeepsDone, ClosedKeepsPrefix};
-ghost use Rattle.farm_desk.specs.Ends.{IsAnswered, IsToldBy, HasNoRoom};
+ghost use Rattle.farm_desk.specs.Ends.{IsAnswered, EndsWritten, HasNoRoom};
 ghost use Rattle.farm_desk.specs.InFiles.{LeavesFiles};
-ghost use Rattle.farm_desk.specs.Known.{clientele_of};
+ghost use Rattle.farm_desk.specs.Scripts.{client_list_of};
 ghost use Rattle.farm_desk.specs.Response.{IsResponse};
 ghost use Rattle.farm_desk.specs.Upgrades.{LeavesEitherFile};
-ghost use Rattle.farm_desk.specs.Visits.{ServesInTurn};
+ghost use Rattle.farm_desk.specs.Connections.{ServesInTurn};
 
 use crate::conversation::converse;
 use crate::fault::DeskFault;
-use crate::known::KnownClients;
+use crate::scripted_clients::ScriptedClients;
 use crate::serving::serve;
 use farm_http::{Input, Output};
 use farm_keep::Keeper;
@@ -25,7 +26,7 @@ use sqlite_disk::Disk;
 use std::alloc::Global;
 
 /// Converses once at each moment, one conversation after another over one reader and one writer,
-/// and stops at the first that isn't answered. The laws below say what that comes to. Costs what
+/// and stops at the first that isn't answered. The laws below say what that amounts to. Costs what
 /// the conversations cost.
 pub fn converse_in_turn<R: Input, W: Output, S: Alter>(
     alloc: Global,
@@ -40,7 +41,7 @@ pub fn converse_in_turn<R: Input, W: Output, S: Alter>(
     ensures fault { IfErr result (λ fault. StopsAt S.Store
         (desk keeper.old (R.remaining reader.old) (W.contents writer.old))
         (desk keeper.new (R.remaining reader.new) (W.contents writer.new)) moments.now fault) }
-    ensures heard { R.never_fails → result ≢ Err DeskFault.Read }
+    ensures received { R.never_fails → result ≢ Err DeskFault.Read }
     ensures clean { doubt (state S.Store keeper.old.conn).is_clean ≤ doubt
         (state S.Store keeper.new.conn).is_clean }
 {
@@ -61,8 +62,8 @@ pub fn converse_in_memory<S: Alter>(
     writer: &mut Vec<u8>,
     now: u64,
 ) -> Result<u16, DeskFault>
-    ensures heard { result ≢ Err DeskFault.Read }
-    ensures answered { IsToldBy result → IsAnswered
+    ensures received { result ≢ Err DeskFault.Read }
+    ensures answered { EndsWritten result → IsAnswered
         (IsResponse S.Store keeper.old keeper.new (Some reader.old.now) (Some reader.new.now) now)
         (Some writer.old.items) (Some writer.new.items) result }
     ensures taken { result ≡ Err DeskFault.Write → HasNoRoom
@@ -72,23 +73,23 @@ pub fn converse_in_memory<S: Alter>(
     converse(alloc, keeper, reader, writer, now)
 }
 
-/// Serves clients that are known beforehand: none of them ends as unheard, and none whose answer
+/// Serves scripted clients: no conversation ends with the fault Read, and none whose answer
 /// fits what it is answered in ends as unanswered.
 pub fn serve_in_memory<S: Alter>(
     alloc: Global,
     keeper: &mut Keeper<S>,
-    clients: &mut KnownClients<'_>,
+    clients: &mut ScriptedClients<'_>,
     max: u64,
 ) -> Result<(), DeskFault>
-    ensures { ServesInTurn S.Store ⊤ (Some (clientele_of clients.old))
-        (Some (clientele_of clients.new)) keeper.old keeper.new max (IsOk result) }
+    ensures { ServesInTurn S.Store ⊤ (Some (client_list_of clients.old))
+        (Some (client_list_of clients.new)) keeper.old keeper.new max (IsOk result) }
 {
     serve(alloc, keeper, clients, max)
 }
 
 /// Conversations over one list and then over another are the conversations over their joining.
 pub fn conversations_join<S: Alter>()
-    ensures { (first second : List Talk) (old new : Desk S)
+    ensures { (first second : List Conversation) (old new : Desk S)
         → ConverseInTurn S.Store (first ++ second) old new
         ↔ ConverseApart S.Store first second old new }
 {}
@@ -100,15 +101,15 @@ pub fn answered_act_as_run<S: Alter>()
     ensures { AnsweredActAsRun S.Store }
 {}
 
-/// A request that is sent again under its key is told the kept reply, or is refused for its key or
+/// A request that is sent again under its key gets the kept reply, or is refused for its key or
 /// its moment: a client that gets no answer may send it again until it gets one.
-pub fn request_told_again()
-    ensures { IsToldAgain }
+pub fn request_answered_again()
+    ensures { IsAnsweredAgain }
 {}
 
 /// However conversations end, the store keeps the farm after the calls that were done. Where one of
-/// them closes the keeper, a stop leaves that farm or, unless memory was wanting, perhaps the one
-/// after the call that it asked: that is the crash prefix of conversations.
+/// them closes the keeper, a stop leaves that farm or, unless it was for want of memory, perhaps
+/// the one after the call that it asked: that is the crash prefix of conversations.
 pub fn conversations_keep_a_prefix<S: Alter>()
     ensures opened { OpenKeepsDone S.Store }
     ensures closed { ClosedKeepsPrefix S.Store }
@@ -133,7 +134,7 @@ pub fn upgraded_files_hold<D: Disk + Drop>(conn: Connection<FileStore<D>>) -> Fi
     conn.into_store()
 }
 
-/// The exit statuses that the code gives are those of the definitions.
+/// The exit statuses of the code are those of the definitions.
 pub fn statuses_agree()
     ensures { ExitStatusesAgree }
 {}

@@ -4,54 +4,60 @@
 //! adds what a lab file lists; `serve` converses with one client after another, and `serve_on` with
 //! those of a listener; `program` is the program `farm`.
 //!
-//! Read `specs/` in the order Heard, Answers, Made, Response, Ends, which say what a conversation
-//! is; Imports, what an import is; Conversations, Clients, Known, Visits, Serving, what serving
-//! does; InFiles, Upgrades, what stands in files; Faults, Lines, Reports, what the program tells;
-//! Tasks, Orders, Program, what it does.
+//! Read `src/` in the order receive, answer, response, conversation; lab_import; clients, serving,
+//! scripted_clients, socket_clients with pending and deadline_stream; preflight, files, upgrade,
+//! open_files; report, orders, command_line; laws.
+//!
+//! Read `specs/` in the order Received, Answers, Encoding, Response, Ends, which say what a
+//! conversation is; Imports, what an import is; Conversations, Clients, Scripts, Connections,
+//! Serving, what serving does; InFiles, Upgrades, which farm files hold; Faults, Lines, Reports,
+//! what the program prints; Tasks, Orders, Program, what it does.
 #![tactic(auto)]
 
-mod accepted;
 mod answer;
 mod client_output;
 mod clients;
 mod command_line;
+mod context;
 mod conversation;
 mod deadline_stream;
 mod fault;
 mod files;
-mod ground;
-mod hear;
-mod known;
 mod lab_import;
 mod laws;
 mod open_files;
 mod orders;
 mod pending;
+mod preflight;
+mod receive;
 mod report;
 mod response;
-mod server;
+mod scripted_clients;
 mod serving;
+mod socket_clients;
 mod upgrade;
 
 // One conversation: a request, what it asks, and its answer.
 pub use conversation::{converse, converse_counted};
 pub use farm_http::{Input, Output};
 
-// A lab file's commands, given to a keeper.
+// A lab file's commands, done by a keeper.
 pub use lab_import::{ImportEnd, import};
 
 // Conversations with one client after another.
 pub use clients::{Client, Clients};
-pub use known::{Gone, KnownClients, Sent};
+pub use scripted_clients::{ScriptedClient, ScriptedClients, ServedClient};
 pub use serving::{serve, serve_on};
 
 // Farms in files.
 pub use files::{FileKeeper, make_farm, open_farm};
 pub use upgrade::migrate_farm;
 
-// The program: its words, the orders they give, and its exit statuses.
-pub use command_line::{DONE, FAILED, NO_ROOM, REFUSED, WRONG_WORDS, perform, program, tell};
-pub use farm_order::{Database, Order, OrderFault, Report, order_of};
+// The program: its words, the orders that they name, and its exit statuses.
+pub use command_line::{
+    DONE, FAILED, OUT_OF_MEMORY, REFUSED, WRONG_WORDS, perform, print_fault, program,
+};
+pub use farm_cli::{Database, Order, OrderFault, Report, order_of};
 pub use orders::{End, carry_out, carry_out_from};
 
 // What ends a conversation, an import or an order.
@@ -60,6 +66,6 @@ pub use fault::DeskFault;
 // What is proved of desks: functions that only proofs read.
 pub use laws::{
     answered_act_as_run, conversations_join, conversations_keep_a_prefix, converse_in_memory,
-    converse_in_turn, request_told_again, serve_in_memory, statuses_agree, stopped_files_hold,
+    converse_in_turn, request_answered_again, serve_in_memory, statuses_agree, stopped_files_hold,
     upgraded_files_hold,
 };

@@ -1,19 +1,19 @@
 //! A farm's two files while they are served: whether somebody moved, removed or cut one. Nothing is
 //! known of a path, so nothing here has a clause.
-use crate::ground::log_path;
+use crate::preflight::log_path;
 use std::alloc::Global;
 use std::cell::Cell;
 use std::fs;
 use std::io::ErrorKind;
 use std::os::unix::fs::MetadataExt;
 
-/// What the system says of a path.
+/// What the system returns for a path.
 #[derive(Clone, Copy, Debug, PartialEq, Eq)]
-enum Look {
+enum Lookup {
     /// It names this file, which is so long.
-    Names(Identity, u64),
+    File(Identity, u64),
     Nothing,
-    /// It can't be told.
+    /// It returned another error.
     Unknown,
 }
 
@@ -32,10 +32,10 @@ struct OpenFile {
     length: Cell<u64>,
 }
 
-/// A farm's file and the log beside it, which the desk has open. Where a path names another file, or
-/// none, or a file got shorter, somebody took it away: what the desk writes from then on is lost.
-/// Neither gets shorter by what the desk does: nothing is vacuumed, and a log that was copied into
-/// the file is written from its beginning on.
+/// A farm's file and the log beside it, which the desk has open. Where a path names another file,
+/// or none, or a file got shorter, somebody took it away: what the desk writes from then on is
+/// lost. Neither gets shorter by what the desk does: nothing is vacuumed, and a log that was copied
+/// into the file is written from its beginning on.
 #[derive(Drop)]
 pub(crate) struct OpenFiles<'a> {
     rt: &'a HostRuntime,
@@ -45,8 +45,8 @@ pub(crate) struct OpenFiles<'a> {
 }
 
 impl<'a> OpenFiles<'a> {
-    /// The files of a farm that was just opened; none where a path names no file, or where that
-    /// can't be told.
+    /// The files of a farm that was just opened; none where a path names no file, or where the
+    /// system returns another error.
     pub(crate) fn new(rt: &'a HostRuntime, alloc: Global, file: &str) -> Option<OpenFiles<'a>> {
         let log = log_path(rt, alloc, file).ok()?;
         Some(OpenFiles {
@@ -58,8 +58,8 @@ impl<'a> OpenFiles<'a> {
     }
 
     /// Looks at both: whether neither was taken away, now or at a look before.
-    pub(crate) fn are_there(&self) -> bool {
-        if !self.file.is_there(self.rt) || !self.log.is_there(self.rt) {
+    pub(crate) fn are_present(&self) -> bool {
+        if !self.file.is_present(self.rt) || !self.log.is_present(self.rt) {
             self.are_lost.set(true);
         }
         !self.are_lost()
@@ -73,8 +73,8 @@ impl<'a> OpenFiles<'a> {
 
 impl OpenFile {
     fn new(rt: &HostRuntime, path: String) -> Option<OpenFile> {
-        match look_at(rt, path.as_str()) {
-            Look::Names(identity, length) => Some(OpenFile {
+        match look_up(rt, path.as_str()) {
+            Lookup::File(identity, length) => Some(OpenFile {
                 path,
                 identity,
                 length: Cell::new(length),
@@ -83,21 +83,21 @@ impl OpenFile {
         }
     }
 
-    /// Whether the path names the file, which didn't get shorter, as far as can be told.
-    fn is_there(&self, rt: &HostRuntime) -> bool {
-        match look_at(rt, self.path.as_str()) {
-            Look::Names(identity, length) => {
+    /// Whether the path names the file, which didn't get shorter, as far as the system says.
+    fn is_present(&self, rt: &HostRuntime) -> bool {
+        match look_up(rt, self.path.as_str()) {
+            Lookup::File(identity, length) => {
                 identity == self.identity && length >= self.length.replace(length)
             }
-            Look::Nothing => false,
-            Look::Unknown => true,
+            Lookup::Nothing => false,
+            Lookup::Unknown => true,
         }
     }
 }
 
-fn look_at(rt: &HostRuntime, path: &str) -> Look {
+fn look_up(rt: &HostRuntime, path: &str) -> Lookup {
     match fs::metadata(rt, path) {
-        Ok(found) => Look::Names(
+        Ok(found) => Lookup::File(
             Identity {
                 device: found.dev(),
                 node: found.ino(),
@@ -105,8 +105,8 @@ fn look_at(rt: &HostRuntime, path: &str) -> Look {
             found.len(),
         ),
         Err(error) => match error.kind() {
-            ErrorKind::NotFound | ErrorKind::NotADirectory => Look::Nothing,
-            _ => Look::Unknown,
+            ErrorKind::NotFound | ErrorKind::NotADirectory => Lookup::Nothing,
+            _ => Lookup::Unknown,
         },
     }
 }

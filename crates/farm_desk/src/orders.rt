@@ -1,13 +1,13 @@
-//! Carrying out an order.
+//! Carrying out an order: its files are opened or made, its task done, and what it did printed.
 ghost use Rattle.std.specs.Prelude.{◌≡◌, IfErr, IfOk, OnOk};
 ghost use Rattle.std.specs.Io.KnownBytes.{Appends};
 ghost use Rattle.sqlite_wal.specs.Files.{image_at};
 ghost use Rattle.farm_desk.specs.Conversations.{AnswersOne, desk};
 ghost use Rattle.farm_desk.specs.Imports.{IsImport};
-ghost use Rattle.farm_desk.specs.Lines.{counts_line, port_line, PrintsLine, TellsImport};
+ghost use Rattle.farm_desk.specs.Lines.{counts_line, port_line, PrintsLine, PrintsImport};
 ghost use Rattle.farm_desk.specs.Orders.{streams, DoesInFiles, DoesInMemory, DoesOrder};
 ghost use Rattle.farm_desk.specs.Orders.{DoesWhileThere, Inits, IsUnlessLost, Migrates, OpensMemory};
-ghost use Rattle.farm_desk.specs.Tasks.{DoesTask, ImportsFile, PrintsReportOf, ServesIfHeard};
+ghost use Rattle.farm_desk.specs.Tasks.{DoesTask, ImportsFile, PrintsReportOf, ServesIfListening};
 ghost use Rattle.farm_keep.specs.Kept.{Kept};
 
 use crate::conversation::converse;
@@ -18,9 +18,9 @@ use crate::open_files::OpenFiles;
 use crate::report::{report_text, zone_between};
 use crate::serving::serve_on_files;
 use crate::upgrade::migrate_farm;
+use farm_cli::{Database, Order, Report};
 use farm_http::{Input, Output};
 use farm_keep::{KeepFault, Keeper};
-use farm_order::{Database, Order, Report};
 use farm_types::Refusal;
 use farm_wire::{OK, write_whole};
 use sqlite::{Alter, Connection, FileFrom, MemStore, Start, Unknown};
@@ -39,7 +39,7 @@ const LARGE_FILE: u64 = 16_000_000;
 pub enum End {
     /// It was carried out.
     Done,
-    /// Its request was refused, as the answer on the output tells.
+    /// Its request was refused, as the answer on the output shows.
     Refused,
     /// The command at that place of its lab file, counted from 1, was refused.
     RefusedAt(usize, Refusal),
@@ -146,8 +146,8 @@ fn do_in_files<S: Start, R: Input, W: Output>(
     }
 }
 
-/// Does a task with the farm in a file as long as that is there. Where somebody takes away the file or
-/// its log meanwhile, that is a fault of the store, since what would be written then is lost.
+/// Does a task with the farm in a file as long as that is there. Where somebody takes away the file
+/// or its log meanwhile, that is a fault of the store, since what would be written then is lost.
 fn do_while_there<S: Start, R: Input, W: Output>(
     rt: &HostRuntime,
     alloc: Global,
@@ -162,7 +162,7 @@ fn do_while_there<S: Start, R: Input, W: Output>(
         (streams (R.remaining input.new) (W.contents output.new))
         ⟦<FileFrom<S> as Disk>⟧ (image_at S.Start) task result }
 {
-    tell_size(rt, file, "opening");
+    print_size_note(rt, file, "opening");
     match open_farm(rt, alloc, file, start) {
         Ok(keeper) => match OpenFiles::new(rt, alloc, file) {
             Some(files) => {
@@ -199,8 +199,8 @@ enum Task {
     Serve { port: u16, max: u64 },
 }
 
-/// Does what an order wants of a keeper's farm. It serves as long as these files are there, where they
-/// are given.
+/// Does an order's task with a keeper's farm. It serves as long as these files are there, where
+/// they are passed.
 fn on_farm<R: Input, W: Output, S: Alter + Drop>(
     rt: &HostRuntime,
     alloc: Global,
@@ -286,7 +286,7 @@ fn init<S: Start, W: Output>(
     print_line(output, b"ready\n")
 }
 
-/// Prints the line that tells what was done.
+/// Prints the line of an order that was done.
 fn print_line<W: Output>(output: &mut W, line: &[u8]) -> Result<End, DeskFault>
     ensures { PrintsLine (W.has_room output.old) (W.contents output.old) (W.contents output.new)
         line.now result }
@@ -297,9 +297,9 @@ fn print_line<W: Output>(output: &mut W, line: &[u8]) -> Result<End, DeskFault>
     }
 }
 
-/// Tells whoever sits at the terminal what is done with a file that is a large one, since it takes a
+/// Prints, where standard error is a terminal, what is done with a large file, since that takes a
 /// few seconds.
-fn tell_size(rt: &HostRuntime, file: &str, what: &str) {
+fn print_size_note(rt: &HostRuntime, file: &str, what: &str) {
     let Ok(found) = fs::metadata(rt, file) else {
         return;
     };
@@ -325,7 +325,7 @@ fn migrate<S: Start, W: Output>(
     ensures { Migrates (W.has_room output.old) (W.contents output.old) (W.contents output.new)
         ⟦<FileFrom<S> as Disk>⟧ (image_at S.Start) result }
 {
-    tell_size(rt, file, "migrating");
+    print_size_note(rt, file, "migrating");
     match migrate_farm(rt, alloc, file, start) {
         Ok(conn) => {
             let _ = conn.close();
@@ -362,7 +362,7 @@ fn import_text<W: Output, S: Alter>(
     output: &mut W,
 ) -> Result<End, DeskFault>
     ensures { (imported : ImportEnd) × IsImport S.Store keeper.old keeper.new text.now at imported
-        × TellsImport imported (W.contents output.old) (W.contents output.new) result }
+        × PrintsImport imported (W.contents output.old) (W.contents output.new) result }
 {
     let end = import(alloc, keeper, text, at);
     if let Some(fault) = end.fault {
@@ -387,7 +387,7 @@ fn print_counts<W: Output>(output: &mut W, accepted: usize, kept: usize) -> Resu
 }
 
 /// Serves so many connections to a port of 127.0.0.1 from a keeper's farm, as long as its files are
-/// there, where they are given.
+/// there, where they are passed.
 fn serve<W: Output, S: Alter>(
     rt: &HostRuntime,
     alloc: Global,
@@ -397,7 +397,7 @@ fn serve<W: Output, S: Alter>(
     files: Option<&OpenFiles<'_>>,
     output: &mut W,
 ) -> Result<End, DeskFault>
-    ensures { ServesIfHeard S.Store keeper.old keeper.new (W.contents output.old)
+    ensures { ServesIfListening S.Store keeper.old keeper.new (W.contents output.old)
         (W.contents output.new) port max result }
 {
     let Ok(listener) = listen(rt, port) else {
@@ -416,9 +416,9 @@ fn listen(rt: &HostRuntime, port: u16) -> io::Result<TcpListener> {
     Ok(TcpListener::from(listener.as_fd().try_clone_to_owned()?))
 }
 
-/// Prints the port on which clients are heard from now on.
+/// Prints the port on which clients are accepted from now on.
 fn print_port<W: Output>(output: &mut W, port: u16) -> Result<(), DeskFault>
-    ensures told { OnOk result (Appends (W.contents output.old) (W.contents output.new)
+    ensures printed { OnOk result (Appends (W.contents output.old) (W.contents output.new)
         (port_line port)) }
     ensures fault { IfErr result (λ fault. fault ≡ DeskFault.Write) }
 {

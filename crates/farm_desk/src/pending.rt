@@ -1,5 +1,5 @@
 //! Connections that wait until their requests are there.
-use crate::deadline_stream::{limit, limit_waits};
+use crate::deadline_stream::{limit, set_timeouts};
 use farm_types::{LONGEST_BODY, LONGEST_HEAD};
 use farm_wire::{WireFault, read_request};
 use mio::event::Event;
@@ -42,11 +42,11 @@ struct Waiting {
 /// The connections of a listener, from their accept until their requests are there, or the time is
 /// over. Those that wait cost the others nothing: the bytes of a request wait in the system's
 /// buffer, which holds the longest one, and are looked at when some came. Among those whose
-/// requests are there the first that came is the next.
+/// requests are complete the first that came is the next.
 ///
 /// There is a place for each that may wait from the start, so a place takes no memory later, and
-/// whoever is accepted is heard. Those whose requests aren't there, `silent`, are registered; both
-/// rows are in the order of arrival.
+/// whoever is accepted is served. The `incomplete` ones, whose requests aren't there, are
+/// registered; both rows are in the order of arrival.
 ///
 /// Each connection costs two binary searches in its row, one shift of the shorter side of each, and
 /// a look at the bytes of its request for each time that some came.
@@ -56,10 +56,10 @@ pub(crate) struct Pending {
     poll: Poll,
     events: Events,
     bytes: Vec<u8>,
-    silent: VecDeque<Waiting>,
+    incomplete: VecDeque<Waiting>,
     ready: VecDeque<Waiting>,
     accepted: usize,
-    left: u64,
+    to_accept: u64,
     refused: u64,
     paused_until: Option<Duration>,
 }
@@ -76,7 +76,7 @@ impl Pending {
         let poll = Poll::new(net).ok()?;
         let events = Events::with_capacity(alloc, MOST_EVENTS).ok()?;
         let bytes = Vec::from_elem(alloc, 0u8, LONGEST_REQUEST + 1).ok()?;
-        let silent = VecDeque::with_capacity(alloc, MOST_WAITING).ok()?;
+        let incomplete = VecDeque::with_capacity(alloc, MOST_WAITING).ok()?;
         let ready = VecDeque::with_capacity(alloc, MOST_WAITING).ok()?;
         let fd = listener.as_raw_fd();
         poll.registry()
@@ -88,10 +88,10 @@ impl Pending {
             poll,
             events,
             bytes,
-            silent,
+            incomplete,
             ready,
             accepted: 0,
-            left: max,
+            to_accept: max,
             refused: 0,
             paused_until: None,
         })
@@ -108,11 +108,11 @@ impl Pending {
             let now = clock.monotonic().ok();
             self.accept_all(listener, now);
             // Who waits is looked at before whoever came now, also while there is always one ready.
-            if !self.silent.is_empty() {
-                self.look(Some(Duration::ZERO));
+            if !self.incomplete.is_empty() {
+                self.poll_events(Some(Duration::ZERO));
             }
-            if self.is_first_over(now) {
-                return self.take_silent();
+            if self.has_first_timed_out(now) {
+                return self.take_incomplete();
             }
             if let Some(waiting) = self.ready.pop_front() {
                 waiting.stream.set_nonblocking(false).ok()?;
@@ -122,11 +122,11 @@ impl Pending {
                 self.refused -= 1;
                 return None;
             }
-            if self.left == 0 && self.silent.is_empty() {
+            if self.to_accept == 0 && self.incomplete.is_empty() {
                 return None;
             }
             let until = self.time_left(now);
-            self.look(until);
+            self.poll_events(until);
         }
         None
     }
@@ -137,19 +137,19 @@ impl Pending {
             return;
         }
         for _ in 0..MOST_WAITING {
-            if self.left == 0 || !self.has_room() {
+            if self.to_accept == 0 || !self.has_room() {
                 return;
             }
             match listener.accept() {
                 Ok((stream, _)) => {
-                    self.left -= 1;
-                    if self.take_in(stream, now).is_none() {
+                    self.to_accept -= 1;
+                    if self.add(stream, now).is_none() {
                         self.refused = self.refused.saturating_add(1);
                     }
                 }
                 Err(error) if error.kind() == ErrorKind::WouldBlock => return,
                 Err(_) => {
-                    self.left -= 1;
+                    self.to_accept -= 1;
                     self.refused = self.refused.saturating_add(1);
                     self.paused_until = now.map(|now| now.saturating_add(pause()));
                     return;
@@ -159,7 +159,7 @@ impl Pending {
     }
 
     fn has_room(&self) -> bool {
-        self.silent.len().saturating_add(self.ready.len()) < MOST_WAITING
+        self.incomplete.len().saturating_add(self.ready.len()) < MOST_WAITING
     }
 
     /// Whether the system refused to accept a moment ago.
@@ -170,9 +170,10 @@ impl Pending {
         }
     }
 
-    /// Has a connection wait, unless its request is there already; none where the system refuses.
-    fn take_in(&mut self, stream: TcpStream, now: Option<Duration>) -> Option<()> {
-        limit_waits(&stream).ok()?;
+    /// Adds a connection, to the ready ones where its request is complete; none where the system
+    /// refuses.
+    fn add(&mut self, stream: TcpStream, now: Option<Duration>) -> Option<()> {
+        set_timeouts(&stream).ok()?;
         stream.set_nonblocking(true).ok()?;
         let number = self.accepted;
         self.accepted = number.wrapping_add(1);
@@ -181,7 +182,7 @@ impl Pending {
             stream,
             since: now.unwrap_or(Duration::ZERO),
         };
-        if is_there(self.alloc, &waiting.stream, self.bytes.as_mut_slice()) {
+        if is_complete(self.alloc, &waiting.stream, self.bytes.as_mut_slice()) {
             return self.ready.push_back(waiting).ok();
         }
         let fd = waiting.stream.as_raw_fd();
@@ -189,44 +190,48 @@ impl Pending {
             .registry()
             .register(&mut SourceFd(&fd), Token(number), Interest::READABLE)
             .ok()?;
-        self.silent.push_back(waiting).ok()
+        self.incomplete.push_back(waiting).ok()
     }
 
-    /// Whether the time of the first silent connection is over, or nobody can tell.
-    fn is_first_over(&self, now: Option<Duration>) -> bool {
-        match (self.silent.front(), now) {
+    /// Whether the time of the first incomplete connection is over, or the clock can't be read.
+    fn has_first_timed_out(&self, now: Option<Duration>) -> bool {
+        match (self.incomplete.front(), now) {
             (Some(first), Some(now)) => now.saturating_sub(first.since) > limit(),
             (Some(_), None) => true,
             (None, _) => false,
         }
     }
 
-    /// Takes the first silent connection out. A read of it waits for nothing.
-    fn take_silent(&mut self) -> Option<TcpStream> {
-        let waiting = self.silent.pop_front()?;
+    /// Takes the first incomplete connection out. A read of it waits for nothing.
+    fn take_incomplete(&mut self) -> Option<TcpStream> {
+        let waiting = self.incomplete.pop_front()?;
         deregister(&self.poll, &waiting.stream);
         Some(waiting.stream)
     }
 
-    /// Waits so long at most until bytes or connections came, and notes whose requests are there.
-    fn look(&mut self, until: Option<Duration>) {
+    /// Waits so long at most until bytes or connections came, and moves those whose requests are
+    /// complete to the ready ones.
+    fn poll_events(&mut self, until: Option<Duration>) {
         if self.poll.poll(&mut self.events, until).is_err() {
             return;
         }
         for event in self.events.iter() {
             let number = event.token().0;
-            let Ok(place) = self.silent.binary_search_by_key(&number, |it| it.number) else {
+            let Ok(place) = self
+                .incomplete
+                .binary_search_by_key(&number, |it| it.number)
+            else {
                 continue;
             };
-            let Some(waiting) = self.silent.get(place) else {
+            let Some(waiting) = self.incomplete.get(place) else {
                 continue;
             };
-            let is_next = is_ended(event)
-                || is_there(self.alloc, &waiting.stream, self.bytes.as_mut_slice());
-            if !is_next {
+            let is_ready = is_ended(event)
+                || is_complete(self.alloc, &waiting.stream, self.bytes.as_mut_slice());
+            if !is_ready {
                 continue;
             }
-            if let Some(waiting) = self.silent.remove(place) {
+            if let Some(waiting) = self.incomplete.remove(place) {
                 deregister(&self.poll, &waiting.stream);
                 put_in_order(&mut self.ready, waiting);
             }
@@ -240,7 +245,7 @@ impl Pending {
             Some(until) if now < until => Some(until.saturating_sub(now)),
             _ => None,
         };
-        let limit = match self.silent.front() {
+        let limit = match self.incomplete.front() {
             Some(first) => Some(
                 first
                     .since
@@ -276,7 +281,7 @@ fn is_ended(event: &Event) -> bool {
 
 /// Whether no further byte is wanted of a connection: a whole request came, or what is none, or as
 /// much as a request may have, or its end. `bytes` has room for a byte more than a request.
-fn is_there(alloc: Global, stream: &TcpStream, bytes: &mut [u8]) -> bool {
+fn is_complete(alloc: Global, stream: &TcpStream, bytes: &mut [u8]) -> bool {
     let Some(room) = bytes.get_mut(..LONGEST_REQUEST) else {
         return true;
     };

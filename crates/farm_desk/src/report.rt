@@ -1,11 +1,11 @@
-//! Reports of a farm.
+//! The text of a report, by its kind and its time zone.
 ghost use Rattle.std.specs.Prelude.{◌≡◌, ◌≢◌, ◌≤◌, false, Ok, Err, IfOk, IfErr, string_bytes};
 ghost use Rattle.farm_report.specs.Moments.{most_minutes};
 ghost use Rattle.farm_desk.specs.Reports.{Reports, seconds_ahead};
 
 use crate::fault::DeskFault;
+use farm_cli::Report;
 use farm_core::Farm;
-use farm_order::Report;
 use farm_report::{
     MOST_MINUTES, Offset, ReportFault, boards_text, queue_text, reservations_text, zone_of,
 };
@@ -23,8 +23,8 @@ pub(crate) fn zone_between(east: u64, west: u64) -> Offset
     }
 }
 
-/// What a report tells of a farm that works, with moments at an offset. Costs one pass over the
-/// rows that it tells of, and for the queue what serving it costs.
+/// The text of a report of a farm that works, with moments at an offset. Costs one pass over the
+/// rows that it lists, and for the queue what serving it costs.
 pub(crate) fn report_text(
     alloc: Global,
     farm: &Farm,
@@ -43,7 +43,7 @@ pub(crate) fn report_text(
     }
 }
 
-/// A report whose moments lie in the calendar lacks nothing but memory.
+/// A report whose moments are in the calendar lacks nothing but memory.
 fn in_calendar(made: Result<String, ReportFault>) -> Result<String, DeskFault>
     requires { made ≢ Err ReportFault.BadMoment }
     ensures text { IfOk result (λ text. made ≡ Ok text) }

@@ -1,10 +1,10 @@
-//! The answer that is due.
+//! The answer that is due, as bytes, and how the conversation ends once they are written.
 ghost use Rattle.std.specs.Prelude.{◌≡◌, Err};
 ghost use Rattle.farm_types.specs.Refusals.{no_memory};
 ghost use Rattle.farm_keep.specs.Faults.{IsActFault, fault_code};
 ghost use Rattle.farm_wire.specs.Replies.{reply_bytes};
 ghost use Rattle.farm_desk.specs.Answers.{refusal, http_status};
-ghost use Rattle.farm_desk.specs.Made.{IsMadeOf, IsMadeOfNothing, bytes_in};
+ghost use Rattle.farm_desk.specs.Encoding.{IsEncoded, IsDenialEncoded, bytes_in};
 
 use crate::fault::DeskFault;
 use farm_keep::KeepFault;
@@ -17,7 +17,7 @@ use std::alloc::Global;
 /// The bytes of an answer.
 #[derive(Debug, Drop)]
 pub(crate) enum Bytes {
-    Made(Vec<u8>),
+    Encoded(Vec<u8>),
     Constant(&'static [u8]),
 }
 
@@ -31,20 +31,20 @@ pub(crate) struct Response {
 impl Response {
     /// An answer, or the constant one where there is no memory for it.
     pub(crate) fn of(alloc: Global, out: &Out<'_>) -> Response
-        ensures { IsMadeOf out.now (bytes_in result.bytes) result.end }
+        ensures { IsEncoded out.now (bytes_in result.bytes) result.end }
     {
         match answer_bytes(alloc, out) {
             Ok(bytes) => Response {
-                bytes: Bytes::Made(bytes),
+                bytes: Bytes::Encoded(bytes),
                 end: Ok(http_status(out)),
             },
             Err(_) => Response::no_memory(),
         }
     }
 
-    /// The answer where nothing was asked: the refusal, or the methods that the path has.
-    pub(crate) fn to_nothing(alloc: Global, fault: AskFault) -> Response
-        ensures { IsMadeOfNothing fault (bytes_in result.bytes) result.end }
+    /// The answer to a request that asks nothing: the refusal, or the methods that the path has.
+    pub(crate) fn denial(alloc: Global, fault: AskFault) -> Response
+        ensures { IsDenialEncoded fault (bytes_in result.bytes) result.end }
     {
         match fault {
             AskFault::Refused(refusal) => Response::of(alloc, &Out::Refused(refusal)),
@@ -87,7 +87,7 @@ impl Response {
         ensures { result.now ≡ bytes_in self.now.bytes }
     {
         match &self.bytes {
-            Bytes::Made(bytes) => bytes.as_slice(),
+            Bytes::Encoded(bytes) => bytes.as_slice(),
             Bytes::Constant(bytes) => bytes,
         }
     }

@@ -1,16 +1,16 @@
-//! Serving clients, one after another.
+//! Serving one client after another: of a listener, or of any other list of clients.
 ghost use Rattle.std.specs.Prelude.{◌≡◌, ◌≤◌, ◌↔◌, ℕ, true, false, Err, IsOk, Result};
 ghost use Rattle.sqlite.specs.Held.{state};
 ghost use Rattle.sqlite_trees.specs.View.{doubt};
 ghost use Rattle.farm_desk.specs.Conversations.{ConversesOnce, desk};
 ghost use Rattle.farm_desk.specs.Serving.{ServesUntil, PassesOn};
-ghost use Rattle.farm_desk.specs.Visits.{ServesInTurn};
+ghost use Rattle.farm_desk.specs.Connections.{ServesInTurn};
 
-use crate::accepted::Accepted;
 use crate::clients::{Client, Clients};
+use crate::context::Context;
 use crate::fault::DeskFault;
 use crate::open_files::OpenFiles;
-use crate::server::Server;
+use crate::socket_clients::SocketClients;
 use farm_http::{Input, Output};
 use farm_keep::{KeepFault, Keeper};
 use farm_wire::{CountedReader, CountedWriter};
@@ -20,7 +20,7 @@ use std::net::{Net, TcpListener};
 use std::time::Clock;
 
 /// Takes that many connections in turn; of each it reads one request, answers it as `converse`
-/// does, and closes it. The moment of a request is what the clock says once it is there, in whole
+/// does, and closes it. The moment of a request is the clock's once it is complete, in whole
 /// seconds since 1970-01-01 00:00:00 UTC.
 ///
 /// A failed accept counts as a connection. A fault that leaves the keeper open ends its connection
@@ -28,15 +28,16 @@ use std::time::Clock;
 /// keeper that is closed ends the serving with its fault, 1 or 60, once its client was answered;
 /// one that was closed before ends it with 61 at once, and nobody is answered.
 ///
-/// Connections are served one at a time, those first whose requests are there, in the order in which
-/// they came. Up to 1,024 wait aside until all bytes of their requests came, for `LIMIT_SECONDS` at
-/// most, and keep nobody waiting. A client that takes nothing of its answer keeps the others waiting
-/// for `STALL_SECONDS`, one that takes a part of it now and then for as much more as the limit. The
-/// network that the clock lends is asked which connections are ready, and for nothing else.
+/// Connections are served one at a time, those first whose requests are complete, in the order in
+/// which they came. Up to 1,024 wait aside until all bytes of their requests came, for
+/// `LIMIT_SECONDS` at most, and keep nobody waiting. A client that takes nothing of its answer
+/// keeps the others waiting for `STALL_SECONDS`, one that takes a part of it now and then for as
+/// much more as the limit. The network of the clock's runtime is asked which connections are ready,
+/// and for nothing else.
 ///
 /// The clauses say what becomes of the farm and of its store. That anybody was served they don't
-/// say: nothing can be said of what a socket gives and takes. It is `serve` over the listener's
-/// clients, and `serve` says it of clients that are known.
+/// say: nothing can be said of what a socket sends and takes. It is `serve` over the listener's
+/// clients, and `serve` says it of scripted ones.
 ///
 /// Costs building a router of seventeen paths, once, and for each connection an accept, a peek for
 /// each time that bytes of its request came, one read, one write where the answer is taken whole, a
@@ -62,7 +63,7 @@ pub fn serve_on<S: Alter, C: Clock + Net>(
     serve_on_files(alloc, keeper, listener, max, clock, None)
 }
 
-/// The same from files, where they are given: once somebody took one away it ends without a fault,
+/// The same from files, where they are passed: once somebody took one away it ends without a fault,
 /// and before anybody else is answered from the farm.
 pub(crate) fn serve_on_files<S: Alter, C: Clock + Net>(
     alloc: Global,
@@ -78,14 +79,14 @@ pub(crate) fn serve_on_files<S: Alter, C: Clock + Net>(
     ensures clean { doubt (state S.Store keeper.old.conn).is_clean ≤ doubt
         (state S.Store keeper.new.conn).is_clean }
 {
-    let mut clients = Accepted::new(alloc, listener, max, clock, files);
+    let mut clients = SocketClients::new(alloc, listener, max, clock, files);
     let ended = serve(alloc, keeper, &mut clients, max);
     let _ = listener.set_nonblocking(false);
     ended
 }
 
 /// Serves that many clients in turn: of each it reads one request at the moment that comes with it,
-/// answers it as `converse` does, and takes leave of it. It ends as `serve_on` does; that one
+/// answers it as `converse` does, and closes it. It ends as `serve_on` does; that one
 /// serves the clients of a listener.
 pub fn serve<S: Alter, K: Clients>(
     alloc: Global,
@@ -94,12 +95,12 @@ pub fn serve<S: Alter, K: Clients>(
     max: u64,
 ) -> Result<(), DeskFault>
     // The next clients, as far as they are known, were conversed with in their order, each at its
-    // moment, over what it sent and what it was written. Where readers never fail each is heard, and
-    // one whose writer has room for its answer gets it whole.
-    ensures visits { ServesInTurn S.Store K.Reader.never_fails (K.clientele clients.old) (K.clientele clients.new)
-        keeper.old keeper.new max (IsOk result) }
+    // moment, over what it sent and what it was written. Where readers never fail each is received,
+    // and one whose writer has room for its answer gets it whole.
+    ensures connections { ServesInTurn S.Store K.Reader.never_fails (K.client_list clients.old)
+        (K.client_list clients.new) keeper.old keeper.new max (IsOk result) }
 
-    // What that makes of the farm and of its store is what `serve_on` says.
+    // The farm and its store are then as `serve_on` says.
     ensures serves { ServesUntil S.Store keeper.old keeper.new max result }
     ensures closed { (result ≡ Err (DeskFault.Keep KeepFault.Closed))
         ↔ (keeper.old.is_open ≡ false) }
@@ -109,17 +110,17 @@ pub fn serve<S: Alter, K: Clients>(
     if keeper.farm().is_none() {
         return Err(DeskFault::Keep(KeepFault::Closed));
     }
-    let server = Server::of_many(alloc);
+    let context = Context::for_many(alloc);
     for _ in 0..max {
         if clients.is_over() {
             return Ok(());
         }
-        server.serve_next(keeper, clients)?;
+        context.serve_next(keeper, clients)?;
     }
     Ok(())
 }
 
-impl Server {
+impl Context {
     /// Serves the next client, if there is one.
     fn serve_next<S: Alter, K: Clients>(
         &self,
@@ -127,8 +128,8 @@ impl Server {
         clients: &mut K,
     ) -> Result<(), DeskFault>
         requires { keeper.old.is_open ≡ true }
-        ensures visits { ServesInTurn S.Store K.Reader.never_fails (K.clientele clients.old) (K.clientele clients.new)
-            keeper.old keeper.new 1 (IsOk result) }
+        ensures connections { ServesInTurn S.Store K.Reader.never_fails (K.client_list clients.old)
+            (K.client_list clients.new) keeper.old keeper.new 1 (IsOk result) }
         ensures serves { ServesUntil S.Store keeper.old keeper.new 1 result }
         ensures clean { doubt (state S.Store keeper.old.conn).is_clean ≤ doubt
             (state S.Store keeper.new.conn).is_clean }
@@ -142,11 +143,11 @@ impl Server {
             mut writer,
         } = client;
         let ended = self.serve_one(keeper, &mut reader, &mut writer, now);
-        clients.part(reader, writer);
+        clients.close(reader, writer);
         ended
     }
 
-    /// Answers one request as `converse` does, and gives the keeper's fault where that closed it,
+    /// Answers one request as `converse` does, and returns the keeper's fault where that closed it,
     /// also where the answer was lost.
     fn serve_one<R: Input, W: Output, S: Alter>(
         &self,

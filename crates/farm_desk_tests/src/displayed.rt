@@ -1,5 +1,5 @@
 //! What refusals and faults display, their numbers and their statuses.
-use farm_desk::{DeskFault, tell};
+use farm_desk::{DeskFault, print_fault};
 use farm_jobfile::{FileFault, FileKind, Reason};
 use farm_keep::KeepFault;
 use farm_types::{Refusal, WordFault};
@@ -101,7 +101,7 @@ fn faults_read_as_in_the_table(rt: HostRuntime) -> Result<(), Fail> {
 /// What is told of a fault, and the exit status.
 fn told(alloc: Global, fault: DeskFault) -> (u8, Vec<u8>) {
     let mut line = Vec::new(alloc);
-    let status = tell(&mut line, fault);
+    let status = print_fault(&mut line, fault);
     (status, line)
 }
 

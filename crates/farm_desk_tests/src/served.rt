@@ -1,7 +1,6 @@
-//! Serving clients that are known beforehand: what each is answered, byte by byte, and the farm
-//! afterwards.
+//! Serving scripted clients: what each is answered, byte by byte, and the farm afterwards.
 use crate::answered::DONE;
-use farm_desk::{DeskFault, KnownClients, Sent, serve};
+use farm_desk::{DeskFault, ScriptedClient, ScriptedClients, serve};
 use farm_keep::Keeper;
 use farm_tests::sent::FIRST_TYPE;
 use farm_tests::stores::made;
@@ -18,13 +17,13 @@ const TYPE_AND_MORE: &[u8] =
 const ROOM: usize = 512;
 
 /// Five clients, and when they come; the last finds no room that was made for its answer.
-fn five(alloc: Global) -> Result<Vec<Sent<'static>>, AllocError> {
+fn five(alloc: Global) -> Result<Vec<ScriptedClient<'static>>, AllocError> {
     let mut all = Vec::with_capacity(alloc, 5)?;
-    all.push(sent(alloc, 1_700_000_000, FIRST_TYPE)?)?;
-    all.push(sent(alloc, 1_700_000_007, TYPE_AND_MORE)?)?;
-    all.push(sent(alloc, 1_700_000_008, b"GET /status\r\n\r\n")?)?;
-    all.push(sent(alloc, 1_700_000_009, b"GET /status HTTP/1.1\r\n\r\n")?)?;
-    all.push(Sent {
+    all.push(scripted(alloc, 1_700_000_000, FIRST_TYPE)?)?;
+    all.push(scripted(alloc, 1_700_000_007, TYPE_AND_MORE)?)?;
+    all.push(scripted(alloc, 1_700_000_008, b"GET /status\r\n\r\n")?)?;
+    all.push(scripted(alloc, 1_700_000_009, b"GET /status HTTP/1.1\r\n\r\n")?)?;
+    all.push(ScriptedClient {
         now: 1_700_000_010,
         bytes: FIRST_TYPE,
         answer: Vec::new(alloc),
@@ -32,9 +31,13 @@ fn five(alloc: Global) -> Result<Vec<Sent<'static>>, AllocError> {
     Ok(all)
 }
 
-fn sent(alloc: Global, now: u64, bytes: &'static [u8]) -> Result<Sent<'static>, AllocError> {
+fn scripted(
+    alloc: Global,
+    now: u64,
+    bytes: &'static [u8],
+) -> Result<ScriptedClient<'static>, AllocError> {
     let answer = Vec::with_capacity(alloc, ROOM)?;
-    Ok(Sent { now, bytes, answer })
+    Ok(ScriptedClient { now, bytes, answer })
 }
 
 const EXISTS: &[u8] =
@@ -47,11 +50,11 @@ const BAD: &[u8] =
 const STATUS: &[u8] =
     b"HTTP/1.1 200 OK\r\ncontent-type: application/json\r\ncontent-length: 100\r\nconnection: close\r\n\r\n{\"boards\":0,\"clock\":1700000000,\"collector\":0,\"count\":1,\"jobs\":0,\"next\":1,\"reservations\":0,\"types\":1}";
 
-/// The clients that went are these: what each was answered, and what stayed of what it sent.
-fn expect_gone(rt: &impl Abort, clients: &KnownClients<'_>, wanted: &[(&[u8], &[u8])]) {
-    let gone = clients.gone();
-    assert_eq!(rt; gone.len(), wanted.len());
-    for (client, (answer, rest)) in gone.iter().zip(wanted) {
+/// The clients that were served are these: what each was answered, and what stayed of what it sent.
+fn expect_served(rt: &impl Abort, clients: &ScriptedClients<'_>, wanted: &[(&[u8], &[u8])]) {
+    let served = clients.served();
+    assert_eq!(rt; served.len(), wanted.len());
+    for (client, (answer, rest)) in served.iter().zip(wanted) {
         assert!(rt; client.answer.as_slice() == *answer);
         assert!(rt; client.rest == *rest);
     }
@@ -68,11 +71,11 @@ fn count_and_clock<S: Alter>(keeper: &Keeper<S>) -> Option<(u64, u64)> {
     }
 }
 
-/// Serves so many clients of those that are known.
+/// Serves so many of the scripted clients.
 fn serve_some<S: Alter>(
     alloc: Global,
     keeper: &mut Keeper<S>,
-    clients: &mut KnownClients<'_>,
+    clients: &mut ScriptedClients<'_>,
     max: u64,
 ) -> Result<(), DeskFault> {
     serve(alloc, keeper, clients, max)
@@ -97,17 +100,17 @@ const ALL: [(&[u8], &[u8]); 5] = [
 ];
 
 /// Four are served, then the last, and then nobody is left.
-fn serve_known<S: Alter>(
+fn serve_scripted<S: Alter>(
     rt: &impl Abort,
     alloc: Global,
     keeper: &mut Keeper<S>,
-    clients: &mut KnownClients<'_>,
+    clients: &mut ScriptedClients<'_>,
 ) -> Result<(), Fail> {
     serve_some(alloc, keeper, clients, 4)?;
-    expect_gone(rt, clients, &FOUR);
+    expect_served(rt, clients, &FOUR);
     assert_eq!(rt; count_and_clock(keeper), Some((1, 1_700_000_000)));
     serve_some(alloc, keeper, clients, 9)?;
-    expect_gone(rt, clients, &ALL);
+    expect_served(rt, clients, &ALL);
     Ok(())
 }
 
@@ -119,12 +122,12 @@ fn serve_all<S: Alter + Drop>(
 ) -> Result<(), Fail> {
     let all = five(alloc)?;
     let mut keeper = made(alloc, conn).ok_or("no farm")?;
-    let mut clients = KnownClients::new(alloc, all)?;
-    serve_known(rt, alloc, &mut keeper, &mut clients)
+    let mut clients = ScriptedClients::new(alloc, all)?;
+    serve_scripted(rt, alloc, &mut keeper, &mut clients)
 }
 
 #[test]
-fn known_clients(rt: HostRuntime) -> Result<(), Fail> {
+fn scripted_clients(rt: HostRuntime) -> Result<(), Fail> {
     let alloc = rt.alloc();
     serve_all(&rt, alloc, Connection::open_in_memory(alloc)?)
 }

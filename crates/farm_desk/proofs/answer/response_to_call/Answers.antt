@@ -1,13 +1,13 @@
 -- The keeper's answer and its faults, as what is due.
 use Rattle.std.proofs.Common.{subst}
-use Rattle.farm_desk.specs.Made.{IsMadeOf, bytes_in}
+use Rattle.farm_desk.specs.Encoding.{IsEncoded, bytes_in}
 use Rattle.farm_desk.proofs.AnswerLemmas.{call_is_response, fault_is_response}
 use Rattle.farm_desk.proofs.answer.response_to_call.Goals as goal
 
 pub returns-in-Ok-clause-response : goal.returns-in-Ok-clause-response
 returns-in-Ok-clause-response g c =
     call_is_response g.S.Store c.args.keeper.now c.act.new.self c.args.call.now _ _ _ c.in-Ok.ensures.answer c.in-Ok.ensures.farm
-    c.in-Ok.ensures.opened c.in-Ok.ensures.stands (subst (λ out. IsMadeOf out (bytes_in c.of.result.bytes) c.of.result.end) c.reply_of.ensures c.of.ensures)
+    c.in-Ok.ensures.opened c.in-Ok.ensures.stands (subst (λ out. IsEncoded out (bytes_in c.of.result.bytes) c.of.result.end) c.reply_of.ensures c.of.ensures)
 
 pub returns-in-Err-clause-response : goal.returns-in-Err-clause-response
 returns-in-Err-clause-response g c =

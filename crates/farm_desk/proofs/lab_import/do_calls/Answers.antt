@@ -5,7 +5,7 @@ use Rattle.farm_core.specs.Answers.{answer_of}
 use Rattle.farm_desk.specs.declared.fault.DeskFault.{DeskFault}
 use Rattle.farm_desk.specs.declared.lab_import.ImportEnd.{ImportEnd}
 use Rattle.farm_desk.specs.Imports.{DoesCalls, EndsBy}
-use Rattle.farm_desk.proofs.ImportLemmas.{counts_on, counts_out, farm_after, faulted_at, rests_when_denied, stopped_at, whole_at}
+use Rattle.farm_desk.proofs.ImportLemmas.{counts_on, counts_out, farm_after, faulted_at, unchanged_when_denied, stopped_at, whole_at}
 use Rattle.farm_desk.proofs.lab_import.do_calls.Goals as goal
 
 pub returns-in-Some-clause-does : goal.returns-in-Some-clause-does
@@ -15,12 +15,12 @@ returns-in-Some-clause-does g c =
     let done = c.loop-call.end.accepted + c.loop-call.end.kept in
     let did = c.in-Ok.ensures in
     let out = counts_out (answer_of c.in-Ok.answer) c.loop-call.end c.count.new.self c.count.result c.in-Some.refusal c.in-Some.is c.count.ensures in
-    let rests = rests_when_denied c.in-Ok.answer c.in-Some.refusal.code (c.act.new.self ≡ c.loop-call.keeper) out.0 did.rests in
+    let unchanged = unchanged_when_denied c.in-Ok.answer c.in-Some.refusal.code (c.act.new.self ≡ c.loop-call.keeper) out.0 did.rests in
     let ends : EndsBy g.S.Store c.args.keeper.now c.act.new.self c.args.calls.now done (Some (done + 1, c.in-Some.refusal)) c.loop-call.end.fault =
     subst (EndsBy g.S.Store c.args.keeper.now c.act.new.self c.args.calls.now done (Some (done + 1, c.in-Some.refusal))) (sym was.faultless)
     (stopped_at g.S.Store c.args.keeper.now c.loop-call.keeper c.act.new.self c.args.calls.now c.loop-call.call-index done c.call-item.result c.in-Some.refusal.code
-    (record { low = low; here = c.call-item.is; before = was.farm; told_is = sym out.0 ∙ did.answer })
-    was.done was.opened was.stands rests) in
+    (record { low = low; here = c.call-item.is; before = was.farm; answer_is = sym out.0 ∙ did.answer })
+    was.done was.opened was.keeps unchanged) in
     subst (λ (e : ImportEnd). DoesCalls g.S.Store c.args.keeper.now c.act.new.self c.args.calls.now
     (record { accepted = e.accepted; kept = e.kept; stopped = Some (e.accepted + e.kept + 1, c.in-Some.refusal); fault = e.fault })) (sym out.1)
     (record { counted = was.counted; ends = ends })
@@ -31,7 +31,7 @@ loop-call-preserved g c =
     let low : c.loop-call.call-index < length c.args.calls.now = omega arith in
     let did = c.in-Ok.ensures in
     let on = counts_on c.args.keeper.now.farm.farm c.loop-call.keeper.farm.farm c.args.calls.now c.loop-call.call-index c.call-item.result (answer_of c.in-Ok.answer)
-    c.loop-call.end c.count.new.self c.count.result (record { low = low; here = c.call-item.is; before = was.farm; told_is = did.answer })
+    c.loop-call.end c.count.new.self c.count.result (record { low = low; here = c.call-item.is; before = was.farm; answer_is = did.answer })
     was.done was.counted c.in_default.is c.count.ensures in
     record {
       clean = omega (arith, c.act.ensures.clean);
@@ -42,7 +42,7 @@ loop-call-preserved g c =
       goes_on = on.stopped ∙ was.goes_on;
       faultless = on.fault ∙ was.faultless;
       still = λ shut. absurd (let e = sym did.opened.0 ∙ was.opened ∙ shut in cc);
-      stands = λ keeps. did.stands (was.stands keeps);
+      keeps = λ keeps. did.stands (was.keeps keeps);
     }
 
 pub returns-in-Err-clause-does : goal.returns-in-Err-clause-does
@@ -55,7 +55,7 @@ returns-in-Err-clause-does g c =
       counted = was.counted;
       ends = subst (λ s. EndsBy g.S.Store c.args.keeper.now c.act.new.self c.args.calls.now done s (Some (DeskFault.Keep c.in-Err.fault))) (sym was.goes_on)
           (faulted_at g.S.Store c.args.keeper.now c.loop-call.keeper c.act.new.self c.args.calls.now c.loop-call.call-index done c.call-item.result c.in-Err.fault
-          low c.call-item.is was.farm was.done was.opened was.stands was.still did.memory did.store did.closed did.still did.fault);
+          low c.call-item.is was.farm was.done was.opened was.keeps was.still did.memory did.store did.closed did.still did.fault);
     }
 
 pub returns-clause-does : goal.returns-clause-does
@@ -67,5 +67,5 @@ returns-clause-does g c =
       counted = was.counted;
       ends = subst (λ s. EndsBy g.S.Store c.args.keeper.now c.loop-call.keeper c.args.calls.now done s c.loop-call.end.fault) (sym was.goes_on)
           (subst (EndsBy g.S.Store c.args.keeper.now c.loop-call.keeper c.args.calls.now done None) (sym was.faultless)
-          (whole_at g.S.Store c.args.keeper.now c.loop-call.keeper c.args.calls.now c.loop-call.call-index done all was.done was.counted.within was.opened was.farm was.stands));
+          (whole_at g.S.Store c.args.keeper.now c.loop-call.keeper c.args.calls.now c.loop-call.call-index done all was.done was.counted.within was.opened was.farm was.keeps));
     }

@@ -18,5 +18,5 @@ invariant-loop-call g l = record {
   goes_on : l.end.stopped ≡ None;
   faultless : l.end.fault ≡ None;
   still : l.fn.keeper.is_open ≡ false → (l.call-index ≡ 0) × (l.keeper ≡ l.fn.keeper);
-  stands : Keeps g.S.Store l.fn.keeper → Keeps g.S.Store l.keeper;
+  keeps : Keeps g.S.Store l.fn.keeper → Keeps g.S.Store l.keeper;
 }

@@ -14,8 +14,8 @@ returns-in-Err-clause-fault g c =
     c.args.moments.now c.loop-now.now-index _ c.in-Err.fault low refl c.loop-now.invariant.answers
     (record { answered = ended.answered; unwritten = ended.unwritten; unread = ended.unread })
 
-pub returns-in-Err-clause-heard : goal.returns-in-Err-clause-heard
-returns-in-Err-clause-heard g c sure e = c.in-Err.ensures.heard sure (ap (λ fault. Err fault) (ap fault_in e))
+pub returns-in-Err-clause-received : goal.returns-in-Err-clause-received
+returns-in-Err-clause-received g c sure e = c.in-Err.ensures.received sure (ap (λ fault. Err fault) (ap fault_in e))
 
 pub loop-now-preserved : goal.loop-now-preserved
 loop-now-preserved g c =

@@ -10,7 +10,7 @@ returns-in-Some g c = record {
     opens = record { found = c.open_farm.ensures.found; denied = c.open_farm.ensures.denied; version = c.open_farm.ensures.version; fault = c.open_farm.ensures.fault };
     does = rw c.in-Ok.is c.on_farm-ended.ensures;
   };
-  told = c.unless_lost.ensures;
+  ends = c.unless_lost.ensures;
 }
 
 -- the files can't be looked at: that is as if the store had failed at opening
@@ -22,7 +22,7 @@ returns-in-None g c = record {
     opens = record { found = tt; denied = λ clean. tt; version = λ clean. inl refl; fault = tt };
     does = (refl, refl);
   };
-  told = inl refl;
+  ends = inl refl;
 }
 
 pub returns-in-Err : goal.returns-in-Err
@@ -33,5 +33,5 @@ returns-in-Err g c = record {
     opens = record { found = c.open_farm.ensures.found; denied = c.open_farm.ensures.denied; version = c.open_farm.ensures.version; fault = c.open_farm.ensures.fault };
     does = rw c.in-Err.is (refl, refl);
   };
-  told = inl refl;
+  ends = inl refl;
 }

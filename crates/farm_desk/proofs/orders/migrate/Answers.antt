@@ -5,12 +5,12 @@ pub returns-in-Ok : goal.returns-in-Ok
 returns-in-Ok g c = record {
   raised = c.migrate_farm.result;
   upgrades = record { raises = c.migrate_farm.ensures.raised; denied = c.migrate_farm.ensures.denied; version = c.migrate_farm.ensures.version; fault = c.migrate_farm.ensures.fault };
-  tells = rw c.in-Ok.is c.print_line.ensures;
+  prints = rw c.in-Ok.is c.print_line.ensures;
 }
 
 pub returns-in-Err : goal.returns-in-Err
 returns-in-Err g c = record {
   raised = c.migrate_farm.result;
   upgrades = record { raises = c.migrate_farm.ensures.raised; denied = c.migrate_farm.ensures.denied; version = c.migrate_farm.ensures.version; fault = c.migrate_farm.ensures.fault };
-  tells = rw c.in-Err.is (refl, refl);
+  prints = rw c.in-Err.is (refl, refl);
 }

@@ -2,7 +2,7 @@
 use Rattle.std.proofs.Common.{◌≤◌, ◌+◌, refl, le_refl, subst, arith, rules, Ok, Err, IsOk}
 use Rattle.std.proofs.lemmas.Result.{err_from_is_err_and}
 use Rattle.farm_desk.proofs.ServingLemmas.{serves_next, serves_none, serves_within}
-use Rattle.farm_desk.proofs.VisitLemmas.{visits_begin, visits_next, visits_within}
+use Rattle.farm_desk.proofs.ConnectionLemmas.{connections_begin, connections_next, connections_within}
 use Rattle.farm_desk.proofs.serving.serve.Goals as goal
 
 pub returns-in_err-serve_next-clause-serves : goal.returns-in_err-serve_next-clause-serves
@@ -13,21 +13,21 @@ returns-in_err-serve_next-clause-serves g c =
     (serves_next {A = Unit {0}} g.S.Store c.args.keeper.now c.loop.keeper c.serve_next.new.keeper c.loop.counter (Err c.in_err-serve_next.field-0.0)
     c.loop.invariant.serves c.in_err-serve_next.ensures.serves))
 
-pub returns-in_err-serve_next-clause-visits : goal.returns-in_err-serve_next-clause-visits
-returns-in_err-serve_next-clause-visits g c =
+pub returns-in_err-serve_next-clause-connections : goal.returns-in_err-serve_next-clause-connections
+returns-in_err-serve_next-clause-connections g c =
     let less : c.loop.counter + 1 ≤ c.args.max = omega (arith, c.loop-test.true) in
     let p = err_from_is_err_and c.from_residual.result c.from_residual.ensures.1 in
-    visits_within g.S.Store g.K.Reader.Input.never_fails (g.K.Clients.clientele c.args.clients.now) (g.K.Clients.clientele c.serve_next.new.clients) c.args.keeper.now c.serve_next.new.keeper
+    connections_within g.S.Store g.K.Reader.Input.never_fails (g.K.Clients.client_list c.args.clients.now) (g.K.Clients.client_list c.serve_next.new.clients) c.args.keeper.now c.serve_next.new.keeper
     (c.loop.counter + 1) c.args.max (IsOk c.from_residual.result) less (λ ok. absurd (let no = subst (λ r. IsOk r) p.1 ok in cc))
-    (visits_next g.S.Store g.K.Reader.Input.never_fails (g.K.Clients.clientele c.args.clients.now) (g.K.Clients.clientele c.loop.clients)
-    (g.K.Clients.clientele c.serve_next.new.clients) c.args.keeper.now c.loop.keeper c.serve_next.new.keeper c.loop.counter
-    _ ⊥ (λ never. absurd never) c.loop.invariant.visits c.in_err-serve_next.ensures.visits)
+    (connections_next g.S.Store g.K.Reader.Input.never_fails (g.K.Clients.client_list c.args.clients.now) (g.K.Clients.client_list c.loop.clients)
+    (g.K.Clients.client_list c.serve_next.new.clients) c.args.keeper.now c.loop.keeper c.serve_next.new.keeper c.loop.counter
+    _ ⊥ (λ never. absurd never) c.loop.invariant.connections c.in_err-serve_next.ensures.connections)
 
 pub loop-init : goal.loop-init
 loop-init g c = record {
   clean = le_refl _;
   serves = serves_none g.S.Store c.args.keeper.now 0 (search rules);
-  visits = visits_begin g.S.Store g.K.Reader.Input.never_fails (g.K.Clients.clientele c.args.clients.now) c.args.keeper.now (Unit {0});
+  connections = connections_begin g.S.Store g.K.Reader.Input.never_fails (g.K.Clients.client_list c.args.clients.now) c.args.keeper.now (Unit {0});
 }
 
 pub loop-preserved : goal.loop-preserved
@@ -36,7 +36,7 @@ loop-preserved g c =
       clean = omega (arith, c.loop.invariant.clean, c.serve_next.ensures.clean);
       serves = serves_next g.S.Store c.args.keeper.now c.loop.keeper c.serve_next.new.keeper c.loop.counter (Ok c.in_ok-serve_next.field-0)
           c.loop.invariant.serves c.in_ok-serve_next.ensures.serves;
-      visits = visits_next g.S.Store g.K.Reader.Input.never_fails (g.K.Clients.clientele c.args.clients.now) (g.K.Clients.clientele c.loop.clients)
-          (g.K.Clients.clientele c.serve_next.new.clients) c.args.keeper.now c.loop.keeper c.serve_next.new.keeper c.loop.counter
-          _ (Unit {0}) (λ _. refl) c.loop.invariant.visits c.in_ok-serve_next.ensures.visits;
+      connections = connections_next g.S.Store g.K.Reader.Input.never_fails (g.K.Clients.client_list c.args.clients.now) (g.K.Clients.client_list c.loop.clients)
+          (g.K.Clients.client_list c.serve_next.new.clients) c.args.keeper.now c.loop.keeper c.serve_next.new.keeper c.loop.counter
+          _ (Unit {0}) (λ _. refl) c.loop.invariant.connections c.in_ok-serve_next.ensures.connections;
     }

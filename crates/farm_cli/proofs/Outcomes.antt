@@ -1,0 +1,85 @@
+-- What a parse of the program's words comes to.
+use Rattle.std.proofs.Common.{Bool, List, [], true, None, Option, Some, inl, inr, ◌≡◌, ◌∙◌, ap, refl, sym, subst}
+use Rattle.clap.specs.Kinds.{HasKind, IsAmong, Kinds}
+use Rattle.clap.specs.Words.{App, HasMatchesOf, Row, Text, fault_of, is_simple_and_free, kind_of, subcommand_of, subcommand_rows_of}
+use Rattle.clap.specs.declared.error.Error.{Error}
+use Rattle.clap.specs.declared.error.kind.ErrorKind.{ErrorKind}
+use Rattle.clap.specs.declared.error.kind.ErrorKind.TheVariants.{DisplayHelp, DisplayVersion, OutOfMemory}
+use Rattle.clap.specs.declared.parser.matches.ArgMatches.{ArgMatches}
+use Rattle.farm_cli.specs.App.{farm_app}
+use Rattle.farm_cli.specs.Faults.{IsAnswer, IsFaultAmong, IsOfKind}
+use Rattle.farm_cli.specs.Orders.{Form, IsInBounds, leaves_choice, order_in}
+use Rattle.farm_cli.specs.declared.fault.OrderFault.{OrderFault}
+use Rattle.farm_cli.specs.declared.fault.OrderFault.TheVariants.{Help, Words, NoMemory}
+use Rattle.farm_cli.proofs.Values.{IsSettled}
+use Rattle.farm_cli.proofs.WalkedFarm.{faultless_order}
+
+is_help : OutOfMemory ≡ DisplayHelp → ⊥
+is_help h = cc
+
+is_version : OutOfMemory ≡ DisplayVersion → ⊥
+is_version h = cc
+
+no_answer : (kind : ErrorKind) → kind ≡ OutOfMemory → IsAnswer kind → ⊥
+no_answer kind m (inl h) = is_help (sym m ∙ h)
+no_answer kind m (inr v) = is_version (sym m ∙ v)
+
+among : (kinds : Kinds) (named : Option (Text × List Row)) (e : Error) (f : OrderFault) → HasKind kinds e → IsOfKind (kind_of e) f
+    → IsFaultAmong kinds named f
+among kinds named e (Help t) (inl m) o = absurd (no_answer (kind_of e) m o)
+among kinds named e (Help t) (inr a) o = (kind_of e, a, o)
+among kinds named e (Words t) (inl m) o = absurd (o.0 m)
+among kinds named e (Words t) (inr a) o = inl (kind_of e, a, o.1)
+among kinds named e NoMemory h o = tt
+
+-- the fault of an error of the parse
+pub parse_fault : (app : App) (words : List Text) (e : Error) (f : OrderFault) → app ≡ farm_app
+    → (is_simple_and_free app ≡ true → HasKind (fault_of app words) e) → IsOfKind (kind_of e) f
+    → IsFaultAmong (fault_of farm_app words) (subcommand_of farm_app words) f
+parse_fault app words e f is kinds o =
+    let known : HasKind (fault_of farm_app words) e = subst (λ (a : App). is_simple_and_free a ≡ true → HasKind (fault_of a words) e) is kinds refl in
+    among (fault_of farm_app words) (subcommand_of farm_app words) e f known o
+
+-- an error for want of memory
+pub memory_fault : (e : Error) (f : OrderFault) → kind_of e ≡ OutOfMemory → IsOfKind (kind_of e) f → f ≡ NoMemory
+memory_fault e (Help t) m o = absurd (no_answer (kind_of e) m o)
+memory_fault e (Words t) m o = absurd (o.0 m)
+memory_fault e NoMemory m o = refl
+
+-- a parse of the program's words that succeeds
+pub parse_faultless : (app : App) (words : List Text) → app ≡ farm_app → (is_simple_and_free app ≡ true → fault_of app words ≡ [])
+    → fault_of farm_app words ≡ []
+parse_faultless app words is faultless = subst (λ (a : App). is_simple_and_free a ≡ true → fault_of a words ≡ []) is faultless refl
+
+-- the subcommand of its matches
+pub parse_named : (app : App) (words : List Text) (m : ArgMatches) → app ≡ farm_app → HasMatchesOf app words m
+    → subcommand_rows_of m ≡ subcommand_of farm_app words
+parse_named app words m is matches = (subst (λ (a : App). HasMatchesOf a words m) is matches refl).1
+
+settled_open : (o : Option Form) (left : Bool) → IsSettled o left → o ≡ None → left ≡ true
+settled_open None left s e = s
+settled_open (Some f) left s e = cc
+
+settled_bounds : (o : Option Form) (left : Bool) (f : Form) → IsSettled o left → o ≡ Some f → IsInBounds f
+settled_bounds None left f s e = cc
+settled_bounds (Some g) left f s e = go g e s
+  where
+    go : (g : Form) → Some g ≡ Some f → IsInBounds g → IsInBounds f
+    go g e s = subst (λ (o : Option Form). IsSettled o left) e s
+
+-- matches of the program's words that name no order
+pub unnamed : (app : App) (words : List Text) (m : ArgMatches) → app ≡ farm_app → HasMatchesOf app words m
+    → (is_simple_and_free app ≡ true → fault_of app words ≡ []) → order_in (subcommand_rows_of m) ≡ None
+    → leaves_choice (subcommand_of farm_app words) ≡ true
+unnamed app words m is matches faultless none =
+    let rows = parse_named app words m is matches in
+    settled_open (order_in (subcommand_of farm_app words)) (leaves_choice (subcommand_of farm_app words))
+    (faultless_order words (parse_faultless app words is faultless)) (ap order_in (sym rows) ∙ none)
+
+-- and those that name one
+pub named_bounds : (app : App) (words : List Text) (m : ArgMatches) (f : Form) → app ≡ farm_app → HasMatchesOf app words m
+    → (is_simple_and_free app ≡ true → fault_of app words ≡ []) → order_in (subcommand_rows_of m) ≡ Some f → IsInBounds f
+named_bounds app words m f is matches faultless some =
+    let rows = parse_named app words m is matches in
+    settled_bounds (order_in (subcommand_of farm_app words)) (leaves_choice (subcommand_of farm_app words)) f
+    (faultless_order words (parse_faultless app words is faultless)) (ap order_in (sym rows) ∙ some)

@@ -1,0 +1,29 @@
+//! What conversations share: their memory and the router of their requests.
+use farm_wire::Routes;
+use std::alloc::Global;
+
+/// What conversations share: where their memory comes from, and the router of what they ask.
+/// Without a router each request has one of its own.
+#[derive(Drop)]
+pub(crate) struct Context {
+    pub(crate) alloc: Global,
+    pub(crate) routes: Option<Routes>,
+}
+
+impl Context {
+    /// The context of one conversation.
+    pub(crate) fn for_one(alloc: Global) -> Context {
+        Context {
+            alloc,
+            routes: None,
+        }
+    }
+
+    /// The context of many conversations: the router is built now, where there is memory for it.
+    pub(crate) fn for_many(alloc: Global) -> Context {
+        Context {
+            alloc,
+            routes: Routes::new(alloc).ok(),
+        }
+    }
+}

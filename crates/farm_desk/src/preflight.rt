@@ -1,0 +1,195 @@
+//! Checks of the paths of a farm's file and of its log before a store is opened there, and the
+//! removal of what an open made in vain. An open makes what is missing, and where the file has no
+//! byte it takes the log beside it for no log; so what must not be lost is looked at first. Nothing
+//! is known of a path, so nothing here has a clause. What another program does to a path between
+//! the look and the open isn't seen.
+use os::{RangeLock, try_lock_range};
+use std::alloc::Global;
+use std::fs::{File, OpenOptions};
+use std::io::{ErrorKind, Read};
+use std::os::fd::AsRawFd;
+use std::os::unix::fs::OpenOptionsExt;
+use std::{fs, io};
+
+/// The bytes with which each database begins.
+const FIRST_BYTES: [u8; 16] = *b"SQLite format 3\0";
+
+/// A new farm's file may be written by its owner, and read by all.
+const MODE: u32 = 0o644;
+
+/// The place of the bytes on which SQLite's programs lock a file that they have open, and how many
+/// these are.
+const LOCKED: (u64, u64) = (1 << 30, 512);
+
+/// The head of a log and that of its first page, up to its two salts.
+const LOG_HEADS: usize = 48;
+
+/// Where the root page of the list of tables has its head: in one byte that it is a leaf, and
+/// behind two others, in two bytes, the number of its rows.
+const ROOT: usize = 100;
+
+/// A leaf of a table.
+const LEAF: u8 = 13;
+
+/// What there is at a path.
+#[derive(Clone, Copy, Debug, PartialEq, Eq)]
+enum PathState {
+    Nothing,
+    /// A file without a byte.
+    Empty,
+    /// A file that begins as each database does.
+    Database,
+    /// Another file, a folder, or what can't be read.
+    Other,
+}
+
+/// The paths of a farm's file and of its log, and what there was before the store was opened.
+#[derive(Debug, Drop)]
+pub(crate) struct Preflight<'a> {
+    file: &'a str,
+    file_state: PathState,
+    log: String,
+    log_state: PathState,
+}
+
+impl<'a> Preflight<'a> {
+    /// Looks at both paths; none where that of the log isn't known.
+    fn of_paths(rt: &HostRuntime, alloc: Global, file: &'a str) -> Option<Preflight<'a>> {
+        let log = log_path(rt, alloc, file).ok()?;
+        let log_state = state_at(rt, log.as_str());
+        Some(Preflight {
+            file,
+            file_state: state_at(rt, file),
+            log,
+            log_state,
+        })
+    }
+
+    /// The check of a farm that is there; none where its file is no database. A log that was left
+    /// over stays then: it may have all that there is of a farm.
+    pub(crate) fn of_farm(rt: &HostRuntime, alloc: Global, file: &'a str) -> Option<Preflight<'a>> {
+        let preflight = Preflight::of_paths(rt, alloc, file)?;
+        if preflight.file_state == PathState::Database {
+            Some(preflight)
+        } else {
+            None
+        }
+    }
+
+    /// The check of a new farm, whose file is made where there was nothing; none where a file is
+    /// neither empty nor a database, or where a log that isn't empty is left over without one.
+    pub(crate) fn of_new_farm(
+        rt: &HostRuntime,
+        alloc: Global,
+        file: &'a str,
+    ) -> Option<Preflight<'a>> {
+        let preflight = Preflight::of_paths(rt, alloc, file)?;
+        let has_no_log = matches!(preflight.log_state, PathState::Nothing | PathState::Empty);
+        let is_free = match preflight.file_state {
+            PathState::Nothing => has_no_log && make_file(rt, file).is_ok(),
+            PathState::Empty => has_no_log,
+            PathState::Database => true,
+            PathState::Other => false,
+        };
+        if is_free { Some(preflight) } else { None }
+    }
+
+    /// Takes away what this order made of a store that is closed again: a log that wasn't there
+    /// before and has no page, and the file that was made for a new farm, where it has no table.
+    /// Both stay where another program has the file open; it is locked meanwhile.
+    pub(crate) fn clean_up(&self, rt: &HostRuntime) {
+        let Ok(mut file) = OpenOptions::new()
+            .read(true)
+            .write(true)
+            .open(rt, self.file)
+        else {
+            return;
+        };
+        if try_lock_range(file.as_raw_fd(), RangeLock::Exclusive, LOCKED.0, LOCKED.1) != 0 {
+            return;
+        }
+        if self.log_state == PathState::Nothing && has_no_page(rt, self.log.as_str()) {
+            let _ = fs::remove_file(rt, self.log.as_str());
+        }
+        let is_alone = state_at(rt, self.log.as_str()) == PathState::Nothing;
+        if self.file_state == PathState::Nothing && is_alone && has_no_table(&mut file) {
+            let _ = fs::remove_file(rt, self.file);
+        }
+    }
+}
+
+fn state_at(rt: &HostRuntime, path: &str) -> PathState {
+    match fs::metadata(rt, path) {
+        Ok(found) if !found.is_file() => PathState::Other,
+        Ok(found) if found.len() == 0 => PathState::Empty,
+        Ok(_) => match begins_as_database(rt, path) {
+            Ok(true) => PathState::Database,
+            _ => PathState::Other,
+        },
+        Err(error) if error.kind() == ErrorKind::NotFound => PathState::Nothing,
+        Err(_) => PathState::Other,
+    }
+}
+
+fn begins_as_database(rt: &HostRuntime, path: &str) -> io::Result<bool> {
+    let mut first = [0u8; 16];
+    File::open(rt, path)?.read_exact(&mut first)?;
+    Ok(first == FIRST_BYTES)
+}
+
+/// Whether a log has no page that counts.
+fn has_no_page(rt: &HostRuntime, path: &str) -> bool {
+    match fs::metadata(rt, path) {
+        Ok(found) if !found.is_file() => false,
+        Ok(found) if found.len() < LOG_HEADS as u64 => true,
+        Ok(_) => matches!(first_page_counts(rt, path), Ok(false)),
+        Err(_) => false,
+    }
+}
+
+/// Whether the first page of a log has the log's salts, which are eight bytes: a page of others is
+/// none, and no page behind it counts.
+fn first_page_counts(rt: &HostRuntime, path: &str) -> io::Result<bool> {
+    let mut heads = [0u8; LOG_HEADS];
+    File::open(rt, path)?.read_exact(&mut heads)?;
+    Ok(heads[16..24] == heads[40..48])
+}
+
+/// Whether a file that is read from its first byte on has none, or is a database without a table.
+fn has_no_table(file: &mut File) -> bool {
+    match file.metadata() {
+        Ok(found) if found.len() == 0 => true,
+        Ok(_) => matches!(lists_no_table(file), Ok(true)),
+        Err(_) => false,
+    }
+}
+
+/// Whether a file begins as each database does, and its list of tables is a leaf without a row. The
+/// first byte may lack, since an open writes it last.
+fn lists_no_table(file: &mut File) -> io::Result<bool> {
+    let mut first = [0u8; ROOT + 5];
+    file.read_exact(&mut first)?;
+    Ok(first[1..16] == FIRST_BYTES[1..] && first[ROOT] == LEAF && first.ends_with(&[0, 0]))
+}
+
+/// The path of the log beside a file, or beside the file to which a link leads.
+pub(crate) fn log_path(rt: &HostRuntime, alloc: Global, file: &str) -> io::Result<String> {
+    match fs::canonicalize(rt, file) {
+        Ok(real) => {
+            let real = real.as_str();
+            Ok(format!(in alloc; "{real}-wal")?)
+        }
+        Err(error) if error.kind() == ErrorKind::NotFound => Ok(format!(in alloc; "{file}-wal")?),
+        Err(error) => Err(error),
+    }
+}
+
+/// Makes a file where there is nothing.
+fn make_file(rt: &HostRuntime, path: &str) -> io::Result<()> {
+    OpenOptions::new()
+        .write(true)
+        .create_new(true)
+        .mode(MODE)
+        .open(rt, path)?;
+    Ok(())
+}

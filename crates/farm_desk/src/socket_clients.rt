@@ -1,0 +1,130 @@
+//! The clients that a listener accepts: their streams have deadlines, and of what they send and
+//! take nothing is known.
+ghost use Rattle.std.specs.Prelude.{None, ⊤};
+
+use crate::clients::{Client, Clients};
+use crate::deadline_stream::{DeadlineStream, set_timeouts, shut_down};
+use crate::open_files::OpenFiles;
+use crate::pending::Pending;
+use farm_wire::{no_memory_answer, store_answer, write_whole};
+use std::alloc::Global;
+use std::io::BufReader;
+use std::net::{Net, TcpListener, TcpStream};
+use std::time::{Clock, SystemTime, UNIX_EPOCH};
+
+/// The clients of a listener, as long as nobody takes away the files under the farm that is served,
+/// where these are given. Of the clients nothing is known.
+#[derive(Drop)]
+pub(crate) struct SocketClients<'a, C: Clock> {
+    alloc: Global,
+    listener: &'a TcpListener,
+    clock: &'a C,
+    pending: Option<Pending>,
+    files: Option<&'a OpenFiles<'a>>,
+}
+
+impl<'a, C: Clock + Net> SocketClients<'a, C> {
+    /// The first `max` clients of a listener, none of whom was accepted yet. Where the system or
+    /// the memory refuses what waiting aside takes, one client after another is accepted.
+    pub(crate) fn new(
+        alloc: Global,
+        listener: &'a TcpListener,
+        max: u64,
+        clock: &'a C,
+        files: Option<&'a OpenFiles<'a>>,
+    ) -> SocketClients<'a, C> {
+        let pending = Pending::new(alloc, clock, listener, max);
+        if pending.is_none() {
+            let _ = listener.set_nonblocking(false);
+        }
+        SocketClients {
+            alloc,
+            listener,
+            clock,
+            pending,
+            files,
+        }
+    }
+}
+
+impl<C: Clock> SocketClients<'_, C> {
+    /// Whether the files are still those that were opened, where they are given.
+    fn has_files(&self) -> bool {
+        match self.files {
+            Some(files) => files.are_present(),
+            None => true,
+        }
+    }
+}
+
+impl<'a, C: Clock> Clients for SocketClients<'a, C> {
+    type Reader = BufReader<DeadlineStream<'a, C>>;
+
+    type Writer = DeadlineStream<'a, C>;
+
+    ghost client_list = { λ _. None };
+
+    ghost has_open = { λ _. ⊤ };
+
+    /// Whether the files were taken away.
+    fn is_over(&self) -> bool {
+        match self.files {
+            Some(files) => files.are_lost(),
+            None => false,
+        }
+    }
+
+    /// The next connection whose request is complete. Its stream is buffered, so that a head costs
+    /// one read; without memory for the buffer the client is answered that, and without the files
+    /// that the store failed.
+    fn next(&mut self) -> Option<Client<BufReader<DeadlineStream<'a, C>>, DeadlineStream<'a, C>>> {
+        let stream = match &mut self.pending {
+            Some(pending) => pending.next_stream(self.listener, self.clock)?,
+            None => next_stream(self.listener)?,
+        };
+        let second = stream.try_clone().ok()?;
+        let now = moment(self.clock)?;
+        let mut writer = DeadlineStream::new(second, self.clock);
+        if !self.has_files() {
+            refuse(&mut writer, store_answer());
+            return None;
+        }
+        match BufReader::new(self.alloc, DeadlineStream::new(stream, self.clock)) {
+            Ok(reader) => Some(Client {
+                now,
+                reader,
+                writer,
+            }),
+            Err(_) => {
+                refuse(&mut writer, no_memory_answer());
+                None
+            }
+        }
+    }
+
+    fn close(&mut self, _reader: BufReader<DeadlineStream<'a, C>>, writer: DeadlineStream<'a, C>) {
+        shut_down(&writer.stream);
+    }
+}
+
+/// Answers a request that isn't read.
+fn refuse<C: Clock>(writer: &mut DeadlineStream<'_, C>, answer: &[u8]) {
+    let _ = write_whole(writer, answer);
+    shut_down(&writer.stream);
+}
+
+/// The stream of the next connection, limited in time.
+fn next_stream(listener: &TcpListener) -> Option<TcpStream> {
+    let (stream, _) = listener.accept().ok()?;
+    set_timeouts(&stream).ok()?;
+    Some(stream)
+}
+
+/// The moment of a clock, in whole seconds since 1970-01-01 00:00:00 UTC; none where it fails.
+fn moment<C: Clock>(clock: &C) -> Option<u64> {
+    let since = SystemTime::now(clock)
+        .ok()?
+        .duration_since(UNIX_EPOCH)
+        .ok()?;
+    Some(since.as_secs())
+}
