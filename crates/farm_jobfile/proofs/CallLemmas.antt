@@ -1,28 +1,16 @@
--- Words that are never refused, and one more call of a lab file.
-use Rattle.std.proofs.Common.{◌≡◌, ℕ, ◌+◌, ◌≤◌, ◌&&◌, Bool, true, false, List, [], ◌∷◌, ◌++◌, length, ap, sym, ◌∙◌, refl, arith, append_assoc, length-append, codes, Ok, Err}
+-- Texts that are words, and one more call of a lab file.
+use Rattle.std.proofs.Common.{◌≡◌, ℕ, ◌+◌, ◌≤◌, ◌&&◌, true, List, [], ◌∷◌, ◌++◌, length, ap, sym, ◌∙◌, refl, arith, append_assoc, length-append, codes, Ok, Err}
 use Rattle.std.specs.Prelude.{nat_le, Result}
 use Rattle.std.specs.List.{list_all}
 use Rattle.std.proofs.lemmas.Bool.Decides.{nat_tests}
 use Rattle.std.proofs.lemmas.List.Folds.{list_all-append}
 use Rattle.toml.specs.Data.{Data, Members, member}
 use Rattle.farm_types.specs.Limits.{longest_key, longest_name}
-use Rattle.farm_types.specs.Words.{is_word, is_name_byte, word_or}
-use Rattle.farm_types.specs.declared.fault.WordFault.{WordFault}
-use Rattle.farm_types.specs.declared.fault.WordFault.TheVariants.{Refused, NoMemory}
-use Rattle.farm_types.specs.declared.refusal.Refusal.{Refusal}
+use Rattle.farm_types.specs.Words.{is_word, is_name_byte}
 use Rattle.farm_types.proofs.WordLemmas.{and_parts}
-use Rattle.farm_types.specs.Reads.{◌>>=◌, FaultOrNoMemory, code_told}
+use Rattle.farm_types.specs.Reads.{◌>>=◌}
 use Rattle.farm_jobfile.specs.Reading.{Fault}
 use Rattle.farm_jobfile.specs.Lab.{LabCall, entries_of}
-
--- a word is not refused
-pub word_taken : (most : ℕ) (text : List ℕ) (code : ℕ) (fault : WordFault) (refusal : Refusal) → fault ≡ Refused refusal → is_word most text ≡ true → FaultOrNoMemory (code_told fault) (word_or (is_word most text) text code) → ⊥
-word_taken most text code NoMemory refusal e is h = cc
-word_taken most text code (Refused r) refusal e is h = by (is_word most text) is h
-  where
-    by : (b : Bool) → b ≡ true → word_or b text code ≡ Err r.code → ⊥
-    by true is h = cc
-    by false is h = cc
 
 pub admin_is_word : is_word longest_name (codes "admin") ≡ true
 unfolding is_word

@@ -34,13 +34,8 @@ fn board_of(alloc: Global, name: &str, value: &Value, now: u64) -> Result<Call, 
     let _table = table_of(FileKind::LabFile, value)?;
     let kind = name_at(alloc, FileKind::LabFile, value, "type")?;
     let tags = own_tags(tags_at(alloc, FileKind::LabFile, value)?)?;
-    call_of(
-        alloc,
-        "board.",
-        name,
-        now,
-        Cmd::add_board(board, kind, tags),
-    )
+    let cmd = Cmd::add_board(board, kind, tags);
+    Ok(call_of(alloc, "board.", name, now, cmd)?)
 }
 
 /// The calls that add the boards of a table, which has them in byte order.

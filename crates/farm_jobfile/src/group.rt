@@ -13,6 +13,9 @@ use crate::member::Member;
 use farm_types::{Body, Cmd, Name, Priority, Roles, Tags, Want, Wants};
 use std::alloc::{AllocError, Global};
 
+// Each word is read before it goes into a want or a command: what `as_str`, `items` and `get` ensure is
+// how its rule is known there.
+
 /// The want of a board of a type that has these tags.
 fn want_of(kind: Name, tags: Tags) -> Want
     ensures kind { result.kind ≡ Some kind }

@@ -68,7 +68,8 @@ fn type_of(alloc: Global, name: &str, value: &Value, now: u64) -> Result<Call, F
     let kind = name_of(alloc, name)?;
     let _table = table_of(FileKind::LabFile, value)?;
     let check = check_of(value)?;
-    call_of(alloc, "type.", name, now, Cmd::add_type(kind, check))
+    let cmd = Cmd::add_type(kind, check);
+    Ok(call_of(alloc, "type.", name, now, cmd)?)
 }
 
 /// The calls that add the types of a table, which has them in byte order.

@@ -54,6 +54,8 @@ impl Cmd {
     }
 }
 
+// Each word is read before it goes into a command or a call: what `as_str`, `items` and `get` ensure is
+// how its rule is known there.
 impl Cmd {
     ghost use Rattle.farm_types.specs.Proper.{is_proper_cmd, is_frequency, has_no_name_tag};
     ghost use Rattle.farm_types.specs.declared.calls.Cmd.{Cmd};

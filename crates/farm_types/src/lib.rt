@@ -24,7 +24,7 @@ pub use fault::WordFault;
 pub use priority::Priority;
 pub use tags::{Tag, Tags};
 pub use wants::{Roles, Wants};
-pub use words::{Body, Key, Name};
+pub use words::{Body, Key, Name, Word};
 
 // The rows of a farm, and what stands in their columns.
 pub use rows::{

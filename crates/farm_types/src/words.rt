@@ -1,11 +1,10 @@
 //! Words: texts that keep a rule of their own.
-ghost use Rattle.std.specs.Prelude.{◌≡◌, ◌↔◌, [], length, IsTrue, IfOk, IfSome, IsSome, Err};
+ghost use Rattle.std.specs.Prelude.{◌≡◌, ◌↔◌, [], length, IsTrue, IfOk, Err};
 ghost use Rattle.std.specs.List.{list_all};
 ghost use Rattle.std.specs.Str.{IsUtf8, bytes_eq, is_utf8};
 ghost use Rattle.std.specs.String.{string_bytes};
-ghost use Rattle.farm_types.specs.Words.{IsName, IsKey, IsText, is_word, is_name_byte, text_cmp};
+ghost use Rattle.farm_types.specs.Words.{IsText, is_word, is_name_byte, text_cmp};
 ghost use Rattle.farm_types.specs.Words.{word_or};
-ghost use Rattle.farm_types.specs.Limits.{longest_key, longest_name};
 ghost use Rattle.farm_types.specs.Reads.{OrNoMemory, code_told};
 
 use crate::fault::WordFault;
@@ -44,23 +43,6 @@ pub fn is_word(most: usize, text: &[u8]) -> bool
     1 <= text.len() && text.len() <= most && are_name_bytes(text)
 }
 
-/// The word of at most `MOST` bytes that a text spells; none where it spells none.
-#[tactic(auto, using(crate::proofs::WordLemmas::IsUtf8_of_word), unfolding(crate::specs::Words::is_word))]
-fn word<const MOST: usize>(text: &[u8]) -> Option<ArrayString<MOST>>
-    ensures word { IfSome result (λ word. word.bytes ≡ text.now) }
-    ensures which { IsSome result ↔ IsTrue (is_word MOST text.now) }
-{
-    if !is_word(MOST, text) {
-        return None;
-    }
-    let mut word = ArrayString::new();
-    match std::str::from_utf8(text) {
-        Ok(text) => word.push_str(text),
-        Err(_) => unreachable!(),
-    }
-    Some(word)
-}
-
 /// The text of bytes that are known to be UTF-8, in memory of its own.
 pub fn owned_text(alloc: Global, bytes: &[u8]) -> Result<String, AllocError>
     requires { IsUtf8 bytes.now }
@@ -72,122 +54,81 @@ pub fn owned_text(alloc: Global, bytes: &[u8]) -> Result<String, AllocError>
     }
 }
 
-/// A name of a type, a board, a person or a role: 1 to 48 letters, digits, `-`, `_` or `.`. Its
-/// bytes lie in the value, so neither reading nor copying one takes memory.
+/// A word of at most `MOST` bytes: letters, digits, `-`, `_` or `.`. A text that is none is refused
+/// by the number `CODE`. Its bytes lie in the value, so neither reading nor copying one takes memory.
 #[derive(Debug, Drop)]
-pub struct Name {
-    text: ArrayString<LONGEST_NAME>,
+pub struct Word<const MOST: usize, const CODE: u16> {
+    text: ArrayString<MOST>,
 }
 
-impl Model for Name {
-    ghost use Rattle.std.specs.Prelude.{List, ℕ};
-    ghost use Rattle.farm_types.specs.Words.{IsName};
+/// A name of a type, a board, a person or a role: 1 to 48 letters, digits, `-`, `_` or `.`.
+pub type Name = Word<LONGEST_NAME, BAD_NAME>;
+
+/// A key under which a reply is kept: 1 to 64 letters, digits, `-`, `_` or `.`.
+pub type Key = Word<LONGEST_KEY, BAD_KEY>;
+
+impl<const MOST: usize, const CODE: u16> Model for Word<MOST, CODE> {
+    ghost use Rattle.std.specs.Prelude.{List, ℕ, IsTrue};
+    ghost use Rattle.farm_types.specs.Words.{is_word};
 
     ghost Value = { List ℕ };
 
-    ghost view = { λ n. n.text.bytes };
+    ghost view = { λ w. w.text.bytes };
 
-    ghost invariant = { λ n. IsName n.text.bytes };
+    ghost invariant = { λ w. IsTrue (is_word MOST w.text.bytes) };
 }
 
-impl Name {
-    /// The name that a text spells; refused as a bad name.
-    pub fn parse(alloc: Global, text: &[u8]) -> Result<Name, WordFault>
-        ensures reads { OrNoMemory code_told (λ name. name) result
-            (word_or (is_word longest_name text.now) text.now BAD_NAME) }
-        ensures memory { result ≡ Err WordFault.NoMemory → IsTrue (is_word longest_name text.now) }
+impl<const MOST: usize, const CODE: u16> Word<MOST, CODE> {
+    /// The word of a text that is one.
+    #[tactic(auto, using(crate::proofs::WordLemmas::IsUtf8_of_word), unfolding(crate::specs::Words::is_word))]
+    pub fn of(text: &[u8]) -> Word<MOST, CODE>
+        requires { IsTrue (is_word MOST text.now) }
+        ensures { result ≡ text.now }
     {
-        match word(text) {
-            Some(text) => Ok(Name { text }),
-            None => Err(WordFault::Refused(Refusal { code: BAD_NAME })),
+        let mut word = ArrayString::new();
+        match std::str::from_utf8(text) {
+            Ok(text) => word.push_str(text),
+            Err(_) => unreachable!(),
         }
+        Word { text: word }
     }
 
-    /// The bytes of the name.
+    /// The word that a text spells; refused where it spells none.
+    pub fn parse(alloc: Global, text: &[u8]) -> Result<Word<MOST, CODE>, WordFault>
+        ensures reads { OrNoMemory code_told (λ word. word) result
+            (word_or (is_word MOST text.now) text.now CODE) }
+        ensures memory { result ≡ Err WordFault.NoMemory → IsTrue (is_word MOST text.now) }
+    {
+        if !is_word(MOST, text) {
+            return Err(WordFault::Refused(Refusal { code: CODE }));
+        }
+        Ok(Word::of(text))
+    }
+
+    /// The bytes of the word.
     pub fn as_str(&self) -> &str
         ensures text { result.now ≡ self.now }
-        ensures name { IsName self.now }
+        ensures word { IsTrue (is_word MOST self.now) }
     {
         self.text.as_str()
     }
 
-    /// An equal name.
-    pub fn copy(&self) -> Result<Name, AllocError>
-        ensures same { IfOk result (λ name. name ≡ self.now) }
+    /// An equal word.
+    pub fn copy(&self) -> Result<Word<MOST, CODE>, AllocError>
+        ensures same { IfOk result (λ word. word ≡ self.now) }
     {
-        Ok(Name { text: self.text })
+        Ok(Word { text: self.text })
     }
 
-    /// Whether two names are equal.
-    pub fn is(&self, other: &Name) -> bool
+    /// Whether two words are equal.
+    pub fn is(&self, other: &Word<MOST, CODE>) -> bool
         ensures { result ≡ bytes_eq self.now other.now }
     {
         self.text.as_str() == other.text.as_str()
     }
 
-    /// The byte order of names.
-    pub fn order(&self, other: &Name) -> Ordering
-        ensures { result ≡ text_cmp self.now other.now }
-    {
-        self.text.as_str().cmp(other.text.as_str())
-    }
-}
-
-/// A key under which a reply is kept: 1 to 64 letters, digits, `-`, `_` or `.`. Its bytes lie in
-/// the value, as a name's do.
-#[derive(Debug, Drop)]
-pub struct Key {
-    text: ArrayString<LONGEST_KEY>,
-}
-
-impl Model for Key {
-    ghost use Rattle.std.specs.Prelude.{List, ℕ};
-    ghost use Rattle.farm_types.specs.Words.{IsKey};
-
-    ghost Value = { List ℕ };
-
-    ghost view = { λ n. n.text.bytes };
-
-    ghost invariant = { λ n. IsKey n.text.bytes };
-}
-
-impl Key {
-    /// The key that a text spells; refused as a bad key.
-    pub fn parse(alloc: Global, text: &[u8]) -> Result<Key, WordFault>
-        ensures reads { OrNoMemory code_told (λ key. key) result
-            (word_or (is_word longest_key text.now) text.now BAD_KEY) }
-        ensures memory { result ≡ Err WordFault.NoMemory → IsTrue (is_word longest_key text.now) }
-    {
-        match word(text) {
-            Some(text) => Ok(Key { text }),
-            None => Err(WordFault::Refused(Refusal { code: BAD_KEY })),
-        }
-    }
-
-    /// The bytes of the key.
-    pub fn as_str(&self) -> &str
-        ensures text { result.now ≡ self.now }
-        ensures key { IsKey self.now }
-    {
-        self.text.as_str()
-    }
-
-    /// An equal key.
-    pub fn copy(&self) -> Result<Key, AllocError>
-        ensures same { IfOk result (λ key. key ≡ self.now) }
-    {
-        Ok(Key { text: self.text })
-    }
-
-    /// Whether two keys are equal.
-    pub fn is(&self, other: &Key) -> bool
-        ensures { result ≡ bytes_eq self.now other.now }
-    {
-        self.text.as_str() == other.text.as_str()
-    }
-
-    /// The byte order of keys.
-    pub fn order(&self, other: &Key) -> Ordering
+    /// The byte order of words.
+    pub fn order(&self, other: &Word<MOST, CODE>) -> Ordering
         ensures { result ≡ text_cmp self.now other.now }
     {
         self.text.as_str().cmp(other.text.as_str())

@@ -9,4 +9,4 @@ use Rattle.farm_wire.proofs.json_value.put_name.Goals as goal
 
 pub put_word-requires : goal.put_word-requires
 put_word-requires g c =
-    subst (λ text. IsTrue (list_all is_plain text)) (sym c.as_str.ensures.text) (name_is_plain c.args.name.now c.as_str.ensures.name)
+    subst (λ text. IsTrue (list_all is_plain text)) (sym c.as_str.ensures.text) (name_is_plain c.args.name.now c.as_str.ensures.word)
