@@ -11,6 +11,7 @@ pub mod Members
 pub mod Collected
 pub mod OneWant
 pub mod Serving
+pub mod Places
 pub mod Passing
 pub mod Checking
 pub mod Whole

@@ -1,10 +1,7 @@
 -- What the program does for one claim is what the machine does.
-use Rattle.std.proofs.Common.{◌≡◌, ℕ, zero, suc, ◌+◌, ◌<◌, ◌==◌, ◌++◌, List, [], ◌∷◌, length, map, take, drop, get_or, Bool, true, false, cond, Option, Some, None, IsSomeAnd, refl, sym, ap, ◌∙◌, arith, add-one, append-nil}
+use Rattle.std.proofs.Common.{◌≡◌, ℕ, zero, suc, ◌+◌, ◌<◌, ◌==◌, List, [], ◌∷◌, length, map, drop, get_or, Bool, true, false, cond, Option, Some, None, IsSomeAnd, refl, sym, ap, ◌∙◌, arith, add-one}
 use Rattle.std.specs.List.{AllByRecursion, filter, fold, zip}
-use Rattle.std.specs.Prelude.{slice_get}
 use Rattle.std.specs.Option.{option_map, option_map_or}
-use Rattle.std.proofs.lemmas.List.{take_more, map-append}
-use Rattle.std.proofs.lemmas.List.Elements.{filter_map-append}
 use Rattle.farm_types.specs.Farm.{Farm, members, res_of}
 use Rattle.farm_types.specs.Pass.{Served, give, give_res, give_group, give_member, pass_over, serve}
 use Rattle.farm_types.specs.Pick.{Claimed, least, is_free}
@@ -15,7 +12,6 @@ use Rattle.farm_types.specs.declared.rows.JobRow.{JobRow}
 use Rattle.farm_types.specs.declared.rows.JobState.{JobState}
 use Rattle.farm_types.specs.declared.rows.ResRow.{ResRow}
 use Rattle.farm_types.specs.declared.rows.Want.{Want}
-use Rattle.farm_pick.specs.Least.{boards_at}
 use Rattle.farm_sound.proofs.Lists.{filter_all}
 use Rattle.farm_sound.proofs.Where.{AllByRecursion-map}
 use Rattle.farm_table.specs.Near.{IsFitJob}
@@ -32,23 +28,6 @@ numbers_of ms = map (λ (m : JobRow). m.number) ms
 
 abbrev pub wants_of : List JobRow → List Want
 wants_of ms = map (λ (m : JobRow). m.want) ms
-
--- one more board is named
-
-pub names_more : (boards : List BoardRow) (places : List ℕ) (i place : ℕ) (names : List (List ℕ)) → i < length places → get_or places i 0 ≡ place
-    → names ≡ names_of (boards_at boards (take i places)) → (o : Option BoardRow) → slice_get boards place ≡ o
-    → option_map_or (λ (b : BoardRow). names ++ (b.name ∷ [])) o names ≡ names_of (boards_at boards (take (i + 1) places))
-names_more boards places i place names low at is o found =
-    by o found
-    ∙ sym (ap (λ ps. names_of (boards_at boards ps)) (take_more places i 0 low ∙ ap (λ p. take i places ++ (p ∷ [])) at)
-    ∙ ap names_of (filter_map-append (slice_get boards) (take i places) (place ∷ []))
-    ∙ map-append (λ (b : BoardRow). b.name) (boards_at boards (take i places)) (boards_at boards (place ∷ []))
-    ∙ ap (λ ns. ns ++ names_of (boards_at boards (place ∷ []))) (sym is))
-  where
-    by : (o : Option BoardRow) → slice_get boards place ≡ o
-        → option_map_or (λ (b : BoardRow). names ++ (b.name ∷ [])) o names ≡ names ++ names_of (boards_at boards (place ∷ []))
-    by None found = sym (rw found (append-nil names))
-    by (Some b) found = sym (rw found refl)
 
 -- one more pair of a number and a name
 by_suc : (ns : List ℕ) (ms : List (List ℕ)) (k n : ℕ) (m : List ℕ) → k < length ns → k < length ms → get_or ns k 0 ≡ n → m ≡ get_or ms k m

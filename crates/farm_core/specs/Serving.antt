@@ -1,7 +1,7 @@
 -- What the program does for one claim of a pass.
 use Rattle.std.specs.Prelude.{◌≡◌, ◌≤◌, ◌<◌, ◌==◌, ◌+◌, ℕ, Bool, true, false, List, [], ◌∷◌}
 use Rattle.std.specs.Prelude.{length, map, not, slice_get}
-use Rattle.std.specs.Prelude.{IsSomeAnd, Option, Some, None}
+use Rattle.std.specs.Prelude.{IsSomeAnd, Option, Some, None, filter_map, option_map}
 use Rattle.std.specs.Prelude.{if◌then◌else◌}
 use Rattle.std.specs.List.{AllByRecursion, filter, fold}
 use Rattle.std.specs.Option.{option_map_or}
@@ -26,6 +26,13 @@ use Rattle.farm_types.specs.declared.rows.Want.{Want}
 use Rattle.farm_core.specs.Came.{Seen}
 use Rattle.farm_core.specs.Following.{without_boards}
 use Rattle.farm_core.specs.declared.pass.lookahead.unsatisfiable.CachedMiss.{CachedMiss}
+
+-- the name of the board at a place, and of those at some places
+abbrev pub name_at : List BoardRow → ℕ → Option (List ℕ)
+name_at boards at = option_map (λ (b : BoardRow). b.name) (slice_get boards at)
+
+abbrev pub names_at : List BoardRow → List ℕ → List (List ℕ)
+names_at boards places = filter_map (name_at boards) places
 
 -- a job, told by its number, is in a state and holds the board of a name
 abbrev pub assign_named : JobState → Farm → ℕ × List ℕ → Farm

@@ -123,9 +123,8 @@ impl Tables {
         let number = self.next;
         let board = &self.boards.rows()[at];
         let row = check_job(*self.boards.allocator(), number, board)?;
-        let name = board.name.copy()?;
         self.jobs.put(row)?;
-        self.reserve_board(&name, Holder::Job(number))?;
+        self.reserve_board(at, Holder::Job(number))?;
         self.next = number + 1;
         Ok(())
     }

@@ -1,5 +1,5 @@
 //! A group that can't begin collects boards, and gives them back when the next pass begins.
-ghost use Rattle.std.specs.Prelude.{◌≡◌, ◌==◌, IfOk, OnOk, option_map};
+ghost use Rattle.std.specs.Prelude.{◌≡◌, ◌<◌, ◌==◌, IfSome, OnOk, length, option_and_then, option_map};
 ghost use Rattle.farm_types.specs.Pass.{giving_back, collect, first_free};
 ghost use Rattle.farm_types.specs.Small.{IsSmall};
 ghost use Rattle.farm_types.specs.Sound.{IsSound};
@@ -9,30 +9,36 @@ ghost use Rattle.farm_pick.specs.Queued.{idle_boards};
 ghost use Rattle.farm_core.specs.Came.{CameTo, LeadOn, seen, seen_at};
 ghost use Rattle.farm_core.specs.Collecting.{Collects, HasWant};
 ghost use Rattle.farm_core.specs.Plain.{plain_farm};
+ghost use Rattle.farm_core.specs.Serving.{name_at};
 
 use crate::board_effect::BoardEffect;
 use crate::command::job_edit::{JobEdit, JobFilter, Placement};
 use crate::pass::serve::numbers_in;
 use crate::tables::Tables;
-use farm_types::{JobState, Name};
+use farm_types::JobState;
 use std::alloc::AllocError;
 
 impl Tables {
-    /// The name of the first free board, in name order, that fits what a job wants. At most one
+    /// The place of the first free board, in name order, that fits what a job wants. At most one
     /// test a free board.
-    fn pick_for_job(&self, number: u64) -> Result<Option<Name>, AllocError>
+    fn pick_for_job(&self, number: u64) -> Option<usize>
         requires free { self.now.queues.boards ≡ idle_boards (plain_farm self.now) }
-        ensures { IfOk result (λ name. (j : JobRow) → HasWant (plain_farm self.now) number j
-            → name ≡ option_map (λ (b : BoardRow). b.name) (first_free (plain_farm self.now) j.want)) }
+        ensures first { (j : JobRow) → HasWant (plain_farm self.now) number j
+            → option_and_then (name_at (plain_farm self.now).boards) result
+            ≡ option_map (λ (b : BoardRow). b.name) (first_free (plain_farm self.now) j.want) }
+        ensures within { IfSome result (λ at. at < length (plain_farm self.now).boards) }
     {
         match self.find_job(number) {
-            None => Ok(None),
-            Some(row) => match self.pick(&[&row.want])? {
-                None => Ok(None),
-                Some(names) => match names.first() {
-                    None => Ok(None),
-                    Some(name) => Ok(Some(name.copy()?)),
-                },
+            None => None,
+            Some(row) => match self.pick(&[&row.want]) {
+                None => None,
+                Some(picked) => {
+                    let places = picked.places();
+                    if places.is_empty() {
+                        return None;
+                    }
+                    Some(places[0])
+                }
             },
         }
     }
@@ -68,11 +74,11 @@ impl Tables {
             → Collects (seen self.old) j (seen self.new)) }
         ensures logs { OnOk result (LeadOn self.old self.new) }
     {
-        match self.pick_for_job(number)? {
+        match self.pick_for_job(number) {
             None => Ok(()),
-            Some(name) => {
-                self.assign_job(JobState::Scheduling, number, &name)?;
-                self.queues.take_board(&name);
+            Some(at) => {
+                self.queues.take_board(&self.boards.rows()[at].name);
+                self.assign_job(JobState::Scheduling, number, at)?;
                 Ok(())
             }
         }

@@ -1,14 +1,15 @@
 //! The queues follow the rows: which boards are free, and which claims were given boards.
-ghost use Rattle.std.specs.Prelude.{◌≡◌, ◌==◌, not, OnOk};
-ghost use Rattle.std.specs.List.{filter, fold};
+ghost use Rattle.std.specs.Prelude.{◌≡◌, ◌<◌, ◌==◌, length, not, OnOk};
+ghost use Rattle.std.specs.List.{All, filter, fold};
 ghost use Rattle.farm_pick.specs.Queued.{idle_boards};
 ghost use Rattle.farm_core.specs.Came.{CameTo, seen};
 ghost use Rattle.farm_core.specs.Following.{FollowsLog, free_boards_with, without_boards};
 ghost use Rattle.farm_core.specs.Plain.{plain_farm};
+ghost use Rattle.farm_core.specs.Serving.{names_at};
 
 use crate::tables::Tables;
 use farm_pick::Queues;
-use farm_types::{BoardRow, Name, TypeRow};
+use farm_types::{BoardRow, TypeRow};
 use std::alloc::AllocError;
 
 /// A board stands among the free ones exactly where its row says that it is free.
@@ -42,14 +43,15 @@ pub fn note_boards(
     Ok(())
 }
 
-/// Some boards are free no more.
-fn take_boards(queues: &mut Queues, names: &[Name])
+/// The boards at some places are free no more.
+fn take_boards(queues: &mut Queues, boards: &[BoardRow], places: &[usize])
+    requires { All (λ at. at < length boards.now) places.now }
     ensures { queues.new ≡ record queues.old {
-      boards = without_boards names.now queues.old.boards;
+      boards = without_boards (names_at boards.now places.now) queues.old.boards;
     } }
 {
-    for name in names {
-        queues.take_board(name);
+    for at in places {
+        queues.take_board(&boards[*at].name);
     }
 }
 
@@ -65,16 +67,19 @@ impl Tables {
         Ok(())
     }
 
-    /// The claim of a number was given boards: it waits no more, and they are free no more.
-    pub fn take_assigned(&mut self, number: u64, names: &[Name])
+    /// The claim of a number gets the boards at some places: it waits no more, and they are free no
+    /// more.
+    pub fn take_assigned(&mut self, number: u64, places: &[usize])
+        requires { All (λ at. at < length (plain_farm self.old).boards) places.now }
         ensures { CameTo self.old (record (seen self.old) {
           queues = record {
             claims = filter (λ x. not (x.claim.number == number)) self.old.queues.claims;
-            boards = without_boards names.now self.old.queues.boards;
+            boards = without_boards (names_at (plain_farm self.old).boards places.now)
+                self.old.queues.boards;
           };
         }) self.new }
     {
         self.queues.take_claim(number);
-        take_boards(&mut self.queues, names);
+        take_boards(&mut self.queues, self.boards.rows(), places);
     }
 }

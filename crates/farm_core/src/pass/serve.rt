@@ -1,8 +1,8 @@
 //! Claims are served: each is given the least list of free boards that meets it.
 ghost use Rattle.std.specs.Prelude.{◌≡◌, ◌≤◌, ◌==◌, ◌∷◌, [], ℕ, true, false, None, Some, map};
 ghost use Rattle.std.specs.Prelude.{◌&&◌, ◌||◌, length, nat_le, take};
-ghost use Rattle.std.specs.Prelude.{OnOk, IfOk, option_map};
-ghost use Rattle.std.specs.List.{filter, find, list_all};
+ghost use Rattle.std.specs.Prelude.{◌<◌, OnOk, IfOk, IfSome, option_map};
+ghost use Rattle.std.specs.List.{All, filter, find, list_all};
 ghost use Rattle.std.specs.Option.{option_copied};
 ghost use Rattle.farm_types.specs.Limits.{last_moment, most_wants};
 ghost use Rattle.farm_types.specs.Farm.{members, res_of};
@@ -24,7 +24,8 @@ ghost use Rattle.farm_core.specs.Serving.{count_after, wants_of};
 use crate::pass::lookahead::unsatisfiable::{CachedMiss, MissCache};
 use crate::tables::Tables;
 use arrayvec::ArrayVec;
-use farm_types::{ClaimKind, JobRow, JobState, MOST_WANTS, Name, Priority, Want};
+use farm_pick::Picked;
+use farm_types::{ClaimKind, JobRow, JobState, MOST_WANTS, Priority, Want};
 use std::alloc::AllocError;
 use std::collections::VecDeque;
 
@@ -87,46 +88,31 @@ fn is_of_group(kind: ClaimKind, number: u64, group: u64) -> bool
 }
 
 impl Tables {
-    /// The names of the boards at some places.
-    fn names_at(&self, places: &[usize]) -> Result<Vec<Name>, AllocError>
-        ensures { IfOk result (λ names. names.items ≡ map (λ b. b.name)
-            (boards_at (plain_farm self.now).boards places.now)) }
-    {
-        let mut names = Vec::new(*self.boards.allocator());
-        for place in places {
-            if let Some(board) = self.boards.rows().get(*place) {
-                names.push(board.name.copy()?)?;
-            }
-        }
-        Ok(names)
-    }
-
-    /// The names of the least list of free boards that meets some wants. At most 4 tests a free
-    /// board.
-    pub fn pick(&self, wants: &[&Want]) -> Result<Option<Vec<Name>>, AllocError>
+    /// The places of the least list of free boards that meets some wants. At most 4 tests a free
+    /// board, and no memory.
+    pub fn pick(&self, wants: &[&Want]) -> Option<Picked>
         requires free { self.now.queues.boards ≡ idle_boards (plain_farm self.now) }
         requires few { length wants.now ≤ most_wants }
-        ensures { IfOk result (λ picked. option_map (λ names. names.items) picked
-            ≡ option_map (map (λ (b : BoardRow). b.name))
-            (least (plain_farm self.now).boards (is_free (plain_farm self.now).types)
-            (map (λ w. w.now) wants.now))) }
+        ensures least { option_map (boards_at (plain_farm self.now).boards) result
+            ≡ least (plain_farm self.now).boards (is_free (plain_farm self.now).types)
+            (map (λ w. w.now) wants.now) }
+        ensures within { IfSome result
+            (λ places. All (λ at. at < length (plain_farm self.now).boards) places) }
     {
         let (boards, types) = (self.boards.rows(), self.types.rows());
-        match self.queues.least_of(boards, types, wants) {
-            None => Ok(None),
-            Some(picked) => Ok(Some(self.names_at(picked.places())?)),
-        }
+        self.queues.least_of(boards, types, wants)
     }
 
-    /// The names of the boards for a group, whose members are among some rows.
-    fn pick_for_group(&self, rows: &[JobRow], group: u64) -> Result<Option<Vec<Name>>, AllocError>
+    /// The places of the boards for a group, whose members are among some rows.
+    fn pick_for_group(&self, rows: &[JobRow], group: u64) -> Option<Picked>
         requires rows { filter (λ j. j.group == group) rows.now ≡ members (plain_farm self.now) group }
         requires few { length rows.now ≤ most_wants }
         requires free { self.now.queues.boards ≡ idle_boards (plain_farm self.now) }
-        ensures { IfOk result (λ picked. option_map (λ names. names.items) picked
-            ≡ option_map (map (λ (b : BoardRow). b.name))
-            (least (plain_farm self.now).boards (is_free (plain_farm self.now).types)
-            (map (λ m. m.want) (members (plain_farm self.now) group)))) }
+        ensures least { option_map (boards_at (plain_farm self.now).boards) result
+            ≡ least (plain_farm self.now).boards (is_free (plain_farm self.now).types)
+            (map (λ m. m.want) (members (plain_farm self.now) group)) }
+        ensures within { IfSome result
+            (λ places. All (λ at. at < length (plain_farm self.now).boards) places) }
     {
         let Some(first) = rows.first() else {
             return self.pick(&[]);
@@ -135,16 +121,17 @@ impl Tables {
         self.pick(&wants[..count])
     }
 
-    /// The names of the boards for a reservation: one, or none where there is no such reservation.
-    fn pick_for_reservation(&self, number: u64) -> Result<Option<Vec<Name>>, AllocError>
+    /// The place of the board for a reservation: none where there is no such reservation.
+    fn pick_for_reservation(&self, number: u64) -> Option<Picked>
         requires free { self.now.queues.boards ≡ idle_boards (plain_farm self.now) }
-        ensures { IfOk result (λ picked. (r : ResRow) → res_of (plain_farm self.now) number ≡ Some r
-            → option_map (λ names. names.items) picked
-            ≡ option_map (map (λ (b : BoardRow). b.name))
-            (least (plain_farm self.now).boards (is_free (plain_farm self.now).types) (r.want ∷ []))) }
+        ensures least { (r : ResRow) → res_of (plain_farm self.now) number ≡ Some r
+            → option_map (boards_at (plain_farm self.now).boards) result
+            ≡ least (plain_farm self.now).boards (is_free (plain_farm self.now).types) (r.want ∷ []) }
+        ensures within { IfSome result
+            (λ places. All (λ at. at < length (plain_farm self.now).boards) places) }
     {
         match self.find_reservation(number) {
-            None => Ok(None),
+            None => None,
             Some(row) => self.pick(&[&row.want]),
         }
     }
@@ -171,12 +158,13 @@ impl Tables {
         ensures logs { OnOk result (LeadOn self.old self.new) }
     {
         let rows = self.member_rows(group);
-        match self.pick_for_group(rows, group)? {
+        match self.pick_for_group(rows, group) {
             None => Ok(false),
-            Some(names) => {
+            Some(picked) => {
                 let numbers = numbers_in(rows, group);
-                self.assign_jobs(&numbers, &names)?;
-                self.take_assigned(group, &names);
+                let places = picked.places();
+                self.take_assigned(group, places);
+                self.assign_jobs(&numbers, places)?;
                 Ok(true)
             }
         }
@@ -192,11 +180,12 @@ impl Tables {
             → Tries (seen self.old) c served (seen self.new)) }
         ensures logs { OnOk result (LeadOn self.old self.new) }
     {
-        match self.pick_for_reservation(number)? {
+        match self.pick_for_reservation(number) {
             None => Ok(false),
-            Some(names) => {
-                self.assign_first(number, &names)?;
-                self.take_assigned(number, &names);
+            Some(picked) => {
+                let places = picked.places();
+                self.take_assigned(number, places);
+                self.assign_first(number, places)?;
                 Ok(true)
             }
         }

@@ -20,15 +20,15 @@ returns c = λ b is.
     get_or_read T.boards.rows c.args.at c.index-rows-at.result c.requires (c.index-rows-at.is ∙ ap (λ bs. get_or bs c.args.at c.index-rows-at.result) c.rows.ensures.rows) b ∙ sym is in
     let room : true ≡ has_room F 1 = c.if-not-has_room.ensures in
     let row = c.in_ok-row.ensures ∙ ap (check_job F.next) same in
-    let name = c.in_ok-name.ensures.same ∙ ap (λ (b : BoardRow). b.name) same in
     let added = c.in_ok-put.ensures.rows ∙ ap (put job_cmp F.jobs) row in
+    let reserved = c.in_ok-reserve_board.ensures b is in
     let taken : seen c.reserve_board.new.self ≡ seen_at (record F {
       jobs = put job_cmp F.jobs (check_job F.next b);
       boards = change_where (λ (c : BoardRow). bytes_eq c.name b.name) (held_board (Holder.Job F.next) State.Reserved) F.boards;
     }) (seen T) =
-    c.in_ok-reserve_board.ensures.now
-    ∙ (λ i. seen_at (record F { jobs = added i; boards = change_where (λ (c : BoardRow). bytes_eq c.name (name i)) (held_board (Holder.Job F.next) State.Reserved) F.boards }) (seen T)) in
-    let logs = lead_on_join _ _ _ (jobs_lead _ _ _ (lead_on_none T) c.in_ok-put.ensures.leads) c.in_ok-reserve_board.ensures.logs in
+    reserved.now
+    ∙ (λ i. seen_at (record F { jobs = added i; boards = change_where (λ (c : BoardRow). bytes_eq c.name b.name) (held_board (Holder.Job F.next) State.Reserved) F.boards }) (seen T)) in
+    let logs = lead_on_join _ _ _ (jobs_lead _ _ _ (lead_on_none T) c.in_ok-put.ensures.leads) reserved.logs in
     record {
       now = (λ i. seen_at (record (taken i).farm { next = F.next + 1 }) (taken i))
           ∙ ap (λ v. seen_at (cond v (record F {

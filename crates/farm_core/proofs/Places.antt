@@ -1,0 +1,109 @@
+-- Boards that are assigned, by their places.
+use Rattle.std.proofs.Common.{◌≡◌, ℕ, zero, suc, ◌+◌, ◌<◌, ◌==◌, ◌++◌, List, [], ◌∷◌, length, set, take, get_or, Bool, true, false, cond, Option, Some, None, refl, sym, ap, ◌∙◌, arith}
+use Rattle.std.specs.Cmp.Lexicographic.{nat_list_cmp_total}
+use Rattle.std.specs.List.{AllByRecursion}
+use Rattle.std.specs.List.Sorted.{IsStrictlySortedBy}
+use Rattle.std.specs.Option.{option_map}
+use Rattle.std.specs.Prelude.{slice_get}
+use Rattle.std.specs.Str.{bytes_eq}
+use Rattle.std.proofs.lemmas.Bool.Decides.{nat_tests}
+use Rattle.std.proofs.lemmas.List.{length-map, take_more}
+use Rattle.std.proofs.lemmas.List.Elements.{filter_map-append}
+use Rattle.std.proofs.lemmas.Option.{slice_get-get_or, slice_get-map}
+use Rattle.farm_types.specs.Farm.{Farm}
+use Rattle.farm_types.specs.Pass.{held_board}
+use Rattle.farm_types.specs.Table.{board_cmp, change_where}
+use Rattle.farm_types.specs.Words.{text_cmp}
+use Rattle.farm_types.specs.declared.rows.BoardRow.{BoardRow}
+use Rattle.farm_types.specs.declared.rows.Holder.{Holder}
+use Rattle.farm_types.specs.declared.rows.State.{State}
+use Rattle.farm_types.proofs.Searched.{same_names}
+use Rattle.farm_sound.proofs.Own.{text_itself}
+use Rattle.farm_table.proofs.Steps.{apart_by_key, one_changes}
+use Rattle.farm_pick.specs.Least.{boards_at}
+use Rattle.farm_pick.specs.Queued.{IdleBoard}
+use Rattle.farm_core.specs.Following.{without_board, without_boards}
+use Rattle.farm_core.specs.Serving.{assign_first, name_at, names_at}
+use Rattle.farm_core.proofs.Serving.{names_of}
+
+-- the board at a place
+pub board_at : (rows : List BoardRow) (at : ℕ) → at < length rows → (b : BoardRow) × (b ≡ get_or rows at b)
+board_at [] at low = absurd (omega arith)
+board_at (r ∷ rows) zero low = (r, refl)
+board_at (r ∷ rows) (suc at) low = board_at rows at (omega arith)
+
+pub named : (rows : List BoardRow) (at : ℕ) (b : BoardRow) → at < length rows → b ≡ get_or rows at b → name_at rows at ≡ Some b.name
+named rows at b low is = ap (option_map (λ (b : BoardRow). b.name)) (slice_get-get_or rows at b low ∙ ap Some (sym is))
+
+-- it is the one of its name
+pub changed_at : (f : BoardRow → BoardRow) (rows new : List BoardRow) (at : ℕ) (b : BoardRow) → IsStrictlySortedBy board_cmp rows → at < length rows → b ≡ get_or rows at b
+    → ((d : BoardRow) → new ≡ set rows at (f (get_or rows at d))) → new ≡ change_where (λ c. bytes_eq c.name b.name) f rows
+changed_at f rows new at b sorted low is made =
+    made b ∙ sym (one_changes board_cmp (λ c. bytes_eq c.name b.name) f (apart_by_key (λ (c : BoardRow). c.name) text_cmp nat_list_cmp_total bytes_eq same_names b.name) rows at b sorted low
+    (ap (λ (c : BoardRow). bytes_eq c.name b.name) (sym is) ∙ text_itself b.name))
+
+-- names stay as boards are reserved
+pub names_stay : (test : BoardRow → Bool) (holder : Holder) (state : State) (rows : List BoardRow) → names_of (change_where test (held_board holder state) rows) ≡ names_of rows
+names_stay test holder state [] = refl
+names_stay test holder state (r ∷ rows) = by (test r) (names_stay test holder state rows)
+  where
+    by : (v : Bool) → names_of (change_where test (held_board holder state) rows) ≡ names_of rows
+        → (cond v (held_board holder state r) r).name ∷ names_of (change_where test (held_board holder state) rows) ≡ r.name ∷ names_of rows
+    by true rest = ap (λ ns. r.name ∷ ns) rest
+    by false rest = ap (λ ns. r.name ∷ ns) rest
+
+-- and with them the name at each place
+pub name_same : (old new : List BoardRow) → names_of new ≡ names_of old → (at : ℕ) → name_at new at ≡ name_at old at
+name_same old new same at =
+    sym (slice_get-map (λ (b : BoardRow). b.name) new at) ∙ ap (λ ns. slice_get ns at) same ∙ slice_get-map (λ (b : BoardRow). b.name) old at
+
+pub long_same : (old new : List BoardRow) → names_of new ≡ names_of old → length new ≡ length old
+long_same old new same = sym (length-map new (λ (b : BoardRow). b.name)) ∙ ap length same ∙ length-map old (λ (b : BoardRow). b.name)
+
+-- ---- the names at some places
+
+pub some_place : (n : ℕ) → false ≡ (n == 0) → 0 < n
+some_place n is = grind (arith, nat_tests)
+
+pub no_place : (places : List ℕ) → true ≡ (length places == 0) → places ≡ []
+no_place [] is = refl
+no_place (p ∷ places) is = absurd (grind (arith, nat_tests))
+
+pub names_long : (rows : List BoardRow) (places : List ℕ) → AllByRecursion (λ at. at < length rows) places → length (names_at rows places) ≡ length places
+names_long rows [] all = refl
+names_long rows (p ∷ places) all = let it = board_at rows p all.0 in rw (named rows p it.0 all.0 it.1) (ap suc (names_long rows places all.1))
+
+pub name_there : (rows : List BoardRow) (places : List ℕ) (k : ℕ) (name : List ℕ) → AllByRecursion (λ at. at < length rows) places → k < length places → name_at rows (get_or places k 0) ≡ Some name
+    → name ≡ get_or (names_at rows places) k name
+name_there rows [] k name all low is = absurd (omega arith)
+name_there rows (p ∷ places) zero name all low is = rw is refl
+name_there rows (p ∷ places) (suc k) name all low is = let it = board_at rows p all.0 in rw (named rows p it.0 all.0 it.1) (name_there rows places k name all.1 (omega arith) is)
+
+pub names_boards : (rows : List BoardRow) (places : List ℕ) → names_of (boards_at rows places) ≡ names_at rows places
+names_boards rows [] = refl
+names_boards rows (p ∷ places) = by (slice_get rows p) refl (names_boards rows places)
+  where
+    by : (o : Option BoardRow) → slice_get rows p ≡ o → names_of (boards_at rows places) ≡ names_at rows places → names_of (boards_at rows (p ∷ places)) ≡ names_at rows (p ∷ places)
+    by None is rest = rw is rest
+    by (Some b) is rest = rw is (ap (λ ns. b.name ∷ ns) rest)
+
+pub names_more : (rows : List BoardRow) (places : List ℕ) (k : ℕ) (b : BoardRow) → k < length places → get_or places k 0 < length rows → b ≡ get_or rows (get_or places k 0) b
+    → names_at rows (take (k + 1) places) ≡ names_at rows (take k places) ++ (b.name ∷ [])
+names_more rows places k b low within is =
+    ap (names_at rows) (take_more places k 0 low)
+    ∙ filter_map-append (name_at rows) (take k places) (get_or places k 0 ∷ [])
+    ∙ ap (λ ns. names_at rows (take k places) ++ ns) (rw (named rows (get_or places k 0) b within is) refl)
+
+-- the first of them
+pub first_named : (rows : List BoardRow) (places : List ℕ) → AllByRecursion (λ at. at < length rows) places → 0 < length places → name_at rows (get_or places 0 0) ≡ slice_get (names_at rows places) 0
+first_named rows [] all some = absurd (omega arith)
+first_named rows (p ∷ places) all some = let it = board_at rows p all.0 in rw (named rows p it.0 all.0 it.1) refl
+
+pub first_assigned : (F : Farm) (number : ℕ) (places : List ℕ) (b : BoardRow) → AllByRecursion (λ at. at < length F.boards) places → 0 < length places → b ≡ get_or F.boards (get_or places 0 0) b
+    → assign_first F number (b.name ∷ []) ≡ assign_first F number (names_at F.boards places)
+first_assigned F number [] b all some is = absurd (omega arith)
+first_assigned F number (p ∷ places) b all some is = rw (named F.boards p b all.0 is) refl
+
+pub without_more : (names : List (List ℕ)) (name : List ℕ) (boards : List IdleBoard) → without_boards (names ++ (name ∷ [])) boards ≡ without_board (without_boards names boards) name
+without_more [] name boards = refl
+without_more (n ∷ names) name boards = without_more names name (without_board boards n)
