@@ -44,6 +44,7 @@ def fill(farm: str, path: str, boards: int, *statements: str) -> None:
     """
     last = """
         UPDATE meta SET value = 1 + (SELECT count(*) FROM jobs) + (SELECT count(*) FROM reservations) WHERE name = 'next';
+        UPDATE meta SET value = (SELECT count(*) FROM kept) WHERE name = 'count';
     """
     subprocess.run(["sqlite3", path], check=True, input="".join([first, *statements, last]).encode())
 

@@ -17,9 +17,17 @@ use crate::fault::StoreFault;
 use crate::meta::read_numbers;
 use crate::queries::rows::read;
 use crate::tables::is_farm_schema;
-use farm_types::{BoardRow, JobRow, KeptRow, MetaRow, ResRow, Rows, TypeRow};
+use farm_types::{
+    BoardRow, JobRow, KeptRow, MOST_JOBS, MOST_REPLIES, MOST_RESERVATIONS, MetaRow, ResRow, Rows,
+    TypeRow,
+};
 use sqlite::{Alter, Connection};
 use std::alloc::Global;
+
+/// How many rows are expected of a table, where so many were numbered and it may have so many.
+fn expected(numbered: u64, most: usize) -> usize {
+    usize::try_from(numbered).unwrap_or(most).min(most)
+}
 
 /// Each table but that of the numbers by its query.
 fn read_tables<S: Alter>(
@@ -36,11 +44,14 @@ fn read_tables<S: Alter>(
     ensures numbers { IfOk result (λ rows. rows.meta ≡ meta) }
     ensures fault { IfErr result TellsNoVersion }
 {
-    let types = read::<TypeRow, S>(alloc, conn, edition)?;
-    let boards = read::<BoardRow, S>(alloc, conn, edition)?;
-    let jobs = read::<JobRow, S>(alloc, conn, edition)?;
-    let reservations = read::<ResRow, S>(alloc, conn, edition)?;
-    let kept = read::<KeptRow, S>(alloc, conn, edition)?;
+    let jobs_there = expected(meta.next, MOST_JOBS);
+    let reservations_there = expected(meta.next, MOST_RESERVATIONS);
+    let replies_there = expected(meta.count, MOST_REPLIES);
+    let types = read::<TypeRow, S>(alloc, conn, edition, 0)?;
+    let boards = read::<BoardRow, S>(alloc, conn, edition, 0)?;
+    let jobs = read::<JobRow, S>(alloc, conn, edition, jobs_there)?;
+    let reservations = read::<ResRow, S>(alloc, conn, edition, reservations_there)?;
+    let kept = read::<KeptRow, S>(alloc, conn, edition, replies_there)?;
     Ok(Rows {
         types,
         boards,

@@ -38,11 +38,12 @@ pub(crate) trait Stored: Drop + Sized {
 }
 
 /// What all rows of the table stand for in an edition, in order of their keys. It holds one row of
-/// the store at a time.
+/// the store at a time, and begins with room for the rows that are expected, if there is any.
 pub(crate) fn read<R: Stored, S: Alter>(
     alloc: Global,
     conn: &mut Connection<S>,
     edition: Edition,
+    expected: usize,
 ) -> Result<Vec<R>, StoreFault>
     requires autocommit { conn.old.in_transaction ≡ false }
     ensures only { ReadsOnly (state S.Store conn.old) (state S.Store conn.new) }
@@ -53,6 +54,7 @@ pub(crate) fn read<R: Stored, S: Alter>(
     ensures fault { IfErr result TellsNoVersion }
 {
     let mut all = Vec::new(alloc);
+    let _room = all.reserve_exact(expected);
     let mut rows = conn.query(R::query(), &[])?;
     'rows: for _ in 0..u64::MAX {
         let Some(row) = rows.next()? else {

@@ -27,7 +27,7 @@ rows-init g c =
       refl,
       survives_weaker (state g.S.Store old) (state g.S.Store new) _ _ (λ _ db. never_commits text only (state g.S.Store old) db) made.survives,
       made.mode c.requires.autocommit,
-      λ clean. let it = begun text only g.S.Store old new (made.begun clean) in (it.1, (text, c.query.ensures, ([], it.0, rw c.new-all.ensures.items (tt, λ _. refl)))),
+      λ clean. let it = begun text only g.S.Store old new (made.begun clean) in (it.1, (text, c.query.ensures, ([], it.0, rw (c.reserve_exact-room.ensures.items, c.new-all.ensures.items) (tt, λ _. refl)))),
     )
 
 pub returns-in_default-clause-read : goal.returns-in_default-clause-read
