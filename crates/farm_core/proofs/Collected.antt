@@ -1,5 +1,5 @@
 -- A group collects, member by member, and gives back what it collected.
-use Rattle.std.proofs.Common.{◌≡◌, ◌∙◌, ◌==◌, ◌&&◌, ◌+◌, ◌<◌, ◌≤◌, ℕ, zero, suc, List, [], ◌∷◌, length, drop, get_or, map, filter, Bool, true, false, cond, not, Option, Some, None, IsSomeAnd, slice_get, refl, sym, ap, subst, arith, add-one}
+use Rattle.std.proofs.Common.{◌≡◌, ◌∙◌, ◌==◌, ◌&&◌, ◌+◌, ◌<◌, ◌≤◌, ℕ, zero, suc, List, [], ◌∷◌, length, drop, get_or, map, filter, Bool, true, false, cond, not, Option, Some, None, IsSomeAnd, refl, sym, ap, subst, arith, add-one}
 use Rattle.std.proofs.lemmas.List.{length-map}
 use Rattle.std.specs.List.{AllByRecursion, fold}
 use Rattle.std.specs.Option.{option_map, option_map_or}
@@ -8,7 +8,7 @@ use Rattle.std.proofs.Math.Bool.{and-false}
 use Rattle.farm_types.specs.Codes.{same_job_state}
 use Rattle.farm_types.specs.Farm.{Farm, job_of, members}
 use Rattle.farm_types.specs.Pass.{giving_back, collect_member, first_free, give_member, held_board, freed_board, is_job_so, placed_job, unplaced_job}
-use Rattle.farm_types.specs.Pick.{is_free, least, serves}
+use Rattle.farm_types.specs.Pick.{is_free, serves}
 use Rattle.farm_types.specs.Sound.{IsSound}
 use Rattle.farm_types.specs.Table.{change_where}
 use Rattle.farm_types.specs.declared.rows.BoardRow.{BoardRow}
@@ -17,7 +17,6 @@ use Rattle.farm_types.specs.declared.rows.JobRow.{JobRow}
 use Rattle.farm_types.specs.declared.rows.JobState.{JobState}
 use Rattle.farm_types.specs.declared.rows.State.{State}
 use Rattle.farm_types.specs.declared.rows.TypeRow.{TypeRow}
-use Rattle.farm_types.specs.declared.rows.Want.{Want}
 use Rattle.farm_types.proofs.Put.{AllByRecursion-weaker, found_has}
 use Rattle.farm_sound.proofs.Collecting.{none_scheduling}
 use Rattle.farm_sound.proofs.Lists.{filter_all}
@@ -27,8 +26,7 @@ use Rattle.farm_pick.specs.Queued.{IdleBoard, idle_board, idle_boards}
 use Rattle.farm_core.specs.Collecting.{Collects, HasWant}
 use Rattle.farm_core.specs.Came.{Seen}
 use Rattle.farm_core.specs.Serving.{assign_named}
-use Rattle.farm_core.proofs.OneWant.{least_first}
-use Rattle.farm_core.proofs.Serving.{names_of, numbers_of}
+use Rattle.farm_core.proofs.Serving.{numbers_of}
 
 -- ---- the free boards once one is held
 
@@ -95,24 +93,6 @@ module _ (F : Farm) (m j : JobRow) (n : ℕ) (has : HasWant F n j) where
       by (Some b) = want_given b
 
 -- ---- the board that a member takes
-
--- no list of one board, no board
-pub picks_none : (F : Farm) (w v : Want) → w ≡ v → None ≡ option_map names_of (least F.boards (is_free F.types) (w ∷ [])) → None ≡ option_map (λ (b : BoardRow). b.name) (first_free F v)
-picks_none F w v same none = by (first_free F w) (none ∙ ap (option_map names_of) (least_first F.boards (is_free F.types) w)) ∙ ap (λ u. option_map (λ (b : BoardRow). b.name) (first_free F u)) same
-  where
-    by : (o : Option BoardRow) → None ≡ option_map names_of (option_map (λ b. b ∷ []) o) → None ≡ option_map (λ (b : BoardRow). b.name) o
-    by None is = refl
-    by (Some b) is = cc
-
--- and the one of a list is the first that fits
-pub picks_one : (F : Farm) (w v : Want) → w ≡ v → (names : List (List ℕ)) (n : Option (List ℕ)) → Some names ≡ option_map names_of (least F.boards (is_free F.types) (w ∷ []))
-    → n ≡ slice_get names 0 → n ≡ option_map (λ (b : BoardRow). b.name) (first_free F v)
-picks_one F w v same names n picked at =
-    at ∙ by (first_free F w) (picked ∙ ap (option_map names_of) (least_first F.boards (is_free F.types) w)) ∙ ap (λ u. option_map (λ (b : BoardRow). b.name) (first_free F u)) same
-  where
-    by : (o : Option BoardRow) → Some names ≡ option_map names_of (option_map (λ b. b ∷ []) o) → slice_get names 0 ≡ option_map (λ (b : BoardRow). b.name) o
-    by None is = cc
-    by (Some b) is = let one : names ≡ b.name ∷ [] = cc in ap (λ ns. slice_get ns 0) one
 
 module _ (F : Farm) (number : ℕ) (j : JobRow) (has : HasWant F number j) where
   pub takes_one : (name : List ℕ) → Some name ≡ option_map (λ (b : BoardRow). b.name) (first_free F j.want) → assign_named S F (number, name) ≡ collect_member F j

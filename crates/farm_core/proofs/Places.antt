@@ -1,16 +1,14 @@
 -- Boards that are assigned, by their places.
-use Rattle.std.proofs.Common.{◌≡◌, ℕ, zero, suc, ◌+◌, ◌<◌, ◌==◌, ◌++◌, List, [], ◌∷◌, length, set, take, get_or, Bool, true, false, cond, Option, Some, None, refl, sym, ap, ◌∙◌, arith}
+use Rattle.std.proofs.Common.{◌≡◌, ℕ, zero, suc, ◌+◌, ◌<◌, ◌++◌, List, [], ◌∷◌, length, set, take, get_or, Bool, true, false, cond, Option, Some, None, refl, sym, ap, ◌∙◌, arith}
 use Rattle.std.specs.Cmp.Lexicographic.{nat_list_cmp_total}
 use Rattle.std.specs.List.{AllByRecursion}
 use Rattle.std.specs.List.Sorted.{IsStrictlySortedBy}
 use Rattle.std.specs.Option.{option_map}
 use Rattle.std.specs.Prelude.{slice_get}
 use Rattle.std.specs.Str.{bytes_eq}
-use Rattle.std.proofs.lemmas.Bool.Decides.{nat_tests}
 use Rattle.std.proofs.lemmas.List.{length-map, take_more}
 use Rattle.std.proofs.lemmas.List.Elements.{filter_map-append}
 use Rattle.std.proofs.lemmas.Option.{slice_get-get_or, slice_get-map}
-use Rattle.farm_types.specs.Farm.{Farm}
 use Rattle.farm_types.specs.Pass.{held_board}
 use Rattle.farm_types.specs.Table.{board_cmp, change_where}
 use Rattle.farm_types.specs.Words.{text_cmp}
@@ -23,7 +21,7 @@ use Rattle.farm_table.proofs.Steps.{apart_by_key, one_changes}
 use Rattle.farm_pick.specs.Least.{boards_at}
 use Rattle.farm_pick.specs.Queued.{IdleBoard}
 use Rattle.farm_core.specs.Following.{without_board, without_boards}
-use Rattle.farm_core.specs.Serving.{assign_first, name_at, names_at}
+use Rattle.farm_core.specs.Serving.{name_at, names_at}
 use Rattle.farm_core.proofs.Serving.{names_of}
 
 -- the board at a place
@@ -62,13 +60,6 @@ long_same old new same = sym (length-map new (λ (b : BoardRow). b.name)) ∙ ap
 
 -- ---- the names at some places
 
-pub some_place : (n : ℕ) → false ≡ (n == 0) → 0 < n
-some_place n is = grind (arith, nat_tests)
-
-pub no_place : (places : List ℕ) → true ≡ (length places == 0) → places ≡ []
-no_place [] is = refl
-no_place (p ∷ places) is = absurd (grind (arith, nat_tests))
-
 pub names_long : (rows : List BoardRow) (places : List ℕ) → AllByRecursion (λ at. at < length rows) places → length (names_at rows places) ≡ length places
 names_long rows [] all = refl
 names_long rows (p ∷ places) all = let it = board_at rows p all.0 in rw (named rows p it.0 all.0 it.1) (ap suc (names_long rows places all.1))
@@ -94,15 +85,21 @@ names_more rows places k b low within is =
     ∙ filter_map-append (name_at rows) (take k places) (get_or places k 0 ∷ [])
     ∙ ap (λ ns. names_at rows (take k places) ++ ns) (rw (named rows (get_or places k 0) b within is) refl)
 
--- the first of them
-pub first_named : (rows : List BoardRow) (places : List ℕ) → AllByRecursion (λ at. at < length rows) places → 0 < length places → name_at rows (get_or places 0 0) ≡ slice_get (names_at rows places) 0
-first_named rows [] all some = absurd (omega arith)
-first_named rows (p ∷ places) all some = let it = board_at rows p all.0 in rw (named rows p it.0 all.0 it.1) refl
+-- the first of some places is where the one board stands that they have
+pub first_at : (rows : List BoardRow) (places : List ℕ) (o : Option BoardRow) → AllByRecursion (λ at. at < length rows) places → 0 < length places → Some (boards_at rows places) ≡ option_map (λ b. b ∷ []) o
+    → slice_get rows (get_or places 0 0) ≡ o
+first_at rows [] o all some is = absurd (omega arith)
+first_at rows (p ∷ places) None all some is = cc
+first_at rows (p ∷ places) (Some b) all some is =
+    let it = board_at rows p all.0 in
+    let at : slice_get rows p ≡ Some it.0 = slice_get-get_or rows p it.0 all.0 ∙ ap Some (sym it.1) in
+    let one : ◌≡◌ {A = Option (List BoardRow)} (Some (it.0 ∷ boards_at rows places)) (Some (b ∷ [])) = rw at at is in
+    let same : it.0 ≡ b = cc in
+    at ∙ ap Some same
 
-pub first_assigned : (F : Farm) (number : ℕ) (places : List ℕ) (b : BoardRow) → AllByRecursion (λ at. at < length F.boards) places → 0 < length places → b ≡ get_or F.boards (get_or places 0 0) b
-    → assign_first F number (b.name ∷ []) ≡ assign_first F number (names_at F.boards places)
-first_assigned F number [] b all some is = absurd (omega arith)
-first_assigned F number (p ∷ places) b all some is = rw (named F.boards p b all.0 is) refl
+pub first_none : (o : Option BoardRow) → ◌≡◌ {A = Option (List BoardRow)} None (option_map (λ b. b ∷ []) o) → None ≡ o
+first_none None is = refl
+first_none (Some b) is = cc
 
 pub without_more : (names : List (List ℕ)) (name : List ℕ) (boards : List IdleBoard) → without_boards (names ++ (name ∷ [])) boards ≡ without_board (without_boards names boards) name
 without_more [] name boards = refl

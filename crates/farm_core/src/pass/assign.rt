@@ -73,7 +73,7 @@ impl Tables {
     }
 
     /// A reservation is assigned the board at a place, for a lease from now on.
-    fn assign_reservation(&mut self, number: u64, at: usize) -> Result<(), AllocError>
+    pub fn assign_reservation(&mut self, number: u64, at: usize) -> Result<(), AllocError>
         requires within { at < length (plain_farm self.old).boards }
         requires small { IsSmall number }
         requires clock { self.old.clock ≤ last_moment }
@@ -89,21 +89,6 @@ impl Tables {
             board: Some(name),
         })?;
         self.reserve_board(at, Holder::Res(number))?;
-        Ok(())
-    }
-
-    /// A reservation is assigned the board at the first of the places, for a lease from now on.
-    pub fn assign_first(&mut self, number: u64, places: &[usize]) -> Result<(), AllocError>
-        requires within { All (λ at. at < length (plain_farm self.old).boards) places.now }
-        requires small { IsSmall number }
-        requires clock { self.old.clock ≤ last_moment }
-        ensures { OnOk result (CameTo self.old (seen_at (assign_first (plain_farm self.old) number
-            (names_at (plain_farm self.old).boards places.now)) (seen self.old)) self.new) }
-    {
-        if places.is_empty() {
-            return Ok(());
-        }
-        self.assign_reservation(number, places[0])?;
         Ok(())
     }
 }

@@ -1,15 +1,13 @@
 //! A group that can't begin collects boards, and gives them back when the next pass begins.
-ghost use Rattle.std.specs.Prelude.{◌≡◌, ◌<◌, ◌==◌, IfSome, OnOk, length, option_and_then, option_map};
+ghost use Rattle.std.specs.Prelude.{◌≡◌, ◌<◌, ◌==◌, IfSome, OnOk, length, option_and_then, slice_get};
 ghost use Rattle.farm_types.specs.Pass.{giving_back, collect, first_free};
 ghost use Rattle.farm_types.specs.Small.{IsSmall};
 ghost use Rattle.farm_types.specs.Sound.{IsSound};
-ghost use Rattle.farm_types.specs.declared.rows.BoardRow.{BoardRow};
 ghost use Rattle.farm_types.specs.declared.rows.JobRow.{JobRow};
 ghost use Rattle.farm_pick.specs.Queued.{idle_boards};
 ghost use Rattle.farm_core.specs.Came.{CameTo, LeadOn, seen, seen_at};
 ghost use Rattle.farm_core.specs.Collecting.{Collects, HasWant};
 ghost use Rattle.farm_core.specs.Plain.{plain_farm};
-ghost use Rattle.farm_core.specs.Serving.{name_at};
 
 use crate::board_effect::BoardEffect;
 use crate::command::job_edit::{JobEdit, JobFilter, Placement};
@@ -24,22 +22,13 @@ impl Tables {
     fn pick_for_job(&self, number: u64) -> Option<usize>
         requires free { self.now.queues.boards ≡ idle_boards (plain_farm self.now) }
         ensures first { (j : JobRow) → HasWant (plain_farm self.now) number j
-            → option_and_then (name_at (plain_farm self.now).boards) result
-            ≡ option_map (λ (b : BoardRow). b.name) (first_free (plain_farm self.now) j.want) }
+            → option_and_then (slice_get (plain_farm self.now).boards) result
+            ≡ first_free (plain_farm self.now) j.want }
         ensures within { IfSome result (λ at. at < length (plain_farm self.now).boards) }
     {
         match self.find_job(number) {
             None => None,
-            Some(row) => match self.pick(&[&row.want]) {
-                None => None,
-                Some(picked) => {
-                    let places = picked.places();
-                    if places.is_empty() {
-                        return None;
-                    }
-                    Some(places[0])
-                }
-            },
+            Some(row) => self.pick_one(&row.want),
         }
     }
 

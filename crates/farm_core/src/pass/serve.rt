@@ -1,12 +1,12 @@
 //! Claims are served: each is given the least list of free boards that meets it.
 ghost use Rattle.std.specs.Prelude.{◌≡◌, ◌≤◌, ◌==◌, ◌∷◌, [], ℕ, true, false, None, Some, map};
 ghost use Rattle.std.specs.Prelude.{◌&&◌, ◌||◌, length, nat_le, take};
-ghost use Rattle.std.specs.Prelude.{◌<◌, OnOk, IfOk, IfSome, option_map};
+ghost use Rattle.std.specs.Prelude.{◌<◌, OnOk, IfOk, IfSome, option_and_then, option_map, slice_get};
 ghost use Rattle.std.specs.List.{All, filter, find, list_all};
 ghost use Rattle.std.specs.Option.{option_copied};
 ghost use Rattle.farm_types.specs.Limits.{last_moment, most_wants};
 ghost use Rattle.farm_types.specs.Farm.{members, res_of};
-ghost use Rattle.farm_types.specs.Pass.{is_group, serve, serve_all};
+ghost use Rattle.farm_types.specs.Pass.{first_free, is_group, serve, serve_all};
 ghost use Rattle.farm_types.specs.Pick.{IsAmong, Claimed, least, is_free, queue, shown_claim};
 ghost use Rattle.farm_types.specs.Pick.{waits};
 ghost use Rattle.farm_types.specs.Small.{IsSmall};
@@ -96,6 +96,7 @@ impl Tables {
         ensures least { option_map (boards_at (plain_farm self.now).boards) result
             ≡ least (plain_farm self.now).boards (is_free (plain_farm self.now).types)
             (map (λ w. w.now) wants.now) }
+        ensures len { IfSome result (λ places. length places ≡ length wants.now) }
         ensures within { IfSome result
             (λ places. All (λ at. at < length (plain_farm self.now).boards) places) }
     {
@@ -121,18 +122,28 @@ impl Tables {
         self.pick(&wants[..count])
     }
 
+    /// The place of the first free board, in name order, that fits a want.
+    pub fn pick_one(&self, want: &Want) -> Option<usize>
+        requires free { self.now.queues.boards ≡ idle_boards (plain_farm self.now) }
+        ensures first { option_and_then (slice_get (plain_farm self.now).boards) result
+            ≡ first_free (plain_farm self.now) want.now }
+        ensures within { IfSome result (λ at. at < length (plain_farm self.now).boards) }
+    {
+        let picked = self.pick(&[want])?;
+        Some(picked.places()[0])
+    }
+
     /// The place of the board for a reservation: none where there is no such reservation.
-    fn pick_for_reservation(&self, number: u64) -> Option<Picked>
+    fn pick_for_reservation(&self, number: u64) -> Option<usize>
         requires free { self.now.queues.boards ≡ idle_boards (plain_farm self.now) }
         ensures least { (r : ResRow) → res_of (plain_farm self.now) number ≡ Some r
-            → option_map (boards_at (plain_farm self.now).boards) result
+            → option_map (λ b. b ∷ []) (option_and_then (slice_get (plain_farm self.now).boards) result)
             ≡ least (plain_farm self.now).boards (is_free (plain_farm self.now).types) (r.want ∷ []) }
-        ensures within { IfSome result
-            (λ places. All (λ at. at < length (plain_farm self.now).boards) places) }
+        ensures within { IfSome result (λ at. at < length (plain_farm self.now).boards) }
     {
         match self.find_reservation(number) {
             None => None,
-            Some(row) => self.pick(&[&row.want]),
+            Some(row) => self.pick_one(&row.want),
         }
     }
 
@@ -182,10 +193,9 @@ impl Tables {
     {
         match self.pick_for_reservation(number) {
             None => Ok(false),
-            Some(picked) => {
-                let places = picked.places();
-                self.take_assigned(number, places);
-                self.assign_first(number, places)?;
+            Some(at) => {
+                self.take_assigned(number, &[at]);
+                self.assign_reservation(number, at)?;
                 Ok(true)
             }
         }

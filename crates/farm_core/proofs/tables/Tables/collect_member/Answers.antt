@@ -1,12 +1,13 @@
 use Rattle.std.proofs.Common.{◌≡◌, ◌∙◌, Some, filter, get_or, not, option_map, ap, sym}
 use Rattle.std.specs.Str.{bytes_eq}
+use Rattle.std.proofs.lemmas.Option.{slice_get-get_or}
 use Rattle.farm_types.specs.Farm.{Farm}
 use Rattle.farm_types.specs.Pass.{first_free}
 use Rattle.farm_types.specs.declared.rows.BoardRow.{BoardRow}
 use Rattle.farm_pick.specs.Queued.{IdleBoard, idle_boards}
 use Rattle.farm_core.specs.Came.{Seen, seen}
 use Rattle.farm_core.proofs.Collected.{held_free, takes_one}
-use Rattle.farm_core.proofs.Places.{board_at, named}
+use Rattle.farm_core.proofs.Places.{board_at}
 use Rattle.farm_core.proofs.tables.Tables.collect_member.Goals as goal
 
 pub returns-in_ok-assign_job-in-Some-clause-collects : goal.returns-in_ok-assign_job-in-Some-clause-collects
@@ -16,7 +17,7 @@ returns-in_ok-assign_job-in-Some-clause-collects c = λ j has.
     let at = c.in-Some.at in
     let b = c.index-rows-at.result in
     let is : b ≡ get_or F.boards at b = c.index-rows-at.is ∙ ap (λ bs. get_or bs at b) c.rows.ensures.rows in
-    let picked : Some b.name ≡ option_map (λ (b : BoardRow). b.name) (first_free F j.want) = sym (named F.boards at b c.in-Some.ensures.within is) ∙ c.in-Some.ensures.first j has in
+    let picked : Some b.name ≡ option_map (λ (b : BoardRow). b.name) (first_free F j.want) = ap (option_map (λ (b : BoardRow). b.name)) (ap Some is ∙ sym (slice_get-get_or F.boards at b c.in-Some.ensures.within) ∙ c.in-Some.ensures.first j has) in
     let made = takes_one F c.args.number j has b.name picked in
     let given = (c.in_ok-assign_job-in-Some.ensures b is).now in
     let farm = ap (λ (E : Seen). E.farm) given ∙ made in
