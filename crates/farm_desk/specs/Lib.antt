@@ -5,6 +5,7 @@ pub mod Response
 pub mod Ends
 pub mod Encoding
 pub mod Imports
+pub mod LabFiles
 pub mod Serving
 pub mod InFiles
 pub mod Upgrades

@@ -100,16 +100,18 @@ module _ (Room : ℕ → Type 0) (held holds : Option (List ℕ)) {D : Type 0} (
     pub upgrades : UpgradesFarm image raised
     pub prints : PrintsIfDone Room held holds raised migrated_line result
 
--- ---- tasks, and all orders: what they make of an input and an output, over a reader that never
--- fails and a writer with such room
+-- ---- tasks, and all orders: what they make of an input and an output, over lab files whose bytes
+-- may be known at their paths, a reader that never fails and a writer with such room
 
-module _ (Sure : Type 0) (Room : ℕ → Type 0) (old new : Streams) where
+module _ (labs : List ℕ → Option (List ℕ)) (Sure : Type 0) (Room : ℕ → Type 0)
+    (old new : Streams) where
   -- the task is done with a keeper that was opened; where none could be, the fault ends the order,
   -- and nothing is read or written
   abbrev pub DoesTaskIf : {S : Type 0} → Ghosts S → Result (Kept S) DeskFault → Task
       → Result End DeskFault → Type 0
   DoesTaskIf {S} g (Ok keeper) task result =
-      (left : Kept S) × DoesTask g task (desk_at keeper old) (desk_at left new) Sure Room result
+      (left : Kept S)
+      × DoesTask g labs task (desk_at keeper old) (desk_at left new) Sure Room result
   DoesTaskIf {S} g (Err fault) task result = (result ≡ Err fault) × (new ≡ old)
 
   -- it is done with an empty farm in memory

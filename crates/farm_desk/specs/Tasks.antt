@@ -1,5 +1,6 @@
 -- What is done with a farm that is there, by the task. An output held this, and holds that.
 use Rattle.std.specs.Prelude.{◌≡◌, ◌≤◌, ◌⊎◌, ℕ, Bool, true, false, List, Option, Result, Ok, Err}
+use Rattle.std.specs.Prelude.{IfOk, string_bytes}
 use Rattle.std.specs.Io.KnownBytes.{Appends, Keeps}
 use Rattle.sqlite_trees.specs.declared.store.Store.{Ghosts}
 use Rattle.farm_types.specs.Farm.{Farm}
@@ -10,6 +11,7 @@ use Rattle.farm_report.specs.Moments.{most_minutes}
 use Rattle.farm_desk.specs.Conversations.{AnswersOne, Desk}
 use Rattle.farm_desk.specs.Ends.{Writes}
 use Rattle.farm_desk.specs.Imports.{IsImport}
+use Rattle.farm_desk.specs.LabFiles.{IsTextOf}
 use Rattle.farm_desk.specs.Lines.{PrintsImport, port_line}
 use Rattle.farm_desk.specs.Reports.{Reports, seconds_ahead}
 use Rattle.farm_desk.specs.Serving.{ServesUntil}
@@ -25,19 +27,20 @@ pub record DoesNothing {S : Type 0} (old new : Kept S) (held holds : Option (Lis
   pub unchanged : new ≡ old
   pub nothing_written : Keeps held holds
 
--- a text is imported at that moment, and what was done is printed
-pub record ImportsText {S : Type 0} (g : Ghosts S) (old new : Kept S)
+-- a lab file's text is imported at that moment, and what was done is printed
+pub record ImportsText {S : Type 0} (g : Ghosts S) (lab : Option (List ℕ)) (old new : Kept S)
     (held holds : Option (List ℕ)) (now : ℕ) (result : Result End DeskFault) : Type 0 where
   pub text : List ℕ
+  pub text_of : IsTextOf lab text
   pub imported : ImportEnd
   pub imports : IsImport g old new text now imported
   pub prints : PrintsImport imported held holds result
 
 -- it is, or nothing is done since no text can be read
-abbrev pub ImportsFile : {S : Type 0} → Ghosts S → Kept S → Kept S → Option (List ℕ)
-    → Option (List ℕ) → ℕ → Result End DeskFault → Type 0
-ImportsFile g old new held holds now result =
-    ImportsText g old new held holds now result
+abbrev pub ImportsFile : {S : Type 0} → Ghosts S → Option (List ℕ) → Kept S → Kept S
+    → Option (List ℕ) → Option (List ℕ) → ℕ → Result End DeskFault → Type 0
+ImportsFile g lab old new held holds now result =
+    ImportsText g lab old new held holds now result
     ⊎ (DoesNothing old new held holds DeskFault.NoMemory result
     ⊎ DoesNothing old new held holds DeskFault.Read result)
 
@@ -68,6 +71,7 @@ pub record ServesPort {S : Type 0} (g : Ghosts S) (old new : Kept S) (held holds
     (port max : ℕ) (result : Result End DeskFault) : Type 0 where
   pub printed : Appends held holds (port_line port)
   pub serves : ServesUntil g old new max result
+  pub done : IfOk result (λ end. end ≡ End.Done)
 
 -- it is, or nothing is done since nobody can listen on the port, or since it can't be printed
 abbrev pub ServesIfListening : {S : Type 0} → Ghosts S → Kept S → Kept S → Option (List ℕ)
@@ -77,15 +81,16 @@ ServesIfListening g old new held holds port max result =
     ⊎ (DoesNothing old new held holds DeskFault.Read result
     ⊎ ((new ≡ old) × (result ≡ Err DeskFault.Write)))
 
--- what a task makes of a keeper, an input and an output, over a reader that never fails and a
--- writer with such room
-abbrev pub DoesTask : {S : Type 0} → Ghosts S → Task → Desk S → Desk S → Type 0 → (ℕ → Type 0)
-    → Result End DeskFault → Type 0
-DoesTask g (Task.Answer at) old new Sure Room result = AnswersOne g old new at Sure Room result
-DoesTask g (Task.Import at lab) old new Sure Room result = (new.input ≡ old.input)
-    × ImportsFile g old.keeper new.keeper old.output new.output at result
-DoesTask g (Task.Report east west which) old new Sure Room result = (new.input ≡ old.input)
+-- what a task makes of a keeper, an input and an output, over lab files whose bytes may be known at
+-- their paths, a reader that never fails and a writer with such room
+abbrev pub DoesTask : {S : Type 0} → Ghosts S → (List ℕ → Option (List ℕ)) → Task → Desk S → Desk S
+    → Type 0 → (ℕ → Type 0) → Result End DeskFault → Type 0
+DoesTask g labs (Task.Answer at) old new Sure Room result =
+    AnswersOne g old new at Sure Room result
+DoesTask g labs (Task.Import at lab) old new Sure Room result = (new.input ≡ old.input)
+    × ImportsFile g (labs (string_bytes lab)) old.keeper new.keeper old.output new.output at result
+DoesTask g labs (Task.Report east west which) old new Sure Room result = (new.input ≡ old.input)
     × (new.keeper ≡ old.keeper)
     × PrintsReportOf Room old.keeper old.output new.output east west which result
-DoesTask g (Task.Serve port max) old new Sure Room result = (new.input ≡ old.input)
+DoesTask g labs (Task.Serve port max) old new Sure Room result = (new.input ≡ old.input)
     × ServesIfListening g old.keeper new.keeper old.output new.output port max result

@@ -17,8 +17,10 @@ pub struct Client<R, W> {
 
 /// Clients that are accepted, served and closed one after another.
 pub trait Clients {
+    /// What a client's request is read from.
     type Reader: Input + Drop;
 
+    /// What a client's answer is written to.
     type Writer: Output + Drop;
 
     /// The clients that wait and those that were served, where they are known.

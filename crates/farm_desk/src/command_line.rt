@@ -1,5 +1,5 @@
 //! The program: its words, its faults and its exit status.
-ghost use Rattle.std.specs.Prelude.{◌≡◌, Ok, Result, map, string_bytes};
+ghost use Rattle.std.specs.Prelude.{◌≡◌, None, Ok, Result, map, string_bytes};
 ghost use Rattle.std.specs.Io.KnownBytes.{WriteAppends};
 ghost use Rattle.sqlite_wal.specs.Files.{image_at};
 ghost use Rattle.farm_cli.specs.declared.order.Order.{Order as Ordered};
@@ -51,7 +51,7 @@ pub fn program<R: Input, W: Output, E: Output>(
     // of which nothing is known, and with the input and the output; a fault of the words is
     // printed.
     ensures { (read : Result Ordered Unordered) × IsReadOf (map string_bytes words.now) read
-        × EndsAsRead (DoesOrder R.never_fails (W.has_room output.old)
+        × EndsAsRead (DoesOrder (λ _. None) R.never_fails (W.has_room output.old)
         (streams (R.remaining input.old) (W.contents output.old))
         (streams (R.remaining input.new) (W.contents output.new))
         ⟦<FileFrom<Unknown> as Disk>⟧ (image_at ⟦<Unknown as Start>⟧)) read
@@ -72,7 +72,7 @@ fn end_as_read<R: Input, W: Output, E: Output>(
     output: &mut W,
     errors: &mut E,
 ) -> u8
-    ensures { EndsAsRead (DoesOrder R.never_fails (W.has_room output.old)
+    ensures { EndsAsRead (DoesOrder (λ _. None) R.never_fails (W.has_room output.old)
         (streams (R.remaining input.old) (W.contents output.old))
         (streams (R.remaining input.new) (W.contents output.new))
         ⟦<FileFrom<Unknown> as Disk>⟧ (image_at ⟦<Unknown as Start>⟧)) read
@@ -130,7 +130,7 @@ pub fn perform<R: Input, W: Output, E: Output>(
 ) -> u8
     // The order does what it is to do with some end, and the status and what is printed are those
     // of that end.
-    ensures { EndsOrder (DoesOrder R.never_fails (W.has_room output.old)
+    ensures { EndsOrder (DoesOrder (λ _. None) R.never_fails (W.has_room output.old)
         (streams (R.remaining input.old) (W.contents output.old))
         (streams (R.remaining input.new) (W.contents output.new))
         ⟦<FileFrom<Unknown> as Disk>⟧ (image_at ⟦<Unknown as Start>⟧) order)

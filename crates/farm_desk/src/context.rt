@@ -6,7 +6,9 @@ use std::alloc::Global;
 /// Without a router each request has one of its own.
 #[derive(Drop)]
 pub(crate) struct Context {
+    /// Where memory comes from.
     pub(crate) alloc: Global,
+    /// The router of all conversations, where one was built.
     pub(crate) routes: Option<Routes>,
 }
 

@@ -1,16 +1,17 @@
 //! Farms in files: opening one and making one; and reading a lab file.
-ghost use Rattle.std.specs.Prelude.{◌≡◌, ◌⊎◌, ◌+◌, false, take, IfOk, IfErr, IfSome};
+ghost use Rattle.std.specs.Prelude.{◌≡◌, ◌⊎◌, false, IfOk, IfErr};
 ghost use Rattle.sqlite.specs.Held.{state};
 ghost use Rattle.sqlite_wal.specs.Files.{image_at};
 ghost use Rattle.sqlite_wal.specs.Recovery.{Image};
-ghost use Rattle.farm_types.specs.Limits.{longest_lab_file};
 ghost use Rattle.farm_keep.specs.Headline.{IsAlwaysClean};
 ghost use Rattle.farm_keep.specs.Versions.{LooksForFarm};
 ghost use Rattle.farm_desk.specs.InFiles.{ShowsFiles, FindsTables, FindsFarm, MakesTables};
 ghost use Rattle.farm_desk.specs.InFiles.{MakesFarm, DeniesTables, HasReason, IsOpenFault};
+ghost use Rattle.farm_desk.specs.LabFiles.{IsTextOf};
 ghost use Rattle.farm_desk.specs.InFiles.{LooksForFarmIn, keep_fault};
 
 use crate::fault::DeskFault;
+use crate::lab_files::LabFiles;
 use crate::preflight::Preflight;
 use farm_keep::{KeepFault, Keeper};
 use farm_store::opened_stands;
@@ -18,7 +19,6 @@ use farm_types::LONGEST_LAB_FILE;
 use sqlite::{Alter, Connection, FileFrom, FileStore, Start};
 use sqlite_disk::Disk;
 use std::alloc::Global;
-use std::fs::File;
 use std::io;
 use std::io::{ErrorKind, Read};
 
@@ -158,11 +158,16 @@ fn make<S: Alter + Drop>(alloc: Global, conn: Connection<S>) -> Result<Keeper<S>
     Ok(keeper)
 }
 
-/// The bytes of a lab file; of one that is too long so many that they show it.
-pub(crate) fn read_lab(rt: &HostRuntime, alloc: Global, path: &str) -> Result<Vec<u8>, DeskFault>
-    ensures { IfErr result (λ fault. (fault ≡ DeskFault.NoMemory) ⊎ (fault ≡ DeskFault.Read)) }
+/// The bytes of the lab file at a path; of one that is too long so many that they show it.
+pub(crate) fn read_lab<L: LabFiles>(
+    alloc: Global,
+    labs: &L,
+    path: &str,
+) -> Result<Vec<u8>, DeskFault>
+    ensures bytes { IfOk result (λ bytes. IsTextOf (L.contents labs.now path.now) bytes.items) }
+    ensures fault { IfErr result (λ fault. (fault ≡ DeskFault.NoMemory) ⊎ (fault ≡ DeskFault.Read)) }
 {
-    match File::open(rt, path) {
+    match labs.open(path) {
         Ok(file) => read_lab_from(alloc, file),
         Err(error) => Err(lab_fault(&error)),
     }
@@ -170,8 +175,7 @@ pub(crate) fn read_lab(rt: &HostRuntime, alloc: Global, path: &str) -> Result<Ve
 
 /// The first bytes of a reader, one more than a lab file may have.
 fn read_lab_from<R: Read + Drop>(alloc: Global, reader: R) -> Result<Vec<u8>, DeskFault>
-    ensures bytes { IfOk result (λ bytes. IfSome (R.remaining reader) (λ input.
-        bytes.items ≡ take (longest_lab_file + 1) input)) }
+    ensures bytes { IfOk result (λ bytes. IsTextOf (R.remaining reader) bytes.items) }
     ensures fault { IfErr result (λ fault. (fault ≡ DeskFault.NoMemory) ⊎ (fault ≡ DeskFault.Read)) }
 {
     let mut bytes = Vec::new(alloc);

@@ -6,10 +6,10 @@
 //!
 //! Read `src/` in the order receive, answer, response, conversation; lab_import; clients, serving,
 //! scripted_clients, socket_clients with pending and deadline_stream; preflight, files, upgrade,
-//! open_files; report, orders, command_line; laws.
+//! open_files, lab_files; report, orders, command_line; laws.
 //!
 //! Read `specs/` in the order Received, Answers, Encoding, Response, Ends, which say what a
-//! conversation is; Imports, what an import is; Conversations, Clients, Scripts, Connections,
+//! conversation is; Imports, LabFiles, what an import is; Conversations, Clients, Scripts, Connections,
 //! Serving, what serving does; InFiles, Upgrades, which farm files hold; Faults, Lines, Reports,
 //! what the program prints; Tasks, Orders, Program, what it does.
 #![tactic(auto)]
@@ -23,6 +23,7 @@ mod conversation;
 mod deadline_stream;
 mod fault;
 mod files;
+mod lab_files;
 mod lab_import;
 mod laws;
 mod open_files;
@@ -58,6 +59,7 @@ pub use command_line::{
     DONE, FAILED, OUT_OF_MEMORY, REFUSED, WRONG_WORDS, perform, print_fault, program,
 };
 pub use farm_cli::{Database, Order, OrderFault, Report, order_of};
+pub use lab_files::LabFiles;
 pub use orders::{End, carry_out, carry_out_from};
 
 // What ends a conversation, an import or an order.

@@ -12,6 +12,7 @@ use std::os::unix::fs::MetadataExt;
 enum Lookup {
     /// It names this file, which is so long.
     File(Identity, u64),
+    /// There is none.
     Nothing,
     /// It returned another error.
     Unknown,

@@ -1,5 +1,5 @@
 //! Carrying out an order: its files are opened or made, its task done, and what it did printed.
-ghost use Rattle.std.specs.Prelude.{◌≡◌, IfErr, IfOk, OnOk};
+ghost use Rattle.std.specs.Prelude.{◌≡◌, IfErr, IfOk, None, OnOk};
 ghost use Rattle.std.specs.Io.KnownBytes.{Appends};
 ghost use Rattle.sqlite_wal.specs.Files.{image_at};
 ghost use Rattle.farm_desk.specs.Conversations.{AnswersOne, desk};
@@ -13,6 +13,7 @@ ghost use Rattle.farm_keep.specs.Kept.{Kept};
 use crate::conversation::converse;
 use crate::fault::DeskFault;
 use crate::files::{make_farm, open_farm, read_lab};
+use crate::lab_files::LabFiles;
 use crate::lab_import::{ImportEnd, import};
 use crate::open_files::OpenFiles;
 use crate::report::{report_text, zone_between};
@@ -55,41 +56,43 @@ pub fn carry_out<R: Input, W: Output>(
     input: &mut R,
     output: &mut W,
 ) -> Result<End, DeskFault>
-    ensures { DoesOrder R.never_fails (W.has_room output.old)
+    ensures { DoesOrder (λ _. None) R.never_fails (W.has_room output.old)
         (streams (R.remaining input.old) (W.contents output.old))
         (streams (R.remaining input.new) (W.contents output.new))
         ⟦<FileFrom<Unknown> as Disk>⟧ (image_at ⟦<Unknown as Start>⟧) order result }
 {
-    carry_out_from(rt, alloc, order, Unknown, input, output)
+    carry_out_from(rt, alloc, order, Unknown, rt, input, output)
 }
 
-/// The same over files of which `S` says what they held, as `open_farm` opens them.
-pub fn carry_out_from<S: Start, R: Input, W: Output>(
+/// The same over files of which `S` says what they held, as `open_farm` opens them, and with the lab
+/// files of `labs`.
+pub fn carry_out_from<S: Start, L: LabFiles, R: Input, W: Output>(
     rt: &HostRuntime,
     alloc: Global,
     order: Order,
     start: S,
+    labs: &L,
     input: &mut R,
     output: &mut W,
 ) -> Result<End, DeskFault>
-    ensures { DoesOrder R.never_fails (W.has_room output.old)
+    ensures { DoesOrder (L.contents labs.now) R.never_fails (W.has_room output.old)
         (streams (R.remaining input.old) (W.contents output.old))
         (streams (R.remaining input.new) (W.contents output.new))
         ⟦<FileFrom<S> as Disk>⟧ (image_at S.Start) order result }
 {
     match order {
         Order::Once { database, at } => match database {
-            Database::Memory => answer_in_memory(rt, alloc, at, input, output),
+            Database::Memory => answer_in_memory(rt, alloc, at, labs, input, output),
             Database::File(file) => {
                 let task = Task::Answer { at };
-                do_in_files(rt, alloc, file.as_str(), start, task, input, output)
+                do_in_files(rt, alloc, file.as_str(), start, task, labs, input, output)
             }
         },
         Order::Init { file } => init(rt, alloc, file.as_str(), start, output),
         Order::Migrate { file } => migrate(rt, alloc, file.as_str(), start, output),
         Order::Import { file, at, lab } => {
             let task = Task::Import { at, lab };
-            do_in_files(rt, alloc, file.as_str(), start, task, input, output)
+            do_in_files(rt, alloc, file.as_str(), start, task, labs, input, output)
         }
         Order::Report {
             file,
@@ -98,66 +101,78 @@ pub fn carry_out_from<S: Start, R: Input, W: Output>(
             which,
         } => {
             let task = Task::Report { east, west, which };
-            do_in_files(rt, alloc, file.as_str(), start, task, input, output)
+            do_in_files(rt, alloc, file.as_str(), start, task, labs, input, output)
         }
         Order::Serve { file, port, max } => {
             let task = Task::Serve { port, max };
-            do_while_there(rt, alloc, file.as_str(), start, task, input, output)
+            do_while_there(rt, alloc, file.as_str(), start, task, labs, input, output)
         }
     }
 }
 
 /// Answers one request of an empty farm in memory.
-fn answer_in_memory<R: Input, W: Output>(
+fn answer_in_memory<L: LabFiles, R: Input, W: Output>(
     rt: &HostRuntime,
     alloc: Global,
     at: u64,
+    labs: &L,
     input: &mut R,
     output: &mut W,
 ) -> Result<End, DeskFault>
-    ensures { DoesInMemory R.never_fails (W.has_room output.old)
+    ensures { DoesInMemory (L.contents labs.now) R.never_fails (W.has_room output.old)
         (streams (R.remaining input.old) (W.contents output.old))
         (streams (R.remaining input.new) (W.contents output.new)) (Task.Answer at) result }
 {
     match memory_keeper(alloc) {
-        Ok(keeper) => on_farm(rt, alloc, keeper, Task::Answer { at }, None, input, output),
+        Ok(keeper) => on_farm(
+            rt,
+            alloc,
+            keeper,
+            Task::Answer { at },
+            labs,
+            None,
+            input,
+            output,
+        ),
         Err(fault) => Err(fault),
     }
 }
 
 /// Does a task with the farm in a file.
-fn do_in_files<S: Start, R: Input, W: Output>(
+fn do_in_files<S: Start, L: LabFiles, R: Input, W: Output>(
     rt: &HostRuntime,
     alloc: Global,
     file: &str,
     start: S,
     task: Task,
+    labs: &L,
     input: &mut R,
     output: &mut W,
 ) -> Result<End, DeskFault>
-    ensures { DoesInFiles R.never_fails (W.has_room output.old)
+    ensures { DoesInFiles (L.contents labs.now) R.never_fails (W.has_room output.old)
         (streams (R.remaining input.old) (W.contents output.old))
         (streams (R.remaining input.new) (W.contents output.new))
         ⟦<FileFrom<S> as Disk>⟧ (image_at S.Start) task result }
 {
     match open_farm(rt, alloc, file, start) {
-        Ok(keeper) => on_farm(rt, alloc, keeper, task, None, input, output),
+        Ok(keeper) => on_farm(rt, alloc, keeper, task, labs, None, input, output),
         Err(fault) => Err(fault),
     }
 }
 
 /// Does a task with the farm in a file as long as that is there. Where somebody takes away the file
 /// or its log meanwhile, that is a fault of the store, since what would be written then is lost.
-fn do_while_there<S: Start, R: Input, W: Output>(
+fn do_while_there<S: Start, L: LabFiles, R: Input, W: Output>(
     rt: &HostRuntime,
     alloc: Global,
     file: &str,
     start: S,
     task: Task,
+    labs: &L,
     input: &mut R,
     output: &mut W,
 ) -> Result<End, DeskFault>
-    ensures { DoesWhileThere R.never_fails (W.has_room output.old)
+    ensures { DoesWhileThere (L.contents labs.now) R.never_fails (W.has_room output.old)
         (streams (R.remaining input.old) (W.contents output.old))
         (streams (R.remaining input.new) (W.contents output.new))
         ⟦<FileFrom<S> as Disk>⟧ (image_at S.Start) task result }
@@ -166,7 +181,7 @@ fn do_while_there<S: Start, R: Input, W: Output>(
     match open_farm(rt, alloc, file, start) {
         Ok(keeper) => match OpenFiles::new(rt, alloc, file) {
             Some(files) => {
-                let ended = on_farm(rt, alloc, keeper, task, Some(&files), input, output);
+                let ended = on_farm(rt, alloc, keeper, task, labs, Some(&files), input, output);
                 unless_lost(&files, ended)
             }
             None => Err(DeskFault::Keep(KeepFault::Store)),
@@ -193,49 +208,55 @@ fn unless_lost(files: &OpenFiles<'_>, ended: Result<End, DeskFault>) -> Result<E
 /// What is done with a farm that is there.
 #[derive(Drop)]
 enum Task {
+    /// One request is answered, at a moment.
     Answer { at: u64 },
+    /// The lab file at a path is imported, at a moment.
     Import { at: u64, lab: String },
+    /// A report is printed, with moments so many minutes east and west of UTC.
     Report { east: u64, west: u64, which: Report },
+    /// So many connections to a port are served.
     Serve { port: u16, max: u64 },
 }
 
 /// Does an order's task with a keeper's farm. It serves as long as these files are there, where
 /// they are passed.
-fn on_farm<R: Input, W: Output, S: Alter + Drop>(
+fn on_farm<L: LabFiles, R: Input, W: Output, S: Alter + Drop>(
     rt: &HostRuntime,
     alloc: Global,
     mut keeper: Keeper<S>,
     task: Task,
+    labs: &L,
     files: Option<&OpenFiles<'_>>,
     input: &mut R,
     output: &mut W,
 ) -> Result<End, DeskFault>
-    ensures { (left : Kept S) × DoesTask S.Store task
+    ensures { (left : Kept S) × DoesTask S.Store (L.contents labs.now) task
         (desk keeper (R.remaining input.old) (W.contents output.old))
         (desk left (R.remaining input.new) (W.contents output.new))
         R.never_fails (W.has_room output.old) result }
 {
-    do_task(rt, alloc, &mut keeper, &task, files, input, output)
+    do_task(rt, alloc, &mut keeper, &task, labs, files, input, output)
 }
 
 /// Does a task with a keeper's farm.
-fn do_task<R: Input, W: Output, S: Alter>(
+fn do_task<L: LabFiles, R: Input, W: Output, S: Alter>(
     rt: &HostRuntime,
     alloc: Global,
     keeper: &mut Keeper<S>,
     task: &Task,
+    labs: &L,
     files: Option<&OpenFiles<'_>>,
     input: &mut R,
     output: &mut W,
 ) -> Result<End, DeskFault>
-    ensures { DoesTask S.Store task.now
+    ensures { DoesTask S.Store (L.contents labs.now) task.now
         (desk keeper.old (R.remaining input.old) (W.contents output.old))
         (desk keeper.new (R.remaining input.new) (W.contents output.new))
         R.never_fails (W.has_room output.old) result }
 {
     match task {
         Task::Answer { at } => answer_one(alloc, keeper, input, output, *at),
-        Task::Import { at, lab } => import_file(rt, alloc, keeper, lab.as_str(), *at, output),
+        Task::Import { at, lab } => import_file(alloc, keeper, labs, lab.as_str(), *at, output),
         Task::Report { east, west, which } => {
             print_report(alloc, keeper, (*east, *west), *which, output)
         }
@@ -336,18 +357,18 @@ fn migrate<S: Start, W: Output>(
 }
 
 /// Adds what the lab file at a path lists to a keeper's farm, as far as it can be read.
-fn import_file<W: Output, S: Alter>(
-    rt: &HostRuntime,
+fn import_file<L: LabFiles, W: Output, S: Alter>(
     alloc: Global,
     keeper: &mut Keeper<S>,
+    labs: &L,
     lab: &str,
     at: u64,
     output: &mut W,
 ) -> Result<End, DeskFault>
-    ensures { ImportsFile S.Store keeper.old keeper.new (W.contents output.old)
-        (W.contents output.new) at result }
+    ensures { ImportsFile S.Store (L.contents labs.now lab.now) keeper.old keeper.new
+        (W.contents output.old) (W.contents output.new) at result }
 {
-    match read_lab(rt, alloc, lab) {
+    match read_lab(alloc, labs, lab) {
         Ok(text) => import_text(alloc, keeper, text.as_slice(), at, output),
         Err(fault) => Err(fault),
     }

@@ -34,6 +34,7 @@ const LEAF: u8 = 13;
 /// What there is at a path.
 #[derive(Clone, Copy, Debug, PartialEq, Eq)]
 enum PathState {
+    /// No file and no folder.
     Nothing,
     /// A file without a byte.
     Empty,

@@ -17,14 +17,18 @@ use std::alloc::Global;
 /// The bytes of an answer.
 #[derive(Debug, Drop)]
 pub(crate) enum Bytes {
+    /// Encoded for this answer.
     Encoded(Vec<u8>),
+    /// The same for all answers of a code.
     Constant(&'static [u8]),
 }
 
 /// The answer that is due, and how the conversation ends once it is written.
 #[derive(Debug, Drop)]
 pub(crate) struct Response {
+    /// What is to be written.
     pub(crate) bytes: Bytes,
+    /// The HTTP status, or the fault that the answer shows.
     pub(crate) end: Result<u16, DeskFault>,
 }
 

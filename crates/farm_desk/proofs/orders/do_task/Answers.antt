@@ -6,7 +6,7 @@ pub returns-in-Answer : goal.returns-in-Answer
 returns-in-Answer g c = rw c.in-Answer.is c.answer_one.ensures
 
 pub returns-in-Import : goal.returns-in-Import
-returns-in-Import g c = rw c.in-Import.is (refl, c.import_file.ensures)
+returns-in-Import g c = rw c.in-Import.is (refl, rw c.as_str.ensures.value at c.import_file.ensures)
 
 pub returns-in-Report : goal.returns-in-Report
 returns-in-Report g c = rw c.in-Report.is (refl, refl, c.print_report.ensures)
