@@ -1,28 +1,42 @@
 -- How the kept replies are kept: those that came with the farm packed, and those kept since, and any
 -- with larger numbers, in an ordered map, by caller and key.
-use Rattle.std.specs.Prelude.{◌≡◌, ◌+◌, ◌^◌, ◌≤◌, ◌&&◌, ℕ, nat_lt, Bool, List, map, length, take, drop}
-use Rattle.std.specs.List.{AllByRecursion}
+use Rattle.std.specs.Prelude.{◌≡◌, ◌+◌, ◌++◌, ◌∷◌, ◌^◌, ◌≤◌, ◌==◌, ◌&&◌, ℕ, nat_lt, not, Bool, IsTrue, List, map, length, take, drop}
+use Rattle.std.specs.List.{AllByRecursion, list_all, take_while}
 use Rattle.std.specs.List.Sorted.{IsStrictlySortedBy}
-use Rattle.std.specs.Ordering.{on, then_cmp}
-use Rattle.std.specs.declared.cmp.Ordering.{Ordering}
+use Rattle.std.specs.String.{string_bytes}
+use Rattle.std.specs.declared.string.String.{String}
+use Rattle.std.specs.declared.alloc.Global.{Global}
 use Rattle.farm_types.specs.Small.{IsSmallKept}
 use Rattle.farm_types.specs.Table.{put_all, kept_cmp}
-use Rattle.farm_types.specs.Words.{text_cmp}
+use Rattle.farm_types.specs.Words.{is_name_byte}
 use Rattle.farm_types.specs.declared.rows.KeptRow.{KeptRow}
-use Rattle.farm_core.specs.declared.kept.KeptKey.{KeptKey}
 use Rattle.farm_core.specs.declared.kept.KeptReply.{KeptReply}
 use Rattle.farm_core.specs.declared.kept.packed.Entry.{Entry}
 use Rattle.farm_core.specs.declared.kept.packed.Packed.{Packed}
 
--- by caller, and then by key
-abbrev pub key_cmp : KeptKey → KeptKey → Ordering
-key_cmp = then_cmp (on (λ k. k.caller.bytes) text_cmp) (on (λ k. k.key.bytes) text_cmp)
+-- the text under which the map has a reply: a space stands below each byte of a name, and in none
+abbrev pub joined : List ℕ → List ℕ → List ℕ
+joined caller key = caller ++ 32 ∷ key
+
+-- what stands before the space, and behind it
+abbrev pub caller_in : List ℕ → List ℕ
+caller_in text = take_while (λ c. not (c == 32)) text
+
+abbrev pub key_in : List ℕ → List ℕ
+key_in text = drop (length (caller_in text) + 1) text
+
+pub record IsJoined (text : List ℕ) : Type 0 where
+  pub caller : IsTrue (list_all is_name_byte (caller_in text))
+  pub is : text ≡ joined (caller_in text) (key_in text)
+
+abbrev pub AreJoined : List (String Global × KeptReply) → Type 0
+AreJoined es = AllByRecursion (λ e. IsJoined (string_bytes e.0)) es
 
 -- the row of a map's entry
-abbrev pub kept_row : KeptKey × KeptReply → KeptRow
+abbrev pub kept_row : String Global × KeptReply → KeptRow
 kept_row e = record {
-  caller = e.0.caller.bytes;
-  key = e.0.key.bytes;
+  caller = caller_in (string_bytes e.0);
+  key = key_in (string_bytes e.0);
   kind = e.1.kind;
   reply = e.1.reply;
 }
@@ -48,13 +62,14 @@ abbrev pub packed_rows : Packed → List KeptRow
 packed_rows p = map (entry_row p.texts.items) p.entries.items
 
 -- the rows of both: those of the map are put over the packed ones
-abbrev pub kept_rows : Packed → List (KeptKey × KeptReply) → List KeptRow
+abbrev pub kept_rows : Packed → List (String Global × KeptReply) → List KeptRow
 kept_rows p es = put_all kept_cmp (packed_rows p) (map kept_row es)
 
 -- what holds of them: the rows of each rise, they are as many as is told, and the log fits
-pub record IsKept (p : Packed) (es : List (KeptKey × KeptReply)) (len : ℕ) (log : List KeptRow) : Type 0 where
+pub record IsKept (p : Packed) (es : List (String Global × KeptReply)) (len : ℕ) (log : List KeptRow) : Type 0 where
   pub packed : IsStrictlySortedBy kept_cmp (packed_rows p)
   pub others : IsStrictlySortedBy kept_cmp (map kept_row es)
+  pub joined : AreJoined es
   pub count : len ≡ length (kept_rows p es)
   pub logged : AllByRecursion IsSmallKept log
 

@@ -1,17 +1,13 @@
 //! The kept replies.
 ghost use Rattle.std.specs.Prelude.{◌≡◌, ◌&&◌, [], IfOk, OnOk, OnErr, length, map, not, option_map};
-ghost use Rattle.std.specs.Cmp.{partial_order_from_own_ties};
-ghost use Rattle.std.specs.Cmp.Rules.{comparing};
-ghost use Rattle.std.proofs.Common.{rules};
 ghost use Rattle.std.specs.List.{AllByRecursion, filter, find};
 ghost use Rattle.std.specs.List.Sorted.{IsStrictlySortedBy};
-ghost use Rattle.std.specs.Ordering.{on, then_cmp, as_partial_cmp};
 ghost use Rattle.std.specs.Str.{bytes_eq};
 ghost use Rattle.farm_types.specs.Table.{put, put_all, kept_cmp};
 ghost use Rattle.farm_types.specs.Small.{IsSmallKept};
-ghost use Rattle.farm_types.specs.Words.{text_cmp};
+ghost use Rattle.farm_types.specs.Words.{IsName};
 ghost use Rattle.farm_table.specs.Tabled.{Leads};
-ghost use Rattle.farm_core.specs.Replies.{is_packable, kept_reply, kept_row};
+ghost use Rattle.farm_core.specs.Replies.{AreJoined, is_packable, joined, kept_reply, kept_row};
 
 mod packed;
 
@@ -19,63 +15,13 @@ use crate::kept::packed::{Packed, is_packable};
 use arrayvec::ArrayString;
 use farm_types::{KeptRow, Key, LONGEST_KEY, LONGEST_NAME, Name, Reply};
 use std::alloc::{AllocError, Global};
-use std::cmp::Ordering;
 use std::collections::BTreeMap;
 use std::fmt;
 use std::marker::Model;
 use std::mem::replace;
 
-/// Under what a reply is kept: its caller, and the caller's key. The texts lie in the value itself,
-/// so that a look-up takes no memory.
-#[derive(Clone, Copy, Debug, PartialEq, Eq)]
-pub struct KeptKey {
-    pub caller: ArrayString<LONGEST_NAME>,
-    pub key: ArrayString<LONGEST_KEY>,
-}
-
-impl KeptKey {
-    /// The key of these texts.
-    fn of(caller: &Name, key: &Key) -> KeptKey
-        ensures caller { result.caller.bytes ≡ caller.now }
-        ensures key { result.key.bytes ≡ key.now }
-    {
-        let mut texts = KeptKey {
-            caller: ArrayString::new(),
-            key: ArrayString::new(),
-        };
-        texts.caller.push_str(caller.as_str());
-        texts.key.push_str(key.as_str());
-        texts
-    }
-}
-
-impl Ord for KeptKey {
-    ghost cmp = { then_cmp (on (λ k. k.caller.bytes) text_cmp) (on (λ k. k.key.bytes) text_cmp) };
-
-    ghost total = { Prim.search (comparing, rules) depth 9 };
-
-    ghost matches_partial_cmp = { Prim.search (comparing, rules) depth 9 };
-
-    ghost matches_eq = { Prim.search (comparing, rules) depth 9 };
-
-    fn cmp(&self, other: &KeptKey) -> Ordering {
-        self.caller
-            .cmp(&other.caller)
-            .then(self.key.cmp(&other.key))
-    }
-}
-
-impl PartialOrd for KeptKey {
-    ghost partial_cmp = { as_partial_cmp (then_cmp (on (λ k. k.caller.bytes) text_cmp)
-        (on (λ k. k.key.bytes) text_cmp)) };
-
-    ghost laws = { partial_order_from_own_ties (Prim.search (comparing, rules) depth 9)
-        (Prim.search (comparing, rules) depth 9) };
-
-    fn partial_cmp(&self, other: &KeptKey) -> Option<Ordering> {
-        Some(self.cmp(other))
-    }
-}
+/// The most bytes of a caller, a space and a key.
+const LONGEST_JOINED: usize = LONGEST_NAME + 1 + LONGEST_KEY;
 
 /// What is kept under a caller's key: the command's kind, and its reply.
 #[derive(Clone, Copy, Debug, PartialEq, Eq)]
@@ -88,14 +34,15 @@ pub struct KeptReply {
 /// began.
 ///
 /// Those that came with the farm's rows are packed: 20 bytes each beside their texts, and nothing
-/// to spare. Those kept since stand in an ordered map, in entries of 160 bytes; so do those whose
-/// numbers no packed entry can hold, of which a sound farm has none. With K replies a look-up costs
-/// O(log K), first in the map and then among the packed ones, and takes no memory; a new one costs
-/// O(log K), and moves as many others.
+/// to spare. Those kept since stand in an ordered map, in entries of 56 bytes and a text of its own
+/// for each; so do those whose numbers no packed entry can hold, of which a sound farm has none.
+/// With K replies a look-up costs O(log K), first in the map and then among the packed ones, and
+/// takes no memory; a new one costs O(log K), and moves as many others. A packed reply never moves:
+/// one that is put in its place stands in the map, and is found first.
 #[derive(Drop)]
 pub struct Kept {
     packed: Packed,
-    others: BTreeMap<KeptKey, KeptReply>,
+    others: BTreeMap<String, KeptReply>,
     len: usize,
     log: Vec<KeptRow>,
 }
@@ -122,30 +69,50 @@ impl fmt::Debug for Kept {
     }
 }
 
+/// The text under which the map has a caller's key. It lies in the value itself, so that a look-up
+/// takes no memory.
+fn joined(caller: &Name, key: &Key) -> ArrayString<LONGEST_JOINED>
+    ensures joined { result.bytes ≡ joined caller.now key.now }
+    ensures name { IsName caller.now }
+{
+    let mut text = ArrayString::new();
+    text.push_str(caller.as_str());
+    text.push_str(" ");
+    text.push_str(key.as_str());
+    text
+}
+
 /// Puts a reply into the map. A refused growth changes nothing.
-fn insert(rows: &mut BTreeMap<KeptKey, KeptReply>, row: &KeptRow) -> Result<(), AllocError>
+fn insert(
+    alloc: Global,
+    rows: &mut BTreeMap<String, KeptReply>,
+    row: &KeptRow,
+) -> Result<(), AllocError>
+    requires { AreJoined rows.old.entries }
     ensures rows { OnOk result (map kept_row rows.new.entries
         ≡ put kept_cmp (map kept_row rows.old.entries) row.now) }
+    ensures joined { OnOk result (AreJoined rows.new.entries) }
     ensures stays { OnErr result (rows.new.entries ≡ rows.old.entries) }
 {
-    let key = KeptKey::of(&row.caller, &row.key);
+    let text = String::from_str(alloc, joined(&row.caller, &row.key).as_str())?;
     let reply = KeptReply {
         kind: row.kind,
         reply: row.reply,
     };
-    let _former = rows.insert(key, reply)?;
+    let _former = rows.insert(text, reply)?;
     Ok(())
 }
 
 /// Those of the rows that no packed entry can hold.
-fn others_of(alloc: Global, rows: &[KeptRow]) -> Result<BTreeMap<KeptKey, KeptReply>, AllocError>
-    ensures { IfOk result (λ others. map kept_row others.entries
+fn others_of(alloc: Global, rows: &[KeptRow]) -> Result<BTreeMap<String, KeptReply>, AllocError>
+    ensures rows { IfOk result (λ others. map kept_row others.entries
         ≡ put_all kept_cmp [] (filter (λ r. not (is_packable r)) rows.now)) }
+    ensures joined { IfOk result (λ others. AreJoined others.entries) }
 {
     let mut others = BTreeMap::new(alloc);
     for row in rows {
         if !is_packable(row) {
-            insert(&mut others, row)?;
+            insert(alloc, &mut others, row)?;
         }
     }
     Ok(others)
@@ -193,7 +160,7 @@ impl Kept {
         ensures { result ≡ option_map kept_reply (find (λ r. bytes_eq r.caller caller.now
             && bytes_eq r.key key.now) self.now.rows) }
     {
-        match self.others.get(&KeptKey::of(caller, key)) {
+        match self.others.get(joined(caller, key).as_str()) {
             Some(reply) => Some(*reply),
             None => self.packed.find(caller, key),
         }
@@ -210,7 +177,7 @@ impl Kept {
         let more = usize::from(self.find(&row.caller, &row.key).is_none());
         let len = self.len.checked_add(more).ok_or(AllocError)?;
         self.log.reserve(1)?;
-        insert(&mut self.others, &row)?;
+        insert(*self.log.allocator(), &mut self.others, &row)?;
         self.len = len;
         self.log.push_reserved(row);
         Ok(())

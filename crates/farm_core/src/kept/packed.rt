@@ -31,7 +31,7 @@ pub struct Entry {
 /// of memory, and an entry each in another.
 ///
 /// An entry takes 20 bytes beside its texts, so a reply with a caller of 10 bytes and a key of 20
-/// takes 50. The log and the map's nodes have no part in them.
+/// takes 50, and no allocation of its own.
 #[derive(Debug, Drop)]
 pub struct Packed {
     pub texts: Vec<u8>,

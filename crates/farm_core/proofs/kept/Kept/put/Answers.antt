@@ -27,7 +27,7 @@ invariant_of-self-2 c =
     let known : is_some c.find.result ≡ is_some (find (is_asked row) (kept_rows p es)) = (ap is_some c.find.ensures ∙ mapped kept_reply (find (is_asked row) c.args.self.now.rows)) ∙ (λ i. is_some (find (is_asked row) (sym c.self.view_is i).rows)) in
     subst (λ log. IsKept p c.insert.new.rows.entries c.in_ok-len.len log) (sym (c.push_reserved.ensures.items ∙ ap (λ l. l ++ row ∷ []) c.in_ok-reserve.ensures.items))
     (kept_next p es c.insert.new.rows.entries row c.self.inside.log.items c.self.inside.len c.in_ok-len.len c.self.invariant c.in_ok-insert.ensures.rows c.requires
-    (many ∙ ap (λ v. c.self.inside.len + cond v 0 1) known))
+    (many ∙ ap (λ v. c.self.inside.len + cond v 0 1) known) c.in_ok-insert.ensures.joined)
 
 pub returns-clause-rows : goal.returns-clause-rows
 returns-clause-rows c =
