@@ -36,12 +36,19 @@ module _ {X : Type 0} (IsGood : X → Type 0) (columns : X → Row) (width : ℕ
         ap (λ r. rows ++ r ∷ []) is ∙ ap (λ l. l ++ columns x ∷ []) (sofar.1 all.0) ∙ sym (map-append columns xs (x ∷ [])),
   )
 
+  -- so far, and those are all
+  pub all_good : (rows all : List Row) (xs : List X) → SoFar rows xs → (rows ≡ all) × AllByRecursion (IsWide width) rows → AllByRecursion IsGood xs × (all ≡ map columns xs)
+  all_good rows all xs sofar are = (sofar.0, sym are.0 ∙ sofar.1 are.1)
+
+  none_behind : (rows : List Row) (row : Row) (more : List Row) → ((x : X) → IsGood x → ¬ HasColumns row 0 (columns x)) → (xs : List X) → AllByRecursion IsGood xs → (rows ++ row ∷ []) ++ more ≢ map columns xs
+  none_behind [] row more none [] good same = absurd (let e = same in cc)
+  none_behind [] row more none (x ∷ xs) good same = none x good.0 (spells_itself row (columns x) (let first : row ≡ columns x = cc in first))
+  none_behind (r ∷ rows) row more none [] good same = absurd (let e = same in cc)
+  none_behind (r ∷ rows) row more none (x ∷ xs) good same = none_behind rows row more none xs good.1 (let rest : (rows ++ row ∷ []) ++ more ≡ map columns xs = cc in rest)
+
   -- where one row is of nothing good, so are all
-  pub none_good : (rows : List Row) (row : Row) (more : List Row) → ((x : X) → IsGood x → ¬ HasColumns row 0 (columns x)) → (xs : List X) → AllByRecursion IsGood xs → (rows ++ row ∷ []) ++ more ≢ map columns xs
-  none_good [] row more none [] good same = absurd (let e = same in cc)
-  none_good [] row more none (x ∷ xs) good same = none x good.0 (spells_itself row (columns x) (let first : row ≡ columns x = cc in first))
-  none_good (r ∷ rows) row more none [] good same = absurd (let e = same in cc)
-  none_good (r ∷ rows) row more none (x ∷ xs) good same = none_good rows row more none xs good.1 (let rest : (rows ++ row ∷ []) ++ more ≡ map columns xs = cc in rest)
+  pub none_good : (rows : List Row) (row : Row) (all more : List Row) → all ≡ (rows ++ row ∷ []) ++ more → ((x : X) → IsGood x → ¬ HasColumns row 0 (columns x)) → (xs : List X) → AllByRecursion IsGood xs → all ≢ map columns xs
+  none_good rows row all more is none xs good same = none_behind rows row more none xs good (sym is ∙ same)
 
 pub on_ok : {A E : Type 0} (r : Result A E) (P : Type 0) → P → OnOk r P
 on_ok (Ok a) P p = p

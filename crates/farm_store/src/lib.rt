@@ -4,8 +4,8 @@
 //! `load_first`, and made those of the second by `raise`.
 //!
 //! Read `specs/` in the order Columns, Schema, Stored, Places, Holds, which say what a store holds;
-//! then Edits, Replaces, Texts of writing; then Readable, Editions, Reading of reading; Faults has
-//! the faults' numbers.
+//! then Edits, Replaces, Texts of writing; then Queries, Versions, Readable, Editions, Reading of
+//! reading; Faults has the faults' numbers.
 #![tactic(auto)]
 
 mod boards;

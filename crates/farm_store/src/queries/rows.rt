@@ -62,5 +62,6 @@ pub(crate) fn read<R: Stored, S: Alter>(
         };
         all.push(R::of(alloc, row, edition)?)?;
     }
+    // (no memory holds so many rows)
     Err(StoreFault::NoMemory)
 }

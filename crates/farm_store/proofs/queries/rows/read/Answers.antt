@@ -1,11 +1,11 @@
 use Rattle.std.proofs.Common.{refl, ◌≡◌, ◌++◌, [], ◌∷◌, sym, subst, ◌∙◌, rules, arith}
 use Rattle.sqlite.specs.Held.{state}
-use Rattle.sqlite.specs.State.{HasCleanDisk}
+use Rattle.sqlite.specs.State.{CommitsShowing, HasCleanDisk}
 use Rattle.sqlite.proofs.Callers.{given_begin, unchanged_then}
 use Rattle.sqlite.proofs.StateLemmas.{survives_then, survives_weaker}
 use Rattle.farm_store.proofs.LeftAlone.{all_shown, failed_left, reads_only, sees, some_shown}
 use Rattle.farm_store.proofs.OnlyReads.{begun, never_commits}
-use Rattle.farm_store.proofs.ReadRows.{SoFar, none_good, one_more, refuses}
+use Rattle.farm_store.proofs.ReadRows.{SoFar, all_good, none_good, one_more, refuses}
 use Rattle.farm_store.proofs.queries.rows.read.Goals as goal
 
 pub returns-in_err-rows-clause-only : goal.returns-in_err-rows-clause-only
@@ -14,7 +14,7 @@ returns-in_err-rows-clause-only g c =
     let old = state g.S.Store c.args.conn.now in
     let new = state g.S.Store c.query-2.follows.lender-at-none in
     let held = rw c.in_err-rows.was at c.query-2.follows.holds-at-none in
-    reads_only old new _ held.survives (never_commits text c.query.ensures.only_reads old) (held.mode c.requires.autocommit)
+    reads_only old new (CommitsShowing text [] old) held.survives (never_commits text c.query.ensures.only_reads old) (held.mode c.requires.autocommit)
     (λ clean. failed_left text [] old new _ (held.err clean))
 
 pub rows-init : goal.rows-init
@@ -25,7 +25,7 @@ rows-init g c =
     let new = c.in_ok-rows.rows.conn.now in
     let made = c.in_ok-rows.ensures in (
       refl,
-      survives_weaker (state g.S.Store old) (state g.S.Store new) _ _ (λ _ db. never_commits text only (state g.S.Store old) db) made.survives,
+      survives_weaker (state g.S.Store old) (state g.S.Store new) (CommitsShowing text [] (state g.S.Store old)) (λ _. ⊥) (λ _ db. never_commits text only (state g.S.Store old) db) made.survives,
       made.mode c.requires.autocommit,
       λ clean. let it = begun text only g.S.Store old new (made.begun clean) in (it.1, (text, c.query.ensures, ([], it.0, rw (c.reserve_exact-room.ensures.items, c.new-all.ensures.items) (tt, λ _. refl)))),
     )
@@ -39,8 +39,8 @@ returns-in_default-clause-read g c clean T at =
     let sofar = c.rows.invariant.3 (omega (arith, moved.survives.clean)) in
     let it = sofar.1.2 in
     let shown = (rw (c.in_ok-row.was, c.in_default.is) at (moved.ok late)) sofar.1.0 [] it.0 it.1 in
-    let whole = all_shown g.R.Stored.place sofar.1.0 sofar.1.1 was T (sees (state g.S.Store c.args.conn.now) was T sofar.0 at) now it.0 shown in
-    (it.2.0, sym whole.0 ∙ it.2.1 whole.1)
+    all_good (g.R.Stored.IsGood c.args.edition) (g.R.Stored.columns c.args.edition) g.R.Stored.place.width it.0 (g.R.Stored.place.rows T) c.rows.all.items it.2
+    (all_shown g.R.Stored.place sofar.1.0 sofar.1.1 was T (sees (state g.S.Store c.args.conn.now) was T sofar.0 at) now it.0 shown)
 
 pub returns-in_err-of-clause-read : goal.returns-in_err-of-clause-read
 returns-in_err-of-clause-read g c clean T at =
@@ -60,7 +60,7 @@ returns-in_err-of-clause-read g c clean T at =
     let columns = g.R.Stored.columns c.args.edition in
     let refused = c.in_err-of.ensures in
     refuses c.from_residual-in_err-of.result (λ all. all.items) good columns (g.R.Stored.place.rows T) c.in_err-of.field-0.0 c.from_residual-in_err-of.ensures.1 refused.0
-    (λ bad xs fine is. none_good good columns g.R.Stored.place.width it.0 row whole.0 (refused.1 bad) xs fine (sym whole.1 ∙ is))
+    (λ bad. none_good good columns g.R.Stored.place.width it.0 row (g.R.Stored.place.rows T) whole.0 whole.1 (refused.1 bad))
 
 pub rows-preserved : goal.rows-preserved
 rows-preserved g c =
@@ -75,7 +75,7 @@ rows-preserved g c =
     let width = g.R.Stored.place.width in
     let items : c.push.new.self.items ≡ c.rows.all.items ++ x ∷ [] = search rules in (
       moved.same_reference ∙ c.rows.invariant.0,
-      survives_then old was now _ _ (λ _. ⊥) (λ _ db none. none) (λ _ db none. none) c.rows.invariant.1 moved.survives,
+      survives_then old was now (λ _. ⊥) (λ _. ⊥) (λ _. ⊥) (λ _ db none. none) (λ _ db none. none) c.rows.invariant.1 moved.survives,
       moved.mode c.rows.invariant.2,
       λ clean. let sofar = c.rows.invariant.3 (omega (arith, moved.survives.clean)) in
           let it = sofar.1.2 in
