@@ -13,11 +13,11 @@ use Rattle.farm_desk.specs.declared.orders.End.{End}
 -- so many commands of a lab file were accepted, and so many had been before
 abbrev pub counts_line : ℕ → ℕ → List ℕ
 counts_line accepted kept =
-    (codes "accepted " ++ (decimal accepted ++ (codes ", kept " ++ decimal kept))) ++ 10 ∷ []
+    (((codes "accepted " ++ decimal accepted) ++ codes ", kept ") ++ decimal kept) ++ codes "\n"
 
 -- clients are accepted on this port
 abbrev pub port_line : ℕ → List ℕ
-port_line port = (codes "listening " ++ decimal port) ++ 10 ∷ []
+port_line port = (codes "listening " ++ decimal port) ++ codes "\n"
 
 -- a farm was made
 abbrev pub ready_line : List ℕ
@@ -61,17 +61,17 @@ PrintsLine Room held holds line (Err fault) = (fault ≡ DeskFault.Write)
     × Writes Room true held holds line
 
 -- an import that met a fault ends with it, and one that met a refusal with its place and the
--- refusal: neither prints anything; any other prints its line, or the writer failed
-abbrev pub PrintsImportBy : Option DeskFault → Option (ℕ × Refusal) → List ℕ → Option (List ℕ)
-    → Option (List ℕ) → Result End DeskFault → Type 0
-PrintsImportBy (Some fault) stopped line held holds result = (result ≡ Err fault) × Keeps held holds
-PrintsImportBy None (Some stop) line held holds result = (result ≡ Ok (End.RefusedAt stop.0 stop.1))
+-- refusal: neither prints anything; any other prints its line
+abbrev pub PrintsImportBy : (ℕ → Type 0) → Option DeskFault → Option (ℕ × Refusal) → List ℕ
+    → Option (List ℕ) → Option (List ℕ) → Result End DeskFault → Type 0
+PrintsImportBy Room (Some fault) stopped line held holds result = (result ≡ Err fault)
     × Keeps held holds
-PrintsImportBy None None line held holds (Ok end) = (end ≡ End.Done) × Appends held holds line
-PrintsImportBy None None line held holds (Err fault) = fault ≡ DeskFault.Write
+PrintsImportBy Room None (Some stop) line held holds result =
+    (result ≡ Ok (End.RefusedAt stop.0 stop.1)) × Keeps held holds
+PrintsImportBy Room None None line held holds result = PrintsLine Room held holds line result
 
-abbrev pub PrintsImport : ImportEnd → Option (List ℕ) → Option (List ℕ) → Result End DeskFault
-    → Type 0
-PrintsImport imported held holds result =
-    PrintsImportBy imported.fault imported.stopped (counts_line imported.accepted imported.kept)
-    held holds result
+abbrev pub PrintsImport : (ℕ → Type 0) → ImportEnd → Option (List ℕ) → Option (List ℕ)
+    → Result End DeskFault → Type 0
+PrintsImport Room imported held holds result =
+    PrintsImportBy Room imported.fault imported.stopped
+    (counts_line imported.accepted imported.kept) held holds result

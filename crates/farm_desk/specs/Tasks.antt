@@ -28,19 +28,20 @@ pub record DoesNothing {S : Type 0} (old new : Kept S) (held holds : Option (Lis
   pub nothing_written : Keeps held holds
 
 -- a lab file's text is imported at that moment, and what was done is printed
-pub record ImportsText {S : Type 0} (g : Ghosts S) (lab : Option (List ℕ)) (old new : Kept S)
-    (held holds : Option (List ℕ)) (now : ℕ) (result : Result End DeskFault) : Type 0 where
+pub record ImportsText {S : Type 0} (g : Ghosts S) (Room : ℕ → Type 0) (lab : Option (List ℕ))
+    (old new : Kept S) (held holds : Option (List ℕ)) (now : ℕ) (result : Result End DeskFault)
+    : Type 0 where
   pub text : List ℕ
   pub text_of : IsTextOf lab text
   pub imported : ImportEnd
   pub imports : IsImport g old new text now imported
-  pub prints : PrintsImport imported held holds result
+  pub prints : PrintsImport Room imported held holds result
 
 -- it is, or nothing is done since no text can be read
-abbrev pub ImportsFile : {S : Type 0} → Ghosts S → Option (List ℕ) → Kept S → Kept S
+abbrev pub ImportsFile : {S : Type 0} → Ghosts S → (ℕ → Type 0) → Option (List ℕ) → Kept S → Kept S
     → Option (List ℕ) → Option (List ℕ) → ℕ → Result End DeskFault → Type 0
-ImportsFile g lab old new held holds now result =
-    ImportsText g lab old new held holds now result
+ImportsFile g Room lab old new held holds now result =
+    ImportsText g Room lab old new held holds now result
     ⊎ (DoesNothing old new held holds DeskFault.NoMemory result
     ⊎ DoesNothing old new held holds DeskFault.Read result)
 
@@ -73,13 +74,20 @@ pub record ServesPort {S : Type 0} (g : Ghosts S) (old new : Kept S) (held holds
   pub serves : ServesUntil g old new max result
   pub done : IfOk result (λ end. end ≡ End.Done)
 
--- it is, or nothing is done since nobody can listen on the port, or since it can't be printed
-abbrev pub ServesIfListening : {S : Type 0} → Ghosts S → Kept S → Kept S → Option (List ℕ)
-    → Option (List ℕ) → ℕ → ℕ → Result End DeskFault → Type 0
-ServesIfListening g old new held holds port max result =
+-- the port can't be printed, and nobody is served
+pub record PrintsNoPort {S : Type 0} (Room : ℕ → Type 0) (old new : Kept S)
+    (held holds : Option (List ℕ)) (port : ℕ) (result : Result End DeskFault) : Type 0 where
+  pub ends : result ≡ Err DeskFault.Write
+  pub unchanged : new ≡ old
+  pub printed : Writes Room true held holds (port_line port)
+
+-- it is served, or nothing is done since nobody can listen on the port, or since it can't be printed
+abbrev pub ServesIfListening : {S : Type 0} → Ghosts S → (ℕ → Type 0) → Kept S → Kept S
+    → Option (List ℕ) → Option (List ℕ) → ℕ → ℕ → Result End DeskFault → Type 0
+ServesIfListening g Room old new held holds port max result =
     ServesPort g old new held holds port max result
     ⊎ (DoesNothing old new held holds DeskFault.Read result
-    ⊎ ((new ≡ old) × (result ≡ Err DeskFault.Write)))
+    ⊎ PrintsNoPort Room old new held holds port result)
 
 -- what a task makes of a keeper, an input and an output, over lab files whose bytes may be known at
 -- their paths, a reader that never fails and a writer with such room
@@ -88,9 +96,10 @@ abbrev pub DoesTask : {S : Type 0} → Ghosts S → (List ℕ → Option (List �
 DoesTask g labs (Task.Answer at) old new Sure Room result =
     AnswersOne g old new at Sure Room result
 DoesTask g labs (Task.Import at lab) old new Sure Room result = (new.input ≡ old.input)
-    × ImportsFile g (labs (string_bytes lab)) old.keeper new.keeper old.output new.output at result
+    × ImportsFile g Room (labs (string_bytes lab)) old.keeper new.keeper old.output new.output at
+    result
 DoesTask g labs (Task.Report east west which) old new Sure Room result = (new.input ≡ old.input)
     × (new.keeper ≡ old.keeper)
     × PrintsReportOf Room old.keeper old.output new.output east west which result
 DoesTask g labs (Task.Serve port max) old new Sure Room result = (new.input ≡ old.input)
-    × ServesIfListening g old.keeper new.keeper old.output new.output port max result
+    × ServesIfListening g Room old.keeper new.keeper old.output new.output port max result

@@ -11,9 +11,9 @@ pub const LIMIT_SECONDS: u64 = 10;
 pub const STALL_SECONDS: u64 = 1;
 
 /// The most reads that `shut_down` makes, of `READ_BYTES` bytes each.
-const MOST_READS: u32 = 32;
+const MOST_READS: u32 = 256;
 
-const READ_BYTES: usize = 4096;
+const READ_BYTES: usize = 512;
 
 /// One direction of a client's stream. A read or a write that waits for `STALL_SECONDS` fails, and
 /// so does one that begins later than `LIMIT_SECONDS` after the first. So whoever takes nothing of

@@ -1,6 +1,6 @@
 //! Conversations one after another, and the laws over them.
 ghost use Rattle.std.specs.Prelude.{◌≡◌, ◌≢◌, ◌≤◌, ◌+◌, ◌++◌, ◌↔◌, List, length, Some, Err, IsOk};
-ghost use Rattle.std.specs.Prelude.{OnOk, IfErr, vec_capacity, ⊤};
+ghost use Rattle.std.specs.Prelude.{OnOk, IfErr, vec_capacity, false, ⊤};
 ghost use Rattle.sqlite.specs.Held.{state};
 ghost use Rattle.sqlite_trees.specs.View.{doubt};
 ghost use Rattle.farm_desk.specs.ExitStatuses.{ExitStatusesAgree};
@@ -8,19 +8,20 @@ ghost use Rattle.farm_desk.specs.Conversations.{Desk, Conversation, ConverseInTu
 ghost use Rattle.farm_desk.specs.Conversations.{AnswersAll, StopsAt, AnsweredActAsRun};
 ghost use Rattle.farm_desk.specs.Conversations.{ConverseApart, IsAnsweredAgain};
 ghost use Rattle.farm_desk.specs.Conversations.{OpenKeepsDone, ClosedKeepsPrefix};
-ghost use Rattle.farm_desk.specs.Ends.{IsAnswered, EndsWritten, HasNoRoom};
+ghost use Rattle.farm_desk.specs.Ends.{IsAnswered, IsUnwritten, EndsWritten, HasNoRoom};
 ghost use Rattle.farm_desk.specs.InFiles.{LeavesFiles};
 ghost use Rattle.farm_desk.specs.Scripts.{client_list_of};
 ghost use Rattle.farm_desk.specs.Response.{IsResponse};
 ghost use Rattle.farm_desk.specs.Upgrades.{LeavesEitherFile};
 ghost use Rattle.farm_desk.specs.Connections.{ServesInTurn};
+ghost use Rattle.farm_desk.specs.Serving.{ServesUntil};
 
 use crate::conversation::converse;
 use crate::fault::DeskFault;
 use crate::scripted_clients::ScriptedClients;
 use crate::serving::serve;
 use farm_http::{Input, Output};
-use farm_keep::Keeper;
+use farm_keep::{KeepFault, Keeper};
 use sqlite::{Alter, Connection, FileStore};
 use sqlite_disk::Disk;
 use std::alloc::Global;
@@ -66,6 +67,9 @@ pub fn converse_in_memory<S: Alter>(
     ensures answered { EndsWritten result → IsAnswered
         (IsResponse S.Store keeper.old keeper.new (Some reader.old.now) (Some reader.new.now) now)
         (Some writer.old.items) (Some writer.new.items) result }
+    ensures unwritten { result ≡ Err DeskFault.Write → IsUnwritten
+        (IsResponse S.Store keeper.old keeper.new (Some reader.old.now) (Some reader.new.now) now)
+        (Some writer.old.items) (Some writer.new.items) }
     ensures taken { result ≡ Err DeskFault.Write → HasNoRoom
         (IsResponse S.Store keeper.old keeper.new (Some reader.old.now) (Some reader.new.now) now)
         (λ n. length writer.old.items + n ≤ vec_capacity writer.old) }
@@ -81,8 +85,11 @@ pub fn serve_in_memory<S: Alter>(
     clients: &mut ScriptedClients<'_>,
     max: u64,
 ) -> Result<(), DeskFault>
-    ensures { ServesInTurn S.Store ⊤ (Some (client_list_of clients.old))
+    ensures connections { ServesInTurn S.Store ⊤ (Some (client_list_of clients.old))
         (Some (client_list_of clients.new)) keeper.old keeper.new max (IsOk result) }
+    ensures serves { ServesUntil S.Store keeper.old keeper.new max result }
+    ensures closed { (result ≡ Err (DeskFault.Keep KeepFault.Closed))
+        ↔ (keeper.old.is_open ≡ false) }
 {
     serve(alloc, keeper, clients, max)
 }

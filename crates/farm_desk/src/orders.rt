@@ -1,6 +1,5 @@
 //! Carrying out an order: its files are opened or made, its task done, and what it did printed.
-ghost use Rattle.std.specs.Prelude.{◌≡◌, IfErr, IfOk, None, OnOk};
-ghost use Rattle.std.specs.Io.KnownBytes.{Appends};
+ghost use Rattle.std.specs.Prelude.{◌≡◌, None};
 ghost use Rattle.sqlite_wal.specs.Files.{image_at};
 ghost use Rattle.farm_desk.specs.Conversations.{AnswersOne, desk};
 ghost use Rattle.farm_desk.specs.Imports.{IsImport};
@@ -19,11 +18,13 @@ use crate::open_files::OpenFiles;
 use crate::report::{report_text, zone_between};
 use crate::serving::serve_on_files;
 use crate::upgrade::migrate_farm;
+use arrayvec::ArrayString;
 use farm_cli::{Database, Order, Report};
 use farm_http::{Input, Output};
 use farm_keep::{KeepFault, Keeper};
 use farm_types::Refusal;
 use farm_wire::{OK, write_whole};
+use itoa::Buffer;
 use sqlite::{Alter, Connection, FileFrom, MemStore, Start, Unknown};
 use sqlite_disk::Disk;
 use std::alloc::Global;
@@ -34,6 +35,9 @@ use std::{fs, io};
 
 /// A file of so many bytes may take longer than two seconds to migrate or to open.
 const LARGE_FILE: u64 = 16_000_000;
+
+/// The room for a line with numbers: more than any of them takes.
+const LINE_ROOM: usize = 128;
 
 /// How an order ended that met no fault.
 #[derive(Clone, Copy, Debug, PartialEq, Eq)]
@@ -365,8 +369,8 @@ fn import_file<L: LabFiles, W: Output, S: Alter>(
     at: u64,
     output: &mut W,
 ) -> Result<End, DeskFault>
-    ensures { ImportsFile S.Store (L.contents labs.now lab.now) keeper.old keeper.new
-        (W.contents output.old) (W.contents output.new) at result }
+    ensures { ImportsFile S.Store (W.has_room output.old) (L.contents labs.now lab.now) keeper.old
+        keeper.new (W.contents output.old) (W.contents output.new) at result }
 {
     match read_lab(alloc, labs, lab) {
         Ok(text) => import_text(alloc, keeper, text.as_slice(), at, output),
@@ -383,7 +387,8 @@ fn import_text<W: Output, S: Alter>(
     output: &mut W,
 ) -> Result<End, DeskFault>
     ensures { (imported : ImportEnd) × IsImport S.Store keeper.old keeper.new text.now at imported
-        × PrintsImport imported (W.contents output.old) (W.contents output.new) result }
+        × PrintsImport (W.has_room output.old) imported (W.contents output.old)
+        (W.contents output.new) result }
 {
     let end = import(alloc, keeper, text, at);
     if let Some(fault) = end.fault {
@@ -392,19 +397,21 @@ fn import_text<W: Output, S: Alter>(
     if let Some((place, refusal)) = end.stopped {
         return Ok(End::RefusedAt(place, refusal));
     }
-    print_counts(output, end.accepted, end.kept)
+    print_line(output, counts_line(end.accepted, end.kept).as_bytes())
 }
 
-/// Prints how many commands were accepted, and how many had been before.
-fn print_counts<W: Output>(output: &mut W, accepted: usize, kept: usize) -> Result<End, DeskFault>
-    ensures done { IfOk result (λ end. (end ≡ End.Done)
-        × Appends (W.contents output.old) (W.contents output.new) (counts_line accepted kept)) }
-    ensures fault { IfErr result (λ fault. fault ≡ DeskFault.Write) }
+/// The line of how many commands were accepted, and how many had been before.
+fn counts_line(accepted: usize, kept: usize) -> ArrayString<LINE_ROOM>
+    ensures { result.bytes ≡ counts_line accepted kept }
 {
-    match writeln!(output, "accepted {accepted}, kept {kept}") {
-        Ok(()) => Ok(End::Done),
-        Err(_) => Err(DeskFault::Write),
-    }
+    let mut digits = Buffer::new();
+    let mut line = ArrayString::new();
+    line.push_str("accepted ");
+    line.push_str(digits.format(accepted));
+    line.push_str(", kept ");
+    line.push_str(digits.format(kept));
+    line.push_str("\n");
+    line
 }
 
 /// Serves so many connections to a port of 127.0.0.1 from a keeper's farm, as long as its files are
@@ -418,13 +425,13 @@ fn serve<W: Output, S: Alter>(
     files: Option<&OpenFiles<'_>>,
     output: &mut W,
 ) -> Result<End, DeskFault>
-    ensures { ServesIfListening S.Store keeper.old keeper.new (W.contents output.old)
-        (W.contents output.new) port max result }
+    ensures { ServesIfListening S.Store (W.has_room output.old) keeper.old keeper.new
+        (W.contents output.old) (W.contents output.new) port max result }
 {
     let Ok(listener) = listen(rt, port) else {
         return Err(DeskFault::Read);
     };
-    print_port(output, port)?;
+    print_line(output, port_line(port).as_bytes())?;
     serve_on_files(alloc, keeper, &listener, max, rt, files)?;
     Ok(End::Done)
 }
@@ -437,16 +444,16 @@ fn listen(rt: &HostRuntime, port: u16) -> io::Result<TcpListener> {
     Ok(TcpListener::from(listener.as_fd().try_clone_to_owned()?))
 }
 
-/// Prints the port on which clients are accepted from now on.
-fn print_port<W: Output>(output: &mut W, port: u16) -> Result<(), DeskFault>
-    ensures printed { OnOk result (Appends (W.contents output.old) (W.contents output.new)
-        (port_line port)) }
-    ensures fault { IfErr result (λ fault. fault ≡ DeskFault.Write) }
+/// The line of the port on which clients are accepted from now on.
+fn port_line(port: u16) -> ArrayString<LINE_ROOM>
+    ensures { result.bytes ≡ port_line port }
 {
-    match writeln!(output, "listening {port}") {
-        Ok(()) => Ok(()),
-        Err(_) => Err(DeskFault::Write),
-    }
+    let mut digits = Buffer::new();
+    let mut line = ArrayString::new();
+    line.push_str("listening ");
+    line.push_str(digits.format(port));
+    line.push_str("\n");
+    line
 }
 
 /// Prints a report of a keeper's farm.

@@ -12,6 +12,10 @@ use std::io::BufReader;
 use std::net::{Net, TcpListener, TcpStream};
 use std::time::{Clock, SystemTime, UNIX_EPOCH};
 
+/// The room of the buffer before a stream: a usual head and a short body. It is made anew for each
+/// client, and all of it is zeroed, so a larger one costs every request more.
+const BUFFER: usize = 2048;
+
 /// The clients of a listener, as long as nobody takes away the files under the farm that is served,
 /// where these are given. Of the clients nothing is known.
 #[derive(Drop)]
@@ -74,9 +78,9 @@ impl<'a, C: Clock> Clients for SocketClients<'a, C> {
         }
     }
 
-    /// The next connection whose request is complete. Its stream is buffered, so that a head costs
-    /// one read; without memory for the buffer the client is answered that, and without the files
-    /// that the store failed.
+    /// The next connection whose request is complete. Its stream is buffered, so that a usual head
+    /// costs one read; without memory for the buffer the client is answered that, and without the
+    /// files that the store failed.
     fn next(&mut self) -> Option<Client<BufReader<DeadlineStream<'a, C>>, DeadlineStream<'a, C>>> {
         let stream = match &mut self.pending {
             Some(pending) => pending.next_stream(self.listener, self.clock)?,
@@ -89,7 +93,11 @@ impl<'a, C: Clock> Clients for SocketClients<'a, C> {
             refuse(&mut writer, store_answer());
             return None;
         }
-        match BufReader::new(self.alloc, DeadlineStream::new(stream, self.clock)) {
+        match BufReader::with_capacity(
+            self.alloc,
+            BUFFER,
+            DeadlineStream::new(stream, self.clock),
+        ) {
             Ok(reader) => Some(Client {
                 now,
                 reader,
