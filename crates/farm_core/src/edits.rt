@@ -15,9 +15,6 @@ use crate::held::Held;
 use crate::tables::Tables;
 use std::alloc::AllocError;
 
-/// How many places from a guess on are looked at before a search.
-pub const GUESS_REACH: usize = 5;
-
 impl Tables {
     /// Changes the jobs that pass and the boards that they hold. Each board is looked at, in name
     /// order: with B boards and J jobs it costs O(B log J).

@@ -18,12 +18,14 @@ ghost use Rattle.farm_core.specs.PartitionPoint.{IsPartitionPoint};
 ghost use Rattle.farm_core.specs.Serving.{member_wants};
 
 use crate::command::job_edit::JobEdit;
-use crate::edits::GUESS_REACH;
 use crate::pass::lookahead::same_wants::same_want;
 use farm_table::Table;
 use farm_types::{JobRow, JobState, MOST_WANTS, Want};
 use std::alloc::{AllocError, Global};
 use std::marker::Model;
+
+/// How many places from a guess on are looked at before a search.
+pub const GUESS_REACH: usize = 5;
 
 /// How many wants are remembered.
 const MOST: usize = 8;

@@ -2,8 +2,8 @@
 //!
 //! Read `specs/` in the order Plain, Shown, Answers, which say what callers see; then Replies, how
 //! kept replies are kept, Marks, what stands beside each job, and Leases, beside each reservation;
-//! then PartitionPoint, SmallRows, Following, Came, Edits, Serving, Lookahead, which say what a command
-//! keeps on its way.
+//! then PartitionPoint, SmallRows, Following, Came, Edits, Serving, Lookahead, which say what a
+//! command keeps on its way.
 #![tactic(auto)]
 
 mod board_effect;

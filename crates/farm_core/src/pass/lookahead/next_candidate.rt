@@ -17,7 +17,7 @@ ghost use Rattle.farm_core.specs.Lookahead.{ComesNext, IsValidLookahead, IsNextC
 ghost use Rattle.farm_core.specs.Lookahead.{claim_of, upcoming_of, earlier_upcoming};
 ghost use Rattle.farm_core.specs.Serving.{AreMisses, IsLike, IsMissed, member_wants, wants_of};
 
-use crate::edits::GUESS_REACH;
+use crate::job_table::GUESS_REACH;
 use crate::pass::lookahead::same_wants::{same_members, same_want};
 use crate::pass::lookahead::unsatisfiable::{CachedMiss, MissCache};
 use crate::pass::lookahead::{Upcoming, earlier};
