@@ -15,9 +15,6 @@ use std::cmp::Ordering;
 use std::marker::Model;
 use std::mem::replace;
 
-/// How many rows from a guess on are looked at one by one before a binary search.
-const NEARBY: usize = 8;
-
 /// Rows in strict order of their keys, and the log: each row that was put or changed since the log
 /// began, as it then was.
 #[derive(Drop)]
@@ -128,21 +125,6 @@ impl<R: Row + Drop> Table<R> {
         )
     }
 
-    /// The same, where the row may be one of the few from a guess on.
-    fn place_near(&self, guess: usize, key: &R::Key) -> Result<usize, usize>
-        ensures place { IsFoundAt self.now.rows (find (λ r. R.same (R.key r) key.now) self.now.rows)
-            result }
-        ensures sorted { IsStrictlySortedBy (by_key R.key R.key_cmp) self.now.rows }
-    {
-        let end = guess.saturating_add(NEARBY).min(self.rows.len());
-        for at in guess..end {
-            if R::order(self.rows[at].key(), key).is_eq() {
-                return Ok(at);
-            }
-        }
-        self.place_of(key)
-    }
-
     /// The row with that key, by binary search.
     pub fn find(&self, key: &R::Key) -> Option<&R>
         ensures found { option_copied result ≡ find (λ r. R.same (R.key r) key.now) self.now.rows }
@@ -200,26 +182,6 @@ impl<R: Row + Drop> Table<R> {
         edit.change(&mut self.rows[at])?;
         self.log.push_reserved(changed);
         Ok(())
-    }
-
-    /// Changes the row with that key, if there is one: one of the few from a guess on, or else found
-    /// by binary search. Where memory runs out the table is as it was.
-    pub fn change_near<E: Edit<R>>(
-        &mut self,
-        guess: usize,
-        key: &R::Key,
-        edit: &E,
-    ) -> Result<(), AllocError>
-        requires { Keeps R.key R.Fits (E.changed edit.now) }
-        ensures rows { OnOk result (self.new.rows
-            ≡ change_where (λ r. R.same (R.key r) key.now) (E.changed edit.now) self.old.rows) }
-        ensures leads { Leads (by_key R.key R.key_cmp) self.old self.new }
-        ensures stays { OnErr result (self.new ≡ self.old) }
-    {
-        match self.place_near(guess, key) {
-            Ok(at) => self.change_at(at, edit),
-            Err(_) => Ok(()),
-        }
     }
 
     /// Whether the row at a place passes.
