@@ -11,7 +11,8 @@ use Rattle.farm_types.specs.declared.refusal.Refusal.{Refusal}
 use Rattle.farm_keep.specs.Kept.{Kept, Keeps, KeepsFarm, KeepsEither}
 use Rattle.farm_keep.specs.Runs.{answers_of, IsNextChange}
 use Rattle.farm_keep.specs.declared.fault.KeepFault.{KeepFault}
-use Rattle.farm_jobfile.specs.Reading.{FaultOrNoMemory}
+use Rattle.farm_types.specs.Reads.{FaultOrNoMemory}
+use Rattle.farm_jobfile.specs.Reading.{fault_told}
 use Rattle.farm_jobfile.specs.Lab.{entry_of, lab}
 use Rattle.farm_jobfile.specs.declared.fault.FileFault.{FileFault}
 use Rattle.farm_desk.specs.declared.fault.DeskFault.{DeskFault}
@@ -129,7 +130,7 @@ pub record Imports {S : Type 0} (g : Ghosts S) (old new : Kept S) (text : List �
 -- the text parses to none, or there was no memory to read it: nothing was done
 pub record IsFileRefused {S : Type 0} (old new : Kept S) (text : List ℕ) (now : ℕ) (fault : FileFault)
     (end : ImportEnd) : Type 0 where
-  pub fault_is : FaultOrNoMemory fault (lab text now)
+  pub fault_is : FaultOrNoMemory (fault_told fault) (lab text now)
   pub nothing : done_by end ≡ 0
   pub never_began : end.stopped ≡ None
   pub unchanged : new ≡ old

@@ -9,13 +9,13 @@ use Rattle.farm_core.proofs.kept.packed.push.Goals as goal
 pub overflow_cast-caller : goal.overflow_cast-caller
 overflow_cast-caller c =
     let same : length c.as_str-caller.result.now ≡ length c.args.row.now.caller = ap length c.as_str-caller.ensures.text in
-    let fits : length c.args.row.now.caller ≤ longest_name = word_fits longest_name c.args.row.now.caller c.as_str-caller.ensures.name in
+    let fits : length c.args.row.now.caller ≤ longest_name = word_fits longest_name c.args.row.now.caller c.as_str-caller.ensures.word in
     omega (arith, same, fits)
 
 pub overflow_cast-key : goal.overflow_cast-key
 overflow_cast-key c =
     let same : length c.as_str-key.result.now ≡ length c.args.row.now.key = ap length c.as_str-key.ensures.text in
-    let fits : length c.args.row.now.key ≤ longest_key = word_fits longest_key c.args.row.now.key c.as_str-key.ensures.key in
+    let fits : length c.args.row.now.key ≤ longest_key = word_fits longest_key c.args.row.now.key c.as_str-key.ensures.word in
     omega (arith, same, fits)
 
 pub returns-clause-rows : goal.returns-clause-rows
