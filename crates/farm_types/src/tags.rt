@@ -168,7 +168,7 @@ fn cut_at_commas(alloc: Global, text: &[u8]) -> Result<Vec<&[u8]>, AllocError>
 fn tags_in(alloc: Global, parts: &[&[u8]]) -> Result<Vec<Tag>, WordFault>
     ensures { OrNoMemory code_told (λ tags. tags.items) result (list_of_tags (map (λ part. part.now) parts.now)) }
 {
-    let mut items = Vec::new(alloc);
+    let mut items = Vec::with_capacity(alloc, parts.len())?;
     for part in parts {
         match Tag::parse(alloc, part) {
             Ok(tag) => items.push(tag)?,
@@ -251,7 +251,7 @@ impl Tags {
         if tags.len() > MOST_TAGS {
             return Err(WordFault::Refused(Refusal { code: BAD_COUNT }));
         }
-        let mut items = Vec::new(alloc);
+        let mut items = Vec::with_capacity(alloc, tags.len())?;
         for tag in tags {
             let _tag = tag.as_str();
             upsert(&mut items, tag.copy()?)?;
@@ -307,7 +307,7 @@ impl Tags {
     pub fn copy(&self) -> Result<Tags, AllocError>
         ensures same { IfOk result (λ tags. tags ≡ self.now) }
     {
-        let mut items = Vec::new(*self.items.allocator());
+        let mut items = Vec::with_capacity(*self.items.allocator(), self.items.len())?;
         for tag in self.items.as_slice() {
             items.push(tag.copy()?)?;
         }

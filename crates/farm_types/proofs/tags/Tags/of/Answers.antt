@@ -4,7 +4,7 @@ use Rattle.farm_types.proofs.tags.Tags.of.Goals as goal
 
 pub loop-tag-init : goal.loop-tag-init
 loop-tag-init c =
-    let none = none_put c.new-items.result.items c.new-items.ensures.items in
+    let none = none_put c.in_ok-items.items.items c.in_ok-items.ensures.items in
     record { put = none.0; sorted = none.1; each = none.2; few = none.3 }
 
 pub loop-tag-preserved : goal.loop-tag-preserved
