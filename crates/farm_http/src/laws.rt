@@ -1,6 +1,6 @@
 //! Laws over what is taken of an input and written to an output.
-ghost use Rattle.std.specs.Prelude.{◌≡◌, ℕ, ◌+◌, ◌≤◌, ◌++◌, List, IsOk, Result, Some, length};
-ghost use Rattle.std.specs.Prelude.{vec_capacity};
+ghost use Rattle.std.specs.Prelude.{◌≡◌, ℕ, ◌+◌, ◌≤◌, ◌++◌, List, IfErr, IsOk, OnErr, OnOk, Result};
+ghost use Rattle.std.specs.Prelude.{Some, length, vec_capacity};
 ghost use Rattle.httparse.specs.Grammar.{RequestHead, ReadsRequest, print_request};
 ghost use Rattle.farm_types.specs.Limits.{longest_head, most_fields};
 ghost use Rattle.farm_http.specs.declared.fault.WireFault.{WireFault};
@@ -8,7 +8,7 @@ ghost use Rattle.farm_http.specs.declared.taken.Taken.{Taken};
 ghost use Rattle.farm_http.specs.Heads.{HasNoHead};
 ghost use Rattle.farm_http.specs.Counts.{Reading, IsSpent};
 ghost use Rattle.farm_http.specs.Requests.{IsRequest};
-ghost use Rattle.farm_http.specs.Faults.{TakesBytes, IsTaken, TakesFrom};
+ghost use Rattle.farm_http.specs.Faults.{TakesBytes, IsTaken, TakesFrom, WritesPrefix};
 
 use crate::fault::WireFault;
 use crate::request::read_request;
@@ -42,11 +42,14 @@ pub fn read_from_memory(alloc: Global, input: &mut &[u8]) -> Result<Taken, WireF
     read_request(alloc, input)
 }
 
-/// Writes bytes behind those of a vector as `write_whole` does. Where they fit its capacity, all of
-/// them are written.
+/// Writes bytes behind those of a vector as `write_whole` does. With the fault Write a part of them
+/// from their front is written. Where they fit the vector's capacity, all of them are.
 pub fn write_to_memory(held: &mut Vec<u8>, bytes: &[u8]) -> Result<(), WireFault>
-    ensures { length held.old.items + length bytes.now ≤ vec_capacity held.old
-        → IsOk result × (held.new.items ≡ held.old.items ++ bytes.now) }
+    ensures fits { length held.old.items + length bytes.now ≤ vec_capacity held.old → IsOk result }
+    ensures whole { OnOk result (held.new.items ≡ held.old.items ++ bytes.now) }
+    ensures fault { IfErr result (λ e. e ≡ WireFault.Write) }
+    ensures prefix { OnErr result
+        (WritesPrefix (Some held.old.items) (Some held.new.items) bytes.now) }
 {
     write_whole(held, bytes)
 }
