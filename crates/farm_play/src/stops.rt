@@ -15,7 +15,7 @@ const MANY: u64 = 10_000;
 /// With what an answer ends that tells that a call of the store failed.
 const STORE_FAULT: &str = "{\"code\":60,\"text\":\"store fault\"}";
 
-/// Steps, and the farm in words before the first and after each.
+/// Steps, and the farm in words before the first and after each, as it is found in its store.
 #[derive(Drop)]
 struct Run<'a> {
     alloc: Global,
@@ -72,13 +72,21 @@ impl<'a> Run<'a> {
         Ok(None)
     }
 
-    /// The farm is that of the steps that were answered, and the rest leads to the end.
-    fn goes_on<S: Alter + Drop>(&self, desk: &mut Desk<S>, end: End) -> io::Result<bool> {
-        let Some(place) = self.place_of(end, desk)? else {
+    /// The farm is that of the steps that were answered, and the rest leads to the end, which is
+    /// found after one more crash.
+    fn goes_on<S: Alter + Drop>(&self, mut desk: Desk<S>, end: End) -> io::Result<bool>
+    where
+        Connection<S>: InFiles<S>,
+    {
+        let Some(place) = self.place_of(end, &desk)? else {
             return self.teller.fails("another farm is found");
         };
-        let end = self.play(desk, place)?;
-        if matches!(end, End::Whole) && self.place_of(end, desk)?.is_some() {
+        let end = self.play(&mut desk, place)?;
+        let (files, _) = Connection::<S>::crashed(desk.into_store());
+        let Ok(desk) = found::<S>(self.alloc, files) else {
+            return self.teller.fails("no farm is found after the rest");
+        };
+        if matches!(end, End::Whole) && self.place_of(end, &desk)?.is_some() {
             return Ok(true);
         }
         self.teller.fails("the rest leads to another farm")
@@ -99,9 +107,12 @@ impl<'a> Run<'a> {
         &self,
         found: Result<Desk<S>, KeepFault>,
         end: End,
-    ) -> io::Result<bool> {
+    ) -> io::Result<bool>
+    where
+        Connection<S>: InFiles<S>,
+    {
         match found {
-            Ok(mut desk) => self.goes_on(&mut desk, end),
+            Ok(desk) => self.goes_on(desk, end),
             Err(_) => self.teller.fails("no farm is found"),
         }
     }
@@ -141,8 +152,8 @@ impl<'a> Run<'a> {
     }
 }
 
-/// The farms in words before the first step and after each, in a run that isn't stopped; None where
-/// a step gives what isn't wanted.
+/// The farms in words before the first step and after each, as they are found in their stores, in a
+/// run that isn't stopped; None where a step gives what isn't wanted.
 fn farms_of<S: Alter + Drop>(
     alloc: Global,
     teller: &Teller<'_>,
@@ -153,12 +164,12 @@ where
     Connection<S>: InFiles<S>,
 {
     let mut farms = Vec::new(alloc);
-    farms.push(player.in_words()?)?;
+    farms.push(player.found_in_words()?)?;
     for step in steps {
         if !player.plays(teller, step)? {
             return Ok(None);
         }
-        farms.push(player.in_words()?)?;
+        farms.push(player.found_in_words()?)?;
     }
     Ok(Some(farms))
 }
