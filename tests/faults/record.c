@@ -3,7 +3,7 @@
  * file whose path begins with RECORDED, in the order in which they were made, at the end of the file named by
  * RECORD. tests/faults/power_cuts.py reads it. An entry is one letter ('w' a write, 't' a change of length, 's' a
  * sync, 'u' a removal), then the path's length, the offset and the count as three numbers of 8 bytes, then
- * the path, and for a write its bytes. An entry stands before what it tells of is done.
+ * the path, and for a write its bytes. An entry stands before what it records is done.
  *
  * It declares what it takes of the C library itself, so that the toolchain's own compiler can make it too,
  * which has no headers.

@@ -16,7 +16,7 @@ pub struct Words {
     pub shape: String,
     /// How many single jobs wait.
     pub claims: String,
-    /// How many passes are made: 0, so that what stands before a pass can be told from it, or 1.
+    /// How many passes are made: 0, so that what stands before a pass can be measured alone, or 1.
     pub passes: Option<String>,
 }
 

@@ -6,7 +6,7 @@ use std::time::Instant;
 /// How often everything is timed.
 const ROUNDS: u64 = 7;
 
-/// A watch. Where it isn't told to take times it shows what was done alone, so that such a run
+/// A watch. Where it isn't asked to take times it shows what was done alone, so that such a run
 /// always prints the same.
 #[derive(Clone, Copy)]
 pub struct Watch<'a> {

@@ -1,4 +1,4 @@
--- The program's words as `clap` is told of them: one subcommand for each order.
+-- The program's words as `clap` is given them: one subcommand for each order.
 use Rattle.std.specs.Prelude.{◌≡◌, ℕ, Bool, Some, false, true, codes}
 use Rattle.clap.specs.Simple.{on_top}
 use Rattle.clap.specs.Words.{AddsSubcommand, App, Rule, Shape, Text, app_of, new_app, new_rule}
@@ -94,7 +94,7 @@ report_app = with_rule (with_rule (with_rule (with_rule (new_app (codes "report"
     (db_rule true)) (offset_rule (codes "east"))) (offset_rule (codes "west")))
     (positional_rule (codes "which"))
 
--- the program: it tells its version, or one of its subcommands has to follow
+-- the program: it prints its version, or one of its subcommands has to follow
 abbrev pub bare_app : App
 bare_app = on_top (λ s. record s { has_version = true; subcommand_required = true })
     (new_app (codes "farm"))

@@ -29,7 +29,7 @@ IsAnswerAmong kinds = (kind : ErrorKind) × IsAmong kind kinds × IsAnswer kind
 abbrev pub IsWrongAmong : Kinds → Type 0
 IsWrongAmong kinds = (kind : ErrorKind) × IsAmong kind kinds × (IsAnswer kind → ⊥)
 
--- what is told of `once` with neither or both of `--memory` and `--db`
+-- what is reported of `once` with neither or both of `--memory` and `--db`
 abbrev pub no_place : Text
 no_place = codes "error: exactly one of '--memory' and '--db <FILE>' has to be provided\n\nUsage: farm once <--memory|--db <FILE>> --at <SECONDS>\n\nFor more information, try '--help'.\n"
 
@@ -37,21 +37,21 @@ no_place = codes "error: exactly one of '--memory' and '--db <FILE>' has to be p
 abbrev pub no_report : Text
 no_report = codes "error: invalid value for '<WHICH>'\n  [possible values: queue, boards, reservations]\n\nFor more information, try '--help'.\n"
 
--- what is told of a choice that is left open
+-- what is reported of a choice that is left open
 abbrev pub open_text : Option (Text × List Row) → Text
 open_text named =
     if option_map_or (λ p. bytes_eq p.0 (codes "once")) named false then no_place else no_report
 
--- the text tells of the choice that the words leave open
-pub record TellsOpen (named : Option (Text × List Row)) (text : Text) : Type 0 where
+-- the text reports the choice that the words leave open
+pub record ReportsOpen (named : Option (Text × List Row)) (text : Text) : Type 0 where
   pub open_choice : leaves_choice named ≡ true
-  pub told : text ≡ open_text named
+  pub reported : text ≡ open_text named
 
 -- a fault of words that may give errors of these kinds and name this subcommand: a text to print
 -- where help or the version is asked for, and else what is wrong with them, be it a choice that
--- they leave open, of which they are told
+-- they leave open, which is reported
 abbrev pub IsFaultAmong : Kinds → Option (Text × List Row) → OrderFault → Type 0
 IsFaultAmong kinds named (Help text) = IsAnswerAmong kinds
 IsFaultAmong kinds named (Words text) = IsWrongAmong kinds
-    ⊎ ((kinds ≡ []) × TellsOpen named (string_bytes text))
+    ⊎ ((kinds ≡ []) × ReportsOpen named (string_bytes text))
 IsFaultAmong kinds named NoMemory = ⊤

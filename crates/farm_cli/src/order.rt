@@ -48,7 +48,7 @@ pub enum Database {
     File(String),
 }
 
-/// What a report tells of.
+/// What a report is of.
 #[derive(Clone, Copy, Debug, PartialEq, Eq)]
 pub enum Report {
     /// The claims that wait, in the order in which they are served.

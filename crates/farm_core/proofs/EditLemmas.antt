@@ -16,7 +16,7 @@ use Rattle.farm_core.specs.declared.board_effect.BoardEffect.{BoardEffect}
 use Rattle.farm_core.specs.declared.command.job_edit.JobEdit.{JobEdit}
 use Rattle.farm_core.specs.declared.command.res_edit.ResEdit.{ResEdit}
 use Rattle.farm_table.specs.Near.{IsFitJob}
-use Rattle.farm_table.specs.Tabled.{Keeps}
+use Rattle.farm_table.specs.Tabled.{KeepsKeys}
 use Rattle.farm_core.specs.Edits.{IsSmallEffect, job_changed, res_changed, board_after}
 
 -- a job goes on to fit
@@ -82,7 +82,7 @@ small_board (BoardEffect.Reserve holder) low b s = record { held_by = low; numbe
 small_board (BoardEffect.End true outcome t) low b s = check_by (λ x. IsSmallBoard (freed_board x)) outcome t b (λ h. record { held_by = omega arith; numbers = s.numbers }) (λ h. record { held_by = omega arith; numbers = (omega arith, (low, s.numbers.1.1)) })
 small_board (BoardEffect.End false outcome t) low b s = job_by (λ x. IsSmallBoard (freed_board x)) outcome b (λ h. record { held_by = omega arith; numbers = (omega arith, s.numbers.1) })
 
-pub keeps_boards : (e : BoardEffect) → IsSmallEffect e → Keeps (λ (b : BoardRow). b.name) IsSmallBoard (board_after e)
+pub keeps_boards : (e : BoardEffect) → IsSmallEffect e → KeepsKeys (λ (b : BoardRow). b.name) IsSmallBoard (board_after e)
 keeps_boards e low = record { key = keeps_board e; fits = small_board e low }
 
 pub reservations_alone : (F G : Farm) (test : ResRow → Bool) (f : ResRow → ResRow) → G ≡ record F { reservations = change_where test f F.reservations } → G ≡ change_res test f (λ b. b) F

@@ -7,13 +7,13 @@ use Rattle.farm_sound.proofs.Claims.{IsClaim, queue_claims}
 use Rattle.farm_sound.proofs.Lists.{among_has}
 use Rattle.farm_pick.proofs.Filling.{numbers_differ}
 use Rattle.farm_core.specs.Came.{Seen}
-use Rattle.farm_core.specs.Serving.{Asks, Serves, Tries}
+use Rattle.farm_core.specs.Serving.{MatchesRows, Serves, Tries}
 use Rattle.farm_core.proofs.Passing.{asks_claim}
 use Rattle.farm_core.proofs.Skipping.{one_of}
 
 module _ (D : Seen) (kind : ClaimKind) (number boards : ℕ) (sound : IsSound D.farm)
     (waits : (c : Claimed) × IsAmong c (queue D.farm) × ((shown_claim c).kind ≡ kind) × (c.number ≡ number) × (length c.wants ≡ boards))
-    (E : Seen) (served : Bool) (tries : (c : Claimed) → (shown_claim c).kind ≡ kind → c.number ≡ number → Asks c.reservation D.farm c → Tries D c served E) where
+    (E : Seen) (served : Bool) (tries : (c : Claimed) → (shown_claim c).kind ≡ kind → c.number ≡ number → MatchesRows c.reservation D.farm c → Tries D c served E) where
   asked : (c : Claimed) → (shown_claim c).kind ≡ kind → c.number ≡ number → IsAmong c (queue D.farm) → Tries D c served E
   asked c is same at = tries c is same (asks_claim D.farm c (among_has (IsClaim D.farm) c (queue D.farm) (queue_claims D.farm sound.steady) at))
 

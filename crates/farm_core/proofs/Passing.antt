@@ -6,14 +6,14 @@ use Rattle.farm_types.specs.Small.{IsSmall}
 use Rattle.farm_types.specs.Sound.{IsSound}
 use Rattle.farm_sound.proofs.Accepted.{low_job, low_res}
 use Rattle.farm_sound.proofs.Claims.{IsClaim}
-use Rattle.farm_core.specs.Serving.{Asks}
+use Rattle.farm_core.specs.Serving.{MatchesRows}
 
 -- a claim asks for what its rows want
-pub asks_claim : (F : Farm) (c : Claimed) → IsClaim F c → Asks c.reservation F c
+pub asks_claim : (F : Farm) (c : Claimed) → IsClaim F c → MatchesRows c.reservation F c
 asks_claim F c (inl (r, is)) =
-    subst (λ (d : Claimed). Asks d.reservation F d) (sym is.2) (rw is.0 refl)
+    subst (λ (d : Claimed). MatchesRows d.reservation F d) (sym is.2) (rw is.0 refl)
 asks_claim F c (inr (j, is)) =
-    subst (λ (d : Claimed). Asks d.reservation F d) (sym is.2) refl
+    subst (λ (d : Claimed). MatchesRows d.reservation F d) (sym is.2) refl
 
 -- and its number is small
 pub small_claim : (F : Farm) (c : Claimed) → IsSound F → IsClaim F c → IsSmall c.number

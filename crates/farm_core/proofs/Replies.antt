@@ -38,24 +38,24 @@ word_fits most text word = by (nat_le 1 (length text)) (nat_le (length text) mos
 -- ---- the packed rows and the others
 
 module _ (p : Packed) (es : List (String Global × KeptReply)) where
-  -- a row of the map is told, and where it has none a packed one
+  -- a row of the map is found, and where it has none a packed one
   found_over : (q : KeptRow) → IsStrictlySortedBy kept_cmp (map kept_row es) → find (is_asked q) (kept_rows p es) ≡ option_or (find (is_asked q) (map kept_row es)) (find (is_asked q) (packed_rows p))
   found_over q sorted =
       (λ i. find (λ r. texts_tie r q i) (kept_rows p es)) ∙ find_over kept_cmp kept_total q (map kept_row es) sorted (packed_rows p)
       ∙ (λ i. option_or (find (λ r. sym (texts_tie r q) i) (map kept_row es)) (find (λ r. sym (texts_tie r q) i) (packed_rows p)))
 
-  pub told_above : (q : KeptRow) (reply : KeptReply) → IsStrictlySortedBy kept_cmp (map kept_row es) → Some reply ≡ option_map kept_reply (find (is_asked q) (map kept_row es))
+  pub finds_above : (q : KeptRow) (reply : KeptReply) → IsStrictlySortedBy kept_cmp (map kept_row es) → Some reply ≡ option_map kept_reply (find (is_asked q) (map kept_row es))
       → Some reply ≡ option_map kept_reply (find (is_asked q) (kept_rows p es))
-  told_above q reply sorted told =
-      by (find (is_asked q) (map kept_row es)) told ∙ ap (option_map kept_reply) (sym (found_over q sorted))
+  finds_above q reply sorted reported =
+      by (find (is_asked q) (map kept_row es)) reported ∙ ap (option_map kept_reply) (sym (found_over q sorted))
     where
       by : (above : Option KeptRow) → Some reply ≡ option_map kept_reply above → Some reply ≡ option_map kept_reply (option_or above (find (is_asked q) (packed_rows p)))
-      by None told = cc
-      by (Some r) told = told
+      by None reported = cc
+      by (Some r) reported = reported
 
-  pub told_below : (q : KeptRow) → IsStrictlySortedBy kept_cmp (map kept_row es) → None ≡ option_map kept_reply (find (is_asked q) (map kept_row es))
+  pub finds_below : (q : KeptRow) → IsStrictlySortedBy kept_cmp (map kept_row es) → None ≡ option_map kept_reply (find (is_asked q) (map kept_row es))
       → option_map kept_reply (find (is_asked q) (packed_rows p)) ≡ option_map kept_reply (find (is_asked q) (kept_rows p es))
-  told_below q sorted none =
+  finds_below q sorted none =
       by (find (is_asked q) (map kept_row es)) none ∙ ap (option_map kept_reply) (sym (found_over q sorted))
     where
       by : (above : Option KeptRow) → None ≡ option_map kept_reply above → option_map kept_reply (find (is_asked q) (packed_rows p)) ≡ option_map kept_reply (option_or above (find (is_asked q) (packed_rows p)))

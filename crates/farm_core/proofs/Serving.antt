@@ -16,7 +16,7 @@ use Rattle.farm_sound.proofs.Lists.{filter_all}
 use Rattle.farm_sound.proofs.Where.{AllByRecursion-map}
 use Rattle.farm_table.specs.Near.{IsFitJob}
 use Rattle.farm_core.specs.Came.{Seen}
-use Rattle.farm_core.specs.Serving.{Asks, Serves, Tries, assign_first, assign_named}
+use Rattle.farm_core.specs.Serving.{MatchesRows, Serves, Tries, assign_first, assign_named}
 
 -- ---- the numbers of members, and the names of boards
 
@@ -90,7 +90,7 @@ module _ (F : Farm) (c : Claimed) (n : ℕ) (wants : List Want) (asks : c.wants 
       by (Some bs) is = let same : names ≡ names_of bs = cc in ap (λ (H : Farm). record { farm = H; claims = n + 1 }) (gives bs same)
 
 -- a group
-pub group_served : (F G : Farm) (group : ℕ) (c : Claimed) (n : ℕ) (names : List (List ℕ)) (numbers : List ℕ) → c.reservation ≡ false → c.number ≡ group → Asks false F c
+pub group_served : (F G : Farm) (group : ℕ) (c : Claimed) (n : ℕ) (names : List (List ℕ)) (numbers : List ℕ) → c.reservation ≡ false → c.number ≡ group → MatchesRows false F c
     → Some names ≡ option_map names_of (least F.boards (is_free F.types) (wants_of (members F group))) → numbers ≡ numbers_of (members F group)
     → G ≡ fold (assign_named JobState.Scheduled) F (zip numbers names) → serve F.clock (record { farm = F; claims = n }) c ≡ record { farm = G; claims = n + 1 }
 group_served F G group c n names numbers of_group same asks picked are made =
@@ -103,7 +103,7 @@ group_served F G group c n names numbers of_group same asks picked are made =
     ∙ sym made)
 
 -- a reservation
-pub asked : (F : Farm) (c : Claimed) → Asks true F c → (r : ResRow) × (res_of F c.number ≡ Some r) × (c.wants ≡ r.want ∷ [])
+pub asked : (F : Farm) (c : Claimed) → MatchesRows true F c → (r : ResRow) × (res_of F c.number ≡ Some r) × (c.wants ≡ r.want ∷ [])
 asked F c asks = by (res_of F c.number) refl asks
   where
     by : (o : Option ResRow) → res_of F c.number ≡ o → IsSomeAnd o (λ r. c.wants ≡ r.want ∷ [])
@@ -118,7 +118,7 @@ first_given : (F : Farm) (number : ℕ) (bs : List BoardRow) → give_res F numb
 first_given F number [] = refl
 first_given F number (b ∷ bs) = refl
 
-pub res_served : (F G : Farm) (number : ℕ) (c : Claimed) (n : ℕ) (names : List (List ℕ)) → c.reservation ≡ true → c.number ≡ number → Asks true F c → Picks F number (Some names)
+pub res_served : (F G : Farm) (number : ℕ) (c : Claimed) (n : ℕ) (names : List (List ℕ)) → c.reservation ≡ true → c.number ≡ number → MatchesRows true F c → Picks F number (Some names)
     → G ≡ assign_first F number names → serve F.clock (record { farm = F; claims = n }) c ≡ record { farm = G; claims = n + 1 }
 res_served F G number c n names of_res same asks picked made =
     let it = asked F c asks in

@@ -23,7 +23,7 @@ use Rattle.farm_pick.proofs.Later.{among_later}
 use Rattle.farm_pick.proofs.Merging.{unmet_stays}
 use Rattle.farm_core.specs.Came.{Seen}
 use Rattle.farm_core.specs.declared.pass.lookahead.unsatisfiable.CachedMiss.{CachedMiss}
-use Rattle.farm_core.specs.Serving.{AreMisses, Asks, IfMiss, IsLike, IsMissed, IsWaitingMiss, Serves, WantAlike, count_after, member_wants, want_at, want_in, wants_of}
+use Rattle.farm_core.specs.Serving.{AreMisses, MatchesRows, IfMiss, IsLike, IsMissed, IsWaitingMiss, Serves, WantAlike, count_after, member_wants, want_at, want_in, wants_of}
 use Rattle.farm_core.proofs.Passing.{asks_claim}
 
 -- ---- the wants of members, one by one
@@ -75,14 +75,14 @@ alike_wants first second group other few few_others alike =
 
 -- ---- what a claim wants, by its rows
 
-pub wants_asked : (F : Farm) (c : Claimed) → Asks c.reservation F c → c.wants ≡ wants_of F (shown_claim c).kind c.number
+pub wants_asked : (F : Farm) (c : Claimed) → MatchesRows c.reservation F c → c.wants ≡ wants_of F (shown_claim c).kind c.number
 wants_asked F c asks = by c.reservation asks
   where
     some : (o : Option ResRow) → IsSomeAnd o (λ r. c.wants ≡ r.want ∷ []) → c.wants ≡ option_map_or (λ (r : ResRow). r.want ∷ []) o []
     some None asks = absurd asks
     some (Some r) asks = asks
 
-    by : (v : Bool) → Asks v F c → c.wants ≡ wants_of F (cond v ClaimKind.Reservation ClaimKind.Group) c.number
+    by : (v : Bool) → MatchesRows v F c → c.wants ≡ wants_of F (cond v ClaimKind.Reservation ClaimKind.Group) c.number
     by true asks = some (res_of F c.number) asks
     by false asks = asks
 

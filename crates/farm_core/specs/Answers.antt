@@ -13,10 +13,10 @@ answer_of (Answer.Kept reply) = Repeated reply
 answer_of (Answer.Refused refusal) = Denied refusal.code
 
 -- the changed rows lead from one farm to the other
-abbrev pub Leads : Answer → Farm → Farm → Type 0
-Leads (Answer.Did reply changes) F G = put_rows F changes ≡ G
-Leads (Answer.Kept reply) F G = ⊤
-Leads (Answer.Refused refusal) F G = ⊤
+abbrev pub ChangesLead : Answer → Farm → Farm → Type 0
+ChangesLead (Answer.Did reply changes) F G = put_rows F changes ≡ G
+ChangesLead (Answer.Kept reply) F G = ⊤
+ChangesLead (Answer.Refused refusal) F G = ⊤
 
 -- and their numbers are small
 abbrev pub AreSmallChanges : Answer → Type 0

@@ -19,15 +19,15 @@ abbrev pub joined : List ℕ → List ℕ → List ℕ
 joined caller key = caller ++ 32 ∷ key
 
 -- what stands before the space, and behind it
-abbrev pub caller_in : List ℕ → List ℕ
-caller_in text = take_while (λ c. not (c == 32)) text
+abbrev pub joined_caller : List ℕ → List ℕ
+joined_caller text = take_while (λ c. not (c == 32)) text
 
-abbrev pub key_in : List ℕ → List ℕ
-key_in text = drop (length (caller_in text) + 1) text
+abbrev pub joined_key : List ℕ → List ℕ
+joined_key text = drop (length (joined_caller text) + 1) text
 
 pub record IsJoined (text : List ℕ) : Type 0 where
-  pub caller : IsTrue (list_all is_name_byte (caller_in text))
-  pub is : text ≡ joined (caller_in text) (key_in text)
+  pub caller : IsTrue (list_all is_name_byte (joined_caller text))
+  pub is : text ≡ joined (joined_caller text) (joined_key text)
 
 abbrev pub AreJoined : List (String Global × KeptReply) → Type 0
 AreJoined es = AllByRecursion (λ e. IsJoined (string_bytes e.0)) es
@@ -35,8 +35,8 @@ AreJoined es = AllByRecursion (λ e. IsJoined (string_bytes e.0)) es
 -- the row of a map's entry
 abbrev pub kept_row : String Global × KeptReply → KeptRow
 kept_row e = record {
-  caller = caller_in (string_bytes e.0);
-  key = key_in (string_bytes e.0);
+  caller = joined_caller (string_bytes e.0);
+  key = joined_key (string_bytes e.0);
   kind = e.1.kind;
   reply = e.1.reply;
 }
@@ -65,7 +65,7 @@ packed_rows p = map (entry_row p.texts.items) p.entries.items
 abbrev pub kept_rows : Packed → List (String Global × KeptReply) → List KeptRow
 kept_rows p es = put_all kept_cmp (packed_rows p) (map kept_row es)
 
--- what holds of them: the rows of each rise, they are as many as is told, and the log fits
+-- what holds of them: the rows of each rise, they are as many as `len`, and the log fits
 pub record IsKept (p : Packed) (es : List (String Global × KeptReply)) (len : ℕ) (log : List KeptRow) : Type 0 where
   pub packed : IsStrictlySortedBy kept_cmp (packed_rows p)
   pub others : IsStrictlySortedBy kept_cmp (map kept_row es)
@@ -73,7 +73,7 @@ pub record IsKept (p : Packed) (es : List (String Global × KeptReply)) (len : �
   pub count : len ≡ length (kept_rows p es)
   pub logged : AllByRecursion IsSmallKept log
 
--- what is told of a row that is found
+-- what is reported of a row that is found
 abbrev pub kept_reply : KeptRow → KeptReply
 kept_reply r = record { kind = r.kind; reply = r.reply }
 

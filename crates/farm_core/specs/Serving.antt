@@ -34,7 +34,7 @@ name_at boards at = option_map (λ (b : BoardRow). b.name) (slice_get boards at)
 abbrev pub names_at : List BoardRow → List ℕ → List (List ℕ)
 names_at boards places = filter_map (name_at boards) places
 
--- a job, told by its number, is in a state and holds the board of a name
+-- a job, by its number, is in a state and holds the board of a name
 abbrev pub assign_named : JobState → Farm → ℕ × List ℕ → Farm
 assign_named state F (number, name) = record F {
   jobs = change_where (λ m. m.number == number) (placed_job state name) F.jobs;
@@ -51,10 +51,10 @@ assign_first F number (name ∷ names) = record F {
       F.boards;
 }
 
--- a claim asks for what the rows of its reservation or its group want
-abbrev pub Asks : Bool → Farm → Claimed → Type 0
-Asks true F c = IsSomeAnd (res_of F c.number) (λ r. c.wants ≡ r.want ∷ [])
-Asks false F c = c.wants ≡ map (λ m. m.want) (members F c.number)
+-- a claim wants what the rows of its reservation or its group want
+abbrev pub MatchesRows : Bool → Farm → Claimed → Type 0
+MatchesRows true F c = IsSomeAnd (res_of F c.number) (λ r. c.wants ≡ r.want ∷ [])
+MatchesRows false F c = c.wants ≡ map (λ m. m.want) (members F c.number)
 
 -- what a claim wants, by the rows of its reservation or its group
 abbrev pub wants_of : Farm → ClaimKind → ℕ → List Want

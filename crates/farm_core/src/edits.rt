@@ -29,7 +29,7 @@ impl Tables {
             (job_changed edit.entry) (board_after effect) (plain_farm self.old))
             (seen self.old)) self.new) }
     {
-        // The boards first: the jobs as they were tell which change.
+        // The boards first: the jobs as they were say which change.
         self.boards.change_where(&Held {
             holders: &self.jobs,
             filter: &edit.jobs,

@@ -5,7 +5,7 @@ ghost use Rattle.farm_types.specs.Farm.{empty_farm, farm_of, job_of, status_of};
 ghost use Rattle.farm_types.specs.Machine.{answer, step};
 ghost use Rattle.farm_types.specs.Pick.{queue, shown_claim};
 ghost use Rattle.farm_types.specs.Sound.{IsSound};
-ghost use Rattle.farm_core.specs.Answers.{answer_of, Leads, Rests, AreSmallChanges, IsChange};
+ghost use Rattle.farm_core.specs.Answers.{answer_of, ChangesLead, Rests, AreSmallChanges, IsChange};
 
 use crate::refusal::repeated_reply;
 use crate::tables::Tables;
@@ -72,14 +72,15 @@ pub struct Farm {
 }
 
 impl Model for Farm {
-    ghost use Rattle.farm_core.specs.Shown.{Shown, IsKeptUnlessFailed};
+    ghost use Rattle.farm_core.specs.Shown.{Shown, IsConsistentUnlessFailed};
     ghost use Rattle.farm_core.specs.Plain.{plain_farm};
 
     ghost Value = { Shown };
 
     ghost view = { λ f. record { failed = f.failed; farm = plain_farm f.tables } };
 
-    ghost invariant = { λ f. IsKeptUnlessFailed f.failed (plain_farm f.tables) f.tables.queues };
+    ghost invariant = { λ f. IsConsistentUnlessFailed f.failed
+        (plain_farm f.tables) f.tables.queues };
 }
 
 impl Farm {
@@ -189,7 +190,7 @@ impl Farm {
 
         // The changed rows, put by their keys, lead from the old farm to the new one, and a store
         // can keep them.
-        ensures rows { IfOk result (λ a. Leads a self.old.farm self.new.farm) }
+        ensures rows { IfOk result (λ a. ChangesLead a self.old.farm self.new.farm) }
         ensures small { IfOk result AreSmallChanges }
 
         // A kept reply and a refusal leave the very farm.

@@ -306,7 +306,7 @@ impl JobTable {
         ensures sorted { IsStrictlySortedBy job_cmp self.now.rows }
         ensures fit { AllByRecursion IsFitJob self.now.rows }
     {
-        // no row is read: it tells proofs that they are in order
+        // no row is read: it gives proofs that they are in order
         let _rows = self.table.rows();
         for place in guess..guess.saturating_add(GUESS_REACH) {
             if let Some(mark) = self.marks.get(place) {
@@ -319,7 +319,7 @@ impl JobTable {
     }
 
     /// How many jobs have a smaller number. Jobs and reservations draw their numbers from one
-    /// counter, so while no reservation has drawn one since the first job a job's number tells its
+    /// counter, so while no reservation has drawn one since the first job a job's number says its
     /// place; else it costs a binary search.
     pub fn place_of(&self, number: u64) -> usize
         ensures within { result ≤ length self.now.rows }

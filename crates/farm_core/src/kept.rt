@@ -40,14 +40,14 @@ pub struct KeptReply {
 /// takes no memory; a new one costs O(log K), and moves as many others. A packed reply never moves:
 /// one that is put in its place stands in the map, and is found first.
 #[derive(Drop)]
-pub struct Kept {
+pub struct KeptReplies {
     packed: Packed,
     others: BTreeMap<String, KeptReply>,
     len: usize,
     log: Vec<KeptRow>,
 }
 
-impl Model for Kept {
+impl Model for KeptReplies {
     ghost use Rattle.farm_types.specs.declared.rows.KeptRow.{KeptRow};
     ghost use Rattle.farm_table.specs.Tabled.{Tabled};
     ghost use Rattle.farm_core.specs.Replies.{IsKept, kept_rows};
@@ -60,9 +60,9 @@ impl Model for Kept {
 }
 
 // The log is no part of the farm.
-impl fmt::Debug for Kept {
+impl fmt::Debug for KeptReplies {
     fn fmt<W: fmt::Write>(&self, f: &mut fmt::Formatter<W>) -> fmt::Result {
-        f.debug_struct("Kept")
+        f.debug_struct("KeptReplies")
             .field("packed", &self.packed)
             .field("others", &self.others)
             .finish()
@@ -118,12 +118,12 @@ fn others_of(alloc: Global, rows: &[KeptRow]) -> Result<BTreeMap<String, KeptRep
     Ok(others)
 }
 
-impl Kept {
+impl KeptReplies {
     /// No replies.
-    pub fn new(alloc: Global) -> Kept
+    pub fn new(alloc: Global) -> KeptReplies
         ensures { result ≡ record { rows = []; log = [] } }
     {
-        Kept {
+        KeptReplies {
             packed: Packed::new(alloc),
             others: BTreeMap::new(alloc),
             len: 0,
@@ -133,14 +133,14 @@ impl Kept {
 
     /// The replies of rows, at the cost of reading each three times. The rows' memory is free once
     /// all are packed.
-    pub fn of(rows: Vec<KeptRow>) -> Result<Kept, AllocError>
+    pub fn of(rows: Vec<KeptRow>) -> Result<KeptReplies, AllocError>
         requires { IsStrictlySortedBy kept_cmp rows.items }
         ensures { IfOk result (λ kept. kept ≡ record { rows = rows.items; log = [] }) }
     {
         let alloc = *rows.allocator();
         let packed = Packed::of(alloc, &rows)?;
         let others = others_of(alloc, &rows)?;
-        Ok(Kept {
+        Ok(KeptReplies {
             packed,
             others,
             len: rows.len(),

@@ -10,7 +10,7 @@ ghost use Rattle.farm_core.specs.Plain.{plain_farm};
 ghost use Rattle.farm_core.specs.Replies.{kept_reply};
 
 use crate::job_table::JobTable;
-use crate::kept::{Kept, KeptReply};
+use crate::kept::{KeptReplies, KeptReply};
 use crate::res_table::ResTable;
 use farm_pick::Queues;
 use farm_table::Table;
@@ -26,7 +26,7 @@ pub struct Tables {
     pub boards: Table<BoardRow>,
     pub jobs: JobTable,
     pub reservations: ResTable,
-    pub kept: Kept,
+    pub kept: KeptReplies,
     /// Who waits, and which boards are free.
     pub queues: Queues,
     pub clock: u64,
@@ -65,7 +65,7 @@ impl Tables {
             boards: Table::new(alloc),
             jobs: JobTable::new(alloc),
             reservations: ResTable::new(alloc),
-            kept: Kept::new(alloc),
+            kept: KeptReplies::new(alloc),
             queues: Queues::new(alloc),
             clock: 0,
             collector: 0,
@@ -82,7 +82,7 @@ impl Tables {
         ensures queues { IfOk result (λ t. t.queues ≡ record { claims = []; boards = [] }) }
     {
         let alloc = *rows.types.allocator();
-        let kept = Kept::of(rows.kept)?;
+        let kept = KeptReplies::of(rows.kept)?;
         let jobs = JobTable::of(alloc, rows.jobs)?;
         let reservations = ResTable::of(alloc, rows.reservations)?;
         Ok(Tables {

@@ -3,7 +3,7 @@ use Rattle.std.proofs.Common.{◌≡◌, ◌≢◌, ◌≤◌, ◌+◌, ◌⊎�
 use Rattle.std.specs.Prelude.{Option, Result}
 use Rattle.std.proofs.lemmas.List.{append_assoc, append-nil, length-append, map-append}
 use Rattle.sqlite_trees.specs.declared.store.Store.{Ghosts}
-use Rattle.farm_keep.specs.Kept.{Kept}
+use Rattle.farm_keep.specs.KeeperState.{KeeperState}
 use Rattle.farm_desk.specs.Clients.{Accepts, Arrival, ClientList, Arrives, Departs, HasRoom, IsOver, Departure}
 use Rattle.farm_desk.specs.Conversations.{ConversesOnce, Desk, IsComplete, desk}
 use Rattle.farm_desk.specs.Response.{IsResponse}
@@ -15,7 +15,7 @@ use Rattle.farm_desk.proofs.ConverseLemmas.{written_in_part, written_too_long, w
 -- ---- one conversation
 
 -- no answer that is due ends it as unwritten
-never_response : {S : Type 0} (g : Ghosts S) (old new : Kept S) (input rest : Option (List ℕ)) (now : ℕ) (bytes : List ℕ)
+never_response : {S : Type 0} (g : Ghosts S) (old new : KeeperState S) (input rest : Option (List ℕ)) (now : ℕ) (bytes : List ℕ)
     → ¬ IsResponse g old new input rest now bytes (Err DeskFault.Write)
 never_response g old new input rest now bytes (inl response) = response.response
 never_response g old new input rest now bytes (inr short) = let e = short.fault in cc
@@ -61,7 +61,7 @@ of_none None = refl
 of_none (Some clients) = (refl, sym (append-nil clients.served))
 
 -- before anybody arrives
-pub connections_begin : {S : Type 0} (g : Ghosts S) (Sure : Type 0) (known : Option ClientList) (k : Kept S) (Whole : Type 0) → ServesInTurn g Sure known known k k 0 Whole
+pub connections_begin : {S : Type 0} (g : Ghosts S) (Sure : Type 0) (known : Option ClientList) (k : KeeperState S) (Whole : Type 0) → ServesInTurn g Sure known known k k 0 Whole
 connections_begin g Sure known k Whole = record {
   connections = [];
   few = omega arith;
@@ -78,7 +78,7 @@ of_one (Some before) (Some mid) (Some after) connection arrives departs =
     (arrives.0 ∙ ap (λ cs. connection.arrival ∷ cs) (sym departs.0), departs.1 ∙ ap (λ gs. gs ++ connection.departure ∷ []) arrives.1)
 
 -- one arrives, and departs once it was conversed with
-pub connections_one : {S : Type 0} (g : Ghosts S) (Sure : Type 0) (before mid after : Option ClientList) (old new : Kept S) (now : ℕ) (input output : Option (List ℕ))
+pub connections_one : {S : Type 0} (g : Ghosts S) (Sure : Type 0) (before mid after : Option ClientList) (old new : KeeperState S) (now : ℕ) (input output : Option (List ℕ))
     (Room : ℕ → Type 0) (departure : Departure) (Whole : Type 0)
     → old.is_open ≡ true → Accepts before mid now input output Room → Departs mid after departure
     → ConversesOnce g (desk old input output) (desk new departure.input departure.output) now Sure Room
@@ -102,7 +102,7 @@ connections_one g Sure before mid after old new now input output Room departure 
 
 -- ---- one client after others
 
-turns_join : {S : Type 0} (g : Ghosts S) (Sure : Type 0) (first more : List Connection) (old mid new : Kept S)
+turns_join : {S : Type 0} (g : Ghosts S) (Sure : Type 0) (first more : List Connection) (old mid new : KeeperState S)
     → AreServedInTurn g Sure first old mid → AreServedInTurn g Sure more mid new → AreServedInTurn g Sure (first ++ more) old new
 turns_join g Sure [] more old mid new first then = subst (λ k. AreServedInTurn g Sure more k new) first then
 turns_join g Sure (connection ∷ connections) more old mid new first then = (first.0, first.1, turns_join g Sure connections more first.0 mid new first.2 then)
@@ -128,7 +128,7 @@ still_over (Some mid) None more there over = absurd there
 still_over (Some mid) (Some after) more there over = last_empty (map (λ v. v.arrival) more) after.waiting (sym over ∙ there.0)
 
 -- so many were served, and then one more
-pub connections_next : {S : Type 0} (g : Ghosts S) (Sure : Type 0) (before mid after : Option ClientList) (old between new : Kept S) (n : ℕ) (Last Whole : Type 0)
+pub connections_next : {S : Type 0} (g : Ghosts S) (Sure : Type 0) (before mid after : Option ClientList) (old between new : KeeperState S) (n : ℕ) (Last Whole : Type 0)
     → (Whole → Last) → ServesInTurn g Sure before mid old between n (Unit {0}) → ServesInTurn g Sure mid after between new 1 Last
     → ServesInTurn g Sure before after old new (n + 1) Whole
 connections_next g Sure before mid after old between new n Last Whole from first last = record {
@@ -146,7 +146,7 @@ connections_next g Sure before mid after old between new n Last Whole from first
     joined (inl many) (inl one) = inl (omega (arith, many, one, length-append first.connections last.connections))
 
 -- where a fault ends it, more might have been served
-pub connections_within : {S : Type 0} (g : Ghosts S) (Sure : Type 0) (before after : Option ClientList) (old new : Kept S) (n max : ℕ) (Whole : Type 0)
+pub connections_within : {S : Type 0} (g : Ghosts S) (Sure : Type 0) (before after : Option ClientList) (old new : KeeperState S) (n max : ℕ) (Whole : Type 0)
     → n ≤ max → ¬ Whole → ServesInTurn g Sure before after old new n ⊥ → ServesInTurn g Sure before after old new max Whole
 connections_within g Sure before after old new n max Whole less fails serves = record {
   connections = serves.connections;

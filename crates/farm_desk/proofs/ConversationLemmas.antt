@@ -13,7 +13,7 @@ use Rattle.farm_types.specs.Machine.{answer, step, run}
 use Rattle.farm_types.specs.Refuse.{kind_of}
 use Rattle.farm_types.specs.declared.calls.Call.{Call}
 use Rattle.farm_types.specs.declared.rows.Reply.{Reply}
-use Rattle.farm_keep.specs.Kept.{Kept, Keeps}
+use Rattle.farm_keep.specs.KeeperState.{KeeperState, KeepsOwnFarm}
 use Rattle.farm_keep.specs.Restarts.{answer_again}
 use Rattle.farm_keep.proofs.KeptLemmas.{again_kept}
 use Rattle.farm_wire.specs.Reading.{Denial}
@@ -21,11 +21,11 @@ use Rattle.farm_wire.specs.declared.ask.Ask.{Ask}
 use Rattle.farm_wire.specs.declared.ask.View.{View}
 use Rattle.farm_wire.specs.declared.answers.Out.{Out}
 use Rattle.farm_desk.specs.Received.{Asks, Receives}
-use Rattle.farm_desk.specs.Answers.{Answers, Encodes, Shows, IsView, out_of_denial, out_of_answer}
+use Rattle.farm_desk.specs.Answers.{Answers, Encodes, ShowsView, IsView, out_of_denial, out_of_answer}
 use Rattle.farm_desk.specs.Response.{IsResponse}
 use Rattle.farm_desk.specs.Ends.{IsAnswered}
 use Rattle.farm_desk.specs.Imports.{Reaches}
-use Rattle.farm_desk.specs.Conversations.{Desk, Converses, Conversation, ConverseInTurn, ConverseApart, AnswersAll, StopsAt, Exchange, conversation_of, calls_in, calls_of, IsMachineAnswer, AreAnswered, ActAsRun, AnsweredActAsRun, IsSentAgain}
+use Rattle.farm_desk.specs.Conversations.{Desk, Converses, Conversation, ConverseInTurn, ConverseApart, AnswersAll, StopsAt, Exchange, conversation_of, call_asked, calls_of, IsMachineAnswer, AreAnswered, ActAsRun, AnsweredActAsRun, IsSentAgain}
 use Rattle.farm_desk.specs.declared.fault.DeskFault.{DeskFault}
 
 -- ---- two lists
@@ -109,26 +109,26 @@ has_response g old new now (Err (DeskFault.File fault)) h = inr (written_respons
 -- ---- one answer
 
 -- what an answer shows of the keeper
-pub record IsReached {S : Type 0} (g : Ghosts S) (old new : Kept S) (asked : Result Ask Denial) (bytes : List ℕ) (status : ℕ) : Type 0 where
+pub record IsReached {S : Type 0} (g : Ghosts S) (old new : KeeperState S) (asked : Result Ask Denial) (bytes : List ℕ) (status : ℕ) : Type 0 where
   pub out : Out
   pub machine : IsMachineAnswer old.farm.farm asked out
   pub encodes : Encodes out bytes status
-  pub reaches : Reaches g old new (calls_in asked)
+  pub reaches : Reaches g old new (call_asked asked)
 
 -- an unchanged keeper has the farm after no calls
-pub reaches_nothing : {S : Type 0} (g : Ghosts S) (old new : Kept S) → new ≡ old → Reaches g old new []
+pub reaches_nothing : {S : Type 0} (g : Ghosts S) (old new : KeeperState S) → new ≡ old → Reaches g old new []
 reaches_nothing g old new unchanged =
     record {
       opened = ap (λ k. k.is_open) unchanged;
       farm = ap (λ k. k.farm.farm) unchanged;
-      keeps = λ keeps. subst (λ k. Keeps g k) (sym unchanged) keeps;
+      keeps = λ keeps. subst (λ k. KeepsOwnFarm g k) (sym unchanged) keeps;
     }
 
-shown : {S : Type 0} (g : Ghosts S) (old new : Kept S) (view : View) (bytes : List ℕ) (status : ℕ)
-    → Shows old new view bytes status → (out : Out) × IsView view old.farm.farm out × Encodes out bytes status × Reaches g old new []
+shown : {S : Type 0} (g : Ghosts S) (old new : KeeperState S) (view : View) (bytes : List ℕ) (status : ℕ)
+    → ShowsView old new view bytes status → (out : Out) × IsView view old.farm.farm out × Encodes out bytes status × Reaches g old new []
 shown g old new view bytes status a = (a.out, a.shows, a.encodes, reaches_nothing g old new a.unchanged)
 
-pub reached : {S : Type 0} (g : Ghosts S) (old new : Kept S) (asked : Result Ask Denial) (bytes : List ℕ) (status : ℕ)
+pub reached : {S : Type 0} (g : Ghosts S) (old new : KeeperState S) (asked : Result Ask Denial) (bytes : List ℕ) (status : ℕ)
     → Answers g old new asked bytes status → IsReached g old new asked bytes status
 reached g old new (Err why) bytes status a =
     record { out = out_of_denial why; machine = refl; encodes = a.encodes; reaches = reaches_nothing g old new a.unchanged }
@@ -166,7 +166,7 @@ pub record IsOne {S : Type 0} (g : Ghosts S) (old new : Desk S) (input held : Li
   pub machine : IsMachineAnswer old.keeper.farm.farm exchange.asked exchange.out
   pub encodes : Encodes exchange.out exchange.answer exchange.status
   pub written : new.output ≡ Some (held ++ exchange.answer)
-  pub reaches : Reaches g old.keeper new.keeper (calls_in exchange.asked)
+  pub reaches : Reaches g old.keeper new.keeper (call_asked exchange.asked)
 
 not_memory : (status : ℕ) → Ok status ≡ Err DeskFault.NoMemory → ⊥
 not_memory status e = cc
@@ -200,7 +200,7 @@ one g old new input held now (Ok status) i o ok h =
 one g old new input held now (Err fault) i o ok h = absurd (let no : false ≡ true = ok in cc)
 
 -- one call list after another
-pub reaches_on : {S : Type 0} (g : Ghosts S) (old next new : Kept S) (first others : List Call) → Reaches g old next first → Reaches g next new others → Reaches g old new (first ++ others)
+pub reaches_on : {S : Type 0} (g : Ghosts S) (old next new : KeeperState S) (first others : List Call) → Reaches g old next first → Reaches g next new others → Reaches g old new (first ++ others)
 reaches_on g old next new first others a b =
     record {
       opened = b.opened ∙ a.opened;
@@ -221,7 +221,7 @@ acts_on g conversation conversations old next new input held x xs all =
       received = (x.rest, x.taken, x.asks, all.received);
       answers = (x.machine, x.encodes, subst (λ F. AreAnswered F xs) x.reaches.farm all.answers);
       written = all.written ∙ ap (λ l. Some l) (append_assoc held x.exchange.answer (flat_map (λ y. y.answer) xs));
-      reaches = reaches_on g old.keeper next.keeper new.keeper (calls_in x.exchange.asked) (calls_of xs) x.reaches all.reaches;
+      reaches = reaches_on g old.keeper next.keeper new.keeper (call_asked x.exchange.asked) (calls_of xs) x.reaches all.reaches;
     }
 
 pub acts_as_run : {S : Type 0} (g : Ghosts S) → AnsweredActAsRun g
@@ -249,14 +249,14 @@ acts_as_run g (conversation ∷ conversations) old new input held i o ok h =
 pub answered_at : (F : Farm) (before after : List Exchange) (x : Exchange) → AreAnswered F (before ++ x ∷ after) → IsMachineAnswer (run F (calls_of before)) x.asked x.out
 answered_at F [] after x h = h.0
 answered_at F (y ∷ before) after x h =
-    subst (λ G. IsMachineAnswer G x.asked x.out) (sym (fold-append step F (calls_in y.asked) (calls_of before)))
-    (answered_at (run F (calls_in y.asked)) before after x h.2)
+    subst (λ G. IsMachineAnswer G x.asked x.out) (sym (fold-append step F (call_asked y.asked) (calls_of before)))
+    (answered_at (run F (call_asked y.asked)) before after x h.2)
 
 calls_through : (before between : List Exchange) (first : Exchange) (call : Call) → first.asked ≡ Ok (Ask.Call call)
     → calls_of (before ++ first ∷ between) ≡ calls_of before ++ call ∷ calls_of between
 calls_through before between first call asks =
-    flat_map-append (λ x. calls_in x.asked) before (first ∷ between)
-    ∙ ap (λ asked. calls_of before ++ (calls_in asked ++ calls_of between)) asks
+    flat_map-append (λ x. call_asked x.asked) before (first ∷ between)
+    ∙ ap (λ asked. calls_of before ++ (call_asked asked ++ calls_of between)) asks
 
 pub answered_again : (F : Farm) (before between after : List Exchange) (first second : Exchange) (call repeated : Call) (key : List ℕ) (reply : Reply)
     → IsSentAgain F before between after first second call repeated key reply
@@ -269,5 +269,5 @@ answered_again F before between after first second call repeated key reply is =
     subst (λ asked. IsMachineAnswer (run F (calls_of (before ++ first ∷ between))) asked second.out) is.asks_again encodes in
     machine
     ∙ ap (λ calls. out_of_answer (kind_of repeated.cmd) (answer (run F calls) repeated)) (calls_through before between first call is.asks)
-    ∙ ap (λ told. out_of_answer (kind_of repeated.cmd) told)
+    ∙ ap (λ given. out_of_answer (kind_of repeated.cmd) given)
     (again_kept F (calls_of before) (calls_of between) call repeated key reply is.keyed is.same_key is.same_caller is.accepted)

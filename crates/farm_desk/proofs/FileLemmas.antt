@@ -12,12 +12,12 @@ use Rattle.sqlite_store.specs.declared.store.FileStore.{FileStore}
 use Rattle.sqlite_trees.specs.Objects.{catalog_tree}
 use Rattle.sqlite_trees.specs.declared.store.Store as store
 use Rattle.sqlite_wal.specs.Recovery.{Image}
-use Rattle.farm_store.specs.Columns.{Tables, rows_of}
+use Rattle.farm_store.specs.Columns.{TableRows, rows_of}
 use Rattle.farm_store.specs.Holds.{Holds, Stands}
 use Rattle.farm_store.specs.Schema.{farm_schema, no_schema}
 use Rattle.farm_store.proofs.Listed.{lists_one}
 use Rattle.farm_keep.specs.Headline.{Adopts, GivesNoKeeper}
-use Rattle.farm_keep.specs.Kept.{Kept}
+use Rattle.farm_keep.specs.KeeperState.{KeeperState}
 use Rattle.farm_keep.specs.declared.fault.KeepFault.{KeepFault}
 use Rattle.farm_desk.specs.InFiles.{AreFarms, AreFree, DeniesFarm, DeniesTables, FindsFarm, FindsTables, HoldsTables, IsFoundIn, ListFarm, ListNothing, MakesFarm, MakesTables, OpensTables, ShowsFiles}
 use Rattle.farm_desk.specs.declared.fault.DeskFault.{DeskFault}
@@ -26,13 +26,13 @@ use Rattle.farm_desk.specs.declared.fault.DeskFault.{DeskFault}
 
 -- a connection that was opened on tables represents them
 abbrev pub IsStanding : {S : Type 0} → store.Ghosts S → Held S → Type 0
-IsStanding {S} g conn = Opens (state g conn) → IsLive (state g conn) → (T : Tables) → Holds (state g conn).committed.trees T → Stands (state g conn) T
+IsStanding {S} g conn = Opens (state g conn) → IsLive (state g conn) → (T : TableRows) → Holds (state g conn).committed.trees T → Stands (state g conn) T
 
-pub stands_on : {S : Type 0} (g : store.Ghosts S) (conn : Held S) (T : Tables) → IsStanding g conn → OpensTables g conn T → Stands (state g conn) T
+pub stands_on : {S : Type 0} (g : store.Ghosts S) (conn : Held S) (T : TableRows) → IsStanding g conn → OpensTables g conn T → Stands (state g conn) T
 stands_on g conn T standing on = standing on.opens on.live T on.holds
 
 -- a keeper that was adopted has the farm that the connection was opened on
-pub finds_tables : {S : Type 0} (g : store.Ghosts S) (conn : Held S) (k : Kept S) → IsStanding g conn → Adopts g conn k → FindsTables g conn k
+pub finds_tables : {S : Type 0} (g : store.Ghosts S) (conn : Held S) (k : KeeperState S) → IsStanding g conn → Adopts g conn k → FindsTables g conn k
 finds_tables g conn k standing made = record {
   opened = made.opened;
   sound = made.sound;
@@ -54,14 +54,14 @@ denies_tables g conn KeepFault.Store standing denied = tt
 denies_tables g conn KeepFault.Closed standing denied = tt
 
 -- where the tables are made, it was opened on none
-pub makes_free : {S : Type 0} (g : store.Ghosts S) (conn : Held S) → IsStanding g conn → ((T : Tables) → ¬ Stands (state g conn) T)
-    → (T : Tables) → ¬ OpensTables g conn T
+pub makes_free : {S : Type 0} (g : store.Ghosts S) (conn : Held S) → IsStanding g conn → ((T : TableRows) → ¬ Stands (state g conn) T)
+    → (T : TableRows) → ¬ OpensTables g conn T
 makes_free g conn standing free T on = free T (stands_on g conn T standing on)
 
 -- ---- over files
 
 -- a connection that was just opened on files with these tables was opened on the tables
-pub opens_tables : {D : Type 0} {g : Ghosts D} (image : Image) (conn : Held (FileStore D g)) (T : Tables) → ShowsFiles image conn
+pub opens_tables : {D : Type 0} {g : Ghosts D} (image : Image) (conn : Held (FileStore D g)) (T : TableRows) → ShowsFiles image conn
     → HasCleanDisk (file_state conn) → HoldsTables image T → OpensTables over_files conn T
 opens_tables image conn T shows clean held =
     let open_now = shows.opened clean in
@@ -97,7 +97,7 @@ found_in image conn shows clean =
     })
 
 -- the files of a connection on which a farm was found hold that farm
-are_farms : {D : Type 0} {g : Ghosts D} (image : Image) (conn : Held (FileStore D g)) (k : Kept (FileStore D g))
+are_farms : {D : Type 0} {g : Ghosts D} (image : Image) (conn : Held (FileStore D g)) (k : KeeperState (FileStore D g))
     → FindsTables over_files conn k → ShowsFiles image conn → HasCleanDisk (file_state k.conn) → AreFarms image k.farm.farm
 are_farms image conn k made shows clean =
     let early : HasCleanDisk (file_state conn) = omega (arith, made.clean) in
@@ -109,7 +109,7 @@ are_farms image conn k made shows clean =
     }
 
 -- a keeper that was adopted from a store that was opened has the farm of its files
-pub finds_farm : {D : Type 0} {g : Ghosts D} (image : Image) (conn : Held (FileStore D g)) (k : Kept (FileStore D g))
+pub finds_farm : {D : Type 0} {g : Ghosts D} (image : Image) (conn : Held (FileStore D g)) (k : KeeperState (FileStore D g))
     → FindsTables over_files conn k → ShowsFiles image conn → FindsFarm image k
 finds_farm image conn k made shows = record {
   opened = made.opened;
@@ -138,7 +138,7 @@ denies_farm image conn DeskFault.Write clean denied shows = tt
 denies_farm image conn (DeskFault.File fault) clean denied shows = tt
 
 -- the files of a connection that showed no table were free
-are_free : {D : Type 0} {g : Ghosts D} (image : Image) (conn : Held (FileStore D g)) (k : Kept (FileStore D g))
+are_free : {D : Type 0} {g : Ghosts D} (image : Image) (conn : Held (FileStore D g)) (k : KeeperState (FileStore D g))
     → MakesTables over_files conn k → ShowsFiles image conn → HasCleanDisk (file_state k.conn) → AreFree image
 are_free image conn k made shows clean =
     let early : HasCleanDisk (file_state conn) = omega (arith, made.clean) in
@@ -150,7 +150,7 @@ are_free image conn k made shows clean =
     }
 
 -- a keeper that was made in a store that was opened has the empty farm, and keeps it
-pub makes_farm : {D : Type 0} {g : Ghosts D} (image : Image) (conn : Held (FileStore D g)) (k : Kept (FileStore D g))
+pub makes_farm : {D : Type 0} {g : Ghosts D} (image : Image) (conn : Held (FileStore D g)) (k : KeeperState (FileStore D g))
     → MakesTables over_files conn k → ShowsFiles image conn → MakesFarm image k
 makes_farm image conn k made shows = record {
   opened = made.opened;

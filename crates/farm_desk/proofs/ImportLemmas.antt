@@ -12,7 +12,7 @@ use Rattle.farm_types.specs.declared.calls.Call.{Call}
 use Rattle.farm_types.specs.declared.refusal.Refusal.{Refusal}
 use Rattle.farm_core.specs.Answers.{IsChange, answer_of}
 use Rattle.farm_keep.specs.Faults.{IsActFault}
-use Rattle.farm_keep.specs.Kept.{Kept, Keeps, KeepsFarm, KeepsEither, IfNoChange}
+use Rattle.farm_keep.specs.KeeperState.{KeeperState, KeepsOwnFarm, KeepsFarm, KeepsEither, IfNoChange}
 use Rattle.farm_keep.specs.Runs.{answers_of}
 use Rattle.farm_keep.specs.declared.fault.KeepFault.{KeepFault}
 use Rattle.farm_keep.proofs.RunLemmas.{answers_more, next_change, run_more}
@@ -132,9 +132,9 @@ counts_out (Denied code) old new given refusal some counts = (ap code_given (sym
 -- ---- how it ends
 
 -- a call was refused
-pub stopped_at : {S : Type 0} (g : Ghosts S) (old mid new : Kept S) (calls : List Call) (i done : ℕ) (call : Call) (code : ℕ)
+pub stopped_at : {S : Type 0} (g : Ghosts S) (old mid new : KeeperState S) (calls : List Call) (i done : ℕ) (call : Call) (code : ℕ)
     → IsNext old.farm.farm mid.farm.farm calls i call (Denied code) → done ≡ i
-    → mid.is_open ≡ old.is_open → (Keeps g old → Keeps g mid) → new ≡ mid
+    → mid.is_open ≡ old.is_open → (KeepsOwnFarm g old → KeepsOwnFarm g mid) → new ≡ mid
     → IsStopped g old new calls done (done + 1) code
 stopped_at g old mid new calls i done call code turn same opened keeps unchanged =
     subst (λ n. IsStopped g old new calls n (n + 1) code) (sym same) (record {
@@ -145,8 +145,8 @@ stopped_at g old mid new calls i done call code turn same opened keeps unchanged
     })
 
 -- all calls were done
-pub whole_at : {S : Type 0} (g : Ghosts S) (old new : Kept S) (calls : List Call) (i done : ℕ) → length calls ≤ i → done ≡ i → done ≤ length calls
-    → new.is_open ≡ old.is_open → new.farm.farm ≡ run old.farm.farm (take i calls) → (Keeps g old → Keeps g new)
+pub whole_at : {S : Type 0} (g : Ghosts S) (old new : KeeperState S) (calls : List Call) (i done : ℕ) → length calls ≤ i → done ≡ i → done ≤ length calls
+    → new.is_open ≡ old.is_open → new.farm.farm ≡ run old.farm.farm (take i calls) → (KeepsOwnFarm g old → KeepsOwnFarm g new)
     → ImportsAll g old new calls done
 whole_at g old new calls i done far same within opened farm keeps = record {
   all = omega (arith, far, same, within);
@@ -164,12 +164,12 @@ abbrev acted : KeepFault → Result Answer KeepFault
 acted fault = Err fault
 
 -- the keeper returned a fault at a call
-pub faulted_at : {S : Type 0} (g : Ghosts S) (old mid new : Kept S) (calls : List Call) (i done : ℕ) (call : Call) (fault : KeepFault)
+pub faulted_at : {S : Type 0} (g : Ghosts S) (old mid new : KeeperState S) (calls : List Call) (i done : ℕ) (call : Call) (fault : KeepFault)
     → i < length calls → call ≡ get_or calls i call → mid.farm.farm ≡ run old.farm.farm (take i calls) → done ≡ i
-    → mid.is_open ≡ old.is_open → (Keeps g old → Keeps g mid) → (old.is_open ≡ false → (i ≡ 0) × (mid ≡ old))
+    → mid.is_open ≡ old.is_open → (KeepsOwnFarm g old → KeepsOwnFarm g mid) → (old.is_open ≡ false → (i ≡ 0) × (mid ≡ old))
     → (acted fault ≡ Err KeepFault.NoMemory → (new.is_open ≡ false) × (new.conn ≡ mid.conn) × IsChange (answer mid.farm.farm call))
     → (acted fault ≡ Err KeepFault.Store → (new.is_open ≡ false) × IsChange (answer mid.farm.farm call)
-    × (Keeps g mid → KeepsEither g new mid.farm.farm (step mid.farm.farm call)))
+    × (KeepsOwnFarm g mid → KeepsEither g new mid.farm.farm (step mid.farm.farm call)))
     → (acted fault ≡ Err KeepFault.Closed ↔ mid.is_open ≡ false)
     → (acted fault ≡ Err KeepFault.Closed → new ≡ mid)
     → IsActFault fault

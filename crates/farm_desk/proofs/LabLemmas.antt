@@ -5,7 +5,7 @@ use Rattle.std.specs.Option.{option_map}
 use Rattle.std.specs.Io.Take.{take_inner, take_limit, take_remaining}
 use Rattle.std.specs.declared.io.traits.Take.{Take}
 use Rattle.sqlite_trees.specs.declared.store.Store.{Ghosts}
-use Rattle.farm_keep.specs.Kept.{Kept}
+use Rattle.farm_keep.specs.KeeperState.{KeeperState}
 use Rattle.farm_desk.specs.Tasks.{ImportsFile}
 use Rattle.farm_desk.specs.declared.fault.DeskFault.{DeskFault}
 use Rattle.farm_desk.proofs.LineLemmas.{keeps_same}
@@ -24,7 +24,7 @@ taken_bytes remaining limited reader n held bytes limit inner empty h =
     first_bytes (remaining reader) n bytes (subst (λ e. IfSome (option_map (take n) (remaining reader)) (λ some. bytes ≡ e ++ some)) empty of_limit)
 
 -- where no lab file can be read, nothing is done
-pub unread_lab : {S : Type 0} {Room : ℕ → Type 0} (g : Ghosts S) (lab : Option (List ℕ)) (k : Kept S) (held : Option (List ℕ)) (now : ℕ) (fault : DeskFault)
+pub unread_lab : {S : Type 0} {Room : ℕ → Type 0} (g : Ghosts S) (lab : Option (List ℕ)) (k : KeeperState S) (held : Option (List ℕ)) (now : ℕ) (fault : DeskFault)
     → (fault ≡ DeskFault.NoMemory) ⊎ (fault ≡ DeskFault.Read) → ImportsFile g Room lab k k held held now (Err fault)
 unread_lab g lab k held now fault (inl e) = inr (inl (record { fault_is = ap (λ f. Err f) e; unchanged = refl; nothing_written = keeps_same held }))
 unread_lab g lab k held now fault (inr e) = inr (inr (record { fault_is = ap (λ f. Err f) e; unchanged = refl; nothing_written = keeps_same held }))

@@ -9,14 +9,14 @@ use Rattle.farm_types.specs.Machine.{answer, step, run}
 use Rattle.farm_types.specs.declared.calls.Call.{Call}
 use Rattle.farm_core.specs.Answers.{IsChange}
 use Rattle.farm_store.specs.Holds.{StandsFor}
-use Rattle.farm_keep.specs.Kept.{Kept, Keeps, KeepsFarm, KeepsEither}
+use Rattle.farm_keep.specs.KeeperState.{KeeperState, KeepsOwnFarm, KeepsFarm, KeepsEither}
 use Rattle.farm_keep.specs.declared.fault.KeepFault.{KeepFault}
 use Rattle.farm_wire.specs.Reading.{Denial}
 use Rattle.farm_wire.specs.declared.ask.Ask.{Ask}
 use Rattle.farm_desk.specs.Received.{Receives}
 use Rattle.farm_desk.specs.Response.{IsResponse, IsResponseTo, UnchangedOrDone, IsCause}
 use Rattle.farm_desk.specs.Imports.{Reaches}
-use Rattle.farm_desk.specs.Conversations.{Desk, Converses, Conversation, ConverseInTurn, calls_in, AsksCalls, IsDoneOf, LeavesOpen, LeavesBy, IsClosing, OpenKeepsDone, ClosedKeepsPrefix}
+use Rattle.farm_desk.specs.Conversations.{Desk, Converses, Conversation, ConverseInTurn, call_asked, AsksCalls, IsDoneOf, LeavesOpen, LeavesBy, IsClosing, OpenKeepsDone, ClosedKeepsPrefix}
 use Rattle.farm_desk.specs.declared.fault.DeskFault.{DeskFault}
 use Rattle.farm_desk.proofs.ConversationLemmas.{HasResponse, has_response, reached, reaches_nothing, reaches_on}
 
@@ -26,7 +26,7 @@ both_ways : {A : Type 0} (b : Bool) → b ≡ true → b ≡ false → A
 both_ways b opened closed = absurd (let same : true ≡ false = sym opened ∙ closed in cc)
 
 -- the keeper stays as open as it was, or is closed
-asked_closes : {S : Type 0} (g : Ghosts S) (old new : Kept S) (asked : Result Ask Denial) (bytes : List ℕ) (end : Result ℕ DeskFault)
+asked_closes : {S : Type 0} (g : Ghosts S) (old new : KeeperState S) (asked : Result Ask Denial) (bytes : List ℕ) (end : Result ℕ DeskFault)
     → IsResponseTo g old new asked bytes end → (new.is_open ≡ old.is_open) ⊎ (new.is_open ≡ false)
 asked_closes g old new asked bytes (Ok status) response = inl (reached g old new asked bytes status response).reaches.opened
 asked_closes g old new asked bytes (Err DeskFault.NoMemory) response = inl response.stays_open
@@ -114,10 +114,10 @@ asked_part : {S : Type 0} (g : Ghosts S) (old new : Desk S) (now : ℕ) (end res
     → IsResponseTo g old.keeper new.keeper asked bytes response_end → IsPart g old new now end
 asked_part g old new now end (Ok status) asked bytes same opened receives response =
     record {
-      done = calls_in asked;
-      asked = calls_in asked;
+      done = call_asked asked;
+      asked = call_asked asked;
       asks = inl (asked, receives, refl);
-      done_of = all_of end (calls_in asked);
+      done_of = all_of end (call_asked asked);
       reaches = (reached g old.keeper new.keeper asked bytes status response).reaches;
     }
 asked_part g old new now end (Err DeskFault.NoMemory) asked bytes same opened receives response =
@@ -169,10 +169,10 @@ pub record IsCut {S : Type 0} (g : Ghosts S) (old new : Desk S) (now : ℕ) (end
   pub asks : AsksCalls old.input new.input now (call ∷ [])
   pub change : IsChange (answer old.keeper.farm.farm call)
   pub closing : IsClosing end
-  pub leaves : Keeps g old.keeper → LeavesBy g new.keeper end old.keeper.farm.farm (step old.keeper.farm.farm call)
+  pub leaves : KeepsOwnFarm g old.keeper → LeavesBy g new.keeper end old.keeper.farm.farm (step old.keeper.farm.farm call)
 
 -- a store that represents a farm leaves no other
-keeps_either : {S : Type 0} (g : Ghosts S) (k : Kept S) (F G : Farm) → KeepsFarm g k F → KeepsEither g k F G
+keeps_either : {S : Type 0} (g : Ghosts S) (k : KeeperState S) (F G : Farm) → KeepsFarm g k F → KeepsEither g k F G
 keeps_either g k F G keeps clean db may = inl ((keeps clean).left db may)
 
 cut_by : {S : Type 0} (g : Ghosts S) (old new : Desk S) (now : ℕ) (end : Result ℕ DeskFault) (what : Ask) (fault : KeepFault)
@@ -180,7 +180,7 @@ cut_by : {S : Type 0} (g : Ghosts S) (old new : Desk S) (now : ℕ) (end : Resul
     → IsCause g old.keeper new.keeper what fault → IsCut g old new now end
 cut_by g old new now end what KeepFault.Closed opened same receives cause = both_ways old.keeper.is_open opened cause.was_closed
 cut_by g old new now end (Ask.Call call) KeepFault.NoMemory opened same receives cause =
-    let kept : Keeps g old.keeper → KeepsFarm g new.keeper old.keeper.farm.farm =
+    let kept : KeepsOwnFarm g old.keeper → KeepsFarm g new.keeper old.keeper.farm.farm =
     λ keeps. subst (λ conn. StandsFor (state g conn) old.keeper.farm.farm) (sym cause.store) keeps in
     record {
       call = call;

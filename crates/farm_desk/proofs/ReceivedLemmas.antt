@@ -10,7 +10,7 @@ use Rattle.farm_http.specs.declared.fault.WireFault.{WireFault}
 use Rattle.farm_http.specs.declared.fault.WireFault.TheVariants.{NoMemory, Read, Write, Refused}
 use Rattle.farm_wire.specs.Asked.{ask}
 use Rattle.farm_types.specs.Reads.{FaultOrNoMemory}
-use Rattle.farm_wire.specs.Reading.{Denial, denial_told, refused, other_methods}
+use Rattle.farm_wire.specs.Reading.{Denial, denial_of, refused, other_methods}
 use Rattle.farm_wire.specs.declared.ask.Ask.{Ask}
 use Rattle.farm_wire.specs.declared.fault.AskFault.{AskFault}
 use Rattle.farm_desk.specs.Received.{plain_ask, receive_error, IsMeant, Asks, Receives, ReceivesWhole, ReceivesResult}
@@ -80,7 +80,7 @@ receive_fails input rest now Spent (Refused refusal) known fails = receives_refu
 -- one was read, and it asks nothing
 pub receives_bad_request : (input rest : Option (List ℕ)) (now : ℕ) (Spent : Type 0) (taken : Taken) (fault : AskFault)
     → Known input rest Spent (Ok taken)
-    → ((request : Request) → ParsesTo taken.bytes.items taken.head request → FaultOrNoMemory (denial_told fault) (ask request now))
+    → ((request : Request) → ParsesTo taken.bytes.items taken.head request → FaultOrNoMemory (denial_of fault) (ask request now))
     → ReceivesResult input rest now Spent (Err (ReceiveError.BadRequest fault))
 receives_bad_request input rest now Spent taken AskFault.NoMemory known means = receives_whole input rest Spent taken known
 receives_bad_request input rest now Spent taken (AskFault.Refused refusal) known means =

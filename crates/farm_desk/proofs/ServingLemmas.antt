@@ -8,7 +8,7 @@ use Rattle.farm_types.specs.Farm.{Farm}
 use Rattle.farm_types.specs.Machine.{answer, run, step}
 use Rattle.farm_types.specs.declared.calls.Call.{Call}
 use Rattle.farm_core.specs.Answers.{IsChange}
-use Rattle.farm_keep.specs.Kept.{Kept, Keeps, KeepsEither, KeepsFarm}
+use Rattle.farm_keep.specs.KeeperState.{KeeperState, KeepsOwnFarm, KeepsEither, KeepsFarm}
 use Rattle.farm_keep.specs.declared.fault.KeepFault.{KeepFault}
 use Rattle.farm_wire.specs.Reading.{Denial}
 use Rattle.farm_wire.specs.declared.ask.Ask.{Ask}
@@ -21,7 +21,7 @@ use Rattle.farm_desk.specs.declared.fault.DeskFault.{DeskFault}
 -- ---- one connection
 
 -- nothing is done
-pub serves_none : {S : Type 0} (g : Ghosts S) (k : Kept S) (max : ℕ) → k.is_open ≡ true → ServesClients g k k max
+pub serves_none : {S : Type 0} (g : Ghosts S) (k : KeeperState S) (max : ℕ) → k.is_open ≡ true → ServesClients g k k max
 serves_none g k max opened = record {
   was_open = opened;
   calls = [];
@@ -29,12 +29,12 @@ serves_none g k max opened = record {
   reaches = record { opened = refl; farm = refl; keeps = λ keeps. keeps };
 }
 
-unchanged : {S : Type 0} (g : Ghosts S) (old new : Kept S) (max : ℕ) → old.is_open ≡ true → new ≡ old → ServesClients g old new max
+unchanged : {S : Type 0} (g : Ghosts S) (old new : KeeperState S) (max : ℕ) → old.is_open ≡ true → new ≡ old → ServesClients g old new max
 unchanged g old new max opened same = subst (λ k. ServesClients g old k max) (sym same) (serves_none g old max opened)
 
 -- a call is done
-serves_call : {S : Type 0} (g : Ghosts S) (old new : Kept S) (call : Call) → old.is_open ≡ true → new.is_open ≡ old.is_open
-    → new.farm.farm ≡ step old.farm.farm call → (Keeps g old → Keeps g new) → ServesClients g old new 1
+serves_call : {S : Type 0} (g : Ghosts S) (old new : KeeperState S) (call : Call) → old.is_open ≡ true → new.is_open ≡ old.is_open
+    → new.farm.farm ≡ step old.farm.farm call → (KeepsOwnFarm g old → KeepsOwnFarm g new) → ServesClients g old new 1
 serves_call g old new call opened stays farm keeps = record {
   was_open = opened;
   calls = call ∷ [];
@@ -42,14 +42,14 @@ serves_call g old new call opened stays farm keeps = record {
   reaches = record { opened = stays; farm = farm; keeps = keeps };
 }
 
-answered : {S : Type 0} (g : Ghosts S) (old new : Kept S) (what : Result Ask Denial) (bytes : List ℕ) (status : ℕ)
+answered : {S : Type 0} (g : Ghosts S) (old new : KeeperState S) (what : Result Ask Denial) (bytes : List ℕ) (status : ℕ)
     → old.is_open ≡ true → Answers g old new what bytes status → ServesClients g old new 1
 answered g old new (Err why) bytes status opened response = unchanged g old new 1 opened response.unchanged
 answered g old new (Ok (Ask.Call call)) bytes status opened response =
     serves_call g old new call opened (response.stays_open ∙ sym response.was_open) response.farm response.keeps
 answered g old new (Ok (Ask.View view)) bytes status opened response = unchanged g old new 1 opened response.unchanged
 
-ran_out : {S : Type 0} (g : Ghosts S) (old new : Kept S) (what : Result Ask Denial)
+ran_out : {S : Type 0} (g : Ghosts S) (old new : KeeperState S) (what : Result Ask Denial)
     → old.is_open ≡ true → new.is_open ≡ old.is_open → UnchangedOrDone g old new what → ServesClients g old new 1
 ran_out g old new (Err why) opened stays same = unchanged g old new 1 opened same
 ran_out g old new (Ok (Ask.Call call)) opened stays (inl same) = unchanged g old new 1 opened same
@@ -60,7 +60,7 @@ ran_out g old new (Ok (Ask.View view)) opened stays same = unchanged g old new 1
 abbrev given : KeepFault → Result ℕ DeskFault
 given fault = Err (DeskFault.Keep fault)
 
-closed : {S : Type 0} (g : Ghosts S) (old new : Kept S) (what : Ask) (fault : KeepFault) (bytes : List ℕ)
+closed : {S : Type 0} (g : Ghosts S) (old new : KeeperState S) (what : Ask) (fault : KeepFault) (bytes : List ℕ)
     → Closes g old new what fault bytes → ServesUntil g old new 1 (given fault)
 closed g old new what KeepFault.Closed bytes response = response.cause
 closed g old new what KeepFault.BadStore bytes response = absurd response.cause
@@ -87,13 +87,13 @@ closed g old new (Ask.Call call) KeepFault.Store bytes response = record {
 closed g old new (Ask.View view) KeepFault.NoMemory bytes response = absurd response.cause
 closed g old new (Ask.View view) KeepFault.Store bytes response = absurd response.cause
 
-closed_if_asked : {S : Type 0} (g : Ghosts S) (old new : Kept S) (what : Result Ask Denial) (fault : KeepFault) (bytes : List ℕ)
+closed_if_asked : {S : Type 0} (g : Ghosts S) (old new : KeeperState S) (what : Result Ask Denial) (fault : KeepFault) (bytes : List ℕ)
     → ClosesIfAsked g old new what fault bytes → ServesUntil g old new 1 (given fault)
 closed_if_asked g old new (Ok what) fault bytes response = closed g old new what fault bytes response
 closed_if_asked g old new (Err why) fault bytes response = absurd response
 
 -- the same fault, of whatever there is besides
-repeated_answer : {S A : Type 0} (g : Ghosts S) (old new : Kept S) (max : ℕ) (fault : KeepFault) → ServesUntil g old new max (given fault)
+repeated_answer : {S A : Type 0} (g : Ghosts S) (old new : KeeperState S) (max : ℕ) (fault : KeepFault) → ServesUntil g old new max (given fault)
     → (writes : Result A DeskFault) → writes ≡ Err (DeskFault.Keep fault) → ServesUntil g old new max writes
 repeated_answer g old new max KeepFault.NoMemory serves writes same = subst (ServesUntil g old new max) (sym same) serves
 repeated_answer g old new max KeepFault.Store serves writes same = subst (ServesUntil g old new max) (sym same) serves
@@ -102,7 +102,7 @@ repeated_answer g old new max KeepFault.BadStore serves writes same = absurd ser
 repeated_answer g old new max KeepFault.OldSchema serves writes same = absurd serves
 repeated_answer g old new max KeepFault.NewSchema serves writes same = absurd serves
 
-asked : {S A : Type 0} (g : Ghosts S) (old new : Kept S) (what : Result Ask Denial) (bytes : List ℕ) (end : Result ℕ DeskFault) (writes : Result A DeskFault)
+asked : {S A : Type 0} (g : Ghosts S) (old new : KeeperState S) (what : Result Ask Denial) (bytes : List ℕ) (end : Result ℕ DeskFault) (writes : Result A DeskFault)
     → old.is_open ≡ true → PassesOn end writes → IsResponseTo g old new what bytes end → ServesUntil g old new 1 writes
 asked g old new what bytes (Ok status) (Ok done) opened passes response = answered g old new what bytes status opened response
 asked g old new what bytes (Ok status) (Err fault) opened passes response = absurd passes
@@ -114,19 +114,19 @@ asked g old new what bytes (Err (DeskFault.File fault)) writes opened passes res
 asked g old new what bytes (Err (DeskFault.Keep fault)) writes opened passes response =
     repeated_answer g old new 1 fault (closed_if_asked g old new what fault bytes response) writes passes
 
-not_understood : {S A : Type 0} (g : Ghosts S) (old new : Kept S) (end : Result ℕ DeskFault) (writes : Result A DeskFault)
+not_understood : {S A : Type 0} (g : Ghosts S) (old new : KeeperState S) (end : Result ℕ DeskFault) (writes : Result A DeskFault)
     → old.is_open ≡ true → PassesOn end writes → end ≡ Err DeskFault.NoMemory → new ≡ old → ServesUntil g old new 1 writes
 not_understood g old new end (Ok done) opened passes short same = unchanged g old new 1 opened same
 not_understood {A = A} g old new end (Err fault) opened passes short same =
     absurd (subst (λ e. PassesOn {A = A} e (Err fault)) short passes)
 
-response_serves : {S A : Type 0} (g : Ghosts S) (old new : Kept S) (input rest : Option (List ℕ)) (now : ℕ) (bytes : List ℕ) (end : Result ℕ DeskFault) (writes : Result A DeskFault)
+response_serves : {S A : Type 0} (g : Ghosts S) (old new : KeeperState S) (input rest : Option (List ℕ)) (now : ℕ) (bytes : List ℕ) (end : Result ℕ DeskFault) (writes : Result A DeskFault)
     → old.is_open ≡ true → PassesOn end writes → IsResponse g old new input rest now bytes end → ServesUntil g old new 1 writes
 response_serves g old new input rest now bytes end writes opened passes (inl response) = asked g old new response.what bytes end writes opened passes response.response
 response_serves g old new input rest now bytes end writes opened passes (inr short) = not_understood g old new end writes opened passes short.fault short.unchanged
 
 -- a conversation, by its end
-pub conversation_serves : {S A : Type 0} (g : Ghosts S) (old new : Kept S) (input rest : Option (List ℕ)) (now : ℕ) (Room : ℕ → Type 0) (failed : _) (held holds : Option (List ℕ))
+pub conversation_serves : {S A : Type 0} (g : Ghosts S) (old new : KeeperState S) (input rest : Option (List ℕ)) (now : ℕ) (Room : ℕ → Type 0) (failed : _) (held holds : Option (List ℕ))
     (end : Result ℕ DeskFault) (writes : Result A DeskFault)
     → old.is_open ≡ true → PassesOn end writes
     → (end ≢ Err DeskFault.Read → WritesAnswer (IsResponse g old new input rest now) Room failed held holds end)
@@ -151,7 +151,7 @@ conversation_serves g old new input rest now Room failed held holds (Err (DeskFa
 run_on : (F G : Farm) (before calls : List Call) → G ≡ run F before → run G calls ≡ run F (before ++ calls)
 run_on F G before calls farm = ap (λ H. run H calls) farm ∙ sym (fold-append step F before calls)
 
-closes_on : {S : Type 0} (g : Ghosts S) (old mid new : Kept S) (n : ℕ) (Leaves Leaves' : List Call → Call → Type 0)
+closes_on : {S : Type 0} (g : Ghosts S) (old mid new : KeeperState S) (n : ℕ) (Leaves Leaves' : List Call → Call → Type 0)
     → (first : ServesClients g old mid n) → ServingCloses g mid new 1 Leaves
     → ((calls : List Call) (call : Call) → Leaves calls call → Leaves' (first.calls ++ calls) call)
     → ServingCloses g old new (n + 1) Leaves'
@@ -166,7 +166,7 @@ closes_on g old mid new n Leaves Leaves' first last further = record {
 }
 
 -- one more connection is served
-pub serves_next : {S A : Type 0} (g : Ghosts S) (old mid new : Kept S) (n : ℕ) (end : Result A DeskFault)
+pub serves_next : {S A : Type 0} (g : Ghosts S) (old mid new : KeeperState S) (n : ℕ) (end : Result A DeskFault)
     → ServesClients g old mid n → ServesUntil g mid new 1 end → ServesUntil g old new (n + 1) end
 serves_next g old mid new n (Ok done) first last = record {
   was_open = first.was_open;
@@ -195,7 +195,7 @@ serves_next g old mid new n (Err DeskFault.Read) first last = absurd last
 serves_next g old mid new n (Err DeskFault.Write) first last = absurd last
 serves_next g old mid new n (Err (DeskFault.File fault)) first last = absurd last
 
-closes_within : {S : Type 0} (g : Ghosts S) (old new : Kept S) (n max : ℕ) (Leaves : List Call → Call → Type 0) → n ≤ max
+closes_within : {S : Type 0} (g : Ghosts S) (old new : KeeperState S) (n max : ℕ) (Leaves : List Call → Call → Type 0) → n ≤ max
     → ServingCloses g old new n Leaves → ServingCloses g old new max Leaves
 closes_within g old new n max Leaves less closes = record {
   was_open = closes.was_open;
@@ -208,7 +208,7 @@ closes_within g old new n max Leaves less closes = record {
 }
 
 -- more connections might have been served
-pub serves_within : {S A : Type 0} (g : Ghosts S) (old new : Kept S) (n max : ℕ) (end : Result A DeskFault) → n ≤ max
+pub serves_within : {S A : Type 0} (g : Ghosts S) (old new : KeeperState S) (n max : ℕ) (end : Result A DeskFault) → n ≤ max
     → ServesUntil g old new n end → ServesUntil g old new max end
 serves_within g old new n max (Ok done) less serves =
     record { was_open = serves.was_open; calls = serves.calls; few = omega (arith, less, serves.few); reaches = serves.reaches }

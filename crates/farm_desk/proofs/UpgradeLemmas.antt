@@ -11,7 +11,7 @@ use Rattle.sqlite_trees.specs.View.{doubt}
 use Rattle.sqlite_trees.specs.declared.store.Store as store
 use Rattle.sqlite_wal.specs.Recovery.{Image}
 use Rattle.std.specs.Prelude.{◌≤◌}
-use Rattle.farm_store.specs.Columns.{IsOfSchema, Tables, first_rows_of, rows_of, second_schema}
+use Rattle.farm_store.specs.Columns.{IsOfSchema, TableRows, first_rows_of, rows_of, second_schema}
 use Rattle.farm_store.specs.Holds.{Holds, Stands}
 use Rattle.farm_types.specs.Farm.{Farm}
 use Rattle.farm_keep.specs.First.{IsSoundFirst}
@@ -27,7 +27,7 @@ use Rattle.farm_desk.proofs.FileLemmas.{IsStanding, opens_tables, stands_on}
 pub raises_tables : {S : Type 0} (g : store.Ghosts S) (conn new : Held S) → IsStanding g conn
     → doubt (state g conn).is_clean ≤ doubt (state g new).is_clean
     → (HasCleanDisk (state g new) → (F : Farm) → IsSoundFirst F → Stands (state g conn) (first_rows_of F) → Stands (state g new) (rows_of F))
-    → (HasCleanDisk (state g new) → (T : Tables) → Stands (state g conn) T → AreFirst T)
+    → (HasCleanDisk (state g new) → (T : TableRows) → Stands (state g conn) T → AreFirst T)
     → RaisesTables g conn new
 raises_tables g conn new standing quiet raised only = record {
   clean = quiet;
@@ -38,7 +38,7 @@ raises_tables g conn new standing quiet raised only = record {
 -- one that isn't raised was opened on no such tables
 pub denies_raise : {S : Type 0} (g : store.Ghosts S) (conn : Held S) (fault : KeepFault) → IsStanding g conn
     → (fault ≡ KeepFault.BadStore → (F : Farm) → IsSoundFirst F → ¬ Stands (state g conn) (first_rows_of F))
-    → (fault ≡ KeepFault.NewSchema → (T : Tables) → Stands (state g conn) T → IsOfSchema second_schema T)
+    → (fault ≡ KeepFault.NewSchema → (T : TableRows) → Stands (state g conn) T → IsOfSchema second_schema T)
     → DeniesRaise g conn (DeskFault.Keep fault)
 denies_raise g conn KeepFault.BadStore standing bad newer = λ F sound on. bad refl F sound (stands_on g conn (first_rows_of F) standing on)
 denies_raise g conn KeepFault.NewSchema standing bad newer = λ T on. newer refl T (stands_on g conn T standing on)

@@ -12,7 +12,7 @@ use Rattle.farm_types.specs.declared.rows.BoardRow.{BoardRow}
 use Rattle.farm_types.specs.declared.rows.ResRow.{ResRow}
 use Rattle.farm_types.specs.declared.rows.JobRow.{JobRow}
 use Rattle.farm_types.specs.Refusals.{no_job}
-use Rattle.farm_keep.specs.Kept.{Kept, Keeps}
+use Rattle.farm_keep.specs.KeeperState.{KeeperState, KeepsOwnFarm}
 use Rattle.farm_wire.specs.Reading.{Denial, refused, other_methods}
 use Rattle.farm_wire.specs.Replies.{method_status, ok_status, reply_bytes, status_or}
 use Rattle.farm_wire.specs.declared.ask.Ask.{Ask}
@@ -21,19 +21,19 @@ use Rattle.farm_wire.specs.declared.answers.Out.{Out}
 
 -- ---- which answer it is
 
-abbrev pub refusal : ℕ → Out
-refusal code = Out.Refused (record { code = code })
+abbrev pub out_of_refusal : ℕ → Out
+out_of_refusal code = Out.Refused (record { code = code })
 
 -- what a denied request is answered
 abbrev pub out_of_denial : Denial → Out
-out_of_denial (refused code) = refusal code
+out_of_denial (refused code) = out_of_refusal code
 out_of_denial (other_methods allowed) = Out.Method allowed
 
 -- the machine's answer to a command of that kind, as it is shown to a caller
 abbrev pub out_of_answer : ℕ → Answered → Out
 out_of_answer kind (Changed reply) = Out.Reply kind reply
 out_of_answer kind (Repeated reply) = Out.Reply kind reply
-out_of_answer kind (Denied code) = refusal code
+out_of_answer kind (Denied code) = out_of_refusal code
 
 -- the answer lists these rows
 abbrev pub ListsTypes : List TypeRow → Out → Type 0
@@ -56,7 +56,7 @@ ListsClaims claims out = ⊥
 abbrev pub ShowsJob : Option JobRow → Out → Type 0
 ShowsJob (Some job) (Out.Job borrowed) = borrowed.now ≡ job
 ShowsJob (Some job) out = ⊥
-ShowsJob None out = out ≡ refusal no_job
+ShowsJob None out = out ≡ out_of_refusal no_job
 
 -- the answer shows what the view asks for, of that farm
 abbrev pub IsView : View → Farm → Out → Type 0
@@ -81,24 +81,24 @@ pub record Encodes (out : Out) (bytes : List ℕ) (status : ℕ) : Type 0 where
   pub status_is : status ≡ http_status out
 
 -- the request is denied, and the keeper stays as it was
-pub record AnswersRefusal {S : Type 0} (old new : Kept S) (why : Denial) (bytes : List ℕ) (status : ℕ)
-    : Type 0 where
+pub record AnswersRefusal {S : Type 0} (old new : KeeperState S) (why : Denial) (bytes : List ℕ)
+    (status : ℕ) : Type 0 where
   pub encodes : Encodes (out_of_denial why) bytes status
   pub unchanged : new ≡ old
 
 -- the call is done: the answer is the machine's, the farm is the machine's, and the store stands
 -- for it
-pub record Does {S : Type 0} (g : Ghosts S) (old new : Kept S) (call : Call) (bytes : List ℕ)
+pub record Does {S : Type 0} (g : Ghosts S) (old new : KeeperState S) (call : Call) (bytes : List ℕ)
     (status : ℕ) : Type 0 where
   pub was_open : old.is_open ≡ true
   pub stays_open : new.is_open ≡ true
   pub encodes : Encodes (out_of_answer (kind_of call.cmd) (answer old.farm.farm call)) bytes status
   pub farm : new.farm.farm ≡ step old.farm.farm call
-  pub keeps : Keeps g old → Keeps g new
+  pub keeps : KeepsOwnFarm g old → KeepsOwnFarm g new
 
 -- the view is shown, and the keeper stays as it was
-pub record Shows {S : Type 0} (old new : Kept S) (view : View) (bytes : List ℕ) (status : ℕ)
-    : Type 0 where
+pub record ShowsView {S : Type 0} (old new : KeeperState S) (view : View) (bytes : List ℕ)
+    (status : ℕ) : Type 0 where
   pub was_open : old.is_open ≡ true
   pub out : Out
   pub shows : IsView view old.farm.farm out
@@ -106,8 +106,8 @@ pub record Shows {S : Type 0} (old new : Kept S) (view : View) (bytes : List ℕ
   pub unchanged : new ≡ old
 
 -- what was asked is answered
-abbrev pub Answers : {S : Type 0} → Ghosts S → Kept S → Kept S → Result Ask Denial → List ℕ → ℕ
-    → Type 0
+abbrev pub Answers : {S : Type 0} → Ghosts S → KeeperState S → KeeperState S → Result Ask Denial
+    → List ℕ → ℕ → Type 0
 Answers g old new (Err why) bytes status = AnswersRefusal old new why bytes status
 Answers g old new (Ok (Ask.Call call)) bytes status = Does g old new call bytes status
-Answers g old new (Ok (Ask.View view)) bytes status = Shows old new view bytes status
+Answers g old new (Ok (Ask.View view)) bytes status = ShowsView old new view bytes status

@@ -9,7 +9,7 @@ use Rattle.farm_types.specs.Refuse.{kind_of}
 use Rattle.farm_types.specs.declared.calls.Call.{Call}
 use Rattle.farm_types.specs.declared.rows.Reply.{Reply}
 use Rattle.farm_core.specs.Answers.{IsChange}
-use Rattle.farm_keep.specs.Kept.{Kept, Keeps, KeepsFarm, KeepsEither}
+use Rattle.farm_keep.specs.KeeperState.{KeeperState, KeepsOwnFarm, KeepsFarm, KeepsEither}
 use Rattle.farm_keep.specs.Restarts.{answer_again}
 use Rattle.farm_keep.specs.declared.fault.KeepFault.{KeepFault}
 use Rattle.farm_wire.specs.Reading.{Denial}
@@ -28,7 +28,7 @@ use Rattle.farm_desk.specs.declared.orders.End.{End}
 
 -- what a conversation changes: a keeper, what is left of an input, and what an output holds
 pub record Desk (S : Type 0) : Type 0 where
-  pub keeper : Kept S
+  pub keeper : KeeperState S
   pub input : Option (List ℕ)
   pub output : Option (List ℕ)
 
@@ -83,7 +83,7 @@ ConverseApart {S} g first second old new =
     (between : Desk S) × ConverseInTurn g first old between × ConverseInTurn g second between new
 
 -- these three are a desk
-abbrev pub desk : {S : Type 0} → Kept S → Option (List ℕ) → Option (List ℕ) → Desk S
+abbrev pub desk : {S : Type 0} → KeeperState S → Option (List ℕ) → Option (List ℕ) → Desk S
 desk keeper input output = record { keeper = keeper; input = input; output = output }
 
 -- one conversation at each of these moments, and each is answered
@@ -121,13 +121,13 @@ abbrev pub conversation_of : Exchange → Conversation
 conversation_of x = record { now = x.now; end = Ok x.status }
 
 -- the call that is asked, if it is one
-abbrev pub calls_in : Result Ask Denial → List Call
-calls_in (Ok (Ask.Call call)) = call ∷ []
-calls_in asked = []
+abbrev pub call_asked : Result Ask Denial → List Call
+call_asked (Ok (Ask.Call call)) = call ∷ []
+call_asked asked = []
 
 -- the calls that are asked, in the order of the requests
 abbrev pub calls_of : List Exchange → List Call
-calls_of exchanges = flat_map (λ x. calls_in x.asked) exchanges
+calls_of exchanges = flat_map (λ x. call_asked x.asked) exchanges
 
 -- the machine's answer of that farm to what is asked
 abbrev pub IsMachineAnswer : Farm → Result Ask Denial → Out → Type 0
@@ -140,7 +140,7 @@ abbrev pub AreAnswered : Farm → List Exchange → Type 0
 AreAnswered F [] = Unit {0}
 AreAnswered F (x ∷ xs) =
     IsMachineAnswer F x.asked x.out × Encodes x.out x.answer x.status
-    × AreAnswered (run F (calls_in x.asked)) xs
+    × AreAnswered (run F (call_asked x.asked)) xs
 
 -- the requests stand at the front of the input, one behind another, and each asks what is said of
 -- it at its moment
@@ -198,7 +198,7 @@ IsAnsweredAgain = (F : Farm) (before between after : List Exchange) (first secon
 -- the bytes that left the reader ask these calls, or nothing was understood
 abbrev pub AsksCalls : Option (List ℕ) → Option (List ℕ) → ℕ → List Call → Type 0
 AsksCalls input rest now calls =
-    ((asked : Result Ask Denial) × Receives input rest now asked × (calls ≡ calls_in asked))
+    ((asked : Result Ask Denial) × Receives input rest now asked × (calls ≡ call_asked asked))
     ⊎ (calls ≡ [])
 
 -- a call that was answered is done; one whose answer was not is done or not
@@ -214,7 +214,7 @@ pub record LeavesOpen {S : Type 0} (g : Ghosts S) (old new : Desk S) (conversati
   pub done_of : IsDoneOf conversation.end asked done
   pub is_open : new.keeper.is_open ≡ true
   pub farm : new.keeper.farm.farm ≡ run old.keeper.farm.farm done
-  pub keeps : Keeps g old.keeper → Keeps g new.keeper
+  pub keeps : KeepsOwnFarm g old.keeper → KeepsOwnFarm g new.keeper
 
 -- one after another they do these calls and leave it open
 abbrev pub LeaveOpen : {S : Type 0} → Ghosts S → List Conversation → Desk S → Desk S → List Call
@@ -226,7 +226,8 @@ LeaveOpen {S} g (conversation ∷ conversations) old new done =
     × (done ≡ first ++ others)
 
 -- a stop then leaves the farm before the call or, not after want of memory, the one after it
-abbrev pub LeavesBy : {S : Type 0} → Ghosts S → Kept S → Result ℕ DeskFault → Farm → Farm → Type 0
+abbrev pub LeavesBy : {S : Type 0} → Ghosts S → KeeperState S → Result ℕ DeskFault → Farm → Farm
+    → Type 0
 LeavesBy {S} g k (Err (DeskFault.Keep KeepFault.NoMemory)) F G = KeepsFarm g k F
 LeavesBy {S} g k (Err (DeskFault.Keep KeepFault.Store)) F G = KeepsEither g k F G
 LeavesBy {S} g k (Err DeskFault.Write) F G = KeepsEither g k F G
@@ -240,14 +241,14 @@ IsClosing (Err DeskFault.Write) = Unit {0}
 IsClosing end = ⊥
 
 -- after these calls were done, a conversation closes the keeper over one call more, a change
-pub record ClosesAfter {S : Type 0} (g : Ghosts S) (start : Kept S) (old new : Desk S)
+pub record ClosesAfter {S : Type 0} (g : Ghosts S) (start : KeeperState S) (old new : Desk S)
     (conversation : Conversation) (done : List Call) : Type 0 where
   pub call : Call
   pub asks : AsksCalls old.input new.input conversation.now (call ∷ [])
   pub change : IsChange (answer (run start.farm.farm done) call)
   pub closing : IsClosing conversation.end
-  pub leaves : Keeps g start → LeavesBy g new.keeper conversation.end (run start.farm.farm done)
-      (run start.farm.farm (done ++ call ∷ []))
+  pub leaves : KeepsOwnFarm g start → LeavesBy g new.keeper conversation.end
+      (run start.farm.farm done) (run start.farm.farm (done ++ call ∷ []))
 
 -- while the keeper stays open, it has the farm after the calls that were done, and its store keeps
 -- that farm

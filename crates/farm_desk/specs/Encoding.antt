@@ -4,7 +4,7 @@ use Rattle.farm_types.specs.Refusals.{no_memory}
 use Rattle.farm_wire.specs.Replies.{reply_bytes}
 use Rattle.farm_wire.specs.declared.answers.Out.{Out}
 use Rattle.farm_wire.specs.declared.fault.AskFault.{AskFault}
-use Rattle.farm_desk.specs.Answers.{Encodes, refusal}
+use Rattle.farm_desk.specs.Answers.{Encodes, out_of_refusal}
 use Rattle.farm_desk.specs.declared.response.Bytes.{Bytes}
 use Rattle.farm_desk.specs.declared.fault.DeskFault.{DeskFault}
 
@@ -15,7 +15,7 @@ bytes_in (Bytes.Constant bytes) = bytes.now
 -- there is no memory for the answer, and the bytes are the refusal for that
 pub record EncodesNoMemory (bytes : List ℕ) (fault : DeskFault) : Type 0 where
   pub fault_is : fault ≡ DeskFault.NoMemory
-  pub bytes_are : bytes ≡ reply_bytes (refusal no_memory)
+  pub bytes_are : bytes ≡ reply_bytes (out_of_refusal no_memory)
 
 -- the bytes are the answer's, or there is no memory for them
 abbrev pub IsEncoded : Out → List ℕ → Result ℕ DeskFault → Type 0
@@ -32,4 +32,4 @@ abbrev pub IsDenialEncoded : AskFault → List ℕ → Result ℕ DeskFault → 
 IsDenialEncoded (AskFault.Refused refused) bytes end = IsEncoded (Out.Refused refused) bytes end
 IsDenialEncoded (AskFault.Method allowed) bytes end = IsEncoded (Out.Method allowed) bytes end
 IsDenialEncoded AskFault.NoMemory bytes end = (end ≡ Err DeskFault.NoMemory)
-    × (bytes ≡ reply_bytes (refusal no_memory))
+    × (bytes ≡ reply_bytes (out_of_refusal no_memory))

@@ -2,7 +2,7 @@
 use Rattle.std.specs.Prelude.{◌≡◌, ℕ, Bool, true, false, List, length, Option, Result, Err}
 use Rattle.std.specs.Io.KnownBytes.{Appends, Keeps}
 use Rattle.farm_http.specs.Faults.{WritesPrefix}
-use Rattle.farm_keep.specs.Kept.{Kept}
+use Rattle.farm_keep.specs.KeeperState.{KeeperState}
 use Rattle.farm_desk.specs.declared.fault.DeskFault.{DeskFault}
 
 -- the writer gained the whole answer that was due
@@ -42,7 +42,8 @@ pub record HasNoRoom (Response : List ℕ → Result ℕ DeskFault → Type 0) (
   pub no_room : ¬ Room (length bytes)
 
 -- the reader returned no request: nothing is written, and the keeper stays as it was
-pub record IsUnread {S : Type 0} (old new : Kept S) (held holds : Option (List ℕ)) : Type 0 where
+pub record IsUnread {S : Type 0} (old new : KeeperState S) (held holds : Option (List ℕ))
+    : Type 0 where
   pub nothing_written : Keeps held holds
   pub unchanged : new ≡ old
 

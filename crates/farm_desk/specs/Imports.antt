@@ -8,11 +8,11 @@ use Rattle.farm_types.specs.Farm.{Farm}
 use Rattle.farm_types.specs.Machine.{Answered, Changed, Repeated, Denied, run}
 use Rattle.farm_types.specs.declared.calls.Call.{Call}
 use Rattle.farm_types.specs.declared.refusal.Refusal.{Refusal}
-use Rattle.farm_keep.specs.Kept.{Kept, Keeps, KeepsFarm, KeepsEither}
+use Rattle.farm_keep.specs.KeeperState.{KeeperState, KeepsOwnFarm, KeepsFarm, KeepsEither}
 use Rattle.farm_keep.specs.Runs.{answers_of, IsNextChange}
 use Rattle.farm_keep.specs.declared.fault.KeepFault.{KeepFault}
 use Rattle.farm_types.specs.Reads.{FaultOrNoMemory}
-use Rattle.farm_jobfile.specs.Reading.{fault_told}
+use Rattle.farm_jobfile.specs.Reading.{text_fault}
 use Rattle.farm_jobfile.specs.Lab.{entry_of, lab}
 use Rattle.farm_jobfile.specs.declared.fault.FileFault.{FileFault}
 use Rattle.farm_desk.specs.declared.fault.DeskFault.{DeskFault}
@@ -54,19 +54,20 @@ pub record IsCounted (F : Farm) (calls : List Call) (accepted kept : ℕ) : Type
 -- ---- how it ended
 
 -- the keeper has the farm after these calls, and its store keeps that farm
-pub record Reaches {S : Type 0} (g : Ghosts S) (old new : Kept S) (calls : List Call) : Type 0 where
+pub record Reaches {S : Type 0} (g : Ghosts S) (old new : KeeperState S) (calls : List Call)
+    : Type 0 where
   pub opened : new.is_open ≡ old.is_open
   pub farm : new.farm.farm ≡ run old.farm.farm calls
-  pub keeps : Keeps g old → Keeps g new
+  pub keeps : KeepsOwnFarm g old → KeepsOwnFarm g new
 
 -- all calls were done
-pub record ImportsAll {S : Type 0} (g : Ghosts S) (old new : Kept S) (calls : List Call) (done : ℕ)
-    : Type 0 where
+pub record ImportsAll {S : Type 0} (g : Ghosts S) (old new : KeeperState S) (calls : List Call)
+    (done : ℕ) : Type 0 where
   pub all : done ≡ length calls
   pub reaches : Reaches g old new calls
 
 -- the call at this place, counted from 1, was refused, and those before it were done
-pub record IsStopped {S : Type 0} (g : Ghosts S) (old new : Kept S) (calls : List Call)
+pub record IsStopped {S : Type 0} (g : Ghosts S) (old new : KeeperState S) (calls : List Call)
     (done place code : ℕ) : Type 0 where
   pub next : place ≡ done + 1
   pub within : place ≤ length calls
@@ -76,32 +77,32 @@ pub record IsStopped {S : Type 0} (g : Ghosts S) (old new : Kept S) (calls : Lis
 
 -- there was no memory for the change of the next call: the keeper is closed, and its store keeps
 -- the farm before it
-pub record LacksMemoryFor {S : Type 0} (g : Ghosts S) (old new : Kept S) (calls : List Call)
+pub record LacksMemoryFor {S : Type 0} (g : Ghosts S) (old new : KeeperState S) (calls : List Call)
     (done : ℕ) : Type 0 where
   pub within : done < length calls
   pub change : IsNextChange old.farm.farm calls done
   pub is_closed : new.is_open ≡ false
-  pub keeps : Keeps g old → KeepsFarm g new (run old.farm.farm (take done calls))
+  pub keeps : KeepsOwnFarm g old → KeepsFarm g new (run old.farm.farm (take done calls))
 
 -- the store refused the next call's change: the keeper is closed, and a stop leaves the farm before
 -- it or after it
-pub record LosesStoreAt {S : Type 0} (g : Ghosts S) (old new : Kept S) (calls : List Call)
+pub record LosesStoreAt {S : Type 0} (g : Ghosts S) (old new : KeeperState S) (calls : List Call)
     (done : ℕ) : Type 0 where
   pub within : done < length calls
   pub change : IsNextChange old.farm.farm calls done
   pub is_closed : new.is_open ≡ false
-  pub leaves : Keeps g old → KeepsEither g new (run old.farm.farm (take done calls))
+  pub leaves : KeepsOwnFarm g old → KeepsEither g new (run old.farm.farm (take done calls))
       (run old.farm.farm (take (done + 1) calls))
 
 -- the keeper was closed before, and nothing is imported
-pub record ImportsNothing {S : Type 0} (old new : Kept S) (done : ℕ) : Type 0 where
+pub record ImportsNothing {S : Type 0} (old new : KeeperState S) (done : ℕ) : Type 0 where
   pub was_closed : old.is_open ≡ false
   pub nothing : done ≡ 0
   pub unchanged : new ≡ old
 
 -- how it ended, by its refusal or its fault
-abbrev pub EndsBy : {S : Type 0} → Ghosts S → Kept S → Kept S → List Call → ℕ → Option (ℕ × Refusal)
-    → Option DeskFault → Type 0
+abbrev pub EndsBy : {S : Type 0} → Ghosts S → KeeperState S → KeeperState S → List Call → ℕ
+    → Option (ℕ × Refusal) → Option DeskFault → Type 0
 EndsBy g old new calls done None None = ImportsAll g old new calls done
 EndsBy g old new calls done (Some stop) None = IsStopped g old new calls done stop.0 stop.1.code
 EndsBy g old new calls done None (Some (DeskFault.Keep KeepFault.NoMemory)) =
@@ -113,7 +114,7 @@ EndsBy g old new calls done None (Some (DeskFault.Keep KeepFault.Closed)) =
 EndsBy g old new calls done stopped fault = ⊥
 
 -- these calls were done up to the first refusal or fault
-pub record DoesCalls {S : Type 0} (g : Ghosts S) (old new : Kept S) (calls : List Call)
+pub record DoesCalls {S : Type 0} (g : Ghosts S) (old new : KeeperState S) (calls : List Call)
     (end : ImportEnd) : Type 0 where
   pub counted : IsCounted old.farm.farm calls end.accepted end.kept
   pub ends : EndsBy g old new calls (done_by end) end.stopped end.fault
@@ -121,26 +122,27 @@ pub record DoesCalls {S : Type 0} (g : Ghosts S) (old new : Kept S) (calls : Lis
 -- ---- the file
 
 -- the text parses to calls, and these were done
-pub record Imports {S : Type 0} (g : Ghosts S) (old new : Kept S) (text : List ℕ) (now : ℕ)
+pub record Imports {S : Type 0} (g : Ghosts S) (old new : KeeperState S) (text : List ℕ) (now : ℕ)
     (end : ImportEnd) : Type 0 where
   pub calls : List Call
   pub parsed : lab text now ≡ Ok (map entry_of calls)
   pub does : DoesCalls g old new calls end
 
 -- the text parses to none, or there was no memory to read it: nothing was done
-pub record IsFileRefused {S : Type 0} (old new : Kept S) (text : List ℕ) (now : ℕ) (fault : FileFault)
-    (end : ImportEnd) : Type 0 where
-  pub fault_is : FaultOrNoMemory (fault_told fault) (lab text now)
+pub record IsFileRefused {S : Type 0} (old new : KeeperState S) (text : List ℕ) (now : ℕ)
+    (fault : FileFault) (end : ImportEnd) : Type 0 where
+  pub fault_is : FaultOrNoMemory (text_fault fault) (lab text now)
   pub nothing : done_by end ≡ 0
   pub never_began : end.stopped ≡ None
   pub unchanged : new ≡ old
 
-abbrev pub ImportsBy : {S : Type 0} → Ghosts S → Kept S → Kept S → List ℕ → ℕ → ImportEnd
-    → Option DeskFault → Type 0
+abbrev pub ImportsBy : {S : Type 0} → Ghosts S → KeeperState S → KeeperState S → List ℕ → ℕ
+    → ImportEnd → Option DeskFault → Type 0
 ImportsBy g old new text now end (Some (DeskFault.File fault)) =
     IsFileRefused old new text now fault end
 ImportsBy g old new text now end fault = Imports g old new text now end
 
 -- what an import of that text does at that moment
-abbrev pub IsImport : {S : Type 0} → Ghosts S → Kept S → Kept S → List ℕ → ℕ → ImportEnd → Type 0
+abbrev pub IsImport : {S : Type 0} → Ghosts S → KeeperState S → KeeperState S → List ℕ → ℕ
+    → ImportEnd → Type 0
 IsImport g old new text now end = ImportsBy g old new text now end end.fault

@@ -16,7 +16,7 @@ use Rattle.sqlite_trees.specs.View.{IsClean, doubt}
 use Rattle.sqlite_trees.specs.Objects.{catalog_tree}
 use Rattle.sqlite_trees.specs.declared.store.Store as store
 use Rattle.sqlite_wal.specs.Recovery.{Image}
-use Rattle.farm_store.specs.Columns.{IsOfSchema, Tables, first_schema, rows_of}
+use Rattle.farm_store.specs.Columns.{IsOfSchema, TableRows, first_schema, rows_of}
 use Rattle.farm_store.specs.Holds.{Holds}
 use Rattle.farm_store.specs.Schema.{farm_schema, no_schema}
 use Rattle.farm_types.specs.Farm.{Farm, empty_farm}
@@ -25,7 +25,7 @@ use Rattle.farm_types.specs.Machine.{run}
 use Rattle.farm_types.specs.declared.calls.Call.{Call}
 use Rattle.farm_keep.specs.Faults.{IsFindFault}
 use Rattle.farm_keep.specs.Headline.{IsAlwaysClean, Runs}
-use Rattle.farm_keep.specs.Kept.{Kept, Keeps, KeepsFarm}
+use Rattle.farm_keep.specs.KeeperState.{KeeperState, KeepsOwnFarm, KeepsFarm}
 use Rattle.farm_keep.specs.Lives.{LeavesDone}
 use Rattle.farm_keep.specs.Versions.{LooksForFarm}
 use Rattle.farm_keep.specs.declared.fault.KeepFault.{KeepFault}
@@ -35,7 +35,7 @@ use Rattle.farm_desk.specs.declared.fault.DeskFault.{DeskFault}
 -- ---- what the files hold
 
 -- they hold a database with these tables
-pub record HoldsTables (image : Image) (T : Tables) : Type 0 where
+pub record HoldsTables (image : Image) (T : TableRows) : Type 0 where
   pub trees : Trees
   pub database : HoldsDatabase image trees
   pub holds : Holds trees T
@@ -47,7 +47,8 @@ HoldsFarm image F = HoldsTables image (rows_of F)
 -- ---- the keeper over files that were opened
 
 -- an open keeper has this farm, and its store keeps it
-pub record HasFarm {D : Type 0} {g : Ghosts D} (k : Kept (FileStore D g)) (F : Farm) : Type 0 where
+pub record HasFarm {D : Type 0} {g : Ghosts D} (k : KeeperState (FileStore D g)) (F : Farm)
+    : Type 0 where
   pub farm : k.farm.farm ≡ F
   pub keeps : KeepsFarm over_files k F
 
@@ -60,11 +61,11 @@ ListFarm trees = AreListed (trees catalog_tree) farm_schema
 pub record AreFarms (image : Image) (F : Farm) : Type 0 where
   pub found : (trees : Trees) × AreFoundIn image trees × ListFarm trees
   pub ours : (trees : Trees) → HoldsDatabase image trees → ListFarm trees
-  pub rows : (T : Tables) → HoldsTables image T → T ≡ rows_of F
+  pub rows : (T : TableRows) → HoldsTables image T → T ≡ rows_of F
 
 -- where the files held a sound farm, an open keeper has that farm, and its store keeps it; and the
 -- files held no other than the keeper's
-pub record FindsFarm {D : Type 0} {g : Ghosts D} (image : Image) (k : Kept (FileStore D g))
+pub record FindsFarm {D : Type 0} {g : Ghosts D} (image : Image) (k : KeeperState (FileStore D g))
     : Type 0 where
   pub opened : k.is_open ≡ true
   pub sound : IsSound k.farm.farm
@@ -81,10 +82,10 @@ ListNothing trees = AreListed (trees catalog_tree) no_schema
 pub record AreFree (image : Image) : Type 0 where
   pub found : (trees : Trees) × AreFoundIn image trees × ListNothing trees
   pub free : (trees : Trees) → HoldsDatabase image trees → ListNothing trees
-  pub tables : (T : Tables) → ¬ HoldsTables image T
+  pub tables : (T : TableRows) → ¬ HoldsTables image T
 
 -- an open keeper has the empty farm, its store keeps that, and the files were free
-pub record MakesFarm {D : Type 0} {g : Ghosts D} (image : Image) (k : Kept (FileStore D g))
+pub record MakesFarm {D : Type 0} {g : Ghosts D} (image : Image) (k : KeeperState (FileStore D g))
     : Type 0 where
   pub opened : k.is_open ≡ true
   pub has : HasFarm k empty_farm
@@ -101,13 +102,13 @@ IsOpenFault fault = ⊥
 -- tables are of the first edition
 abbrev pub DeniesFarm : Image → DeskFault → Type 0
 DeniesFarm image (DeskFault.Keep KeepFault.BadStore) = (F : Farm) → IsSound F → ¬ HoldsFarm image F
-DeniesFarm image (DeskFault.Keep KeepFault.OldSchema) = (T : Tables) → HoldsTables image T
+DeniesFarm image (DeskFault.Keep KeepFault.OldSchema) = (T : TableRows) → HoldsTables image T
     → IsOfSchema first_schema T
 DeniesFarm image other = ⊤
 
 -- so it is on a disk that always returns what was written
 abbrev pub HasReason : {D : Type 0} {g : Ghosts D} → Image
-    → Result (Kept (FileStore D g)) DeskFault → Type 0
+    → Result (KeeperState (FileStore D g)) DeskFault → Type 0
 HasReason {D} {g} image result = IsAlwaysClean (over_files {D = D} {g = g})
     → IfErr result (DeniesFarm image)
 
@@ -137,7 +138,7 @@ LooksIn Looks image result = (result ≡ Err (DeskFault.Keep KeepFault.Store))
 -- so it is where a farm of this edition is looked for, on a disk that always returns what was
 -- written
 abbrev pub LooksForFarmIn : {D : Type 0} {g : Ghosts D} → Image
-    → Result (Kept (FileStore D g)) DeskFault → Type 0
+    → Result (KeeperState (FileStore D g)) DeskFault → Type 0
 LooksForFarmIn {D} {g} image result = IsAlwaysClean (over_files {D = D} {g = g})
     → LooksIn LooksForFarm image result
 
@@ -150,7 +151,8 @@ pub record ShowsFiles {D : Type 0} {g : Ghosts D} (image : Image) (conn : Held (
   pub found : HasCleanDisk (file_state conn) → FindsIn image (file_state conn)
 
 -- a connection was just opened on these tables
-pub record OpensTables {S : Type 0} (g : store.Ghosts S) (conn : Held S) (T : Tables) : Type 0 where
+pub record OpensTables {S : Type 0} (g : store.Ghosts S) (conn : Held S) (T : TableRows)
+    : Type 0 where
   pub opens : Opens (state g conn)
   pub live : IsLive (state g conn)
   pub holds : Holds (state g conn).committed.trees T
@@ -158,7 +160,8 @@ pub record OpensTables {S : Type 0} (g : store.Ghosts S) (conn : Held S) (T : Ta
 -- an open keeper was made from a connection: where that was just opened on the tables of a sound
 -- farm, the keeper has that farm, and its store keeps it; and the connection had the farm's six
 -- tables, with no other rows than the keeper's
-pub record FindsTables {S : Type 0} (g : store.Ghosts S) (conn : Held S) (k : Kept S) : Type 0 where
+pub record FindsTables {S : Type 0} (g : store.Ghosts S) (conn : Held S) (k : KeeperState S)
+    : Type 0 where
   pub opened : k.is_open ≡ true
   pub sound : IsSound k.farm.farm
   pub clean : doubt (state g conn).is_clean ≤ doubt (state g k.conn).is_clean
@@ -166,24 +169,25 @@ pub record FindsTables {S : Type 0} (g : store.Ghosts S) (conn : Held S) (k : Ke
       → OpensTables g conn (rows_of F) → k.farm.farm ≡ F
   pub keeps : (F : Farm) → OpensTables g conn (rows_of F) → KeepsFarm g k F
   pub ours : (state g conn).now.schema ≡ farm_schema
-  pub rows : HasCleanDisk (state g k.conn) → (T : Tables) → OpensTables g conn T
+  pub rows : HasCleanDisk (state g k.conn) → (T : TableRows) → OpensTables g conn T
       → T ≡ rows_of k.farm.farm
 
 -- an open keeper has the empty farm, and its store keeps that; its connection showed no table at
 -- all, and was opened on no farm's tables
-pub record MakesTables {S : Type 0} (g : store.Ghosts S) (conn : Held S) (k : Kept S) : Type 0 where
+pub record MakesTables {S : Type 0} (g : store.Ghosts S) (conn : Held S) (k : KeeperState S)
+    : Type 0 where
   pub opened : k.is_open ≡ true
   pub farm : k.farm.farm ≡ empty_farm
   pub keeps : KeepsFarm g k empty_farm
   pub clean : doubt (state g conn).is_clean ≤ doubt (state g k.conn).is_clean
   pub bare : (state g conn).now.schema ≡ no_schema
-  pub free : HasCleanDisk (state g k.conn) → (T : Tables) → ¬ OpensTables g conn T
+  pub free : HasCleanDisk (state g k.conn) → (T : TableRows) → ¬ OpensTables g conn T
 
 -- why no keeper is made from a connection
 abbrev pub DeniesTables : {S : Type 0} → store.Ghosts S → Held S → DeskFault → Type 0
 DeniesTables g conn (DeskFault.Keep KeepFault.BadStore) = (F : Farm) → IsSound F
     → ¬ OpensTables g conn (rows_of F)
-DeniesTables g conn (DeskFault.Keep KeepFault.OldSchema) = (T : Tables) → OpensTables g conn T
+DeniesTables g conn (DeskFault.Keep KeepFault.OldSchema) = (T : TableRows) → OpensTables g conn T
     → IsOfSchema first_schema T
 DeniesTables g conn other = ⊤
 
@@ -197,9 +201,10 @@ pub record HoldsRun (image : Image) (F : Farm) (end : RunEnd) (calls : List Call
 
 -- what a stop leaves of the files of this store, which the keeper had: each holds the farm after
 -- the calls that were done
-abbrev pub LeavesFiles : {D : Type 0} {g : Ghosts D} → Kept (FileStore D g) → FileStore D g → Type 0
+abbrev pub LeavesFiles : {D : Type 0} {g : Ghosts D} → KeeperState (FileStore D g) → FileStore D g
+    → Type 0
 LeavesFiles k it =
-    IsClean (files.view it) → (old : Kept _) (end : RunEnd) (calls : List Call)
-    → Keeps over_files old → Runs over_files old k end calls
+    IsClean (files.view it) → (old : KeeperState _) (end : RunEnd) (calls : List Call)
+    → KeepsOwnFarm over_files old → Runs over_files old k end calls
     → (image : Image) → (files.state it).may_leave image
     → ∥ HoldsRun image old.farm.farm end calls ∥₁

@@ -5,7 +5,7 @@ use Rattle.std.specs.Io.KnownBytes.{Appends, Keeps}
 use Rattle.farm_types.specs.Refusals.{refusal_text}
 use Rattle.farm_types.specs.declared.refusal.Refusal.{Refusal}
 use Rattle.farm_desk.specs.Ends.{Writes}
-use Rattle.farm_desk.specs.Faults.{fault_number}
+use Rattle.farm_desk.specs.Faults.{desk_fault_code}
 use Rattle.farm_desk.specs.declared.fault.DeskFault.{DeskFault}
 use Rattle.farm_desk.specs.declared.lab_import.ImportEnd.{ImportEnd}
 use Rattle.farm_desk.specs.declared.orders.End.{End}
@@ -43,7 +43,7 @@ refusal_line code place =
 abbrev pub error_line : Result End DeskFault → List ℕ
 error_line (Ok (End.RefusedAt place refusal)) = refusal_line refusal.code place
 error_line (Ok end) = []
-error_line (Err fault) = fault_line (fault_number fault)
+error_line (Err fault) = fault_line (desk_fault_code fault)
 
 -- a writer gained a part of the bytes from their front on, perhaps all of them
 pub record WritesPart (held holds : Option (List ℕ)) (bytes : List ℕ) : Type 0 where

@@ -10,7 +10,7 @@ use Rattle.sqlite_trees.specs.declared.memory.MemStore.{MemStore}
 use Rattle.sqlite_trees.specs.declared.store.Store.{Ghosts}
 use Rattle.sqlite_wal.specs.Recovery.{Image}
 use Rattle.farm_types.specs.Farm.{empty_farm}
-use Rattle.farm_keep.specs.Kept.{Kept, Keeps}
+use Rattle.farm_keep.specs.KeeperState.{KeeperState, KeepsOwnFarm}
 use Rattle.farm_keep.specs.declared.fault.KeepFault.{KeepFault}
 use Rattle.farm_cli.specs.declared.order.Database.{Database}
 use Rattle.farm_cli.specs.declared.order.Order.{Order}
@@ -35,28 +35,28 @@ abbrev pub streams : Option (List ℕ) → Option (List ℕ) → Streams
 streams input output = record { input = input; output = output }
 
 -- a keeper with them
-abbrev pub desk_at : {S : Type 0} → Kept S → Streams → Desk S
+abbrev pub desk_at : {S : Type 0} → KeeperState S → Streams → Desk S
 desk_at keeper at = desk keeper at.input at.output
 
 -- the store failed
-abbrev pub store_fault : DeskFault
-store_fault = DeskFault.Keep KeepFault.Store
+abbrev pub store_failed : DeskFault
+store_failed = DeskFault.Keep KeepFault.Store
 
 -- what was done ended so; but where it met no fault, its files may have been lost meanwhile, which
 -- is a fault of the store
 abbrev pub IsUnlessLost : Result End DeskFault → Result End DeskFault → Type 0
-IsUnlessLost ended result = (result ≡ ended) ⊎ ((result ≡ Err store_fault) × IsOk ended)
+IsUnlessLost ended result = (result ≡ ended) ⊎ ((result ≡ Err store_failed) × IsOk ended)
 
 -- ---- what is opened
 
 -- an open keeper of the empty farm, whose store keeps it; or there was no memory, or no store
-abbrev pub OpensMemory : Result (Kept MemStore) DeskFault → Type 0
-OpensMemory (Ok k) = (k.is_open ≡ true) × (k.farm.farm ≡ empty_farm) × Keeps over_memory k
-OpensMemory (Err fault) = (fault ≡ DeskFault.NoMemory) ⊎ (fault ≡ store_fault)
+abbrev pub OpensMemory : Result (KeeperState MemStore) DeskFault → Type 0
+OpensMemory (Ok k) = (k.is_open ≡ true) × (k.farm.farm ≡ empty_farm) × KeepsOwnFarm over_memory k
+OpensMemory (Err fault) = (fault ≡ DeskFault.NoMemory) ⊎ (fault ≡ store_failed)
 
 -- a keeper of the farm that the files hold, or why there is none
 pub record OpensFarm {D : Type 0} {g : disk.Ghosts D} (image : Image)
-    (opened : Result (Kept (FileStore D g)) DeskFault) : Type 0 where
+    (opened : Result (KeeperState (FileStore D g)) DeskFault) : Type 0 where
   pub found : IfOk opened (FindsFarm image)
   pub denied : HasReason image opened
   pub version : LooksForFarmIn image opened
@@ -64,9 +64,9 @@ pub record OpensFarm {D : Type 0} {g : disk.Ghosts D} (image : Image)
 
 -- a keeper of the empty farm in files that were free, or the store failed
 pub record MakesNewFarm {D : Type 0} {g : disk.Ghosts D} (image : Image)
-    (made : Result (Kept (FileStore D g)) DeskFault) : Type 0 where
+    (made : Result (KeeperState (FileStore D g)) DeskFault) : Type 0 where
   pub made_it : IfOk made (MakesFarm image)
-  pub fault : IfErr made (λ fault. fault ≡ store_fault)
+  pub fault : IfErr made (λ fault. fault ≡ store_failed)
 
 -- a store with the tables of the first edition's farm in the files, brought to this one, or why
 -- they aren't
@@ -90,12 +90,12 @@ module _ (Room : ℕ → Type 0) (held holds : Option (List ℕ)) {D : Type 0} (
     (image : Image) where
   -- the empty farm is made in the files, and its line printed
   pub record Inits (result : Result End DeskFault) : Type 0 where
-    pub made : Result (Kept (FileStore D g)) DeskFault
+    pub made : Result (KeeperState (FileStore D g)) DeskFault
     pub makes : MakesNewFarm image made
     pub prints : PrintsIfDone Room held holds made ready_line result
 
   -- the first edition's farm of the files is brought to this one, and its line printed
-  pub record Migrates (result : Result End DeskFault) : Type 0 where
+  pub record MigratesFile (result : Result End DeskFault) : Type 0 where
     pub raised : Result (Held (FileStore D g)) DeskFault
     pub upgrades : UpgradesFarm image raised
     pub prints : PrintsIfDone Room held holds raised migrated_line result
@@ -107,23 +107,23 @@ module _ (labs : List ℕ → Option (List ℕ)) (Sure : Type 0) (Room : ℕ →
     (old new : Streams) where
   -- the task is done with a keeper that was opened; where none could be, the fault ends the order,
   -- and nothing is read or written
-  abbrev pub DoesTaskIf : {S : Type 0} → Ghosts S → Result (Kept S) DeskFault → Task
+  abbrev pub DoesTaskIf : {S : Type 0} → Ghosts S → Result (KeeperState S) DeskFault → Task
       → Result End DeskFault → Type 0
   DoesTaskIf {S} g (Ok keeper) task result =
-      (left : Kept S)
+      (left : KeeperState S)
       × DoesTask g labs task (desk_at keeper old) (desk_at left new) Sure Room result
   DoesTaskIf {S} g (Err fault) task result = (result ≡ Err fault) × (new ≡ old)
 
   -- it is done with an empty farm in memory
   pub record DoesInMemory (task : Task) (result : Result End DeskFault) : Type 0 where
-    pub opened : Result (Kept MemStore) DeskFault
+    pub opened : Result (KeeperState MemStore) DeskFault
     pub opens : OpensMemory opened
     pub does : DoesTaskIf over_memory opened task result
 
   module _ {D : Type 0} (g : disk.Ghosts D) (image : Image) where
     -- it is done with the farm of the files, which is opened first
     pub record DoesInFiles (task : Task) (result : Result End DeskFault) : Type 0 where
-      pub opened : Result (Kept (FileStore D g)) DeskFault
+      pub opened : Result (KeeperState (FileStore D g)) DeskFault
       pub opens : OpensFarm image opened
       pub does : DoesTaskIf over_files opened task result
 
@@ -140,7 +140,7 @@ module _ (labs : List ℕ → Option (List ℕ)) (Sure : Type 0) (Room : ℕ →
     DoesOrder (Order.Init file) result = (new.input ≡ old.input)
         × Inits Room old.output new.output g image result
     DoesOrder (Order.Migrate file) result = (new.input ≡ old.input)
-        × Migrates Room old.output new.output g image result
+        × MigratesFile Room old.output new.output g image result
     DoesOrder (Order.Import file at lab) result = DoesInFiles (Task.Import at lab) result
     DoesOrder (Order.Serve file port max) result = DoesWhileThere (Task.Serve port max) result
     DoesOrder (Order.Report file east west which) result =

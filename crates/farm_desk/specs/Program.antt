@@ -8,7 +8,7 @@ use Rattle.farm_cli.specs.Faults.{IsFaultAmong}
 use Rattle.farm_cli.specs.Orders.{form_of, order_in}
 use Rattle.farm_cli.specs.declared.fault.OrderFault.{OrderFault}
 use Rattle.farm_cli.specs.declared.order.Order.{Order}
-use Rattle.farm_desk.specs.Faults.{done, exit_status, fault_number, order_status, wrong_words}
+use Rattle.farm_desk.specs.Faults.{done, exit_status, desk_fault_code, order_status, wrong_words}
 use Rattle.farm_desk.specs.Lines.{WritesPart, fault_line, error_line}
 use Rattle.farm_desk.specs.Orders.{Streams}
 use Rattle.farm_desk.specs.declared.fault.DeskFault.{DeskFault}
@@ -32,7 +32,7 @@ pub record EndsOrder (Does : Result End DeskFault → Type 0) (held holds : Opti
 -- a fault is printed, and the exit status is its own
 pub record PrintsFault (held holds : Option (List ℕ)) (fault : DeskFault) (status : ℕ) : Type 0 where
   pub status_is : status ≡ exit_status fault
-  pub printed : WritesPart held holds (fault_line (fault_number fault))
+  pub printed : WritesPart held holds (fault_line (desk_fault_code fault))
 
 -- help is on the output, and nothing beside it; or the output failed, and that fault is printed
 abbrev pub ShowsHelp : List ℕ → Option (List ℕ) → Option (List ℕ) → Option (List ℕ)

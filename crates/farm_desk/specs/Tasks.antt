@@ -4,7 +4,7 @@ use Rattle.std.specs.Prelude.{IfOk, string_bytes}
 use Rattle.std.specs.Io.KnownBytes.{Appends, Keeps}
 use Rattle.sqlite_trees.specs.declared.store.Store.{Ghosts}
 use Rattle.farm_types.specs.Farm.{Farm}
-use Rattle.farm_keep.specs.Kept.{Kept}
+use Rattle.farm_keep.specs.KeeperState.{KeeperState}
 use Rattle.farm_keep.specs.declared.fault.KeepFault.{KeepFault}
 use Rattle.farm_cli.specs.declared.order.Report.{Report}
 use Rattle.farm_report.specs.Moments.{most_minutes}
@@ -21,7 +21,7 @@ use Rattle.farm_desk.specs.declared.orders.End.{End}
 use Rattle.farm_desk.specs.declared.orders.Task.{Task}
 
 -- nothing is done, for this reason
-pub record DoesNothing {S : Type 0} (old new : Kept S) (held holds : Option (List ℕ))
+pub record DoesNothing {S : Type 0} (old new : KeeperState S) (held holds : Option (List ℕ))
     (fault : DeskFault) (result : Result End DeskFault) : Type 0 where
   pub fault_is : result ≡ Err fault
   pub unchanged : new ≡ old
@@ -29,8 +29,8 @@ pub record DoesNothing {S : Type 0} (old new : Kept S) (held holds : Option (Lis
 
 -- a lab file's text is imported at that moment, and what was done is printed
 pub record ImportsText {S : Type 0} (g : Ghosts S) (Room : ℕ → Type 0) (lab : Option (List ℕ))
-    (old new : Kept S) (held holds : Option (List ℕ)) (now : ℕ) (result : Result End DeskFault)
-    : Type 0 where
+    (old new : KeeperState S) (held holds : Option (List ℕ)) (now : ℕ)
+    (result : Result End DeskFault) : Type 0 where
   pub text : List ℕ
   pub text_of : IsTextOf lab text
   pub imported : ImportEnd
@@ -38,8 +38,8 @@ pub record ImportsText {S : Type 0} (g : Ghosts S) (Room : ℕ → Type 0) (lab 
   pub prints : PrintsImport Room imported held holds result
 
 -- it is, or nothing is done since no text can be read
-abbrev pub ImportsFile : {S : Type 0} → Ghosts S → (ℕ → Type 0) → Option (List ℕ) → Kept S → Kept S
-    → Option (List ℕ) → Option (List ℕ) → ℕ → Result End DeskFault → Type 0
+abbrev pub ImportsFile : {S : Type 0} → Ghosts S → (ℕ → Type 0) → Option (List ℕ) → KeeperState S
+    → KeeperState S → Option (List ℕ) → Option (List ℕ) → ℕ → Result End DeskFault → Type 0
 ImportsFile g Room lab old new held holds now result =
     ImportsText g Room lab old new held holds now result
     ⊎ (DoesNothing old new held holds DeskFault.NoMemory result
@@ -56,7 +56,7 @@ pub record PrintsReport (Room : ℕ → Type 0) (failed : Bool) (F : Farm) (held
 
 -- it is, of an open keeper's farm; or nothing is printed, since there was no memory or the keeper
 -- was closed
-abbrev pub PrintsReportOf : {S : Type 0} → (ℕ → Type 0) → Kept S → Option (List ℕ)
+abbrev pub PrintsReportOf : {S : Type 0} → (ℕ → Type 0) → KeeperState S → Option (List ℕ)
     → Option (List ℕ) → ℕ → ℕ → Report → Result End DeskFault → Type 0
 PrintsReportOf Room k held holds east west which (Ok end) =
     (end ≡ End.Done) × PrintsReport Room false k.farm.farm held holds east west which
@@ -68,22 +68,22 @@ PrintsReportOf Room k held holds east west which (Err (DeskFault.Keep KeepFault.
 PrintsReportOf Room k held holds east west which (Err fault) = ⊥
 
 -- the port is printed, and then at most so many connections are served
-pub record ServesPort {S : Type 0} (g : Ghosts S) (old new : Kept S) (held holds : Option (List ℕ))
-    (port max : ℕ) (result : Result End DeskFault) : Type 0 where
+pub record ServesPort {S : Type 0} (g : Ghosts S) (old new : KeeperState S)
+    (held holds : Option (List ℕ)) (port max : ℕ) (result : Result End DeskFault) : Type 0 where
   pub printed : Appends held holds (port_line port)
   pub serves : ServesUntil g old new max result
   pub done : IfOk result (λ end. end ≡ End.Done)
 
 -- the port can't be printed, and nobody is served
-pub record PrintsNoPort {S : Type 0} (Room : ℕ → Type 0) (old new : Kept S)
+pub record PrintsNoPort {S : Type 0} (Room : ℕ → Type 0) (old new : KeeperState S)
     (held holds : Option (List ℕ)) (port : ℕ) (result : Result End DeskFault) : Type 0 where
   pub ends : result ≡ Err DeskFault.Write
   pub unchanged : new ≡ old
   pub printed : Writes Room true held holds (port_line port)
 
 -- it is served, or nothing is done since nobody can listen on the port, or since it can't be printed
-abbrev pub ServesIfListening : {S : Type 0} → Ghosts S → (ℕ → Type 0) → Kept S → Kept S
-    → Option (List ℕ) → Option (List ℕ) → ℕ → ℕ → Result End DeskFault → Type 0
+abbrev pub ServesIfListening : {S : Type 0} → Ghosts S → (ℕ → Type 0) → KeeperState S
+    → KeeperState S → Option (List ℕ) → Option (List ℕ) → ℕ → ℕ → Result End DeskFault → Type 0
 ServesIfListening g Room old new held holds port max result =
     ServesPort g old new held holds port max result
     ⊎ (DoesNothing old new held holds DeskFault.Read result

@@ -9,7 +9,7 @@ use Rattle.sqlite_store.specs.FileStore as files
 use Rattle.sqlite_trees.specs.View.{IsClean, doubt}
 use Rattle.sqlite_trees.specs.declared.store.Store as store
 use Rattle.sqlite_wal.specs.Recovery.{Image}
-use Rattle.farm_store.specs.Columns.{IsOfSchema, Tables, first_rows_of, rows_of, second_schema}
+use Rattle.farm_store.specs.Columns.{IsOfSchema, TableRows, first_rows_of, rows_of, second_schema}
 use Rattle.farm_store.specs.Holds.{LeavesEither, Stands}
 use Rattle.farm_types.specs.Farm.{Farm}
 use Rattle.farm_keep.specs.Faults.{IsMigrateFault}
@@ -31,7 +31,7 @@ abbrev pub FilesHoldEither : Image → Farm → Type 0
 FilesHoldEither image F = HoldsFirst image F ⊎ HoldsFarm image F
 
 -- these tables are those of a sound farm in the first edition
-abbrev pub AreFirst : Tables → Type 0
+abbrev pub AreFirst : TableRows → Type 0
 AreFirst T = (F : Farm) × IsSoundFirst F × (T ≡ first_rows_of F)
 
 -- where the files held a sound farm of the first edition, the store now represents its tables of
@@ -40,7 +40,7 @@ pub record RaisesFarm {D : Type 0} {g : Ghosts D} (image : Image) (conn : Held (
     : Type 0 where
   pub raised : HasCleanDisk (file_state conn) → (F : Farm) → IsSoundFirst F → HoldsFirst image F
       → Stands (file_state conn) (rows_of F)
-  pub only : HasCleanDisk (file_state conn) → (T : Tables) → HoldsTables image T → AreFirst T
+  pub only : HasCleanDisk (file_state conn) → (T : TableRows) → HoldsTables image T → AreFirst T
 
 -- ---- why it isn't done
 
@@ -54,7 +54,7 @@ IsUpgradeFault fault = ⊥
 abbrev pub DeniesUpgrade : Image → DeskFault → Type 0
 DeniesUpgrade image (DeskFault.Keep KeepFault.BadStore) = (F : Farm) → IsSoundFirst F
     → ¬ HoldsFirst image F
-DeniesUpgrade image (DeskFault.Keep KeepFault.NewSchema) = (T : Tables) → HoldsTables image T
+DeniesUpgrade image (DeskFault.Keep KeepFault.NewSchema) = (T : TableRows) → HoldsTables image T
     → IsOfSchema second_schema T
 DeniesUpgrade image other = ⊤
 
@@ -78,13 +78,13 @@ pub record RaisesTables {S : Type 0} (g : store.Ghosts S) (conn new : Held S) : 
   pub clean : doubt (state g conn).is_clean ≤ doubt (state g new).is_clean
   pub raised : HasCleanDisk (state g new) → (F : Farm) → IsSoundFirst F
       → OpensTables g conn (first_rows_of F) → Stands (state g new) (rows_of F)
-  pub only : HasCleanDisk (state g new) → (T : Tables) → OpensTables g conn T → AreFirst T
+  pub only : HasCleanDisk (state g new) → (T : TableRows) → OpensTables g conn T → AreFirst T
 
 -- why a connection isn't raised
 abbrev pub DeniesRaise : {S : Type 0} → store.Ghosts S → Held S → DeskFault → Type 0
 DeniesRaise g conn (DeskFault.Keep KeepFault.BadStore) = (F : Farm) → IsSoundFirst F
     → ¬ OpensTables g conn (first_rows_of F)
-DeniesRaise g conn (DeskFault.Keep KeepFault.NewSchema) = (T : Tables) → OpensTables g conn T
+DeniesRaise g conn (DeskFault.Keep KeepFault.NewSchema) = (T : TableRows) → OpensTables g conn T
     → IsOfSchema second_schema T
 DeniesRaise g conn other = ⊤
 

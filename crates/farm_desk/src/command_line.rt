@@ -4,7 +4,7 @@ ghost use Rattle.std.specs.Io.KnownBytes.{WriteAppends};
 ghost use Rattle.sqlite_wal.specs.Files.{image_at};
 ghost use Rattle.farm_cli.specs.declared.order.Order.{Order as Ordered};
 ghost use Rattle.farm_cli.specs.declared.fault.OrderFault.{OrderFault as Unordered};
-ghost use Rattle.farm_desk.specs.Faults.{exit_status, fault_number, order_status, wrong_words};
+ghost use Rattle.farm_desk.specs.Faults.{exit_status, desk_fault_code, order_status, wrong_words};
 ghost use Rattle.farm_desk.specs.Lines.{fault_line, refusal_line, error_line, WritesPart};
 ghost use Rattle.farm_desk.specs.Orders.{streams, DoesOrder};
 ghost use Rattle.farm_desk.specs.Program.{EndsAsRead, EndsOrder, EndsUnread, IsReadOf, ShowsHelp};
@@ -174,7 +174,7 @@ pub fn print_fault<E: Write>(errors: &mut E, fault: DeskFault) -> u8
 
     // What is written is this fault's line, as far as the writer took it.
     ensures printed { WritesPart (E.contents errors.old) (E.contents errors.new)
-        (fault_line (fault_number fault)) }
+        (fault_line (desk_fault_code fault)) }
 {
     let _ = write_fault(errors, fault.code());
     status_after(fault)

@@ -1,6 +1,6 @@
 //! Why a conversation or an import ended without an answer of the farm.
 ghost use Rattle.std.specs.Prelude.{◌≡◌};
-ghost use Rattle.farm_desk.specs.Faults.{fault_number};
+ghost use Rattle.farm_desk.specs.Faults.{desk_fault_code};
 
 use farm_jobfile::FileFault;
 use farm_keep::KeepFault;
@@ -41,7 +41,7 @@ impl From<KeepFault> for DeskFault {
 impl DeskFault {
     /// Its number in the table of refusals.
     pub fn code(self) -> u16
-        ensures { result ≡ fault_number self }
+        ensures { result ≡ desk_fault_code self }
     {
         match self {
             DeskFault::NoMemory => NO_MEMORY,

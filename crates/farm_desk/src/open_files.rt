@@ -9,7 +9,7 @@ use std::os::unix::fs::MetadataExt;
 
 /// What the system returns for a path.
 #[derive(Clone, Copy, Debug, PartialEq, Eq)]
-enum Lookup {
+enum PathLookup {
     /// It names this file, which is so long.
     File(Identity, u64),
     /// There is none.
@@ -75,7 +75,7 @@ impl<'a> OpenFiles<'a> {
 impl OpenFile {
     fn new(rt: &HostRuntime, path: String) -> Option<OpenFile> {
         match look_up(rt, path.as_str()) {
-            Lookup::File(identity, length) => Some(OpenFile {
+            PathLookup::File(identity, length) => Some(OpenFile {
                 path,
                 identity,
                 length: Cell::new(length),
@@ -87,18 +87,18 @@ impl OpenFile {
     /// Whether the path names the file, which didn't get shorter, as far as the system says.
     fn is_present(&self, rt: &HostRuntime) -> bool {
         match look_up(rt, self.path.as_str()) {
-            Lookup::File(identity, length) => {
+            PathLookup::File(identity, length) => {
                 identity == self.identity && length >= self.length.replace(length)
             }
-            Lookup::Nothing => false,
-            Lookup::Unknown => true,
+            PathLookup::Nothing => false,
+            PathLookup::Unknown => true,
         }
     }
 }
 
-fn look_up(rt: &HostRuntime, path: &str) -> Lookup {
+fn look_up(rt: &HostRuntime, path: &str) -> PathLookup {
     match fs::metadata(rt, path) {
-        Ok(found) => Lookup::File(
+        Ok(found) => PathLookup::File(
             Identity {
                 device: found.dev(),
                 node: found.ino(),
@@ -106,8 +106,8 @@ fn look_up(rt: &HostRuntime, path: &str) -> Lookup {
             found.len(),
         ),
         Err(error) => match error.kind() {
-            ErrorKind::NotFound | ErrorKind::NotADirectory => Lookup::Nothing,
-            _ => Lookup::Unknown,
+            ErrorKind::NotFound | ErrorKind::NotADirectory => PathLookup::Nothing,
+            _ => PathLookup::Unknown,
         },
     }
 }

@@ -5,9 +5,9 @@ ghost use Rattle.farm_desk.specs.Conversations.{AnswersOne, desk};
 ghost use Rattle.farm_desk.specs.Imports.{IsImport};
 ghost use Rattle.farm_desk.specs.Lines.{counts_line, port_line, PrintsLine, PrintsImport};
 ghost use Rattle.farm_desk.specs.Orders.{streams, DoesInFiles, DoesInMemory, DoesOrder};
-ghost use Rattle.farm_desk.specs.Orders.{DoesWhileThere, Inits, IsUnlessLost, Migrates, OpensMemory};
+ghost use Rattle.farm_desk.specs.Orders.{DoesWhileThere, Inits, IsUnlessLost, MigratesFile, OpensMemory};
 ghost use Rattle.farm_desk.specs.Tasks.{DoesTask, ImportsFile, PrintsReportOf, ServesIfListening};
-ghost use Rattle.farm_keep.specs.Kept.{Kept};
+ghost use Rattle.farm_keep.specs.KeeperState.{KeeperState};
 
 use crate::conversation::converse;
 use crate::fault::DeskFault;
@@ -234,7 +234,7 @@ fn on_farm<L: LabFiles, R: Input, W: Output, S: Alter + Drop>(
     input: &mut R,
     output: &mut W,
 ) -> Result<End, DeskFault>
-    ensures { (left : Kept S) × DoesTask S.Store (L.contents labs.now) task
+    ensures { (left : KeeperState S) × DoesTask S.Store (L.contents labs.now) task
         (desk keeper (R.remaining input.old) (W.contents output.old))
         (desk left (R.remaining input.new) (W.contents output.new))
         R.never_fails (W.has_room output.old) result }
@@ -347,7 +347,7 @@ fn migrate<S: Start, W: Output>(
     start: S,
     output: &mut W,
 ) -> Result<End, DeskFault>
-    ensures { Migrates (W.has_room output.old) (W.contents output.old) (W.contents output.new)
+    ensures { MigratesFile (W.has_room output.old) (W.contents output.old) (W.contents output.new)
         ⟦<FileFrom<S> as Disk>⟧ (image_at S.Start) result }
 {
     print_size_note(rt, file, "migrating");

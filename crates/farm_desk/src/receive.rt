@@ -5,7 +5,7 @@ ghost use Rattle.farm_http.specs.Request.{Request};
 ghost use Rattle.farm_http.specs.Requests.{ParsesTo};
 ghost use Rattle.farm_wire.specs.Asked.{ask, shown_ask};
 ghost use Rattle.farm_types.specs.Reads.{OrNoMemory};
-ghost use Rattle.farm_wire.specs.Reading.{denial_told};
+ghost use Rattle.farm_wire.specs.Reading.{denial_of};
 ghost use Rattle.farm_desk.specs.Received.{ReceivesResult};
 
 use crate::context::Context;
@@ -66,7 +66,7 @@ impl Context {
     /// What a request asks at a moment.
     fn ask_of(&self, taken: &Taken, now: u64) -> Result<Ask, AskFault>
         ensures { (request : Request) → ParsesTo taken.now.bytes.items taken.now.head request
-            → OrNoMemory denial_told shown_ask result (ask request now) }
+            → OrNoMemory denial_of shown_ask result (ask request now) }
     {
         match &self.routes {
             Some(routes) => routes.ask(self.alloc, taken, now),

@@ -1,9 +1,9 @@
 //! The answer that is due, as bytes, and how the conversation ends once they are written.
 ghost use Rattle.std.specs.Prelude.{◌≡◌, Err};
 ghost use Rattle.farm_types.specs.Refusals.{no_memory};
-ghost use Rattle.farm_keep.specs.Faults.{IsActFault, fault_code};
+ghost use Rattle.farm_keep.specs.Faults.{IsActFault, keep_fault_code};
 ghost use Rattle.farm_wire.specs.Replies.{reply_bytes};
-ghost use Rattle.farm_desk.specs.Answers.{refusal, http_status};
+ghost use Rattle.farm_desk.specs.Answers.{out_of_refusal, http_status};
 ghost use Rattle.farm_desk.specs.Encoding.{IsEncoded, IsDenialEncoded, bytes_in};
 
 use crate::fault::DeskFault;
@@ -59,7 +59,7 @@ impl Response {
 
     /// The constant answer where there is no memory for another.
     pub(crate) fn no_memory() -> Response
-        ensures bytes { bytes_in result.bytes ≡ reply_bytes (refusal no_memory) }
+        ensures bytes { bytes_in result.bytes ≡ reply_bytes (out_of_refusal no_memory) }
         ensures end { result.end ≡ Err DeskFault.NoMemory }
     {
         Response {
@@ -71,7 +71,7 @@ impl Response {
     /// The constant answer of a keeper's fault.
     pub(crate) fn closing(fault: KeepFault) -> Response
         requires { IsActFault fault }
-        ensures bytes { bytes_in result.bytes ≡ reply_bytes (refusal (fault_code fault)) }
+        ensures bytes { bytes_in result.bytes ≡ reply_bytes (out_of_refusal (keep_fault_code fault)) }
         ensures end { result.end ≡ Err (DeskFault.Keep fault) }
     {
         let bytes = match fault {

@@ -16,7 +16,7 @@ use std::process::Abort;
 use std::test::Fail;
 use std::time::{Clock, Duration};
 
-/// A clock that tells one moment, or none; how long it runs it tells at so many looks, each of
+/// A clock that gives one moment, or none; how long it runs it gives at so many looks, each of
 /// which takes so many seconds.
 #[derive(Drop)]
 struct Hands {

@@ -55,7 +55,7 @@ fn word_shown(alloc: Global, fault: WordFault) -> Result<String, AllocError> {
 }
 
 /// Whether a refusal has this text, by itself and as a word's fault, and this status.
-fn is_told(alloc: Global, code: u16, status: u16, text: &str) -> Result<bool, AllocError> {
+fn is_reported(alloc: Global, code: u16, status: u16, text: &str) -> Result<bool, AllocError> {
     let refusal = Refusal { code };
     let (own, word) = (
         shown(alloc, refusal)?,
@@ -67,7 +67,7 @@ fn is_told(alloc: Global, code: u16, status: u16, text: &str) -> Result<bool, Al
 #[test]
 fn texts_of_all_codes(rt: HostRuntime) -> Result<(), Fail> {
     for (code, status, text) in &TEXTS {
-        assert!(rt; is_told(rt.alloc(), *code, *status, text)?, "{code}");
+        assert!(rt; is_reported(rt.alloc(), *code, *status, text)?, "{code}");
     }
     let no_memory = word_shown(rt.alloc(), WordFault::NoMemory)?;
     assert_eq!(rt; no_memory.as_str(), "no memory");
@@ -98,8 +98,8 @@ fn faults_read_as_in_the_table(rt: HostRuntime) -> Result<(), Fail> {
     Ok(())
 }
 
-/// What is told of a fault, and the exit status.
-fn told(alloc: Global, fault: DeskFault) -> (u8, Vec<u8>) {
+/// What is reported of a fault, and the exit status.
+fn reported(alloc: Global, fault: DeskFault) -> (u8, Vec<u8>) {
     let mut line = Vec::new(alloc);
     let status = print_fault(&mut line, fault);
     (status, line)
@@ -167,7 +167,7 @@ const FAULTS: [(DeskFault, u8, &str); 13] = [
 #[test]
 fn lines_of_all_faults(rt: HostRuntime) {
     for (fault, status, line) in &FAULTS {
-        let (ended, written) = told(rt.alloc(), *fault);
+        let (ended, written) = reported(rt.alloc(), *fault);
         assert!(rt; written.as_slice() == line.as_bytes());
         assert_eq!(rt; ended, *status);
     }

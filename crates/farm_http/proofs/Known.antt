@@ -28,7 +28,7 @@ ended : (input used : List ℕ) (b : Option (List ℕ)) → Consumes (Some input
 ended input used None c e = absurd c
 ended input used (Some rest) c e = sym (c ∙ ap (λ l. used ++ l) e ∙ append-nil used)
 
--- what holds at every reader says it of one that tells its bytes
+-- what holds at every reader says it of one whose bytes are known
 pub known_gives : (a b : Option (List ℕ)) (Spent : Type 0) (r : Result Taken WireFault)
     → IfOk r (λ t. IsRequest t.bytes.items t.head) → IfOk r (λ t. Consumes a b t.bytes.items) → IfErr r (FailsAfter a b Spent)
     → IfSome a (λ input. (used : List ℕ) × Consumes (Some input) b used × TakesBytes input used Spent r)

@@ -56,6 +56,6 @@ module _ {W : Type 0} where
   IsSameWriter old new = new.writer.ghost_name ≡ old.writer.ghost_name
 
 -- a call failed where it gave an error, and that was no interruption
-abbrev pub TellsFailure : Result ℕ Error → Bool → Type 0
-TellsFailure result failed =
+abbrev pub CountsFailure : Result ℕ Error → Bool → Type 0
+CountsFailure result failed =
     OnOk result (failed ≡ false) × IfErr result (λ e. IsTrue failed ↔ (error_kind e ≢ Interrupted))

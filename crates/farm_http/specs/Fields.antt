@@ -18,8 +18,8 @@ abbrev pub fields_of : RequestHead → List (List ℕ × List ℕ)
 fields_of h = map name_and_value h.fields
 
 -- the values of the fields of that name, whatever the case of its letters
-abbrev pub values_of : List ℕ → List (List ℕ × List ℕ) → List (List ℕ)
-values_of name fields =
+abbrev pub field_values : List ℕ → List (List ℕ × List ℕ) → List (List ℕ)
+field_values name fields =
     map (λ field. field.1) (filter (λ field. str_eq_ignore_ascii_case field.0 name) fields)
 
 -- what stands under one name: nothing, one value, or several
@@ -34,7 +34,7 @@ lookup_of (value ∷ (other ∷ values)) = several
 
 -- what the fields have under a name
 abbrev pub field_of : List ℕ → List (List ℕ × List ℕ) → Lookup
-field_of name fields = lookup_of (values_of name fields)
+field_of name fields = lookup_of (field_values name fields)
 
 -- the same as a call answers it
 abbrev pub called_lookup : Result (Option (Bor (List ℕ))) Repeated → Lookup

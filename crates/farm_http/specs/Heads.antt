@@ -31,10 +31,10 @@ abbrev pub IsOpenBelow : ℕ → List ℕ → Type 0
 IsOpenBelow n bytes =
     (i : ℕ) → i < n → slice_index bytes i ≡ line_feed → IsOpen (take (i + 1) bytes)
 
--- what true and false tell of bytes: they are a head, or each of their lines leaves it open
-abbrev pub TellsHead : List ℕ → Bool → Type 0
-TellsHead bytes true = (h : RequestHead) × IsHead bytes h
-TellsHead bytes false = IsOpenBelow (length bytes) bytes
+-- what true and false say of bytes: they are a head, or each of their lines leaves it open
+abbrev pub FindsHead : List ℕ → Bool → Type 0
+FindsHead bytes true = (h : RequestHead) × IsHead bytes h
+FindsHead bytes false = IsOpenBelow (length bytes) bytes
 
 -- the input ends before a head
 pub record EndsEarly (used : List ℕ) (AtEnd : Type 0) (code : ℕ) : Type 0 where

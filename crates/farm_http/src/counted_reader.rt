@@ -18,7 +18,7 @@ pub struct CountedReader<'a, R> {
 }
 
 impl<'a, R: Input> CountedReader<'a, R> {
-    ghost use Rattle.farm_http.specs.Counts.{nothing_read, reader_of, reading_of, IsSameReader, TellsFailure};
+    ghost use Rattle.farm_http.specs.Counts.{nothing_read, reader_of, reading_of, IsSameReader, CountsFailure};
 
     /// A reader that was not called yet.
     pub fn new(reader: &'a mut R) -> CountedReader<'a, R>
@@ -56,7 +56,7 @@ impl<'a, R: Input> CountedReader<'a, R> {
         ensures bytes { ReadConsumes (R.remaining (reader_of self.old))
             (R.remaining (reader_of self.new)) result buf.new }
         ensures counted { (reading_of self.new).calls ≡ (reading_of self.old).calls + 1 }
-        ensures failed { TellsFailure result (reading_of self.new).failed }
+        ensures failed { CountsFailure result (reading_of self.new).failed }
 
         // It is one call by the reader's own count too, and a reader that never fails gives bytes.
         ensures once { IsOneMore (R.turns (reader_of self.old)) (R.turns (reader_of self.new)) }

@@ -7,7 +7,7 @@ ghost use Rattle.httparse.specs.Grammar.{RequestHead};
 ghost use Rattle.farm_types.specs.Limits.{longest_body, longest_head, most_fields, most_reads};
 ghost use Rattle.farm_http.specs.Fields.{body_length, refusal_by_number};
 ghost use Rattle.farm_http.specs.Faults.{HeadFails, BodyFails, FailsAfter, TakesFrom};
-ghost use Rattle.farm_http.specs.Heads.{IsHead, IsHopeless, IsOpenBelow, TellsHead, AreSpansOf};
+ghost use Rattle.farm_http.specs.Heads.{IsHead, IsHopeless, IsOpenBelow, FindsHead, AreSpansOf};
 ghost use Rattle.farm_http.specs.Counts.{nothing_read, reader_of, reading_of, IsSameReader, IsSpent};
 ghost use Rattle.farm_http.specs.Requests.{IsRequest};
 
@@ -39,7 +39,7 @@ pub fn read_request<R: Input>(alloc: Global, reader: &mut R) -> Result<Taken, Wi
         (λ taken. Consumes (R.remaining reader.old) (R.remaining reader.new) taken.bytes.items) }
     ensures fault { IfErr result (FailsAfter (R.remaining reader.old) (R.remaining reader.new) ⊤) }
 
-    // Of a reader that tells its bytes, its end is the end of the input.
+    // Of a reader whose bytes are known, its end is the end of the input.
     ensures known { IfSome (R.remaining reader.old)
         (λ input. TakesFrom input (R.remaining reader.new) ⊤ result) }
 
@@ -216,7 +216,7 @@ fn spans_of(bytes: &[u8], headers: &mut [HeaderSpan]) -> Result<Option<RequestSp
     requires some { 0 < length bytes.now }
     requires short { length bytes.now ≤ longest_head }
     requires open_lines { IsOpenBelow (length bytes.now - 1) bytes.now }
-    ensures told { IfOk result (λ found. TellsHead bytes.now (is_some found)) }
+    ensures found { IfOk result (λ found. FindsHead bytes.now (is_some found)) }
     ensures spans { IfOk result (λ found. IfSome found (AreSpansOf bytes.now headers.new)) }
     ensures refused { IfErr result (λ refusal. IsHopeless bytes.now refusal.code) }
 {

@@ -16,7 +16,7 @@ pub struct Taken {
     pub head: usize,
     /// Where the parts of the head are.
     pub(crate) spans: RequestSpans,
-    /// Where its fields are; `spans` tells how many there are.
+    /// Where its fields are; `spans` says how many there are.
     pub(crate) headers: [HeaderSpan; MOST_FIELDS],
     pub ghost whole: { ∥ IsRequest bytes.items head ∥₁ },
     pub ghost placed: { ∥ AreSpansOf (take head bytes.items) headers spans ∥₁ },

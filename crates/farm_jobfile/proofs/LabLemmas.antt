@@ -7,7 +7,7 @@ use Rattle.toml.specs.Data.{Data, Members, no_members, member, get, as_table}
 use Rattle.farm_types.specs.declared.calls.Call.{Call}
 use Rattle.farm_types.specs.declared.calls.Cmd.{Cmd}
 use Rattle.farm_types.specs.Reads.{◌>>=◌, OrNoMemory}
-use Rattle.farm_jobfile.specs.Reading.{Fault, fault_told, kind_or}
+use Rattle.farm_jobfile.specs.Reading.{Fault, text_fault, kind_or}
 use Rattle.farm_jobfile.specs.Fields.{name_or, name_in, tags_in}
 use Rattle.farm_jobfile.specs.Lab.{LabCall, entry_of, given_entry, check_in, own_tags, type_in, board_in, entries_of, section, calls_in, IsAddition}
 use Rattle.farm_jobfile.specs.declared.fault.FileKind.TheVariants.{LabFile}
@@ -88,7 +88,7 @@ calls_add (call ∷ calls) h = All-cons (λ (c : Call). IsAddition c.cmd) call c
 
 -- each call that a tree spells adds a type or a board
 pub calls_in_add : (now : ℕ) (d : Data) (result : Result (Vec Call Global) FileFault)
-    → OrNoMemory fault_told (λ (calls : Vec Call Global). map entry_of calls.items) result (calls_in now d)
+    → OrNoMemory text_fault (λ (calls : Vec Call Global). map entry_of calls.items) result (calls_in now d)
     → IfOk result (λ calls. All (λ call. IsAddition call.cmd) calls.items)
 calls_in_add now d (Ok calls) h = calls_add calls.items (entries_add now d (map entry_of calls.items) h)
 calls_in_add now d (Err fault) h = tt

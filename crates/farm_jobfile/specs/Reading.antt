@@ -12,10 +12,10 @@ abbrev pub code_of_kind : FileKind → ℕ
 code_of_kind FileKind.JobFile = bad_job_file
 code_of_kind FileKind.LabFile = bad_lab_file
 
-abbrev pub code_of : FileFault → ℕ
-code_of (FileFault.Bad kind reason) = code_of_kind kind
-code_of (FileFault.Word refusal) = refusal.code
-code_of FileFault.NoMemory = no_memory
+abbrev pub file_fault_code : FileFault → ℕ
+file_fault_code (FileFault.Bad kind reason) = code_of_kind kind
+file_fault_code (FileFault.Word refusal) = refusal.code
+file_fault_code FileFault.NoMemory = no_memory
 
 -- a fault of a word as a fault of the file that has it
 abbrev pub of_word : WordFault → FileFault
@@ -54,8 +54,8 @@ abbrev pub kind_or : {A : Type 0} → FileKind → Option A → Result A Fault
 kind_or file None = Err (bad file Reason.WrongKind)
 kind_or file (Some x) = Ok x
 
--- a file's fault tells one of the text, unless memory ran out
-abbrev pub fault_told : FileFault → Option Fault
-fault_told (FileFault.Bad kind reason) = Some (Fault.Bad kind reason)
-fault_told (FileFault.Word refusal) = Some (Fault.Word refusal)
-fault_told FileFault.NoMemory = None
+-- a file's fault is one of the text, unless memory ran out
+abbrev pub text_fault : FileFault → Option Fault
+text_fault (FileFault.Bad kind reason) = Some (Fault.Bad kind reason)
+text_fault (FileFault.Word refusal) = Some (Fault.Word refusal)
+text_fault FileFault.NoMemory = None

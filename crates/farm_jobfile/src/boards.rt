@@ -3,7 +3,7 @@ ghost use Rattle.std.specs.Prelude.{◌≡◌, map, IsTrue, IfOk};
 ghost use Rattle.toml.specs.View.{view, table_view};
 ghost use Rattle.farm_types.specs.Proper.{has_no_name_tag};
 ghost use Rattle.farm_types.specs.Reads.{OrNoMemory};
-ghost use Rattle.farm_jobfile.specs.Reading.{fault_told};
+ghost use Rattle.farm_jobfile.specs.Reading.{text_fault};
 ghost use Rattle.farm_jobfile.specs.Lab.{entry_of, own_tags, board_in, entries_of};
 
 use crate::call::call_of;
@@ -28,7 +28,8 @@ fn own_tags(tags: Tags) -> Result<Tags, Fault>
 /// The call that adds one board.
 #[tactic(auto, unfolding(crate::specs::Lab::board_in))]
 fn board_of(alloc: Global, name: &str, value: &Value, now: u64) -> Result<Call, FileFault>
-    ensures { OrNoMemory fault_told (λ call. entry_of call) result (board_in now name.now (view value.now)) }
+    ensures { OrNoMemory text_fault (λ call. entry_of call) result
+        (board_in now name.now (view value.now)) }
 {
     let board = name_of(alloc, name)?;
     let _table = table_of(FileKind::LabFile, value)?;
@@ -40,7 +41,7 @@ fn board_of(alloc: Global, name: &str, value: &Value, now: u64) -> Result<Call, 
 
 /// The calls that add the boards of a table, which has them in byte order.
 pub(crate) fn boards_of(alloc: Global, table: &Table, now: u64) -> Result<Vec<Call>, FileFault>
-    ensures { OrNoMemory fault_told (λ calls. map entry_of calls.items) result
+    ensures { OrNoMemory text_fault (λ calls. map entry_of calls.items) result
         (entries_of (board_in now) (table_view table.now)) }
 {
     let mut calls = Vec::new(alloc);

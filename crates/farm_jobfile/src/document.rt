@@ -1,8 +1,8 @@
 //! The text and the tree of a file.
 ghost use Rattle.std.specs.Prelude.{◌≡◌, ◌≤◌, length, IfOk};
 ghost use Rattle.toml.specs.View.{view};
-ghost use Rattle.farm_types.specs.Reads.{OrNoMemory, seen};
-ghost use Rattle.farm_jobfile.specs.Reading.{fault_told};
+ghost use Rattle.farm_types.specs.Reads.{OrNoMemory, viewed};
+ghost use Rattle.farm_jobfile.specs.Reading.{text_fault};
 ghost use Rattle.farm_jobfile.specs.Document.{text_in, tree_in};
 
 use crate::fault::{Fault, FileFault, FileKind, Reason};
@@ -12,7 +12,7 @@ use toml::Value;
 /// The text of a file of at most `most` bytes, which must be UTF-8.
 #[tactic(auto, unfolding(crate::specs::Document::text_in))]
 pub(crate) fn text_of(file: FileKind, most: usize, bytes: &[u8]) -> Result<&str, Fault>
-    ensures text { seen (λ text. text.now) result ≡ text_in file most bytes.now }
+    ensures text { viewed (λ text. text.now) result ≡ text_in file most bytes.now }
     ensures short { IfOk result (λ text. length text.now ≤ most) }
 {
     if bytes.len() > most {
@@ -28,7 +28,7 @@ pub(crate) fn text_of(file: FileKind, most: usize, bytes: &[u8]) -> Result<&str,
 /// `i64`, a float out of range and values nested beyond its limit are no TOML.
 #[tactic(auto, unfolding(crate::specs::Document::tree_in))]
 pub(crate) fn tree_of(alloc: Global, file: FileKind, text: &str) -> Result<Value, FileFault>
-    ensures { OrNoMemory fault_told (λ tree. view tree) result (tree_in file text.now) }
+    ensures { OrNoMemory text_fault (λ tree. view tree) result (tree_in file text.now) }
 {
     match toml::table_from_str(alloc, text) {
         Ok(table) => Ok(Value::Table(table)),

@@ -73,11 +73,11 @@ impl FileKind {
 }
 
 impl FileFault {
-    ghost use Rattle.farm_jobfile.specs.Reading.{code_of};
+    ghost use Rattle.farm_jobfile.specs.Reading.{file_fault_code};
 
     /// The number of the fault in the one table of refusals.
     pub fn code(self) -> u16
-        ensures { result ≡ code_of self }
+        ensures { result ≡ file_fault_code self }
     {
         match self {
             FileFault::Bad { kind, .. } => kind.code(),
@@ -89,9 +89,9 @@ impl FileFault {
 
 impl From<Fault> for FileFault {
     ghost use Rattle.std.specs.Prelude.{◌≡◌, Some};
-    ghost use Rattle.farm_jobfile.specs.Reading.{fault_told};
+    ghost use Rattle.farm_jobfile.specs.Reading.{text_fault};
 
-    ghost from_gives = { λ fault e. fault_told e ≡ Some fault };
+    ghost from_gives = { λ fault e. text_fault e ≡ Some fault };
 
     fn from(fault: Fault) -> FileFault {
         match fault {

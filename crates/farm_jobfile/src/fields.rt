@@ -2,8 +2,8 @@
 ghost use Rattle.std.specs.Prelude.{◌≡◌, map, Err, IsOk};
 ghost use Rattle.toml.specs.Data.{as_table};
 ghost use Rattle.toml.specs.View.{view, items_view, table_view};
-ghost use Rattle.farm_types.specs.Reads.{OrNoMemory, seen};
-ghost use Rattle.farm_jobfile.specs.Reading.{fault_told, kind_or};
+ghost use Rattle.farm_types.specs.Reads.{OrNoMemory, viewed};
+ghost use Rattle.farm_jobfile.specs.Reading.{text_fault, kind_or};
 ghost use Rattle.farm_jobfile.specs.Fields.{name_or, name_from, name_in, texts_in, tags_from};
 ghost use Rattle.farm_jobfile.specs.Fields.{tags_in};
 
@@ -14,7 +14,8 @@ use toml::{Table, Value};
 
 /// The table that a value is.
 pub(crate) fn table_of<'v>(file: FileKind, value: &'v Value) -> Result<&'v Table, Fault>
-    ensures { seen (λ table. table_view table.now) result ≡ kind_or file (as_table (view value.now)) }
+    ensures { viewed (λ table. table_view table.now) result ≡ kind_or file
+        (as_table (view value.now)) }
 {
     match value.as_table() {
         Some(table) => Ok(table),
@@ -24,7 +25,7 @@ pub(crate) fn table_of<'v>(file: FileKind, value: &'v Value) -> Result<&'v Table
 
 /// The name that a text spells; memory is wanted only where it spells one.
 pub(crate) fn name_of(alloc: Global, text: &str) -> Result<Name, FileFault>
-    ensures spells { OrNoMemory fault_told (λ name. name) result (name_or text.now) }
+    ensures spells { OrNoMemory text_fault (λ name. name) result (name_or text.now) }
     ensures memory { result ≡ Err FileFault.NoMemory → IsOk (name_or text.now) }
 {
     Ok(Name::parse(alloc, text.as_bytes())?)
@@ -33,7 +34,7 @@ pub(crate) fn name_of(alloc: Global, text: &str) -> Result<Name, FileFault>
 /// The name that a value spells, a text; memory is wanted only where it spells one.
 #[tactic(auto, unfolding(crate::specs::Fields::name_from))]
 pub(crate) fn name_from(alloc: Global, file: FileKind, value: &Value) -> Result<Name, FileFault>
-    ensures spells { OrNoMemory fault_told (λ name. name) result (name_from file (view value.now)) }
+    ensures spells { OrNoMemory text_fault (λ name. name) result (name_from file (view value.now)) }
     ensures memory { result ≡ Err FileFault.NoMemory → IsOk (name_from file (view value.now)) }
 {
     match value.as_str() {
@@ -50,7 +51,8 @@ pub(crate) fn name_at(
     value: &Value,
     key: &str,
 ) -> Result<Name, FileFault>
-    ensures spells { OrNoMemory fault_told (λ name. name) result (name_in file key.now (view value.now)) }
+    ensures spells { OrNoMemory text_fault (λ name. name) result
+        (name_in file key.now (view value.now)) }
     ensures memory { result ≡ Err FileFault.NoMemory
         → IsOk (name_in file key.now (view value.now)) }
 {
@@ -62,7 +64,7 @@ pub(crate) fn name_at(
 
 /// The texts of an array's items.
 fn texts_of(alloc: Global, file: FileKind, items: &[Value]) -> Result<Vec<&[u8]>, FileFault>
-    ensures { OrNoMemory fault_told (λ texts. map (λ text. text.now) texts.items) result
+    ensures { OrNoMemory text_fault (λ texts. map (λ text. text.now) texts.items) result
         (texts_in file (items_view items.now)) }
 {
     let mut texts = Vec::new(alloc);
@@ -78,7 +80,7 @@ fn texts_of(alloc: Global, file: FileKind, items: &[Value]) -> Result<Vec<&[u8]>
 /// The tags that a value spells, an array of texts.
 #[tactic(auto, unfolding(crate::specs::Fields::tags_from))]
 pub(crate) fn tags_from(alloc: Global, file: FileKind, value: &Value) -> Result<Tags, FileFault>
-    ensures { OrNoMemory fault_told (λ tags. tags) result (tags_from file (view value.now)) }
+    ensures { OrNoMemory text_fault (λ tags. tags) result (tags_from file (view value.now)) }
 {
     let Some(items) = value.as_array() else {
         return Err(file.bad(Reason::WrongKind));
@@ -90,7 +92,7 @@ pub(crate) fn tags_from(alloc: Global, file: FileKind, value: &Value) -> Result<
 /// The tags under the key `tags`; absent means none.
 #[tactic(auto, unfolding(crate::specs::Fields::tags_in))]
 pub(crate) fn tags_at(alloc: Global, file: FileKind, value: &Value) -> Result<Tags, FileFault>
-    ensures { OrNoMemory fault_told (λ tags. tags) result (tags_in file (view value.now)) }
+    ensures { OrNoMemory text_fault (λ tags. tags) result (tags_in file (view value.now)) }
 {
     match value.get("tags") {
         Some(field) => tags_from(alloc, file, field),

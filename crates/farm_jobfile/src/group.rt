@@ -5,7 +5,7 @@ ghost use Rattle.farm_types.specs.Limits.{longest_text};
 ghost use Rattle.farm_types.specs.Proper.{is_proper_cmd};
 ghost use Rattle.farm_types.specs.declared.calls.Cmd.{Cmd};
 ghost use Rattle.farm_types.specs.Reads.{OrNoMemory};
-ghost use Rattle.farm_jobfile.specs.Reading.{fault_told};
+ghost use Rattle.farm_jobfile.specs.Reading.{text_fault};
 ghost use Rattle.farm_jobfile.specs.Job.{is_full_want, is_role, want_of, role_of, group_of};
 
 use crate::fault::FileFault;
@@ -82,7 +82,8 @@ pub(crate) fn group_of(
     text: &str,
 ) -> Result<Cmd, FileFault>
     requires { length text.now ≤ longest_text }
-    ensures meaning { OrNoMemory fault_told (λ cmd. cmd) result (group_of priority members.items text.now) }
+    ensures meaning { OrNoMemory text_fault (λ cmd. cmd) result
+        (group_of priority members.items text.now) }
     ensures proper { IfOk result (λ cmd. IsTrue (is_proper_cmd cmd)) }
 {
     let (wants, roles) = parts_of(alloc, members)?;

@@ -2,8 +2,8 @@
 ghost use Rattle.std.specs.Prelude.{◌≡◌, IsTrue, IfOk};
 ghost use Rattle.toml.specs.View.{view};
 ghost use Rattle.farm_types.specs.Proper.{is_proper_cmd};
-ghost use Rattle.farm_types.specs.Reads.{OrNoMemory, seen};
-ghost use Rattle.farm_jobfile.specs.Reading.{fault_told};
+ghost use Rattle.farm_types.specs.Reads.{OrNoMemory, viewed};
+ghost use Rattle.farm_jobfile.specs.Reading.{text_fault};
 ghost use Rattle.farm_jobfile.specs.Job.{title_or, title_in, single_in, members_in, job};
 
 use crate::document::{text_of, tree_of};
@@ -20,7 +20,7 @@ use toml::Value;
 /// Whether the text under the key `job_name` is there and not empty.
 #[tactic(auto, unfolding(crate::specs::Job::title_in))]
 fn title_of(value: &Value) -> Result<&str, Fault>
-    ensures { seen (λ title. title.now) result ≡ title_in (view value.now) }
+    ensures { viewed (λ title. title.now) result ≡ title_in (view value.now) }
 {
     let Some(field) = value.get("job_name") else {
         return Err(Fault::Bad(FileKind::JobFile, Reason::Missing));
@@ -35,7 +35,7 @@ fn title_of(value: &Value) -> Result<&str, Fault>
 /// The one member of a job for one board.
 #[tactic(auto, unfolding(crate::specs::Job::single_in))]
 fn single_of(alloc: Global, kind: &Value, value: &Value) -> Result<Vec<Member>, FileFault>
-    ensures { OrNoMemory fault_told (λ members. members.items) result
+    ensures { OrNoMemory text_fault (λ members. members.items) result
         (single_in (view kind.now) (view value.now)) }
 {
     let kind = name_from(alloc, FileKind::JobFile, kind)?;
@@ -51,7 +51,8 @@ fn single_of(alloc: Global, kind: &Value, value: &Value) -> Result<Vec<Member>, 
 /// The members of the job: exactly one of `device_type` and `roles` is there.
 #[tactic(auto, unfolding(crate::specs::Job::members_in))]
 fn members_of(alloc: Global, value: &Value) -> Result<Vec<Member>, FileFault>
-    ensures { OrNoMemory fault_told (λ members. members.items) result (members_in (view value.now)) }
+    ensures { OrNoMemory text_fault (λ members. members.items) result
+        (members_in (view value.now)) }
 {
     match (value.get("device_type"), value.get("roles")) {
         (Some(_), Some(_)) => Err(FileKind::JobFile.bad(Reason::Both)),
@@ -70,12 +71,12 @@ fn members_of(alloc: Global, value: &Value) -> Result<Vec<Member>, FileFault>
 /// `priority`, a whole number from 0 to 100 or one of LAVA's words `low`, `medium` and `high`, 50
 /// where it is absent; and either `device_type` with, perhaps, `tags`, or `roles`, a table of
 /// LAVA's MultiNode roles, each with `device_type`, `count` and, perhaps, `tags`. Other keys are
-/// carried in the text. Faults are told in the order in which the keys stand here; the first one
+/// carried in the text. Faults come in the order in which the keys stand here; the first one
 /// counts. Roles are taken in the byte order of their names, and the job has one up to four
 /// members.
 #[tactic(auto, unfolding(crate::specs::Job::job))]
 pub fn job_of(alloc: Global, text: &[u8]) -> Result<Cmd, FileFault>
-    ensures meaning { OrNoMemory fault_told (λ cmd. cmd) result (job text.now) }
+    ensures meaning { OrNoMemory text_fault (λ cmd. cmd) result (job text.now) }
     ensures proper { IfOk result (λ cmd. IsTrue (is_proper_cmd cmd)) }
 {
     let text = text_of(FileKind::JobFile, LONGEST_JOB_FILE, text)?;

@@ -2,7 +2,7 @@
 //!
 //! A job file asks for one job, or for the jobs of a group (`job_of`); a lab file lists the device
 //! types and the boards of a lab (`lab_of`). What a text spells is defined over the tree that the
-//! crate `toml` reads from it, field by field, and the first fault is the one that is told.
+//! crate `toml` reads from it, field by field, and the first fault is the one that is reported.
 //!
 //! Read `specs/` in the order Reading, Document, Fields, Job, Lab.
 #![tactic(auto)]

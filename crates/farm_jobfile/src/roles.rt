@@ -2,7 +2,7 @@
 ghost use Rattle.std.specs.Prelude.{◌≡◌, replicate, IfOk};
 ghost use Rattle.toml.specs.View.{view, table_view};
 ghost use Rattle.farm_types.specs.Reads.{OrNoMemory};
-ghost use Rattle.farm_jobfile.specs.Reading.{fault_told};
+ghost use Rattle.farm_jobfile.specs.Reading.{text_fault};
 ghost use Rattle.farm_jobfile.specs.Job.{count_or, count_in, role_in, roles_in, roles_from};
 
 use crate::fault::{Fault, FileFault, FileKind, Reason};
@@ -44,7 +44,8 @@ fn copies(alloc: Global, member: &Member, count: u64) -> Result<Vec<Member>, All
 /// The members that play one role.
 #[tactic(auto, unfolding(crate::specs::Job::role_in))]
 fn role_of(alloc: Global, name: &str, value: &Value) -> Result<Vec<Member>, FileFault>
-    ensures { OrNoMemory fault_told (λ members. members.items) result (role_in name.now (view value.now)) }
+    ensures { OrNoMemory text_fault (λ members. members.items) result
+        (role_in name.now (view value.now)) }
 {
     let role = name_of(alloc, name)?;
     let _table = table_of(FileKind::JobFile, value)?;
@@ -61,7 +62,8 @@ fn role_of(alloc: Global, name: &str, value: &Value) -> Result<Vec<Member>, File
 
 /// The members of all roles, which a table has in the byte order of their names.
 fn roles_of(alloc: Global, table: &Table) -> Result<Vec<Member>, FileFault>
-    ensures { OrNoMemory fault_told (λ members. members.items) result (roles_in (table_view table.now)) }
+    ensures { OrNoMemory text_fault (λ members. members.items) result
+        (roles_in (table_view table.now)) }
 {
     let mut members = Vec::new(alloc);
     for (name, value) in table.iter() {
@@ -74,7 +76,8 @@ fn roles_of(alloc: Global, table: &Table) -> Result<Vec<Member>, FileFault>
 /// The members that the value of the key `roles` spells, a table of tables.
 #[tactic(auto, unfolding(crate::specs::Job::roles_from))]
 pub(crate) fn roles_from(alloc: Global, value: &Value) -> Result<Vec<Member>, FileFault>
-    ensures { OrNoMemory fault_told (λ members. members.items) result (roles_from (view value.now)) }
+    ensures { OrNoMemory text_fault (λ members. members.items) result
+        (roles_from (view value.now)) }
 {
     roles_of(alloc, table_of(FileKind::JobFile, value)?)
 }

@@ -4,7 +4,7 @@ ghost use Rattle.toml.specs.View.{view, table_view};
 ghost use Rattle.farm_types.specs.Limits.{is_every};
 ghost use Rattle.farm_types.specs.Proper.{is_frequency};
 ghost use Rattle.farm_types.specs.Reads.{OrNoMemory};
-ghost use Rattle.farm_jobfile.specs.Reading.{fault_told};
+ghost use Rattle.farm_jobfile.specs.Reading.{text_fault};
 ghost use Rattle.farm_jobfile.specs.Lab.{entry_of, unit_in, every_in, check_in, type_in, entries_of};
 
 use crate::call::call_of;
@@ -63,7 +63,8 @@ fn check_of(value: &Value) -> Result<Check, Fault>
 /// The call that adds one type.
 #[tactic(auto, unfolding(crate::specs::Lab::type_in))]
 fn type_of(alloc: Global, name: &str, value: &Value, now: u64) -> Result<Call, FileFault>
-    ensures { OrNoMemory fault_told (λ call. entry_of call) result (type_in now name.now (view value.now)) }
+    ensures { OrNoMemory text_fault (λ call. entry_of call) result
+        (type_in now name.now (view value.now)) }
 {
     let kind = name_of(alloc, name)?;
     let _table = table_of(FileKind::LabFile, value)?;
@@ -74,7 +75,7 @@ fn type_of(alloc: Global, name: &str, value: &Value, now: u64) -> Result<Call, F
 
 /// The calls that add the types of a table, which has them in byte order.
 pub(crate) fn types_of(alloc: Global, table: &Table, now: u64) -> Result<Vec<Call>, FileFault>
-    ensures { OrNoMemory fault_told (λ calls. map entry_of calls.items) result
+    ensures { OrNoMemory text_fault (λ calls. map entry_of calls.items) result
         (entries_of (type_in now) (table_view table.now)) }
 {
     let mut calls = Vec::new(alloc);

@@ -14,11 +14,11 @@ use Rattle.farm_types.specs.Sound.{IsSound}
 use Rattle.farm_types.specs.declared.calls.Call.{Call}
 use Rattle.farm_sound.proofs.Step.{IsSound-run}
 use Rattle.farm_core.specs.Shown.{Shown}
-use Rattle.farm_store.specs.Columns.{IsOfSchema, Tables, first_schema, rows_of}
+use Rattle.farm_store.specs.Columns.{IsOfSchema, TableRows, first_schema, rows_of}
 use Rattle.farm_store.specs.Holds.{Holds, Stands}
 use Rattle.farm_keep.specs.Faults.{IsFindFault}
 use Rattle.farm_keep.specs.Headline.{GivesNoKeeper, LeavesRun}
-use Rattle.farm_keep.specs.Kept.{Kept, Keeps}
+use Rattle.farm_keep.specs.KeeperState.{KeeperState, KeepsOwnFarm}
 use Rattle.farm_keep.specs.Lives.{AreLived, GivesFarm, LeavesDone, IsLived, IsRestart, Life}
 use Rattle.farm_keep.specs.Restarts.{Restart, calls_of_restarts}
 use Rattle.farm_keep.specs.declared.keeper.run.RunEnd.{RunEnd}
@@ -27,7 +27,7 @@ use Rattle.farm_keep.specs.declared.fault.KeepFault.{KeepFault}
 -- why a store gave no farm
 pub denies : (s : State) (fault : KeepFault) (result : Result Shown KeepFault) → result ≡ Err fault
     → (result ≡ Err KeepFault.BadStore → (F : Farm) → IsSound F → ¬ Stands s (rows_of F))
-    → (result ≡ Err KeepFault.OldSchema → (T : Tables) → Stands s T → IsOfSchema first_schema T) → GivesNoKeeper s fault
+    → (result ≡ Err KeepFault.OldSchema → (T : TableRows) → Stands s T → IsOfSchema first_schema T) → GivesNoKeeper s fault
 denies s KeepFault.NoMemory result is bad ours = tt
 denies s KeepFault.Store result is bad ours = tt
 denies s KeepFault.BadStore result is bad ours = bad is
@@ -44,7 +44,7 @@ not_first F first = true≢false (sym first)
 pub gives_farm : (result : Result Shown KeepFault) (old : State) (F : Farm) → IsSound F → Stands old (rows_of F)
     → IfOk result (λ f. (G : Farm) → IsSound G → Stands old (rows_of G) → f.farm ≡ G)
     → (result ≡ Err KeepFault.BadStore → (G : Farm) → IsSound G → ¬ Stands old (rows_of G))
-    → (result ≡ Err KeepFault.OldSchema → (T : Tables) → Stands old T → IsOfSchema first_schema T) → IfErr result IsFindFault → GivesFarm result F
+    → (result ≡ Err KeepFault.OldSchema → (T : TableRows) → Stands old T → IsOfSchema first_schema T) → IfErr result IsFindFault → GivesFarm result F
 gives_farm (Ok f) old F sound at exact bad ours may = record { exact = exact F sound at; fault = tt }
 gives_farm (Err KeepFault.NoMemory) old F sound at exact bad ours may = record { exact = tt; fault = tt }
 gives_farm (Err KeepFault.Store) old F sound at exact bad ours may = record { exact = tt; fault = tt }
@@ -58,7 +58,7 @@ pub record LeftRun (db : Trees) (F : Farm) (end : RunEnd) (calls : List Call) : 
   pub counts : LeavesDone end done
   pub holds : Holds db (rows_of (run F (take done calls)))
 
-pub left_run : {S : Type 0} (g : Ghosts S) (k : Kept S) (end : RunEnd) (F : Farm) (calls : List Call) (db : Trees)
+pub left_run : {S : Type 0} (g : Ghosts S) (k : KeeperState S) (end : RunEnd) (F : Farm) (calls : List Call) (db : Trees)
     → LeavesRun g k end F calls → HasCleanDisk (state g k.conn) → (state g k.conn).may_leave db → LeftRun db F end calls
 left_run g k end F calls db leaves clean may = elim (leaves clean db may) [
   | inl here ↦ record { done = end.done; counts = inl refl; holds = here }
@@ -67,7 +67,7 @@ left_run g k end F calls db leaves clean may = elim (leaves clean db may) [
 
 -- a connection that was just opened stands for what it was opened on
 abbrev pub StandsOpened : {S : Type 0} → Ghosts S → Type 0
-StandsOpened g = (h : Held _) → Opens (state g h) → IsLive (state g h) → (T : Tables) → Holds (state g h).committed.trees T → Stands (state g h) T
+StandsOpened g = (h : Held _) → Opens (state g h) → IsLive (state g h) → (T : TableRows) → Holds (state g h).committed.trees T → Stands (state g h) T
 
 one_life : {S : Type 0} (g : Ghosts S) → StandsOpened g → (life : Life S) (first last : Trees) (F : Farm)
     → IsSound F → Holds first (rows_of F) → IsLived g life first last → LeftRun last F life.end life.calls
@@ -78,7 +78,7 @@ one_life g stands life first last F sound holds it =
     let made = it.resumes.adopts in
     let early : HasCleanDisk (state g k.conn) = omega (arith, it.resumes.runs.clean, it.clean) in
     let is = made.exact early F sound at in
-    let keeps : Keeps g k = λ clean. subst (Stands (state g k.conn)) (sym (made.rows clean (rows_of F) at)) (made.stands clean (rows_of F) at) in
+    let keeps : KeepsOwnFarm g k = λ clean. subst (Stands (state g k.conn)) (sym (made.rows clean (rows_of F) at)) (made.stands clean (rows_of F) at) in
     let leaves : LeavesRun g life.keeper life.end F life.calls = subst (λ G. LeavesRun g life.keeper life.end G life.calls) is (it.resumes.runs.left keeps) in
     left_run g life.keeper life.end F life.calls last leaves it.clean it.left
 

@@ -1,4 +1,4 @@
--- What a sound farm of the first edition has, and how the faults of its store are told.
+-- What a sound farm of the first edition has, and how the faults of its store are reported.
 use Rattle.std.proofs.Common.{◌≡◌, ◌≢◌, ◌⊎◌, inl, inr, refl, Ok, Err, IsErrAnd, Result, sym, ap, subst, ◌∙◌, arith}
 use Rattle.std.specs.Prelude.{ℕ, Some, IfErr, OnErr, OnOk}
 use Rattle.std.specs.Result.{result_err}
@@ -12,8 +12,8 @@ use Rattle.farm_types.specs.Small.{IsSmallJob}
 use Rattle.farm_types.specs.Sound.{IsSound}
 use Rattle.farm_types.proofs.Put.{AllByRecursion-weaker}
 use Rattle.farm_sound.proofs.Collecting.{none_scheduling}
-use Rattle.farm_store.specs.Columns.{IsOfSchema, Tables, first_rows_of, rows_of, second_schema}
-use Rattle.farm_store.specs.Versions.{MayTell, Tells}
+use Rattle.farm_store.specs.Columns.{IsOfSchema, TableRows, first_rows_of, rows_of, second_schema}
+use Rattle.farm_store.specs.Versions.{MayHaveVersion, HasVersion}
 use Rattle.farm_store.specs.Holds.{Holds, LeavesEither, Stands}
 use Rattle.farm_store.specs.Readable.{IsReadableFirst}
 use Rattle.farm_store.specs.declared.fault.StoreFault.{StoreFault}
@@ -41,7 +41,7 @@ small_jobs F sound = AllByRecursion-weaker
 
 -- ---- faults
 
--- a fault of the store is told as its own
+-- a fault of the store is reported as its own
 abbrev back : KeepFault → StoreFault
 back KeepFault.NoMemory = StoreFault.NoMemory
 back KeepFault.Store = StoreFault.Store
@@ -77,38 +77,38 @@ bad_is_another = (λ is. let e = is in cc, λ is. let e = is in cc)
 pub new_is_another : IsAnother StoreFault.NewSchema
 new_is_another = (λ is. let e = is in cc, λ is. let e = is in cc)
 
-module _ {A B : Type 0} (r : Result A StoreFault) (s : Result B KeepFault) (fault : StoreFault) (was : r ≡ Err fault) (told : IsErrAnd s (λ f. f ≡ fault_of_store fault)) where
-  is_told : s ≡ Err (fault_of_store fault)
-  is_told = let p = err_from_is_err_and s told in p.1 ∙ ap Err p.2
+module _ {A B : Type 0} (r : Result A StoreFault) (s : Result B KeepFault) (fault : StoreFault) (was : r ≡ Err fault) (reported : IsErrAnd s (λ f. f ≡ fault_of_store fault)) where
+  is_reported : s ≡ Err (fault_of_store fault)
+  is_reported = let p = err_from_is_err_and s reported in p.1 ∙ ap Err p.2
 
-  -- what is told is the store's fault
-  pub from_told : (f : StoreFault) → s ≡ Err (fault_of_store f) → r ≡ Err f
-  from_told f is = was ∙ ap Err (same_store_fault fault f (same_err s (fault_of_store fault) (fault_of_store f) is_told is))
+  -- what is reported is the store's fault
+  pub from_reported : (f : StoreFault) → s ≡ Err (fault_of_store f) → r ≡ Err f
+  from_reported f is = was ∙ ap Err (same_store_fault fault f (same_err s (fault_of_store fault) (fault_of_store f) is_reported is))
 
-  -- the store's fault is told
-  pub as_told : (f : StoreFault) → r ≡ Err f → s ≡ Err (fault_of_store f)
-  as_told f is = is_told ∙ ap (λ e. Err (fault_of_store e)) (same_err r fault f was is)
+  -- the store's fault is reported
+  pub as_reported : (f : StoreFault) → r ≡ Err f → s ≡ Err (fault_of_store f)
+  as_reported f is = is_reported ∙ ap (λ e. Err (fault_of_store e)) (same_err r fault f was is)
 
-  pub one_told : (f g : StoreFault) → (r ≡ Err f) ⊎ (r ≡ Err g) → (s ≡ Err (fault_of_store f)) ⊎ (s ≡ Err (fault_of_store g))
-  one_told f g (inl is) = inl (as_told f is)
-  one_told f g (inr is) = inr (as_told g is)
+  pub one_reported : (f g : StoreFault) → (r ≡ Err f) ⊎ (r ≡ Err g) → (s ≡ Err (fault_of_store f)) ⊎ (s ≡ Err (fault_of_store g))
+  one_reported f g (inl is) = inl (as_reported f is)
+  one_reported f g (inr is) = inr (as_reported g is)
 
   -- where it is want of memory or the store's
   pub only_memory : (fault ≡ StoreFault.NoMemory) ⊎ (fault ≡ StoreFault.Store) → s ≢ Err KeepFault.Store → r ≡ Err StoreFault.NoMemory
   only_memory (inl is) other = was ∙ ap Err is
-  only_memory (inr is) other = absurd (other (as_told StoreFault.Store (was ∙ ap Err is)))
+  only_memory (inr is) other = absurd (other (as_reported StoreFault.Store (was ∙ ap Err is)))
 
-  pub never_told : (f : StoreFault) → IsAnother f → (fault ≡ StoreFault.NoMemory) ⊎ (fault ≡ StoreFault.Store) → s ≢ Err (fault_of_store f)
-  never_told f another which is = by which (same_err r fault f was (from_told f is))
+  pub never_reported : (f : StoreFault) → IsAnother f → (fault ≡ StoreFault.NoMemory) ⊎ (fault ≡ StoreFault.Store) → s ≢ Err (fault_of_store f)
+  never_reported f another which is = by which (same_err r fault f was (from_reported f is))
     where
       by : (fault ≡ StoreFault.NoMemory) ⊎ (fault ≡ StoreFault.Store) → fault ≡ f → ⊥
       by (inl memory) same = another.0 (sym same ∙ memory)
       by (inr store) same = another.1 (sym same ∙ store)
 
-  pub told_so : (P : KeepFault → Type 0) → P (fault_of_store fault) → IfErr s P
-  told_so P p = subst (λ r. IfErr r P) (sym is_told) p
+  pub reported_so : (P : KeepFault → Type 0) → P (fault_of_store fault) → IfErr s P
+  reported_so P p = subst (λ r. IfErr r P) (sym is_reported) p
 
--- ---- the version that a store's `meta` tells
+-- ---- the version that a store's `meta` has
 
 some_err : {A : Type 0} (s : Result A KeepFault) (f : KeepFault) → s ≡ Err f → result_err s ≡ Some f
 some_err s f is = ap result_err is
@@ -121,27 +121,27 @@ either_err : {A : Type 0} (s : Result A KeepFault) (f g : KeepFault) → (s ≡ 
 either_err s f g (inl is) = inl (some_err s f is)
 either_err s f g (inr is) = inr (some_err s g is)
 
--- it was refused by its version, or failed, and so it is told
+-- it was refused by its version, or failed, and so it is reported
 pub looks_so : {A B : Type 0} (r : Result A StoreFault) (s : Result B KeepFault) (fault : StoreFault) → r ≡ Err fault → IsErrAnd s (λ f. f ≡ fault_of_store fault)
-    → (own other : ℕ) (refusal : StoreFault) (db : Database) → (r ≡ Err refusal → MayTell other db)
-    → (Tells other db → (r ≡ Err refusal) ⊎ (r ≡ Err StoreFault.Store))
-    → (¬ MayTell other db → ¬ MayTell own db → (r ≡ Err StoreFault.BadStore) ⊎ (r ≡ Err StoreFault.Store))
+    → (own other : ℕ) (refusal : StoreFault) (db : Database) → (r ≡ Err refusal → MayHaveVersion other db)
+    → (HasVersion other db → (r ≡ Err refusal) ⊎ (r ≡ Err StoreFault.Store))
+    → (¬ MayHaveVersion other db → ¬ MayHaveVersion own db → (r ≡ Err StoreFault.BadStore) ⊎ (r ≡ Err StoreFault.Store))
     → LooksAtVersion own other (fault_of_store refusal) (result_err s) db
-looks_so r s fault was told own other refusal db only is neither = record {
-  told = λ e. only (from_told r s fault was told refusal (was_err s (fault_of_store refusal) e));
-  tells = λ t. either_err s (fault_of_store refusal) KeepFault.Store (one_told r s fault was told refusal StoreFault.Store (is t));
-  neither = λ a b. either_err s KeepFault.BadStore KeepFault.Store (one_told r s fault was told StoreFault.BadStore StoreFault.Store (neither a b));
+looks_so r s fault was reported own other refusal db only is neither = record {
+  reported = λ e. only (from_reported r s fault was reported refusal (was_err s (fault_of_store refusal) e));
+  known = λ t. either_err s (fault_of_store refusal) KeepFault.Store (one_reported r s fault was reported refusal StoreFault.Store (is t));
+  neither = λ a b. either_err s KeepFault.BadStore KeepFault.Store (one_reported r s fault was reported StoreFault.BadStore StoreFault.Store (neither a b));
 }
 
 -- it was read, so it has the version that is wanted
 pub looks_read : {A B : Type 0} (r : Result A StoreFault) (a : A) (s : Result B KeepFault) → r ≡ Ok a
     → (own other : ℕ) (refusal : StoreFault) (db : Database) → s ≢ Err (fault_of_store refusal)
-    → (Tells other db → (r ≡ Err refusal) ⊎ (r ≡ Err StoreFault.Store))
-    → (¬ MayTell other db → ¬ MayTell own db → (r ≡ Err StoreFault.BadStore) ⊎ (r ≡ Err StoreFault.Store))
+    → (HasVersion other db → (r ≡ Err refusal) ⊎ (r ≡ Err StoreFault.Store))
+    → (¬ MayHaveVersion other db → ¬ MayHaveVersion own db → (r ≡ Err StoreFault.BadStore) ⊎ (r ≡ Err StoreFault.Store))
     → LooksAtVersion own other (fault_of_store refusal) (result_err s) db
 looks_read r a s was own other refusal db never is neither = record {
-  told = λ e. absurd (never (was_err s (fault_of_store refusal) e));
-  tells = λ t. absurd (ok_is_no_err r a refusal StoreFault.Store was (is t));
+  reported = λ e. absurd (never (was_err s (fault_of_store refusal) e));
+  known = λ t. absurd (ok_is_no_err r a refusal StoreFault.Store was (is t));
   neither = λ x y. absurd (ok_is_no_err r a StoreFault.BadStore StoreFault.Store was (neither x y));
 }
 
@@ -184,7 +184,7 @@ on_err (Err e) P p = p
 abbrev pub StandsEither : State → Farm → Type 0
 StandsEither s F = Stands s (first_rows_of F) ⊎ Stands s (rows_of F)
 
-pub stands_either : (s : State) (left : Trees) (F : Farm) → ((T : Tables) → Holds s.committed.trees T → Stands s T) → s.committed.trees ≡ left → HoldsEitherEdition left F → StandsEither s F
+pub stands_either : (s : State) (left : Trees) (F : Farm) → ((T : TableRows) → Holds s.committed.trees T → Stands s T) → s.committed.trees ≡ left → HoldsEitherEdition left F → StandsEither s F
 stands_either s left F opened on (inl first) = inl (opened (first_rows_of F) (subst (λ (t : Trees). Holds t (first_rows_of F)) (sym on) first))
 stands_either s left F opened on (inr second) = inr (opened (rows_of F) (subst (λ (t : Trees). Holds t (rows_of F)) (sym on) second))
 
@@ -194,18 +194,18 @@ no_first F G is = editions_apart F G
 -- what a migration leaves of it
 module _ (old mid : State) (F : Farm) (sound : IsSoundFirst F)
     (stop : (G : Farm) → IsSoundFirst G → Stands old (first_rows_of G) → LeavesEither mid (first_rows_of G) (rows_of G))
-    (others : (T : Tables) → Stands old T → ((G : Farm) → IsSoundFirst G → T ≢ first_rows_of G) → Stands mid T) where
+    (others : (T : TableRows) → Stands old T → ((G : Farm) → IsSoundFirst G → T ≢ first_rows_of G) → Stands mid T) where
   pub left_either : StandsEither old F → (db : Trees) → mid.may_leave db → HoldsEitherEdition db F
   left_either (inl first) db may = stop F sound first db may
   left_either (inr second) db may = inr ((others (rows_of F) second (no_first F)).left db may)
 
 -- done, or refused as new, it leaves this edition's tables
 pub raised_stands : (old mid : State) (F : Farm) (r : Result (Unit {0}) KeepFault) → r ≡ Ok tt → IsSoundFirst F → (IsSoundFirst F → Stands old (first_rows_of F) → Stands mid (rows_of F))
-    → ((T : Tables) → Stands old T → IsOfSchema second_schema T → (r ≡ Err KeepFault.NewSchema) ⊎ (r ≡ Err KeepFault.Store)) → StandsEither old F → Stands mid (rows_of F)
+    → ((T : TableRows) → Stands old T → IsOfSchema second_schema T → (r ≡ Err KeepFault.NewSchema) ⊎ (r ≡ Err KeepFault.Store)) → StandsEither old F → Stands mid (rows_of F)
 raised_stands old mid F r was sound ok known (inl first) = ok sound first
 raised_stands old mid F r was sound ok known (inr second) = absurd (ok_is_no_err r tt KeepFault.NewSchema KeepFault.Store was (known (rows_of F) second (rows_are_new F)))
 
-pub new_stands : (old mid : State) (F : Farm) → ((T : Tables) → Stands old T → IsOfSchema second_schema T) → ((T : Tables) → Stands old T → Stands mid T) → StandsEither old F → Stands mid (rows_of F)
+pub new_stands : (old mid : State) (F : Farm) → ((T : TableRows) → Stands old T → IsOfSchema second_schema T) → ((T : TableRows) → Stands old T → Stands mid T) → StandsEither old F → Stands mid (rows_of F)
 new_stands old mid F newer rests (inl first) = absurd (first_rows_are_old F (newer (first_rows_of F) first))
 new_stands old mid F newer rests (inr second) = rests (rows_of F) second
 
@@ -215,7 +215,7 @@ rests_new (Err f) P is rests = rests (λ store. let e = sym is ∙ store in cc)
 
 -- it is never refused as bad
 pub never_bad : (old : State) (F : Farm) (r : Result (Unit {0}) KeepFault) → r ≡ Err KeepFault.BadStore → ((G : Farm) → IsSoundFirst G → ¬ Stands old (first_rows_of G))
-    → ((T : Tables) → Stands old T → IsOfSchema second_schema T → (r ≡ Err KeepFault.NewSchema) ⊎ (r ≡ Err KeepFault.Store)) → IsSoundFirst F → StandsEither old F → ⊥
+    → ((T : TableRows) → Stands old T → IsOfSchema second_schema T → (r ≡ Err KeepFault.NewSchema) ⊎ (r ≡ Err KeepFault.Store)) → IsSoundFirst F → StandsEither old F → ⊥
 never_bad old F r was bad known sound (inl first) = bad F sound first
 never_bad old F r was bad known sound (inr second) = by (known (rows_of F) second (rows_are_new F))
   where

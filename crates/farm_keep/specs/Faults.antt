@@ -7,13 +7,13 @@ use Rattle.farm_core.specs.declared.farm.BadRows.{BadRows}
 use Rattle.farm_store.specs.declared.fault.StoreFault.{StoreFault}
 use Rattle.farm_keep.specs.declared.fault.KeepFault.{KeepFault}
 
-abbrev pub fault_code : KeepFault → ℕ
-fault_code KeepFault.NoMemory = no_memory
-fault_code KeepFault.Store = store_fault
-fault_code KeepFault.Closed = closed
-fault_code KeepFault.BadStore = bad_store
-fault_code KeepFault.OldSchema = old_schema
-fault_code KeepFault.NewSchema = new_schema
+abbrev pub keep_fault_code : KeepFault → ℕ
+keep_fault_code KeepFault.NoMemory = no_memory
+keep_fault_code KeepFault.Store = store_fault
+keep_fault_code KeepFault.Closed = closed
+keep_fault_code KeepFault.BadStore = bad_store
+keep_fault_code KeepFault.OldSchema = old_schema
+keep_fault_code KeepFault.NewSchema = new_schema
 
 abbrev pub fault_of_store : StoreFault → KeepFault
 fault_of_store StoreFault.NoMemory = KeepFault.NoMemory

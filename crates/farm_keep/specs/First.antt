@@ -1,11 +1,11 @@
--- Farms of the first edition, and what bringing one to this edition leaves and tells.
+-- Farms of the first edition, and what bringing one to this edition leaves and reports.
 use Rattle.std.specs.Prelude.{◌≡◌, ◌≢◌, ◌⊎◌, false, Result, Err, IfErr, OnErr, OnOk}
 use Rattle.std.specs.Result.{result_err}
 use Rattle.sqlite.specs.State.{State, HasCleanDisk}
 use Rattle.sqlite.specs.Tree.{Trees}
 use Rattle.farm_types.specs.Farm.{Farm}
 use Rattle.farm_types.specs.Sound.{IsSound}
-use Rattle.farm_store.specs.Columns.{IsOfSchema, Tables, first_rows_of, first_schema, rows_of}
+use Rattle.farm_store.specs.Columns.{IsOfSchema, TableRows, first_rows_of, first_schema, rows_of}
 use Rattle.farm_store.specs.Columns.{second_schema}
 use Rattle.farm_store.specs.Holds.{Holds, KeepsDoubt, LeavesEither, Stands}
 use Rattle.farm_store.specs.Schema.{farm_schema}
@@ -22,7 +22,7 @@ pub record IsSoundFirst (F : Farm) : Type 0 where
 abbrev pub HoldsEitherEdition : Trees → Farm → Type 0
 HoldsEitherEdition db F = Holds db (first_rows_of F) ⊎ Holds db (rows_of F)
 
--- what a migration makes of a store, and what it tells of it
+-- what a migration makes of a store, and what it reports of it
 pub record Migrates {A : Type 0} (old new : State) (result : Result A KeepFault) : Type 0 where
   pub autocommit : new.in_transaction ≡ false
   pub clean : KeepsDoubt old new
@@ -30,7 +30,7 @@ pub record Migrates {A : Type 0} (old new : State) (result : Result A KeepFault)
   -- column, index or view; now the same farm's tables of this edition stand there
   pub ok : HasCleanDisk new → OnOk result ((F : Farm) → IsSoundFirst F
       → Stands old (first_rows_of F) → Stands new (rows_of F))
-  pub only : HasCleanDisk new → OnOk result ((T : Tables) → Stands old T
+  pub only : HasCleanDisk new → OnOk result ((T : TableRows) → Stands old T
       → (F : Farm) × IsSoundFirst F × (T ≡ first_rows_of F))
   pub ours : OnOk result (old.now.schema ≡ farm_schema)
   -- whatever comes of it, a stop leaves the ones or the others
@@ -38,19 +38,19 @@ pub record Migrates {A : Type 0} (old new : State) (result : Result A KeepFault)
       → LeavesEither new (first_rows_of F) (rows_of F)
   -- tables of no sound farm of the first edition stay, whatever comes of it; and all tables stay
   -- after a fault that isn't the store's
-  pub others : HasCleanDisk new → (T : Tables) → Stands old T
+  pub others : HasCleanDisk new → (T : TableRows) → Stands old T
       → ((F : Farm) → IsSoundFirst F → T ≢ first_rows_of F) → Stands new T
   pub rests : HasCleanDisk new → result ≢ Err KeepFault.Store
-      → OnErr result ((T : Tables) → Stands old T → Stands new T)
+      → OnErr result ((T : TableRows) → Stands old T → Stands new T)
   -- bad are only tables of no sound farm of the first edition, and new only those of this one
   pub bad : HasCleanDisk new → result ≡ Err KeepFault.BadStore → (F : Farm) → IsSoundFirst F
       → ¬ Stands old (first_rows_of F)
-  pub newer : HasCleanDisk new → result ≡ Err KeepFault.NewSchema → (T : Tables) → Stands old T
+  pub newer : HasCleanDisk new → result ≡ Err KeepFault.NewSchema → (T : TableRows) → Stands old T
       → IsOfSchema second_schema T
   -- the version is looked at before anything else: of our tables, and of any store
-  pub known : HasCleanDisk new → (T : Tables) → Stands old T → IsOfSchema second_schema T
+  pub known : HasCleanDisk new → (T : TableRows) → Stands old T → IsOfSchema second_schema T
       → (result ≡ Err KeepFault.NewSchema) ⊎ (result ≡ Err KeepFault.Store)
-  pub other : HasCleanDisk new → (T : Tables) → Stands old T → ¬ IsOfSchema second_schema T
+  pub other : HasCleanDisk new → (T : TableRows) → Stands old T → ¬ IsOfSchema second_schema T
       → ¬ IsOfSchema first_schema T
       → (result ≡ Err KeepFault.BadStore) ⊎ (result ≡ Err KeepFault.Store)
   pub version : HasCleanDisk new → LooksForFirst (result_err result) old.now

@@ -2,7 +2,7 @@ pub mod Faults
 pub mod First
 pub mod Found
 pub mod Headline
-pub mod Kept
+pub mod KeeperState
 pub mod Lives
 pub mod Restarts
 pub mod Runs

@@ -10,7 +10,7 @@ use Rattle.farm_types.specs.Farm.{Farm}
 use Rattle.farm_types.specs.Machine.{run}
 use Rattle.farm_types.specs.declared.calls.Call.{Call}
 use Rattle.farm_keep.specs.Faults.{IsOwnFault}
-use Rattle.farm_keep.specs.Kept.{Kept}
+use Rattle.farm_keep.specs.KeeperState.{KeeperState}
 use Rattle.farm_keep.specs.Headline.{Resumes}
 use Rattle.farm_keep.specs.Restarts.{Restart, calls_of_restarts}
 use Rattle.farm_keep.specs.declared.keeper.run.RunEnd.{RunEnd}
@@ -42,7 +42,7 @@ pub record GivesRun (result : Result Shown KeepFault) (F : Farm) (end : RunEnd) 
 -- one life: the connection, the keeper that it ends with, how its run ended, and its calls
 pub record Life (S : Type 0) : Type 0 where
   pub conn : Held S
-  pub keeper : Kept S
+  pub keeper : KeeperState S
   pub end : RunEnd
   pub calls : List Call
 

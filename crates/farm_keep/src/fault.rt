@@ -1,6 +1,6 @@
 //! Why a keeper gave no answer.
 ghost use Rattle.std.specs.Prelude.{◌≡◌};
-ghost use Rattle.farm_keep.specs.Faults.{fault_code};
+ghost use Rattle.farm_keep.specs.Faults.{keep_fault_code};
 
 use farm_core::{BadRows, StepFault};
 use farm_store::StoreFault;
@@ -31,9 +31,9 @@ pub enum KeepFault {
 }
 
 impl KeepFault {
-    /// The number that callers are told.
+    /// The number that callers get.
     pub fn code(self) -> u16
-        ensures { result ≡ fault_code self }
+        ensures { result ≡ keep_fault_code self }
     {
         match self {
             KeepFault::NoMemory => NO_MEMORY,

@@ -8,12 +8,12 @@ ghost use Rattle.sqlite_trees.specs.View.{doubt};
 ghost use Rattle.farm_types.specs.Farm.{empty_farm};
 ghost use Rattle.farm_types.specs.Machine.{answer, step};
 ghost use Rattle.farm_types.specs.Sound.{IsSound};
-ghost use Rattle.farm_core.specs.Answers.{answer_of, IsChange, Leads};
-ghost use Rattle.farm_store.specs.Columns.{Tables, rows_of};
+ghost use Rattle.farm_core.specs.Answers.{answer_of, IsChange, ChangesLead};
+ghost use Rattle.farm_store.specs.Columns.{TableRows, rows_of};
 ghost use Rattle.farm_store.specs.Holds.{LeavesEither, Stands, StandsFor};
 ghost use Rattle.farm_store.specs.Schema.{no_schema};
 ghost use Rattle.farm_keep.specs.Faults.{IsActFault, IsFindFault, IsOwnFault};
-ghost use Rattle.farm_keep.specs.Kept.{Keeps, KeepsEither, IfNoChange};
+ghost use Rattle.farm_keep.specs.KeeperState.{KeepsOwnFarm, KeepsEither, IfNoChange};
 ghost use Rattle.farm_keep.specs.Headline.{Adopts, GivesNoKeeper, IsAlwaysClean};
 ghost use Rattle.farm_keep.specs.Versions.{LooksForFarm};
 
@@ -40,11 +40,11 @@ pub struct Keeper<S: Alter> {
 }
 
 impl<S: Alter> Model for Keeper<S> {
-    ghost use Rattle.farm_keep.specs.Kept.{Kept, kept_code, KeeperInvariant};
+    ghost use Rattle.farm_keep.specs.KeeperState.{KeeperState, keeper_code, KeeperInvariant};
 
-    ghost Value = { Kept S };
+    ghost Value = { KeeperState S };
 
-    ghost coded = { kept_code S.code };
+    ghost coded = { keeper_code S.code };
 
     ghost view = { λ k. record { conn = k.conn; farm = k.farm; is_open = k.is_open } };
 
@@ -59,8 +59,8 @@ impl<S: Alter + Drop> Keeper<S> {
         requires { conn.in_transaction ≡ false }
         ensures opened { IfOk result (λ k. (k.is_open ≡ true) × (k.farm.farm ≡ empty_farm)) }
         ensures keeps { IfOk result (λ k. (state S.Store conn).now.schema ≡ no_schema
-            → Keeps S.Store k) }
-        ensures refused { IfOk result (λ k. HasCleanDisk (state S.Store k.conn) → (T : Tables)
+            → KeepsOwnFarm S.Store k) }
+        ensures refused { IfOk result (λ k. HasCleanDisk (state S.Store k.conn) → (T : TableRows)
             → ¬ Stands (state S.Store conn) T) }
         ensures bare { OnOk result ((state S.Store conn).now.schema ≡ no_schema) }
         ensures clean { IfOk result (λ k. doubt (state S.Store conn).is_clean ≤ doubt
@@ -119,10 +119,11 @@ impl<S: Alter> Keeper<S> {
         ensures answer { IfOk result (λ a. answer_of a ≡ answer self.old.farm.farm call.entry.now) }
         ensures farm { OnOk result (self.new.farm.farm ≡ step self.old.farm.farm call.entry.now) }
         ensures opened { OnOk result ((self.old.is_open ≡ true) × (self.new.is_open ≡ true)) }
-        ensures stands { OnOk result (Keeps S.Store self.old → Keeps S.Store self.new) }
+        ensures stands { OnOk result
+            (KeepsOwnFarm S.Store self.old → KeepsOwnFarm S.Store self.new) }
 
         // The changed rows of the answer are those that were put.
-        ensures changes { IfOk result (λ a. Leads a self.old.farm.farm self.new.farm.farm) }
+        ensures changes { IfOk result (λ a. ChangesLead a self.old.farm.farm self.new.farm.farm) }
 
         // A kept reply and a refusal leave the very keeper.
         ensures rests { IfOk result (λ a. IfNoChange a (self.new ≡ self.old)) }
@@ -136,7 +137,7 @@ impl<S: Alter> Keeper<S> {
         // new one.
         ensures store { result ≡ Err KeepFault.Store → (self.new.is_open ≡ false)
             × IsChange (answer self.old.farm.farm call.entry.now)
-            × (Keeps S.Store self.old → KeepsEither S.Store self.new self.old.farm.farm
+            × (KeepsOwnFarm S.Store self.old → KeepsEither S.Store self.new self.old.farm.farm
             (step self.old.farm.farm call.entry.now)) }
 
         // A closed keeper stays as it is.
@@ -172,7 +173,7 @@ fn step_and_put<S: Alter>(
     ensures answer { IfOk result (λ a. answer_of a ≡ answer farm.old.farm call.entry.now) }
     ensures farm { OnOk result (farm.new.farm ≡ step farm.old.farm call.entry.now) }
     ensures working { OnOk result ((farm.new.failed ≡ false) × IsSound farm.new.farm) }
-    ensures changes { IfOk result (λ a. Leads a farm.old.farm farm.new.farm) }
+    ensures changes { IfOk result (λ a. ChangesLead a farm.old.farm farm.new.farm) }
     ensures stands { OnOk result (StandsFor (state S.Store conn.old) farm.old.farm
         → StandsFor (state S.Store conn.new) farm.new.farm) }
     ensures rests { IfOk result (λ a. IfNoChange a ((conn.new ≡ conn.old)

@@ -10,7 +10,7 @@ ghost use Rattle.farm_types.specs.Farm.{Farm as Plain};
 ghost use Rattle.farm_types.specs.Sound.{IsSound};
 ghost use Rattle.farm_keep.specs.First.{HoldsEitherEdition, IsSoundFirst};
 ghost use Rattle.farm_keep.specs.Headline.{IsAlwaysClean, Runs};
-ghost use Rattle.farm_keep.specs.Kept.{Kept, Keeps};
+ghost use Rattle.farm_keep.specs.KeeperState.{KeeperState, KeepsOwnFarm};
 ghost use Rattle.farm_keep.specs.Lives.{Life, AreLived, GivesFarm, GivesRestarts, GivesRun};
 ghost use Rattle.farm_keep.specs.Lives.{OpensOn};
 ghost use Rattle.farm_keep.specs.declared.keeper.run.RunEnd.{RunEnd as End};
@@ -62,8 +62,8 @@ pub fn found_after_stop<S: Alter>(
 ) -> Result<Farm, KeepFault>
     requires { conn.old.in_transaction ≡ false }
     ensures { HasCleanDisk (state S.Store conn.new)
-        → (old new : Kept S) (end : End) (calls : List Call)
-        → Keeps S.Store old → old.is_open ≡ true → Runs S.Store old new end calls
+        → (old new : KeeperState S) (end : End) (calls : List Call)
+        → KeepsOwnFarm S.Store old → old.is_open ≡ true → Runs S.Store old new end calls
         → HasCleanDisk (state S.Store new.conn)
         → (left : Trees) → (state S.Store new.conn).may_leave left
         → OpensOn (state S.Store conn.old) left

@@ -79,7 +79,7 @@ found_above test x c xs above found = not_back x c (found_has (λ y. claim_cmp x
 
 module _ {S : Type 0} (serve : S → Claimed → S) (s : S) (opens : Claimed → Bool) (last : Option Claimed) where
   -- the next claim leads on, and fewer are left behind it
-  pub record Leads (c : Claimed) (xs : List Claimed) : Type 0 where
+  pub record Continues (c : Claimed) (xs : List Claimed) : Type 0 where
     pub folds : fold serve s (later last xs) ≡ fold serve (serve s c) (later (Some c) xs)
     pub fewer : length (later (Some c) xs) < length (later last xs)
 
@@ -87,7 +87,7 @@ module _ {S : Type 0} (serve : S → Claimed → S) (s : S) (opens : Claimed →
   Skips xs = AllByRecursion (λ d. opens d ≡ false → serve s d ≡ s) xs
 
   -- a claim at the head
-  tried_here : (x : Claimed) (xs : List Claimed) → AllByRecursion (λ y. claim_cmp x y ≡ Less) xs → comes_after last x ≡ true → Leads x (x ∷ xs)
+  tried_here : (x : Claimed) (xs : List Claimed) → AllByRecursion (λ y. claim_cmp x y ≡ Less) xs → comes_after last x ≡ true → Continues x (x ∷ xs)
   tried_here x xs above is =
       let those : later last (x ∷ xs) ≡ x ∷ xs =
       ap (λ v. cond v (x ∷ later last xs) (later last xs)) is ∙ ap (λ ys. x ∷ ys) (all_after last x xs is above) in
@@ -99,7 +99,7 @@ module _ {S : Type 0} (serve : S → Claimed → S) (s : S) (opens : Claimed →
       }
 
   pub leads_on : (c : Claimed) (xs : List Claimed) → IsStrictlySortedBy claim_cmp xs → Skips xs
-      → find (λ d. comes_after last d && opens d) xs ≡ Some c → Leads c xs
+      → find (λ d. comes_after last d && opens d) xs ≡ Some c → Continues c xs
   unfolding IsStrictlySortedBy
   leads_on c [] sorted skips found = cc
   leads_on c (x ∷ xs) sorted skips found =
@@ -109,7 +109,7 @@ module _ {S : Type 0} (serve : S → Claimed → S) (s : S) (opens : Claimed →
       behind later_found = ap (λ v. cond v (x ∷ later (Some c) xs) (later (Some c) xs)) (found_above (λ d. comes_after last d && opens d) x c xs sorted.0 later_found)
 
       by : (v : Bool) → comes_after last x ≡ v → (w : Bool) → opens x ≡ w → cond (v && w) (Some x) (find (λ d. comes_after last d && opens d) xs) ≡ Some c
-          → (find (λ d. comes_after last d && opens d) xs ≡ Some c → Leads c xs) → Leads c (x ∷ xs)
+          → (find (λ d. comes_after last d && opens d) xs ≡ Some c → Continues c xs) → Continues c (x ∷ xs)
       by true is true has here rest = let same : x ≡ c = cc in rw (sym same) (tried_here x xs sorted.0 is)
       by true is false has here rest =
           let more = rest here in

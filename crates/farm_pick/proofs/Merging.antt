@@ -36,7 +36,7 @@ use Rattle.farm_pick.proofs.Closed.{closed_is_unmet}
 use Rattle.farm_pick.proofs.Collects.{collecting_follows}
 use Rattle.farm_pick.proofs.Filling.{numbers_differ, one_claim}
 use Rattle.farm_pick.proofs.Giving.{giving_follows}
-use Rattle.farm_pick.proofs.Later.{Leads, after_itself, after_more, among_later, later, later_none, leads_nowhere, leads_on, less_from}
+use Rattle.farm_pick.proofs.Later.{Continues, after_itself, after_more, among_later, later, later_none, leads_nowhere, leads_on, less_from}
 
 -- ---- a claim has a want
 
@@ -268,7 +268,7 @@ module _ (former t : ℕ) (s : Served) (last : Option Claimed) (c : Claimed) (tr
       after : Leaves t s c
       after = leaves t s c trying.low trying.sound open_claim
 
-      on : Leads (serve_but former t) s (λ d. not (is_group former d) && test d) last c (queue s.farm)
+      on : Continues (serve_but former t) s (λ d. not (is_group former d) && test d) last c (queue s.farm)
       on = leads_on (serve_but former t) s (λ d. not (is_group former d) && test d) last c (queue s.farm) (queue_sorted s.farm) skip next
 
       same : rest former (Some c) (serve t s c).farm ≡ rest former (Some c) s.farm
@@ -297,7 +297,7 @@ module _ (former t : ℕ) (s : Served) (last : Option Claimed) (c : Claimed) (tr
     fewer = on.fewer;
   }
     where
-      on : Leads (serve_but former t) s test last c (queue s.farm)
+      on : Continues (serve_but former t) s test last c (queue s.farm)
       on = leads_on (serve_but former t) s test last c (queue s.farm) (queue_sorted s.farm)
           (AllByRecursion-weaker (λ d skips out. skips (ap (λ v. not (is_group former d) && v) out ∙ and-false (not (is_group former d)))) (queue s.farm) skip) next
 

@@ -21,7 +21,7 @@ use Rattle.farm_pick.specs.Heads.{AreHeads, IsFirst, is_later, queue_open, rank_
 use Rattle.farm_pick.specs.Kept.{IsKeyed, claim_at, queued_cmp, shown_claims, shown_entry, shown_idle, spot_cmp}
 use Rattle.farm_pick.specs.Queued.{Queued, is_open}
 use Rattle.farm_pick.specs.declared.idle.IdleRow.{IdleRow}
-use Rattle.farm_pick.specs.Walked.{AreCursors, IsAt, IsCursor, IsLeastOf, IsWalk, StandsIn, StepsTo, entries_behind, earlier_place, walk_from}
+use Rattle.farm_pick.specs.Walked.{AreCursors, IsCursorAt, IsCursor, IsLeastOf, IsWalk, StandsIn, StepsTo, entries_behind, earlier_place, walk_from}
 use Rattle.farm_pick.specs.declared.spot.Spot.{Spot}
 use Rattle.farm_pick.specs.declared.walk.Cursor.{Cursor}
 use Rattle.farm_pick.proofs.First.{IsRanked, below, found_entry, rank_total, ranked_at, same_queue, shown_rank}
@@ -292,10 +292,10 @@ module _ (kinds : List (List ℕ)) (es : List (Spot × Claim)) (keyed : AllByRec
     pub in_range : place < n
     in_range = let len = are.len in omega (arith, len)
 
-    pub stands : (test place ≡ true) × IsAt es (record last { queue = place }) x
+    pub stands : (test place ≡ true) × IsCursorAt es (record last { queue = place }) x
     stands = subst (IsCursor es test (record last { queue = place })) here (are.each place in_range)
 
-    abbrev pub at : IsAt es (record last { queue = place }) x
+    abbrev pub at : IsCursorAt es (record last { queue = place }) x
     at = stands.1
 
     pub ranked_x : IsRanked at.spot x.claim.now

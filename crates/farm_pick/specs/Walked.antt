@@ -31,7 +31,7 @@ abbrev pub entries_behind : List (Spot × Claim) → Spot → List (Spot × Clai
 entries_behind es spot = entries_between spot_cmp (Excluded spot) Unbounded es
 
 -- a cursor stands at the first claim after a spot in the spot's queue, with the entries behind it
-pub record IsAt (es : List (Spot × Claim)) (last : Spot) (x : Cursor) : Type 0 where
+pub record IsCursorAt (es : List (Spot × Claim)) (last : Spot) (x : Cursor) : Type 0 where
   pub spot : Spot
   pub queue : spot.queue ≡ last.queue
   pub after : spot_cmp last spot ≡ Less
@@ -44,12 +44,12 @@ pub record IsAt (es : List (Spot × Claim)) (last : Spot) (x : Cursor) : Type 0 
 -- where a walk stands in the queue of a spot, after the spot
 abbrev pub StandsIn : List (Spot × Claim) → Spot → Option Cursor → Type 0
 StandsIn es last None = IsFirstBehind es last None
-StandsIn es last (Some x) = IsAt es last x
+StandsIn es last (Some x) = IsCursorAt es last x
 
 -- and in a queue that may be closed
 abbrev pub IsCursor : List (Spot × Claim) → (ℕ → Bool) → Spot → Option Cursor → Type 0
 IsCursor es test last None = test last.queue ≡ true → IsFirstBehind es last None
-IsCursor es test last (Some x) = (test last.queue ≡ true) × IsAt es last x
+IsCursor es test last (Some x) = (test last.queue ≡ true) × IsCursorAt es last x
 
 -- where it stands in each of the first n queues, after a spot
 pub record AreCursors (es : List (Spot × Claim)) (test : ℕ → Bool) (last : Spot) (n : ℕ)

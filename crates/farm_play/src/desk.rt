@@ -1,5 +1,5 @@
-//! What a farm is asked and told. These functions have no clause, so that a player's proof doesn't
-//! carry a keeper's clauses from one step to the next.
+//! What a farm is asked and answers. These functions have no clause, so that a player's proof
+//! doesn't carry a keeper's clauses from one step to the next.
 use crate::script::{Deed, Step};
 use crate::text::{first_word, shown};
 use farm_core::Farm;
@@ -84,7 +84,7 @@ impl<S: Alter + Drop> Desk<S> {
 }
 
 /// Converses once.
-fn told<R: Input, W: Output, S: Alter>(
+fn converse_once<R: Input, W: Output, S: Alter>(
     alloc: Global,
     keeper: &mut Keeper<S>,
     reader: &mut R,
@@ -94,7 +94,7 @@ fn told<R: Input, W: Output, S: Alter>(
     converse(alloc, keeper, reader, writer, now)
 }
 
-/// With what an answer begins that has this status, or ends that tells this fault.
+/// With what an answer begins that has this status, or ends that has this fault.
 fn mark_of(alloc: Global, end: Result<u16, DeskFault>) -> Result<String, AllocError> {
     match end {
         Ok(status) => format!(in alloc; "HTTP/1.1 {status} "),
@@ -105,7 +105,7 @@ fn mark_of(alloc: Global, end: Result<u16, DeskFault>) -> Result<String, AllocEr
     }
 }
 
-/// The answer to a request; where it doesn't tell how the conversation ended, that follows it.
+/// The answer to a request; where it doesn't show how the conversation ended, that follows it.
 fn answered<S: Alter>(
     alloc: Global,
     keeper: &mut Keeper<S>,
@@ -113,7 +113,7 @@ fn answered<S: Alter>(
     mut request: &[u8],
 ) -> Result<Vec<u8>, AllocError> {
     let mut output = Vec::new(alloc);
-    let end = told(alloc, keeper, &mut request, &mut output, now);
+    let end = converse_once(alloc, keeper, &mut request, &mut output, now);
     let mark = mark_of(alloc, end)?;
     if !output.starts_with(mark.as_bytes()) && !output.ends_with(mark.as_bytes()) {
         output.extend_from_slice(b"\nended ")?;

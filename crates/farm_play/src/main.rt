@@ -8,21 +8,21 @@
 
 mod desk;
 mod player;
+mod reporter;
 mod script;
 mod stops;
 mod store;
-mod teller;
 mod text;
 mod upgrade;
 
 use player::Player;
+use reporter::Reporter;
 use script::{Deed, Reading, Step, Transcript};
 use sqlite::{Alter, Connection};
 use std::process::ExitCode;
 use std::{env, fs, io};
 use stops::plays_stops;
 use store::{DiskStore, InFiles};
-use teller::Teller;
 
 /// The steps before the end of the stops.
 fn stopped(steps: &[Step]) -> &[Step] {
@@ -36,7 +36,7 @@ fn stopped(steps: &[Step]) -> &[Step] {
 
 /// Plays steps; whether all give what is wanted of them.
 fn plays<S: Alter + Drop>(
-    teller: &Teller<'_>,
+    reporter: &Reporter<'_>,
     player: &mut Player<S>,
     steps: &[Step],
 ) -> io::Result<bool>
@@ -52,13 +52,13 @@ where
             let rest = stopped(steps.get(place..).unwrap_or(&[]));
             passed = place.saturating_add(rest.len()).saturating_add(1);
             plays_stops(
-                teller.rt.alloc(),
-                teller,
+                reporter.rt.alloc(),
+                reporter,
                 player,
                 rest.get(1..).unwrap_or(&[]),
             )?
         } else {
-            player.plays(teller, step)?
+            player.plays(reporter, step)?
         };
         if !is_well {
             return Ok(false);
@@ -69,7 +69,7 @@ where
 
 /// Plays a transcript behind those that go before it.
 fn plays_whole<S: Alter + Drop>(
-    teller: &Teller<'_>,
+    reporter: &Reporter<'_>,
     player: &mut Player<S>,
     all: &[Transcript],
     one: &Transcript,
@@ -79,25 +79,25 @@ where
 {
     for place in &one.after {
         if let Some(first) = all.get(*place) {
-            if !plays(teller, player, first.steps.as_slice())? {
+            if !plays(reporter, player, first.steps.as_slice())? {
                 return Ok(false);
             }
         }
     }
-    plays(teller, player, one.steps.as_slice())
+    plays(reporter, player, one.steps.as_slice())
 }
 
 /// Plays a transcript on a new farm.
 fn plays_anew<S: Alter + Drop>(
-    teller: &Teller<'_>,
+    reporter: &Reporter<'_>,
     all: &[Transcript],
     one: &Transcript,
 ) -> io::Result<bool>
 where
     Connection<S>: InFiles<S>,
 {
-    let mut player: Player<S> = Player::new(teller.rt.alloc());
-    plays_whole(teller, &mut player, all, one)
+    let mut player: Player<S> = Player::new(reporter.rt.alloc());
+    plays_whole(reporter, &mut player, all, one)
 }
 
 /// Plays all transcripts; whether all passed.
@@ -108,8 +108,8 @@ where
     let mut passed = true;
     for one in all {
         let name = one.name.as_str();
-        let teller = Teller { rt, name, shows };
-        if plays_anew::<S>(&teller, all, one)? {
+        let reporter = Reporter { rt, name, shows };
+        if plays_anew::<S>(&reporter, all, one)? {
             println!(rt; "{name}: ok")?;
         } else {
             passed = false;

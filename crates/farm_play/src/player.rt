@@ -1,8 +1,8 @@
 //! Steps, played on a farm.
 use crate::desk::{Desk, executed};
+use crate::reporter::Reporter;
 use crate::script::{Deed, Step};
 use crate::store::{Disks, Failing, InFiles, no_files, with_fuse};
-use crate::teller::Teller;
 use crate::text::{first_word, shown};
 use crate::upgrade::{upgrade, upgrade_stopped};
 use farm_keep::KeepFault;
@@ -181,9 +181,9 @@ where
         }
     }
 
-    /// Plays a step, and tells whether it gave what is wanted of it.
-    pub fn plays(&mut self, teller: &Teller<'_>, step: &Step) -> io::Result<bool> {
+    /// Plays a step, and reports whether it gave what is wanted of it.
+    pub fn plays(&mut self, reporter: &Reporter<'_>, step: &Step) -> io::Result<bool> {
         let output = self.does(step)?;
-        teller.judge(step, output.as_slice())
+        reporter.judge(step, output.as_slice())
     }
 }

@@ -18,7 +18,7 @@ pub enum Deed {
     Import,
     /// Reports; the words are the report's name and the minutes east of UTC.
     Report,
-    /// Tells how many commands were accepted.
+    /// Reports how many commands were accepted.
     Count,
     /// One statement on the store.
     Sql,

@@ -1,9 +1,9 @@
 //! Steps, stopped at each call of the store.
 use crate::desk::Desk;
 use crate::player::{Player, found};
+use crate::reporter::{Reporter, is_wanted};
 use crate::script::Step;
 use crate::store::{Disks, Failing, InFiles, with_fuse};
-use crate::teller::{Teller, is_wanted};
 use farm_keep::KeepFault;
 use sqlite::{Alter, Connection};
 use std::alloc::Global;
@@ -12,14 +12,14 @@ use std::io;
 /// More calls than any run needs.
 const MANY: u64 = 10_000;
 
-/// With what an answer ends that tells that a call of the store failed.
+/// With what an answer ends that says that a call of the store failed.
 const STORE_FAULT: &str = "{\"code\":60,\"text\":\"store fault\"}";
 
 /// Steps, and the farm in words before the first and after each, as it is found in its store.
 #[derive(Drop)]
 struct Run<'a> {
     alloc: Global,
-    teller: &'a Teller<'a>,
+    reporter: &'a Reporter<'a>,
     steps: &'a [Step],
     farms: &'a [String],
 }
@@ -48,7 +48,7 @@ impl<'a> Run<'a> {
             if ends_with(output.as_slice(), STORE_FAULT) && !is_wanted(step, output.as_slice()) {
                 return Ok(End::Fault(place));
             }
-            if !self.teller.judge(step, output.as_slice())? {
+            if !self.reporter.judge(step, output.as_slice())? {
                 return Ok(End::Wrong);
             }
         }
@@ -79,24 +79,24 @@ impl<'a> Run<'a> {
         Connection<S>: InFiles<S>,
     {
         let Some(place) = self.place_of(end, &desk)? else {
-            return self.teller.fails("another farm is found");
+            return self.reporter.fails("another farm is found");
         };
         let end = self.play(&mut desk, place)?;
         let (files, _) = Connection::<S>::crashed(desk.into_store());
         let Ok(desk) = found::<S>(self.alloc, files) else {
-            return self.teller.fails("no farm is found after the rest");
+            return self.reporter.fails("no farm is found after the rest");
         };
         if matches!(end, End::Whole) && self.place_of(end, &desk)?.is_some() {
             return Ok(true);
         }
-        self.teller.fails("the rest leads to another farm")
+        self.reporter.fails("the rest leads to another farm")
     }
 
     /// Plays the steps up to the store's fault, which closes the keeper; how that ended.
     fn first<S: Alter + Drop>(&self, desk: &mut Desk<S>) -> io::Result<End> {
         let end = self.play(desk, 0)?;
         if matches!(end, End::Fault(_)) && desk.is_open() {
-            self.teller.fails("a fault left the farm open")?;
+            self.reporter.fails("a fault left the farm open")?;
             return Ok(End::Wrong);
         }
         Ok(end)
@@ -113,12 +113,12 @@ impl<'a> Run<'a> {
     {
         match found {
             Ok(desk) => self.goes_on(desk, end),
-            Err(_) => self.teller.fails("no farm is found"),
+            Err(_) => self.reporter.fails("no farm is found"),
         }
     }
 
     /// Plays the steps up to the store's fault, and goes on with what is found after a crash.
-    /// Whether the store was stopped; None where it went wrong, which is told.
+    /// Whether the store was stopped; None where it went wrong, which is reported.
     fn is_stopped<S: Alter + Drop>(&self, files: Disks) -> io::Result<Option<bool>>
     where
         Connection<S>: InFiles<S>,
@@ -130,7 +130,7 @@ impl<'a> Run<'a> {
         let (files, was_stopped) = Connection::<S>::crashed(desk.into_store());
         let is_well = match end {
             End::Wrong => false,
-            End::Fault(_) if !was_stopped => self.teller.fails("a fault without a stop")?,
+            End::Fault(_) if !was_stopped => self.reporter.fails("a fault without a stop")?,
             _ => self.second(found::<S>(self.alloc, files), end)?,
         };
         Ok(is_well.then_some(was_stopped))
@@ -145,10 +145,10 @@ impl<'a> Run<'a> {
             match self.is_stopped::<S>(with_fuse(self.alloc, files, failing, calls)?)? {
                 Some(true) => {}
                 Some(false) => return Ok(true),
-                None => return self.teller.fails_after(calls),
+                None => return self.reporter.fails_after(calls),
             }
         }
-        self.teller.fails("each run was stopped")
+        self.reporter.fails("each run was stopped")
     }
 }
 
@@ -156,7 +156,7 @@ impl<'a> Run<'a> {
 /// run that isn't stopped; None where a step gives what isn't wanted.
 fn farms_of<S: Alter + Drop>(
     alloc: Global,
-    teller: &Teller<'_>,
+    reporter: &Reporter<'_>,
     player: &mut Player<S>,
     steps: &[Step],
 ) -> io::Result<Option<Vec<String>>>
@@ -166,7 +166,7 @@ where
     let mut farms = Vec::new(alloc);
     farms.push(player.found_in_words()?)?;
     for step in steps {
-        if !player.plays(teller, step)? {
+        if !player.plays(reporter, step)? {
             return Ok(None);
         }
         farms.push(player.found_in_words()?)?;
@@ -178,7 +178,7 @@ where
 /// farm of a run that isn't stopped. Whether all is well.
 pub fn plays_stops<S: Alter + Drop>(
     alloc: Global,
-    teller: &Teller<'_>,
+    reporter: &Reporter<'_>,
     player: &mut Player<S>,
     steps: &[Step],
 ) -> io::Result<bool>
@@ -186,14 +186,14 @@ where
     Connection<S>: InFiles<S>,
 {
     let Some(files) = player.copy() else {
-        return teller.fails("no farm to stop");
+        return reporter.fails("no farm to stop");
     };
-    let Some(farms) = farms_of(alloc, teller, player, steps)? else {
+    let Some(farms) = farms_of(alloc, reporter, player, steps)? else {
         return Ok(false);
     };
     let run = Run {
         alloc,
-        teller: &teller.quiet(),
+        reporter: &reporter.quiet(),
         steps,
         farms: farms.as_slice(),
     };

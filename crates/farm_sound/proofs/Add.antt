@@ -24,14 +24,14 @@ use Rattle.farm_sound.proofs.Own.{differs_more, fresh_job, fresh_res}
 -- the same holds and the same boards
 pub IsHeldByKeys-same : (F G : Farm) → ((h : Holder) → hold_of G h ≡ hold_of F h) → G.boards ≡ F.boards → IsHeldByKeys F → IsHeldByKeys G
 IsHeldByKeys-same F G same boards held_board = record {
-  boards = subst (AllByRecursion (λ b. IsHeldBy G b b.holder)) (sym boards) (AllByRecursion-weaker (λ b. told b b.holder) F.boards held_board.boards);
+  boards = subst (AllByRecursion (λ b. IsHeldBy G b b.holder)) (sym boards) (AllByRecursion-weaker (λ b. held_by b b.holder) F.boards held_board.boards);
   rows = λ h x is. subst (λ l. IsSomeAnd (find (λ r. bytes_eq r.name x.board) l) (λ b. b.holder ≡ h)) (sym boards) (held_board.rows h x (sym (same h) ∙ is));
 }
   where
-    told : (b : BoardRow) (h : Holder) → IsHeldBy F b h → IsHeldBy G b h
-    told b Holder.Nobody is = is
-    told b (Holder.Job n) is = same (Holder.Job n) ∙ is
-    told b (Holder.Res n) is = same (Holder.Res n) ∙ is
+    held_by : (b : BoardRow) (h : Holder) → IsHeldBy F b h → IsHeldBy G b h
+    held_by b Holder.Nobody is = is
+    held_by b (Holder.Job n) is = same (Holder.Job n) ∙ is
+    held_by b (Holder.Res n) is = same (Holder.Res n) ∙ is
 
 nat_ties : (a b : ℕ) → nat_cmp a b ≡ Equal → a ≡ b
 nat_ties a b ties = ranked a b Equal (sym ties)

@@ -133,8 +133,8 @@ IsSteady-put_board F row is few few_of_kind steady =
 -- the row's holder is right, and it names the row's board where that is asked
 IsHeldByKeys-put_board : (F : Farm) (row : BoardRow) → IsHeldBy F row row.holder
     → ((h : Holder) → IsSomeAnd (board_of F row.name) (λ b. b.holder ≡ h) → row.holder ≡ h) → IsHeldByKeys F → IsHeldByKeys (put_board F row)
-IsHeldByKeys-put_board F row told holds held_board = record {
-  boards = AllByRecursion-put board_cmp board_total row (λ b. IsHeldBy G b b.holder) (still row row.holder told) F.boards
+IsHeldByKeys-put_board F row held_by holds held_board = record {
+  boards = AllByRecursion-put board_cmp board_total row (λ b. IsHeldBy G b b.holder) (still row row.holder held_by) F.boards
       (AllByRecursion-weaker (λ b. still b b.holder) F.boards held_board.boards);
   rows = rows;
 }
@@ -198,10 +198,10 @@ pub record Replaces (b row : BoardRow) : Type 0 where
   pub holder : row.holder ≡ b.holder
   pub state : row.state ≡ b.state
 
-told_same : (F : Farm) (b row : BoardRow) (h : Holder) → Replaces b row → IsHeldBy F b h → IsHeldBy F row h
-told_same F b row Holder.Nobody same told = same.state ∙ told
-told_same F b row (Holder.Job n) same told = told ∙ (λ i. Some (record { board = sym same.name i; holder = sym same.holder i; state = sym same.state i }))
-told_same F b row (Holder.Res n) same told = told ∙ (λ i. Some (record { board = sym same.name i; holder = sym same.holder i; state = sym same.state i }))
+held_by_same : (F : Farm) (b row : BoardRow) (h : Holder) → Replaces b row → IsHeldBy F b h → IsHeldBy F row h
+held_by_same F b row Holder.Nobody same held_by = same.state ∙ held_by
+held_by_same F b row (Holder.Job n) same held_by = held_by ∙ (λ i. Some (record { board = sym same.name i; holder = sym same.holder i; state = sym same.state i }))
+held_by_same F b row (Holder.Res n) same held_by = held_by ∙ (λ i. Some (record { board = sym same.name i; holder = sym same.holder i; state = sym same.state i }))
 
 -- the test by which a board is found is that of its key
 tied : (name : List ℕ) (row : BoardRow) → row.name ≡ name → (r : BoardRow) → bytes_eq r.name name ≡ is_eq (board_cmp row r)
@@ -220,12 +220,12 @@ IsSound-replace_board F name b row found same is sound =
     let counts = λ (kind : List ℕ). count_replaced board_cmp board_total row (λ r. bytes_eq r.kind kind) b (ap (λ k. bytes_eq k kind) same.kind)
     F.boards sound.steady.boards_sorted there in
     let old : IsBoardRow F b = found_has (IsBoardRow F) (λ r. bytes_eq r.name name) b F.boards sound.steady.boards found in
-    let told : IsHeldBy F b b.holder = found_has (λ b. IsHeldBy F b b.holder) (λ r. bytes_eq r.name name) b F.boards sound.held.boards found in
+    let held_by : IsHeldBy F b b.holder = found_has (λ b. IsHeldBy F b b.holder) (λ r. bytes_eq r.name name) b F.boards sound.held.boards found in
     let named : board_of F row.name ≡ Some b = ap (board_of F) (same.name ∙ b_is) ∙ found in
     record {
       steady = IsSteady-put_board F row (is old) (omega (arith, (counts []).1, sound.steady.few_boards))
           (λ kind. omega (arith, (counts kind).0, sound.steady.few_of_kind kind)) sound.steady;
-      held = IsHeldByKeys-put_board F row (subst (IsHeldBy F row) (sym same.holder) (told_same F b row b.holder same told))
+      held = IsHeldByKeys-put_board F row (subst (IsHeldBy F row) (sym same.holder) (held_by_same F b row b.holder same held_by))
           (λ h was. same.holder ∙ subst (λ o. IsSomeAnd o (λ b. b.holder ≡ h)) named was) sound.held;
       whole = sound.whole;
       collecting = sound.collecting;

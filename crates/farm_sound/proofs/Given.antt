@@ -33,17 +33,17 @@ module _ (F G : Farm) (h0 : Holder) (b0 : BoardRow) where
   stays_by h x (inl same) nothing y is = same ∙ is
   stays_by h x (inr mine) nothing y is = let e : hold_of F h ≡ hold_of F h0 = ap (hold_of F) mine in cc
 
-  stays_told : IsGift → (c : BoardRow) (h : Holder) → IsHeldBy F c h → IsHeldBy G c h
-  stays_told gift c Holder.Nobody told = told
-  stays_told gift c (Holder.Job n) told = stays_by (Holder.Job n) None (gift.stays (Holder.Job n)) gift.nothing (shown_hold c) told
-  stays_told gift c (Holder.Res n) told = stays_by (Holder.Res n) None (gift.stays (Holder.Res n)) gift.nothing (shown_hold c) told
+  held_by_stays : IsGift → (c : BoardRow) (h : Holder) → IsHeldBy F c h → IsHeldBy G c h
+  held_by_stays gift c Holder.Nobody held_by = held_by
+  held_by_stays gift c (Holder.Job n) held_by = stays_by (Holder.Job n) None (gift.stays (Holder.Job n)) gift.nothing (shown_hold c) held_by
+  held_by_stays gift c (Holder.Res n) held_by = stays_by (Holder.Res n) None (gift.stays (Holder.Res n)) gift.nothing (shown_hold c) held_by
 
-  told_given : IsGift → (c : BoardRow) → IsHeldBy F c c.holder → IsHeldBy G (given_board c) (given_board c).holder
-  told_given gift c told =
+  held_by_given : IsGift → (c : BoardRow) → IsHeldBy F c c.holder → IsHeldBy G (given_board c) (given_board c).holder
+  held_by_given gift c held_by =
       by_cases (λ (d : BoardRow). IsHeldBy G d d.holder) (bytes_eq c.name b0.name) (held_board h0 State.Reserved c) c
       (λ so. held_from G (held_board h0 State.Reserved c) h0
       (gift.gets ∙ ap (λ n. Some (record { board = n; holder = h0; state = State.Reserved })) (sym ((bytes_eq-Decides c.name b0.name).0 so))))
-      (λ _. stays_told gift c c.holder told)
+      (λ _. held_by_stays gift c c.holder held_by)
 
   rows_given : IsGift → IsHeldByKeys F → (h : Holder) (x : Hold) → hold_of G h ≡ Some x → IsSomeAnd (board_of G x.board) (λ b. b.holder ≡ h)
   rows_given gift held_in h x is = by (gift.stays h)
@@ -53,8 +53,8 @@ module _ (F G : Farm) (h0 : Holder) (b0 : BoardRow) where
 
       there : hold_of F h ≡ Some x → (o : Option BoardRow) → board_of F x.board ≡ o → IsSomeAnd o (λ b. b.holder ≡ h) → (v : Option BoardRow → Bool)
           → IsSomeAnd (board_of G x.board) (λ b. b.holder ≡ h)
-      there was None found told v = absurd told
-      there was (Some c) found told v = other (bytes_eq c.name b0.name) refl
+      there was None found held_by v = absurd held_by
+      there was (Some c) found held_by v = other (bytes_eq c.name b0.name) refl
         where
           other : (w : Bool) → bytes_eq c.name b0.name ≡ w → IsSomeAnd (board_of G x.board) (λ b. b.holder ≡ h)
           other true same =
@@ -62,13 +62,13 @@ module _ (F G : Farm) (h0 : Holder) (b0 : BoardRow) where
               let at : x.board ≡ b0.name = sym named ∙ (bytes_eq-Decides c.name b0.name).0 same in
               let two : Some c ≡ Some b0 = sym found ∙ ap (board_of F) at ∙ gift.there in
               let e : c ≡ b0 = cc in
-              let nobody : h ≡ Holder.Nobody = sym told ∙ ap (λ (b : BoardRow). b.holder) e ∙ gift.free in
+              let nobody : h ≡ Holder.Nobody = sym held_by ∙ ap (λ (b : BoardRow). b.holder) e ∙ gift.free in
               let none : None ≡ Some x = ap (hold_of F) (sym nobody) ∙ was in
               cc
           other false apart =
               let found' : board_of G x.board ≡ Some c =
               gift.boards x.board ∙ ap (option_map given_board) found ∙ ap (λ w. Some (cond w (held_board h0 State.Reserved c) c)) apart in
-              rw found' told
+              rw found' held_by
 
       by : (hold_of G h ≡ hold_of F h) ⊎ (h ≡ h0) → IsSomeAnd (board_of G x.board) (λ b. b.holder ≡ h)
       by (inl same) = let was : hold_of F h ≡ Some x = sym same ∙ is in there was (board_of F x.board) refl (held_in.rows h x was) (λ _. true)
@@ -83,6 +83,6 @@ module _ (F G : Farm) (h0 : Holder) (b0 : BoardRow) where
   pub IsHeldByKeys-given : IsGift → IsHeldByKeys F → IsHeldByKeys G
   IsHeldByKeys-given gift held_in = record {
     boards = subst (AllByRecursion (λ b. IsHeldBy G b b.holder)) (sym gift.rows)
-        (AllByRecursion-map (λ b. IsHeldBy F b b.holder) (λ b. IsHeldBy G b b.holder) given_board (told_given gift) F.boards held_in.boards);
+        (AllByRecursion-map (λ b. IsHeldBy F b b.holder) (λ b. IsHeldBy G b b.holder) given_board (held_by_given gift) F.boards held_in.boards);
     rows = rows_given gift held_in;
   }

@@ -1,4 +1,4 @@
--- Who holds which board, told by keys, after rows have changed.
+-- Who holds which board, found by keys, after rows have changed.
 use Rattle.std.proofs.Common.{◌==◌, ◌∙◌, ◌≡◌, Bool, IsSomeAnd, List, None, Option, Some, ap, arith, cond, false, map, refl, subst, sym, true, ℕ}
 use mathlib.Core.Bool.{true≢false}
 use Rattle.std.specs.List.{AllByRecursion}
@@ -41,9 +41,9 @@ holder_is F (Holder.Res n) x is = by (res_of F n) refl is
 
 -- a board's holder that holds something holds this board
 pub held_is : (F : Farm) (b : BoardRow) (h : Holder) (x : Hold) → IsHeldBy F b h → hold_of F h ≡ Some x → x ≡ shown_hold b
-held_is F b Holder.Nobody x told is = cc
-held_is F b (Holder.Job n) x told is = cc
-held_is F b (Holder.Res n) x told is = cc
+held_is F b Holder.Nobody x held_by is = cc
+held_is F b (Holder.Job n) x held_by is = cc
+held_is F b (Holder.Res n) x held_by is = cc
 
 pub held_from : (F : Farm) (b : BoardRow) (h : Holder) → hold_of F h ≡ Some (shown_hold b) → IsHeldBy F b h
 held_from F b Holder.Nobody is = cc
@@ -65,26 +65,26 @@ module _ (F G : Farm) (moved : Holder → Bool) (g : BoardRow → BoardRow) wher
     pub gains_none : (h : Holder) → moved h ≡ true → hold_of F h ≡ None → hold_of G h ≡ None
     pub gives : (h : Holder) (b : BoardRow) → moved h ≡ true → b.holder ≡ h → hold_of F h ≡ Some (shown_hold b) → IsLeft (hold_of G h) (g b)
 
-  left_told : (b : BoardRow) (h : Holder) (o : Option Hold) → hold_of G h ≡ o → b.holder ≡ h → IsLeft o (g b) → IsHeldBy G (g b) (g b).holder
-  left_told b h None is mine left = subst (λ k. IsHeldBy G (g b) k) (sym left.0) left.1
-  left_told b h (Some x) is mine left =
+  held_by_left : (b : BoardRow) (h : Holder) (o : Option Hold) → hold_of G h ≡ o → b.holder ≡ h → IsLeft o (g b) → IsHeldBy G (g b) (g b).holder
+  held_by_left b h None is mine left = subst (λ k. IsHeldBy G (g b) k) (sym left.0) left.1
+  held_by_left b h (Some x) is mine left =
       let same : (g b).holder ≡ h = sym (ap (λ (y : Hold). y.holder) left) ∙ holder_is G h x is in
       subst (λ k. IsHeldBy G (g b) k) (sym same) (held_from G (g b) h (is ∙ ap Some left))
 
-  stays_told : Regives → (b : BoardRow) (h : Holder) → moved h ≡ false → IsHeldBy F b h → IsHeldBy G b h
-  stays_told re b Holder.Nobody apart told = told
-  stays_told re b (Holder.Job n) apart told = re.stays (Holder.Job n) apart ∙ told
-  stays_told re b (Holder.Res n) apart told = re.stays (Holder.Res n) apart ∙ told
+  held_by_stays : Regives → (b : BoardRow) (h : Holder) → moved h ≡ false → IsHeldBy F b h → IsHeldBy G b h
+  held_by_stays re b Holder.Nobody apart held_by = held_by
+  held_by_stays re b (Holder.Job n) apart held_by = re.stays (Holder.Job n) apart ∙ held_by
+  held_by_stays re b (Holder.Res n) apart held_by = re.stays (Holder.Res n) apart ∙ held_by
 
-  moved_told : Regives → (b : BoardRow) (h : Holder) → moved h ≡ true → b.holder ≡ h → IsHeldBy F b h → IsHeldBy G (g b) (g b).holder
-  moved_told re b Holder.Nobody so mine told = absurd (true≢false (sym so ∙ re.nobody))
-  moved_told re b (Holder.Job n) so mine told = left_told b (Holder.Job n) (hold_of G (Holder.Job n)) refl mine (re.gives (Holder.Job n) b so mine told)
-  moved_told re b (Holder.Res n) so mine told = left_told b (Holder.Res n) (hold_of G (Holder.Res n)) refl mine (re.gives (Holder.Res n) b so mine told)
+  held_by_moved : Regives → (b : BoardRow) (h : Holder) → moved h ≡ true → b.holder ≡ h → IsHeldBy F b h → IsHeldBy G (g b) (g b).holder
+  held_by_moved re b Holder.Nobody so mine held_by = absurd (true≢false (sym so ∙ re.nobody))
+  held_by_moved re b (Holder.Job n) so mine held_by = held_by_left b (Holder.Job n) (hold_of G (Holder.Job n)) refl mine (re.gives (Holder.Job n) b so mine held_by)
+  held_by_moved re b (Holder.Res n) so mine held_by = held_by_left b (Holder.Res n) (hold_of G (Holder.Res n)) refl mine (re.gives (Holder.Res n) b so mine held_by)
 
-  told_after : Regives → (b : BoardRow) → IsHeldBy F b b.holder → IsHeldBy G (cond (moved b.holder) (g b) b) (cond (moved b.holder) (g b) b).holder
-  told_after re b told =
-      by_cases (λ c. IsHeldBy G c c.holder) (moved b.holder) (g b) b (λ so. moved_told re b b.holder so refl told)
-      (λ apart. stays_told re b b.holder apart told)
+  held_by_after : Regives → (b : BoardRow) → IsHeldBy F b b.holder → IsHeldBy G (cond (moved b.holder) (g b) b) (cond (moved b.holder) (g b) b).holder
+  held_by_after re b held_by =
+      by_cases (λ c. IsHeldBy G c c.holder) (moved b.holder) (g b) b (λ so. held_by_moved re b b.holder so refl held_by)
+      (λ apart. held_by_stays re b b.holder apart held_by)
 
   rows_after : Regives → IsHeldByKeys F → (h : Holder) (x : Hold) → hold_of G h ≡ Some x → IsSomeAnd (board_of G x.board) (λ b. b.holder ≡ h)
   rows_after re held_board h x is = by (moved h) refl
@@ -92,13 +92,13 @@ module _ (F G : Farm) (moved : Holder → Bool) (g : BoardRow → BoardRow) wher
       -- a board that h holds in F
       there : (y : Hold) → hold_of F h ≡ Some y → (o : Option BoardRow) → board_of F y.board ≡ o → IsSomeAnd o (λ b. b.holder ≡ h)
           → (b : BoardRow) × (board_of F y.board ≡ Some b) × (b.holder ≡ h) × (y ≡ shown_hold b)
-      there y was None found told = absurd told
-      there y was (Some b) found told = (
+      there y was None found held_by = absurd held_by
+      there y was (Some b) found held_by = (
         b,
         found,
-        told,
+        held_by,
         held_is F b h y
-            (subst (IsHeldBy F b) told (found_has (λ b. IsHeldBy F b b.holder) (λ r. bytes_eq r.name y.board) b F.boards held_board.boards found)) was,
+            (subst (IsHeldBy F b) held_by (found_has (λ b. IsHeldBy F b b.holder) (λ r. bytes_eq r.name y.board) b F.boards held_board.boards found)) was,
       )
 
       by_hold : moved h ≡ true → (o : Option Hold) → hold_of F h ≡ o → IsSomeAnd (board_of G x.board) (λ b. b.holder ≡ h)
@@ -127,6 +127,6 @@ module _ (F G : Farm) (moved : Holder → Bool) (g : BoardRow → BoardRow) wher
   IsHeldByKeys-regiven re same held_board = record {
     boards = subst (AllByRecursion (λ b. IsHeldBy G b b.holder)) (sym same)
         (AllByRecursion-map (λ b. IsHeldBy F b b.holder) (λ b. IsHeldBy G b b.holder) (λ b. cond (moved b.holder) (g b) b)
-        (told_after re) F.boards held_board.boards);
+        (held_by_after re) F.boards held_board.boards);
     rows = rows_after re held_board;
   }

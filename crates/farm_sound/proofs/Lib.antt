@@ -44,5 +44,5 @@ pub mod Puts
 pub mod Commute
 pub mod Placed
 pub mod Steps
-pub mod Said
-pub mod Told
+pub mod ShownHolders
+pub mod ByRows

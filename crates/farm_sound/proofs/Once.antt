@@ -1,4 +1,4 @@
--- Holders told by keys say that no board is held twice, and that each says who holds it; and back.
+-- Holders found by keys say that no board is held twice, and that each says who holds it; and back.
 use Rattle.std.proofs.Common.{◌++◌, ◌<◌, ◌==◌, ◌∙◌, ◌∷◌, ◌≡◌, ◌≢◌, Bool, IsSome, IsSomeAnd, List, None, Option, Some, ap, arith, cond, false, inl, inr, refl, subst, sym, true, unwrap_or, ℕ, []}
 use mathlib.Core.Bool.{false≢true}
 use Rattle.std.specs.List.{AllByRecursion, cons_option, filter_map, find}
@@ -168,44 +168,44 @@ module _ (F : Farm) (steady : IsSteady F) where
       by None there hx hy = absurd hx
       by (Some b) there hx hy = sym hx ∙ hy
 
-  told_by_keys : IsHeldByKeys F → (b : BoardRow) → board_of F b.name ≡ Some b → IsHeldBy F b b.holder
+  shown_by_keys : IsHeldByKeys F → (b : BoardRow) → board_of F b.name ≡ Some b → IsHeldBy F b b.holder
       → shown_hold b ≡ unwrap_or (find (λ h. bytes_eq h.board b.name) (holds F)) (no_hold b.name)
-  told_by_keys held_board b own told = by (find (λ h. bytes_eq h.board b.name) (holds F)) refl
+  shown_by_keys held_board b own held_by = by (find (λ h. bytes_eq h.board b.name) (holds F)) refl
     where
       none : (h : Holder) → b.holder ≡ h → IsHeldBy F b h → find (λ x. bytes_eq x.board b.name) (holds F) ≡ None → shown_hold b ≡ no_hold b.name
-      none Holder.Nobody at told is = λ i. record { board = b.name; holder = at i; state = told i }
-      none (Holder.Job n) at told is =
-          absurd (among_none (λ x. bytes_eq x.board b.name) (shown_hold b) (holds F) (among_holds (Holder.Job n) (shown_hold b) told) (text_itself b.name) is)
-      none (Holder.Res n) at told is =
-          absurd (among_none (λ x. bytes_eq x.board b.name) (shown_hold b) (holds F) (among_holds (Holder.Res n) (shown_hold b) told) (text_itself b.name) is)
+      none Holder.Nobody at held_by is = λ i. record { board = b.name; holder = at i; state = held_by i }
+      none (Holder.Job n) at held_by is =
+          absurd (among_none (λ x. bytes_eq x.board b.name) (shown_hold b) (holds F) (among_holds (Holder.Job n) (shown_hold b) held_by) (text_itself b.name) is)
+      none (Holder.Res n) at held_by is =
+          absurd (among_none (λ x. bytes_eq x.board b.name) (shown_hold b) (holds F) (among_holds (Holder.Res n) (shown_hold b) held_by) (text_itself b.name) is)
 
       by : (o : Option Hold) → find (λ h. bytes_eq h.board b.name) (holds F) ≡ o → shown_hold b ≡ unwrap_or o (no_hold b.name)
-      by None is = none b.holder refl told is
+      by None is = none b.holder refl held_by is
       by (Some x) is =
           let ox : hold_of F x.holder ≡ Some x = found_has (λ y. hold_of F y.holder ≡ Some y) (λ y. bytes_eq y.board b.name) x (holds F) own_holds is in
           let at : x.board ≡ b.name = (bytes_eq-Decides x.board b.name).0 (found_passes (λ (y : Hold). bytes_eq y.board b.name) x (holds F) is) in
           let mine : b.holder ≡ x.holder = holder_by_keys held_board x ox b (ap (board_of F) at ∙ own) in
-          sym (held_is F b b.holder x told (ap (hold_of F) mine ∙ ox))
+          sym (held_is F b b.holder x held_by (ap (hold_of F) mine ∙ ox))
 
   pub IsHeldOnce-from_keys : IsHeldByKeys F → IsHeldOnce F
   IsHeldOnce-from_keys held_board = record {
     once = each_weaker (λ x y. (x.holder ≢ y.holder) × (hold_of F x.holder ≡ Some x) × (hold_of F y.holder ≡ Some y)) (λ x y. x.board ≢ y.board)
         (λ x y three same. three.0 (one_holder held_board x y three.1 three.2 same)) (holds F)
         (each_with (λ x y. x.holder ≢ y.holder) (λ x. hold_of F x.holder ≡ Some x) (holds F) two_holders own_holds);
-    told = AllByRecursion-weaker (λ b two. told_by_keys held_board b two.0 two.1) F.boards
+    shown = AllByRecursion-weaker (λ b two. shown_by_keys held_board b two.0 two.1) F.boards
         (AllByRecursion-both (λ b. board_of F b.name ≡ Some b) (λ b. IsHeldBy F b b.holder) F.boards (own_board F steady) held_board.boards);
   }
 
   -- ---- once, so by keys
 
-  keys_told : (b : BoardRow) → shown_hold b ≡ unwrap_or (find (λ h. bytes_eq h.board b.name) (holds F)) (no_hold b.name) → IsHeldBy F b b.holder
-  keys_told b told = by (find (λ h. bytes_eq h.board b.name) (holds F)) refl told
+  held_by_shown : (b : BoardRow) → shown_hold b ≡ unwrap_or (find (λ h. bytes_eq h.board b.name) (holds F)) (no_hold b.name) → IsHeldBy F b b.holder
+  held_by_shown b shown = by (find (λ h. bytes_eq h.board b.name) (holds F)) refl shown
     where
       by : (o : Option Hold) → find (λ h. bytes_eq h.board b.name) (holds F) ≡ o → shown_hold b ≡ unwrap_or o (no_hold b.name) → IsHeldBy F b b.holder
-      by None is told = subst (IsHeldBy F b) (sym (ap (λ (x : Hold). x.holder) told)) (ap (λ (x : Hold). x.state) told)
-      by (Some x) is told =
+      by None is shown = subst (IsHeldBy F b) (sym (ap (λ (x : Hold). x.holder) shown)) (ap (λ (x : Hold). x.state) shown)
+      by (Some x) is shown =
           let ox : hold_of F x.holder ≡ Some x = found_has (λ y. hold_of F y.holder ≡ Some y) (λ y. bytes_eq y.board b.name) x (holds F) own_holds is in
-          held_from F b b.holder (ap (hold_of F) (ap (λ (y : Hold). y.holder) told) ∙ ox ∙ ap Some (sym told))
+          held_from F b b.holder (ap (hold_of F) (ap (λ (y : Hold). y.holder) shown) ∙ ox ∙ ap Some (sym shown))
 
   hold_board : (h : Holder) (board : Option (List ℕ)) (state : Option State) (x : Hold) → hold h board state ≡ Some x → IsBoardOf F board
       → IsSome (board_of F x.board)
@@ -234,13 +234,13 @@ module _ (F : Farm) (steady : IsSteady F) where
     where
       found : (b : BoardRow) → b.name ≡ x.board → (o : Option Hold) → find (λ y. bytes_eq y.board b.name) (holds F) ≡ o
           → shown_hold b ≡ unwrap_or o (no_hold b.name) → b.holder ≡ h
-      found b named None none told =
+      found b named None none shown =
           absurd (among_none (λ y. bytes_eq y.board b.name) x (holds F) (among_holds h x is) ((bytes_eq-Decides x.board b.name).1 (sym named)) none)
-      found b named (Some y) at told =
+      found b named (Some y) at shown =
           let same : y.board ≡ x.board = (bytes_eq-Decides y.board b.name).0 (found_passes (λ (z : Hold). bytes_eq z.board b.name) y (holds F) at) ∙ named in
           let e : y ≡ x = two_same (λ z. z.board) y x (holds F) held_board.once (among_found (λ z. bytes_eq z.board b.name) y (holds F) at)
           (among_holds h x is) same in
-          ap (λ (z : Hold). z.holder) (told ∙ e) ∙ mine
+          ap (λ (z : Hold). z.holder) (shown ∙ e) ∙ mine
 
       by : (o : Option BoardRow) → board_of F x.board ≡ o → IsSome o → IsSomeAnd o (λ b. b.holder ≡ h)
       by None there some = absurd (false≢true some)
@@ -248,10 +248,10 @@ module _ (F : Farm) (steady : IsSteady F) where
           found b ((bytes_eq-Decides b.name x.board).0 (found_passes (λ (c : BoardRow). bytes_eq c.name x.board) b F.boards there))
           (find (λ y. bytes_eq y.board b.name) (holds F)) refl
           (found_has (λ b. shown_hold b ≡ unwrap_or (find (λ h. bytes_eq h.board b.name) (holds F)) (no_hold b.name))
-          (λ c. bytes_eq c.name x.board) b F.boards held_board.told there)
+          (λ c. bytes_eq c.name x.board) b F.boards held_board.shown there)
 
   pub IsHeldByKeys-from_once : IsHeldOnce F → IsHeldByKeys F
   IsHeldByKeys-from_once held_board = record {
-    boards = AllByRecursion-weaker keys_told F.boards held_board.told;
+    boards = AllByRecursion-weaker held_by_shown F.boards held_board.shown;
     rows = λ h x is. keys_rows held_board h x is (holder_is F h x is);
   }

@@ -10,7 +10,7 @@ use Rattle.farm_types.specs.Sound.{Follows, IsJobRow, AreGroupsInPhase, phase}
 use Rattle.farm_types.specs.declared.rows.BoardRow.{BoardRow}
 use Rattle.farm_types.specs.declared.rows.JobRow.{JobRow}
 use Rattle.farm_types.proofs.Put.{AllByRecursion-weaker, found_has, found_passes}
-use Rattle.farm_sound.specs.Told.{IsInStep, IsOfFew}
+use Rattle.farm_sound.specs.ByRows.{IsInStep, IsOfFew}
 use Rattle.farm_sound.proofs.Lists.{all_fail, none_pass}
 use Rattle.farm_sound.proofs.Tests.{same_number}
 use Rattle.farm_sound.proofs.Where.{AllByRecursion-both}

@@ -1,3 +1,3 @@
 pub mod Place
-pub mod Told
+pub mod ByRows
 pub mod Served

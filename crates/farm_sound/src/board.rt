@@ -6,7 +6,7 @@ ghost use Rattle.std.specs.Str.{bytes_eq};
 ghost use Rattle.farm_types.specs.Table.{type_cmp};
 ghost use Rattle.farm_types.specs.Farm.{farm_of, type_of};
 ghost use Rattle.farm_types.specs.Sound.{IsTypeRow, IsBoardRow};
-ghost use Rattle.farm_sound.specs.Told.{IsOrdered, IsOfFew, IsNamedBy};
+ghost use Rattle.farm_sound.specs.ByRows.{IsOrdered, IsOfFew, IsNamedBy};
 
 use crate::job::job_gives;
 use crate::reservation::res_gives;

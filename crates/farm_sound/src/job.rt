@@ -6,11 +6,11 @@ ghost use Rattle.farm_types.specs.Table.{type_cmp, board_cmp, job_cmp, res_cmp};
 ghost use Rattle.farm_types.specs.Farm.{farm_of};
 ghost use Rattle.farm_types.specs.Sound.{IsJobRow, IsCheck, IsCollecting, Follows, job_gives};
 ghost use Rattle.farm_types.specs.Sound.{phase};
-ghost use Rattle.farm_sound.specs.Told.{IsOrdered, IsJobNumbered, IsJobWorded, IsJobPlaced};
-ghost use Rattle.farm_sound.specs.Told.{IsJobGrouped, IsInStep, IsSaidOfJob};
+ghost use Rattle.farm_sound.specs.ByRows.{IsOrdered, IsJobNumbered, IsJobWorded, IsJobPlaced};
+ghost use Rattle.farm_sound.specs.ByRows.{IsJobGrouped, IsInStep, IsShownOfJob};
 
 use crate::seek::{board_of, job_of, res_of};
-use crate::want::{names_board, names_type, tell_role, tell_want};
+use crate::want::{names_board, names_type, prove_role, prove_want};
 use farm_types::{
     HIGHEST_PRIORITY, Holder, JobRow, JobState, LONGEST_TEXT, MOST_WANTS, Rows, State,
 };
@@ -55,8 +55,8 @@ fn is_worded(rows: &Rows, row: &JobRow) -> bool
     ensures { IsTrue result ↔ IsJobWorded (farm_of rows.now) row.now }
 {
     let (_owner, _priority, _body) = (row.owner.as_str(), row.priority.get(), row.body.as_str());
-    tell_want(&row.want);
-    tell_role(&row.role);
+    prove_want(&row.want);
+    prove_role(&row.role);
     names_type(rows, &row.want.kind) && row.body.len() <= LONGEST_TEXT
 }
 
@@ -144,9 +144,9 @@ fn is_job(holder: Holder, number: u64) -> bool
 }
 
 /// Whether the board that a job holds says so.
-pub fn is_said_of_job(rows: &Rows, row: &JobRow) -> bool
+pub fn is_shown_of_job(rows: &Rows, row: &JobRow) -> bool
     requires { IsStrictlySortedBy board_cmp rows.now.boards.items }
-    ensures { IsTrue result ↔ IsSaidOfJob (farm_of rows.now) row.now }
+    ensures { IsTrue result ↔ IsShownOfJob (farm_of rows.now) row.now }
 {
     match (job_gives(row.state), &row.board) {
         (None, _) => true,

@@ -69,7 +69,7 @@ pub fn queue_is_claims()
     ensures each { (F : Farm) → IsSound F → IsPermutation (claims F) (queue F) }
 {}
 
-/// Holders told by keys say that no board is held twice and that each board says who holds it, and
+/// Holders found by keys say that no board is held twice and that each board says who holds it, and
 /// back.
 pub fn held_once()
     ensures once { (F : Farm) → IsSteady F → IsHeldByKeys F → IsHeldOnce F }

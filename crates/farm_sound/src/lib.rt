@@ -4,7 +4,7 @@
 //! `laws` says what is proved of the machine's definitions; `sound` decides them at run time, row
 //! by row; `seek` finds rows.
 //!
-//! Read `specs/` in the order Place, Told, Served.
+//! Read `specs/` in the order Place, ByRows, Served.
 #![tactic(auto)]
 
 mod board;

@@ -5,10 +5,10 @@ ghost use Rattle.farm_types.specs.Limits.{last_moment};
 ghost use Rattle.farm_types.specs.Table.{board_cmp};
 ghost use Rattle.farm_types.specs.Farm.{farm_of};
 ghost use Rattle.farm_types.specs.Sound.{IsResRow, res_gives};
-ghost use Rattle.farm_sound.specs.Told.{IsSaidOfRes};
+ghost use Rattle.farm_sound.specs.ByRows.{IsShownOfRes};
 
 use crate::seek::board_of;
-use crate::want::{names_board, tell_want};
+use crate::want::{names_board, prove_want};
 use farm_types::{Holder, LEASE, ResRow, ResState, Rows, State};
 
 /// The state that a reservation gives the board that it holds, if it holds one.
@@ -29,7 +29,7 @@ pub fn is_res_row(rows: &Rows, row: &ResRow) -> bool
     ensures { IsTrue result ↔ IsResRow (farm_of rows.now) row.now }
 {
     let (_owner, _priority) = (row.owner.as_str(), row.priority.get());
-    tell_want(&row.want);
+    prove_want(&row.want);
     1 <= row.number
         && row.number < rows.meta.next
         && row.want.kind.is_none()
@@ -52,9 +52,9 @@ fn is_res(holder: Holder, number: u64) -> bool
 }
 
 /// Whether the board that a reservation holds says so.
-pub fn is_said_of_res(rows: &Rows, row: &ResRow) -> bool
+pub fn is_shown_of_res(rows: &Rows, row: &ResRow) -> bool
     requires { IsStrictlySortedBy board_cmp rows.now.boards.items }
-    ensures { IsTrue result ↔ IsSaidOfRes (farm_of rows.now) row.now }
+    ensures { IsTrue result ↔ IsShownOfRes (farm_of rows.now) row.now }
 {
     match (res_gives(row.state), &row.board) {
         (None, _) => true,

@@ -3,11 +3,11 @@ ghost use Rattle.std.specs.Prelude.{◌≡◌, ◌↔◌, IsTrue};
 ghost use Rattle.std.specs.List.{AllByRecursion};
 ghost use Rattle.farm_types.specs.Farm.{farm_of};
 ghost use Rattle.farm_types.specs.Sound.{IsSound, IsKeptRow};
-ghost use Rattle.farm_sound.specs.Told.{IsOrdered, IsFew, IsSoundByRows};
+ghost use Rattle.farm_sound.specs.ByRows.{IsOrdered, IsFew, IsSoundByRows};
 
 use crate::board::{is_board_row, is_held, is_of_few, is_type_row};
-use crate::job::{is_collecting, is_in_step, is_job_row, is_said_of_job};
-use crate::reservation::{is_res_row, is_said_of_res};
+use crate::job::{is_collecting, is_in_step, is_job_row, is_shown_of_job};
+use crate::reservation::{is_res_row, is_shown_of_res};
 use farm_types::{
     BoardRow, JobRow, KeptRow, LAST_KIND, LAST_MOMENT, MOST_BOARDS, MOST_COMMANDS, MOST_JOBS,
     MOST_REPLIES, MOST_RESERVATIONS, MOST_TYPES, NUMBERS_END, ResRow, Rows, TypeRow, is_sorted,
@@ -50,72 +50,72 @@ fn is_kept_row(row: &KeptRow) -> bool
 }
 
 /// A row of a table.
-trait Told {
+trait SoundRow {
     ghost use Rattle.farm_types.specs.Farm.{Farm, farm_of};
-    ghost use Rattle.farm_sound.specs.Told.{IsOrdered, IsFew};
+    ghost use Rattle.farm_sound.specs.ByRows.{IsOrdered, IsFew};
 
     /// What the row says, and what the others say of it.
     ghost IsIn: { Farm → Self → Type 0 };
 
     /// Whether the row is one of a sound farm, among rows in order and within the limits.
-    fn is_told(&self, rows: &Rows) -> bool
+    fn is_sound_among(&self, rows: &Rows) -> bool
         requires ordered { IsOrdered (farm_of rows.now) }
         requires few { IsFew (farm_of rows.now) }
         ensures { IsTrue result ↔ IsIn (farm_of rows.now) self.now };
 }
 
-impl Told for TypeRow {
+impl SoundRow for TypeRow {
     ghost use Rattle.farm_types.specs.Sound.{IsTypeRow};
 
     ghost IsIn = { λ _ row. IsTypeRow row };
 
-    fn is_told(&self, _rows: &Rows) -> bool {
+    fn is_sound_among(&self, _rows: &Rows) -> bool {
         is_type_row(self)
     }
 }
 
-impl Told for BoardRow {
-    ghost use Rattle.farm_sound.specs.Told.{IsBoardTold};
+impl SoundRow for BoardRow {
+    ghost use Rattle.farm_sound.specs.ByRows.{IsSoundBoard};
 
-    ghost IsIn = { IsBoardTold };
+    ghost IsIn = { IsSoundBoard };
 
-    fn is_told(&self, rows: &Rows) -> bool {
+    fn is_sound_among(&self, rows: &Rows) -> bool {
         is_board_row(rows, self) && is_of_few(rows, self) && is_held(rows, self)
     }
 }
 
-impl Told for JobRow {
-    ghost use Rattle.farm_sound.specs.Told.{IsJobTold};
+impl SoundRow for JobRow {
+    ghost use Rattle.farm_sound.specs.ByRows.{IsSoundJob};
 
-    ghost IsIn = { IsJobTold };
+    ghost IsIn = { IsSoundJob };
 
-    fn is_told(&self, rows: &Rows) -> bool {
-        is_job_row(rows, self) && is_in_step(rows, self) && is_said_of_job(rows, self)
+    fn is_sound_among(&self, rows: &Rows) -> bool {
+        is_job_row(rows, self) && is_in_step(rows, self) && is_shown_of_job(rows, self)
     }
 }
 
-impl Told for ResRow {
-    ghost use Rattle.farm_sound.specs.Told.{IsResTold};
+impl SoundRow for ResRow {
+    ghost use Rattle.farm_sound.specs.ByRows.{IsSoundRes};
 
-    ghost IsIn = { IsResTold };
+    ghost IsIn = { IsSoundRes };
 
-    fn is_told(&self, rows: &Rows) -> bool {
-        is_res_row(rows, self) && is_said_of_res(rows, self)
+    fn is_sound_among(&self, rows: &Rows) -> bool {
+        is_res_row(rows, self) && is_shown_of_res(rows, self)
     }
 }
 
-impl Told for KeptRow {
+impl SoundRow for KeptRow {
     ghost use Rattle.farm_types.specs.Sound.{IsKeptRow};
 
     ghost IsIn = { λ _ row. IsKeptRow row };
 
-    fn is_told(&self, _rows: &Rows) -> bool {
+    fn is_sound_among(&self, _rows: &Rows) -> bool {
         is_kept_row(self)
     }
 }
 
 /// Whether each row is one of a sound farm.
-fn are_told<R: Told>(rows: &Rows, list: &[R]) -> bool
+fn are_sound_among<R: SoundRow>(rows: &Rows, list: &[R]) -> bool
     requires ordered { IsOrdered (farm_of rows.now) }
     requires few { IsFew (farm_of rows.now) }
     ensures { IsTrue result ↔ AllByRecursion (R.IsIn (farm_of rows.now)) list.now }
@@ -125,21 +125,21 @@ fn are_told<R: Told>(rows: &Rows, list: &[R]) -> bool
             requires ordered { IsOrdered (farm_of rows.now) }
             requires few { IsFew (farm_of rows.now) }
             ensures { IsTrue result ↔ R.IsIn (farm_of rows.entry.now) row.now }
-        { row.is_told(rows) },
+        { row.is_sound_among(rows) },
     )
 }
 
 /// Whether the rows are those of a sound farm, row by row.
-fn is_farm_told(rows: &Rows) -> bool
+fn is_sound_by_rows(rows: &Rows) -> bool
     ensures { IsTrue result ↔ IsSoundByRows (farm_of rows.now) }
 {
     is_few(rows)
         && is_ordered(rows)
-        && are_told(rows, rows.types.as_slice())
-        && are_told(rows, rows.boards.as_slice())
-        && are_told(rows, rows.jobs.as_slice())
-        && are_told(rows, rows.reservations.as_slice())
-        && are_told(rows, rows.kept.as_slice())
+        && are_sound_among(rows, rows.types.as_slice())
+        && are_sound_among(rows, rows.boards.as_slice())
+        && are_sound_among(rows, rows.jobs.as_slice())
+        && are_sound_among(rows, rows.reservations.as_slice())
+        && are_sound_among(rows, rows.kept.as_slice())
         && is_collecting(rows)
 }
 
@@ -148,5 +148,5 @@ fn is_farm_told(rows: &Rows) -> bool
 pub fn is_sound(rows: &Rows) -> bool
     ensures { IsTrue result ↔ IsSound (farm_of rows.now) }
 {
-    is_farm_told(rows)
+    is_sound_by_rows(rows)
 }

@@ -1,4 +1,4 @@
-//! What the words of a row tell by their types, and the names that it gives of other rows.
+//! What the types of a row's words prove of them, and the names that it gives of other rows.
 ghost use Rattle.std.specs.Prelude.{◌≡◌, ◌↔◌, IsTrue, IsSome, IfSome, IsSomeAnd, Some};
 ghost use Rattle.std.specs.List.Sorted.{IsStrictlySortedBy};
 ghost use Rattle.farm_types.specs.Words.{IsName};
@@ -11,7 +11,7 @@ use crate::seek::{board_of, type_of};
 use farm_types::{Name, Rows, Want};
 
 /// A want names a type, if it names one, and tags.
-pub(crate) fn tell_want(want: &Want)
+pub(crate) fn prove_want(want: &Want)
     ensures { IsTrue (is_want want.now) }
 {
     let _tags = want.tags.items();
@@ -21,7 +21,7 @@ pub(crate) fn tell_want(want: &Want)
 }
 
 /// A role, if there is one, is a name.
-pub(crate) fn tell_role(role: &Option<Name>)
+pub(crate) fn prove_role(role: &Option<Name>)
     ensures { IfSome role.now IsName }
 {
     if let Some(name) = role {

@@ -47,7 +47,7 @@ use Rattle.sqlite_rules.proofs.TableLemmas.{int_is, put_all_has, put_all_keeps, 
 use Rattle.farm_types.specs.Table.{put_all as put_all_rows}
 use Rattle.farm_types.specs.declared.rows.MetaRow.{MetaRow}
 use Rattle.farm_store.specs.declared.meta.TheConstants.{CHANGE}
-use Rattle.farm_store.specs.Columns.{Tables, by_first, is_text, meta_row, meta_rows, number_rows, values_of}
+use Rattle.farm_store.specs.Columns.{TableRows, by_first, is_text, meta_row, meta_rows, number_rows, meta_values}
 use Rattle.farm_store.specs.Holds.{IsInside}
 use Rattle.farm_store.specs.Places.{of_meta, put_at}
 use Rattle.farm_store.specs.Schema.{farm_schema, strict_table, meta_table}
@@ -64,7 +64,7 @@ use Rattle.farm_store.proofs.UpdateRows.{changes, written_as, left, news, leaves
 abbrev named : List ℕ → Term
 named name = op2 (Compare Eq Binary) (col 1 1) (lit (Text name))
 
--- the number that the row with a name is to tell, or else another value
+-- the number that the row with a name is to have, or else another value
 abbrev number_for : Term → Term
 number_for other = case (named (codes "clock")) (col 0 0) (case (named (codes "collector")) (col 0 1) (case (named (codes "count")) (col 0 2) other))
 
@@ -115,7 +115,7 @@ same_name a b = equal_is_tied (Text a) (Text b) refl ∙ ap is_eq (value_cmp-Tex
 
 module _ (n : MetaRow) where
   abbrev params : Row
-  params = values_of n
+  params = meta_values n
 
   -- the row that a row becomes
   abbrev target : Row → Row
@@ -135,7 +135,7 @@ module _ (n : MetaRow) where
   becomes = written_as table tests project params
 
   -- what the statement makes of a raw row
-  record Told (raw : Row) : Type 0 where
+  record Updated (raw : Row) : Type 0 where
     pub key : column (target (row_less_rowid raw)) 0 ≡ column (row_less_rowid raw) 0
     pub same : passes raw ≡ false → row_less_rowid raw ≡ target (row_less_rowid raw)
     pub new : passes raw ≡ true → becomes raw ≡ Int (id_in (rowid raw)) ∷ target (row_less_rowid raw)
@@ -144,8 +144,8 @@ module _ (n : MetaRow) where
     abbrev one : Row
     one = Int id ∷ meta_row name v
 
-    told : target (meta_row name v) ≡ meta_row name w → passes one ≡ (is_ne (int_cmp (pos v) (pos w)) && true) → (passes one ≡ true → becomes one ≡ Int id ∷ meta_row name w) → Told one
-    told target_is passes_is new_is = record {
+    updated : target (meta_row name v) ≡ meta_row name w → passes one ≡ (is_ne (int_cmp (pos v) (pos w)) && true) → (passes one ≡ true → becomes one ≡ Int id ∷ meta_row name w) → Updated one
+    updated target_is passes_is new_is = record {
       key = ap (λ s. column s 0) target_is;
       same = λ level. ap (λ k. Text name ∷ Int k ∷ []) (same_number (pos v) (pos w) (not_first _ (sym passes_is ∙ level))) ∙ sym target_is;
       new = λ up. new_is up ∙ ap (λ s. Int id ∷ s) (sym target_is);
@@ -155,45 +155,45 @@ module _ (n : MetaRow) where
         not_first true failed = failed
         not_first false failed = refl
 
-  clock_told : (id : ℤ) (v : ℕ) → Told (Int id ∷ meta_row (codes "clock") v)
-  clock_told id v = told id (codes "clock") v n.clock refl (rw (same_name (codes "clock") (codes "clock"), as_number (pos n.clock)) (ap (λ b. b && true) (differ_is (pos v) (pos n.clock))))
+  clock_updated : (id : ℤ) (v : ℕ) → Updated (Int id ∷ meta_row (codes "clock") v)
+  clock_updated id v = updated id (codes "clock") v n.clock refl (rw (same_name (codes "clock") (codes "clock"), as_number (pos n.clock)) (ap (λ b. b && true) (differ_is (pos v) (pos n.clock))))
       (λ up. rw (same_name (codes "clock") (codes "clock")) (stays id (codes "clock") n.clock))
 
-  collector_told : (id : ℤ) (v : ℕ) → Told (Int id ∷ meta_row (codes "collector") v)
-  collector_told id v =
-      told id (codes "collector") v n.collector refl (rw (same_name (codes "collector") (codes "clock"), same_name (codes "collector") (codes "collector"), as_number (pos n.collector)) (ap (λ b. b && true) (differ_is (pos v) (pos n.collector))))
+  collector_updated : (id : ℤ) (v : ℕ) → Updated (Int id ∷ meta_row (codes "collector") v)
+  collector_updated id v =
+      updated id (codes "collector") v n.collector refl (rw (same_name (codes "collector") (codes "clock"), same_name (codes "collector") (codes "collector"), as_number (pos n.collector)) (ap (λ b. b && true) (differ_is (pos v) (pos n.collector))))
       (λ up. rw (same_name (codes "collector") (codes "clock"), same_name (codes "collector") (codes "collector")) (stays id (codes "collector") n.collector))
 
-  count_told : (id : ℤ) (v : ℕ) → Told (Int id ∷ meta_row (codes "count") v)
-  count_told id v =
-      told id (codes "count") v n.count refl
+  count_updated : (id : ℤ) (v : ℕ) → Updated (Int id ∷ meta_row (codes "count") v)
+  count_updated id v =
+      updated id (codes "count") v n.count refl
       (rw (same_name (codes "count") (codes "clock"), same_name (codes "count") (codes "collector"), same_name (codes "count") (codes "count"), as_number (pos n.count)) (ap (λ b. b && true) (differ_is (pos v) (pos n.count))))
       (λ up. rw (same_name (codes "count") (codes "clock"), same_name (codes "count") (codes "collector"), same_name (codes "count") (codes "count")) (stays id (codes "count") n.count))
 
-  next_told : (id : ℤ) (v : ℕ) → Told (Int id ∷ meta_row (codes "next") v)
-  next_told id v =
-      told id (codes "next") v n.next refl
+  next_updated : (id : ℤ) (v : ℕ) → Updated (Int id ∷ meta_row (codes "next") v)
+  next_updated id v =
+      updated id (codes "next") v n.next refl
       (rw (same_name (codes "next") (codes "clock"), same_name (codes "next") (codes "collector"), same_name (codes "next") (codes "count"), same_name (codes "next") (codes "next"), as_number (pos n.next)) (ap (λ b. b && true) (differ_is (pos v) (pos n.next))))
       (λ up. rw (same_name (codes "next") (codes "clock"), same_name (codes "next") (codes "collector"), same_name (codes "next") (codes "count")) (stays id (codes "next") n.next))
 
   -- the version is left alone
-  schema_told : (id : ℤ) (v : ℕ) → Told (Int id ∷ meta_row (codes "schema") v)
-  schema_told id v =
+  schema_updated : (id : ℤ) (v : ℕ) → Updated (Int id ∷ meta_row (codes "schema") v)
+  schema_updated id v =
       let level : passes (Int id ∷ meta_row (codes "schema") v) ≡ (is_ne (int_cmp (pos v) (pos v)) && true) =
       rw (same_name (codes "schema") (codes "clock"), same_name (codes "schema") (codes "collector"), same_name (codes "schema") (codes "count"), same_name (codes "schema") (codes "next"), as_number (pos v)) (ap (λ b. b && true) (differ_is (pos v) (pos v))) in
-      told id (codes "schema") v v refl level (λ up. absurd (let e = sym up ∙ level ∙ ap (λ o. is_ne o && true) (tied_itself int_cmp_total (pos v)) in cc))
+      updated id (codes "schema") v v refl level (λ up. absurd (let e = sym up ∙ level ∙ ap (λ o. is_ne o && true) (tied_itself int_cmp_total (pos v)) in cc))
 
   split : (raw s : Row) → is_int (rowid raw) ≡ true → row_less_rowid raw ≡ s → raw ≡ Int (id_in (rowid raw)) ∷ s
   split [] s keyed is = absurd (let e : false ≡ true = keyed in cc)
   split (v ∷ rest) s keyed is = let first = int_is v keyed in rw (sym first, is) refl
 
-  all_told : (old : MetaRow) (raw : Row) → is_int (rowid raw) ≡ true → Has (meta_rows old) (row_less_rowid raw) → Told raw
-  all_told old raw keyed (inl is) = subst Told (sym (split raw _ keyed is)) (clock_told _ old.clock)
-  all_told old raw keyed (inr (inl is)) = subst Told (sym (split raw _ keyed is)) (collector_told _ old.collector)
-  all_told old raw keyed (inr (inr (inl is))) = subst Told (sym (split raw _ keyed is)) (count_told _ old.count)
-  all_told old raw keyed (inr (inr (inr (inl is)))) = subst Told (sym (split raw _ keyed is)) (next_told _ old.next)
-  all_told old raw keyed (inr (inr (inr (inr (inl is))))) = subst Told (sym (split raw _ keyed is)) (schema_told _ 2)
-  all_told old raw keyed (inr (inr (inr (inr (inr none))))) = absurd none
+  all_updated : (old : MetaRow) (raw : Row) → is_int (rowid raw) ≡ true → Has (meta_rows old) (row_less_rowid raw) → Updated raw
+  all_updated old raw keyed (inl is) = subst Updated (sym (split raw _ keyed is)) (clock_updated _ old.clock)
+  all_updated old raw keyed (inr (inl is)) = subst Updated (sym (split raw _ keyed is)) (collector_updated _ old.collector)
+  all_updated old raw keyed (inr (inr (inl is))) = subst Updated (sym (split raw _ keyed is)) (count_updated _ old.count)
+  all_updated old raw keyed (inr (inr (inr (inl is)))) = subst Updated (sym (split raw _ keyed is)) (next_updated _ old.next)
+  all_updated old raw keyed (inr (inr (inr (inr (inl is))))) = subst Updated (sym (split raw _ keyed is)) (schema_updated _ 2)
+  all_updated old raw keyed (inr (inr (inr (inr (inr none))))) = absurd none
 
   -- ---- the table after
 
@@ -210,8 +210,8 @@ module _ (n : MetaRow) where
     keyed_at : (raw : Row) → Has (db 8) raw → is_int (rowid raw) ≡ true
     keyed_at raw h = all_has HasInt (db 8) raw it.keyed h
 
-    known : (raw : Row) → Has (db 8) raw → Told raw
-    known raw h = all_told old raw (keyed_at raw h) (it.complete raw h)
+    known : (raw : Row) → Has (db 8) raw → Updated raw
+    known raw h = all_updated old raw (keyed_at raw h) (it.complete raw h)
 
     -- the row that stood in the place of one that stands there now
     record Was (y : Row) : Type 0 where
@@ -268,16 +268,16 @@ module _ (n : MetaRow) where
           complete = λ raw h. let w = was raw h in subst (Has (meta_rows n)) (sym w.shows) (mapped_has target (meta_rows old) (row_less_rowid w.raw) (it.complete w.raw w.there));
         }
 
-pub changes_numbers : (old new : State) (n was : MetaRow) (count : ℕ) (T : Tables) → IsInside old T → T.meta ≡ meta_rows was → ExecutesInside 0 CHANGE.now (values_of n) old new (Ok count) → IsInside new (put_at of_meta T (number_rows n))
+pub changes_numbers : (old new : State) (n was : MetaRow) (count : ℕ) (T : TableRows) → IsInside old T → T.meta ≡ meta_rows was → ExecutesInside 0 CHANGE.now (meta_values n) old new (Ok count) → IsInside new (put_at of_meta T (number_rows n))
 changes_numbers old new n was count T at meta ran =
     let see = at.shown ran.1.was_open in
     let db = old.now.trees in
     let mode = mode_of old in
     let it = subst (ListsRows by_first row_less_rowid 2 (db 8)) meta see.holds.meta in
     let command = Update 5 (record { lets = []; body = query 8 tests project }) in
-    let run = runs_as CHANGE.now (values_of n) old new farm_schema see.schema command change_is change_plain count ran.0 in
+    let run = runs_as CHANGE.now (meta_values n) old new farm_schema see.schema command change_is change_plain count ran.0 in
     let sql = statement_of CHANGE.now (understood farm_schema CHANGE.now) in
-    let changed = subst (λ s. Does old.step_limit mode (values_of n) (record old.now { schema = s }) sql None command (Ok (run.tally, new.now))) see.schema run.changed in
+    let changed = subst (λ s. Does old.step_limit mode (meta_values n) (record old.now { schema = s }) sql None command (Ok (run.tally, new.now))) see.schema run.changed in
     let done = went changed in
     let tested = went done.2 in
     let shown = went tested.2 in

@@ -74,7 +74,7 @@ of_kept a b = rw (by_name a.caller b.caller, by_name a.key b.key)
 pub of_meta : (old new : MetaRow) → put_all by_first (meta_rows old) (number_rows new) ≡ meta_rows new
 of_meta old new = simp value_cmp-Text
 
--- a farm's tables tell its numbers
+-- a farm's tables have its numbers
 pub numbers_there : (F : Farm) → (rows_of F).meta ≡ meta_rows (numbers_of F)
 unfolding rows_of
 numbers_there F = refl

@@ -20,7 +20,7 @@ use Rattle.farm_store.specs.declared.reservations.TheConstants.{MAKE as MAKE_RES
 use Rattle.farm_store.specs.declared.kept.TheConstants.{MAKE as MAKE_KEPT}
 use Rattle.farm_store.specs.declared.meta.TheConstants.{MAKE as MAKE_META}
 use Rattle.farm_store.specs.Schema.{farm_schema, no_schema, types_table, boards_table, jobs_table, reservations_table, kept_table, meta_table}
-use Rattle.farm_store.specs.Columns.{Tables, no_rows}
+use Rattle.farm_store.specs.Columns.{TableRows, no_rows}
 use Rattle.farm_store.specs.Edits.{HasRun}
 use Rattle.farm_store.specs.Holds.{IsInside}
 use Rattle.farm_store.specs.Places.{TableSlot, of_types, of_boards, of_jobs, of_reservations, of_kept, of_meta}
@@ -150,5 +150,5 @@ pub types_taken : (old new : State) → old.now.schema ≡ farm_schema → HasRu
 unfolding understood everything
 types_taken old new has ran = taken old new MAKE_TYPES.now farm_schema refl has ran
 
-pub tables_taken : (old new : State) (T : Tables) → IsInside old T → HasRun MAKE_TYPES.now old new → ⊥
+pub tables_taken : (old new : State) (T : TableRows) → IsInside old T → HasRun MAKE_TYPES.now old new → ⊥
 tables_taken old new T at ran = types_taken old new (at.shown ran.2).schema ran

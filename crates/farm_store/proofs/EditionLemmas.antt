@@ -5,15 +5,15 @@ use Rattle.farm_types.specs.Farm.{Farm}
 use Rattle.farm_types.specs.declared.rows.JobRow.{JobRow}
 use Rattle.farm_types.specs.declared.rows.MetaRow.{MetaRow}
 use Rattle.farm_types.proofs.Put.{AllByRecursion-weaker}
-use Rattle.farm_store.specs.Columns.{IsOfSchema, Tables, tells, rows_of, first_rows_of, type_columns, board_columns, res_columns, kept_columns, numbers_of, second_schema}
+use Rattle.farm_store.specs.Columns.{IsOfSchema, TableRows, is_version_row, rows_of, first_rows_of, type_columns, board_columns, res_columns, kept_columns, numbers_of, second_schema}
 use Rattle.farm_store.specs.Editions.{IsCollectorIn, IsReadableIn, IsReadableJobIn, IsStateIn, job_columns_in, meta_rows_in, other_edition, rows_in, schema_of, version_fault}
 use Rattle.farm_store.specs.Readable.{IsReadable, IsReadableJob}
-use Rattle.farm_store.specs.Reading.{TellsNoVersion}
+use Rattle.farm_store.specs.Reading.{IsNoVersionFault}
 use Rattle.farm_store.specs.declared.edition.Edition.{Edition}
 use Rattle.farm_store.specs.declared.fault.StoreFault.{StoreFault}
 use Rattle.farm_store.specs.declared.fault.StoreFault.TheVariants.{BadStore, Store}
 
-pub no_version : (e : Edition) (fault : StoreFault) → TellsNoVersion fault → fault ≢ version_fault e
+pub no_version : (e : Edition) (fault : StoreFault) → IsNoVersionFault fault → fault ≢ version_fault e
 no_version Edition.First fault none = none.0
 no_version Edition.Second fault none = none.1
 
@@ -34,9 +34,9 @@ pub never_handed : {A : Type 0} (e : Edition) (r : Result A StoreFault) (fault :
 never_handed e (Ok a) fault is never same = absurd is
 never_handed e (Err f) fault is never same = let x : f ≡ version_fault e = cc in never (sym is ∙ x)
 
-pub never_told : {A : Type 0} (e : Edition) (r : Result A StoreFault) → IfErr r TellsNoVersion → r ≢ Err (version_fault e)
-never_told e (Ok a) none same = let x = same in cc
-never_told e (Err f) none same = let x : f ≡ version_fault e = cc in no_version e f none x
+pub never_version_fault : {A : Type 0} (e : Edition) (r : Result A StoreFault) → IfErr r IsNoVersionFault → r ≢ Err (version_fault e)
+never_version_fault e (Ok a) none same = let x = same in cc
+never_version_fault e (Err f) none same = let x : f ≡ version_fault e = cc in no_version e f none x
 
 -- ---- the farms that an edition spells
 
@@ -75,57 +75,57 @@ states_of e jobs all = AllByRecursion-weaker (λ j is. is.state) jobs all
 
 -- ---- the tables of a farm, one by one
 
-pub types_in : (e : Edition) (F : Farm) (T : Tables) → rows_in e F ≡ T → T.types ≡ map type_columns F.types
+pub types_in : (e : Edition) (F : Farm) (T : TableRows) → rows_in e F ≡ T → T.types ≡ map type_columns F.types
 unfolding rows_of first_rows_of
-types_in Edition.First F T is = ap (λ (U : Tables). U.types) (sym is)
-types_in Edition.Second F T is = ap (λ (U : Tables). U.types) (sym is)
+types_in Edition.First F T is = ap (λ (U : TableRows). U.types) (sym is)
+types_in Edition.Second F T is = ap (λ (U : TableRows). U.types) (sym is)
 
-pub boards_in : (e : Edition) (F : Farm) (T : Tables) → rows_in e F ≡ T → T.boards ≡ map board_columns F.boards
+pub boards_in : (e : Edition) (F : Farm) (T : TableRows) → rows_in e F ≡ T → T.boards ≡ map board_columns F.boards
 unfolding rows_of first_rows_of
-boards_in Edition.First F T is = ap (λ (U : Tables). U.boards) (sym is)
-boards_in Edition.Second F T is = ap (λ (U : Tables). U.boards) (sym is)
+boards_in Edition.First F T is = ap (λ (U : TableRows). U.boards) (sym is)
+boards_in Edition.Second F T is = ap (λ (U : TableRows). U.boards) (sym is)
 
-pub jobs_in : (e : Edition) (F : Farm) (T : Tables) → rows_in e F ≡ T → T.jobs ≡ map (job_columns_in e) F.jobs
+pub jobs_in : (e : Edition) (F : Farm) (T : TableRows) → rows_in e F ≡ T → T.jobs ≡ map (job_columns_in e) F.jobs
 unfolding rows_of first_rows_of
-jobs_in Edition.First F T is = ap (λ (U : Tables). U.jobs) (sym is)
-jobs_in Edition.Second F T is = ap (λ (U : Tables). U.jobs) (sym is)
+jobs_in Edition.First F T is = ap (λ (U : TableRows). U.jobs) (sym is)
+jobs_in Edition.Second F T is = ap (λ (U : TableRows). U.jobs) (sym is)
 
-pub reservations_in : (e : Edition) (F : Farm) (T : Tables) → rows_in e F ≡ T → T.reservations ≡ map res_columns F.reservations
+pub reservations_in : (e : Edition) (F : Farm) (T : TableRows) → rows_in e F ≡ T → T.reservations ≡ map res_columns F.reservations
 unfolding rows_of first_rows_of
-reservations_in Edition.First F T is = ap (λ (U : Tables). U.reservations) (sym is)
-reservations_in Edition.Second F T is = ap (λ (U : Tables). U.reservations) (sym is)
+reservations_in Edition.First F T is = ap (λ (U : TableRows). U.reservations) (sym is)
+reservations_in Edition.Second F T is = ap (λ (U : TableRows). U.reservations) (sym is)
 
-pub kept_in : (e : Edition) (F : Farm) (T : Tables) → rows_in e F ≡ T → T.kept ≡ map kept_columns F.kept
+pub kept_in : (e : Edition) (F : Farm) (T : TableRows) → rows_in e F ≡ T → T.kept ≡ map kept_columns F.kept
 unfolding rows_of first_rows_of
-kept_in Edition.First F T is = ap (λ (U : Tables). U.kept) (sym is)
-kept_in Edition.Second F T is = ap (λ (U : Tables). U.kept) (sym is)
+kept_in Edition.First F T is = ap (λ (U : TableRows). U.kept) (sym is)
+kept_in Edition.Second F T is = ap (λ (U : TableRows). U.kept) (sym is)
 
-pub meta_in : (e : Edition) (F : Farm) (T : Tables) → rows_in e F ≡ T → T.meta ≡ meta_rows_in e (numbers_of F)
+pub meta_in : (e : Edition) (F : Farm) (T : TableRows) → rows_in e F ≡ T → T.meta ≡ meta_rows_in e (numbers_of F)
 unfolding rows_of first_rows_of
-meta_in Edition.First F T is = ap (λ (U : Tables). U.meta) (sym is)
-meta_in Edition.Second F T is = ap (λ (U : Tables). U.meta) (sym is)
+meta_in Edition.First F T is = ap (λ (U : TableRows). U.meta) (sym is)
+meta_in Edition.Second F T is = ap (λ (U : TableRows). U.meta) (sym is)
 
 -- six tables that are those of a farm are all that it has
-pub whole_in : (e : Edition) (F : Farm) (T : Tables) → T.types ≡ map type_columns F.types → T.boards ≡ map board_columns F.boards → T.jobs ≡ map (job_columns_in e) F.jobs
+pub whole_in : (e : Edition) (F : Farm) (T : TableRows) → T.types ≡ map type_columns F.types → T.boards ≡ map board_columns F.boards → T.jobs ≡ map (job_columns_in e) F.jobs
     → T.reservations ≡ map res_columns F.reservations → T.kept ≡ map kept_columns F.kept → T.meta ≡ meta_rows_in e (numbers_of F) → rows_in e F ≡ T
 unfolding rows_of first_rows_of
 whole_in Edition.First F T types boards jobs reservations kept meta = sym (λ i. record { types = types i; boards = boards i; jobs = jobs i; reservations = reservations i; kept = kept i; meta = meta i })
 whole_in Edition.Second F T types boards jobs reservations kept meta = sym (λ i. record { types = types i; boards = boards i; jobs = jobs i; reservations = reservations i; kept = kept i; meta = meta i })
 
--- ---- the version: the rows of the numbers tell their edition's alone
+-- ---- the version: the rows of the numbers have their edition's alone
 
-pub numbers_tell : (e : Edition) (m : MetaRow) → IsTrue (list_any (tells (schema_of e)) (meta_rows_in e m))
-numbers_tell Edition.First m = refl
-numbers_tell Edition.Second m = refl
+pub numbers_have_version : (e : Edition) (m : MetaRow) → IsTrue (list_any (is_version_row (schema_of e)) (meta_rows_in e m))
+numbers_have_version Edition.First m = refl
+numbers_have_version Edition.Second m = refl
 
-pub numbers_are_own : (e : Edition) (m : MetaRow) → list_any (tells (schema_of (other_edition e))) (meta_rows_in e m) ≡ false
+pub numbers_are_own : (e : Edition) (m : MetaRow) → list_any (is_version_row (schema_of (other_edition e))) (meta_rows_in e m) ≡ false
 numbers_are_own Edition.First m = refl
 numbers_are_own Edition.Second m = refl
 
-pub tells_own : (e : Edition) (F : Farm) → IsOfSchema (schema_of e) (rows_in e F)
+pub of_own_schema : (e : Edition) (F : Farm) → IsOfSchema (schema_of e) (rows_in e F)
 unfolding rows_of first_rows_of
-tells_own Edition.First F = refl
-tells_own Edition.Second F = refl
+of_own_schema Edition.First F = refl
+of_own_schema Edition.Second F = refl
 
 pub not_other : (e : Edition) (F : Farm) → IsOfSchema (schema_of (other_edition e)) (rows_in e F) → ⊥
 unfolding rows_of first_rows_of
@@ -134,7 +134,7 @@ not_other Edition.Second F is = let e = is in cc
 
 -- the same of the two by name
 pub rows_are_new : (F : Farm) → IsOfSchema second_schema (rows_of F)
-rows_are_new F = tells_own Edition.Second F
+rows_are_new F = of_own_schema Edition.Second F
 
 pub first_rows_are_old : (F : Farm) → IsOfSchema second_schema (first_rows_of F) → ⊥
 first_rows_are_old F = not_other Edition.First F

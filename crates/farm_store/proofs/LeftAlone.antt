@@ -8,7 +8,7 @@ use Rattle.sqlite.specs.Tree.{Trees}
 use Rattle.sqlite.specs.declared.error.Error.{Error}
 use Rattle.sqlite_schema.specs.declared.command.Returning.{Returning}
 use Rattle.std.specs.List.{AllByRecursion}
-use Rattle.farm_store.specs.Columns.{Tables}
+use Rattle.farm_store.specs.Columns.{TableRows}
 use Rattle.farm_store.specs.Holds.{ReadsOnly, ShowsTables, Stands}
 use Rattle.farm_store.specs.Places.{TableSlot}
 use Rattle.farm_store.specs.Queries.{AsksFor}
@@ -39,7 +39,7 @@ pub stopped_left : (old new : State) (e : Error) → Fails old new ⊥ e ⊎ IsU
 stopped_left old new e (inl h) = inr h.3
 stopped_left old new e (inr h) = inl h
 
-stands : (old new : State) (T : Tables) → IsLeft old new → new.in_transaction ≡ false → ((db : Trees) → new.may_leave db → old.may_leave db) → Stands old T → Stands new T
+stands : (old new : State) (T : TableRows) → IsLeft old new → new.in_transaction ≡ false → ((db : Trees) → new.may_leave db → old.may_leave db) → Stands old T → Stands new T
 stands old new T (inl same) auto left at = record {
   autocommit = auto;
   same = λ still. same.0.now_is ∙ at.same same.0.was_open ∙ sym same.0.committed_is;
@@ -78,10 +78,10 @@ only_then {old} {mid} {new} one two = record {
 }
 
 -- the tables that stood there are seen while nothing changes
-pub sees : (first old : State) (T : Tables) → IsUnchanged first old → Stands first T → ShowsTables old.now T
+pub sees : (first old : State) (T : TableRows) → IsUnchanged first old → Stands first T → ShowsTables old.now T
 sees first old T same at = subst (λ (d : Database). ShowsTables d T) (sym same.0.now_is) (at.shown same.0.was_open)
 
-module _ (p : TableSlot) (text : List ℕ) (asks : AsksFor p text) (old : State) (T : Tables) (see : ShowsTables old.now T) where
+module _ (p : TableSlot) (text : List ℕ) (asks : AsksFor p text) (old : State) (T : TableRows) (see : ShowsTables old.now T) where
   -- what the query shows of them
   pub all_shown : (new : State) (rows : List Row) → Shown text [] old new rows → (rows ≡ p.rows T) × AllByRecursion (IsWide p.width) rows
   all_shown new rows h =

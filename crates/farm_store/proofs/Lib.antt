@@ -28,7 +28,7 @@ pub mod OnlyReads
 pub mod Selects
 pub mod RowSelects
 pub mod LeftAlone
-pub mod TablesTell
+pub mod TablesVersion
 pub mod TagsRead
 pub mod ReadRows
 pub mod NumberRows

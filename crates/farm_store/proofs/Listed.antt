@@ -24,7 +24,7 @@ use Rattle.sqlite.specs.Effect.{Database}
 use Rattle.sqlite.specs.State.{State, Opens, IsLive}
 use Rattle.sqlite_trees.specs.Objects.{catalog_tree}
 use Rattle.sqlite.specs.Tree.{Trees}
-use Rattle.farm_store.specs.Columns.{Tables}
+use Rattle.farm_store.specs.Columns.{TableRows}
 use Rattle.farm_store.specs.Holds.{Holds, Stands}
 use Rattle.farm_store.specs.Schema.{farm_schema}
 
@@ -61,7 +61,7 @@ one_name (u ∷ tables) named s t (inr h) (inl k) same =
     let name : u.name ≡ s.name = ap (λ (v : Table). v.name) (sym k) ∙ sym same in absurd (let e = sym (same_itself s.name) ∙ ap (λ n. same_name n s.name) (sym name) ∙ apart in cc)
 one_name (u ∷ tables) named s t (inr h) (inr k) same = one_name tables named.1 s t h k same
 
--- the name of an index that SQLite makes tells which UNIQUE of its table it is for
+-- the name of an index that SQLite makes says which UNIQUE of its table it is for
 same_unique : (name : List ℕ) (m n : ℕ) → m < 65536 → n < 65536
     → codes "sqlite_autoindex_" ++ (name ++ (codes "_" ++ decimal (m + 1))) ≡ codes "sqlite_autoindex_" ++ (name ++ (codes "_" ++ decimal (n + 1))) → m ≡ n
 same_unique name m n low high same =
@@ -160,7 +160,7 @@ lists_one objects s t a b =
     λ i. record { tables = tables i; indexes = indexes i; views = views i }
 
 -- a connection that was just opened on trees that hold the tables stands for them, since an open one leaves its last commit alone
-pub opened_stands : (s : State) → Opens s → IsLive s → ((db : Trees) → s.may_leave db → db ≡ s.committed.trees) → (T : Tables) → Holds s.committed.trees T → Stands s T
+pub opened_stands : (s : State) → Opens s → IsLive s → ((db : Trees) → s.may_leave db → db ≡ s.committed.trees) → (T : TableRows) → Holds s.committed.trees T → Stands s T
 opened_stands s opens live settled T holds =
     let sound = (live opens.is_open).1 in
     let schema = lists_one (s.committed.trees catalog_tree) s.committed.schema farm_schema sound.lists.listed holds.listed in

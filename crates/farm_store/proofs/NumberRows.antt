@@ -7,7 +7,7 @@ use Rattle.sqlite_value.specs.Order.{column}
 use Rattle.farm_types.specs.declared.rows.MetaRow.{MetaRow}
 use Rattle.farm_store.specs.Columns.{meta_row}
 use Rattle.farm_store.specs.Places.{of_meta}
-use Rattle.farm_store.specs.Reading.{ReadsAs, TellsNoVersion}
+use Rattle.farm_store.specs.Reading.{ReadsAs, IsNoVersionFault}
 use Rattle.farm_store.specs.Stored.{IsWide}
 use Rattle.farm_store.specs.declared.fault.StoreFault.{StoreFault}
 use Rattle.farm_store.specs.declared.fault.StoreFault.TheVariants.{BadStore}
@@ -37,9 +37,9 @@ four_rows (v ∷ w ∷ x ∷ y ∷ z ∷ rest) a b c d len p q r s = absurd (ome
 module _ (IsGood : MetaRow → Type 0) (spelled : MetaRow → List Row) where
   -- a row that was refused refuses them all
   pub refuses_number : (r : Result MetaRow StoreFault) (rows : List Row) (at : ℕ) (row : Row) (name : List ℕ) (f : MetaRow → ℕ) (fault : StoreFault) → IsErrAnd r (λ e. e ≡ fault) → row ≡ get_or rows at row
-      → ((m : MetaRow) → get_or (spelled m) at row ≡ meta_row name (f m)) → TellsNoVersion fault × (fault ≡ BadStore → (value : ℕ) → ⊤ → row ≢ meta_row name value) → ReadsAs r IsGood spelled rows
+      → ((m : MetaRow) → get_or (spelled m) at row ≡ meta_row name (f m)) → IsNoVersionFault fault × (fault ≡ BadStore → (value : ℕ) → ⊤ → row ≢ meta_row name value) → ReadsAs r IsGood spelled rows
   refuses_number (Ok m) rows at row name f fault is there one refused = absurd is
   refuses_number (Err e) rows at row name f fault is there one refused = (
-    subst TellsNoVersion (sym is) refused.0,
+    subst IsNoVersionFault (sym is) refused.0,
     λ bad m good same. refused.1 (sym is ∙ bad) (f m) tt (there ∙ ap (λ l. get_or l at row) same ∙ one m),
   )

@@ -17,7 +17,7 @@ use Rattle.sqlite_resolve.specs.Compile.{compiled, command, returning, timed, fi
 use Rattle.sqlite_resolve.specs.Lowering.{Checked, and_then}
 use Rattle.sqlite_resolve.specs.declared.compiled.Compiled.{Compiled}
 use Rattle.sqlite_resolve.specs.declared.error.CompileError.{CompileError}
-use Rattle.farm_store.specs.Queries.{OnlyReads, Shows, ShowsFirst}
+use Rattle.farm_store.specs.Queries.{OnlyReads, ReturnsRows, ReturnsFirstRows}
 
 -- a statement without RETURNING that reads no time
 abbrev IsBare : {P : Type 0} → (P → List (List ℕ)) → (P → Checked (Option Returning)) → Checked P → Type 0
@@ -66,7 +66,7 @@ only_reads text alone unlisted schema c is = by (reads_listing schema text) refl
 
 module _ (text : List ℕ) (only : OnlyReads text) where
   -- what a statement with this text showed, the query shows, and it changed nothing
-  pub shown : (old new : State) (rows : List Row) → Shown text [] old new rows → Shows text old.now rows × IsUnchanged old new
+  pub shown : (old new : State) (rows : List Row) → Shown text [] old new rows → ReturnsRows text old.now rows × IsUnchanged old new
   unfolding Shown
   shown old new rows h =
       let c = h.0 in
@@ -77,7 +77,7 @@ module _ (text : List ℕ) (only : OnlyReads text) where
       (record { query = c; is = h.1.is; reads = subst (λ formats. Reads c.command old.now (with_time [] formats h.1.now) rows) it.2 reads }, seen.3)
 
   -- what it has shown so far, the query shows first
-  pub shown_first : (s : State) (rows : List Row) → Begins text [] s rows → ShowsFirst text s.now rows
+  pub shown_first : (s : State) (rows : List Row) → Begins text [] s rows → ReturnsFirstRows text s.now rows
   unfolding Begins
   shown_first s rows h =
       let c = h.0 in

@@ -9,9 +9,9 @@ use Rattle.sqlite.specs.Tree.{Trees}
 use Rattle.farm_types.specs.Table.{put, put_all}
 use Rattle.sqlite_catalog.specs.Listing.{AreListed}
 use Rattle.sqlite_trees.specs.Objects.{catalog_tree}
-use Rattle.farm_store.specs.Columns.{Tables}
+use Rattle.farm_store.specs.Columns.{TableRows}
 use Rattle.farm_store.specs.Holds.{Holds, ShowsTables, IsInside}
-use Rattle.farm_store.specs.Places.{TableSlot, IsPlace, HoldsAt, put_at, of_types, of_boards, of_jobs, of_reservations, of_kept, of_meta}
+use Rattle.farm_store.specs.Places.{TableSlot, IsTableSlot, HoldsAt, put_at, of_types, of_boards, of_jobs, of_reservations, of_kept, of_meta}
 use Rattle.farm_store.specs.Schema.{farm_schema}
 use Rattle.farm_store.specs.Stored.{ListsRows}
 use Rattle.farm_store.proofs.Keys.{first_total, two_total}
@@ -29,20 +29,20 @@ apart_trees m n apart same = grind (arith, nat_tests)
 
 -- another place has another tree, and keeps its rows
 abbrev IsOther : TableSlot → TableSlot → Type 0
-IsOther p q = (q.tree ≢ p.tree) × ((T : Tables) (rows : List Row) → q.rows (p.replaced T rows) ≡ q.rows T)
+IsOther p q = (q.tree ≢ p.tree) × ((T : TableRows) (rows : List Row) → q.rows (p.replaced T rows) ≡ q.rows T)
 
 -- one of the six places
 pub record IsKnown (p : TableSlot) : Type 0 where
-  pub is : IsPlace p
+  pub is : IsTableSlot p
   pub total : IsTotalOrder p.cmp
-  pub find : (db : Trees) (T : Tables) → Holds db T → HoldsAt p db T
+  pub find : (db : Trees) (T : TableRows) → Holds db T → HoldsAt p db T
   pub others : AllByRecursion (λ q. (q ≡ p) ⊎ IsOther p q) places
 
-other : {p q : TableSlot} → (q.tree == p.tree) ≡ false → ((T : Tables) (rows : List Row) → q.rows (p.replaced T rows) ≡ q.rows T) → (q ≡ p) ⊎ IsOther p q
+other : {p q : TableSlot} → (q.tree == p.tree) ≡ false → ((T : TableRows) (rows : List Row) → q.rows (p.replaced T rows) ≡ q.rows T) → (q ≡ p) ⊎ IsOther p q
 other {p} {q} apart keeps = inr ((λ same. apart_trees q.tree p.tree apart same), keeps)
 
-abbrev is_place : {p : TableSlot} → ((T : Tables) (rows : List Row) → p.rows (p.replaced T rows) ≡ rows) → ((T : Tables) (rows more : List Row) → p.replaced (p.replaced T rows) more ≡ p.replaced T more)
-    → ((T : Tables) → p.replaced T (p.rows T) ≡ T) → IsPlace p
+abbrev is_place : {p : TableSlot} → ((T : TableRows) (rows : List Row) → p.rows (p.replaced T rows) ≡ rows) → ((T : TableRows) (rows more : List Row) → p.replaced (p.replaced T rows) more ≡ p.replaced T more)
+    → ((T : TableRows) → p.replaced T (p.rows T) ≡ T) → IsTableSlot p
 is_place own over same = record { own = own; over = over; same = same }
 
 pub types_known : IsKnown of_types
@@ -100,7 +100,7 @@ pub record Rewritten (p : TableSlot) (old new : State) (rows : List Row) : Type 
   pub others : AllByRecursion (λ t. t.tree ≢ p.tree → new.now.trees t.tree ≡ old.now.trees t.tree) farm_schema.tables
   pub lists : ListsRows p.cmp p.show p.width (new.now.trees p.tree) rows
 
-module _ (p : TableSlot) (known : IsKnown p) (old new : State) (T : Tables) (rows : List Row) (did : Rewritten p old new rows) where
+module _ (p : TableSlot) (known : IsKnown p) (old new : State) (T : TableRows) (rows : List Row) (did : Rewritten p old new rows) where
   after : (q : TableSlot) → (q ≡ p) ⊎ IsOther p q → (q.tree ≢ p.tree → new.now.trees q.tree ≡ old.now.trees q.tree) → HoldsAt q old.now.trees T → HoldsAt q new.now.trees (p.replaced T rows)
   after q (inl same) still here =
       let own : HoldsAt p new.now.trees (p.replaced T rows) = rw (known.is.own T rows) did.lists in
@@ -124,7 +124,7 @@ module _ (p : TableSlot) (known : IsKnown p) (old new : State) (T : Tables) (row
         };
       }
 
-pub stands_put : (p : TableSlot) (known : IsKnown p) (old new : State) (T : Tables) (x : Row) → Upserted p old new x → ShowsTables old.now T → IsTrue new.in_transaction → IsInside new (put_at p T (x ∷ []))
+pub stands_put : (p : TableSlot) (known : IsKnown p) (old new : State) (T : TableRows) (x : Row) → Upserted p old new x → ShowsTables old.now T → IsTrue new.in_transaction → IsInside new (put_at p T (x ∷ []))
 stands_put p known old new T x did at =
     stands_rewritten p known old new T (put p.cmp (p.rows T) x) (record {
       schema = did.schema;
@@ -135,7 +135,7 @@ stands_put p known old new T x did at =
 
 -- ---- one row after another
 
-module _ {X : Type 0} (p : TableSlot) (is : IsPlace p) (columns : X → Row) where
+module _ {X : Type 0} (p : TableSlot) (is : IsTableSlot p) (columns : X → Row) where
   one_more : (rows : List X) (i : ℕ) (d : X) (now : List Row) → i < length rows
       → put_all p.cmp now (map columns (take (suc i) rows)) ≡ put p.cmp (put_all p.cmp now (map columns (take i rows))) (columns (get_or rows i d))
   one_more [] i d now low = absurd (omega arith)
@@ -143,7 +143,7 @@ module _ {X : Type 0} (p : TableSlot) (is : IsPlace p) (columns : X → Row) whe
   one_more (x ∷ rows) (suc i) d now low = one_more rows i d (put p.cmp now (columns x)) (omega arith)
 
   -- the first rows, and then the next one
-  pub put_more : (T : Tables) (rows : List X) (i : ℕ) (d : X) → i < length rows
+  pub put_more : (T : TableRows) (rows : List X) (i : ℕ) (d : X) → i < length rows
       → put_at p T (map columns (take (i + 1) rows)) ≡ put_at p (put_at p T (map columns (take i rows))) (columns (get_or rows i d) ∷ [])
   put_more T rows i d low =
       let first = put_all p.cmp (p.rows T) (map columns (take i rows)) in

@@ -22,7 +22,7 @@ use Rattle.sqlite.specs.Table.{Table}
 use Rattle.sqlite_rules.specs.Edit.{next_rowid}
 use Rattle.farm_store.specs.declared.meta.TheConstants.{PUT}
 use Rattle.farm_store.specs.Schema.{farm_schema, meta_table}
-use Rattle.farm_store.specs.Columns.{Tables, meta_row}
+use Rattle.farm_store.specs.Columns.{TableRows, meta_row}
 use Rattle.farm_store.specs.Holds.{IsInside}
 use Rattle.farm_store.specs.Places.{of_meta, put_at}
 use Rattle.farm_store.proofs.KeyedUpsert.{table, the_clause, judge}
@@ -59,7 +59,7 @@ put_plain = (refl, refl)
 casts : (name : List ℕ) (value : ℕ) → cast_row the_table (Null ∷ meta_row name value) ≡ Null ∷ meta_row name value
 casts name value = rw (cast_null, cast_int (pos value))
 
-pub puts : (old new : State) (name : List ℕ) (value : ℕ) (count : ℕ) (T : Tables) → IsInside old T → ExecutesInside 0 PUT.now (meta_row name value) old new (Ok count) → IsInside new (put_at of_meta T (meta_row name value ∷ []))
+pub puts : (old new : State) (name : List ℕ) (value : ℕ) (count : ℕ) (T : TableRows) → IsInside old T → ExecutesInside 0 PUT.now (meta_row name value) old new (Ok count) → IsInside new (put_at of_meta T (meta_row name value ∷ []))
 puts old new name value count T at ran =
     let x = meta_row name value in
     let db = old.now.trees in

@@ -47,7 +47,7 @@ use Rattle.farm_types.specs.declared.rows.JobRow.{JobRow}
 use Rattle.farm_types.specs.declared.rows.JobState.{JobState}
 use Rattle.farm_store.specs.declared.edition.Edition.{Edition}
 use Rattle.farm_store.specs.declared.jobs.TheConstants.{END, RAISE}
-use Rattle.farm_store.specs.Columns.{Tables, by_first, first_state_code}
+use Rattle.farm_store.specs.Columns.{TableRows, by_first, first_state_code}
 use Rattle.farm_store.specs.Editions.{job_columns_in, state_code_in}
 use Rattle.farm_store.specs.Holds.{IsInside}
 use Rattle.farm_store.specs.Places.{of_jobs}
@@ -88,13 +88,13 @@ table = strict_table (codes "jobs") 4 jobs_table.columns (Some 0) (0 ∷ []) [] 
 abbrev passes : CompareOp → ℕ → ℕ → Bool
 passes op a b = is_true (binary (Compare op Binary) (Int (pos a)) (Int (pos b)))
 
-told : (b : Bool) → is_true (from_truth (Some b)) ≡ b
-told true = refl
-told false = refl
+truth_is : (b : Bool) → is_true (from_truth (Some b)) ≡ b
+truth_is true = refl
+truth_is false = refl
 
 passes_is : (op : CompareOp) (a b : ℕ) → passes op a b ≡ test op (int_cmp (pos a) (pos b))
 unfolding binary
-passes_is op a b = ap (λ o. is_true (from_truth (Some (test op o)))) (value_cmp-Int (pos a) (pos b)) ∙ told (test op (int_cmp (pos a) (pos b)))
+passes_is op a b = ap (λ o. is_true (from_truth (Some (test op o)))) (value_cmp-Int (pos a) (pos b)) ∙ truth_is (test op (int_cmp (pos a) (pos b)))
 
 lt_below : (a b : ℕ) → a < b → passes Lt a b ≡ true
 lt_below a b low = passes_is Lt a b ∙ rw (lt-ltb a b low) refl
@@ -314,7 +314,7 @@ module _ (from to : ℕ) (fits : from ≤ to) where
       complete = λ raw h. let j = now_is raw h in subst (Has (map (columns_below to) jobs)) (sym j.2) (mapped_has (columns_below to) jobs j.0 j.1);
     }
 
-raises : (old new : State) (count from to : ℕ) (T : Tables) (jobs : List JobRow) → from ≤ to → IsInside old (raised_below from jobs T) → ExecutesInside 0 RAISE.now (Int (pos from) ∷ Int (pos to) ∷ []) old new (Ok count) → IsInside new (raised_below to jobs T)
+raises : (old new : State) (count from to : ℕ) (T : TableRows) (jobs : List JobRow) → from ≤ to → IsInside old (raised_below from jobs T) → ExecutesInside 0 RAISE.now (Int (pos from) ∷ Int (pos to) ∷ []) old new (Ok count) → IsInside new (raised_below to jobs T)
 raises old new count from to T jobs fits at ran =
     let see = at.shown ran.1.was_open in
     let db = old.now.trees in
@@ -346,7 +346,7 @@ raises old new count from to T jobs fits at ran =
       lists = subst (λ l. ListsRows by_first with_number 12 l (map (columns_below to) jobs)) (sym rows) (lists_raised from to fits db jobs it out a fresh);
     }) see ran.1.mode
 
-pub raises_window : (old new : State) (count from to : ℕ) (params : Row) (T : Tables) (jobs : List JobRow) → params ≡ Int (pos from) ∷ Int (pos to) ∷ [] → from ≤ to → IsInside old (raised_below from jobs T) → ExecutesInside 0 RAISE.now params old new (Ok count) → IsInside new (raised_below to jobs T)
+pub raises_window : (old new : State) (count from to : ℕ) (params : Row) (T : TableRows) (jobs : List JobRow) → params ≡ Int (pos from) ∷ Int (pos to) ∷ [] → from ≤ to → IsInside old (raised_below from jobs T) → ExecutesInside 0 RAISE.now params old new (Ok count) → IsInside new (raised_below to jobs T)
 raises_window old new count from to params T jobs are fits at ran = raises old new count from to T jobs fits at (subst (λ params. ExecutesInside 0 RAISE.now params old new (Ok count)) are ran)
 
 -- ---- none of the jobs is raised, and all are

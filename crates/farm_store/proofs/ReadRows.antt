@@ -3,7 +3,7 @@ use Rattle.std.proofs.Common.{◌≡◌, ◌≢◌, ℕ, zero, suc, ◌<◌, Lis
 use Rattle.std.specs.List.{AllByRecursion}
 use Rattle.std.proofs.lemmas.List.{map-append}
 use Rattle.sqlite.specs.Order.{Row}
-use Rattle.farm_store.specs.Reading.{ReadsAll, ReadsRow, HasColumns, TellsNoVersion}
+use Rattle.farm_store.specs.Reading.{ReadsAll, ReadsRow, HasColumns, IsNoVersionFault}
 use Rattle.farm_store.specs.Stored.{IsWide}
 use Rattle.farm_store.specs.declared.fault.StoreFault.{StoreFault}
 use Rattle.farm_store.specs.declared.fault.StoreFault.TheVariants.{BadStore}
@@ -55,13 +55,13 @@ on_ok (Ok a) P p = p
 on_ok (Err e) P p = tt
 
 -- a row that was refused refuses them all
-pub refuses : {A X : Type 0} (r : Result A StoreFault) (items : A → List X) (IsGood : X → Type 0) (columns : X → Row) (rows : List Row) (fault : StoreFault) → IsErrAnd r (λ e. e ≡ fault) → TellsNoVersion fault
+pub refuses : {A X : Type 0} (r : Result A StoreFault) (items : A → List X) (IsGood : X → Type 0) (columns : X → Row) (rows : List Row) (fault : StoreFault) → IsErrAnd r (λ e. e ≡ fault) → IsNoVersionFault fault
     → (fault ≡ BadStore → (xs : List X) → AllByRecursion IsGood xs → rows ≢ map columns xs) → ReadsAll r items IsGood columns rows
 refuses (Ok a) items IsGood columns rows fault is known none = absurd is
-refuses (Err e) items IsGood columns rows fault is known none = (subst TellsNoVersion (sym is) known, λ bad. none (sym is ∙ bad))
+refuses (Err e) items IsGood columns rows fault is known none = (subst IsNoVersionFault (sym is) known, λ bad. none (sym is ∙ bad))
 
 -- a column that was refused refuses the row
-pub refuses_row : {X : Type 0} (r : Result X StoreFault) (IsGood : X → Type 0) (columns : X → Row) (row : Row) (fault : StoreFault) → IsErrAnd r (λ e. e ≡ fault) → TellsNoVersion fault
+pub refuses_row : {X : Type 0} (r : Result X StoreFault) (IsGood : X → Type 0) (columns : X → Row) (row : Row) (fault : StoreFault) → IsErrAnd r (λ e. e ≡ fault) → IsNoVersionFault fault
     → (fault ≡ BadStore → (x : X) → IsGood x → ¬ HasColumns row 0 (columns x)) → ReadsRow r IsGood columns row
 refuses_row (Ok a) IsGood columns row fault is known none = absurd is
-refuses_row (Err e) IsGood columns row fault is known none = (subst TellsNoVersion (sym is) known, λ bad. none (sym is ∙ bad))
+refuses_row (Err e) IsGood columns row fault is known none = (subst IsNoVersionFault (sym is) known, λ bad. none (sym is ∙ bad))

@@ -33,7 +33,7 @@ use Rattle.farm_store.specs.declared.jobs.TheConstants.{PUT as PUT_JOBS}
 use Rattle.farm_store.specs.declared.reservations.TheConstants.{PUT as PUT_RESERVATIONS}
 use Rattle.farm_store.specs.declared.kept.TheConstants.{PUT as PUT_KEPT}
 use Rattle.farm_store.specs.Schema.{farm_schema, strict_table, types_table, jobs_table, reservations_table, kept_table}
-use Rattle.farm_store.specs.Columns.{Tables, type_columns, job_columns, res_columns, kept_columns}
+use Rattle.farm_store.specs.Columns.{TableRows, type_columns, job_columns, res_columns, kept_columns}
 use Rattle.farm_store.specs.Holds.{IsInside}
 use Rattle.farm_store.specs.Places.{TableSlot, put_at, of_types, of_jobs, of_reservations, of_kept}
 use Rattle.farm_store.specs.Stored.{HasInt, IsWide}
@@ -45,7 +45,7 @@ use Rattle.farm_store.proofs.PutAt.{IsKnown, stands_put, types_known, jobs_known
 
 -- the text puts such a row at the place
 abbrev pub Puts : TableSlot → List ℕ → Row → Type 1
-Puts p text x = (old new : State) (count : ℕ) (T : Tables) → IsInside old T → ExecutesInside 0 text x old new (Ok count) → IsInside new (put_at p T (x ∷ []))
+Puts p text x = (old new : State) (count : ℕ) (T : TableRows) → IsInside old T → ExecutesInside 0 text x old new (Ok count) → IsInside new (put_at p T (x ∷ []))
 
 module _ (p : TableSlot) (known : IsKnown p) (still : (keys : Keys) (olds news : List Row) → works farm_schema keys 0 p.tree olds news ≡ []) (name : List ℕ) (columns : List Column) (at : ℕ) (text : List ℕ) (terms : List Term)
     (plain : IsPlain (understood farm_schema text)) where

@@ -26,10 +26,10 @@ use Rattle.farm_store.specs.declared.reservations.TheConstants.{READ as READ_RES
 use Rattle.farm_store.specs.declared.kept.TheConstants.{READ as READ_KEPT}
 use Rattle.farm_store.specs.declared.meta.TheConstants.{READ as READ_META}
 use Rattle.farm_store.specs.Schema.{types_table, boards_table, jobs_table, reservations_table, kept_table, meta_table}
-use Rattle.farm_store.specs.Columns.{Tables, by_first, by_two}
+use Rattle.farm_store.specs.Columns.{TableRows, by_first, by_two}
 use Rattle.farm_store.specs.Holds.{ShowsTables}
 use Rattle.farm_store.specs.Places.{TableSlot, of_types, of_boards, of_jobs, of_reservations, of_kept, of_meta}
-use Rattle.farm_store.specs.Queries.{AsksFor, OnlyReads, Shows}
+use Rattle.farm_store.specs.Queries.{AsksFor, OnlyReads, ReturnsRows}
 use Rattle.farm_store.specs.Stored.{IsWide, row_less_rowid, with_number}
 use Rattle.farm_store.proofs.OnlyReads.{only_reads}
 use Rattle.farm_store.proofs.ColumnsFrom.{columns_from, whole, of_unnumbered, of_numbered}
@@ -95,7 +95,7 @@ module _ (p : TableSlot) (known : IsKnown p) (alone : (db : Trees) → overlay d
       → AsksFor p text
   by_output project order P Q is shows keeps fits puts_out =
       let query = query_of p.tree project order in
-      let all : (db : Database) (T : Tables) (rows : List Row) → ShowsTables db T → Shows text db rows → rows ≡ p.rows T = λ db T rows see it.
+      let all : (db : Database) (T : TableRows) (rows : List Row) → ShowsTables db T → ReturnsRows text db rows → rows ≡ p.rows T = λ db T rows see it.
       let a = answer_of text query names is db see.schema rows it in
       rows_are known.total p.show p.width query P Q shows keeps fits puts_out (λ l. refl) (db.trees p.tree) (p.rows T) rows a.kept a.ordered
       (a.distinct ∙ ap (map (output query)) a.grouped ∙ ap (λ raws. map (output query) (flat_map (λ r. ([] ∷ r ∷ []) ∷ []) raws)) (alone db.trees)) a.same a.sorted a.shown (known.find db.trees T see.holds) in

@@ -14,7 +14,7 @@ use Rattle.sqlite_resolve.specs.declared.compiled.Compiled.{Compiled}
 use Rattle.sqlite_sql.specs.Query.{output_cmp}
 use Rattle.sqlite_sql.proofs.QueryLemmas.{output_cmp_total}
 use Rattle.farm_store.specs.Schema.{farm_schema}
-use Rattle.farm_store.specs.Queries.{Shows, ShowsFirst}
+use Rattle.farm_store.specs.Queries.{ReturnsRows, ReturnsFirstRows}
 use Rattle.farm_store.specs.Stored.{IsWide, ListsRows}
 use Rattle.farm_store.proofs.Loads.{answers}
 
@@ -27,11 +27,11 @@ module _ (text : List ℕ) (query : Query) (names : List (List ℕ)) (is : IsQue
   runs c known = ap command_of (sym known ∙ ap (λ s. understood s text) ours) ∙ is
 
   -- what it shows is an answer
-  pub answer_of : (rows : List Row) → Shows text db rows → IsAnswer query (overlay db.trees []) [] rows
+  pub answer_of : (rows : List Row) → ReturnsRows text db rows → IsAnswer query (overlay db.trees []) [] rows
   answer_of rows it = (subst (λ k. Reads k db [] rows) (runs it.query it.is) it.reads).answer Rattle.sqlite.specs.declared.types.Value.TheVariants.Null
 
   -- and what it shows first goes on to one
-  pub goes_on : (rows : List Row) → ShowsFirst text db rows → (more : List Row) × Shows text db (rows ++ more)
+  pub goes_on : (rows : List Row) → ReturnsFirstRows text db rows → (more : List Row) × ReturnsRows text db (rows ++ more)
   goes_on rows it =
       let first = subst (λ k. ReadsFirst k db [] rows) (runs it.query it.is) it.reads in
       let more = first.1.0 in

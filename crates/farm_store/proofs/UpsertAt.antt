@@ -21,7 +21,7 @@ use Rattle.sqlite_schema.specs.declared.command.Upsert.{Upsert}
 use Rattle.sqlite_catalog.specs.Listing.{AreListed}
 use Rattle.sqlite_trees.specs.Objects.{catalog_tree}
 use Rattle.farm_types.specs.Table.{put}
-use Rattle.farm_store.specs.Columns.{Tables}
+use Rattle.farm_store.specs.Columns.{TableRows}
 use Rattle.farm_store.specs.Holds.{IsInside}
 use Rattle.farm_store.specs.Places.{HoldsAt, TableSlot, put_at}
 use Rattle.farm_store.specs.Schema.{farm_schema, strict_table}
@@ -35,7 +35,7 @@ module _ (p : TableSlot) (known : IsKnown p) (name : List ℕ) (columns : List C
 
   pub upserts : slice_get farm_schema.tables at ≡ Some table → command_of (understood farm_schema text) ≡ InsertOr at Abort (Values terms wide) (clause ∷ []) → IsPlain (understood farm_schema text)
       → (old new : State) (x source row : Row) → value_rows (x ++ []) wide (length terms / wide) terms ≡ source ∷ [] → with_rowid Chosen (old.now.trees p.tree) (cast_row table source) ≡ row
-      → (count : ℕ) (T : Tables) → IsInside old T → ExecutesInside 0 text x old new (Ok count)
+      → (count : ℕ) (T : TableRows) → IsInside old T → ExecutesInside 0 text x old new (Ok count)
       → (HoldsAt p old.now.trees T → (w : Written) → Upserts (task old.step_limit (mode_of old) farm_schema name p.tree columns key primary uniques orders x clause) Abort row old.now.trees (clause ∷ []) (Ok w)
       → TableBecomes p.cmp p.show p.width p.tree old.now.trees (put p.cmp (p.rows T) x) w.trees) → IsInside new (put_at p T (x ∷ []))
   upserts there is plain old new x source row source_is row_is count T inside ran judge =

@@ -134,10 +134,11 @@ number_rows m = meta_row (codes "clock") m.clock ∷ meta_row (codes "collector"
     ∷ meta_row (codes "count") m.count ∷ meta_row (codes "next") m.next ∷ []
 
 -- the four numbers as values, in the same order
-abbrev pub values_of : MetaRow → Row
-values_of m = Int (pos m.clock) ∷ Int (pos m.collector) ∷ Int (pos m.count) ∷ Int (pos m.next) ∷ []
+abbrev pub meta_values : MetaRow → Row
+meta_values m = Int (pos m.clock) ∷ Int (pos m.collector) ∷ Int (pos m.count) ∷ Int (pos m.next)
+    ∷ []
 
--- the version that the tables tell, in the first edition and in this one
+-- the version of the tables, in the first edition and in this one
 abbrev pub first_schema : ℕ
 first_schema = 1
 
@@ -157,7 +158,7 @@ numbers_of F = record {
 }
 
 -- the six tables as lists of rows, in order of their keys
-pub record Tables : Type 0 where
+pub record TableRows : Type 0 where
   pub types : List Row
   pub boards : List Row
   pub jobs : List Row
@@ -165,7 +166,7 @@ pub record Tables : Type 0 where
   pub kept : List Row
   pub meta : List Row
 
-unfoldable pub rows_of : Farm → Tables
+unfoldable pub rows_of : Farm → TableRows
 rows_of F = record {
   types = map type_columns F.types;
   boards = map board_columns F.boards;
@@ -176,7 +177,7 @@ rows_of F = record {
 }
 
 -- ---- the first edition's tables: the states of jobs have codes of their own, and Scheduling has
--- none that is read; no row tells which group collects
+-- none that is read; no row has the group that collects
 
 abbrev pub first_state_code : JobState → ℕ
 first_state_code JobState.Submitted = 0
@@ -193,7 +194,7 @@ abbrev pub first_meta_rows : MetaRow → List Row
 first_meta_rows m = meta_row (codes "clock") m.clock ∷ meta_row (codes "count") m.count
     ∷ meta_row (codes "next") m.next ∷ meta_row (codes "schema") first_schema ∷ []
 
-unfoldable pub first_rows_of : Farm → Tables
+unfoldable pub first_rows_of : Farm → TableRows
 first_rows_of F = record {
   types = map type_columns F.types;
   boards = map board_columns F.boards;
@@ -214,13 +215,13 @@ abbrev pub is_number : ℕ → Value → Bool
 is_number number (Int (pos found)) = found == number
 is_number number value = false
 
--- a row tells this version of the tables
-abbrev pub tells : ℕ → Row → Bool
-tells version r = is_text (codes "schema") (column r 0) && is_number version (column r 1)
+-- a row has this version of the tables
+abbrev pub is_version_row : ℕ → Row → Bool
+is_version_row version r = is_text (codes "schema") (column r 0) && is_number version (column r 1)
 
 -- the tables say that they are of this version
-abbrev pub IsOfSchema : ℕ → Tables → Type 0
-IsOfSchema version T = IsTrue (list_any (tells version) T.meta)
+abbrev pub IsOfSchema : ℕ → TableRows → Type 0
+IsOfSchema version T = IsTrue (list_any (is_version_row version) T.meta)
 
 -- rows by their first column, and by their first two
 abbrev pub by_first : Row → Row → Ordering
@@ -231,5 +232,5 @@ by_two a b = ordering_then (value_cmp (column a 0) (column b 0))
     (value_cmp (column a 1) (column b 1))
 
 -- six tables without a row
-abbrev pub no_rows : Tables
+abbrev pub no_rows : TableRows
 no_rows = record { types = []; boards = []; jobs = []; reservations = []; kept = []; meta = [] }

@@ -6,7 +6,7 @@ use Rattle.farm_types.specs.Farm.{Farm}
 use Rattle.farm_types.specs.declared.rows.JobRow.{JobRow}
 use Rattle.farm_types.specs.declared.rows.JobState.{JobState}
 use Rattle.farm_types.specs.declared.rows.MetaRow.{MetaRow}
-use Rattle.farm_store.specs.Columns.{Tables, first_meta_rows, first_rows_of, first_schema}
+use Rattle.farm_store.specs.Columns.{TableRows, first_meta_rows, first_rows_of, first_schema}
 use Rattle.farm_store.specs.Columns.{first_state_code, job_fields_by, meta_rows, rows_of}
 use Rattle.farm_store.specs.Columns.{second_schema, row_values}
 use Rattle.farm_store.specs.Readable.{IsReadable, IsReadableFirst, IsReadableJob}
@@ -18,7 +18,7 @@ abbrev pub other_edition : Edition → Edition
 other_edition Edition.First = Edition.Second
 other_edition Edition.Second = Edition.First
 
--- the version that its tables tell
+-- the version of its tables
 abbrev pub schema_of : Edition → ℕ
 schema_of Edition.First = first_schema
 schema_of Edition.Second = second_schema
@@ -41,12 +41,12 @@ abbrev pub meta_rows_in : Edition → MetaRow → List Row
 meta_rows_in Edition.First = first_meta_rows
 meta_rows_in Edition.Second = meta_rows
 
-abbrev pub rows_in : Edition → Farm → Tables
+abbrev pub rows_in : Edition → Farm → TableRows
 rows_in Edition.First = first_rows_of
 rows_in Edition.Second = rows_of
 
 -- the tables with these jobs, as it spells them
-abbrev pub tables_with_jobs : Edition → List JobRow → Tables → Tables
+abbrev pub tables_with_jobs : Edition → List JobRow → TableRows → TableRows
 tables_with_jobs edition jobs T = record T { jobs = map (job_columns_in edition) jobs }
 
 -- ---- what it can spell: in the first edition no job is Scheduling, and no group collects

@@ -4,13 +4,14 @@ use Rattle.sqlite.specs.Held.{state}
 use Rattle.sqlite.specs.State.{State, HasCleanDisk, Survives, Executes}
 use Rattle.sqlite.specs.declared.transaction.Transaction.{Transaction}
 use Rattle.sqlite_trees.specs.declared.store.Store.{Ghosts}
-use Rattle.farm_store.specs.Columns.{Tables}
+use Rattle.farm_store.specs.Columns.{TableRows}
 use Rattle.farm_store.specs.Holds.{IsInside}
 
 -- where it answers Ok, the tables are changed so
-abbrev pub ChangesTables : {A E : Type 0} → Result A E → State → State → (Tables → Tables) → Type 0
-ChangesTables result old new change = HasCleanDisk new → OnOk result ((T : Tables) → IsInside old T
-    → IsInside new (change T))
+abbrev pub ChangesTables : {A E : Type 0} → Result A E → State → State → (TableRows → TableRows)
+    → Type 0
+ChangesTables result old new change = HasCleanDisk new
+    → OnOk result ((T : TableRows) → IsInside old T → IsInside new (change T))
 
 -- where it answers Ok, the transaction goes on, and the connection is open
 abbrev pub StaysOpen : {A E : Type 0} → Result A E → State → State → Type 0

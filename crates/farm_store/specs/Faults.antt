@@ -3,9 +3,9 @@ use Rattle.std.specs.Prelude.{ℕ}
 use Rattle.farm_types.specs.Refusals.{bad_store, new_schema, no_memory, old_schema, store_fault}
 use Rattle.farm_store.specs.declared.fault.StoreFault.{StoreFault}
 
-abbrev pub fault_code : StoreFault → ℕ
-fault_code StoreFault.NoMemory = no_memory
-fault_code StoreFault.Store = store_fault
-fault_code StoreFault.BadStore = bad_store
-fault_code StoreFault.OldSchema = old_schema
-fault_code StoreFault.NewSchema = new_schema
+abbrev pub store_fault_code : StoreFault → ℕ
+store_fault_code StoreFault.NoMemory = no_memory
+store_fault_code StoreFault.Store = store_fault
+store_fault_code StoreFault.BadStore = bad_store
+store_fault_code StoreFault.OldSchema = old_schema
+store_fault_code StoreFault.NewSchema = new_schema

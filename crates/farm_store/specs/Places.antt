@@ -5,7 +5,7 @@ use Rattle.sqlite.specs.Order.{Row}
 use Rattle.sqlite.specs.Tree.{Trees}
 use Rattle.farm_types.specs.Table.{put_all}
 use Rattle.farm_types.specs.declared.calls.Changes.{Changes}
-use Rattle.farm_store.specs.Columns.{Tables, by_first, by_two, type_columns, board_columns}
+use Rattle.farm_store.specs.Columns.{TableRows, by_first, by_two, type_columns, board_columns}
 use Rattle.farm_store.specs.Columns.{job_columns, res_columns, kept_columns, number_rows}
 use Rattle.farm_store.specs.Schema.{types_table, boards_table, jobs_table, reservations_table}
 use Rattle.farm_store.specs.Schema.{kept_table, meta_table}
@@ -18,8 +18,8 @@ pub record TableSlot : Type 0 where
   pub show : Row → Row
   pub width : ℕ
   pub cmp : Row → Row → Ordering
-  pub rows : Tables → List Row
-  pub replaced : Tables → List Row → Tables
+  pub rows : TableRows → List Row
+  pub replaced : TableRows → List Row → TableRows
 
 abbrev pub of_types : TableSlot
 of_types = record {
@@ -82,16 +82,16 @@ of_meta = record {
 }
 
 -- the tree has the rows that the tables have at this place
-abbrev pub HoldsAt : TableSlot → Trees → Tables → Type 0
+abbrev pub HoldsAt : TableSlot → Trees → TableRows → Type 0
 HoldsAt p db T = ListsRows p.cmp p.show p.width (db p.tree) (p.rows T)
 
 -- the tables with rows put at this place: each in the place of the row with its key, or added in
 -- order of the keys
-abbrev pub put_at : TableSlot → Tables → List Row → Tables
+abbrev pub put_at : TableSlot → TableRows → List Row → TableRows
 put_at p T rows = p.replaced T (put_all p.cmp (p.rows T) rows)
 
 -- the tables with all changed rows and the four numbers put
-abbrev pub put_tables : Tables → Changes → Tables
+abbrev pub put_tables : TableRows → Changes → TableRows
 put_tables T c =
     put_at of_meta
     (put_at of_kept (put_at of_reservations (put_at of_jobs (put_at of_boards (put_at of_types T
@@ -102,8 +102,8 @@ put_tables T c =
 
 -- rows put at this place are those that stand there, also over others; those that stand there
 -- already change nothing
-pub record IsPlace (p : TableSlot) : Type 0 where
-  pub own : (T : Tables) (rows : List Row) → p.rows (p.replaced T rows) ≡ rows
-  pub over : (T : Tables) (rows more : List Row) → p.replaced (p.replaced T rows) more
+pub record IsTableSlot (p : TableSlot) : Type 0 where
+  pub own : (T : TableRows) (rows : List Row) → p.rows (p.replaced T rows) ≡ rows
+  pub over : (T : TableRows) (rows more : List Row) → p.replaced (p.replaced T rows) more
       ≡ p.replaced T more
-  pub same : (T : Tables) → p.replaced T (p.rows T) ≡ T
+  pub same : (T : TableRows) → p.replaced T (p.rows T) ≡ T

@@ -6,19 +6,19 @@ use Rattle.sqlite.specs.Listing.{understood, reads_listing}
 use Rattle.sqlite.specs.Order.{Row}
 use Rattle.sqlite.specs.Schema.{Schema}
 use Rattle.sqlite_resolve.specs.declared.compiled.Compiled.{Compiled}
-use Rattle.farm_store.specs.Columns.{Tables}
+use Rattle.farm_store.specs.Columns.{TableRows}
 use Rattle.farm_store.specs.Holds.{ShowsTables}
 use Rattle.farm_store.specs.Places.{TableSlot}
 use Rattle.farm_store.specs.Stored.{IsWide}
 
 -- the query shows these rows of the database
-pub record Shows (text : List ℕ) (db : Database) (rows : List Row) : Type 0 where
+pub record ReturnsRows (text : List ℕ) (db : Database) (rows : List Row) : Type 0 where
   pub query : Compiled
   pub is : understood db.schema text ≡ Ok query
   pub reads : Reads query.command db [] rows
 
 -- what it shows begins with these rows
-pub record ShowsFirst (text : List ℕ) (db : Database) (rows : List Row) : Type 0 where
+pub record ReturnsFirstRows (text : List ℕ) (db : Database) (rows : List Row) : Type 0 where
   pub query : Compiled
   pub is : understood db.schema text ≡ Ok query
   pub reads : ReadsFirst query.command db [] rows
@@ -31,9 +31,9 @@ OnlyReads text = (schema : Schema) (c : Compiled) → understood schema text ≡
 -- of the farm's tables the query shows all rows at this place, in order of their keys
 pub record AsksFor (p : TableSlot) (text : List ℕ) : Type 0 where
   pub only_reads : OnlyReads text
-  pub all : (db : Database) (T : Tables) (rows : List Row) → ShowsTables db T → Shows text db rows
-      → rows ≡ p.rows T
-  pub first : (db : Database) (T : Tables) (rows : List Row) → ShowsTables db T
-      → ShowsFirst text db rows → (more : List Row) × (p.rows T ≡ rows ++ more)
-  pub wide : (db : Database) (T : Tables) → ShowsTables db T
+  pub all : (db : Database) (T : TableRows) (rows : List Row) → ShowsTables db T
+      → ReturnsRows text db rows → rows ≡ p.rows T
+  pub first : (db : Database) (T : TableRows) (rows : List Row) → ShowsTables db T
+      → ReturnsFirstRows text db rows → (more : List Row) × (p.rows T ≡ rows ++ more)
+  pub wide : (db : Database) (T : TableRows) → ShowsTables db T
       → AllByRecursion (IsWide p.width) (p.rows T)

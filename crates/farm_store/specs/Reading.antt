@@ -9,25 +9,25 @@ use Rattle.sqlite_value.specs.Order.{column}
 use Rattle.farm_types.specs.Farm.{Farm, farm_of}
 use Rattle.farm_types.specs.declared.calls.Rows.{Rows}
 use Rattle.farm_types.specs.declared.rows.MetaRow.{MetaRow}
-use Rattle.farm_store.specs.Columns.{IsOfSchema, Tables}
+use Rattle.farm_store.specs.Columns.{IsOfSchema, TableRows}
 use Rattle.farm_store.specs.Editions.{IsCollectorIn, IsReadableIn, meta_rows_in, other_edition}
 use Rattle.farm_store.specs.Editions.{rows_in, schema_of, version_fault}
 use Rattle.farm_store.specs.Holds.{ShowsTables, Stands}
-use Rattle.farm_store.specs.Versions.{MayTell, Tells}
+use Rattle.farm_store.specs.Versions.{MayHaveVersion, HasVersion}
 use Rattle.farm_store.specs.declared.edition.Edition.{Edition}
 use Rattle.farm_store.specs.declared.fault.StoreFault.{StoreFault}
 use Rattle.farm_store.specs.declared.fault.StoreFault.TheVariants.{BadStore, NewSchema, OldSchema}
 use Rattle.farm_store.specs.declared.fault.StoreFault.TheVariants.{Store}
 
 -- a fault that says nothing of the version
-abbrev pub TellsNoVersion : StoreFault → Type 0
-TellsNoVersion fault = (fault ≢ OldSchema) × (fault ≢ NewSchema)
+abbrev pub IsNoVersionFault : StoreFault → Type 0
+IsNoVersionFault fault = (fault ≢ OldSchema) × (fault ≢ NewSchema)
 
 -- what was read is good and is spelled so; it is refused as bad only where nothing good is spelled
 -- so
 abbrev pub ReadsAs : {X V : Type 0} → Result X StoreFault → (X → Type 0) → (X → V) → V → Type 0
 ReadsAs result IsGood spelled value =
-    MatchResult result (λ x. IsGood x × (value ≡ spelled x)) (λ fault. TellsNoVersion fault
+    MatchResult result (λ x. IsGood x × (value ≡ spelled x)) (λ fault. IsNoVersionFault fault
     × (fault ≡ BadStore → (x : _) → IsGood x → value ≢ spelled x))
 
 -- these are the row's columns from one place on
@@ -38,7 +38,8 @@ HasColumns row at (v ∷ vs) = (column row at ≡ v) × HasColumns row (suc at) 
 -- the same of a row, column by column
 abbrev pub ReadsRow : {X : Type 0} → Result X StoreFault → (X → Type 0) → (X → Row) → Row → Type 0
 ReadsRow result IsGood columns row =
-    MatchResult result (λ x. IsGood x × HasColumns row 0 (columns x)) (λ fault. TellsNoVersion fault
+    MatchResult result (λ x. IsGood x × HasColumns row 0 (columns x))
+    (λ fault. IsNoVersionFault fault
     × (fault ≡ BadStore → (x : _) → IsGood x → ¬ HasColumns row 0 (columns x)))
 
 -- the same of all rows of a table
@@ -46,17 +47,17 @@ abbrev pub ReadsAll : {A X : Type 0} → Result A StoreFault → (A → List X) 
     → List Row → Type 0
 ReadsAll result items IsGood columns rows =
     MatchResult result (λ a. AllByRecursion IsGood (items a) × (rows ≡ map columns (items a)))
-    (λ fault. TellsNoVersion fault × (fault ≡ BadStore → (xs : List _) → AllByRecursion IsGood xs
+    (λ fault. IsNoVersionFault fault × (fault ≡ BadStore → (xs : List _) → AllByRecursion IsGood xs
     → rows ≢ map columns xs))
 
 -- an open connection goes back to these tables
-abbrev pub CommitShows : State → Tables → Type 0
+abbrev pub CommitShows : State → TableRows → Type 0
 CommitShows s T = IsTrue s.is_open → ShowsTables s.committed T
 
 -- the version is looked at before anything else: tables of the other edition are refused as such,
 -- and those of neither as bad, where the store doesn't fail
 pub record LooksAtSchema {A : Type 0} (edition : Edition) (result : Result A StoreFault)
-    (T : Tables) : Type 0 where
+    (T : TableRows) : Type 0 where
   pub known : IsOfSchema (schema_of (other_edition edition)) T
       → (result ≡ Err (version_fault (other_edition edition))) ⊎ (result ≡ Err Store)
   pub other : ¬ IsOfSchema (schema_of (other_edition edition)) T
@@ -64,21 +65,21 @@ pub record LooksAtSchema {A : Type 0} (edition : Edition) (result : Result A Sto
       → (result ≡ Err BadStore) ⊎ (result ≡ Err Store)
 
 -- the version is looked at before anything else, whatever stands there beside the numbers: the store
--- is refused as the other edition's only where its `meta` may tell that version, and it is where
--- `meta` tells it; where it tells neither the store is bad. Or the store failed
+-- is refused as the other edition's only where its `meta` may have that version, and it is where
+-- `meta` has it; where it has neither the store is bad. Or the store failed
 pub record LooksFirst {A : Type 0} (edition : Edition) (result : Result A StoreFault)
     (db : Database) : Type 0 where
-  pub told : result ≡ Err (version_fault (other_edition edition))
-      → MayTell (schema_of (other_edition edition)) db
-  pub known : Tells (schema_of (other_edition edition)) db
+  pub reported : result ≡ Err (version_fault (other_edition edition))
+      → MayHaveVersion (schema_of (other_edition edition)) db
+  pub known : HasVersion (schema_of (other_edition edition)) db
       → (result ≡ Err (version_fault (other_edition edition))) ⊎ (result ≡ Err Store)
-  pub neither : ¬ MayTell (schema_of (other_edition edition)) db
-      → ¬ MayTell (schema_of edition) db
+  pub neither : ¬ MayHaveVersion (schema_of (other_edition edition)) db
+      → ¬ MayHaveVersion (schema_of edition) db
       → (result ≡ Err BadStore) ⊎ (result ≡ Err Store)
 
 -- the numbers read are those of the tables; they are refused as the other edition's only where the
 -- tables are of its version, and as bad only where they have no such numbers
-abbrev pub ReadsNumbers : Edition → Result MetaRow StoreFault → Tables → Type 0
+abbrev pub ReadsNumbers : Edition → Result MetaRow StoreFault → TableRows → Type 0
 ReadsNumbers edition result T =
     MatchResult result (λ m. IsCollectorIn edition m.collector × (T.meta ≡ meta_rows_in edition m))
     (λ fault. (fault ≡ version_fault (other_edition edition)
@@ -89,7 +90,7 @@ ReadsNumbers edition result T =
 -- the rows read are those of a readable farm with these tables; they are refused as the other
 -- edition's only where the tables are of its version, and as bad only where no readable farm has
 -- them
-abbrev pub ReadsFarm : Edition → Result Rows StoreFault → Tables → Type 0
+abbrev pub ReadsFarm : Edition → Result Rows StoreFault → TableRows → Type 0
 ReadsFarm edition result T =
     MatchResult result
     (λ rows. IsReadableIn edition (farm_of rows) × (rows_in edition (farm_of rows) ≡ T))
@@ -97,12 +98,12 @@ ReadsFarm edition result T =
     → IsOfSchema (schema_of (other_edition edition)) T)
     × (fault ≡ BadStore → (F : Farm) → IsReadableIn edition F → rows_in edition F ≢ T))
 
--- what a reading of the tables of an edition tells of the store
+-- what a reading of the tables of an edition reports of the store
 pub record ReadsEdition (edition : Edition) (result : Result Rows StoreFault) (s : State)
     : Type 0 where
   -- the rows are those of a readable farm with the tables that stand there: of that very farm
-  pub rows : IfOk result (λ rows. (T : Tables) → Stands s T → rows_in edition (farm_of rows) ≡ T)
-  pub readable : IfOk result (λ rows. (T : Tables) → Stands s T
+  pub rows : IfOk result (λ rows. (T : TableRows) → Stands s T → rows_in edition (farm_of rows) ≡ T)
+  pub readable : IfOk result (λ rows. (T : TableRows) → Stands s T
       → IsReadableIn edition (farm_of rows))
   pub farm : IfOk result (λ rows. (F : Farm) → IsReadableIn edition F
       → Stands s (rows_in edition F) → farm_of rows ≡ F)
@@ -110,8 +111,8 @@ pub record ReadsEdition (edition : Edition) (result : Result Rows StoreFault) (s
   -- version
   pub bad : result ≡ Err BadStore → (F : Farm) → IsReadableIn edition F
       → ¬ Stands s (rows_in edition F)
-  pub other : result ≡ Err (version_fault (other_edition edition)) → (T : Tables) → Stands s T
+  pub other : result ≡ Err (version_fault (other_edition edition)) → (T : TableRows) → Stands s T
       → IsOfSchema (schema_of (other_edition edition)) T
   -- the version is looked at before anything else: of our tables, and of any store
-  pub schema : (T : Tables) → Stands s T → LooksAtSchema edition result T
+  pub schema : (T : TableRows) → Stands s T → LooksAtSchema edition result T
   pub version : LooksFirst edition result s.now

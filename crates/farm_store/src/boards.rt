@@ -7,7 +7,7 @@ ghost use Rattle.farm_types.specs.Small.{IsSmallBoard, held_by};
 ghost use Rattle.farm_types.specs.Tags.{tags_text};
 ghost use Rattle.farm_types.specs.declared.rows.Holder.{Holder};
 ghost use Rattle.farm_store.specs.Columns.{board_columns, holder_of};
-ghost use Rattle.farm_store.specs.Reading.{TellsNoVersion};
+ghost use Rattle.farm_store.specs.Reading.{IsNoVersionFault};
 ghost use Rattle.farm_store.specs.Schema.{boards_table};
 
 use crate::edition::Edition;
@@ -92,7 +92,7 @@ fn holder_at(row: &Row, kind: usize, number: usize) -> Result<Holder, StoreFault
     ensures { MatchResult result
         (λ holder. (column row.now kind ≡ Int (pos (holder_of holder)))
         × (column row.now number ≡ Int (pos (held_by holder))))
-        (λ fault. TellsNoVersion fault
+        (λ fault. IsNoVersionFault fault
         × (fault ≡ StoreFault.BadStore → (holder : Holder)
         → column row.now kind ≡ Int (pos (holder_of holder))
         → column row.now number ≢ Int (pos (held_by holder)))) }

@@ -5,7 +5,7 @@ ghost use Rattle.farm_store.specs.Editions.{other_edition, schema_of, version_fa
 use crate::fault::StoreFault;
 use crate::schema::{FIRST_SCHEMA, SCHEMA};
 
-/// An edition of the tables: which codes the states of jobs have, and whether a number tells which
+/// An edition of the tables: which codes the states of jobs have, and whether a number says which
 /// group collects.
 #[derive(Clone, Copy, Debug)]
 pub(crate) enum Edition {
@@ -23,7 +23,7 @@ impl Edition {
         }
     }
 
-    /// The version that its tables tell.
+    /// The version of its tables.
     pub(crate) fn schema(self) -> u64
         ensures { result ≡ schema_of self }
     {

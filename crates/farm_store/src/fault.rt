@@ -1,6 +1,6 @@
 //! Why a call of the store was not done.
 ghost use Rattle.std.specs.Prelude.{◌≡◌};
-ghost use Rattle.farm_store.specs.Faults.{fault_code};
+ghost use Rattle.farm_store.specs.Faults.{store_fault_code};
 
 use farm_types::{BAD_STORE, NEW_SCHEMA, NO_MEMORY, OLD_SCHEMA, Refusal, STORE};
 use sqlite::Error as SqlError;
@@ -28,9 +28,9 @@ pub enum StoreFault {
 }
 
 impl StoreFault {
-    /// The number that callers are told.
+    /// The number that callers get.
     pub fn code(self) -> u16
-        ensures { result ≡ fault_code self }
+        ensures { result ≡ store_fault_code self }
     {
         match self {
             StoreFault::NoMemory => NO_MEMORY,

@@ -10,7 +10,7 @@ ghost use Rattle.sqlite.specs.State.{HasCleanDisk};
 ghost use Rattle.sqlite.specs.Values.{bound};
 ghost use Rattle.farm_types.specs.Small.{IsSmallJob};
 ghost use Rattle.farm_types.specs.Tags.{tags_text};
-ghost use Rattle.farm_store.specs.Columns.{Tables, job_columns};
+ghost use Rattle.farm_store.specs.Columns.{TableRows, job_columns};
 ghost use Rattle.farm_store.specs.Editions.{tables_with_jobs};
 ghost use Rattle.farm_store.specs.Edits.{GoesOn};
 ghost use Rattle.farm_store.specs.Holds.{IsInside};
@@ -133,7 +133,7 @@ fn raise_window<S: Alter>(tx: &mut Transaction<'_, S>, from: u64, end: u64) -> R
     requires end { end ≤ END }
     ensures goes_on { GoesOn S.Store tx.old tx.new }
     ensures raised { HasCleanDisk (state S.Store tx.new.conn.now)
-        → OnOk result ((T : Tables) (jobs : List JobRow)
+        → OnOk result ((T : TableRows) (jobs : List JobRow)
         → IsInside (state S.Store tx.old.conn.now) (raised_below from jobs T)
         → IsInside (state S.Store tx.new.conn.now) (raised_below end jobs T)) }
 {
@@ -151,7 +151,7 @@ pub(crate) fn raise_jobs<S: Alter>(
     requires small { AllByRecursion IsSmallJob rows.now }
     ensures goes_on { GoesOn S.Store tx.old tx.new }
     ensures raised { HasCleanDisk (state S.Store tx.new.conn.now)
-        → OnOk result ((T : Tables)
+        → OnOk result ((T : TableRows)
         → IsInside (state S.Store tx.old.conn.now) (tables_with_jobs Edition.First rows.now T)
         → IsInside (state S.Store tx.new.conn.now) (tables_with_jobs Edition.Second rows.now T)) }
 {

@@ -5,10 +5,10 @@ ghost use Rattle.sqlite.specs.Held.{state};
 ghost use Rattle.sqlite.specs.State.{IsLive, Opens};
 ghost use Rattle.farm_types.specs.Farm.{Farm};
 ghost use Rattle.farm_store.specs.Agreed.{SchemasAgree};
-ghost use Rattle.farm_store.specs.Columns.{IsOfSchema, Tables, first_rows_of, rows_of};
+ghost use Rattle.farm_store.specs.Columns.{IsOfSchema, TableRows, first_rows_of, rows_of};
 ghost use Rattle.farm_store.specs.Holds.{Holds, ShowsTables, Stands};
 ghost use Rattle.farm_store.specs.Readable.{IsReadable, IsReadableFirst};
-ghost use Rattle.farm_store.specs.Versions.{MayTell, Tells};
+ghost use Rattle.farm_store.specs.Versions.{MayHaveVersion, HasVersion};
 ghost use Rattle.farm_types.specs.Sound.{IsSound};
 
 use sqlite::{Alter, Connection};
@@ -18,18 +18,18 @@ pub fn schemas_agree()
     ensures { SchemasAgree }
 {}
 
-/// Where the farm's six tables stand, what `meta` tells is what its rows tell.
-pub fn tables_tell()
-    ensures may { (db : Database) (T : Tables) → ShowsTables db T → (version : ℕ)
-        → MayTell version db → IsOfSchema version T }
-    ensures tells { (db : Database) (T : Tables) → ShowsTables db T → (version : ℕ)
-        → IsOfSchema version T → Tells version db }
+/// Where the farm's six tables stand, the version in `meta` is the one in its rows.
+pub fn versions_agree()
+    ensures may { (db : Database) (T : TableRows) → ShowsTables db T → (version : ℕ)
+        → MayHaveVersion version db → IsOfSchema version T }
+    ensures has { (db : Database) (T : TableRows) → ShowsTables db T → (version : ℕ)
+        → IsOfSchema version T → HasVersion version db }
 {}
 
 /// A connection that was just opened on the farm's tables stands for them: they have the farm's
 /// schema, nothing is uncommitted, and a stop now leaves them alone.
 pub fn opened_stands<S: Alter>(conn: &Connection<S>)
-    ensures { Opens (state S.Store conn.now) → IsLive (state S.Store conn.now) → (T : Tables)
+    ensures { Opens (state S.Store conn.now) → IsLive (state S.Store conn.now) → (T : TableRows)
         → Holds (state S.Store conn.now).committed.trees T
         → Stands (state S.Store conn.now) T }
 {

@@ -40,5 +40,5 @@ pub use fault::StoreFault;
 // What is proved of stores and editions: functions that only proofs read.
 pub use laws::{
     editions_are_apart, first_tables_lose_nothing, opened_stands, schemas_agree, sound_is_readable,
-    tables_lose_nothing, tables_tell,
+    tables_lose_nothing, versions_agree,
 };

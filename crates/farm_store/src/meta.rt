@@ -6,15 +6,15 @@ ghost use Rattle.sqlite.specs.Held.{state};
 ghost use Rattle.sqlite.specs.State.{HasCleanDisk};
 ghost use Rattle.sqlite.specs.Values.{bound};
 ghost use Rattle.farm_types.specs.Small.{IsSmall};
-ghost use Rattle.farm_store.specs.Columns.{Tables, first_meta_rows, meta_row, meta_rows};
-ghost use Rattle.farm_store.specs.Columns.{number_rows, tells, values_of};
+ghost use Rattle.farm_store.specs.Columns.{TableRows, first_meta_rows, meta_row, meta_rows};
+ghost use Rattle.farm_store.specs.Columns.{number_rows, is_version_row, meta_values};
 ghost use Rattle.farm_store.specs.Editions.{IsCollectorIn, meta_rows_in, other_edition, schema_of};
 ghost use Rattle.farm_store.specs.Editions.{version_fault};
 ghost use Rattle.farm_store.specs.Edits.{ChangesTables, GoesOn, StaysOpen};
 ghost use Rattle.farm_store.specs.Holds.{IsInside, ReadsOnly, Stands};
 ghost use Rattle.farm_store.specs.Places.{of_meta, put_at};
 ghost use Rattle.farm_store.specs.Reading.{LooksAtSchema, LooksFirst, ReadsAs, ReadsNumbers};
-ghost use Rattle.farm_store.specs.Reading.{TellsNoVersion};
+ghost use Rattle.farm_store.specs.Reading.{IsNoVersionFault};
 ghost use Rattle.farm_store.specs.Schema.{meta_table};
 ghost use Rattle.farm_store.specs.Stored.{IsWide};
 ghost use Rattle.farm_store.specs.Versions.{ShowsNumbers};
@@ -109,7 +109,7 @@ fn number_values<'a>(numbers: MetaRow) -> [ValueRef<'a>; 4]
     requires collector { IsSmall numbers.collector }
     requires count { IsSmall numbers.count }
     requires next { IsSmall numbers.next }
-    ensures { bound result ≡ values_of numbers }
+    ensures { bound result ≡ meta_values numbers }
 {
     [
         number(numbers.clock),
@@ -130,7 +130,7 @@ pub(crate) fn change_numbers<S: Alter>(
     requires next { IsSmall numbers.next }
     ensures goes_on { GoesOn S.Store tx.old tx.new }
     ensures put { HasCleanDisk (state S.Store tx.new.conn.now)
-        → OnOk result ((T : Tables) (old : MetaRow) → IsInside (state S.Store tx.old.conn.now) T
+        → OnOk result ((T : TableRows) (old : MetaRow) → IsInside (state S.Store tx.old.conn.now) T
         → T.meta ≡ meta_rows old
         → IsInside (state S.Store tx.new.conn.now) (put_at of_meta T (number_rows numbers))) }
     ensures stays_open { StaysOpen result (state S.Store tx.old.conn.now)
@@ -145,7 +145,7 @@ pub(crate) fn change_numbers<S: Alter>(
 fn number_of(row: &Row, name: &str) -> Result<u64, StoreFault>
     ensures read { IsWide of_meta.width row.now
         → ReadsAs result (λ _. ⊤) (λ value. meta_row name.now value) row.now }
-    ensures fault { IfErr result TellsNoVersion }
+    ensures fault { IfErr result IsNoVersionFault }
 {
     if text_at(row, 0)? == name.as_bytes() {
         number_at(row, 1)
@@ -160,7 +160,7 @@ fn first_numbers_of(rows: &[Row]) -> Result<MetaRow, StoreFault>
     ensures read { AllByRecursion (IsWide of_meta.width) rows.now
         → ReadsAs result (λ m. m.collector ≡ 0) first_meta_rows rows.now }
     ensures none { IfOk result (λ m. m.collector ≡ 0) }
-    ensures fault { IfErr result TellsNoVersion }
+    ensures fault { IfErr result IsNoVersionFault }
 {
     let [clock, count, next, schema] = rows else {
         return Err(StoreFault::BadStore);
@@ -184,7 +184,7 @@ fn first_numbers_of(rows: &[Row]) -> Result<MetaRow, StoreFault>
 fn second_numbers_of(rows: &[Row]) -> Result<MetaRow, StoreFault>
     ensures read { AllByRecursion (IsWide of_meta.width) rows.now
         → ReadsAs result (λ _. ⊤) meta_rows rows.now }
-    ensures fault { IfErr result TellsNoVersion }
+    ensures fault { IfErr result IsNoVersionFault }
 {
     let [clock, collector, count, next, schema] = rows else {
         return Err(StoreFault::BadStore);
@@ -210,7 +210,7 @@ fn numbers_of(rows: &[Row], edition: Edition) -> Result<MetaRow, StoreFault>
     ensures read { AllByRecursion (IsWide of_meta.width) rows.now
         → ReadsAs result (λ m. IsCollectorIn edition m.collector) (meta_rows_in edition) rows.now }
     ensures collector { IfOk result (λ m. IsCollectorIn edition m.collector) }
-    ensures fault { IfErr result TellsNoVersion }
+    ensures fault { IfErr result IsNoVersionFault }
 {
     match edition {
         Edition::First => first_numbers_of(rows),
@@ -218,30 +218,30 @@ fn numbers_of(rows: &[Row], edition: Edition) -> Result<MetaRow, StoreFault>
     }
 }
 
-/// Whether a row tells this version of the tables.
+/// Whether a row has this version of the tables.
 fn is_version(row: &Row, version: u64) -> bool
-    ensures { result ≡ tells version row.now }
+    ensures { result ≡ is_version_row version row.now }
 {
     is_text_at(row, 0, "schema") && is_number_at(row, 1, version)
 }
 
-/// Whether one of the rows tells this version of the tables.
+/// Whether one of the rows has this version of the tables.
 fn have_version(rows: &[Row], version: u64) -> bool
-    ensures { result ≡ list_any (tells version) rows.now }
+    ensures { result ≡ list_any (is_version_row version) rows.now }
 {
     rows.iter().any(|row| is_version(row, version))
 }
 
-/// Refuses rows that tell the other edition's version, and those that don't tell this one's.
+/// Refuses rows that have the other edition's version, and those that don't have this one's.
 fn look_at_schema(rows: &[Row], edition: Edition) -> Result<(), StoreFault>
     ensures { MatchResult result
-        (λ _. ¬ IsTrue (list_any (tells (schema_of (other_edition edition))) rows.now)
-        × IsTrue (list_any (tells (schema_of edition)) rows.now))
+        (λ _. ¬ IsTrue (list_any (is_version_row (schema_of (other_edition edition))) rows.now)
+        × IsTrue (list_any (is_version_row (schema_of edition)) rows.now))
         (λ fault. ((fault ≡ version_fault (other_edition edition))
-        × IsTrue (list_any (tells (schema_of (other_edition edition))) rows.now))
+        × IsTrue (list_any (is_version_row (schema_of (other_edition edition))) rows.now))
         ⊎ ((fault ≡ StoreFault.BadStore)
-        × ¬ IsTrue (list_any (tells (schema_of (other_edition edition))) rows.now)
-        × ¬ IsTrue (list_any (tells (schema_of edition)) rows.now))) }
+        × ¬ IsTrue (list_any (is_version_row (schema_of (other_edition edition))) rows.now)
+        × ¬ IsTrue (list_any (is_version_row (schema_of edition)) rows.now))) }
 {
     let other = edition.other();
     if have_version(rows, other.schema()) {
@@ -256,7 +256,7 @@ fn look_at_schema(rows: &[Row], edition: Edition) -> Result<(), StoreFault>
 fn meta_rows<S: Alter>(conn: &mut Connection<S>) -> Result<Vec<Row>, Error>
     requires autocommit { conn.old.in_transaction ≡ false }
     ensures only { ReadsOnly (state S.Store conn.old) (state S.Store conn.new) }
-    ensures rows { HasCleanDisk (state S.Store conn.new) → IfOk result (λ rows. (T : Tables)
+    ensures rows { HasCleanDisk (state S.Store conn.new) → IfOk result (λ rows. (T : TableRows)
         → Stands (state S.Store conn.old) T
         → (rows.items ≡ T.meta) × AllByRecursion (IsWide of_meta.width) rows.items) }
     ensures opened { HasCleanDisk (state S.Store conn.new)
@@ -275,9 +275,9 @@ pub(crate) fn read_numbers<S: Alter>(
 ) -> Result<MetaRow, StoreFault>
     requires autocommit { conn.old.in_transaction ≡ false }
     ensures only { ReadsOnly (state S.Store conn.old) (state S.Store conn.new) }
-    ensures read { HasCleanDisk (state S.Store conn.new) → (T : Tables)
+    ensures read { HasCleanDisk (state S.Store conn.new) → (T : TableRows)
         → Stands (state S.Store conn.old) T → ReadsNumbers edition result T }
-    ensures schema { HasCleanDisk (state S.Store conn.new) → (T : Tables)
+    ensures schema { HasCleanDisk (state S.Store conn.new) → (T : TableRows)
         → Stands (state S.Store conn.old) T → LooksAtSchema edition result T }
     ensures looked { HasCleanDisk (state S.Store conn.new)
         → LooksFirst edition result (state S.Store conn.old).now }

@@ -5,10 +5,10 @@ pub(crate) mod rows;
 ghost use Rattle.std.specs.Prelude.{◌≡◌, ◌≢◌, false, Err, IfErr, IfOk, IsTrue, OnOk};
 ghost use Rattle.sqlite.specs.Held.{state};
 ghost use Rattle.sqlite.specs.State.{HasCleanDisk};
-ghost use Rattle.farm_store.specs.Columns.{Tables};
+ghost use Rattle.farm_store.specs.Columns.{TableRows};
 ghost use Rattle.farm_store.specs.Editions.{IsCollectorIn, meta_rows_in, version_fault};
 ghost use Rattle.farm_store.specs.Holds.{ReadsOnly, Stands};
-ghost use Rattle.farm_store.specs.Reading.{ReadsEdition, ReadsFarm, TellsNoVersion};
+ghost use Rattle.farm_store.specs.Reading.{ReadsEdition, ReadsFarm, IsNoVersionFault};
 ghost use Rattle.farm_store.specs.Schema.{farm_schema};
 ghost use Rattle.farm_store.specs.declared.edition.Edition.TheVariants.{First, Second};
 
@@ -38,11 +38,11 @@ fn read_tables<S: Alter>(
 ) -> Result<Rows, StoreFault>
     requires autocommit { conn.old.in_transaction ≡ false }
     ensures only { ReadsOnly (state S.Store conn.old) (state S.Store conn.new) }
-    ensures read { HasCleanDisk (state S.Store conn.new) → (T : Tables)
+    ensures read { HasCleanDisk (state S.Store conn.new) → (T : TableRows)
         → Stands (state S.Store conn.old) T → IsCollectorIn edition meta.collector
         → T.meta ≡ meta_rows_in edition meta → ReadsFarm edition result T }
     ensures numbers { IfOk result (λ rows. rows.meta ≡ meta) }
-    ensures fault { IfErr result TellsNoVersion }
+    ensures fault { IfErr result IsNoVersionFault }
 {
     let jobs_there = expected(meta.next, MOST_JOBS);
     let reservations_there = expected(meta.next, MOST_RESERVATIONS);
@@ -110,7 +110,7 @@ fn read_edition<S: Alter>(
 }
 
 /// Reads the rows of all tables, in order of their keys, and writes nothing. The version that `meta`
-/// tells is looked at before anything else, whatever else the store has: tables of the first edition
+/// has is looked at before anything else, whatever else the store has: tables of the first edition
 /// are refused as old, and those of an unknown one, or of none, as bad.
 ///
 /// Refused as bad too where a column can't be read: where it is of another kind, a name or a key is
@@ -133,7 +133,7 @@ pub fn load<S: Alter>(alloc: Global, conn: &mut Connection<S>) -> Result<Rows, S
 }
 
 /// Reads the rows of all tables of the first edition, as `load` reads those of this one: each row
-/// once, and nothing is written. The version that `meta` tells is looked at before anything else,
+/// once, and nothing is written. The version in `meta` is looked at before anything else,
 /// whatever else the store has: tables of this edition are refused as new, and those of an unknown
 /// one, or of none, as bad.
 ///

@@ -4,7 +4,7 @@ ghost use Rattle.sqlite.specs.Held.{state};
 ghost use Rattle.sqlite.specs.State.{HasCleanDisk, KeepsCommit};
 ghost use Rattle.sqlite.specs.Tree.{Trees};
 ghost use Rattle.farm_types.specs.Farm.{empty_farm};
-ghost use Rattle.farm_store.specs.Columns.{Tables, no_rows, rows_of};
+ghost use Rattle.farm_store.specs.Columns.{TableRows, no_rows, rows_of};
 ghost use Rattle.farm_store.specs.Edits.{GoesOn, HasRun, StaysOpen};
 ghost use Rattle.farm_store.specs.Holds.{IsInside, IsMadeIn, KeepsDoubt, Stands};
 ghost use Rattle.farm_store.specs.Reading.{CommitShows};
@@ -17,11 +17,11 @@ use crate::{boards, jobs, kept, meta, reservations, types};
 use farm_types::MetaRow;
 use sqlite::{Alter, Connection, Error, Transaction};
 
-/// The version of the tables, which one of their numbers tells.
+/// The version of the tables, which is one of their numbers.
 pub const SCHEMA: u64 = 2;
 
 /// The version of the first edition's tables: no job in them is Scheduling, the later states have
-/// codes less by one, and no number tells which group collects.
+/// codes less by one, and no number says which group collects.
 pub const FIRST_SCHEMA: u64 = 1;
 
 fn make<S: Alter>(tx: &mut Transaction<'_, S>, sql: &str) -> Result<(), Error>
@@ -44,8 +44,8 @@ fn make_all<S: Alter>(tx: &mut Transaction<'_, S>) -> Result<(), Error>
         → (state S.Store tx.old.conn.now).now.schema ≡ no_schema
         → IsInside (state S.Store tx.new.conn.now) no_rows) }
     ensures refused { HasCleanDisk (state S.Store tx.new.conn.now)
-        → OnOk result ((T : Tables) → ¬ IsInside (state S.Store tx.old.conn.now) T) }
-    ensures kept { HasCleanDisk (state S.Store tx.new.conn.now) → (T : Tables)
+        → OnOk result ((T : TableRows) → ¬ IsInside (state S.Store tx.old.conn.now) T) }
+    ensures kept { HasCleanDisk (state S.Store tx.new.conn.now) → (T : TableRows)
         → IsInside (state S.Store tx.old.conn.now) T
         → CommitShows (state S.Store tx.old.conn.now) T
         → CommitShows (state S.Store tx.new.conn.now) T }
@@ -92,9 +92,9 @@ pub fn create<S: Alter>(conn: &mut Connection<S>) -> Result<(), StoreFault>
     ensures ok { HasCleanDisk (state S.Store conn.new)
         → OnOk result (Stands (state S.Store conn.new) (rows_of empty_farm)) }
     ensures refused { HasCleanDisk (state S.Store conn.new)
-        → OnOk result ((T : Tables) → ¬ Stands (state S.Store conn.old) T) }
+        → OnOk result ((T : TableRows) → ¬ Stands (state S.Store conn.old) T) }
     ensures bare { OnOk result ((state S.Store conn.old).now.schema ≡ no_schema) }
-    ensures stands { HasCleanDisk (state S.Store conn.new) → (T : Tables)
+    ensures stands { HasCleanDisk (state S.Store conn.new) → (T : TableRows)
         → Stands (state S.Store conn.old) T → Stands (state S.Store conn.new) T }
     ensures stop { HasCleanDisk (state S.Store conn.new) → (db : Trees)
         → (state S.Store conn.new).may_leave db

@@ -74,7 +74,7 @@ fn put_all<S: Alter>(
 /// tables as they were or with all the changes put.
 ///
 /// It writes the rows of the changes, each by its key, reads those of the numbers, and writes the
-/// ones that tell another number. It reads no other row.
+/// ones that have another number. It reads no other row.
 pub fn put<S: Alter>(
     alloc: Global,
     conn: &mut Connection<S>,

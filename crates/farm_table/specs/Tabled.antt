@@ -23,7 +23,7 @@ pub record IsTable {R : Type 0} (cmp : R → R → Ordering) (Fits : R → Type 
   pub logged : AllByRecursion Fits log
 
 -- changed rows keep their keys, and go on to fit
-pub record Keeps {R K : Type 0} (key_of : R → K) (Fits : R → Type 0) (f : R → R) : Type 0 where
+pub record KeepsKeys {R K : Type 0} (key_of : R → K) (Fits : R → Type 0) (f : R → R) : Type 0 where
   pub key : (r : R) → key_of (f r) ≡ key_of r
   pub fits : (r : R) → Fits r → Fits (f r)
 

@@ -1,13 +1,13 @@
 //! A table: rows in strict order of their keys, and a log of the rows that changed. What may fail
 //! comes first, then the edit of the row, and the log last, into room that was made for it: so a
-//! call that fails leaves a table in which the log still tells each change.
+//! call that fails leaves a table in which the log still has each change.
 ghost use Rattle.std.specs.Prelude.{◌≡◌, ◌≤◌, ◌<◌, ℕ, [], false, get_or, length, set};
 ghost use Rattle.std.specs.Prelude.{IfSome, OnOk, OnErr};
 ghost use Rattle.std.specs.List.{AllByRecursion, find};
 ghost use Rattle.std.specs.List.Sorted.{IsBinarySearchResult, IsSearchInRange, IsStrictlySortedBy};
 ghost use Rattle.std.specs.Option.{option_copied};
 ghost use Rattle.farm_types.specs.Table.{put, change_where};
-ghost use Rattle.farm_table.specs.Tabled.{by_key, put_in, IsFoundAt, IsPartly, Keeps, Leads};
+ghost use Rattle.farm_table.specs.Tabled.{by_key, put_in, IsFoundAt, IsPartly, KeepsKeys, Leads};
 
 use crate::row::{Edit, Row};
 use std::alloc::{AllocError, Global};
@@ -170,7 +170,7 @@ impl<R: Row + Drop> Table<R> {
     /// Changes the row at a place. Where memory runs out the table is as it was.
     pub fn change_at<E: Edit<R>>(&mut self, at: usize, edit: &E) -> Result<(), AllocError>
         requires within { at < length self.old.rows }
-        requires keeps { Keeps R.key R.Fits (E.changed edit.now) }
+        requires keeps { KeepsKeys R.key R.Fits (E.changed edit.now) }
         ensures rows { OnOk result ((d : R) → self.new.rows
             ≡ set self.old.rows at (E.changed edit.now (get_or self.old.rows at d))) }
         ensures leads { Leads (by_key R.key R.key_cmp) self.old self.new }
@@ -200,7 +200,7 @@ impl<R: Row + Drop> Table<R> {
         end: usize,
         edit: &E,
     ) -> Result<(), AllocError>
-        requires keeps { Keeps R.key R.Fits (E.changed edit.now) }
+        requires keeps { KeepsKeys R.key R.Fits (E.changed edit.now) }
         requires start { start ≤ end }
         requires end { end ≤ length self.old.rows }
         requires before { (k : ℕ) (d : R) → k < start → E.passes edit.now (get_or self.old.rows k d)
@@ -224,7 +224,7 @@ impl<R: Row + Drop> Table<R> {
     /// Changes the rows that pass. Each is looked at. Where memory runs out the first ones are
     /// changed, and the log says which.
     pub fn change_where<E: Edit<R>>(&mut self, edit: &E) -> Result<(), AllocError>
-        requires { Keeps R.key R.Fits (E.changed edit.now) }
+        requires { KeepsKeys R.key R.Fits (E.changed edit.now) }
         ensures rows { OnOk result (self.new.rows
             ≡ change_where (E.passes edit.now) (E.changed edit.now) self.old.rows) }
         ensures partly { OnErr result (IsPartly (E.passes edit.now) (E.changed edit.now)

@@ -1,4 +1,4 @@
-//! Why job files and lab files are bad, and that want of memory is told as such.
+//! Why job files and lab files are bad, and that want of memory is reported as such.
 use farm_jobfile::{FileFault, Reason, job_of, lab_of};
 use std::alloc::Global;
 use std::test::Fail;
@@ -165,7 +165,7 @@ const GROUP: &[u8] =
 
 const LAB: &[u8] = b"[types.bbb]\n[boards.b1]\ntype = \"bbb\"\ntags = [\"hdmi\"]\n";
 
-/// Where memory is refused, at whatever place, no other fault is told.
+/// Where memory is refused, at whatever place, no other fault is reported.
 #[test]
 fn refused_memory(rt: HostRuntime) {
     match job_of(rt.alloc(), GROUP) {

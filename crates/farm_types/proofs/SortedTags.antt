@@ -17,7 +17,7 @@ use Rattle.farm_types.proofs.Put.{AllByRecursion-weaker, AllByRecursion-put, len
 use Rattle.farm_types.specs.declared.fault.WordFault.{WordFault}
 use Rattle.farm_types.specs.declared.fault.WordFault.TheVariants.{Refused, NoMemory}
 use Rattle.farm_types.specs.Refusals.{bad_tag, bad_count}
-use Rattle.farm_types.specs.Reads.{FaultOrNoMemory, code_told}
+use Rattle.farm_types.specs.Reads.{FaultOrNoMemory, refused_code}
 use Rattle.farm_types.proofs.Searched.{is_lt-Less}
 use Rattle.farm_types.proofs.WordLemmas.{and_parts}
 
@@ -71,7 +71,7 @@ parts_of_some [] some = absurd (grind (arith, nat_tests))
 parts_of_some (c ∷ text) some = refl
 
 -- a part that is refused refuses the list
-pub refused_part : (fault : WordFault) (part : List ℕ) (parts : List (List ℕ)) → FaultOrNoMemory {Y = List ℕ} (code_told fault) (word_or (is_tag part) part bad_tag) → (is_tag part ≡ false → list_all is_tag parts ≡ false) → FaultOrNoMemory {Y = List (List ℕ)} (code_told fault) (list_of_tags parts)
+pub refused_part : (fault : WordFault) (part : List ℕ) (parts : List (List ℕ)) → FaultOrNoMemory {Y = List ℕ} (refused_code fault) (word_or (is_tag part) part bad_tag) → (is_tag part ≡ false → list_all is_tag parts ≡ false) → FaultOrNoMemory {Y = List (List ℕ)} (refused_code fault) (list_of_tags parts)
 refused_part NoMemory part parts bad all = tt
 refused_part (Refused refusal) part parts bad all = by (is_tag part) refl bad
   where

@@ -86,7 +86,7 @@ EachTwo R (x ∷ xs) = AllByRecursion (R x) xs × EachTwo R xs
 -- no board is held twice, and each says who holds it, or that nobody does
 pub record IsHeldOnce (F : Farm) : Type 0 where
   pub once : EachTwo (λ h k. h.board ≢ k.board) (holds F)
-  pub told : AllByRecursion (λ b. shown_hold b ≡ unwrap_or (find (λ h. bytes_eq h.board b.name) (holds F)) (no_hold b.name)) F.boards
+  pub shown : AllByRecursion (λ b. shown_hold b ≡ unwrap_or (find (λ h. bytes_eq h.board b.name) (holds F)) (no_hold b.name)) F.boards
 
 -- 0 while a group waits for boards, 1 when all its members have boards, 2 from the start on
 abbrev pub phase : JobState → ℕ

@@ -10,7 +10,7 @@ ghost use Rattle.farm_types.specs.Words.{text_cmp, word_or};
 ghost use Rattle.farm_types.specs.Tags.{tags_text, tags_read, tags_of, tags_among, tag_parts};
 ghost use Rattle.farm_types.specs.Tags.{list_of_tags};
 ghost use Rattle.farm_types.specs.Proper.{has_no_name_tag};
-ghost use Rattle.farm_types.specs.Reads.{OrNoMemory, code_told};
+ghost use Rattle.farm_types.specs.Reads.{OrNoMemory, refused_code};
 
 use crate::fault::WordFault;
 use crate::limits::{LONGEST_TAG_KEY, LONGEST_TAG_VALUE, MOST_TAGS};
@@ -80,7 +80,8 @@ impl Tag {
     /// The tag that a text spells; refused as a bad tag, or for memory where it spells one.
     #[tactic(auto, using(crate::proofs::TagLemmas::IsUtf8_of_tag))]
     pub fn parse(alloc: Global, text: &[u8]) -> Result<Tag, WordFault>
-        ensures reads { OrNoMemory code_told (λ tag. tag) result (word_or (is_tag text.now) text.now BAD_TAG) }
+        ensures reads { OrNoMemory refused_code (λ tag. tag) result
+            (word_or (is_tag text.now) text.now BAD_TAG) }
         ensures memory { result ≡ Err WordFault.NoMemory → IsTrue (is_tag text.now) }
     {
         if !is_tag(text) {
@@ -166,7 +167,8 @@ fn cut_at_commas(alloc: Global, text: &[u8]) -> Result<Vec<&[u8]>, AllocError>
 
 /// The tag that each part spells.
 fn tags_in(alloc: Global, parts: &[&[u8]]) -> Result<Vec<Tag>, WordFault>
-    ensures { OrNoMemory code_told (λ tags. tags.items) result (list_of_tags (map (λ part. part.now) parts.now)) }
+    ensures { OrNoMemory refused_code (λ tags. tags.items) result
+        (list_of_tags (map (λ part. part.now) parts.now)) }
 {
     let mut items = Vec::with_capacity(alloc, parts.len())?;
     for part in parts {
@@ -245,7 +247,7 @@ impl Tags {
     /// The tags of a list in any order and with doubles: refused as a bad count where the list has
     /// more than sixteen items, or for memory.
     pub fn of(alloc: Global, tags: &[Tag]) -> Result<Tags, WordFault>
-        ensures reads { OrNoMemory code_told (λ tags. tags) result (tags_of tags.now) }
+        ensures reads { OrNoMemory refused_code (λ tags. tags) result (tags_of tags.now) }
         ensures memory { result ≡ Err WordFault.NoMemory → length tags.now ≤ MOST_TAGS }
     {
         if tags.len() > MOST_TAGS {
@@ -263,7 +265,8 @@ impl Tags {
     /// are more than sixteen texts, whatever they are, else as a bad tag, or for memory.
     #[tactic(auto, unfolding(crate::specs::Tags::tags_among))]
     pub fn among(alloc: Global, texts: &[&[u8]]) -> Result<Tags, WordFault>
-        ensures { OrNoMemory code_told (λ tags. tags) result (tags_among (map (λ text. text.now) texts.now)) }
+        ensures { OrNoMemory refused_code (λ tags. tags) result
+            (tags_among (map (λ text. text.now) texts.now)) }
     {
         if texts.len() > MOST_TAGS {
             return Err(WordFault::Refused(Refusal { code: BAD_COUNT }));
@@ -275,7 +278,7 @@ impl Tags {
     /// The tags that a canonical text spells: tags in byte order without doubles, joined by commas.
     /// Refused as a bad count above sixteen, else as a bad tag, or for memory.
     pub fn parse(alloc: Global, text: &[u8]) -> Result<Tags, WordFault>
-        ensures { OrNoMemory code_told (λ tags. tags) result (tags_read text.now) }
+        ensures { OrNoMemory refused_code (λ tags. tags) result (tags_read text.now) }
     {
         let parts = parts_of(alloc, text)?;
         if parts.len() > MOST_TAGS {

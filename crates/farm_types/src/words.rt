@@ -5,7 +5,7 @@ ghost use Rattle.std.specs.Str.{IsUtf8, bytes_eq, is_utf8};
 ghost use Rattle.std.specs.String.{string_bytes};
 ghost use Rattle.farm_types.specs.Words.{IsText, is_word, is_name_byte, text_cmp};
 ghost use Rattle.farm_types.specs.Words.{word_or};
-ghost use Rattle.farm_types.specs.Reads.{OrNoMemory, code_told};
+ghost use Rattle.farm_types.specs.Reads.{OrNoMemory, refused_code};
 
 use crate::fault::WordFault;
 use crate::limits::{LONGEST_KEY, LONGEST_NAME};
@@ -95,7 +95,7 @@ impl<const MOST: usize, const CODE: u16> Word<MOST, CODE> {
 
     /// The word that a text spells; refused where it spells none.
     pub fn parse(alloc: Global, text: &[u8]) -> Result<Word<MOST, CODE>, WordFault>
-        ensures reads { OrNoMemory code_told (λ word. word) result
+        ensures reads { OrNoMemory refused_code (λ word. word) result
             (word_or (is_word MOST text.now) text.now CODE) }
         ensures memory { result ≡ Err WordFault.NoMemory → IsTrue (is_word MOST text.now) }
     {

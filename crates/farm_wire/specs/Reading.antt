@@ -27,8 +27,8 @@ abbrev pub fault_of_word : WordFault → AskFault
 fault_of_word (WordFault.Refused refusal) = AskFault.Refused refusal
 fault_of_word WordFault.NoMemory = AskFault.NoMemory
 
--- a request's fault tells why it asks nothing, unless memory ran out
-abbrev pub denial_told : AskFault → Option Denial
-denial_told (AskFault.Refused refusal) = Some (refused refusal.code)
-denial_told (AskFault.Method allowed) = Some (other_methods allowed)
-denial_told AskFault.NoMemory = None
+-- why a request with a fault asks nothing, unless memory ran out
+abbrev pub denial_of : AskFault → Option Denial
+denial_of (AskFault.Refused refusal) = Some (refused refusal.code)
+denial_of (AskFault.Method allowed) = Some (other_methods allowed)
+denial_of AskFault.NoMemory = None

@@ -4,7 +4,7 @@ ghost use Rattle.serde_json.specs.View.{view};
 ghost use Rattle.farm_types.specs.Called.{health_called};
 ghost use Rattle.farm_wire.specs.Fields.{there_or};
 ghost use Rattle.farm_types.specs.Proper.{is_proper_cmd};
-ghost use Rattle.farm_types.specs.Reads.{OrNoMemory, by_code, code_told};
+ghost use Rattle.farm_types.specs.Reads.{OrNoMemory, by_code, refused_code};
 ghost use Rattle.farm_wire.specs.Commands.{new_tags_in, add_board, set_tags, set_health};
 
 use crate::fields::{board_tags, name_of, tags_from, tags_of, text_of};
@@ -17,7 +17,7 @@ use std::alloc::Global;
 /// A new board's tags: those under the key `tags`, or none where it is absent.
 #[tactic(auto, unfolding(crate::specs::Commands::new_tags_in))]
 fn new_tags_of(alloc: Global, value: &Value) -> Result<Tags, WordFault>
-    ensures { OrNoMemory code_told (λ tags. tags) result (new_tags_in (view value.now)) }
+    ensures { OrNoMemory refused_code (λ tags. tags) result (new_tags_in (view value.now)) }
 {
     match value.get("tags") {
         Some(field) => tags_from(alloc, field),
@@ -28,7 +28,7 @@ fn new_tags_of(alloc: Global, value: &Value) -> Result<Tags, WordFault>
 /// The board that a body adds.
 #[tactic(auto, unfolding(crate::specs::Commands::add_board))]
 pub(crate) fn add_board_of(alloc: Global, body: &[u8]) -> Result<Cmd, WordFault>
-    ensures meaning { OrNoMemory code_told (λ cmd. cmd) result (add_board body.now) }
+    ensures meaning { OrNoMemory refused_code (λ cmd. cmd) result (add_board body.now) }
     ensures proper { IfOk result (λ cmd. IsTrue (is_proper_cmd cmd)) }
 {
     let value = object_of(alloc, body)?;
@@ -41,7 +41,7 @@ pub(crate) fn add_board_of(alloc: Global, body: &[u8]) -> Result<Cmd, WordFault>
 /// The tags that the board of a path gets.
 #[tactic(auto, unfolding(crate::specs::Commands::set_tags))]
 pub(crate) fn set_tags_of(alloc: Global, path: &str, body: &[u8]) -> Result<Cmd, WordFault>
-    ensures meaning { OrNoMemory code_told (λ cmd. cmd) result (set_tags path.now body.now) }
+    ensures meaning { OrNoMemory refused_code (λ cmd. cmd) result (set_tags path.now body.now) }
     ensures proper { IfOk result (λ cmd. IsTrue (is_proper_cmd cmd)) }
 {
     let name = board_of(alloc, path)?;
@@ -63,7 +63,7 @@ fn health_of(text: &str) -> Result<Health, Refusal>
 /// The health that the board of a path gets.
 #[tactic(auto, unfolding(crate::specs::Commands::set_health))]
 pub(crate) fn set_health_of(alloc: Global, path: &str, body: &[u8]) -> Result<Cmd, WordFault>
-    ensures meaning { OrNoMemory code_told (λ cmd. cmd) result (set_health path.now body.now) }
+    ensures meaning { OrNoMemory refused_code (λ cmd. cmd) result (set_health path.now body.now) }
     ensures proper { IfOk result (λ cmd. IsTrue (is_proper_cmd cmd)) }
 {
     let name = board_of(alloc, path)?;

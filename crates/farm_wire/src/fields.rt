@@ -2,7 +2,7 @@
 ghost use Rattle.std.specs.Prelude.{◌≡◌, map, codes, Err, IsTrue, IfOk, IsOk};
 ghost use Rattle.farm_types.specs.Proper.{has_no_name_tag};
 ghost use Rattle.serde_json.specs.View.{view, items_view};
-ghost use Rattle.farm_types.specs.Reads.{OrNoMemory, by_code, code_told, seen};
+ghost use Rattle.farm_types.specs.Reads.{OrNoMemory, by_code, refused_code, viewed};
 ghost use Rattle.farm_wire.specs.Fields.{text_in, name_in, texts_in, tags_from, tags_in};
 ghost use Rattle.farm_wire.specs.Fields.{board_tags};
 
@@ -13,7 +13,7 @@ use std::alloc::Global;
 /// The text under a key, which must be there. It takes no memory.
 #[tactic(auto, unfolding(crate::specs::Fields::text_in))]
 pub(crate) fn text_of<'v>(value: &'v Value, key: &str) -> Result<&'v str, Refusal>
-    ensures { by_code (seen (λ text. text.now) result) ≡ text_in key.now (view value.now) }
+    ensures { by_code (viewed (λ text. text.now) result) ≡ text_in key.now (view value.now) }
 {
     match value.get(key).and_then(Value::as_str) {
         Some(text) => Ok(text),
@@ -24,7 +24,8 @@ pub(crate) fn text_of<'v>(value: &'v Value, key: &str) -> Result<&'v str, Refusa
 /// The name under a key, which must be there; memory is wanted only where there is one.
 #[tactic(auto, unfolding(crate::specs::Fields::name_in))]
 pub(crate) fn name_of(alloc: Global, value: &Value, key: &str) -> Result<Name, WordFault>
-    ensures reads { OrNoMemory code_told (λ name. name) result (name_in key.now (view value.now)) }
+    ensures reads { OrNoMemory refused_code (λ name. name) result
+        (name_in key.now (view value.now)) }
     ensures memory { result ≡ Err WordFault.NoMemory → IsOk (name_in key.now (view value.now)) }
 {
     Name::parse(alloc, text_of(value, key)?.as_bytes())
@@ -32,7 +33,7 @@ pub(crate) fn name_of(alloc: Global, value: &Value, key: &str) -> Result<Name, W
 
 /// The texts of an array's items.
 fn texts_of(alloc: Global, items: &[Value]) -> Result<Vec<&[u8]>, WordFault>
-    ensures { OrNoMemory code_told (λ texts. map (λ text. text.now) texts.items) result
+    ensures { OrNoMemory refused_code (λ texts. map (λ text. text.now) texts.items) result
         (texts_in (items_view items.now)) }
 {
     let mut texts = Vec::new(alloc);
@@ -48,7 +49,7 @@ fn texts_of(alloc: Global, items: &[Value]) -> Result<Vec<&[u8]>, WordFault>
 /// The tags that a value spells, an array of texts.
 #[tactic(auto, unfolding(crate::specs::Fields::tags_from))]
 pub(crate) fn tags_from(alloc: Global, value: &Value) -> Result<Tags, WordFault>
-    ensures { OrNoMemory code_told (λ tags. tags) result (tags_from (view value.now)) }
+    ensures { OrNoMemory refused_code (λ tags. tags) result (tags_from (view value.now)) }
 {
     let Some(items) = value.as_array() else {
         return Err(WordFault::Refused(Refusal { code: BAD_REQUEST }));
@@ -60,7 +61,7 @@ pub(crate) fn tags_from(alloc: Global, value: &Value) -> Result<Tags, WordFault>
 /// The tags under the key `tags`, which must be there.
 #[tactic(auto, unfolding(crate::specs::Fields::tags_in))]
 pub(crate) fn tags_of(alloc: Global, value: &Value) -> Result<Tags, WordFault>
-    ensures { OrNoMemory code_told (λ tags. tags) result (tags_in (view value.now)) }
+    ensures { OrNoMemory refused_code (λ tags. tags) result (tags_in (view value.now)) }
 {
     match value.get("tags") {
         Some(field) => tags_from(alloc, field),

@@ -5,7 +5,7 @@ ghost use Rattle.farm_types.specs.Codes.{same_outcome};
 ghost use Rattle.farm_types.specs.Called.{outcome_called};
 ghost use Rattle.farm_wire.specs.Fields.{there_or};
 ghost use Rattle.farm_types.specs.Proper.{is_proper_cmd};
-ghost use Rattle.farm_types.specs.Reads.{OrNoMemory, by_code, code_told};
+ghost use Rattle.farm_types.specs.Reads.{OrNoMemory, by_code, refused_code};
 ghost use Rattle.farm_wire.specs.Commands.{finish, submit};
 ghost use Rattle.farm_wire.specs.Reading.{fault_of_file};
 ghost use Rattle.farm_types.specs.declared.rows.Outcome.{Outcome};
@@ -32,7 +32,7 @@ fn outcome_of(text: &str) -> Result<Outcome, Refusal>
 /// that word.
 #[tactic(auto, unfolding(crate::specs::Commands::submit))]
 pub(crate) fn submit_of(alloc: Global, body: &[u8]) -> Result<Cmd, WordFault>
-    ensures meaning { OrNoMemory code_told (λ cmd. cmd) result (submit body.now) }
+    ensures meaning { OrNoMemory refused_code (λ cmd. cmd) result (submit body.now) }
     ensures proper { IfOk result (λ cmd. IsTrue (is_proper_cmd cmd)) }
 {
     farm_jobfile::job_of(alloc, body).map_err(word_fault)
@@ -52,7 +52,7 @@ fn word_fault(fault: FileFault) -> WordFault
 /// The end of the job that a path names.
 #[tactic(auto, unfolding(crate::specs::Commands::finish, farm_types::specs::Proper::is_proper_cmd))]
 pub(crate) fn finish_of(alloc: Global, path: &str, body: &[u8]) -> Result<Cmd, WordFault>
-    ensures meaning { OrNoMemory code_told (λ cmd. cmd) result (finish path.now body.now) }
+    ensures meaning { OrNoMemory refused_code (λ cmd. cmd) result (finish path.now body.now) }
     ensures proper { IfOk result (λ cmd. IsTrue (is_proper_cmd cmd)) }
 {
     let number = job_of(path)?;

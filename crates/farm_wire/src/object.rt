@@ -1,6 +1,6 @@
 //! The JSON object of a body.
 ghost use Rattle.serde_json.specs.View.{view};
-ghost use Rattle.farm_types.specs.Reads.{OrNoMemory, code_told};
+ghost use Rattle.farm_types.specs.Reads.{OrNoMemory, refused_code};
 ghost use Rattle.farm_wire.specs.Fields.{object_in};
 
 use farm_types::{BAD_REQUEST, Refusal, WordFault};
@@ -11,7 +11,7 @@ use std::alloc::Global;
 /// 127 or is no object.
 #[tactic(auto, unfolding(crate::specs::Fields::object_in))]
 pub(crate) fn object_of(alloc: Global, body: &[u8]) -> Result<Value, WordFault>
-    ensures { OrNoMemory code_told (λ v. view v) result (object_in body.now) }
+    ensures { OrNoMemory refused_code (λ v. view v) result (object_in body.now) }
 {
     match Value::from_slice(alloc, body) {
         Ok(value) => {

@@ -5,7 +5,7 @@ ghost use Rattle.std.specs.Char.{is_ascii_digit, digit_value};
 ghost use Rattle.std.specs.List.{before_first, list_all};
 ghost use Rattle.std.specs.Str.Parse.{digits_value};
 ghost use Rattle.farm_types.specs.Limits.{numbers_end};
-ghost use Rattle.farm_types.specs.Reads.{OrNoMemory, by_code, code_told};
+ghost use Rattle.farm_types.specs.Reads.{OrNoMemory, by_code, refused_code};
 ghost use Rattle.farm_wire.specs.Parameters.{parameter, begins_with_zero, is_number_text, number_in};
 ghost use Rattle.farm_wire.specs.Parameters.{board_in, job_in, reservation_in};
 
@@ -113,7 +113,7 @@ fn number_of(text: &[u8]) -> Result<u64, Refusal>
 /// The board that a path names; memory is wanted only where it names one.
 #[tactic(auto, unfolding(crate::specs::Parameters::board_in))]
 pub(crate) fn board_of(alloc: Global, path: &str) -> Result<Name, WordFault>
-    ensures reads { OrNoMemory code_told (λ name. name) result (board_in path.now) }
+    ensures reads { OrNoMemory refused_code (λ name. name) result (board_in path.now) }
     ensures memory { result ≡ Err WordFault.NoMemory → IsOk (board_in path.now) }
 {
     Name::parse(alloc, parameter("/boards/", path))

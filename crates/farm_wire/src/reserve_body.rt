@@ -3,7 +3,7 @@ ghost use Rattle.std.specs.Prelude.{◌≡◌, Some, IsTrue, IfOk};
 ghost use Rattle.serde_json.specs.View.{view};
 ghost use Rattle.farm_types.specs.Called.{priority_called};
 ghost use Rattle.farm_types.specs.Proper.{is_proper_cmd};
-ghost use Rattle.farm_types.specs.Reads.{OrNoMemory, by_code, code_told};
+ghost use Rattle.farm_types.specs.Reads.{OrNoMemory, by_code, refused_code};
 ghost use Rattle.farm_wire.specs.Commands.{named_or, priority_number, priority_from, priority_in};
 ghost use Rattle.farm_wire.specs.Commands.{reserve};
 
@@ -61,7 +61,7 @@ fn priority_in(value: &Value) -> Result<Priority, Refusal>
 /// The reservation that a body asks for.
 #[tactic(auto, unfolding(crate::specs::Commands::reserve))]
 pub(crate) fn reserve_of(alloc: Global, body: &[u8]) -> Result<Cmd, WordFault>
-    ensures meaning { OrNoMemory code_told (λ cmd. cmd) result (reserve body.now) }
+    ensures meaning { OrNoMemory refused_code (λ cmd. cmd) result (reserve body.now) }
     ensures proper { IfOk result (λ cmd. IsTrue (is_proper_cmd cmd)) }
 {
     let value = object_of(alloc, body)?;

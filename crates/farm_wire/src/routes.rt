@@ -2,13 +2,13 @@
 ghost use Rattle.std.specs.Prelude.{◌≡◌, ◌==◌, IsTrue, IfOk, IsOk};
 ghost use Rattle.std.specs.List.{before_first};
 ghost use Rattle.farm_types.specs.Proper.{is_proper_cmd};
-ghost use Rattle.farm_types.specs.Reads.{OrNoMemory, by_code, code_told, seen};
+ghost use Rattle.farm_types.specs.Reads.{OrNoMemory, by_code, refused_code, viewed};
 ghost use Rattle.farm_http.specs.Request.{Request};
 ghost use Rattle.farm_http.specs.Requests.{ParsesTo};
 ghost use Rattle.farm_wire.specs.Asked.{ask, shown_ask, asked_at, call_in, view_in};
 ghost use Rattle.farm_wire.specs.Commands.{command_in};
 ghost use Rattle.farm_wire.specs.Routes.{rows, path_in, route_in};
-ghost use Rattle.farm_wire.specs.Reading.{denial_told};
+ghost use Rattle.farm_wire.specs.Reading.{denial_of};
 
 use crate::ask::{Ask, View};
 use crate::board_body::{add_board_of, set_health_of, set_tags_of};
@@ -43,7 +43,7 @@ impl Routes {
     /// GET what its path is; memory is taken for the words and for the body's JSON.
     pub fn ask(&self, alloc: Global, taken: &Taken, now: u64) -> Result<Ask, AskFault>
         ensures { (request : Request) → ParsesTo taken.now.bytes.items taken.now.head request
-            → OrNoMemory denial_told shown_ask result (ask request now) }
+            → OrNoMemory denial_of shown_ask result (ask request now) }
     {
         self.meaning(alloc, &parts_of(taken), now)
     }
@@ -51,7 +51,7 @@ impl Routes {
     /// What the parts of a request ask.
     #[tactic(auto, unfolding(crate::specs::Asked::ask, crate::specs::Asked::endpoint_in))]
     fn meaning(&self, alloc: Global, parts: &Parts<'_>, now: u64) -> Result<Ask, AskFault>
-        ensures { OrNoMemory denial_told shown_ask result (ask parts.now now) }
+        ensures { OrNoMemory denial_of shown_ask result (ask parts.now now) }
     {
         let path = path_of(parts.target()).map_err(AskFault::Refused)?;
         let route = self.route(path).map_err(AskFault::Refused)?;
@@ -78,7 +78,7 @@ impl Ask {
     /// without a body does: for more than one request build `Routes` once and call `Routes::ask`.
     pub fn of(alloc: Global, taken: &Taken, now: u64) -> Result<Ask, AskFault>
         ensures { (request : Request) → ParsesTo taken.now.bytes.items taken.now.head request
-            → OrNoMemory denial_told shown_ask result (ask request now) }
+            → OrNoMemory denial_of shown_ask result (ask request now) }
     {
         match Routes::new(alloc) {
             Ok(routes) => routes.ask(alloc, taken, now),
@@ -89,7 +89,7 @@ impl Ask {
 
 /// The path of a target: what stands before the first `?`.
 fn path_of(target: &[u8]) -> Result<&str, Refusal>
-    ensures { by_code (seen (λ path. path.now) result) ≡ path_in target.now }
+    ensures { by_code (viewed (λ path. path.now) result) ≡ path_in target.now }
 {
     match std::str::from_utf8(target) {
         Ok(text) => Ok(before_query(text)),
@@ -116,7 +116,7 @@ fn asked_at(
     parts: &Parts<'_>,
     now: u64,
 ) -> Result<Ask, WordFault>
-    ensures { OrNoMemory code_told shown_ask result (asked_at endpoint path.now parts.now now) }
+    ensures { OrNoMemory refused_code shown_ask result (asked_at endpoint path.now parts.now now) }
 {
     match endpoint {
         Endpoint::View(kind) => Ok(Ask::View(view_of(kind, path)?)),
@@ -148,7 +148,7 @@ fn call_of(
     parts: &Parts<'_>,
     now: u64,
 ) -> Result<Ask, WordFault>
-    ensures { OrNoMemory code_told shown_ask result (call_in kind path.now parts.now now) }
+    ensures { OrNoMemory refused_code shown_ask result (call_in kind path.now parts.now now) }
 {
     let caller = caller_of(alloc, parts)?;
     let key = key_of(alloc, parts)?;
@@ -159,7 +159,8 @@ fn call_of(
 /// The command of a kind that a path and a body spell.
 #[tactic(auto, unfolding(crate::specs::Commands::command_in, farm_types::specs::Proper::is_proper_cmd))]
 fn command_of(alloc: Global, kind: CommandKind, path: &str, body: &[u8]) -> Result<Cmd, WordFault>
-    ensures meaning { OrNoMemory code_told (λ cmd. cmd) result (command_in kind path.now body.now) }
+    ensures meaning { OrNoMemory refused_code (λ cmd. cmd) result
+        (command_in kind path.now body.now) }
     ensures proper { IfOk result (λ cmd. IsTrue (is_proper_cmd cmd)) }
 {
     match kind {

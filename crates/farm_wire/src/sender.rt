@@ -1,6 +1,6 @@
 //! Who sends a request, and under which key its reply is kept.
 ghost use Rattle.std.specs.Prelude.{◌≡◌, Err, IsOk};
-ghost use Rattle.farm_types.specs.Reads.{OrNoMemory, code_told};
+ghost use Rattle.farm_types.specs.Reads.{OrNoMemory, refused_code};
 ghost use Rattle.farm_wire.specs.Sender.{caller_in, key_in};
 
 use farm_http::Parts;
@@ -11,7 +11,7 @@ use std::alloc::Global;
 /// is one.
 #[tactic(auto, unfolding(crate::specs::Sender::caller_in))]
 pub(crate) fn caller_of(alloc: Global, parts: &Parts<'_>) -> Result<Name, WordFault>
-    ensures reads { OrNoMemory code_told (λ name. name) result (caller_in parts.now.fields) }
+    ensures reads { OrNoMemory refused_code (λ name. name) result (caller_in parts.now.fields) }
     ensures memory { result ≡ Err WordFault.NoMemory → IsOk (caller_in parts.now.fields) }
 {
     match parts.field(b"x-user") {
@@ -24,7 +24,7 @@ pub(crate) fn caller_of(alloc: Global, parts: &Parts<'_>) -> Result<Name, WordFa
 /// one.
 #[tactic(auto, unfolding(crate::specs::Sender::key_in))]
 pub(crate) fn key_of(alloc: Global, parts: &Parts<'_>) -> Result<Option<Key>, WordFault>
-    ensures reads { OrNoMemory code_told (λ key. key) result (key_in parts.now.fields) }
+    ensures reads { OrNoMemory refused_code (λ key. key) result (key_in parts.now.fields) }
     ensures memory { result ≡ Err WordFault.NoMemory → IsOk (key_in parts.now.fields) }
 {
     match parts.field(b"x-key") {

@@ -1,4 +1,4 @@
-//! The HTTP statuses of answers that the table of refusals doesn't tell.
+//! The HTTP statuses of answers that the table of refusals doesn't give.
 
 /// The status of an answer that is no refusal.
 pub const OK: u16 = 200;

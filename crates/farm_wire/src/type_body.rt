@@ -3,7 +3,7 @@ ghost use Rattle.std.specs.Prelude.{◌≡◌, IsTrue, IfOk};
 ghost use Rattle.serde_json.specs.View.{view};
 ghost use Rattle.farm_types.specs.Limits.{is_every};
 ghost use Rattle.farm_types.specs.Proper.{is_frequency, is_proper_cmd};
-ghost use Rattle.farm_types.specs.Reads.{OrNoMemory, by_code, code_told};
+ghost use Rattle.farm_types.specs.Reads.{OrNoMemory, by_code, refused_code};
 ghost use Rattle.farm_wire.specs.Commands.{unit_in, every_in, check_in, add_type};
 
 use crate::fields::name_of;
@@ -54,7 +54,7 @@ fn check_of(value: &Value) -> Result<Check, Refusal>
 /// The type that a body adds.
 #[tactic(auto, unfolding(crate::specs::Commands::add_type))]
 pub(crate) fn add_type_of(alloc: Global, body: &[u8]) -> Result<Cmd, WordFault>
-    ensures meaning { OrNoMemory code_told (λ cmd. cmd) result (add_type body.now) }
+    ensures meaning { OrNoMemory refused_code (λ cmd. cmd) result (add_type body.now) }
     ensures proper { IfOk result (λ cmd. IsTrue (is_proper_cmd cmd)) }
 {
     let value = object_of(alloc, body)?;

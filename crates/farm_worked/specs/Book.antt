@@ -4,7 +4,7 @@ use Rattle.std.specs.Str.{is_utf8, chars}
 use Rattle.std.specs.declared.cmp.Ordering.TheVariants.{Less}
 use Rattle.farm_types.specs.Words.{is_word, is_tag, is_tags, text_cmp, word_or}
 use Rattle.farm_types.specs.Table.{put, put_all, change_where, type_cmp, kept_cmp}
-use Rattle.farm_types.specs.Reads.{OrNoMemory, code_told, ◌>>=◌}
+use Rattle.farm_types.specs.Reads.{OrNoMemory, refused_code, ◌>>=◌}
 use Rattle.farm_types.specs.Tags.{tags_of, tags_text, tags_among, tags_read}
 use Rattle.farm_types.specs.Codes.{job_state_code, job_state_with, outcome_with, job_state_word}
 use Rattle.farm_types.specs.Called.{health_called, outcome_called, priority_called, holder_text}
@@ -77,7 +77,7 @@ abbrev pub name_of : List ℕ → Result (List ℕ) ℕ
 name_of text = word_or (is_word 48 text) text 5
 
 abbrev pub ReadsName : List ℕ → Result (List ℕ) WordFault → Type 0
-ReadsName text given = OrNoMemory code_told (λ name. name) given (name_of text)
+ReadsName text given = OrNoMemory refused_code (λ name. name) given (name_of text)
 
 pub record BookOfReaders : Type 0 where
   pub name_is_read : ReadsName (codes "b1") (Ok (codes "b1"))

@@ -20,7 +20,7 @@ use Rattle.farm_types.specs.Limits.{longest_name}
 use Rattle.farm_types.specs.declared.rows.KeptRow.{KeptRow}
 use Rattle.farm_types.proofs.Searched.{same_names}
 use Rattle.farm_sound.proofs.Grow.{same_texts}
-use Rattle.farm_core.specs.Replies.{IsJoined, caller_in, joined, key_in, kept_reply, kept_row}
+use Rattle.farm_core.specs.Replies.{IsJoined, joined_caller, joined, joined_key, kept_reply, kept_row}
 use Rattle.farm_core.specs.declared.kept.KeptReply.{KeptReply}
 
 both_true : (a b : Bool) → IsTrue (a && b) → IsTrue a × IsTrue b
@@ -47,7 +47,7 @@ take_more n c rest = let more : 1 + n ≡ suc n = omega arith in ap (λ m. take 
 drop_more : (n c : ℕ) (rest : List ℕ) → drop (suc n + 1) (c ∷ rest) ≡ drop (n + 1) rest
 drop_more n c rest = let more : suc n + 1 ≡ suc (n + 1) = omega arith in ap (λ m. drop m (c ∷ rest)) more
 
-pub caller_joined : (caller key : List ℕ) → IsTrue (list_all is_name_byte caller) → caller_in (joined caller key) ≡ caller
+pub caller_joined : (caller key : List ℕ) → IsTrue (list_all is_name_byte caller) → joined_caller (joined caller key) ≡ caller
 caller_joined [] key all = refl
 caller_joined (c ∷ caller) key all =
     let both = both_true (is_name_byte c) (list_all is_name_byte caller) all in
@@ -57,7 +57,7 @@ behind_space : (caller key : List ℕ) → drop (length caller + 1) (joined call
 behind_space [] key = refl
 behind_space (c ∷ caller) key = drop_more (length caller) c (joined caller key) ∙ behind_space caller key
 
-pub key_joined : (caller key : List ℕ) → IsTrue (list_all is_name_byte caller) → key_in (joined caller key) ≡ key
+pub key_joined : (caller key : List ℕ) → IsTrue (list_all is_name_byte caller) → joined_key (joined caller key) ≡ key
 key_joined caller key all = ap (λ c. drop (length c + 1) (joined caller key)) (caller_joined caller key all) ∙ behind_space caller key
 
 pub is_joined : (caller key : List ℕ) → IsName caller → IsJoined (joined caller key)
@@ -93,7 +93,7 @@ joined_cmp (x ∷ a) b (y ∷ c) d all other =
 pub rows_cmp : (e f : String Global × KeptReply) → IsJoined (string_bytes e.0) → IsJoined (string_bytes f.0) → string_cmp e.0 f.0 ≡ kept_cmp (kept_row e) (kept_row f)
 rows_cmp e f one other =
     (λ i. text_cmp (one.is i) (other.is i))
-    ∙ joined_cmp (caller_in (string_bytes e.0)) (key_in (string_bytes e.0)) (caller_in (string_bytes f.0)) (key_in (string_bytes f.0)) one.caller other.caller
+    ∙ joined_cmp (joined_caller (string_bytes e.0)) (joined_key (string_bytes e.0)) (joined_caller (string_bytes f.0)) (joined_key (string_bytes f.0)) one.caller other.caller
 
 -- ---- the map
 
@@ -120,7 +120,7 @@ rows_insert k v (e ∷ es) here all = rw (sym (rows_cmp (k, v) e here all.0)) (b
     by Less is rest = refl
     by Equal is rest =
         let same = same_texts (string_bytes k) (string_bytes e.0) is in
-        λ i. record { caller = caller_in (sym same i); key = key_in (sym same i); kind = v.kind; reply = v.reply } ∷ map kept_row es
+        λ i. record { caller = joined_caller (sym same i); key = joined_key (sym same i); kind = v.kind; reply = v.reply } ∷ map kept_row es
     by Greater is rest = ap (λ rs. kept_row e ∷ rs) rest
 
 -- the query's texts are the row's where the keys tie
@@ -155,8 +155,8 @@ rows_find caller key name (e ∷ es) all =
     tests : is_eq (text_cmp (joined caller key) (string_bytes e.0)) ≡ test (kept_row e)
     tests =
         ap (λ t. is_eq (text_cmp (joined caller key) t)) all.0.is
-        ∙ ap is_eq (joined_cmp caller key (caller_in (string_bytes e.0)) (key_in (string_bytes e.0)) (name_bytes caller name) all.0.caller)
-        ∙ same_test caller key (caller_in (string_bytes e.0)) (key_in (string_bytes e.0))
+        ∙ ap is_eq (joined_cmp caller key (joined_caller (string_bytes e.0)) (joined_key (string_bytes e.0)) (name_bytes caller name) all.0.caller)
+        ∙ same_test caller key (joined_caller (string_bytes e.0)) (joined_key (string_bytes e.0))
 
     by : (v : Bool) → lookup (λ l. is_eq (text_cmp (joined caller key) (string_bytes l))) es ≡ option_map kept_reply (find test (map kept_row es))
         → cond v (Some e.1) (lookup (λ l. is_eq (text_cmp (joined caller key) (string_bytes l))) es) ≡ option_map kept_reply (cond v (Some (kept_row e)) (find test (map kept_row es)))

@@ -14,7 +14,7 @@ pub enum ResFilter {
     Dead(u64),
 }
 
-/// A change of one reservation, told by its number: each field that is given.
+/// A change of one reservation, by its number: each field that is given.
 #[derive(Clone, Copy, Debug)]
 pub struct ResEdit<'a> {
     pub number: u64,

@@ -1,4 +1,4 @@
-//! Boards are assigned to jobs and reservations. No board moves in a pass, so each is told by its
+//! Boards are assigned to jobs and reservations. No board moves in a pass, so each is given by its
 //! place.
 ghost use Rattle.std.specs.Prelude.{◌≡◌, ◌<◌, ◌≤◌, ◌∷◌, [], OnOk, get_or, length};
 ghost use Rattle.std.specs.List.{All, AllByRecursion, fold, zip};
@@ -32,7 +32,7 @@ impl Tables {
                   (held_board holder State.Reserved) (plain_farm self.old).boards;
             }) (seen self.old)) self.new) }
     {
-        // no row is read: it tells proofs that they are in order
+        // no row is read: it gives proofs that they are in order
         let _rows = self.boards.rows();
         self.boards.change_at(at, &BoardEffect::Reserve(holder))?;
         Ok(())

@@ -90,7 +90,7 @@ impl Tables {
         ensures count { IfOk result (λ n. n
             ≡ length (filter (is_dead self.old.clock) (plain_farm self.old).reservations)) }
     {
-        // The boards first: the reservations as they were tell which are freed.
+        // The boards first: the reservations as they were say which are freed.
         self.boards.change_where(&Held {
             holders: &self.reservations,
             filter: &ResFilter::Dead(self.clock),

@@ -18,7 +18,8 @@ ghost use Rattle.farm_pick.specs.Heads.{is_later, last_spot};
 ghost use Rattle.farm_pick.specs.Queued.{Queued, idle_boards, is_open, queue_lists};
 ghost use Rattle.farm_core.specs.Came.{CameTo, LeadOn, seen};
 ghost use Rattle.farm_core.specs.Plain.{plain_farm};
-ghost use Rattle.farm_core.specs.Serving.{AreMisses, Asks, Begins, Serves, Tries, boards_for};
+ghost use Rattle.farm_core.specs.Serving.{AreMisses, MatchesRows, Begins, Serves, Tries};
+ghost use Rattle.farm_core.specs.Serving.{boards_for};
 ghost use Rattle.farm_core.specs.Serving.{count_after, wants_of};
 
 use crate::pass::lookahead::unsatisfiable::{CachedMiss, MissCache};
@@ -79,7 +80,7 @@ fn wants_in<'a>(rows: &'a [JobRow], group: u64, other: &'a Want) -> ([&'a Want; 
     (wants, count)
 }
 
-/// Whether a claim, told by its kind and its number, is that of a group.
+/// Whether a claim, by its kind and its number, is that of a group.
 fn is_of_group(kind: ClaimKind, number: u64, group: u64) -> bool
     ensures { (c : Claimed) → (shown_claim c).kind ≡ kind → c.number ≡ number
         → is_group group c ≡ result }
@@ -164,7 +165,7 @@ impl Tables {
         requires small { IsSmall group }
         requires free { self.old.queues.boards ≡ idle_boards (plain_farm self.old) }
         ensures tries { IfOk result (λ served. (c : Claimed) → c.reservation ≡ false
-            → c.number ≡ group → Asks false (plain_farm self.old) c
+            → c.number ≡ group → MatchesRows false (plain_farm self.old) c
             → Tries (seen self.old) c served (seen self.new)) }
         ensures logs { OnOk result (LeadOn self.old self.new) }
     {
@@ -187,7 +188,7 @@ impl Tables {
         requires clock { self.old.clock ≤ last_moment }
         requires free { self.old.queues.boards ≡ idle_boards (plain_farm self.old) }
         ensures tries { IfOk result (λ served. (c : Claimed) → c.reservation ≡ true
-            → c.number ≡ number → Asks true (plain_farm self.old) c
+            → c.number ≡ number → MatchesRows true (plain_farm self.old) c
             → Tries (seen self.old) c served (seen self.new)) }
         ensures logs { OnOk result (LeadOn self.old self.new) }
     {
@@ -201,13 +202,13 @@ impl Tables {
         }
     }
 
-    /// Serves a claim, told by its kind and its number, where free boards meet it.
+    /// Serves a claim, by its kind and its number, where free boards meet it.
     fn serve_claim(&mut self, kind: ClaimKind, number: u64) -> Result<bool, AllocError>
         requires small { IsSmall number }
         requires clock { self.old.clock ≤ last_moment }
         requires free { self.old.queues.boards ≡ idle_boards (plain_farm self.old) }
         ensures tries { IfOk result (λ served. (c : Claimed) → (shown_claim c).kind ≡ kind
-            → c.number ≡ number → Asks c.reservation (plain_farm self.old) c
+            → c.number ≡ number → MatchesRows c.reservation (plain_farm self.old) c
             → Tries (seen self.old) c served (seen self.new)) }
         ensures logs { OnOk result (LeadOn self.old self.new) }
     {

@@ -10,12 +10,12 @@ ghost use Rattle.sqlite.specs.State.{HasCleanDisk};
 ghost use Rattle.sqlite.specs.Tree.{Trees};
 ghost use Rattle.sqlite_trees.specs.View.{doubt};
 ghost use Rattle.farm_types.specs.Farm.{empty_farm};
-ghost use Rattle.farm_store.specs.Columns.{Tables};
+ghost use Rattle.farm_store.specs.Columns.{TableRows};
 ghost use Rattle.farm_store.specs.Holds.{IsMadeIn, ReadsOnly, Stands};
 ghost use Rattle.farm_store.specs.Schema.{no_schema};
 ghost use Rattle.farm_keep.specs.Faults.{IsFindFault};
 ghost use Rattle.farm_keep.specs.Headline.{Adopts, GivesNoKeeper};
-ghost use Rattle.farm_keep.specs.Kept.{Keeps};
+ghost use Rattle.farm_keep.specs.KeeperState.{KeepsOwnFarm};
 ghost use Rattle.farm_keep.specs.Versions.{LooksForFarm};
 
 use crate::fault::KeepFault;
@@ -47,8 +47,8 @@ pub(super) fn make<S: Alter>(alloc: Global, mut conn: Connection<S>) -> Result<K
     requires { conn.in_transaction ≡ false }
     ensures opened { IfOk result (λ k. (k.is_open ≡ true) × (k.farm.farm ≡ empty_farm)) }
     ensures keeps { IfOk result (λ k. (state S.Store conn).now.schema ≡ no_schema
-        → Keeps S.Store k) }
-    ensures refused { IfOk result (λ k. HasCleanDisk (state S.Store k.conn) → (T : Tables)
+        → KeepsOwnFarm S.Store k) }
+    ensures refused { IfOk result (λ k. HasCleanDisk (state S.Store k.conn) → (T : TableRows)
         → ¬ Stands (state S.Store conn) T) }
     ensures bare { OnOk result ((state S.Store conn).now.schema ≡ no_schema) }
     ensures clean { IfOk result (λ k. doubt (state S.Store conn).is_clean ≤ doubt
@@ -60,7 +60,7 @@ pub(super) fn make<S: Alter>(alloc: Global, mut conn: Connection<S>) -> Result<K
     ensures autocommit { IfErr result (λ u. u.conn.in_transaction ≡ false) }
     ensures doubted { IfErr result (λ u. doubt (state S.Store conn).is_clean ≤ doubt
         (state S.Store u.conn).is_clean) }
-    ensures stands { IfErr result (λ u. HasCleanDisk (state S.Store u.conn) → (T : Tables)
+    ensures stands { IfErr result (λ u. HasCleanDisk (state S.Store u.conn) → (T : TableRows)
         → Stands (state S.Store conn) T → Stands (state S.Store u.conn) T) }
     ensures left { IfErr result (λ u. HasCleanDisk (state S.Store u.conn) → (db : Trees)
         → (state S.Store u.conn).may_leave db

@@ -27,8 +27,8 @@ pub struct RunEnd {
 
 impl<S: Alter + Drop> Keeper<S> {
     /// Adopts the farm whose tables the store holds, then runs: it gives a keeper where `adopt`
-    /// gives one, and all that `run` says is true from there on. A fault of the run is told in its
-    /// end; a fault of the adoption gives no keeper, and is the one that `adopt` would tell.
+    /// gives one, and all that `run` says is true from there on. A fault of the run stands in its
+    /// end; a fault of the adoption gives no keeper, and is the one that `adopt` would report.
     pub fn resume(
         alloc: Global,
         conn: Connection<S>,

@@ -2,10 +2,10 @@
 ghost use Rattle.std.specs.Prelude.{◌≡◌, false, IfErr};
 ghost use Rattle.sqlite.specs.Held.{state};
 ghost use Rattle.sqlite.specs.State.{HasCleanDisk};
-ghost use Rattle.farm_store.specs.Columns.{Tables};
+ghost use Rattle.farm_store.specs.Columns.{TableRows};
 ghost use Rattle.farm_store.specs.Holds.{ReadsOnly, Stands};
 ghost use Rattle.farm_store.specs.Queries.{AsksFor};
-ghost use Rattle.farm_store.specs.Reading.{ReadsAll, ReadsRow, TellsNoVersion};
+ghost use Rattle.farm_store.specs.Reading.{ReadsAll, ReadsRow, IsNoVersionFault};
 
 use crate::edition::Edition;
 use crate::fault::StoreFault;
@@ -47,11 +47,11 @@ pub(crate) fn read<R: Stored, S: Alter>(
 ) -> Result<Vec<R>, StoreFault>
     requires autocommit { conn.old.in_transaction ≡ false }
     ensures only { ReadsOnly (state S.Store conn.old) (state S.Store conn.new) }
-    ensures read { HasCleanDisk (state S.Store conn.new) → (T : Tables)
+    ensures read { HasCleanDisk (state S.Store conn.new) → (T : TableRows)
         → Stands (state S.Store conn.old) T
         → ReadsAll result (λ all. all.items) (R.IsGood edition) (R.columns edition)
         (R.place.rows T) }
-    ensures fault { IfErr result TellsNoVersion }
+    ensures fault { IfErr result IsNoVersionFault }
 {
     let mut all = Vec::new(alloc);
     let _room = all.reserve_exact(expected);

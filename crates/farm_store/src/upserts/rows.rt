@@ -13,7 +13,7 @@ pub(crate) trait Upsert {
     ghost use Rattle.sqlite.specs.Held.{state};
     ghost use Rattle.sqlite.specs.Order.{Row};
     ghost use Rattle.farm_store.specs.Edits.{ChangesTables, GoesOn};
-    ghost use Rattle.farm_store.specs.Places.{IsPlace, TableSlot, put_at};
+    ghost use Rattle.farm_store.specs.Places.{IsTableSlot, TableSlot, put_at};
 
     ghost place: { TableSlot };
 
@@ -29,7 +29,7 @@ pub(crate) trait Upsert {
             (state S.Store tx.new.conn.now) (λ T. put_at place T (columns self.now ∷ [])) };
 
     /// It is one of the tables' places.
-    ghost is_place: { IsPlace place };
+    ghost is_place: { IsTableSlot place };
 }
 
 /// Puts each row, in this order.

@@ -36,7 +36,7 @@ returns-in-Ok-clause-fault c =
         open_choice =
             unnamed (app_of c.in_ok-farm_command.field-0) (map string_bytes c.args.words.now) c.in-Ok.matches is
             c.in-Ok.ensures.matches c.in-Ok.ensures.kinds none;
-        told = text ∙ c.open_choice.ensures ∙ ap open_text (parse_named (app_of c.in_ok-farm_command.field-0) (map string_bytes c.args.words.now) c.in-Ok.matches is c.in-Ok.ensures.matches);
+        reported = text ∙ c.open_choice.ensures ∙ ap open_text (parse_named (app_of c.in_ok-farm_command.field-0) (map string_bytes c.args.words.now) c.in-Ok.matches is c.in-Ok.ensures.matches);
       },
     )
 

@@ -2,7 +2,7 @@ use Rattle.std.proofs.Common.{◌≡◌, ◌∙◌, map, ap, sym, subst}
 use Rattle.std.specs.String.{string_bytes}
 use Rattle.farm_types.specs.declared.rows.KeptRow.{KeptRow}
 use Rattle.farm_types.specs.Table.{put, kept_cmp}
-use Rattle.farm_core.specs.Replies.{AreJoined, IsJoined, caller_in, joined, key_in, kept_row}
+use Rattle.farm_core.specs.Replies.{AreJoined, IsJoined, joined_caller, joined, joined_key, kept_row}
 use Rattle.farm_core.proofs.Replies.Joined.{All-insert_entry, caller_joined, is_joined, key_joined, name_bytes, rows_insert}
 use Rattle.farm_core.proofs.kept.insert.Goals as goal
 
@@ -14,8 +14,8 @@ returns-clause-rows c =
     let here : IsJoined (string_bytes c.in_ok-text.text) = subst IsJoined (sym text) (is_joined row.caller row.key c.joined.ensures.name) in
     ap (map kept_row) c.in_ok-_former.ensures.entries ∙ rows_insert c.in_ok-text.text (record { kind = row.kind; reply = row.reply }) c.args.rows.now.entries here c.requires
     ∙ (λ i. put kept_cmp (map kept_row c.args.rows.now.entries) (record {
-      caller = (ap caller_in text ∙ caller_joined row.caller row.key all) i;
-      key = (ap key_in text ∙ key_joined row.caller row.key all) i;
+      caller = (ap joined_caller text ∙ caller_joined row.caller row.key all) i;
+      key = (ap joined_key text ∙ key_joined row.caller row.key all) i;
       kind = row.kind;
       reply = row.reply;
     }))

@@ -126,7 +126,7 @@ impl Tables {
     }
 
     /// Whether a group, whose first row stands at a place, wants the same as one that was found
-    /// unmet. Its rows are looked at only where the numbers of the wants don't tell: equal wants
+    /// unmet. Its rows are looked at only where the numbers of the wants don't decide: equal wants
     /// have two numbers where more wants than are remembered came between them.
     fn is_group_miss(&self, misses: &MissCache, group: u64, start: usize) -> bool
         requires sound { IsSound (plain_farm self.now) }
@@ -166,7 +166,7 @@ impl Tables {
     /// either. Its rows are looked for at a guess first, which comes to where they stand: where
     /// they are near it costs a comparison for each of the eight that is looked at, else with J
     /// jobs and R reservations O(log (J + R)) besides. Of jobs the marks are compared first, so
-    /// where they tell no row and no text of them is read, and where none was found unmet nothing is.
+    /// where they do no row and no text of them is read, and where none was found unmet nothing is.
     fn is_known_miss(&self, misses: &MissCache, claim: &Upcoming, guess: &mut Guess) -> bool
         requires sound { IsSound (plain_farm self.now) }
         requires miss { AreMisses (plain_farm self.now) misses.now }

@@ -1,4 +1,4 @@
-//! What the numbers of wants tell of a claim, with no look at a row.
+//! What the numbers of wants say of a claim, with no look at a row.
 ghost use Rattle.std.specs.Prelude.{◌≡◌, ◌≤◌, true, length};
 ghost use Rattle.farm_types.specs.Farm.{Farm};
 ghost use Rattle.farm_types.specs.Sound.{IsSound};

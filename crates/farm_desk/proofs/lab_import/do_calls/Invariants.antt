@@ -3,7 +3,7 @@ use Rattle.std.specs.Prelude.{None}
 use Rattle.sqlite.specs.Held.{state}
 use Rattle.sqlite_trees.specs.View.{doubt}
 use Rattle.farm_types.specs.Machine.{run}
-use Rattle.farm_keep.specs.Kept.{Keeps}
+use Rattle.farm_keep.specs.KeeperState.{KeepsOwnFarm}
 use Rattle.farm_desk.specs.Imports.{IsCounted}
 use Rattle.farm_desk.proofs.lab_import.do_calls.Given as goal
 
@@ -18,5 +18,5 @@ invariant-loop-call g l = record {
   goes_on : l.end.stopped ≡ None;
   faultless : l.end.fault ≡ None;
   still : l.fn.keeper.is_open ≡ false → (l.call-index ≡ 0) × (l.keeper ≡ l.fn.keeper);
-  keeps : Keeps g.S.Store l.fn.keeper → Keeps g.S.Store l.keeper;
+  keeps : KeepsOwnFarm g.S.Store l.fn.keeper → KeepsOwnFarm g.S.Store l.keeper;
 }

@@ -1,5 +1,5 @@
 use Rattle.std.proofs.Common.{refl, inl, Err}
-use Rattle.farm_desk.specs.Orders.{store_fault}
+use Rattle.farm_desk.specs.Orders.{store_failed}
 use Rattle.farm_desk.proofs.orders.do_while_there.Goals as goal
 
 pub returns-in-Some : goal.returns-in-Some
@@ -16,9 +16,9 @@ returns-in-Some g c = record {
 -- the files can't be looked at: that is as if the store had failed at opening
 pub returns-in-None : goal.returns-in-None
 returns-in-None g c = record {
-  ended = Err store_fault;
+  ended = Err store_failed;
   does = record {
-    opened = Err store_fault;
+    opened = Err store_failed;
     opens = record { found = tt; denied = λ clean. tt; version = λ clean. inl refl; fault = tt };
     does = (refl, refl);
   };

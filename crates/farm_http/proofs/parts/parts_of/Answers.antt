@@ -1,4 +1,4 @@
--- Where the parts of the head are was told when it was taken.
+-- Where the parts of the head are was found when it was taken.
 use Rattle.std.proofs.Common.{◌≡◌, rules, take, drop, map}
 use Rattle.std.proofs.Props.{props}
 use Rattle.std.proofs.Math.Logic.{∥∥₁_elim}
@@ -16,6 +16,6 @@ returns c request (h, is, e) =
     let last : c.split_at.result.1.now ≡ drop c.args.taken.now.head c.args.taken.now.bytes.items = search rules in
     let front = take c.args.taken.now.head c.args.taken.now.bytes.items in
     let t = c.args.taken.now in
-    let told : (span_bytes front t.spans.method ≡ h.method) × (span_bytes front t.spans.path ≡ h.target) × (map (header_bytes front) (take t.spans.headers t.headers) ≡ fields_of h) =
+    let parts : (span_bytes front t.spans.method ≡ h.method) × (span_bytes front t.spans.path ≡ h.target) × (map (header_bytes front) (take t.spans.headers t.headers) ≡ fields_of h) =
     ∥∥₁_elim t.placed (hlevel props) (λ placed. let at = placed.parts h (front_is_head t.bytes.items t.head h is) in (at.method, at.path, at.fields)) in
-    search (rules, first, last, told, e)
+    search (rules, first, last, parts, e)

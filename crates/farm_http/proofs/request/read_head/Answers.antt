@@ -46,7 +46,7 @@ loop-reader-preserved g c =
     let all = c.push_reserved.new.self.items in
     let is = c.push_reserved.ensures.items in
     let long : length all ≡ length old + 1 = ap length is ∙ length-append old (c.in_ok-byte.byte ∷ []) in
-    let lines : IsOpenBelow (length c.as_slice.result.now) c.as_slice.result.now = rw c.in_default.is at c.in_ok-spans.ensures.told in
+    let lines : IsOpenBelow (length c.as_slice.result.now) c.as_slice.result.now = rw c.in_default.is at c.in_ok-spans.ensures.found in
     record {
       short = omega (arith, long);
       capacity = omega arith;

@@ -1,4 +1,4 @@
--- What is said of any reader says it of one that tells its bytes.
+-- What is said of any reader says it of one whose bytes are known.
 use Rattle.farm_http.specs.Counts.{reading_of, IsSpent}
 use Rattle.farm_http.proofs.Known.{known_gives}
 use Rattle.farm_http.proofs.request.read_request_counted.Goals as goal

@@ -15,8 +15,8 @@ returns-in-Ok-clause-gives g c = λ clean F left sound holds on.
     let early : HasCleanDisk mid = omega (arith, c.found.ensures.only.clean) in
     let at = stands_either old left F (c.opened_stands.ensures on.opens on.live) on.on holds in
     let stands : Stands mid (rows_of F) = raised_stands old mid F c.migrate.result c.in-Ok.is sound (λ is first. c.in-Ok.ensures.ok early F is first) (c.migrate.ensures.known early) at in
-    let told = c.found.ensures.finds clean in
-    gives_farm c.found.result mid F sound.sound stands told.exact told.bad told.old c.found.ensures.fault
+    let finds = c.found.ensures.finds clean in
+    gives_farm c.found.result mid F sound.sound stands finds.exact finds.bad finds.old c.found.ensures.fault
 
 pub returns-in-Ok-clause-left : goal.returns-in-Ok-clause-left
 returns-in-Ok-clause-left g c = λ clean F left sound holds on db may.
@@ -34,8 +34,8 @@ returns-in-NewSchema-clause-gives g c = λ clean F left sound holds on.
     let at = stands_either old left F (c.opened_stands.ensures on.opens on.live) on.on holds in
     let is : c.migrate.result ≡ Err KeepFault.NewSchema = c.in-Err.is ∙ ap Err c.in-NewSchema.is in
     let stands : Stands mid (rows_of F) = new_stands old mid F (c.migrate.ensures.newer early is) (rests_new c.migrate.result _ is (c.migrate.ensures.rests early)) at in
-    let told = c.found-in-NewSchema.ensures.finds clean in
-    gives_farm c.found-in-NewSchema.result mid F sound.sound stands told.exact told.bad told.old c.found-in-NewSchema.ensures.fault
+    let finds = c.found-in-NewSchema.ensures.finds clean in
+    gives_farm c.found-in-NewSchema.result mid F sound.sound stands finds.exact finds.bad finds.old c.found-in-NewSchema.ensures.fault
 
 pub returns-in-NewSchema-clause-left : goal.returns-in-NewSchema-clause-left
 returns-in-NewSchema-clause-left g c = λ clean F left sound holds on db may.

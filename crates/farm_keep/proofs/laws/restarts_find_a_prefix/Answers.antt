@@ -16,9 +16,9 @@ returns g c = λ clean F lives first last sound holds lived on.
     let it = all_lives g.S.Store stands lives first last F sound holds lived in
     let G = run F (calls_of_restarts it.restarts) in
     let at = c.opened_stands.ensures on.opens on.live (rows_of G) (subst (λ (t : Trees). Holds t (rows_of G)) (sym on.on) it.holds) in
-    let told = c.found.ensures.finds clean in
+    let finds = c.found.ensures.finds clean in
     record {
       restarts = it.restarts;
       each = it.each;
-      gives = gives_farm c.found.result (state g.S.Store c.args.conn.now) G it.sound at told.exact told.bad told.old c.found.ensures.fault;
+      gives = gives_farm c.found.result (state g.S.Store c.args.conn.now) G it.sound at finds.exact finds.bad finds.old c.found.ensures.fault;
     }

@@ -10,7 +10,7 @@ use Rattle.farm_store.specs.declared.fault.StoreFault.{StoreFault}
 use Rattle.farm_keep.specs.Faults.{IsMigrateFault}
 use Rattle.farm_keep.specs.First.{IsSoundFirst}
 use Rattle.farm_keep.specs.declared.fault.KeepFault.{KeepFault}
-use Rattle.farm_keep.proofs.MigrateLemmas.{bad_is_another, first_of_sound, from_told, looks_read, looks_so, migrate_fault, never_told, new_is_another, none_done, ok_is_no_err, on_err, one_told, only_memory, raise_fault, small_jobs, told_so}
+use Rattle.farm_keep.proofs.MigrateLemmas.{bad_is_another, first_of_sound, from_reported, looks_read, looks_so, migrate_fault, never_reported, new_is_another, none_done, ok_is_no_err, on_err, one_reported, only_memory, raise_fault, small_jobs, reported_so}
 use Rattle.farm_keep.proofs.migrating.migrate.Goals as goal
 
 -- ---- the rows could not be read
@@ -20,27 +20,27 @@ returns-in_err-rows g c =
     let only = c.load_first.ensures.only in
     let reads = c.load_first.ensures.reads in
     let was = c.in_err-rows.was in
-    let told = c.from_residual.ensures.1 in
+    let reported = c.from_residual.ensures.1 in
     let r = c.load_first.result in
     let s = c.from_residual.result in
     let fault = c.in_err-rows.field-0.0 in
-    let is_told = err_from_is_err_and s told in
+    let is_reported = err_from_is_err_and s reported in
     record {
       autocommit = only.autocommit;
       clean = only.clean;
-      ok = λ clean. none_done s _ is_told.0 is_told.1;
-      only = λ clean. none_done s _ is_told.0 is_told.1;
-      ours = none_done s _ is_told.0 is_told.1;
+      ok = λ clean. none_done s _ is_reported.0 is_reported.1;
+      only = λ clean. none_done s _ is_reported.0 is_reported.1;
+      ours = none_done s _ is_reported.0 is_reported.1;
       stop = λ clean F sound at db may. inl (at.left db (only.left clean db may));
       others = λ clean T at none. only.stands clean T at;
       rests = λ clean other. on_err s _ (λ T at. only.stands clean T at);
-      bad = λ clean is F sound at. (reads clean).bad (from_told r s fault was told StoreFault.BadStore is) F (first_of_sound F sound) at;
-      newer = λ clean is T at. (reads clean).other (from_told r s fault was told StoreFault.NewSchema is) T at;
-      known = λ clean T at is. one_told r s fault was told StoreFault.NewSchema StoreFault.Store (((reads clean).schema T at).known is);
-      other = λ clean T at new first. one_told r s fault was told StoreFault.BadStore StoreFault.Store (((reads clean).schema T at).other new first);
-      version = λ clean. looks_so r s fault was told first_schema second_schema StoreFault.NewSchema (state g.S.Store c.args.conn.now).now
-          (reads clean).version.told (reads clean).version.known (reads clean).version.neither;
-      fault = told_so r s fault was told IsMigrateFault (migrate_fault fault (λ is. c.load_first.ensures.never (was ∙ ap Err is)));
+      bad = λ clean is F sound at. (reads clean).bad (from_reported r s fault was reported StoreFault.BadStore is) F (first_of_sound F sound) at;
+      newer = λ clean is T at. (reads clean).other (from_reported r s fault was reported StoreFault.NewSchema is) T at;
+      known = λ clean T at is. one_reported r s fault was reported StoreFault.NewSchema StoreFault.Store (((reads clean).schema T at).known is);
+      other = λ clean T at new first. one_reported r s fault was reported StoreFault.BadStore StoreFault.Store (((reads clean).schema T at).other new first);
+      version = λ clean. looks_so r s fault was reported first_schema second_schema StoreFault.NewSchema (state g.S.Store c.args.conn.now).now
+          (reads clean).version.reported (reads clean).version.known (reads clean).version.neither;
+      fault = reported_so r s fault was reported IsMigrateFault (migrate_fault fault (λ is. c.load_first.ensures.never (was ∙ ap Err is)));
     }
 
 -- ---- they are no sound farm's
@@ -125,10 +125,10 @@ returns-in_err-raise g c =
     let was = c.in_ok-rows.was in
     let r = c.load_first.result in
     let s = c.from_residual-in_err-raise.result in
-    let told = c.from_residual-in_err-raise.ensures.1 in
+    let reported = c.from_residual-in_err-raise.ensures.1 in
     let fault = c.in_err-raise.field-0.0 in
     let which = c.in_err-raise.ensures.fault in
-    let is_told = err_from_is_err_and s told in
+    let is_reported = err_from_is_err_and s reported in
     let farm = farm_of c.in_ok-rows.rows in
     let early : HasCleanDisk end → HasCleanDisk mid = λ clean. omega (arith, c.raise.ensures.clean) in
     let reads = λ (clean : HasCleanDisk end). c.in_ok-rows.ensures.reads (early clean) in
@@ -137,23 +137,23 @@ returns-in_err-raise g c =
     record {
       autocommit = c.raise.ensures.autocommit;
       clean = omega (arith, only.clean, c.raise.ensures.clean);
-      ok = λ clean. none_done s _ is_told.0 is_told.1;
-      only = λ clean. none_done s _ is_told.0 is_told.1;
-      ours = none_done s _ is_told.0 is_told.1;
+      ok = λ clean. none_done s _ is_reported.0 is_reported.1;
+      only = λ clean. none_done s _ is_reported.0 is_reported.1;
+      ours = none_done s _ is_reported.0 is_reported.1;
       stop = λ clean F is at.
           let same : farm ≡ F = (reads clean).farm F (first_of_sound F is) at in
           subst (λ G. LeavesEither end (first_rows_of G) (rows_of G)) same
           (c.raise.ensures.stop clean (subst (λ G. Stands mid (first_rows_of G)) (sym same) (only.stands (early clean) (first_rows_of F) at)));
       others = λ clean T at none. absurd (none farm first (sym ((reads clean).rows T at)));
       rests = λ clean other.
-          let memory = only_memory c.raise.result s fault c.in_err-raise.was told which other in
+          let memory = only_memory c.raise.result s fault c.in_err-raise.was reported which other in
           on_err s _ (λ T at. subst (λ h. Stands (state g.S.Store h) T) (sym (c.raise.ensures.memory memory)) (only.stands (early clean) T at));
-      bad = λ clean is. absurd (never_told c.raise.result s fault c.in_err-raise.was told StoreFault.BadStore bad_is_another which is);
-      newer = λ clean is. absurd (never_told c.raise.result s fault c.in_err-raise.was told StoreFault.NewSchema new_is_another which is);
+      bad = λ clean is. absurd (never_reported c.raise.result s fault c.in_err-raise.was reported StoreFault.BadStore bad_is_another which is);
+      newer = λ clean is. absurd (never_reported c.raise.result s fault c.in_err-raise.was reported StoreFault.NewSchema new_is_another which is);
       known = λ clean T at is. absurd (ok_is_no_err r c.in_ok-rows.rows StoreFault.NewSchema StoreFault.Store was (((c.load_first.ensures.reads (early clean)).schema T at).known is));
       other = λ clean T at new none. absurd (ok_is_no_err r c.in_ok-rows.rows StoreFault.BadStore StoreFault.Store was (((c.load_first.ensures.reads (early clean)).schema T at).other new none));
       version = λ clean. looks_read r c.in_ok-rows.rows s was first_schema second_schema StoreFault.NewSchema (state g.S.Store c.args.conn.now).now
-          (never_told c.raise.result s fault c.in_err-raise.was told StoreFault.NewSchema new_is_another which)
+          (never_reported c.raise.result s fault c.in_err-raise.was reported StoreFault.NewSchema new_is_another which)
           (c.load_first.ensures.reads (early clean)).version.known (c.load_first.ensures.reads (early clean)).version.neither;
-      fault = told_so c.raise.result s fault c.in_err-raise.was told IsMigrateFault (raise_fault fault which);
+      fault = reported_so c.raise.result s fault c.in_err-raise.was reported IsMigrateFault (raise_fault fault which);
     }

@@ -57,16 +57,16 @@ rows_may_come BadRows.NoMemory = tt
 same_error : {T : Type 0} (r : Result T StoreFault) (a b : StoreFault) → r ≡ Err a → r ≡ Err b → a ≡ b
 same_error r a b p q = cc
 
--- a fault of reading, as the keeper tells it
-told : {T : Type 0} (r : Result T StoreFault) (e : StoreFault) → r ≡ Err e → (r ≡ Err StoreFault.OldSchema) ⊎ (r ≡ Err StoreFault.Store)
+-- a fault of reading, as the keeper reports it
+reported : {T : Type 0} (r : Result T StoreFault) (e : StoreFault) → r ≡ Err e → (r ≡ Err StoreFault.OldSchema) ⊎ (r ≡ Err StoreFault.Store)
     → (fault_of_store e ≡ KeepFault.OldSchema) ⊎ (fault_of_store e ≡ KeepFault.Store)
-told r e is (inl old) = inl (ap fault_of_store (same_error r e StoreFault.OldSchema is old))
-told r e is (inr store) = inr (ap fault_of_store (same_error r e StoreFault.Store is store))
+reported r e is (inl old) = inl (ap fault_of_store (same_error r e StoreFault.OldSchema is old))
+reported r e is (inr store) = inr (ap fault_of_store (same_error r e StoreFault.Store is store))
 
-as_told : {R : Type 0} (r : Result R KeepFault) (k : KeepFault) (e : StoreFault) → r ≡ Err k → k ≡ fault_of_store e
+as_reported : {R : Type 0} (r : Result R KeepFault) (k : KeepFault) (e : StoreFault) → r ≡ Err k → k ≡ fault_of_store e
     → (fault_of_store e ≡ KeepFault.OldSchema) ⊎ (fault_of_store e ≡ KeepFault.Store) → (r ≡ Err KeepFault.OldSchema) ⊎ (r ≡ Err KeepFault.Store)
-as_told r k e is same (inl old) = inl (is ∙ ap Err (same ∙ old))
-as_told r k e is same (inr store) = inr (is ∙ ap Err (same ∙ store))
+as_reported r k e is same (inl old) = inl (is ∙ ap Err (same ∙ old))
+as_reported r k e is same (inr store) = inr (is ∙ ap Err (same ∙ store))
 
 -- rows that were read aren't the first edition's
 never_read : {T : Type 0} (r : Result T StoreFault) (x : T) → r ≡ Ok x → (r ≡ Err StoreFault.OldSchema) ⊎ (r ≡ Err StoreFault.Store) → ⊥
@@ -87,9 +87,9 @@ returns-in-Err-clause-finds g c = λ clean.
           let same : c.from.result ≡ KeepFault.OldSchema = cc in
           reads.other (c.in-Err.is ∙ ap Err (from_old c.in-Err.fault (sym c.from.ensures ∙ same))) T at;
       known = λ T at first.
-          as_told heard c.from.result c.in-Err.fault refl c.from.ensures (told c.load.result c.in-Err.fault c.in-Err.is ((reads.schema T at).known first));
+          as_reported heard c.from.result c.in-Err.fault refl c.from.ensures (reported c.load.result c.in-Err.fault c.in-Err.is ((reads.schema T at).known first));
       version = looks_so c.load.result heard c.in-Err.fault c.in-Err.is c.from.ensures second_schema first_schema StoreFault.OldSchema (state g.S.Store c.args.conn.now).now
-          reads.version.told reads.version.known reads.version.neither;
+          reads.version.reported reads.version.known reads.version.neither;
     }
 
 pub returns-in-Err-clause-fault : goal.returns-in-Err-clause-fault

@@ -3,7 +3,7 @@ use Rattle.sqlite.specs.Held.{state}
 use Rattle.sqlite.specs.State.{HasCleanDisk}
 use Rattle.sqlite_trees.proofs.ListLemmas.{all-get_or}
 use Rattle.farm_types.specs.Small.{IsSmall, IsSmallJob}
-use Rattle.farm_store.specs.Columns.{Tables}
+use Rattle.farm_store.specs.Columns.{TableRows}
 use Rattle.farm_store.specs.Editions.{tables_with_jobs}
 use Rattle.farm_store.specs.Edits.{GoesOn}
 use Rattle.farm_store.specs.Holds.{IsInside}
@@ -32,15 +32,15 @@ loop-at-preserved g c =
       | then-at-eq0+then-from-row+in_ok-raise_window w ↦ record {
         goes_on = subst (λ tx. GoesOn g.S.Store c.args.tx.now tx) (sym w.tx-is) (goes_on_then old.goes_on w.raise_window.ensures.goes_on);
         small = subst IsSmall (sym w.from-is) row.number;
-        raised = subst (λ tx. HasCleanDisk (state g.S.Store tx.conn.now) → (T : Tables) → IsInside before (tables_with_jobs Edition.First jobs T) → IsInside (state g.S.Store tx.conn.now) (raised_below c.if-at-eq0.from jobs T)) (sym w.tx-is)
-            (subst (λ from. HasCleanDisk (state g.S.Store w.raise_window.new.tx.conn.now) → (T : Tables) → IsInside before (tables_with_jobs Edition.First jobs T) → IsInside (state g.S.Store w.raise_window.new.tx.conn.now) (raised_below from jobs T)) (sym w.from-is)
+        raised = subst (λ tx. HasCleanDisk (state g.S.Store tx.conn.now) → (T : TableRows) → IsInside before (tables_with_jobs Edition.First jobs T) → IsInside (state g.S.Store tx.conn.now) (raised_below c.if-at-eq0.from jobs T)) (sym w.tx-is)
+            (subst (λ from. HasCleanDisk (state g.S.Store w.raise_window.new.tx.conn.now) → (T : TableRows) → IsInside before (tables_with_jobs Edition.First jobs T) → IsInside (state g.S.Store w.raise_window.new.tx.conn.now) (raised_below from jobs T)) (sym w.from-is)
             (λ clean T at. w.in_ok-raise_window.ensures.raised clean T jobs (old.raised (was_clean w.raise_window.ensures.goes_on clean) T at)));
       }
       | else-at-eq0 w ↦ record {
         goes_on = subst (λ tx. GoesOn g.S.Store c.args.tx.now tx) (sym w.tx-is) old.goes_on;
         small = subst IsSmall (sym w.from-is) old.small;
-        raised = subst (λ tx. HasCleanDisk (state g.S.Store tx.conn.now) → (T : Tables) → IsInside before (tables_with_jobs Edition.First jobs T) → IsInside (state g.S.Store tx.conn.now) (raised_below c.if-at-eq0.from jobs T)) (sym w.tx-is)
-            (subst (λ from. HasCleanDisk (state g.S.Store c.loop-at.tx.conn.now) → (T : Tables) → IsInside before (tables_with_jobs Edition.First jobs T) → IsInside (state g.S.Store c.loop-at.tx.conn.now) (raised_below from jobs T)) (sym w.from-is) old.raised);
+        raised = subst (λ tx. HasCleanDisk (state g.S.Store tx.conn.now) → (T : TableRows) → IsInside before (tables_with_jobs Edition.First jobs T) → IsInside (state g.S.Store tx.conn.now) (raised_below c.if-at-eq0.from jobs T)) (sym w.tx-is)
+            (subst (λ from. HasCleanDisk (state g.S.Store c.loop-at.tx.conn.now) → (T : TableRows) → IsInside before (tables_with_jobs Edition.First jobs T) → IsInside (state g.S.Store c.loop-at.tx.conn.now) (raised_below from jobs T)) (sym w.from-is) old.raised);
       }
     ]
 

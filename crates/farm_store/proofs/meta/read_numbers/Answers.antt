@@ -2,7 +2,7 @@ use Rattle.std.proofs.Common.{◌≢◌, inl, inr, sym, subst, ◌∙◌}
 use Rattle.std.specs.List.{AllByRecursion}
 use Rattle.std.specs.Prelude.{IsTrue}
 use Rattle.std.specs.List.{list_any}
-use Rattle.farm_store.specs.Columns.{tells}
+use Rattle.farm_store.specs.Columns.{is_version_row}
 use Rattle.farm_store.specs.Places.{of_meta}
 use Rattle.farm_store.specs.Stored.{IsWide}
 use Rattle.farm_store.specs.Versions.{ShowsNumbers}
@@ -12,7 +12,7 @@ use Rattle.sqlite.specs.Order.{Row}
 use Rattle.farm_store.specs.Editions.{other_edition, schema_of, version_fault}
 use Rattle.farm_store.specs.declared.edition.Edition.{Edition}
 use Rattle.farm_store.specs.declared.fault.StoreFault.{StoreFault}
-use Rattle.farm_store.proofs.EditionLemmas.{never_handed, never_told, not_bad, not_own, not_store}
+use Rattle.farm_store.proofs.EditionLemmas.{never_handed, never_version_fault, not_bad, not_own, not_store}
 use Rattle.farm_store.proofs.ReadFarm.{IsVersionFault, failed_first, known_first, looks_known, looks_refused, read_on, reads_numbers, refused_first, refuses_version}
 use Rattle.farm_store.proofs.meta.read_numbers.Goals as goal
 
@@ -41,7 +41,7 @@ returns-clause-schema g c clean T at =
     let got = c.in_ok-rows.ensures.rows clean T at in
     let looked = c.in_ok-look_at_schema.ensures in
     let is = c.deref.ensures.value ∙ got.0 in
-    looks_known c.args.edition c.numbers_of.result T (subst (λ rows. ¬ IsTrue (list_any (tells (schema_of (other_edition c.args.edition))) rows)) is looked.0) (subst (λ rows. IsTrue (list_any (tells (schema_of c.args.edition)) rows)) is looked.1)
+    looks_known c.args.edition c.numbers_of.result T (subst (λ rows. ¬ IsTrue (list_any (is_version_row (schema_of (other_edition c.args.edition))) rows)) is looked.0) (subst (λ rows. IsTrue (list_any (is_version_row (schema_of c.args.edition)) rows)) is looked.1)
 
 pub returns-in_err-rows-clause-fault : goal.returns-in_err-rows-clause-fault
 returns-in_err-rows-clause-fault g c = never_handed c.args.edition c.from_residual.result StoreFault.Store c.from_residual.ensures.1 (not_store c.args.edition)
@@ -52,11 +52,11 @@ returns-in_err-look_at_schema-clause-fault g c =
     (by c.args.edition c.in_err-look_at_schema.field-0.0 c.deref.result.now c.in_err-look_at_schema.ensures)
   where
     by : (e : Edition) (fault : StoreFault) (rows : List Row) → IsVersionFault e fault rows → fault ≢ version_fault e
-    by e fault rows (inl told) is = not_own e (sym told.0 ∙ is)
+    by e fault rows (inl reported) is = not_own e (sym reported.0 ∙ is)
     by e fault rows (inr bad) is = not_bad e (sym bad.0 ∙ is)
 
 pub returns-clause-fault : goal.returns-clause-fault
-returns-clause-fault g c = never_told c.args.edition c.numbers_of.result c.numbers_of.ensures.fault
+returns-clause-fault g c = never_version_fault c.args.edition c.numbers_of.result c.numbers_of.ensures.fault
 
 pub returns-in_err-rows-clause-looked : goal.returns-in_err-rows-clause-looked
 returns-in_err-rows-clause-looked g c clean = failed_first c.args.edition c.from_residual.result (state g.S.Store c.args.conn.now).now c.from_residual.ensures.1

@@ -1,7 +1,7 @@
 use Rattle.std.proofs.Common.{IsTrue, Err, ap, ◌∙◌}
 use Rattle.sqlite.specs.Held.{state}
 use Rattle.farm_store.specs.Columns.{numbers_of}
-use Rattle.farm_store.proofs.EditionLemmas.{collector_in, meta_in, never_handed, never_told}
+use Rattle.farm_store.proofs.EditionLemmas.{collector_in, meta_in, never_handed, never_version_fault}
 use Rattle.farm_store.proofs.ReadRows.{on_ok}
 use Rattle.farm_store.proofs.ReadFarm.{first_again, looks, looks_again, read_on, reads_edition, refuses_farm}
 use Rattle.farm_store.proofs.LeftAlone.{early, only_then}
@@ -40,4 +40,4 @@ returns-clause-opened g c clean =
     on_ok c.read_tables.result (IsTrue (state g.S.Store c.args.conn.now).is_open) (c.in_ok-meta.ensures.opened (early c.read_tables.ensures.only clean))
 
 pub returns-clause-fault : goal.returns-clause-fault
-returns-clause-fault g c = never_told c.args.edition c.read_tables.result c.read_tables.ensures.fault
+returns-clause-fault g c = never_version_fault c.args.edition c.read_tables.result c.read_tables.ensures.fault

@@ -7,7 +7,7 @@ use Rattle.farm_core.specs.Answers.{answer_of, IsChange}
 use Rattle.farm_store.specs.Holds.{StandsFor}
 use Rattle.farm_keep.specs.declared.fault.KeepFault.{KeepFault}
 use Rattle.farm_keep.specs.Headline.{EndsClosed}
-use Rattle.farm_keep.specs.Kept.{Kept, Keeps, KeepsFarm, KeepsEither}
+use Rattle.farm_keep.specs.KeeperState.{KeeperState, KeepsOwnFarm, KeepsFarm, KeepsEither}
 use Rattle.farm_keep.specs.Runs.{IsNextChange}
 use Rattle.farm_keep.proofs.RunLemmas.{run_more, answers_more, next_change, step_more}
 use Rattle.farm_keep.proofs.keeper.Keeper.run_into.Goals as goal
@@ -51,12 +51,12 @@ returns-in-Err g c =
     let done : c.len.result ≡ i = search rules in
     let next : IsChange (answer c.loop-call.self.farm.farm call) → IsNextChange F calls c.len.result = λ change.
     subst (IsNextChange F calls) (sym done) (next_change F c.loop-call.self.farm.farm calls i call low here was.farm change) in
-    let keeps_here : Keeps g.S.Store c.args.self.now → KeepsFarm g.S.Store c.loop-call.self (run F (take c.len.result calls)) = λ keeps.
+    let keeps_here : KeepsOwnFarm g.S.Store c.args.self.now → KeepsFarm g.S.Store c.loop-call.self (run F (take c.len.result calls)) = λ keeps.
     subst (λ n. KeepsFarm g.S.Store c.loop-call.self (run F (take n calls))) (sym done) (was.stands keeps) in
     let farm : c.loop-call.self.farm.farm ≡ run F (take c.len.result calls) = was.farm ∙ ap (λ n. run F (take n calls)) (sym done) in
     let stepped : step c.loop-call.self.farm.farm call ≡ run F (take (c.len.result + 1) calls) =
     step_more F c.loop-call.self.farm.farm calls i call low here was.farm ∙ ap (λ n. run F (take (n + 1) calls)) (sym done) in
-    let told = λ (fault : KeepFault) (is : Some c.in-Err.fault ≡ Some fault). let same : c.in-Err.fault ≡ fault = (let e = is in cc) in let t : c.act.result ≡ Err fault = c.in-Err.is ∙ ap Err same in t in
+    let reported = λ (fault : KeepFault) (is : Some c.in-Err.fault ≡ Some fault). let same : c.in-Err.fault ≡ fault = (let e = is in cc) in let t : c.act.result ≡ Err fault = c.in-Err.is ∙ ap Err same in t in
     record {
       counted = search rules;
       within = search rules;
@@ -65,10 +65,10 @@ returns-in-Err g c =
       farm = search rules;
       stands = search rules;
       memory = λ is.
-          let m = c.act.ensures.memory (told KeepFault.NoMemory is) in
+          let m = c.act.ensures.memory (reported KeepFault.NoMemory is) in
           (m.0, inr (next m.2), λ keeps. subst (λ h. StandsFor (state g.S.Store h) (run F (take c.len.result calls))) (sym m.1) (keeps_here keeps));
       store = λ is.
-          let s = c.act.ensures.store (told KeepFault.Store is) in (
+          let s = c.act.ensures.store (reported KeepFault.Store is) in (
             s.0,
             omega (arith, low, done),
             next s.1,
@@ -78,12 +78,12 @@ returns-in-Err g c =
       closed = search rules;
       before = λ shut.
           let rest = was.still shut in
-          let closed : c.loop-call.self.is_open ≡ false = ap (λ (k : Kept _). k.is_open) rest.1 ∙ shut in
+          let closed : c.loop-call.self.is_open ≡ false = ap (λ (k : KeeperState _). k.is_open) rest.1 ∙ shut in
           let same : c.in-Err.fault ≡ KeepFault.Closed = (let e = sym c.in-Err.is ∙ c.act.ensures.closed.1 closed in cc) in
           let kept = c.act.ensures.still (c.act.ensures.closed.1 closed) in (
             done ∙ rest.0,
-            ap (λ (k : Kept _). k.conn) (kept ∙ rest.1),
-            ap (λ (k : Kept _). k.is_open) kept ∙ closed,
+            ap (λ (k : KeeperState _). k.conn) (kept ∙ rest.1),
+            ap (λ (k : KeeperState _). k.is_open) kept ∙ closed,
             subst (λ f. EndsClosed (Some f) calls) (sym same) (omega (arith, low)),
           );
       faults = c.in-Err.ensures.fault;

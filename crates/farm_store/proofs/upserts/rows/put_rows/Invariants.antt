@@ -1,7 +1,7 @@
 use Rattle.std.proofs.Common.{take, map}
 use Rattle.sqlite.specs.State.{HasCleanDisk}
 use Rattle.sqlite.specs.Held.{state}
-use Rattle.farm_store.specs.Columns.{Tables}
+use Rattle.farm_store.specs.Columns.{TableRows}
 use Rattle.farm_store.specs.Places.{put_at}
 use Rattle.farm_store.specs.Edits.{GoesOn}
 use Rattle.farm_store.specs.Holds.{IsInside}
@@ -10,5 +10,5 @@ use Rattle.farm_store.proofs.upserts.rows.put_rows.Given as goal
 abbrev pub invariant-loop-row : goal.invariant-loop-row
 invariant-loop-row g l = record {
   goes_on : GoesOn g.S.Store l.fn.tx l.tx;
-  put : HasCleanDisk (state g.S.Store l.tx.conn.now) → (T : Tables) → IsInside (state g.S.Store l.fn.tx.conn.now) T → IsInside (state g.S.Store l.tx.conn.now) (put_at g.R.Upsert.place T (map g.R.Upsert.columns (take l.row-index l.rows)));
+  put : HasCleanDisk (state g.S.Store l.tx.conn.now) → (T : TableRows) → IsInside (state g.S.Store l.fn.tx.conn.now) T → IsInside (state g.S.Store l.tx.conn.now) (put_at g.R.Upsert.place T (map g.R.Upsert.columns (take l.row-index l.rows)));
 }

@@ -3,7 +3,7 @@ use Rattle.std.specs.List.{filter}
 use Rattle.farm_types.specs.Table.{put_all, kept_cmp}
 use Rattle.farm_core.specs.Replies.{is_packable}
 use Rattle.farm_core.proofs.Replies.{kept_made, kept_split}
-use Rattle.farm_core.proofs.kept.Kept.of.Goals as goal
+use Rattle.farm_core.proofs.kept.KeptReplies.of.Goals as goal
 
 pub invariant_of-result : goal.invariant_of-result
 invariant_of-result c =

@@ -12,7 +12,7 @@ use Rattle.farm_types.specs.declared.rows.JobRow.{JobRow}
 use Rattle.farm_types.specs.declared.rows.ResRow.{ResRow}
 use Rattle.farm_types.specs.declared.rows.State.{State}
 use Rattle.farm_types.proofs.Put.{AllByRecursion-weaker, found_has, found_passes}
-use Rattle.farm_sound.specs.Told.{IsNamedBy, IsSaid, IsSaidOfJob, IsSaidOfRes}
+use Rattle.farm_sound.specs.ByRows.{IsNamedBy, IsShown, IsShownOfJob, IsShownOfRes}
 use Rattle.farm_sound.proofs.Tests.{same_number}
 use Rattle.farm_sound.proofs.Where.{AllByRecursion-both}
 
@@ -72,61 +72,61 @@ module _ (F : Farm) where
   -- ---- jobs and reservations
 
   -- the board of a hold says so, where that of its row does
-  said_of : (board : Option (List ℕ)) (given : Option State) (holder named : Holder) (x : Hold) → IfSome given (λ _. IsSaid F board holder)
+  shown_of : (board : Option (List ℕ)) (given : Option State) (holder named : Holder) (x : Hold) → IfSome given (λ _. IsShown F board holder)
       → IsHold holder board given x → holder ≡ named → IsSomeAnd (board_of F x.board) (λ b. b.holder ≡ named)
-  said_of board given holder named x said is same =
-      let there : IsSaid F board holder = subst (λ o. IfSome o (λ _. IsSaid F board holder)) is.state said in
-      subst (λ h. IsSomeAnd (board_of F x.board) (λ b. b.holder ≡ h)) same (subst (λ o. IsSaid F o holder) is.board there)
+  shown_of board given holder named x shown is same =
+      let there : IsShown F board holder = subst (λ o. IfSome o (λ _. IsShown F board holder)) is.state shown in
+      subst (λ h. IsSomeAnd (board_of F x.board) (λ b. b.holder ≡ h)) same (subst (λ o. IsShown F o holder) is.board there)
 
-  rows_from_said : AllByRecursion (IsSaidOfJob F) F.jobs → AllByRecursion (IsSaidOfRes F) F.reservations
+  rows_from_shown : AllByRecursion (IsShownOfJob F) F.jobs → AllByRecursion (IsShownOfRes F) F.reservations
       → (h : Holder) (x : Hold) → hold_of F h ≡ Some x → IsSomeAnd (board_of F x.board) (λ b. b.holder ≡ h)
-  rows_from_said jobs reservations Holder.Nobody x e = cc
-  rows_from_said jobs reservations (Holder.Job n) x e = by (job_of F n) refl e
+  rows_from_shown jobs reservations Holder.Nobody x e = cc
+  rows_from_shown jobs reservations (Holder.Job n) x e = by (job_of F n) refl e
     where
       by : (o : Option JobRow) → job_of F n ≡ o → option_map_or job_hold o None ≡ Some x → IsSomeAnd (board_of F x.board) (λ b. b.holder ≡ Holder.Job n)
       by None is e = cc
       by (Some j) is e =
-          said_of j.board (job_gives j.state) (Holder.Job j.number) (Holder.Job n) x (found_has (IsSaidOfJob F) (λ r. r.number == n) j F.jobs jobs is)
+          shown_of j.board (job_gives j.state) (Holder.Job j.number) (Holder.Job n) x (found_has (IsShownOfJob F) (λ r. r.number == n) j F.jobs jobs is)
           (is_hold (Holder.Job j.number) j.board (job_gives j.state) x e)
           (ap Holder.Job (same_number j.number n (found_passes (λ r. r.number == n) j F.jobs is)))
-  rows_from_said jobs reservations (Holder.Res n) x e = by (res_of F n) refl e
+  rows_from_shown jobs reservations (Holder.Res n) x e = by (res_of F n) refl e
     where
       by : (o : Option ResRow) → res_of F n ≡ o → option_map_or res_hold o None ≡ Some x → IsSomeAnd (board_of F x.board) (λ b. b.holder ≡ Holder.Res n)
       by None is e = cc
       by (Some r) is e =
-          said_of r.board (res_gives r.state) (Holder.Res r.number) (Holder.Res n) x
-          (found_has (IsSaidOfRes F) (λ q. q.number == n) r F.reservations reservations is)
+          shown_of r.board (res_gives r.state) (Holder.Res r.number) (Holder.Res n) x
+          (found_has (IsShownOfRes F) (λ q. q.number == n) r F.reservations reservations is)
           (is_hold (Holder.Res r.number) r.board (res_gives r.state) x e)
           (ap Holder.Res (same_number r.number n (found_passes (λ q. q.number == n) r F.reservations is)))
 
-  pub held_from_said : AllByRecursion (λ b. IsNamedBy F b b.holder) F.boards → AllByRecursion (IsSaidOfJob F) F.jobs
-      → AllByRecursion (IsSaidOfRes F) F.reservations
+  pub held_from_shown : AllByRecursion (λ b. IsNamedBy F b b.holder) F.boards → AllByRecursion (IsShownOfJob F) F.jobs
+      → AllByRecursion (IsShownOfRes F) F.reservations
       → IsHeldByKeys F
-  held_from_said boards jobs reservations = record {
+  held_from_shown boards jobs reservations = record {
     boards = AllByRecursion-weaker (λ b named. held_from_named b b.holder refl named) F.boards boards;
-    rows = rows_from_said jobs reservations;
+    rows = rows_from_shown jobs reservations;
   }
 
   pub named_from_keys : IsHeldByKeys F → AllByRecursion (λ b. IsNamedBy F b b.holder) F.boards
-  named_from_keys held_board = AllByRecursion-weaker (λ b told. named_from_held b b.holder told) F.boards held_board.boards
+  named_from_keys held_board = AllByRecursion-weaker (λ b held_by. named_from_held b b.holder held_by) F.boards held_board.boards
 
   -- the board of a row that gives a state says so
-  said_by : (h : Holder) (board : Option (List ℕ)) (given : Option State) → IsHeldByKeys F → hold_of F h ≡ hold h board given → (IsSome given → IsSome board)
-      → IfSome given (λ _. IsSaid F board h)
-  said_by h board None held_board is some = tt
-  said_by h None (Some s) held_board is some = absurd (false≢true (some refl))
-  said_by h (Some name) (Some s) held_board is some = held_board.rows h (record { board = name; holder = h; state = s }) is
+  shown_by : (h : Holder) (board : Option (List ℕ)) (given : Option State) → IsHeldByKeys F → hold_of F h ≡ hold h board given → (IsSome given → IsSome board)
+      → IfSome given (λ _. IsShown F board h)
+  shown_by h board None held_board is some = tt
+  shown_by h None (Some s) held_board is some = absurd (false≢true (some refl))
+  shown_by h (Some name) (Some s) held_board is some = held_board.rows h (record { board = name; holder = h; state = s }) is
 
   pub jobs_from_keys : IsHeldByKeys F → AllByRecursion (λ j. job_of F j.number ≡ Some j) F.jobs → AllByRecursion (IsJobRow F) F.jobs
-      → AllByRecursion (IsSaidOfJob F) F.jobs
+      → AllByRecursion (IsShownOfJob F) F.jobs
   jobs_from_keys held_board own rows =
-      AllByRecursion-weaker (λ j two. said_by (Holder.Job j.number) j.board (job_gives j.state) held_board
+      AllByRecursion-weaker (λ j two. shown_by (Holder.Job j.number) j.board (job_gives j.state) held_board
       (ap (λ o. option_map_or job_hold o None) two.0) two.1.holds) F.jobs
       (AllByRecursion-both (λ j. job_of F j.number ≡ Some j) (IsJobRow F) F.jobs own rows)
 
   pub reservations_from_keys : IsHeldByKeys F → AllByRecursion (λ r. res_of F r.number ≡ Some r) F.reservations → AllByRecursion (IsResRow F) F.reservations
-      → AllByRecursion (IsSaidOfRes F) F.reservations
+      → AllByRecursion (IsShownOfRes F) F.reservations
   reservations_from_keys held_board own rows =
-      AllByRecursion-weaker (λ r two. said_by (Holder.Res r.number) r.board (res_gives r.state) held_board
+      AllByRecursion-weaker (λ r two. shown_by (Holder.Res r.number) r.board (res_gives r.state) held_board
       (ap (λ o. option_map_or res_hold o None) two.0) two.1.holds) F.reservations
       (AllByRecursion-both (λ r. res_of F r.number ≡ Some r) (IsResRow F) F.reservations own rows)

@@ -12,7 +12,7 @@ use Rattle.farm_table.proofs.Steps.{leads_put}
 use Rattle.farm_core.specs.Replies.{IsKept, kept_reply, kept_rows}
 use Rattle.farm_core.proofs.Replies.{kept_next, kept_put}
 use Rattle.farm_core.proofs.Replies.Packing.{is_asked}
-use Rattle.farm_core.proofs.kept.Kept.put.Goals as goal
+use Rattle.farm_core.proofs.kept.KeptReplies.put.Goals as goal
 
 mapped : {X Y : Type 0} (f : X → Y) (o : Option X) → is_some (option_map f o) ≡ is_some o
 mapped f None = refl

@@ -2,7 +2,7 @@ use Rattle.std.proofs.Common.{[], map, ap, refl, subst, sym}
 use Rattle.std.specs.List.Sorted.{IsStrictlySortedBy}
 use Rattle.farm_core.specs.Replies.{AreJoined, kept_row}
 use Rattle.farm_core.proofs.Replies.{kept_made}
-use Rattle.farm_core.proofs.kept.Kept.new.Goals as goal
+use Rattle.farm_core.proofs.kept.KeptReplies.new.Goals as goal
 
 pub invariant_of-result : goal.invariant_of-result
 unfolding IsStrictlySortedBy

@@ -6,9 +6,9 @@ use std::io;
 /// How many bytes of a difference are shown.
 const SHOWN: usize = 32;
 
-/// Prints what is told of one transcript.
+/// Prints what is reported of one transcript.
 #[derive(Drop)]
-pub struct Teller<'a> {
+pub struct Reporter<'a> {
     pub rt: &'a HostRuntime,
     pub name: &'a str,
     /// Whether each step is shown.
@@ -45,10 +45,10 @@ fn part(bytes: &[u8], from: usize) -> &str {
     shown(rest.get(..SHOWN).unwrap_or(rest))
 }
 
-impl<'a> Teller<'a> {
-    /// Tells of the same transcript, but shows no step.
-    pub fn quiet(&self) -> Teller<'a> {
-        Teller {
+impl<'a> Reporter<'a> {
+    /// Reports the same transcript, but shows no step.
+    pub fn quiet(&self) -> Reporter<'a> {
+        Reporter {
             rt: self.rt,
             name: self.name,
             shows: false,
@@ -68,7 +68,7 @@ impl<'a> Teller<'a> {
         println!(self.rt; "[{now}] {word} {head}\n{body}\n{output}")
     }
 
-    /// Shows a step, and tells whether it gave what was wanted, and the difference if not.
+    /// Shows a step, and reports whether it gave what was wanted, and the difference if not.
     pub fn judge(&self, step: &Step, output: &[u8]) -> io::Result<bool> {
         self.show(step, output)?;
         if is_wanted(step, output) {
@@ -85,14 +85,14 @@ impl<'a> Teller<'a> {
         Ok(false)
     }
 
-    /// Tells why the stops of a transcript failed.
+    /// Reports why the stops of a transcript failed.
     pub fn fails(&self, text: &str) -> io::Result<bool> {
         let name = self.name;
         println!(self.rt; "{name}: {text}")?;
         Ok(false)
     }
 
-    /// Tells at which stop.
+    /// Reports at which stop.
     pub fn fails_after(&self, calls: u64) -> io::Result<bool> {
         let name = self.name;
         println!(self.rt; "{name}: stopped after {calls} calls")?;

@@ -12,13 +12,13 @@ use Rattle.farm_types.specs.declared.calls.Answer.{Answer}
 use Rattle.farm_store.specs.Columns.{rows_of}
 use Rattle.farm_store.specs.Holds.{StandsFor, LeavesEither}
 
-pub record Kept (S : Type 0) : Type 0 where
+pub record KeeperState (S : Type 0) : Type 0 where
   pub conn : Held S
   pub farm : Shown
   pub is_open : Bool
 
-abbrev pub kept_code : {S : Type 0} → Coded S → Coded (Kept S)
-kept_code {S} store =
+abbrev pub keeper_code : {S : Type 0} → Coded S → Coded (KeeperState S)
+keeper_code {S} store =
     code_by (Held S × (Shown × Bool))
     (coded× (held_code store) (coded× farm.the_row.coded coded_bool))
     (λ k. (k.conn, (k.farm, k.is_open))) (λ p. record { conn = p.0; farm = p.1.0; is_open = p.1.1 })
@@ -31,15 +31,15 @@ pub record KeeperInvariant {S : Type 0} (conn : Held S) (farm : Shown) (is_open 
   pub sound : is_open ≡ true → IsSound farm.farm
 
 -- the keeper's store stands for this farm, where its disk has returned what was written
-abbrev pub KeepsFarm : {S : Type 0} → Ghosts S → Kept S → Farm → Type 0
+abbrev pub KeepsFarm : {S : Type 0} → Ghosts S → KeeperState S → Farm → Type 0
 KeepsFarm g k F = StandsFor (state g k.conn) F
 
 -- and for its own
-abbrev pub Keeps : {S : Type 0} → Ghosts S → Kept S → Type 0
-Keeps g k = KeepsFarm g k k.farm.farm
+abbrev pub KeepsOwnFarm : {S : Type 0} → Ghosts S → KeeperState S → Type 0
+KeepsOwnFarm g k = KeepsFarm g k k.farm.farm
 
 -- a stop now leaves no more than the rows of these two
-abbrev pub KeepsEither : {S : Type 0} → Ghosts S → Kept S → Farm → Farm → Type 0
+abbrev pub KeepsEither : {S : Type 0} → Ghosts S → KeeperState S → Farm → Farm → Type 0
 KeepsEither g k F G = HasCleanDisk (state g k.conn)
     → LeavesEither (state g k.conn) (rows_of F) (rows_of G)
 

@@ -8,13 +8,13 @@ use Rattle.std.specs.Str.{bytes_eq}
 use Rattle.std.specs.String.{string_bytes}
 use Rattle.farm_types.specs.Words.{text_cmp}
 use Rattle.farm_core.specs.Replies.{asked_row, kept_reply}
-use Rattle.farm_core.proofs.Replies.{told_above, told_below}
+use Rattle.farm_core.proofs.Replies.{finds_above, finds_below}
 use Rattle.farm_core.proofs.Replies.Joined.{rows_find}
-use Rattle.farm_core.proofs.kept.Kept.find.Goals as goal
+use Rattle.farm_core.proofs.kept.KeptReplies.find.Goals as goal
 
 pub returns-in-Some : goal.returns-in-Some
 returns-in-Some c =
-    told_above c.self.inside.packed c.self.inside.others.entries (asked_row c.args.caller.now c.args.key.now) c.in-Some.reply.now c.self.invariant.others
+    finds_above c.self.inside.packed c.self.inside.others.entries (asked_row c.args.caller.now c.args.key.now) c.in-Some.reply.now c.self.invariant.others
     (c.in-Some.ensures.value
     ∙ ap (λ q. lookup (λ l. is_eq (text_cmp q (string_bytes l))) c.self.inside.others.entries) (c.as_str.ensures.value ∙ c.joined.ensures.joined)
     ∙ rows_find c.args.caller.now c.args.key.now c.joined.ensures.name c.self.inside.others.entries c.self.invariant.joined)
@@ -23,7 +23,7 @@ returns-in-Some c =
 pub returns-in-None : goal.returns-in-None
 returns-in-None c =
     c.find.ensures
-    ∙ told_below c.self.inside.packed c.self.inside.others.entries (asked_row c.args.caller.now c.args.key.now) c.self.invariant.others
+    ∙ finds_below c.self.inside.packed c.self.inside.others.entries (asked_row c.args.caller.now c.args.key.now) c.self.invariant.others
     (sym (ap option_copied c.in-None.is) ∙ c.get.ensures.value
     ∙ ap (λ q. lookup (λ l. is_eq (text_cmp q (string_bytes l))) c.self.inside.others.entries) (c.as_str.ensures.value ∙ c.joined.ensures.joined)
     ∙ rows_find c.args.caller.now c.args.key.now c.joined.ensures.name c.self.inside.others.entries c.self.invariant.joined)

@@ -54,17 +54,17 @@ IsNamedBy F b (Holder.Job n) = IsSomeAnd (job_of F n) (λ j. (j.board ≡ Some b
 IsNamedBy F b (Holder.Res n) = IsSomeAnd (res_of F n) (λ r. (r.board ≡ Some b.name)
     × (res_gives r.state ≡ Some b.state))
 
--- the board says that the holder has it
-abbrev pub IsSaid : Farm → Option (List ℕ) → Holder → Type 0
-IsSaid F board holder =
+-- the board shows that the holder has it
+abbrev pub IsShown : Farm → Option (List ℕ) → Holder → Type 0
+IsShown F board holder =
     IsSomeAnd board (λ name. IsSomeAnd (board_of F name) (λ b. b.holder ≡ holder))
 
--- the board that a job or a reservation holds says so
-abbrev pub IsSaidOfJob : Farm → JobRow → Type 0
-IsSaidOfJob F j = IfSome (job_gives j.state) (λ _. IsSaid F j.board (Holder.Job j.number))
+-- the board that a job or a reservation holds shows so
+abbrev pub IsShownOfJob : Farm → JobRow → Type 0
+IsShownOfJob F j = IfSome (job_gives j.state) (λ _. IsShown F j.board (Holder.Job j.number))
 
-abbrev pub IsSaidOfRes : Farm → ResRow → Type 0
-IsSaidOfRes F r = IfSome (res_gives r.state) (λ _. IsSaid F r.board (Holder.Res r.number))
+abbrev pub IsShownOfRes : Farm → ResRow → Type 0
+IsShownOfRes F r = IfSome (res_gives r.state) (λ _. IsShown F r.board (Holder.Res r.number))
 
 -- a member but the first is in the phase of the one before it
 abbrev pub IsInStep : Farm → JobRow → Type 0
@@ -97,26 +97,26 @@ pub record IsFew (F : Farm) : Type 0 where
   pub next : (1 ≤ F.next) × (F.next ≤ numbers_end)
 
 -- what a row says, and what the others say of it
-pub record IsBoardTold (F : Farm) (b : BoardRow) : Type 0 where
+pub record IsSoundBoard (F : Farm) (b : BoardRow) : Type 0 where
   pub row : IsBoardRow F b
   pub few : IsOfFew F b
   pub held : IsNamedBy F b b.holder
 
-pub record IsJobTold (F : Farm) (j : JobRow) : Type 0 where
+pub record IsSoundJob (F : Farm) (j : JobRow) : Type 0 where
   pub row : IsJobRow F j
   pub step : IsInStep F j
-  pub said : IsSaidOfJob F j
+  pub shown : IsShownOfJob F j
 
-pub record IsResTold (F : Farm) (r : ResRow) : Type 0 where
+pub record IsSoundRes (F : Farm) (r : ResRow) : Type 0 where
   pub row : IsResRow F r
-  pub said : IsSaidOfRes F r
+  pub shown : IsShownOfRes F r
 
 pub record IsSoundByRows (F : Farm) : Type 0 where
   pub ordered : IsOrdered F
   pub few : IsFew F
   pub types : AllByRecursion IsTypeRow F.types
-  pub boards : AllByRecursion (IsBoardTold F) F.boards
-  pub jobs : AllByRecursion (IsJobTold F) F.jobs
-  pub reservations : AllByRecursion (IsResTold F) F.reservations
+  pub boards : AllByRecursion (IsSoundBoard F) F.boards
+  pub jobs : AllByRecursion (IsSoundJob F) F.jobs
+  pub reservations : AllByRecursion (IsSoundRes F) F.reservations
   pub kept : AllByRecursion IsKeptRow F.kept
   pub collecting : IsCollecting F.collector F.jobs
