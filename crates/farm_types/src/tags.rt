@@ -19,7 +19,9 @@ use crate::table::{Keyed, is_sorted, upsert};
 use crate::words::{is_word, owned_text};
 use std::alloc::{AllocError, Global};
 use std::cmp::Ordering;
+use std::fmt;
 use std::marker::Model;
+use std::rc::Rc;
 
 /// The place of the first '=', if there is one.
 fn key_end(text: &[u8]) -> Option<usize>
@@ -187,21 +189,52 @@ fn rise(tags: &[Tag]) -> bool
     is_sorted(tags)
 }
 
-/// Up to sixteen tags in byte order, without doubles.
-#[derive(Debug, Drop)]
+/// Whether two tags are one.
+fn same_tag(first: &Tag, second: &Tag) -> bool
+    ensures { IsTrue result ↔ (first.now ≡ second.now) }
+{
+    first.as_str() == second.as_str()
+}
+
+/// Whether two lists have the same tags.
+fn same_tags(first: &[Tag], second: &[Tag]) -> bool
+    ensures { IsTrue result ↔ (first.now ≡ second.now) }
+{
+    match (first, second) {
+        ([], []) => true,
+        ([tag, first @ ..], [other, second @ ..]) => {
+            same_tag(tag, other) && same_tags(first, second)
+        }
+        _ => false,
+    }
+}
+
+/// Up to sixteen tags in byte order, without doubles. Their memory is shared by all copies.
+#[derive(Drop)]
 pub struct Tags {
-    items: Vec<Tag>,
+    alloc: Global,
+    shared: Option<Rc<Vec<Tag>>>,
 }
 
 impl Model for Tags {
-    ghost use Rattle.std.specs.Prelude.{List, ℕ};
+    ghost use Rattle.std.specs.Prelude.{List, ℕ, []};
+    ghost use Rattle.std.specs.Option.{option_map_or};
     ghost use Rattle.farm_types.specs.Words.{IsTags};
 
     ghost Value = { List (List ℕ) };
 
-    ghost view = { λ t. t.items.items };
+    ghost view = { λ t. option_map_or (λ tags. tags.value.items) t.shared [] };
 
-    ghost invariant = { λ t. IsTags t.items.items };
+    ghost invariant = { λ t. IsTags (option_map_or (λ tags. tags.value.items) t.shared []) };
+}
+
+// As a list alone, however it lies in memory.
+impl fmt::Debug for Tags {
+    fn fmt<W: fmt::Write>(&self, f: &mut fmt::Formatter<W>) -> fmt::Result {
+        f.debug_struct("Tags")
+            .field("items", &self.items())
+            .finish()
+    }
 }
 
 impl Tags {
@@ -210,7 +243,10 @@ impl Tags {
         ensures items { result.now ≡ self.now }
         ensures tags { IsTags self.now }
     {
-        self.items.as_slice()
+        match &self.shared {
+            None => &[],
+            Some(tags) => tags.as_slice(),
+        }
     }
 
     /// No tags.
@@ -219,15 +255,37 @@ impl Tags {
         ensures { result ≡ [] }
     {
         Tags {
-            items: Vec::new(alloc),
+            alloc,
+            shared: None,
         }
+    }
+
+    /// The tags of a list that has them in order.
+    fn sharing(alloc: Global, items: Vec<Tag>) -> Result<Tags, AllocError>
+        requires { IsTags items.items }
+        ensures { IfOk result (λ tags. tags ≡ items.items) }
+    {
+        if items.is_empty() {
+            return Ok(Tags::none(alloc));
+        }
+        Ok(Tags {
+            alloc,
+            shared: Some(Rc::new(alloc, items)?),
+        })
     }
 
     /// Whether there are none.
     pub fn is_empty(&self) -> bool
         ensures { IsTrue result ↔ (self.now ≡ []) }
     {
-        self.items.is_empty()
+        self.items().is_empty()
+    }
+
+    /// Whether two have the same tags.
+    pub fn is(&self, other: &Tags) -> bool
+        ensures { IsTrue result ↔ (self.now ≡ other.now) }
+    {
+        same_tags(self.items(), other.items())
     }
 
     fn name_a_board(&self) -> bool
@@ -258,7 +316,7 @@ impl Tags {
             let _tag = tag.as_str();
             upsert(&mut items, tag.copy()?)?;
         }
-        Ok(Tags { items })
+        Ok(Tags::sharing(alloc, items)?)
     }
 
     /// The tags that texts spell, in any order and with doubles: refused as a bad count where there
@@ -291,14 +349,14 @@ impl Tags {
         if !rise(items.as_slice()) {
             return Err(WordFault::Refused(Refusal { code: BAD_TAG }));
         }
-        Ok(Tags { items })
+        Ok(Tags::sharing(alloc, items)?)
     }
 
     /// The canonical text: the tags in order, joined by commas.
     pub fn text(&self) -> Result<String, AllocError>
         ensures { IfOk result (λ text. string_bytes text ≡ tags_text self.now) }
     {
-        let mut text = String::new(*self.items.allocator());
+        let mut text = String::new(self.alloc);
         for (at, tag) in self.items().iter().enumerate() {
             separate(&mut text, at)?;
             text.push_str(tag.as_str())?;
@@ -306,14 +364,16 @@ impl Tags {
         Ok(text)
     }
 
-    /// Equal tags.
+    /// Equal tags, in the same memory.
     pub fn copy(&self) -> Result<Tags, AllocError>
         ensures same { IfOk result (λ tags. tags ≡ self.now) }
     {
-        let mut items = Vec::with_capacity(*self.items.allocator(), self.items.len())?;
-        for tag in self.items.as_slice() {
-            items.push(tag.copy()?)?;
+        match &self.shared {
+            None => Ok(Tags::none(self.alloc)),
+            Some(tags) => Ok(Tags {
+                alloc: self.alloc,
+                shared: Some(tags.clone()?),
+            }),
         }
-        Ok(Tags { items })
     }
 }

@@ -13,5 +13,5 @@ loop-tag-preserved c =
     c.loop-tag.invariant.put c.loop-tag.invariant.sorted c.loop-tag.invariant.each c.loop-tag.invariant.few c.in_ok-upsert.ensures.rows in
     record { put = more.0; sorted = c.in_ok-upsert.ensures.sorted; each = more.1; few = more.2 }
 
-pub invariant_of-result : goal.invariant_of-result
-invariant_of-result c = tags_from c.loop-tag.items.items (omega arith) c.loop-tag.invariant.each c.loop-tag.invariant.sorted
+pub sharing-requires : goal.sharing-requires
+sharing-requires c = tags_from c.loop-tag.items.items (omega arith) c.loop-tag.invariant.each c.loop-tag.invariant.sorted
