@@ -14,6 +14,7 @@ use crate::edition::Edition;
 use crate::fault::StoreFault;
 use crate::queries::cells::{health_at, name_at, number_at, state_at, tags_at};
 use crate::queries::rows::Stored;
+use crate::queries::seen_tags::SeenTags;
 use crate::tables::{are_columns, is_keyed};
 use crate::upserts::rows::Upsert;
 use crate::upserts::tagged::Tagged;
@@ -163,11 +164,16 @@ impl Stored for BoardRow {
         READ
     }
 
-    fn of(alloc: Global, row: &Row, _: Edition) -> Result<BoardRow, StoreFault> {
+    fn of(
+        alloc: Global,
+        row: &Row,
+        _: Edition,
+        seen: &mut SeenTags,
+    ) -> Result<BoardRow, StoreFault> {
         Ok(BoardRow {
             name: name_at(alloc, row, 0)?,
             kind: name_at(alloc, row, 1)?,
-            tags: tags_at(alloc, row, 2)?,
+            tags: tags_at(alloc, row, 2, seen)?,
             health: health_at(row, 3)?,
             state: state_at(row, 4)?,
             holder: holder_at(row, 5, 6)?,

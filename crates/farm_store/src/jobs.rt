@@ -24,6 +24,7 @@ use crate::queries::cells::{
     priority_at, tags_at,
 };
 use crate::queries::rows::Stored;
+use crate::queries::seen_tags::SeenTags;
 use crate::tables::{are_columns, is_numbered};
 use crate::upserts::rows::Upsert;
 use crate::upserts::tagged::Tagged;
@@ -202,7 +203,12 @@ impl Stored for JobRow {
         READ
     }
 
-    fn of(alloc: Global, row: &Row, edition: Edition) -> Result<JobRow, StoreFault> {
+    fn of(
+        alloc: Global,
+        row: &Row,
+        edition: Edition,
+        seen: &mut SeenTags,
+    ) -> Result<JobRow, StoreFault> {
         Ok(JobRow {
             number: number_at(row, 0)?,
             group: number_at(row, 1)?,
@@ -211,7 +217,7 @@ impl Stored for JobRow {
             priority: priority_at(row, 4)?,
             want: Want {
                 kind: name_if_any_at(alloc, row, 5)?,
-                tags: tags_at(alloc, row, 6)?,
+                tags: tags_at(alloc, row, 6, seen)?,
             },
             role: name_if_any_at(alloc, row, 7)?,
             state: job_state_at(row, 8, edition)?,

@@ -9,6 +9,7 @@ use crate::edition::Edition;
 use crate::fault::StoreFault;
 use crate::queries::cells::{key_at, name_at, number_at};
 use crate::queries::rows::Stored;
+use crate::queries::seen_tags::SeenTags;
 use crate::tables::{are_columns, is_keyed};
 use crate::upserts::rows::Upsert;
 use crate::values::{name, number, text};
@@ -97,7 +98,7 @@ impl Stored for KeptRow {
         READ
     }
 
-    fn of(alloc: Global, row: &Row, _: Edition) -> Result<KeptRow, StoreFault> {
+    fn of(alloc: Global, row: &Row, _: Edition, _: &mut SeenTags) -> Result<KeptRow, StoreFault> {
         Ok(KeptRow {
             caller: name_at(alloc, row, 0)?,
             key: key_at(alloc, row, 1)?,

@@ -1,6 +1,7 @@
 //! The rows of the tables, read.
 pub(crate) mod cells;
 pub(crate) mod rows;
+pub(crate) mod seen_tags;
 
 ghost use Rattle.std.specs.Prelude.{◌≡◌, ◌≢◌, false, Err, IfErr, IfOk, IsTrue, OnOk};
 ghost use Rattle.sqlite.specs.Held.{state};

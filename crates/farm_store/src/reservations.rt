@@ -12,6 +12,7 @@ use crate::queries::cells::{
     name_at, name_if_any_at, number_at, priority_at, res_state_at, tags_at,
 };
 use crate::queries::rows::Stored;
+use crate::queries::seen_tags::SeenTags;
 use crate::tables::{are_columns, is_numbered};
 use crate::upserts::rows::Upsert;
 use crate::upserts::tagged::Tagged;
@@ -107,14 +108,14 @@ impl Stored for ResRow {
         READ
     }
 
-    fn of(alloc: Global, row: &Row, _: Edition) -> Result<ResRow, StoreFault> {
+    fn of(alloc: Global, row: &Row, _: Edition, seen: &mut SeenTags) -> Result<ResRow, StoreFault> {
         Ok(ResRow {
             number: number_at(row, 0)?,
             owner: name_at(alloc, row, 1)?,
             priority: priority_at(row, 2)?,
             want: Want {
                 kind: None,
-                tags: tags_at(alloc, row, 3)?,
+                tags: tags_at(alloc, row, 3, seen)?,
             },
             state: res_state_at(row, 4)?,
             deadline: number_at(row, 5)?,

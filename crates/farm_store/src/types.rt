@@ -10,6 +10,7 @@ use crate::edition::Edition;
 use crate::fault::StoreFault;
 use crate::queries::cells::{name_at, number_at};
 use crate::queries::rows::Stored;
+use crate::queries::seen_tags::SeenTags;
 use crate::tables::{are_columns, is_keyed};
 use crate::upserts::rows::Upsert;
 use crate::values::{name, number};
@@ -114,7 +115,7 @@ impl Stored for TypeRow {
         READ
     }
 
-    fn of(alloc: Global, row: &Row, _: Edition) -> Result<TypeRow, StoreFault> {
+    fn of(alloc: Global, row: &Row, _: Edition, _: &mut SeenTags) -> Result<TypeRow, StoreFault> {
         let name = name_at(alloc, row, 0)?;
         let unit = number_at(row, 1)?;
         let every = number_at(row, 2)?;

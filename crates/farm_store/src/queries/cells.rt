@@ -15,6 +15,7 @@ ghost use Rattle.farm_store.specs.Reading.{ReadsAs};
 
 use crate::edition::Edition;
 use crate::fault::StoreFault;
+use crate::queries::seen_tags::SeenTags;
 use farm_types::{
     Body, Health, JobState, Key, Name, Outcome, Priority, ResState, State, Tags, WordFault,
 };
@@ -105,11 +106,16 @@ pub(crate) fn key_at(alloc: Global, row: &Row, at: usize) -> Result<Key, StoreFa
     }
 }
 
-pub(crate) fn tags_at(alloc: Global, row: &Row, at: usize) -> Result<Tags, StoreFault>
+pub(crate) fn tags_at(
+    alloc: Global,
+    row: &Row,
+    at: usize,
+    seen: &mut SeenTags,
+) -> Result<Tags, StoreFault>
     ensures { ReadsAs result IsTags (λ tags. Text (tags_text tags)) (column row.now at) }
 {
     match Tags::parse(alloc, text_at(row, at)?) {
-        Ok(tags) => Ok(tags),
+        Ok(tags) => Ok(seen.share(tags)?),
         Err(WordFault::NoMemory) => Err(StoreFault::NoMemory),
         Err(WordFault::Refused(_)) => Err(StoreFault::BadStore),
     }

@@ -9,6 +9,7 @@ ghost use Rattle.farm_store.specs.Reading.{ReadsAll, ReadsRow, IsNoVersionFault}
 
 use crate::edition::Edition;
 use crate::fault::StoreFault;
+use crate::queries::seen_tags::SeenTags;
 use sqlite::{Alter, Connection, Row};
 use std::alloc::Global;
 
@@ -29,8 +30,13 @@ pub(crate) trait Stored: Drop + Sized {
     fn query() -> &'static str
         ensures { AsksFor place result.now };
 
-    /// What a row of the table stands for in an edition.
-    fn of(alloc: Global, row: &Row, edition: Edition) -> Result<Self, StoreFault>
+    /// What a row of the table stands for in an edition. It shares the tags that were seen.
+    fn of(
+        alloc: Global,
+        row: &Row,
+        edition: Edition,
+        seen: &mut SeenTags,
+    ) -> Result<Self, StoreFault>
         ensures { ReadsRow result (IsGood edition) (columns edition) row.now };
 
     /// It has as many columns as the table.
@@ -55,12 +61,13 @@ pub(crate) fn read<R: Stored, S: Alter>(
 {
     let mut all = Vec::new(alloc);
     let _room = all.reserve_exact(expected);
+    let mut seen = SeenTags::new(alloc);
     let mut rows = conn.query(R::query(), &[])?;
     'rows: for _ in 0..u64::MAX {
         let Some(row) = rows.next()? else {
             return Ok(all);
         };
-        all.push(R::of(alloc, row, edition)?)?;
+        all.push(R::of(alloc, row, edition, &mut seen)?)?;
     }
     // (no memory holds so many rows)
     Err(StoreFault::NoMemory)
