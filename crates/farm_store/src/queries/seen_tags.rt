@@ -21,8 +21,8 @@ impl SeenTags {
         }
     }
 
-    /// Equal tags, in the memory of those that came before, where they are remembered. It compares
-    /// them with each list, and takes no memory.
+    /// Equal tags, in the memory of those that came before, where they are remembered. They are
+    /// compared with at most `MOST` lists.
     pub(crate) fn share(&mut self, tags: Tags) -> Result<Tags, AllocError>
         ensures { IfOk result (λ shared. shared ≡ tags) }
     {
