@@ -59,14 +59,34 @@ impl Model for KeptReplies {
     ghost invariant = { λ k. IsKept k.packed k.others.entries k.len k.log.items };
 }
 
-// The log is no part of the farm.
+// The rows in order of their keys, as one map; the log is no part of the farm.
 impl fmt::Debug for KeptReplies {
     fn fmt<W: fmt::Write>(&self, f: &mut fmt::Formatter<W>) -> fmt::Result {
-        f.debug_struct("KeptReplies")
-            .field("packed", &self.packed)
-            .field("others", &self.others)
-            .finish()
+        let mut shown = f.debug_map();
+        let mut packed = self.packed.entries.as_slice();
+        for (text, reply) in &self.others {
+            let words = words_in(text.as_str());
+            while let [entry, rest @ ..] = packed
+                && self.packed.words(entry) <= words
+            {
+                if self.packed.words(entry) != words {
+                    shown.entry(&self.packed.words(entry), &entry.reply());
+                }
+                packed = rest;
+            }
+            shown.entry(&words, reply);
+        }
+        while let [entry, rest @ ..] = packed {
+            shown.entry(&self.packed.words(entry), &entry.reply());
+            packed = rest;
+        }
+        shown.finish()
     }
+}
+
+/// The caller's and the key's words in a text under which the map has a reply.
+fn words_in(text: &str) -> (&str, &str) {
+    text.split_once(' ').unwrap_or((text, ""))
 }
 
 /// The text under which the map has a caller's key. It lies in the value itself, so that a look-up

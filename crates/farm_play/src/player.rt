@@ -121,12 +121,6 @@ where
         Some(files)
     }
 
-    /// The farm in words, as it is found where its store ended in order and is opened again.
-    pub fn found_in_words(&mut self) -> Result<String, AllocError> {
-        let _files = self.copy();
-        self.in_words()
-    }
-
     /// The store ends in order, and one of its files will stop after so many calls.
     fn fuse(&mut self, failing: Failing, calls: u64) -> Option<&'static str> {
         let files = self.take_files()?;

@@ -15,7 +15,7 @@ const MANY: u64 = 10_000;
 /// With what an answer ends that says that a call of the store failed.
 const STORE_FAULT: &str = "{\"code\":60,\"text\":\"store fault\"}";
 
-/// Steps, and the farm in words before the first and after each, as it is found in its store.
+/// Steps, and the farm in words before the first and after each, as it is in memory.
 #[derive(Drop)]
 struct Run<'a> {
     alloc: Global,
@@ -152,8 +152,8 @@ impl<'a> Run<'a> {
     }
 }
 
-/// The farms in words before the first step and after each, as they are found in their stores, in a
-/// run that isn't stopped; None where a step gives what isn't wanted.
+/// The farms in words before the first step and after each, as they are in memory, in a run that
+/// isn't stopped; None where a step gives what isn't wanted.
 fn farms_of<S: Alter + Drop>(
     alloc: Global,
     reporter: &Reporter<'_>,
@@ -164,12 +164,12 @@ where
     Connection<S>: InFiles<S>,
 {
     let mut farms = Vec::new(alloc);
-    farms.push(player.found_in_words()?)?;
+    farms.push(player.in_words()?)?;
     for step in steps {
         if !player.plays(reporter, step)? {
             return Ok(None);
         }
-        farms.push(player.found_in_words()?)?;
+        farms.push(player.in_words()?)?;
     }
     Ok(Some(farms))
 }

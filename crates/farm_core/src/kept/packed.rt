@@ -16,7 +16,7 @@ use std::cmp::Ordering;
 
 /// One packed reply: where its caller's text and then its key's begin among all texts, how long the
 /// two are, the command's kind, and the reply's three numbers.
-#[derive(Clone, Copy, Debug)]
+#[derive(Clone, Copy)]
 pub struct Entry {
     pub start: u32,
     pub first: u32,
@@ -32,7 +32,7 @@ pub struct Entry {
 ///
 /// An entry takes 20 bytes beside its texts, so a reply with a caller of 10 bytes and a key of 20
 /// takes 50, and no allocation of its own.
-#[derive(Debug, Drop)]
+#[derive(Drop)]
 pub struct Packed {
     pub texts: Vec<u8>,
     pub entries: Vec<Entry>,
@@ -47,6 +47,11 @@ fn piece(text: &[u8], from: usize, len: usize) -> &[u8]
     }
     let rest = &text[from..];
     if rest.len() < len { rest } else { &rest[..len] }
+}
+
+/// The word of up to `len` bytes from a place on; where the bytes there are none, the empty text.
+fn word(text: &[u8], from: usize, len: usize) -> &str {
+    str::from_utf8(piece(text, from, len)).unwrap_or("")
 }
 
 impl Entry {
@@ -66,7 +71,7 @@ impl Entry {
     }
 
     /// What is kept in it.
-    fn reply(&self) -> KeptReply
+    pub fn reply(&self) -> KeptReply
         ensures { result ≡ kept_reply (entry_row [] self.now) }
     {
         KeptReply {
@@ -166,6 +171,16 @@ impl Packed {
             }
         }
         Ok(Packed { texts, entries })
+    }
+
+    /// The caller's and the key's words in an entry.
+    pub fn words(&self, entry: &Entry) -> (&str, &str) {
+        let start = entry.start as usize;
+        let long = entry.caller as usize;
+        (
+            word(&self.texts, start, long),
+            word(&self.texts, start + long, entry.key as usize),
+        )
     }
 
     /// What is kept here for a caller and a key. With K replies it costs O(log K).
