@@ -1,6 +1,7 @@
 -- The due boards are checked in their places.
-use Rattle.std.proofs.Common.{◌≡◌, ℕ, zero, suc, ◌+◌, ◌<◌, ◌≤◌, List, [], ◌∷◌, length, drop, get_or, Bool, true, false, cond, refl, sym, ap, ◌∙◌, arith, add-one}
-use Rattle.std.specs.List.{AllByRecursion, filter, fold}
+use Rattle.std.proofs.Common.{◌≡◌, ℕ, zero, suc, ◌+◌, ◌<◌, ◌≤◌, List, [], ◌∷◌, length, drop, get_or, Bool, true, false, cond, ◌&&◌, ◌||◌, Some, refl, sym, ap, ◌∙◌, arith, add-one}
+use Rattle.std.specs.List.{AllByRecursion, filter, find, fold, list_any}
+use Rattle.std.specs.Option.{option_map_or}
 use Rattle.std.specs.List.Sorted.{IsStrictlySortedBy}
 use Rattle.std.specs.Str.{bytes_eq}
 use Rattle.std.specs.Cmp.Lexicographic.{nat_list_eq_equiv}
@@ -9,7 +10,10 @@ use Rattle.std.specs.declared.cmp.Ordering.TheVariants.{Less}
 use Rattle.std.proofs.lemmas.Map.Text.{is_eq-slice_cmp}
 use Rattle.farm_types.specs.Farm.{Farm}
 use Rattle.farm_types.specs.Table.{board_cmp, change_where, job_cmp, put}
-use Rattle.farm_types.specs.Pass.{check_job, check_one, has_room, held_board, is_due}
+use Rattle.farm_types.specs.Pass.{check_job, check_one, checks, has_room, held_board, is_due, is_due_by}
+use Rattle.farm_types.specs.Pick.{check_of, is_nobody, is_checked as checks_any}
+use Rattle.farm_types.specs.declared.rows.Check.{Check}
+use Rattle.farm_types.specs.declared.rows.TypeRow.{TypeRow}
 use Rattle.farm_types.specs.declared.rows.BoardRow.{BoardRow}
 use Rattle.farm_types.specs.declared.rows.Holder.{Holder}
 use Rattle.farm_types.specs.declared.rows.State.{State}
@@ -112,3 +116,40 @@ checks_end t at F high = ap (λ rows. fold check_one F (filter (is_due F t) rows
     none_left [] (suc at) high = refl
     none_left (r ∷ rows) zero high = absurd (omega arith)
     none_left (r ∷ rows) (suc at) high = none_left rows at (omega arith)
+
+-- ---- where boards of no type are checked
+
+neither : (a b : Bool) → (a || b) ≡ false → (a ≡ false) × (b ≡ false)
+neither true b is = cc
+neither false b is = (refl, is)
+
+unchecked : (check : Check) → checks_any check ≡ false → check ≡ Check.Never
+unchecked Check.Never is = refl
+unchecked (Check.Hours n) is = cc
+unchecked (Check.Jobs n) is = cc
+
+never : (types : List TypeRow) → list_any (λ t. checks_any t.check) types ≡ false → (kind : List ℕ) → check_of types kind ≡ Check.Never
+never [] none kind = refl
+never (r ∷ types) none kind =
+    let both = neither (checks_any r.check) (list_any (λ (t : TypeRow). checks_any t.check) types) none in
+    by (bytes_eq r.name kind) both.0 (never types both.1 kind)
+  where
+    by : (v : Bool) → checks_any r.check ≡ false → check_of types kind ≡ Check.Never
+        → option_map_or (λ (t : TypeRow). t.check) (cond v (Some r) (find (λ (t : TypeRow). bytes_eq t.name kind) types)) Check.Never ≡ Check.Never
+    by true own rest = unchecked r.check own
+    by false own rest = rest
+
+-- none is due
+pub checks_none : (F : Farm) (t : ℕ) → list_any (λ t. checks_any t.check) F.types ≡ false → checks F t ≡ F
+checks_none F t none = ap (fold check_one F) (all F.boards)
+  where
+    both_false : (v : Bool) → (v && false) ≡ false
+    both_false true = refl
+    both_false false = refl
+
+    due : (b : BoardRow) → is_due F t b ≡ false
+    due b = ap (λ check. is_nobody b.holder && is_due_by check t b) (never F.types none b.kind) ∙ both_false (is_nobody b.holder)
+
+    all : (rows : List BoardRow) → filter (is_due F t) rows ≡ []
+    all [] = refl
+    all (b ∷ rows) = rw (due b) (all rows)

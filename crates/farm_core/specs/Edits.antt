@@ -3,6 +3,7 @@ use Rattle.std.specs.Prelude.{ℕ, ◌==◌, ◌&&◌, Bool, List, [], Option, N
 use Rattle.std.specs.Prelude.{if◌then◌else◌, option_copied, unwrap_or}
 use Rattle.std.specs.Option.{option_or}
 use Rattle.farm_types.specs.Codes.{same_job_state}
+use Rattle.farm_types.specs.Limits.{most_wants}
 use Rattle.farm_types.specs.Pass.{freed_board, held_board, is_dead}
 use Rattle.farm_types.specs.Change.{in_state, is_unstarted, after_check, after_job}
 use Rattle.farm_types.specs.Small.{IsSmall, held_by}
@@ -29,13 +30,20 @@ job_passes (JobFilter.Scheduling group) j = (j.group == group)
     && same_job_state j.state JobState.Scheduling
 job_passes (JobFilter.Numbered number) j = j.number == number
 
--- the least number of a job that passes; the others are among the next three
+-- the least number of a job that passes, and how far the numbers of all reach
 abbrev pub first_of : JobFilter → ℕ
 first_of (JobFilter.Members group) = group
 first_of (JobFilter.Unstarted group) = group
 first_of (JobFilter.Running group) = group
 first_of (JobFilter.Scheduling group) = group
 first_of (JobFilter.Numbered number) = number
+
+abbrev pub reach_of : JobFilter → ℕ
+reach_of (JobFilter.Members group) = most_wants
+reach_of (JobFilter.Unstarted group) = most_wants
+reach_of (JobFilter.Running group) = most_wants
+reach_of (JobFilter.Scheduling group) = most_wants
+reach_of (JobFilter.Numbered number) = 1
 
 -- the board that a job's row names
 abbrev pub placed_on : Placement → Option (List ℕ) → Option (List ℕ)

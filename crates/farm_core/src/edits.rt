@@ -17,7 +17,8 @@ use std::alloc::AllocError;
 
 impl Tables {
     /// Changes the jobs that pass and the boards that they hold. Each board is looked at, in name
-    /// order: with B boards and J jobs it costs O(B log J).
+    /// order, and a job that holds one is looked up where its number may pass: with B boards and J
+    /// jobs it costs O(B + log J).
     pub fn edit_jobs_and_boards(
         &mut self,
         edit: JobEdit<'_>,
@@ -40,7 +41,7 @@ impl Tables {
     }
 
     /// Changes one reservation, and the board that it holds. Each board is looked at, in name
-    /// order: with B boards and R reservations it costs O(B log R).
+    /// order: with B boards and R reservations it costs O(B + log R).
     pub fn edit_reservation_and_board(
         &mut self,
         edit: ResEdit<'_>,

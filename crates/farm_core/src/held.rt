@@ -1,51 +1,41 @@
 //! The boards that jobs and reservations hold.
 use crate::board_effect::BoardEffect;
+use crate::command::job_edit::JobFilter;
+use crate::command::res_edit::ResFilter;
 use crate::job_table::JobTable;
 use crate::res_table::ResTable;
 use farm_table::Edit;
-use farm_types::{BoardRow, Holder, JobRow, ResRow};
+use farm_types::{BoardRow, Holder};
 use std::alloc::AllocError;
-
-/// A test of rows.
-pub trait Filter<R> {
-    ghost use Rattle.std.specs.Prelude.{◌≡◌, Bool};
-
-    ghost accepts: { Self → R → Bool };
-
-    /// Whether a row passes.
-    fn accepts(&self, row: &R) -> bool
-        ensures { result ≡ accepts self.now row.now };
-}
 
 /// A table whose rows may hold boards.
 pub trait Holders {
-    ghost use Rattle.std.specs.Prelude.{◌≡◌, Bool, false};
-    ghost use Rattle.std.specs.Option.{option_copied, option_map_or};
+    ghost use Rattle.std.specs.Prelude.{◌≡◌, Bool};
     ghost use Rattle.farm_types.specs.declared.rows.Holder.{Holder};
 
-    type Row;
+    /// A test of rows.
+    type Filter;
+
+    ghost is_so: { Self → Self.Filter → Holder → Bool };
 
     /// Whether a holder is a row of the table that passes.
-    ghost is_so: { Self → (Self.Row → Bool) → Holder → Bool };
-
-    /// The row that a holder is, if it is one of the table, by binary search.
-    fn holder(&self, holder: Holder) -> Option<&Self::Row>
-        ensures { (test : Self.Row → Bool) → is_so self.now test holder
-            ≡ option_map_or test (option_copied result) false };
+    fn is_so(&self, filter: &Self::Filter, holder: Holder) -> bool
+        ensures { result ≡ is_so self.now filter.now holder };
 }
 
 impl Holders for JobTable {
     ghost use Rattle.farm_types.specs.Farm.{empty_farm};
     ghost use Rattle.farm_types.specs.Pass.{is_job_so};
+    ghost use Rattle.farm_core.specs.Edits.{job_passes};
 
-    type Row = JobRow;
+    type Filter = JobFilter;
 
-    ghost is_so = { λ t. is_job_so (record empty_farm { jobs = t.rows }) };
+    ghost is_so = { λ t f. is_job_so (record empty_farm { jobs = t.rows }) (job_passes f) };
 
-    fn holder(&self, holder: Holder) -> Option<&JobRow> {
+    fn is_so(&self, filter: &JobFilter, holder: Holder) -> bool {
         match holder {
-            Holder::Job(number) => self.find(number),
-            Holder::Nobody | Holder::Res(_) => None,
+            Holder::Job(number) => self.passes(filter, number),
+            Holder::Nobody | Holder::Res(_) => false,
         }
     }
 }
@@ -53,39 +43,37 @@ impl Holders for JobTable {
 impl Holders for ResTable {
     ghost use Rattle.farm_types.specs.Farm.{empty_farm};
     ghost use Rattle.farm_types.specs.Pass.{is_res_so};
+    ghost use Rattle.farm_core.specs.Edits.{res_passes};
 
-    type Row = ResRow;
+    type Filter = ResFilter;
 
-    ghost is_so = { λ t. is_res_so (record empty_farm { reservations = t.rows }) };
+    ghost is_so = { λ t f. is_res_so (record empty_farm { reservations = t.rows }) (res_passes f) };
 
-    fn holder(&self, holder: Holder) -> Option<&ResRow> {
+    fn is_so(&self, filter: &ResFilter, holder: Holder) -> bool {
         match holder {
-            Holder::Res(number) => self.find(number),
-            Holder::Nobody | Holder::Job(_) => None,
+            Holder::Res(number) => self.passes(filter, number),
+            Holder::Nobody | Holder::Job(_) => false,
         }
     }
 }
 
 /// What becomes of the boards that the rows of a table hold that pass.
 #[derive(Drop)]
-pub struct Held<'a, T: Holders, F: Filter<T::Row>> {
+pub struct Held<'a, T: Holders> {
     pub holders: &'a T,
-    pub filter: &'a F,
+    pub filter: &'a T::Filter,
     pub effect: BoardEffect,
 }
 
-impl<T: Holders, F: Filter<T::Row>> Edit<BoardRow> for Held<'_, T, F> {
+impl<T: Holders> Edit<BoardRow> for Held<'_, T> {
     ghost use Rattle.farm_core.specs.Edits.{board_after};
 
-    ghost passes = { λ e b. T.is_so e.holders.now (F.accepts e.filter.now) b.holder };
+    ghost passes = { λ e b. T.is_so e.holders.now e.filter.now b.holder };
 
     ghost changed = { λ e b. board_after e.effect b };
 
     fn passes(&self, row: &BoardRow) -> bool {
-        match self.holders.holder(row.holder) {
-            Some(row) => self.filter.accepts(row),
-            None => false,
-        }
+        self.holders.is_so(self.filter, row.holder)
     }
 
     fn change(&self, row: &mut BoardRow) -> Result<(), AllocError> {

@@ -1,9 +1,9 @@
 //! The table of jobs, and a mark beside each row.
-ghost use Rattle.std.specs.Prelude.{◌≡◌, ◌≤◌, ℕ, [], true, length};
+ghost use Rattle.std.specs.Prelude.{◌≡◌, ◌≤◌, ℕ, [], false, true, length};
 ghost use Rattle.std.specs.Prelude.{take, drop, IfOk, IfSome, OnOk, OnErr};
 ghost use Rattle.std.specs.List.{AllByRecursion};
 ghost use Rattle.std.specs.List.Sorted.{IsStrictlySortedBy};
-ghost use Rattle.std.specs.Option.{option_copied};
+ghost use Rattle.std.specs.Option.{option_copied, option_map_or};
 ghost use Rattle.farm_types.specs.Limits.{most_wants};
 ghost use Rattle.farm_types.specs.Small.{IsSmall};
 ghost use Rattle.farm_types.specs.Table.{put, change_where, job_cmp};
@@ -17,7 +17,7 @@ ghost use Rattle.farm_core.specs.Marks.{AreMarks, IsWantId, IsInterned, want_id_
 ghost use Rattle.farm_core.specs.PartitionPoint.{IsPartitionPoint};
 ghost use Rattle.farm_core.specs.Serving.{member_wants};
 
-use crate::command::job_edit::JobEdit;
+use crate::command::job_edit::{JobEdit, JobFilter};
 use crate::pass::lookahead::same_wants::same_want;
 use farm_table::Table;
 use farm_types::{JobRow, JobState, MOST_WANTS, Want};
@@ -29,9 +29,6 @@ pub const GUESS_REACH: usize = 5;
 
 /// How many wants are remembered.
 const MOST: usize = 8;
-
-/// How far the numbers of a group's members reach.
-const GROUP_REACH: u64 = MOST_WANTS as u64;
 
 /// What a pass compares of a job: its numbers, and an id of its want. Jobs whose wants have one id
 /// want the same, and those of two ids may; 0 is no id. Marks take 24 bytes a job
@@ -249,6 +246,21 @@ impl JobTable {
         self.table.find(&number)
     }
 
+    /// Whether the job of a number passes, by binary search where one of that number may.
+    pub fn passes(&self, filter: &JobFilter, number: u64) -> bool
+        ensures { result ≡ option_map_or (job_passes filter.now) (job_in self.now.rows number) false }
+    {
+        // no row is read: it tells proofs that they fit
+        let _rows = self.rows();
+        if !filter.reaches(number) {
+            return false;
+        }
+        match self.find(number) {
+            Some(row) => filter.accepts(row),
+            None => false,
+        }
+    }
+
     /// Puts a job. A row with the next number is added at the end, and moves none. It costs a
     /// binary search and a comparison with up to eight wants. Where memory runs out the table is as
     /// it was.
@@ -293,7 +305,7 @@ impl JobTable {
     {
         let first = edit.jobs.first();
         let start = self.place_of(first);
-        let end = self.place_near(start, first + GROUP_REACH);
+        let end = self.place_near(start, first + edit.jobs.reach());
         self.table.change_between(start, end, &edit)?;
         Ok(())
     }

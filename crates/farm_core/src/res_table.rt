@@ -3,17 +3,17 @@ ghost use Rattle.std.specs.Prelude.{◌≡◌, ◌==◌, ◌<◌, ◌^◌, [], f
 ghost use Rattle.std.specs.Prelude.{IfOk, IfSome, IfNone, OnOk, OnErr};
 ghost use Rattle.std.specs.List.{AllByRecursion};
 ghost use Rattle.std.specs.List.Sorted.{IsStrictlySortedBy};
-ghost use Rattle.std.specs.Option.{option_copied};
+ghost use Rattle.std.specs.Option.{option_copied, option_map_or};
 ghost use Rattle.farm_types.specs.Pass.{is_dead};
 ghost use Rattle.farm_types.specs.Small.{IsSmall, IsSmallRes};
 ghost use Rattle.farm_types.specs.Table.{put, change_where, res_cmp};
 ghost use Rattle.farm_types.specs.declared.rows.ResRow.{ResRow};
 ghost use Rattle.farm_sound.specs.Place.{res_in};
 ghost use Rattle.farm_table.specs.Tabled.{Leads};
-ghost use Rattle.farm_core.specs.Edits.{res_changed};
+ghost use Rattle.farm_core.specs.Edits.{res_changed, res_passes};
 ghost use Rattle.farm_core.specs.Leases.{lease_if, is_dead_at};
 
-use crate::command::res_edit::ResEdit;
+use crate::command::res_edit::{ResEdit, ResFilter};
 use crate::leases::{self, Lease, lease_if, lease_of, note, note_leases};
 use farm_table::Table;
 use farm_types::ResRow;
@@ -99,6 +99,21 @@ impl ResTable {
         ensures { option_copied result ≡ res_in self.now.rows number }
     {
         self.table.find(&number)
+    }
+
+    /// Whether the reservation of a number passes, by binary search where one of that number may.
+    pub fn passes(&self, filter: &ResFilter, number: u64) -> bool
+        ensures { result ≡ option_map_or (res_passes filter.now) (res_in self.now.rows number) false }
+    {
+        // no row is read: it tells proofs that they fit
+        let _rows = self.rows();
+        if !filter.reaches(number) {
+            return false;
+        }
+        match self.find(number) {
+            Some(row) => filter.accepts(row),
+            None => false,
+        }
     }
 
     /// Puts a reservation, and notes its lease, if it may end. A row with the next number is added

@@ -1,11 +1,16 @@
 //! What happens to the rows of jobs.
-ghost use Rattle.std.specs.Prelude.{◌≡◌};
+ghost use Rattle.std.specs.Prelude.{◌≡◌, false};
 ghost use Rattle.farm_types.specs.Change.{is_unstarted};
+ghost use Rattle.farm_types.specs.declared.rows.JobRow.{JobRow};
+ghost use Rattle.farm_table.specs.Near.{IsNear};
+ghost use Rattle.farm_core.specs.Edits.{first_of, job_passes, reach_of};
 
-use crate::held::Filter;
 use farm_table::Edit;
-use farm_types::{JobRow, JobState, Name, Outcome};
+use farm_types::{JobRow, JobState, MOST_WANTS, Name, Outcome};
 use std::alloc::AllocError;
+
+/// How far the numbers of a group's members reach.
+const GROUP_REACH: u64 = MOST_WANTS as u64;
 
 /// Which jobs: members of a group, or one job by its number.
 #[derive(Clone, Copy, Debug)]
@@ -44,10 +49,7 @@ pub struct JobEdit<'a> {
 }
 
 impl JobFilter {
-    ghost use Rattle.std.specs.Prelude.{◌≡◌};
-    ghost use Rattle.farm_core.specs.Edits.{first_of};
-
-    /// The least number of a job that passes; the others are among the next three.
+    /// The least number of a job that passes.
     pub fn first(&self) -> u64
         ensures { result ≡ first_of self.now }
     {
@@ -59,14 +61,31 @@ impl JobFilter {
             | JobFilter::Numbered(first) => first,
         }
     }
-}
 
-impl Filter<JobRow> for JobFilter {
-    ghost use Rattle.farm_core.specs.Edits.{job_passes};
+    /// How far the numbers of the jobs that pass reach.
+    pub fn reach(&self) -> u64
+        ensures { result ≡ reach_of self.now }
+    {
+        match self {
+            JobFilter::Numbered(_) => 1,
+            _ => GROUP_REACH,
+        }
+    }
 
-    ghost accepts = { job_passes };
+    /// Whether a job of that number may pass. A no costs no look at its row, so contracts say what
+    /// it means.
+    pub fn reaches(&self, number: u64) -> bool
+        ensures { result ≡ false → (j : JobRow) → IsNear j → j.number ≡ number
+            → job_passes self.now j ≡ false }
+    {
+        let first = self.first();
+        first <= number && number - first < self.reach()
+    }
 
-    fn accepts(&self, row: &JobRow) -> bool {
+    /// Whether a job passes.
+    pub fn accepts(&self, row: &JobRow) -> bool
+        ensures { result ≡ job_passes self.now row.now }
+    {
         match *self {
             JobFilter::Members(group) => row.group == group,
             JobFilter::Unstarted(group) => row.group == group && is_unstarted(row),

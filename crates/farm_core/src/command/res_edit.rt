@@ -1,8 +1,9 @@
 //! What happens to the rows of reservations.
-ghost use Rattle.std.specs.Prelude.{◌≡◌};
+ghost use Rattle.std.specs.Prelude.{◌≡◌, false};
 ghost use Rattle.farm_types.specs.Pass.{is_dead};
+ghost use Rattle.farm_types.specs.declared.rows.ResRow.{ResRow};
+ghost use Rattle.farm_core.specs.Edits.{res_passes};
 
-use crate::held::Filter;
 use farm_table::Edit;
 use farm_types::{Name, ResRow, ResState};
 use std::alloc::AllocError;
@@ -30,12 +31,23 @@ pub fn is_dead(now: u64, row: &ResRow) -> bool
     matches!(row.state, ResState::Waiting | ResState::Allocated) && row.deadline <= now
 }
 
-impl Filter<ResRow> for ResFilter {
-    ghost use Rattle.farm_core.specs.Edits.{res_passes};
+impl ResFilter {
+    /// Whether a reservation of that number may pass. A no costs no look at its row, so contracts
+    /// say what it means.
+    pub fn reaches(&self, number: u64) -> bool
+        ensures { result ≡ false → (r : ResRow) → r.number ≡ number
+            → res_passes self.now r ≡ false }
+    {
+        match *self {
+            ResFilter::Numbered(first) => number == first,
+            ResFilter::Dead(_) => true,
+        }
+    }
 
-    ghost accepts = { res_passes };
-
-    fn accepts(&self, row: &ResRow) -> bool {
+    /// Whether a reservation passes.
+    pub fn accepts(&self, row: &ResRow) -> bool
+        ensures { result ≡ res_passes self.now row.now }
+    {
         match *self {
             ResFilter::Numbered(number) => row.number == number,
             ResFilter::Dead(now) => is_dead(now, row),

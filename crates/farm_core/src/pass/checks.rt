@@ -1,9 +1,10 @@
 //! The checks of a pass: a job of the program's own for each due board.
 ghost use Rattle.std.specs.Prelude.{◌≡◌, ◌-◌, ◌<◌, codes, length, get_or, OnOk, IfOk};
+ghost use Rattle.std.specs.List.{list_any};
 ghost use Rattle.farm_types.specs.Limits.{highest_priority};
 ghost use Rattle.farm_types.specs.Pass.{check_job, check_one, checks, is_due, is_due_by};
 ghost use Rattle.farm_types.specs.Pass.{is_reached};
-ghost use Rattle.farm_types.specs.Pick.{check_of, is_nobody};
+ghost use Rattle.farm_types.specs.Pick.{check_of, is_checked, is_nobody};
 ghost use Rattle.farm_types.specs.declared.rows.BoardRow.{BoardRow};
 ghost use Rattle.farm_core.specs.Came.{CameTo, seen, seen_at};
 ghost use Rattle.farm_core.specs.Plain.{plain_farm};
@@ -11,7 +12,7 @@ ghost use Rattle.farm_core.specs.Plain.{plain_farm};
 use crate::tables::Tables;
 use farm_types::{
     BoardRow, Body, Check, HIGHEST_PRIORITY, Health, Holder, JobRow, JobState, Name, Priority,
-    Tags, Want, WordFault,
+    Tags, TypeRow, Want, WordFault,
 };
 use std::alloc::{AllocError, Global};
 
@@ -46,6 +47,13 @@ fn is_due_by(check: Check, now: u64, board: &BoardRow) -> bool
         Health::Good => is_reached(now, board, check),
         Health::Bad | Health::Maintenance | Health::Retired => false,
     }
+}
+
+/// Whether boards of a type are checked.
+fn is_checked(row: &TypeRow) -> bool
+    ensures { result ≡ is_checked row.now.check }
+{
+    !matches!(row.check, Check::Never)
 }
 
 /// The name of the admin, who owns the checks.
@@ -103,6 +111,13 @@ impl Tables {
         }
     }
 
+    /// Whether boards of some type are checked.
+    fn has_checks(&self) -> bool
+        ensures { result ≡ list_any (λ t. is_checked t.check) (plain_farm self.now).types }
+    {
+        self.types.rows().iter().any(|row| is_checked(row))
+    }
+
     /// Whether a board is to be checked now.
     fn is_due(&self, board: &BoardRow) -> bool
         ensures { result ≡ is_due (plain_farm self.now) (plain_farm self.now).clock board.now }
@@ -130,13 +145,17 @@ impl Tables {
     }
 
     /// Checks each due board in name order, while there is room. Gives how many. With B boards it
-    /// looks at each once, and a check adds its row at the end of the jobs.
+    /// looks at each once, or at none where boards of no type are checked, and a check adds its row
+    /// at the end of the jobs.
     pub fn checks(&mut self) -> Result<u64, AllocError>
         ensures came { OnOk result (CameTo self.old (seen_at
             (checks (plain_farm self.old) self.old.clock) (seen self.old)) self.new) }
         ensures count { IfOk result
             (λ n. n ≡ (checks (plain_farm self.old) self.old.clock).next - self.old.next) }
     {
+        if !self.has_checks() {
+            return Ok(0);
+        }
         let (first, count) = (self.next, self.boards.len());
         for at in 0..count {
             if self.is_due(&self.boards.rows()[at]) {

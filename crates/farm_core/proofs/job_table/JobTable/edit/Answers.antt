@@ -2,7 +2,7 @@ use Rattle.std.proofs.Common.{refl, subst}
 use Rattle.farm_types.specs.Table.{job_cmp}
 use Rattle.farm_types.specs.declared.rows.JobRow.{JobRow}
 use Rattle.farm_table.specs.Tabled.{Leads, Tabled}
-use Rattle.farm_core.specs.Edits.{first_of, job_passes}
+use Rattle.farm_core.specs.Edits.{first_of, job_passes, reach_of}
 use Rattle.farm_core.proofs.EditLemmas.{keeps_fit}
 use Rattle.farm_core.proofs.Marks.{marked_change, marked_partly}
 use Rattle.farm_core.proofs.Windows.{none_before, none_behind, places_rise}
@@ -13,9 +13,9 @@ change_between-requires-clause-keeps c = record { key = λ j. refl; fits = keeps
 
 pub change_between-requires-clause-start : goal.change_between-requires-clause-start
 change_between-requires-clause-start c =
-    places_rise (λ (r : JobRow). r.number) 4 c.args.self.now.rows (first_of c.args.edit.jobs) c.place_of-start.result c.place_near-end.result
+    places_rise (λ (r : JobRow). r.number) (reach_of c.args.edit.jobs) c.args.self.now.rows (first_of c.args.edit.jobs) c.place_of-start.result c.place_near-end.result
     c.place_of-start.ensures.within c.place_near-end.ensures.within
-    (rw (← c.first-first.ensures) c.place_of-start.ensures.place) (rw (← c.first-first.ensures) c.place_near-end.ensures.place)
+    (rw (← c.first-first.ensures) c.place_of-start.ensures.place) (rw (← c.first-first.ensures, ← c.reach.ensures) c.place_near-end.ensures.place)
 
 pub change_between-requires-clause-before : goal.change_between-requires-clause-before
 change_between-requires-clause-before c =
@@ -25,7 +25,7 @@ change_between-requires-clause-before c =
 pub change_between-requires-clause-behind : goal.change_between-requires-clause-behind
 change_between-requires-clause-behind c =
     rw c.self.view_is (none_behind c.args.self.now.rows c.args.edit.jobs c.place_of-start.ensures.fit c.place_near-end.result
-    (rw (← c.first-first.ensures) c.place_near-end.ensures.place))
+    (rw (← c.first-first.ensures, ← c.reach.ensures) c.place_near-end.ensures.place))
 
 pub invariant_of-self : goal.invariant_of-self
 invariant_of-self c =

@@ -1,10 +1,10 @@
 use Rattle.std.proofs.Common.{◌≡◌, ◌+◌, ◌<◌, length, get_or, ap, sym, ◌∙◌, arith}
 use Rattle.farm_types.specs.Farm.{Farm}
-use Rattle.farm_types.specs.Pass.{is_due}
+use Rattle.farm_types.specs.Pass.{checks, is_due}
 use Rattle.farm_core.specs.Came.{Seen, seen, seen_at}
 use Rattle.farm_core.specs.Plain.{plain_farm}
-use Rattle.farm_core.proofs.Checking.{checks_end, checks_from, checked_clock, checked_long, checked_next, is_checked, not_due}
-use Rattle.farm_core.proofs.Steps.{lead_on_join}
+use Rattle.farm_core.proofs.Checking.{checks_end, checks_from, checks_none, checked_clock, checked_long, checked_next, is_checked, not_due}
+use Rattle.farm_core.proofs.Steps.{lead_on_join, lead_on_none}
 use Rattle.farm_core.proofs.tables.Tables.checks.Goals as goal
 use Rattle.farm_core.proofs.tables.Tables.checks.Goals.{then-is_due+in_ok-check_board, else-is_due}
 
@@ -45,3 +45,17 @@ returns-clause-came c =
       now = sym (ap (λ G. seen_at G (seen c.loop-at.self)) (checks_end c.args.self.now.clock c.loop-at.at (plain_farm c.loop-at.self) (omega (arith, before.long)))) ∙ before.rest;
       logs = before.logs;
     }
+
+pub returns-then-not-has_checks-clause-came : goal.returns-then-not-has_checks-clause-came
+returns-then-not-has_checks-clause-came c =
+    let S = c.args.self.now in
+    record {
+      now = ap (λ G. seen_at G (seen S)) (sym (checks_none (plain_farm S) S.clock (sym c.has_checks.ensures ∙ c.if-not-has_checks.true)));
+      logs = lead_on_none S;
+    }
+
+pub returns-then-not-has_checks-clause-count : goal.returns-then-not-has_checks-clause-count
+returns-then-not-has_checks-clause-count c =
+    let S = c.args.self.now in
+    let same : (checks (plain_farm S) S.clock).next ≡ S.next = ap (λ (G : Farm). G.next) (checks_none (plain_farm S) S.clock (sym c.has_checks.ensures ∙ c.if-not-has_checks.true)) in
+    omega (arith, same)
