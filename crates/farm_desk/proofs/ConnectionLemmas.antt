@@ -10,7 +10,7 @@ use Rattle.farm_desk.specs.Response.{IsResponse}
 use Rattle.farm_desk.specs.Ends.{WritesAnswer, IsUnread}
 use Rattle.farm_desk.specs.Connections.{AreOf, ServesInTurn, Connection, AreServedInTurn}
 use Rattle.farm_desk.specs.declared.fault.DeskFault.{DeskFault}
-use Rattle.farm_desk.proofs.ConverseLemmas.{written_in_part, written_too_long, written_whole}
+use Rattle.farm_desk.proofs.ConverseLemmas.{no_room_within, written_in_part, written_too_long, written_whole}
 
 -- ---- one conversation
 
@@ -88,9 +88,7 @@ connections_one g Sure before mid after old new now input output Room departure 
     let connection : Connection = record { arrival = arrival; departure = departure; end = conversation.end } in
     let complete : IsComplete g (desk old input output) (desk new departure.input departure.output) now Sure (HasRoom accepts.capacity output) conversation.end = record {
       received = conversation.complete.received;
-      answered = λ e.
-          let due = conversation.complete.answered e in
-          record { bytes = due.bytes; end = due.end; response = due.response; no_room = λ fits. due.no_room (accepts.has_room (length due.bytes) fits) };
+      answered = λ e. no_room_within _ (HasRoom accepts.capacity output) Room accepts.has_room (conversation.complete.answered e);
     } in
     record {
       connections = connection ∷ [];

@@ -3,6 +3,7 @@ use Rattle.std.proofs.Common.{◌≡◌, ◌⊎◌, ℕ, suc, ◌+◌, ◌<◌, 
 use Rattle.std.specs.Prelude.{Option, Some, None, Result, Ok, Err, IsOk}
 use Rattle.std.specs.List.{AllByRecursion, flat_map}
 use Rattle.std.specs.Io.KnownBytes.{Appends, Consumes}
+use Rattle.std.proofs.KnownBytes.{Appends-nil, Appends-trans}
 use Rattle.std.proofs.Math.Seq.{drop-cons}
 use Rattle.std.proofs.lemmas.List.{append_assoc, append-nil, map-append, take_more, take-append-drop}
 use Rattle.std.proofs.lemmas.List.Concat.{flat_map-append}
@@ -16,6 +17,8 @@ use Rattle.farm_types.specs.declared.rows.Reply.{Reply}
 use Rattle.farm_keep.specs.KeeperState.{KeeperState, KeepsOwnFarm}
 use Rattle.farm_keep.specs.Restarts.{answer_again}
 use Rattle.farm_keep.proofs.KeptLemmas.{again_kept}
+use Rattle.farm_http.specs.Room.{KeepsRoom, RoomLeft}
+use Rattle.farm_http.proofs.Room.{room_kept, room_left}
 use Rattle.farm_wire.specs.Reading.{Denial}
 use Rattle.farm_wire.specs.declared.ask.Ask.{Ask}
 use Rattle.farm_wire.specs.declared.ask.View.{View}
@@ -25,7 +28,7 @@ use Rattle.farm_desk.specs.Answers.{Answers, Encodes, ShowsView, IsView, out_of_
 use Rattle.farm_desk.specs.Response.{IsResponse}
 use Rattle.farm_desk.specs.Ends.{IsAnswered}
 use Rattle.farm_desk.specs.Imports.{Reaches}
-use Rattle.farm_desk.specs.Conversations.{Desk, Converses, Conversation, ConverseInTurn, ConverseApart, AnswersAll, StopsAt, Exchange, conversation_of, call_asked, calls_of, IsMachineAnswer, AreAnswered, ActAsRun, AnsweredActAsRun, IsSentAgain}
+use Rattle.farm_desk.specs.Conversations.{Desk, Converses, IsComplete, Conversation, ConverseInTurn, ConverseApart, AnswersAll, StopsAt, Exchange, conversation_of, call_asked, calls_of, IsMachineAnswer, AreAnswered, ActAsRun, AnsweredActAsRun, IsSentAgain}
 use Rattle.farm_desk.specs.declared.fault.DeskFault.{DeskFault}
 
 -- ---- two lists
@@ -68,9 +71,10 @@ abbrev pub fault_in : {A : Type 0} → Result A DeskFault → DeskFault
 fault_in (Ok done) = DeskFault.NoMemory
 fault_in (Err fault) = fault
 
-pub stops_at : {S : Type 0} (g : Ghosts S) (old between new : Desk S) (moments : List ℕ) (i now : ℕ) (fault : DeskFault) → i < length moments → now ≡ get_or moments i 0
-    → AnswersAll g old between (take i moments) → Converses g between new now (Err fault) → StopsAt g old new moments fault
-stops_at g old between new moments i now fault low here all h =
+pub stops_at : {S : Type 0} (g : Ghosts S) (old between new : Desk S) (moments : List ℕ) (i now : ℕ) (Sure : Type 0) (Room : ℕ → Type 0) (fault : DeskFault) → i < length moments → now ≡ get_or moments i 0
+    → AnswersAll g old between (take i moments) → Converses g between new now (Err fault) → IsComplete g between new now Sure (RoomLeft Room old.output between.output) (Err fault)
+    → StopsAt g old new moments Sure Room fault
+stops_at g old between new moments i now Sure Room fault low here all h complete =
     record {
       done = take i moments;
       last = now;
@@ -80,7 +84,26 @@ stops_at g old between new moments i now fault low here all h =
       between = between;
       answers = all;
       stops = h;
+      complete = complete;
     }
+
+-- ---- the room that the answers leave
+
+-- a writer gained some bytes, and has the room that they left
+pub record GainsWithin (First Next : ℕ → Type 0) (held holds : Option (List ℕ)) : Type 0 where
+  pub bytes : List ℕ
+  pub gained : Appends held holds bytes
+  pub room : KeepsRoom First Next held holds
+
+pub gains_none : (Room : ℕ → Type 0) (held : Option (List ℕ)) → GainsWithin Room Room held held
+gains_none Room held = record { bytes = []; gained = Appends-nil held; room = room_kept Room held }
+
+pub gains_more : (First Next Last : ℕ → Type 0) (a b c : Option (List ℕ)) (bytes : List ℕ) → GainsWithin First Next a b → Appends b c bytes → KeepsRoom Next Last b c → GainsWithin First Last a c
+gains_more First Next Last a b c bytes all more room = record {
+  bytes = all.bytes ++ bytes;
+  gained = Appends-trans a b c all.bytes bytes all.gained more;
+  room = room_left First Next Last a b c all.bytes bytes all.gained all.room more room;
+}
 
 -- ---- what is due
 

@@ -1,5 +1,5 @@
 -- An answer that was written, or lost.
-use Rattle.std.proofs.Common.{◌≡◌, ◌≢◌, ℕ, List, Bool, true, false, subst, Ok, Err}
+use Rattle.std.proofs.Common.{◌≡◌, ◌≢◌, ℕ, List, Bool, true, false, length, subst, Ok, Err}
 use Rattle.std.specs.Prelude.{Option, Result}
 use Rattle.farm_desk.specs.Ends.{Writes, IsAnswered, WritesAnswer, EndsWritten, HasNoRoom, IsUnwritten}
 use Rattle.farm_desk.specs.declared.fault.DeskFault.{DeskFault}
@@ -32,3 +32,8 @@ pub written_too_long : (Response : List ℕ → Result ℕ DeskFault → Type 0)
 written_too_long Response Room failed held holds end writes unread fails =
     let t = writes (λ e. let alive = unread e in cc) in
     record { bytes = t.bytes; end = end; response = t.response; no_room = (subst (λ f. Writes Room f held holds t.bytes) fails t.written).1 }
+
+-- nor is there in less room
+pub no_room_within : (Response : List ℕ → Result ℕ DeskFault → Type 0) (Less Room : ℕ → Type 0) → ((n : ℕ) → Less n → Room n) → HasNoRoom Response Room → HasNoRoom Response Less
+no_room_within Response Less Room within due =
+    record { bytes = due.bytes; end = due.end; response = due.response; no_room = λ fits. due.no_room (within (length due.bytes) fits) }

@@ -12,6 +12,7 @@ use Rattle.farm_core.specs.Answers.{IsChange}
 use Rattle.farm_keep.specs.KeeperState.{KeeperState, KeepsOwnFarm, KeepsFarm, KeepsEither}
 use Rattle.farm_keep.specs.Restarts.{answer_again}
 use Rattle.farm_keep.specs.declared.fault.KeepFault.{KeepFault}
+use Rattle.farm_http.specs.Room.{RoomLeft}
 use Rattle.farm_wire.specs.Reading.{Denial}
 use Rattle.farm_wire.specs.declared.ask.Ask.{Ask}
 use Rattle.farm_wire.specs.declared.answers.Out.{Out}
@@ -94,9 +95,11 @@ pub record AnswersAll {S : Type 0} (g : Ghosts S) (old new : Desk S) (moments : 
   pub answered : AllByRecursion (λ conversation. IsOk conversation.end) conversations
   pub in_turn : ConverseInTurn g conversations old new
 
--- the conversations at the first moments are answered, and the next ends with this fault
-pub record StopsAt {S : Type 0} (g : Ghosts S) (old new : Desk S) (moments : List ℕ)
-    (fault : DeskFault) : Type 0 where
+-- the conversations at the first moments are answered, and the next ends with this fault: as unread
+-- only where the reader may fail, as unwritten only where its answer doesn't fit the room that the
+-- answers before it left
+pub record StopsAt {S : Type 0} (g : Ghosts S) (old new : Desk S) (moments : List ℕ) (Sure : Type 0)
+    (Room : ℕ → Type 0) (fault : DeskFault) : Type 0 where
   pub done : List ℕ
   pub last : ℕ
   pub left : List ℕ
@@ -104,6 +107,8 @@ pub record StopsAt {S : Type 0} (g : Ghosts S) (old new : Desk S) (moments : Lis
   pub between : Desk S
   pub answers : AnswersAll g old between done
   pub stops : Converses g between new last (Err fault)
+  pub complete : IsComplete g between new last Sure (RoomLeft Room old.output between.output)
+      (Err fault)
 
 -- ---- where each of them is answered
 

@@ -9,6 +9,7 @@ pub mod LabFiles
 pub mod Serving
 pub mod InFiles
 pub mod Upgrades
+pub mod Preflight
 pub mod Reports
 pub mod Conversations
 pub mod Lines

@@ -4,6 +4,7 @@ ghost use Rattle.sqlite.specs.Held.{state};
 ghost use Rattle.sqlite_trees.specs.View.{doubt};
 ghost use Rattle.farm_http.specs.Counts.{nothing_read, nothing_written, reader_of, reading_of, writer_of};
 ghost use Rattle.farm_http.specs.Counts.{writing_of, IsSameReader, IsSameWriter, IsSpent};
+ghost use Rattle.farm_http.specs.Room.{KeepsRoom};
 ghost use Rattle.farm_desk.specs.Response.{IsResponse};
 ghost use Rattle.farm_desk.specs.Ends.{IsAnswered, IsUnwritten, IsUnread, WritesAnswer, EndsWritten};
 ghost use Rattle.farm_desk.specs.Ends.{HasNoRoom};
@@ -59,6 +60,10 @@ pub fn converse<R: Input, W: Output, S: Alter>(
     ensures taken { result ≡ Err DeskFault.Write → HasNoRoom
         (IsResponse S.Store keeper.old keeper.new (R.remaining reader.old)
         (R.remaining reader.new) now) (W.has_room writer.old) }
+
+    // Then it has room for less by what it was written.
+    ensures room { KeepsRoom (W.has_room writer.old) (W.has_room writer.new)
+        (W.contents writer.old) (W.contents writer.new) }
     ensures clean { doubt (state S.Store keeper.old.conn).is_clean ≤ doubt
         (state S.Store keeper.new.conn).is_clean }
 {
@@ -102,6 +107,8 @@ pub fn converse_counted<R: Input, W: Output, S: Alter>(
     ensures taken { result ≡ Err DeskFault.Write → HasNoRoom
         (IsResponse S.Store keeper.old keeper.new (R.remaining (reader_of reader.old))
         (R.remaining (reader_of reader.new)) now) (W.has_room (writer_of writer.old)) }
+    ensures room { KeepsRoom (W.has_room (writer_of writer.old)) (W.has_room (writer_of writer.new))
+        (W.contents (writer_of writer.old)) (W.contents (writer_of writer.new)) }
 
     // The faults Write and Read come only of a writer that failed, and of a reader that failed or
     // took all its turns.
@@ -145,6 +152,9 @@ impl Context {
             × IsSpent (reading_of reader.new)
             × ((writing_of writer.new).failed ≡ false) }
         ensures received { R.never_fails → result ≢ Err DeskFault.Read }
+        ensures room { KeepsRoom (W.has_room (writer_of writer.old))
+            (W.has_room (writer_of writer.new)) (W.contents (writer_of writer.old))
+            (W.contents (writer_of writer.new)) }
         ensures clean { doubt (state S.Store keeper.old.conn).is_clean ≤ doubt
             (state S.Store keeper.new.conn).is_clean }
     {

@@ -1,4 +1,6 @@
 //! A client's stream, with limits of time.
+ghost use Rattle.std.specs.Prelude.{◌≡◌, IfSome, IsSome, None, OnOk, Some};
+
 use std::io;
 use std::io::{Error, ErrorKind, Read, Write};
 use std::net::{Shutdown, TcpStream};
@@ -28,7 +30,9 @@ pub(crate) struct DeadlineStream<'a, C: Clock> {
 
 impl<'a, C: Clock> DeadlineStream<'a, C> {
     /// A direction whose time begins with its first read or write.
-    pub(crate) fn new(stream: TcpStream, clock: &'a C) -> DeadlineStream<'a, C> {
+    pub(crate) fn new(stream: TcpStream, clock: &'a C) -> DeadlineStream<'a, C>
+        ensures { result.since ≡ None }
+    {
         DeadlineStream {
             stream,
             clock,
@@ -36,8 +40,11 @@ impl<'a, C: Clock> DeadlineStream<'a, C> {
         }
     }
 
-    /// Fails where the time is over.
-    fn check_limit(&mut self) -> io::Result<()> {
+    /// Fails where the time is over. That begins once, and is never begun anew.
+    fn check_limit(&mut self) -> io::Result<()>
+        ensures begun { OnOk result (IsSome self.new.since) }
+        ensures kept { IfSome self.old.since (λ since. self.new.since ≡ Some since) }
+    {
         let now = self.clock.monotonic()?;
         match self.since {
             Some(since) if now.saturating_sub(since) > limit() => {

@@ -159,35 +159,25 @@ fn make<S: Alter + Drop>(alloc: Global, conn: Connection<S>) -> Result<Keeper<S>
 }
 
 /// The bytes of the lab file at a path; of one that is too long so many that they show it.
-pub(crate) fn read_lab<L: LabFiles>(
-    alloc: Global,
-    labs: &L,
-    path: &str,
-) -> Result<Vec<u8>, DeskFault>
-    ensures bytes { IfOk result (λ bytes. IsTextOf (L.contents labs.now path.now) bytes.items) }
-    ensures fault { IfErr result (λ fault. (fault ≡ DeskFault.NoMemory) ⊎ (fault ≡ DeskFault.Read)) }
+pub(crate) fn read_lab<L: LabFiles>(alloc: Global, labs: &L, path: &str) -> io::Result<Vec<u8>>
+    ensures { IfOk result (λ bytes. IsTextOf (L.contents labs.now path.now) bytes.items) }
 {
-    match labs.open(path) {
-        Ok(file) => read_lab_from(alloc, file),
-        Err(error) => Err(lab_fault(&error)),
-    }
+    let file = labs.open(path)?;
+    read_lab_from(alloc, file)
 }
 
 /// The first bytes of a reader, one more than a lab file may have.
-fn read_lab_from<R: Read + Drop>(alloc: Global, reader: R) -> Result<Vec<u8>, DeskFault>
-    ensures bytes { IfOk result (λ bytes. IsTextOf (R.remaining reader) bytes.items) }
-    ensures fault { IfErr result (λ fault. (fault ≡ DeskFault.NoMemory) ⊎ (fault ≡ DeskFault.Read)) }
+fn read_lab_from<R: Read + Drop>(alloc: Global, reader: R) -> io::Result<Vec<u8>>
+    ensures { IfOk result (λ bytes. IsTextOf (R.remaining reader) bytes.items) }
 {
     let mut bytes = Vec::new(alloc);
     let mut start = reader.take(LONGEST_LAB_FILE as u64 + 1);
-    match start.read_to_end(&mut bytes) {
-        Ok(_) => Ok(bytes),
-        Err(error) => Err(lab_fault(&error)),
-    }
+    start.read_to_end(&mut bytes)?;
+    Ok(bytes)
 }
 
 /// What it is that no lab file could be read.
-fn lab_fault(error: &io::Error) -> DeskFault
+pub(crate) fn lab_fault(error: &io::Error) -> DeskFault
     ensures { (result ≡ DeskFault.NoMemory) ⊎ (result ≡ DeskFault.Read) }
 {
     match error.kind() {

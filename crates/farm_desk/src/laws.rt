@@ -41,7 +41,8 @@ pub fn converse_in_turn<R: Input, W: Output, S: Alter>(
         (desk keeper.new (R.remaining reader.new) (W.contents writer.new)) moments.now) }
     ensures fault { IfErr result (λ fault. StopsAt S.Store
         (desk keeper.old (R.remaining reader.old) (W.contents writer.old))
-        (desk keeper.new (R.remaining reader.new) (W.contents writer.new)) moments.now fault) }
+        (desk keeper.new (R.remaining reader.new) (W.contents writer.new)) moments.now
+        R.never_fails (W.has_room writer.old) fault) }
     ensures received { R.never_fails → result ≢ Err DeskFault.Read }
     ensures clean { doubt (state S.Store keeper.old.conn).is_clean ≤ doubt
         (state S.Store keeper.new.conn).is_clean }

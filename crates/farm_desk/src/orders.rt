@@ -11,7 +11,7 @@ ghost use Rattle.farm_keep.specs.KeeperState.{KeeperState};
 
 use crate::conversation::converse;
 use crate::fault::DeskFault;
-use crate::files::{make_farm, open_farm, read_lab};
+use crate::files::{lab_fault, make_farm, open_farm, read_lab};
 use crate::lab_files::LabFiles;
 use crate::lab_import::{ImportEnd, import};
 use crate::open_files::OpenFiles;
@@ -374,7 +374,7 @@ fn import_file<L: LabFiles, W: Output, S: Alter>(
 {
     match read_lab(alloc, labs, lab) {
         Ok(text) => import_text(alloc, keeper, text.as_slice(), at, output),
-        Err(fault) => Err(fault),
+        Err(error) => Err(lab_fault(&error)),
     }
 }
 
@@ -470,7 +470,9 @@ fn print_report<W: Output, S: Alter>(
     let Some(farm) = keeper.farm() else {
         return Err(DeskFault::Keep(KeepFault::Closed));
     };
-    let text = report_text(alloc, farm, which, zone_between(zone.0, zone.1))?;
+    let Ok(text) = report_text(alloc, farm, which, zone_between(zone.0, zone.1)) else {
+        return Err(DeskFault::NoMemory);
+    };
     match write_whole(output, text.as_bytes()) {
         Ok(()) => Ok(End::Done),
         Err(_) => Err(DeskFault::Write),

@@ -1,8 +1,12 @@
 //! Checks of the paths of a farm's file and of its log before a store is opened there, and the
 //! removal of what an open made in vain. An open makes what is missing, and where the file has no
 //! byte it takes the log beside it for no log; so what must not be lost is looked at first. Nothing
-//! is known of a path, so nothing here has a clause. What another program does to a path between
-//! the look and the open isn't seen.
+//! is known of a path, so the clauses say what is made of a look, and none what it sees. What
+//! another program does to a path between the look and the open isn't seen.
+ghost use Rattle.std.specs.Prelude.{◌≡◌, IfSome};
+ghost use Rattle.farm_desk.specs.Preflight.{MayBeNew};
+ghost use Rattle.farm_desk.specs.declared.preflight.PathState.TheVariants.{Database};
+
 use os::{RangeLock, try_lock_range};
 use std::alloc::Global;
 use std::fs::{File, OpenOptions};
@@ -55,7 +59,9 @@ pub(crate) struct Preflight<'a> {
 
 impl<'a> Preflight<'a> {
     /// Looks at both paths; none where that of the log isn't known.
-    fn of_paths(rt: &HostRuntime, alloc: Global, file: &'a str) -> Option<Preflight<'a>> {
+    fn of_paths(rt: &HostRuntime, alloc: Global, file: &'a str) -> Option<Preflight<'a>>
+        ensures { IfSome result (λ it. it.file.now ≡ file.now) }
+    {
         let log = log_path(rt, alloc, file).ok()?;
         let log_state = state_at(rt, log.as_str());
         Some(Preflight {
@@ -68,7 +74,10 @@ impl<'a> Preflight<'a> {
 
     /// The check of a farm that is there; none where its file is no database. A log that was left
     /// over stays then: it may have all that there is of a farm.
-    pub(crate) fn of_farm(rt: &HostRuntime, alloc: Global, file: &'a str) -> Option<Preflight<'a>> {
+    pub(crate) fn of_farm(rt: &HostRuntime, alloc: Global, file: &'a str) -> Option<Preflight<'a>>
+        ensures path { IfSome result (λ it. it.file.now ≡ file.now) }
+        ensures database { IfSome result (λ it. it.file_state ≡ Database) }
+    {
         let preflight = Preflight::of_paths(rt, alloc, file)?;
         if preflight.file_state == PathState::Database {
             Some(preflight)
@@ -83,7 +92,10 @@ impl<'a> Preflight<'a> {
         rt: &HostRuntime,
         alloc: Global,
         file: &'a str,
-    ) -> Option<Preflight<'a>> {
+    ) -> Option<Preflight<'a>>
+        ensures path { IfSome result (λ it. it.file.now ≡ file.now) }
+        ensures new { IfSome result (λ it. MayBeNew it.file_state it.log_state) }
+    {
         let preflight = Preflight::of_paths(rt, alloc, file)?;
         let has_no_log = matches!(preflight.log_state, PathState::Nothing | PathState::Empty);
         let is_free = match preflight.file_state {

@@ -1,15 +1,14 @@
 //! The text of a report, by its kind and its time zone.
-ghost use Rattle.std.specs.Prelude.{◌≡◌, ◌≢◌, ◌≤◌, false, Ok, Err, IfOk, IfErr, string_bytes};
+ghost use Rattle.std.specs.Prelude.{◌≡◌, ◌≢◌, ◌≤◌, false, Ok, Err, IfOk, string_bytes};
 ghost use Rattle.farm_report.specs.Moments.{most_minutes};
 ghost use Rattle.farm_desk.specs.Reports.{Reports, seconds_ahead};
 
-use crate::fault::DeskFault;
 use farm_cli::Report;
 use farm_core::Farm;
 use farm_report::{
     MOST_MINUTES, Offset, ReportFault, boards_text, queue_text, reservations_text, zone_of,
 };
-use std::alloc::Global;
+use std::alloc::{AllocError, Global};
 
 /// The offset that lies so many minutes east of UTC, less so many west; each counts as
 /// `MOST_MINUTES` where it is more.
@@ -30,28 +29,26 @@ pub(crate) fn report_text(
     farm: &Farm,
     which: Report,
     zone: Offset,
-) -> Result<String, DeskFault>
+) -> Result<String, AllocError>
     requires { farm.now.failed ≡ false }
-    ensures text { IfOk result (λ text. Reports which zone.seconds farm.now.farm
+    ensures { IfOk result (λ text. Reports which zone.seconds farm.now.farm
         (string_bytes text)) }
-    ensures fault { IfErr result (λ fault. fault ≡ DeskFault.NoMemory) }
 {
     match which {
-        Report::Queue => queue_text(alloc, farm).map_err(|_| DeskFault::NoMemory),
+        Report::Queue => queue_text(alloc, farm),
         Report::Boards => in_calendar(boards_text(alloc, farm, zone)),
         Report::Reservations => in_calendar(reservations_text(alloc, farm, zone)),
     }
 }
 
 /// A report whose moments are in the calendar lacks nothing but memory.
-fn in_calendar(made: Result<String, ReportFault>) -> Result<String, DeskFault>
+fn in_calendar(made: Result<String, ReportFault>) -> Result<String, AllocError>
     requires { made ≢ Err ReportFault.BadMoment }
-    ensures text { IfOk result (λ text. made ≡ Ok text) }
-    ensures fault { IfErr result (λ fault. fault ≡ DeskFault.NoMemory) }
+    ensures { IfOk result (λ text. made ≡ Ok text) }
 {
     match made {
         Ok(text) => Ok(text),
-        Err(ReportFault::NoMemory) => Err(DeskFault::NoMemory),
+        Err(ReportFault::NoMemory) => Err(AllocError),
         Err(ReportFault::BadMoment) => unreachable!(),
     }
 }

@@ -1,7 +1,9 @@
 //! Clients in memory, each with the bytes that it sends and room for its answer: contracts name
 //! what they send and what they are answered.
-ghost use Rattle.std.specs.Prelude.{◌≡◌, ◌+◌, ◌<◌, IfOk, [], map, length, vec_capacity, Some};
+ghost use Rattle.std.specs.Prelude.{◌≡◌, ◌↔◌, ◌+◌, ◌<◌, IfOk, IsTrue, [], map, length, vec_capacity};
+ghost use Rattle.std.specs.Prelude.{Some};
 ghost use Rattle.std.specs.Vec.Iter.{into_iter_items};
+ghost use Rattle.farm_desk.specs.Clients.{IsOver};
 ghost use Rattle.farm_desk.specs.Scripts.{arrival_of, client_list_of};
 
 mod list;
@@ -67,7 +69,9 @@ impl<'a> Clients for ScriptedClients<'a> {
     ghost has_open = { λ clients. length (into_iter_items clients.waiting) + length clients.served.items
         < vec_capacity clients.served };
 
-    fn is_over(&self) -> bool {
+    fn is_over(&self) -> bool
+        ensures { IsTrue result ↔ IsOver (Some (client_list_of self.now)) }
+    {
         self.waiting.len() == 0
     }
 

@@ -1,6 +1,8 @@
--- A writer with room for bytes takes them in its first write.
-use Rattle.std.proofs.Common.{◌≡◌, ◌⊎◌, ℕ, ◌-◌, ◌<◌, arith, subst, sym, ◌∙◌, ap, Ok, inl, inr}
-use Rattle.std.specs.Prelude.{Result}
+-- A writer with room for bytes takes them in its first write, and then has room for less by these.
+use Rattle.std.proofs.Common.{◌≡◌, ◌⊎◌, ℕ, ◌+◌, ◌-◌, ◌<◌, List, length, length-append, arith, subst, sym, ◌∙◌, ap, Ok, inl, inr}
+use Rattle.std.specs.Prelude.{Option, Some, None, Result}
+use Rattle.std.specs.Io.KnownBytes.{Appends}
+use Rattle.farm_http.specs.Room.{KeepsRoom}
 use Rattle.farm_http.specs.declared.counted_writer.NotTaken.{NotTaken}
 
 -- nothing was written yet, and the write that comes takes all
@@ -15,3 +17,21 @@ takes_all room first at len done rest r same size sure (inr all) before roomy = 
 -- so it took that many
 pub took : (n len : ℕ) (r : Result ℕ NotTaken) → r ≡ Ok n → r ≡ Ok len → n ≡ len
 took n len r x y = cc
+
+-- ---- the room that is left
+
+-- nothing was written yet
+pub room_kept : (Room : ℕ → Type 0) (held : Option (List ℕ)) → KeepsRoom Room Room held held
+room_kept Room None n room = absurd room
+room_kept Room (Some held) n room = subst Room (omega arith) room
+
+-- bytes were written, and then more
+pub room_left : (First Next Last : ℕ → Type 0) (a b c : Option (List ℕ)) (bs cs : List ℕ) → Appends a b bs → KeepsRoom First Next a b → Appends b c cs → KeepsRoom Next Last b c
+    → KeepsRoom First Last a c
+room_left First Next Last None b c bs cs p first q last n room = absurd room
+room_left First Next Last (Some x) None c bs cs p first q last n room = absurd p
+room_left First Next Last (Some x) (Some y) None bs cs p first q last n room = absurd room
+room_left First Next Last (Some x) (Some y) (Some z) bs cs p first q last n room =
+    let more : length z - length x + n ≡ length y - length x + (length z - length y + n) =
+    omega (arith, ap length p, ap length q, length-append x bs, length-append y cs) in
+    last n (first (length z - length y + n) (subst First more room))

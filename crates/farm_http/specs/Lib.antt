@@ -4,4 +4,5 @@ pub mod Heads
 pub mod Requests
 pub mod Counts
 pub mod Turns
+pub mod Room
 pub mod Faults

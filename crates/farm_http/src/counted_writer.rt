@@ -4,6 +4,7 @@ ghost use Rattle.std.specs.Prelude.{◌≡◌, ◌+◌, ◌^◌, ◌<◌, ◌≤
 ghost use Rattle.std.specs.Prelude.{Ok, OnErr};
 ghost use Rattle.std.specs.Io.KnownBytes.{Appends, Keeps};
 ghost use Rattle.farm_http.specs.Turns.{IsOneMore};
+ghost use Rattle.farm_http.specs.Room.{KeepsRoom};
 
 use crate::output::Output;
 
@@ -69,6 +70,8 @@ impl<'a, W: Output> CountedWriter<'a, W> {
         ensures once { IsOneMore (W.turns (writer_of self.old)) (W.turns (writer_of self.new)) }
         ensures sure { W.has_room (writer_of self.old) (length bytes.now)
             → result ≡ Ok (length bytes.now) }
+        ensures room { KeepsRoom (W.has_room (writer_of self.old)) (W.has_room (writer_of self.new))
+            (W.contents (writer_of self.old)) (W.contents (writer_of self.new)) }
     {
         self.calls += 1;
         match self.writer.write_once(bytes) {

@@ -8,9 +8,9 @@
 //! A reader is an `Input` and a writer an `Output`, which say what `Read` and `Write` don't: that
 //! bytes in memory never fail, and that a vector takes what it has room for.
 //!
-//! Read `specs/` in the order Fields, Request, Heads, Requests, Counts, Turns, Faults: what a head
-//! says, when bytes are a request, when they are refused, and what a fault says of them and of the
-//! reader.
+//! Read `specs/` in the order Fields, Request, Heads, Requests, Counts, Turns, Room, Faults: what a
+//! head says, when bytes are a request, when they are refused, which room a writer keeps, and what a
+//! fault says of them and of the reader.
 #![tactic(auto)]
 
 mod counted_reader;

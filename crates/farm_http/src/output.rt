@@ -3,6 +3,7 @@ ghost use Rattle.std.specs.Prelude.{◌≡◌, ℕ, ◌+◌, ◌≤◌, length, 
 ghost use Rattle.std.specs.Io.{WritesAtMost};
 ghost use Rattle.std.specs.Io.KnownBytes.{WriteAppends};
 ghost use Rattle.farm_http.specs.Turns.{IsOneMore};
+ghost use Rattle.farm_http.specs.Room.{KeepsRoom};
 
 use std::io;
 use std::io::{Stderr, Stdout, Write};
@@ -22,6 +23,10 @@ pub trait Output: Write {
         ensures bytes { WriteAppends (Self.contents self.old) (Self.contents self.new)
             result bytes.now }
         ensures sure { has_room self.old (length bytes.now) → result ≡ Ok (length bytes.now) }
+
+        // Its room gets less by what it takes, and by no more.
+        ensures room { KeepsRoom (has_room self.old) (has_room self.new)
+            (Self.contents self.old) (Self.contents self.new) }
         ensures once { IsOneMore (turns self.old) (turns self.new) };
 }
 

@@ -4,6 +4,7 @@ ghost use Rattle.std.specs.Prelude.{IsOk, IfErr, OnErr, ◌↔◌};
 ghost use Rattle.std.specs.Io.KnownBytes.{Appends};
 ghost use Rattle.farm_http.specs.Counts.{nothing_written, writer_of, writing_of, IsSameWriter};
 ghost use Rattle.farm_http.specs.Faults.{WritesPrefix};
+ghost use Rattle.farm_http.specs.Room.{KeepsRoom};
 
 use crate::counted_writer::CountedWriter;
 use crate::fault::WireFault;
@@ -18,8 +19,10 @@ pub fn write_whole<W: Output>(writer: &mut W, bytes: &[u8]) -> Result<(), WireFa
     ensures prefix { OnErr result
         (WritesPrefix (W.contents writer.old) (W.contents writer.new) bytes.now) }
 
-    // A writer with room for them, as a vector, takes them all.
+    // A writer with room for them, as a vector, takes them all, and its room gets less by them.
     ensures sure { W.has_room writer.old (length bytes.now) → IsOk result }
+    ensures room { KeepsRoom (W.has_room writer.old) (W.has_room writer.new)
+        (W.contents writer.old) (W.contents writer.new) }
 {
     write_whole_counted(&mut CountedWriter::new(writer), bytes)
 }
@@ -39,8 +42,10 @@ pub fn write_whole_counted<W: Output>(
     ensures failed { IsErr result ↔ IsTrue (writing_of writer.new).failed }
     ensures calls { (writing_of writer.new).calls ≤ length bytes.now }
 
-    // A writer with room for them, as a vector, takes them all.
+    // A writer with room for them, as a vector, takes them all, and its room gets less by them.
     ensures sure { W.has_room (writer_of writer.old) (length bytes.now) → IsOk result }
+    ensures room { KeepsRoom (W.has_room (writer_of writer.old)) (W.has_room (writer_of writer.new))
+        (W.contents (writer_of writer.old)) (W.contents (writer_of writer.new)) }
 {
     let mut done = 0usize;
     while done < bytes.len() {

@@ -1,7 +1,7 @@
 use Rattle.farm_desk.proofs.LabLemmas.{taken_bytes}
 use Rattle.farm_desk.proofs.files.read_lab_from.Goals as goal
 
-pub returns-in-Ok-clause-bytes : goal.returns-in-Ok-clause-bytes
-returns-in-Ok-clause-bytes g c =
+pub returns : goal.returns
+returns g c =
     taken_bytes g.R.Read.remaining c.take-start.result c.args.reader _ _ _ c.take-start.ensures.limit c.take-start.ensures.inner c.new-bytes.ensures.items
-    c.in-Ok.ensures.bytes
+    c.in_ok-read_to_end.ensures.bytes

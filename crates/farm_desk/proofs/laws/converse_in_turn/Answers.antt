@@ -1,7 +1,8 @@
 -- One conversation more, answered or not.
 use Rattle.std.proofs.Common.{◌<◌, length, arith, refl, ap, Err}
 use Rattle.farm_desk.specs.Conversations.{desk}
-use Rattle.farm_desk.proofs.ConversationLemmas.{fault_in, one_more, stops_at}
+use Rattle.farm_desk.proofs.ConversationLemmas.{fault_in, gains_more, one_more, stops_at}
+use Rattle.farm_desk.proofs.ConverseLemmas.{no_room_within}
 use Rattle.farm_desk.proofs.laws.converse_in_turn.Goals as goal
 
 pub returns-in-Err-clause-fault : goal.returns-in-Err-clause-fault
@@ -11,8 +12,12 @@ returns-in-Err-clause-fault g c =
     stops_at g.S.Store (desk c.args.keeper.now (g.R.Read.remaining c.args.reader.now) (g.W.Write.contents c.args.writer.now))
     (desk c.loop-now.keeper (g.R.Read.remaining c.loop-now.reader) (g.W.Write.contents c.loop-now.writer))
     (desk c.converse.new.keeper (g.R.Read.remaining c.converse.new.reader) (g.W.Write.contents c.converse.new.writer))
-    c.args.moments.now c.loop-now.now-index _ c.in-Err.fault low refl c.loop-now.invariant.answers
+    c.args.moments.now c.loop-now.now-index _ _ (g.W.Output.has_room c.args.writer.now) c.in-Err.fault low refl c.loop-now.invariant.answers
     (record { answered = ended.answered; unwritten = ended.unwritten; unread = ended.unread })
+    (record {
+      received = ended.received;
+      answered = λ lost. no_room_within _ _ (g.W.Output.has_room c.loop-now.writer) c.loop-now.invariant.gains.room (ended.taken lost);
+    })
 
 pub returns-in-Err-clause-received : goal.returns-in-Err-clause-received
 returns-in-Err-clause-received g c sure e = c.in-Err.ensures.received sure (ap (λ fault. Err fault) (ap fault_in e))
@@ -28,4 +33,5 @@ loop-now-preserved g c =
           (desk c.converse.new.keeper (g.R.Read.remaining c.converse.new.reader) (g.W.Write.contents c.converse.new.writer))
           c.args.moments.now c.loop-now.now-index _ c.in_default.field-0 low refl c.loop-now.invariant.answers
           (record { answered = ended.answered; unwritten = ended.unwritten; unread = ended.unread });
+      gains = gains_more _ _ _ _ _ _ _ c.loop-now.invariant.gains (ended.answered tt).written ended.room;
     }

@@ -5,11 +5,11 @@ use Rattle.farm_desk.proofs.orders.import_file.Goals as goal
 pub returns-in-Ok : goal.returns-in-Ok
 returns-in-Ok g c = inl (record {
   text = c.in-Ok.text.items;
-  text_of = c.in-Ok.ensures.bytes;
+  text_of = c.in-Ok.ensures;
   imported = c.import_text.ensures.0;
   imports = rw c.as_slice.ensures.value at c.import_text.ensures.1;
   prints = c.import_text.ensures.2;
 })
 
 pub returns-in-Err : goal.returns-in-Err
-returns-in-Err g c = unread_lab _ _ _ _ _ c.in-Err.fault c.in-Err.ensures.fault
+returns-in-Err g c = unread_lab _ _ _ _ _ c.lab_fault.result c.lab_fault.ensures

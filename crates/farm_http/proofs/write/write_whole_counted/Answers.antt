@@ -4,7 +4,7 @@ use Rattle.std.proofs.KnownBytes.{Appends-trans}
 use Rattle.std.proofs.Math.Seq.{take-add}
 use Rattle.std.proofs.lemmas.List.{take-take, length-take, length-drop}
 use Rattle.farm_http.specs.Counts.{writer_of}
-use Rattle.farm_http.proofs.Room.{takes_all, took}
+use Rattle.farm_http.proofs.Room.{room_left, takes_all, took}
 use Rattle.farm_http.proofs.write.write_whole_counted.Goals as goal
 
 pub loop-done-preserved : goal.loop-done-preserved
@@ -27,4 +27,5 @@ loop-done-preserved g c =
           let taken = takes_all g.W.Output.has_room (writer_of c.args.writer.now) (writer_of c.loop-done.writer) (length bytes) done _ (Ok count) c.loop-done.invariant.first size c.in_ok-done.ensures.sure (c.loop-done.invariant.sure room) (omega arith) room in
           let whole : count ≡ length bytes = took count (length bytes) (Ok count) refl taken.1 in
           inr (omega (arith, whole, taken.0));
+      room = room_left (g.W.Output.has_room (writer_of c.args.writer.now)) (g.W.Output.has_room (writer_of c.loop-done.writer)) (g.W.Output.has_room (writer_of c.write.new.self)) _ _ _ (take done bytes) (take count (drop done bytes)) c.loop-done.invariant.written c.loop-done.invariant.room part c.in_ok-done.ensures.room;
     }

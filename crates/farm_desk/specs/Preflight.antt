@@ -1,0 +1,15 @@
+-- Where a new farm may be made, by what there is at the paths of its file and of its log.
+use Rattle.std.specs.Prelude.{⊤}
+use Rattle.farm_desk.specs.declared.preflight.PathState.{PathState}
+
+-- there is no log, or one without a byte
+abbrev pub IsNoLog : PathState → Type 0
+IsNoLog PathState.Nothing = ⊤
+IsNoLog PathState.Empty = ⊤
+IsNoLog state = ⊥
+
+-- a new farm may be made in a database, and where there is no file or an empty one without a log
+abbrev pub MayBeNew : PathState → PathState → Type 0
+MayBeNew PathState.Database log = ⊤
+MayBeNew PathState.Other log = ⊥
+MayBeNew file log = IsNoLog log
