@@ -22,6 +22,9 @@ use std::collections::VecDeque;
 /// How many boards are looked at one by one before a binary search.
 const NEARBY: usize = 8;
 
+/// How many boards are looked at before the place where the first free one is thought to stand.
+const EARLIER: usize = 2;
+
 /// The place of the board of a name: one of the next few from a place on, or else by binary search.
 /// For names that come in their order, each asked for behind the one before it, it costs as many
 /// comparisons as boards were passed, and at most those few and a binary search.
@@ -76,8 +79,9 @@ fn fitting_place(
 /// The first places of free boards for the want: all of them, or as many as the limit. The free
 /// boards and the rows of all boards are walked side by side, in name order: each free board of the
 /// want's type costs a test, and a comparison for each board since the last one; where these are
-/// more than a few, a binary search. The boards are walked from where the first free one stands if
-/// none that is held stands behind one that is free: served claims take the first boards that fit.
+/// more than a few, a binary search. The boards are walked from a little before where the first free
+/// one stands if none that is held stands behind one that is free: served claims take the first
+/// boards that fit, those of several types nearly in order.
 fn shortlist(
     kinds: &[Name],
     rows: &VecDeque<IdleRow>,
@@ -95,7 +99,8 @@ fn shortlist(
 {
     let queue = kind::asked_queue(kinds, &want.kind);
     let mut found = Picked::new();
-    let mut behind = boards.len().saturating_sub(rows.len());
+    let held = boards.len().saturating_sub(rows.len());
+    let mut behind = held.saturating_sub(EARLIER);
     for at in 0..rows.len() {
         if found.len() >= limit {
             break;
