@@ -1,13 +1,14 @@
 -- What the program does with its words.
 use Rattle.std.specs.Prelude.{◌≡◌, ◌⊎◌, ℕ, [], List, Option, Some, Result, Ok, Err, IfOk, IfErr}
-use Rattle.std.specs.Prelude.{string_bytes}
-use Rattle.std.specs.Io.KnownBytes.{Appends, Keeps}
+use Rattle.std.specs.Prelude.{Bool, true, false, string_bytes}
+use Rattle.std.specs.Io.KnownBytes.{Keeps}
 use Rattle.clap.specs.Words.{Text, fault_of, subcommand_of}
 use Rattle.farm_cli.specs.App.{farm_app}
 use Rattle.farm_cli.specs.Faults.{IsFaultAmong}
 use Rattle.farm_cli.specs.Orders.{form_of, order_in}
 use Rattle.farm_cli.specs.declared.fault.OrderFault.{OrderFault}
 use Rattle.farm_cli.specs.declared.order.Order.{Order}
+use Rattle.farm_desk.specs.Ends.{Writes}
 use Rattle.farm_desk.specs.Faults.{done, exit_status, desk_fault_code, order_status, wrong_words}
 use Rattle.farm_desk.specs.Lines.{WritesPart, fault_line, error_line}
 use Rattle.farm_desk.specs.Orders.{Streams}
@@ -34,28 +35,36 @@ pub record PrintsFault (held holds : Option (List ℕ)) (fault : DeskFault) (sta
   pub status_is : status ≡ exit_status fault
   pub printed : WritesPart held holds (fault_line (desk_fault_code fault))
 
--- help is on the output, and nothing beside it; or the output failed, and that fault is printed
-abbrev pub ShowsHelp : List ℕ → Option (List ℕ) → Option (List ℕ) → Option (List ℕ)
-    → Option (List ℕ) → ℕ → Type 0
-ShowsHelp text held holds errors_held errors_hold status =
-    ((status ≡ done) × Appends held holds text × Keeps errors_held errors_hold)
-    ⊎ (WritesPart held holds text × PrintsFault errors_held errors_hold DeskFault.Write status)
+-- a text is printed to a writer that has such room, or for want of room a part of it
+abbrev pub PrintsText : (ℕ → Type 0) → Option (List ℕ) → Option (List ℕ) → List ℕ → Type 0
+PrintsText Room held holds text = (failed : Bool) × Writes Room failed held holds text
 
--- how the program ends where the words name no order
-abbrev pub EndsUnread : OrderFault → Option (List ℕ) → Option (List ℕ) → Option (List ℕ)
+-- help is on the output, and nothing beside it; or the output had no room for it, and that fault is
+-- printed
+abbrev pub ShowsHelp : (ℕ → Type 0) → List ℕ → Option (List ℕ) → Option (List ℕ) → Option (List ℕ)
     → Option (List ℕ) → ℕ → Type 0
-EndsUnread (OrderFault.Help text) held holds errors_held errors_hold status =
-    ShowsHelp (string_bytes text) held holds errors_held errors_hold status
-EndsUnread (OrderFault.Words text) held holds errors_held errors_hold status =
-    (status ≡ wrong_words) × Keeps held holds × WritesPart errors_held errors_hold (string_bytes text)
-EndsUnread OrderFault.NoMemory held holds errors_held errors_hold status =
-    Keeps held holds × PrintsFault errors_held errors_hold DeskFault.NoMemory status
+ShowsHelp Room text held holds errors_held errors_hold status =
+    ((status ≡ done) × Writes Room false held holds text × Keeps errors_held errors_hold)
+    ⊎ (Writes Room true held holds text
+    × PrintsFault errors_held errors_hold DeskFault.Write status)
 
--- how the program ends, by what was read of its words and by what an order does with its end: the
--- input and the output before and then, what the errors hold before and then, and the exit status
-abbrev pub EndsAsRead : (Order → Result End DeskFault → Type 0) → Result Order OrderFault → Streams
-    → Streams → Option (List ℕ) → Option (List ℕ) → ℕ → Type 0
-EndsAsRead Does (Ok order) old new errors_held errors_hold status =
-    EndsOrder (Does order) errors_held errors_hold status
-EndsAsRead Does (Err fault) old new errors_held errors_hold status = (new.input ≡ old.input)
-    × EndsUnread fault old.output new.output errors_held errors_hold status
+module _ (Room ErrorsRoom : ℕ → Type 0) where
+  -- how the program ends where the words name no order; the output and the errors have such room
+  abbrev pub EndsUnread : OrderFault → Option (List ℕ) → Option (List ℕ) → Option (List ℕ)
+      → Option (List ℕ) → ℕ → Type 0
+  EndsUnread (OrderFault.Help text) held holds errors_held errors_hold status =
+      ShowsHelp Room (string_bytes text) held holds errors_held errors_hold status
+  EndsUnread (OrderFault.Words text) held holds errors_held errors_hold status =
+      (status ≡ wrong_words) × Keeps held holds
+      × PrintsText ErrorsRoom errors_held errors_hold (string_bytes text)
+  EndsUnread OrderFault.NoMemory held holds errors_held errors_hold status =
+      Keeps held holds × PrintsFault errors_held errors_hold DeskFault.NoMemory status
+
+  -- how the program ends, by what was read of its words and by what an order does with its end: the
+  -- input and the output before and then, what the errors hold before and then, and the exit status
+  abbrev pub EndsAsRead : (Order → Result End DeskFault → Type 0) → Result Order OrderFault → Streams
+      → Streams → Option (List ℕ) → Option (List ℕ) → ℕ → Type 0
+  EndsAsRead Does (Ok order) old new errors_held errors_hold status =
+      EndsOrder (Does order) errors_held errors_hold status
+  EndsAsRead Does (Err fault) old new errors_held errors_hold status = (new.input ≡ old.input)
+      × EndsUnread fault old.output new.output errors_held errors_hold status

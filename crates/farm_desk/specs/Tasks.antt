@@ -7,7 +7,6 @@ use Rattle.farm_types.specs.Farm.{Farm}
 use Rattle.farm_keep.specs.KeeperState.{KeeperState}
 use Rattle.farm_keep.specs.declared.fault.KeepFault.{KeepFault}
 use Rattle.farm_cli.specs.declared.order.Report.{Report}
-use Rattle.farm_report.specs.Moments.{most_minutes}
 use Rattle.farm_desk.specs.Conversations.{AnswersOne, Desk}
 use Rattle.farm_desk.specs.Ends.{Writes}
 use Rattle.farm_desk.specs.Imports.{IsImport}
@@ -50,8 +49,7 @@ ImportsFile g Room lab old new held holds now result =
 pub record PrintsReport (Room : ℕ → Type 0) (failed : Bool) (F : Farm) (held holds : Option (List ℕ))
     (east west : ℕ) (which : Report) : Type 0 where
   pub text : List ℕ
-  pub reports : east ≤ most_minutes → west ≤ most_minutes
-      → Reports which (seconds_ahead east west) F text
+  pub reports : Reports which (seconds_ahead east west) F text
   pub printed : Writes Room failed held holds text
 
 -- it is, of an open keeper's farm; or nothing is printed, since there was no memory or the keeper

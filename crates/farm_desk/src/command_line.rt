@@ -7,7 +7,8 @@ ghost use Rattle.farm_cli.specs.declared.fault.OrderFault.{OrderFault as Unorder
 ghost use Rattle.farm_desk.specs.Faults.{exit_status, desk_fault_code, order_status, wrong_words};
 ghost use Rattle.farm_desk.specs.Lines.{fault_line, refusal_line, error_line, WritesPart};
 ghost use Rattle.farm_desk.specs.Orders.{streams, DoesOrder};
-ghost use Rattle.farm_desk.specs.Program.{EndsAsRead, EndsOrder, EndsUnread, IsReadOf, ShowsHelp};
+ghost use Rattle.farm_desk.specs.Program.{EndsAsRead, EndsOrder, EndsUnread, IsReadOf, PrintsText};
+ghost use Rattle.farm_desk.specs.Program.{ShowsHelp};
 
 use crate::fault::DeskFault;
 use crate::orders::{End, carry_out};
@@ -51,7 +52,8 @@ pub fn program<R: Input, W: Output, E: Output>(
     // of which nothing is known, and with the input and the output; a fault of the words is
     // printed.
     ensures { (read : Result Ordered Unordered) × IsReadOf (map string_bytes words.now) read
-        × EndsAsRead (DoesOrder (λ _. None) R.never_fails (W.has_room output.old)
+        × EndsAsRead (W.has_room output.old) (E.has_room errors.old)
+        (DoesOrder (λ _. None) R.never_fails (W.has_room output.old)
         (streams (R.remaining input.old) (W.contents output.old))
         (streams (R.remaining input.new) (W.contents output.new))
         ⟦<FileFrom<Unknown> as Disk>⟧ (image_at ⟦<Unknown as Start>⟧)) read
@@ -72,7 +74,8 @@ fn end_as_read<R: Input, W: Output, E: Output>(
     output: &mut W,
     errors: &mut E,
 ) -> u8
-    ensures { EndsAsRead (DoesOrder (λ _. None) R.never_fails (W.has_room output.old)
+    ensures { EndsAsRead (W.has_room output.old) (E.has_room errors.old)
+        (DoesOrder (λ _. None) R.never_fails (W.has_room output.old)
         (streams (R.remaining input.old) (W.contents output.old))
         (streams (R.remaining input.new) (W.contents output.new))
         ⟦<FileFrom<Unknown> as Disk>⟧ (image_at ⟦<Unknown as Start>⟧)) read
@@ -88,7 +91,8 @@ fn end_as_read<R: Input, W: Output, E: Output>(
 
 /// Prints why words name no order, and returns the exit status.
 fn print_order_fault<W: Output, E: Output>(fault: OrderFault, output: &mut W, errors: &mut E) -> u8
-    ensures { EndsUnread fault (W.contents output.old) (W.contents output.new)
+    ensures { EndsUnread (W.has_room output.old) (E.has_room errors.old) fault
+        (W.contents output.old) (W.contents output.new)
         (E.contents errors.old) (E.contents errors.new) result }
 {
     match fault {
@@ -100,7 +104,7 @@ fn print_order_fault<W: Output, E: Output>(fault: OrderFault, output: &mut W, er
 
 /// Writes help to the output, and returns the exit status.
 fn show_help<W: Output, E: Output>(text: &[u8], output: &mut W, errors: &mut E) -> u8
-    ensures { ShowsHelp text.now (W.contents output.old) (W.contents output.new)
+    ensures { ShowsHelp (W.has_room output.old) text.now (W.contents output.old) (W.contents output.new)
         (E.contents errors.old) (E.contents errors.new) result }
 {
     match write_whole(output, text) {
@@ -112,7 +116,8 @@ fn show_help<W: Output, E: Output>(text: &[u8], output: &mut W, errors: &mut E) 
 /// Prints what is wrong with the words, and returns the exit status.
 fn refuse_words<E: Output>(text: &[u8], errors: &mut E) -> u8
     ensures status { result ≡ wrong_words }
-    ensures printed { WritesPart (E.contents errors.old) (E.contents errors.new) text.now }
+    ensures printed { PrintsText (E.has_room errors.old) (E.contents errors.old)
+        (E.contents errors.new) text.now }
 {
     let _ = write_whole(errors, text);
     WRONG_WORDS

@@ -1,5 +1,7 @@
 //! Farms in files: opening one and making one; and reading a lab file.
-ghost use Rattle.std.specs.Prelude.{◌≡◌, ◌⊎◌, false, IfOk, IfErr};
+ghost use Rattle.std.specs.Prelude.{◌≡◌, ◌⊎◌, ◌↔◌, false, IfOk, IfErr};
+ghost use Rattle.std.specs.IoError.{error_kind};
+ghost use Rattle.std.specs.declared.io.ErrorKind.TheVariants.{OutOfMemory};
 ghost use Rattle.sqlite.specs.Held.{state};
 ghost use Rattle.sqlite_wal.specs.Files.{image_at};
 ghost use Rattle.sqlite_wal.specs.Recovery.{Image};
@@ -178,7 +180,8 @@ fn read_lab_from<R: Read + Drop>(alloc: Global, reader: R) -> io::Result<Vec<u8>
 
 /// What it is that no lab file could be read.
 pub(crate) fn lab_fault(error: &io::Error) -> DeskFault
-    ensures { (result ≡ DeskFault.NoMemory) ⊎ (result ≡ DeskFault.Read) }
+    ensures fault { (result ≡ DeskFault.NoMemory) ⊎ (result ≡ DeskFault.Read) }
+    ensures memory { (result ≡ DeskFault.NoMemory) ↔ (error_kind error.now ≡ OutOfMemory) }
 {
     match error.kind() {
         ErrorKind::OutOfMemory => DeskFault::NoMemory,

@@ -1,6 +1,5 @@
 //! The text of a report, by its kind and its time zone.
 ghost use Rattle.std.specs.Prelude.{◌≡◌, ◌≢◌, ◌≤◌, false, Ok, Err, IfOk, string_bytes};
-ghost use Rattle.farm_report.specs.Moments.{most_minutes};
 ghost use Rattle.farm_desk.specs.Reports.{Reports, seconds_ahead};
 
 use farm_cli::Report;
@@ -13,7 +12,7 @@ use std::alloc::{AllocError, Global};
 /// The offset that lies so many minutes east of UTC, less so many west; each counts as
 /// `MOST_MINUTES` where it is more.
 pub(crate) fn zone_between(east: u64, west: u64) -> Offset
-    ensures { east ≤ most_minutes → west ≤ most_minutes → result.seconds ≡ seconds_ahead east west }
+    ensures { result.seconds ≡ seconds_ahead east west }
 {
     let minutes = east.min(MOST_MINUTES) as i64 - west.min(MOST_MINUTES) as i64;
     match zone_of(minutes) {

@@ -12,4 +12,4 @@ returns-in-Ok g c = inl (record {
 })
 
 pub returns-in-Err : goal.returns-in-Err
-returns-in-Err g c = unread_lab _ _ _ _ _ c.lab_fault.result c.lab_fault.ensures
+returns-in-Err g c = unread_lab _ _ _ _ _ c.lab_fault.result c.lab_fault.ensures.fault
