@@ -4,7 +4,7 @@ ghost use Rattle.std.specs.Option.{option_copied};
 ghost use Rattle.farm_types.specs.Limits.{most_wants};
 ghost use Rattle.farm_core.specs.Serving.{member_wants, want_at, WantAlike};
 
-use farm_types::{JobRow, MOST_WANTS, Name, Tag, Want};
+use farm_types::{JobRow, MOST_WANTS, Name, Want};
 
 /// Whether two types are one, or neither is named.
 fn same_type(first: &Option<Name>, second: &Option<Name>) -> bool
@@ -17,31 +17,11 @@ fn same_type(first: &Option<Name>, second: &Option<Name>) -> bool
     }
 }
 
-/// Whether two tags are one.
-fn same_tag(first: &Tag, second: &Tag) -> bool
-    ensures { IsTrue result ↔ (first.now ≡ second.now) }
-{
-    first.as_str() == second.as_str()
-}
-
-/// Whether two lists have the same tags.
-fn same_tags(first: &[Tag], second: &[Tag]) -> bool
-    ensures { IsTrue result ↔ (first.now ≡ second.now) }
-{
-    match (first, second) {
-        ([], []) => true,
-        ([tag, first @ ..], [other, second @ ..]) => {
-            same_tag(tag, other) && same_tags(first, second)
-        }
-        _ => false,
-    }
-}
-
 /// Whether two wants ask for the same type and the same tags.
 pub fn same_want(first: &Want, second: &Want) -> bool
     ensures { IsTrue result ↔ (first.now ≡ second.now) }
 {
-    same_type(&first.kind, &second.kind) && same_tags(first.tags.items(), second.tags.items())
+    same_type(&first.kind, &second.kind) && first.tags.is(&second.tags)
 }
 
 /// What the row at a place wants, if it is there and of the group.
