@@ -1,5 +1,5 @@
 use Rattle.std.proofs.Common.{length}
-use Rattle.farm_core.proofs.kept.KeptDebug.fmt.Given as goal
+use Rattle.farm_core.proofs.kept.KeptRepliesDebug.fmt.Given as goal
 
 abbrev pub decreases-loop-packed : goal.decreases-loop-packed
 decreases-loop-packed g l = length l.packed
