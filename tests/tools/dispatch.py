@@ -245,7 +245,7 @@ def cancels(place):
     demand("how it ended", "status 143", read(lab.file(quiet, "ended")).strip())
     demand("the one that doesn't", "Canceled", lab.finished(stubborn))
     demand("how it ended", "signal 9", read(lab.file(stubborn, "ended")).strip())
-    demand("what it left", [], processes_of(lab, 101))
+    wait_until("what it left is gone", lambda: not processes_of(lab, 101))
     lab.closes(dispatcher)
     return "a canceled job's command gets SIGTERM, then SIGKILL, and what it left behind is killed"
 
