@@ -10,7 +10,7 @@ use Rattle.farm_types.specs.declared.rows.BoardRow.{BoardRow}
 use Rattle.farm_types.specs.declared.rows.JobRow.{JobRow}
 use Rattle.farm_types.specs.declared.rows.ResRow.{ResRow}
 use Rattle.farm_types.specs.declared.rows.MetaRow.{MetaRow}
-use Rattle.farm_types.specs.declared.calls.Changes.{Changes}
+use Rattle.farm_types.specs.declared.calls.Rows.{Rows}
 use Rattle.farm_table.specs.Near.{IsFitJob}
 use Rattle.farm_core.specs.SmallRows.{AreSmallRows}
 use Rattle.farm_core.proofs.Small.{small_frequency}
@@ -77,7 +77,7 @@ small_collector F sound = by F.collector refl
         small_group F.collector F.jobs (fit_jobs F sound) (omega (arith, two))
 
 -- the changed rows' numbers and the sound farm's own four are small
-pub AreSmall-sound : (c : Changes) (G : Farm) → AreSmallRows c → c.meta ≡ record { clock = G.clock; collector = G.collector; count = G.count; next = G.next } → IsSound G → AreSmall c
+pub AreSmall-sound : (c : Rows) (G : Farm) → AreSmallRows c → c.meta ≡ record { clock = G.clock; collector = G.collector; count = G.count; next = G.next } → IsSound G → AreSmall c
 AreSmall-sound c G rows meta sound = record {
   types = rows.types;
   boards = rows.boards;

@@ -3,7 +3,7 @@ use Rattle.std.proofs.Common.{◌≡◌, ℕ, ap, sym, subst, ◌∙◌}
 use Rattle.std.specs.declared.cmp.Ordering.{Ordering}
 use Rattle.farm_types.specs.Table.{put_all, type_cmp, board_cmp, job_cmp, res_cmp, kept_cmp}
 use Rattle.farm_types.specs.Farm.{put_rows}
-use Rattle.farm_types.specs.declared.calls.Changes.{Changes}
+use Rattle.farm_types.specs.declared.calls.Rows.{Rows}
 use Rattle.farm_types.specs.declared.rows.BoardRow.{BoardRow}
 use Rattle.farm_types.specs.declared.rows.JobRow.{JobRow}
 use Rattle.farm_types.specs.declared.rows.ResRow.{ResRow}
@@ -64,7 +64,7 @@ pub leads_same : {R : Type 0} (cmp : R → R → Ordering) (a b : Tabled R) → 
 leads_same cmp a b same = subst (Leads cmp a) (sym same) (leads_none cmp a)
 
 -- what is logged from rest on leads from there
-pub rows_led : (a b : Tables) (count : ℕ) (c : Changes) → IsAtRest a → LeadOn a b → AreLogged (record b { count = count }) c → put_rows (plain_farm a) c ≡ plain_farm (record b { count = count })
+pub rows_led : (a b : Tables) (count : ℕ) (c : Rows) → IsAtRest a → LeadOn a b → AreLogged (record b { count = count }) c → put_rows (plain_farm a) c ≡ plain_farm (record b { count = count })
 rows_led a b count c rest logs logged =
     let types = ap (put_all type_cmp a.types.rows) logged.types ∙ logs.types.on a.types.rows (ap (put_all type_cmp a.types.rows) rest.types) in
     let boards = ap (put_all board_cmp a.boards.rows) logged.boards ∙ logs.boards.on a.boards.rows (ap (put_all board_cmp a.boards.rows) rest.boards) in

@@ -3,7 +3,7 @@ use Rattle.std.specs.Prelude.{◌≡◌, ℕ, List, []}
 use Rattle.farm_types.specs.Table.{type_cmp, board_cmp, job_cmp, res_cmp, kept_cmp}
 use Rattle.farm_types.specs.Change.{act, done_with}
 use Rattle.farm_types.specs.Farm.{Farm}
-use Rattle.farm_types.specs.declared.calls.Changes.{Changes}
+use Rattle.farm_types.specs.declared.calls.Rows.{Rows}
 use Rattle.farm_types.specs.declared.calls.Cmd.{Cmd}
 use Rattle.farm_pick.specs.Queued.{QueueLists}
 use Rattle.farm_table.specs.Tabled.{Leads}
@@ -52,7 +52,7 @@ pub record IsAtRest (t : Tables) : Type 0 where
   pub kept : t.kept.log ≡ []
 
 -- the changes are what is logged, and the four numbers
-pub record AreLogged (t : Tables) (c : Changes) : Type 0 where
+pub record AreLogged (t : Tables) (c : Rows) : Type 0 where
   pub types : c.types.items ≡ t.types.log
   pub boards : c.boards.items ≡ t.boards.log
   pub jobs : c.jobs.items ≡ t.jobs.log

@@ -3,10 +3,10 @@ use Rattle.std.specs.List.{AllByRecursion}
 use Rattle.farm_types.specs.Small.{IsSmall, IsSmallType, IsSmallBoard, IsSmallJob, IsSmallRes}
 use Rattle.farm_types.specs.Small.{IsSmallKept}
 use Rattle.farm_types.specs.declared.rows.Reply.{Reply}
-use Rattle.farm_types.specs.declared.calls.Changes.{Changes}
+use Rattle.farm_types.specs.declared.calls.Rows.{Rows}
 
 -- each number of the changed rows is small, the farm's own four aside
-pub record AreSmallRows (c : Changes) : Type 0 where
+pub record AreSmallRows (c : Rows) : Type 0 where
   pub types : AllByRecursion IsSmallType c.types.items
   pub boards : AllByRecursion IsSmallBoard c.boards.items
   pub jobs : AllByRecursion IsSmallJob c.jobs.items

@@ -12,7 +12,7 @@ use Rattle.sqlite_value.specs.Order.{value_cmp}
 use Rattle.sqlite_value.proofs.OrderLemmas.{value_cmp-Int, value_cmp-Text}
 use Rattle.farm_types.specs.Table.{put, put_all, type_cmp, board_cmp, job_cmp, res_cmp, kept_cmp}
 use Rattle.farm_types.specs.Farm.{Farm, put_rows}
-use Rattle.farm_types.specs.declared.calls.Changes.{Changes}
+use Rattle.farm_types.specs.declared.calls.Rows.{Rows}
 use Rattle.farm_types.specs.declared.rows.TypeRow.{TypeRow}
 use Rattle.farm_types.specs.declared.rows.BoardRow.{BoardRow}
 use Rattle.farm_types.specs.declared.rows.JobRow.{JobRow}
@@ -79,7 +79,7 @@ pub numbers_there : (F : Farm) → (rows_of F).meta ≡ meta_rows (numbers_of F)
 unfolding rows_of
 numbers_there F = refl
 
-pub commutes : (F : Farm) (c : Changes) → rows_of (put_rows F c) ≡ put_tables (rows_of F) c
+pub commutes : (F : Farm) (c : Rows) → rows_of (put_rows F c) ≡ put_tables (rows_of F) c
 unfolding rows_of
 commutes F c =
     let types = map_put_all type_columns by_first type_cmp of_types F.types c.types.items in

@@ -4,7 +4,7 @@ use Rattle.std.specs.declared.cmp.Ordering.{Ordering}
 use Rattle.sqlite.specs.Order.{Row}
 use Rattle.sqlite.specs.Tree.{Trees}
 use Rattle.farm_types.specs.Table.{put_all}
-use Rattle.farm_types.specs.declared.calls.Changes.{Changes}
+use Rattle.farm_types.specs.declared.calls.Rows.{Rows}
 use Rattle.farm_store.specs.Columns.{TableRows, by_first, by_two, type_columns, board_columns}
 use Rattle.farm_store.specs.Columns.{job_columns, res_columns, kept_columns, number_rows}
 use Rattle.farm_store.specs.Schema.{types_table, boards_table, jobs_table, reservations_table}
@@ -91,7 +91,7 @@ abbrev pub put_at : TableSlot → TableRows → List Row → TableRows
 put_at p T rows = p.replaced T (put_all p.cmp (p.rows T) rows)
 
 -- the tables with all changed rows and the four numbers put
-abbrev pub put_tables : TableRows → Changes → TableRows
+abbrev pub put_tables : TableRows → Rows → TableRows
 put_tables T c =
     put_at of_meta
     (put_at of_kept (put_at of_reservations (put_at of_jobs (put_at of_boards (put_at of_types T

@@ -129,18 +129,6 @@ fn one_of_each(alloc: Global) -> Result<Changes, Fail>
     })
 }
 
-/// What a store gives that has these rows and no others.
-fn rows_of(changes: Changes) -> Rows {
-    Rows {
-        types: changes.types,
-        boards: changes.boards,
-        jobs: changes.jobs,
-        reservations: changes.reservations,
-        kept: changes.kept,
-        meta: changes.meta,
-    }
-}
-
 /// Each field of each row.
 fn in_words(alloc: Global, rows: &Rows) -> Result<String, AllocError> {
     format!(in alloc; "{rows:?}")
@@ -164,7 +152,7 @@ fn rows_put_and_read(rt: HostRuntime) -> Result<(), Fail> {
     let alloc = rt.alloc();
     let changes = one_of_each(alloc)?;
     let found = put_and_read(alloc, Connection::open_in_memory(alloc)?, &changes)?;
-    let wanted = in_words(alloc, &rows_of(changes))?;
+    let wanted = in_words(alloc, &changes)?;
     assert_eq!(rt; found.as_str(), wanted.as_str());
     Ok(())
 }

@@ -8,7 +8,6 @@ use Rattle.farm_types.specs.declared.rows.BoardRow.{BoardRow}
 use Rattle.farm_types.specs.declared.rows.JobRow.{JobRow}
 use Rattle.farm_types.specs.declared.rows.ResRow.{ResRow}
 use Rattle.farm_types.specs.declared.rows.KeptRow.{KeptRow}
-use Rattle.farm_types.specs.declared.calls.Changes.{Changes}
 use Rattle.farm_types.specs.declared.calls.Rows.{Rows}
 use Rattle.farm_types.specs.declared.claims.Status.{Status}
 
@@ -65,7 +64,7 @@ abbrev pub put_kept : Farm → KeptRow → Farm
 put_kept F row = record F { kept = put kept_cmp F.kept row }
 
 -- the farm with each changed row put, and the four numbers
-abbrev pub put_rows : Farm → Changes → Farm
+abbrev pub put_rows : Farm → Rows → Farm
 put_rows F c = record {
   types = put_all type_cmp F.types c.types.items;
   boards = put_all board_cmp F.boards c.boards.items;

@@ -2,7 +2,7 @@
 use Rattle.std.specs.Prelude.{◌≤◌, ℕ, List, [], ◌∷◌}
 use Rattle.std.specs.List.{AllByRecursion}
 use Rattle.farm_types.specs.Limits.{largest_stored}
-use Rattle.farm_types.specs.declared.calls.Changes.{Changes}
+use Rattle.farm_types.specs.declared.calls.Rows.{Rows}
 use Rattle.farm_types.specs.declared.rows.Check.{Check}
 use Rattle.farm_types.specs.declared.rows.Holder.{Holder}
 use Rattle.farm_types.specs.declared.rows.TypeRow.{TypeRow}
@@ -52,7 +52,7 @@ pub record IsSmallKept (r : KeptRow) : Type 0 where
   pub third : IsSmall r.reply.2
 
 -- each number of the changed rows is small
-pub record AreSmall (c : Changes) : Type 0 where
+pub record AreSmall (c : Rows) : Type 0 where
   pub types : AllByRecursion IsSmallType c.types.items
   pub boards : AllByRecursion IsSmallBoard c.boards.items
   pub jobs : AllByRecursion IsSmallJob c.jobs.items

@@ -152,23 +152,6 @@ impl Call {
     }
 }
 
-/// Whole rows, to be put one after another by their keys.
-#[derive(Debug, Drop)]
-pub struct Changes {
-    /// Device types.
-    pub types: Vec<TypeRow>,
-    /// Boards.
-    pub boards: Vec<BoardRow>,
-    /// Jobs.
-    pub jobs: Vec<JobRow>,
-    /// Reservations.
-    pub reservations: Vec<ResRow>,
-    /// Kept replies.
-    pub kept: Vec<KeptRow>,
-    /// The farm's four numbers. They are put whole.
-    pub meta: MetaRow,
-}
-
 /// The rows of the six tables.
 #[derive(Debug, Drop)]
 pub struct Rows {
@@ -185,6 +168,9 @@ pub struct Rows {
     /// The farm's four numbers.
     pub meta: MetaRow,
 }
+
+/// Whole rows, to be put one after another by their keys. The four numbers are put whole.
+pub type Changes = Rows;
 
 /// What the farm answers to a call.
 #[derive(Debug, Drop)]
