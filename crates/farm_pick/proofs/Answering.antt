@@ -1,21 +1,54 @@
 -- From short lists of places to the least list.
 use Rattle.std.proofs.Common.{◌≡◌, ◌≢◌, ℕ, zero, suc, ◌<◌, ◌≤◌, Bool, true, false, List, [], ◌∷◌, ◌==◌, length, map, set, take, get_or, Bor, refl, sym, ap, ◌∙◌, inl, inr, subst, arith, Option, Some, None}
-use Rattle.std.specs.Prelude.{All, AllPairs, IfSome, IfNone, option_map}
+use Rattle.std.specs.Prelude.{All, AllPairs, IfSome, IfNone, MatchOption, option_map}
 use Rattle.std.specs.List.{AllZip, AllByRecursion}
-use Rattle.std.proofs.lemmas.Bool.{false≢true, eqb-false}
+use Rattle.std.proofs.lemmas.Bool.{false≢true, eqb-false, or_parts}
 use Rattle.std.proofs.lemmas.List.{take_all}
 use Rattle.std.proofs.lemmas.List.Elements.{All-nil, All-cons}
-use Rattle.std.proofs.lemmas.Option.{IfSome_then}
-use Rattle.farm_types.specs.Pick.{least, IsLeast}
+use Rattle.std.proofs.lemmas.List.Kept.{AllPairs-cons}
+use Rattle.farm_types.specs.Pick.{AreAmong, least, IsLeast, meets, names_cmp}
 use Rattle.farm_types.specs.declared.rows.Want.{Want}
 use Rattle.farm_types.specs.declared.rows.BoardRow.{BoardRow}
+use Rattle.farm_sound.proofs.Least.{IsLeast-least, none_meets}
 use Rattle.farm_pick.specs.Choice.{has, Ascends, Chooses, IsLeastChoice, IsShortlist, candidate_at}
 use Rattle.farm_pick.specs.Least.{boards_at}
-use Rattle.farm_pick.proofs.Choices.{or_false, Found, from_lists, into_lists, length-chosen, NotAfter-trans}
-use Rattle.farm_pick.proofs.Places.{AreInNameOrder, AreAt, candidate_within}
+use Rattle.farm_pick.proofs.Choices.{Found, from_lists, into_lists, length-chosen, NotAfter-trans}
+use Rattle.farm_pick.proofs.Ordered.{tied_same}
+use Rattle.farm_pick.proofs.Places.{AreInNameOrder, AreAt, candidate_within, board_total}
 use Rattle.farm_pick.proofs.Meeting.{boards_from_choice, choice_from_boards, not_before}
-use Rattle.farm_pick.proofs.Unique.{one_least}
-use Rattle.farm_pick.proofs.Lists.{IsAnswer, least_answers}
+use Rattle.std.specs.Cmp.{IsTotalOrder}
+use Rattle.std.specs.Cmp.Lexicographic.{lists_total}
+use Rattle.std.specs.declared.cmp.Ordering.TheVariants.{Equal}
+use Rattle.farm_types.specs.Table.{board_cmp}
+
+-- ---- there is one least list at most
+
+pub names_total : IsTotalOrder names_cmp
+names_total = lists_total board_total
+
+module _ (boards : List BoardRow) (ordered : AreInNameOrder boards) where
+  same_boards : (bs cs : List BoardRow) → AreAmong boards bs → AreAmong boards cs → names_cmp bs cs ≡ Equal → bs ≡ cs
+  same_boards [] [] m n e = refl
+  same_boards [] (c ∷ cs) m n e = cc
+  same_boards (b ∷ bs) [] m n e = cc
+  same_boards (b ∷ bs) (c ∷ cs) m n e = grind (arith, tied_same board_cmp board_total b c boards ordered m.0 n.0, same_boards bs cs m.1 n.1)
+
+  pub one_least : (test : BoardRow → Bool) (ws : List Want) (bs cs : List BoardRow) → IsLeast boards test ws bs → IsLeast boards test ws cs → bs ≡ cs
+  one_least test ws bs cs l k = same_boards bs cs l.among k.among
+      (grind (arith, names_total.antisymm cs bs, l.least cs k.among k.meeting, k.least bs l.among l.meeting))
+
+-- ---- the answer of the definitions' search
+
+module _ (boards : List BoardRow) (test : BoardRow → Bool) (ws : List Want) (ordered : AreInNameOrder boards) where
+  abbrev pub IsAnswer : Option (List BoardRow) → Type 0
+  IsAnswer r = MatchOption r ((bs : List BoardRow) → AreAmong boards bs → meets test ws bs ≡ true → ⊥) (IsLeast boards test ws)
+
+  answered : (r : Option (List BoardRow)) → least boards test ws ≡ r → IsAnswer r
+  answered None is = λ bs known meeting. none_meets boards test ws bs is known meeting
+  answered (Some bs) is = IsLeast-least boards test ws bs ordered is
+
+  pub least_answers : IsAnswer (least boards test ws)
+  least_answers = answered (least boards test ws) refl
 
 -- ---- short lists
 
@@ -86,16 +119,10 @@ module _ {W : Type 0} (serves : W → ℕ → Bool) (ws : List W) (lists : List 
 all_pairs_nil : {X : Type 0} (R : X → X → Type 0) → AllPairs R []
 all_pairs_nil R i j d lt within = absurd (omega arith)
 
-all_pairs_cons : {X : Type 0} (R : X → X → Type 0) (x : X) (xs : List X) → All (R x) xs → AllPairs R xs → AllPairs R (x ∷ xs)
-all_pairs_cons R x xs h pairs zero zero d lt within = absurd (omega arith)
-all_pairs_cons R x xs h pairs zero (suc j) d lt within = h j d (omega arith)
-all_pairs_cons R x xs h pairs (suc i) zero d lt within = absurd (omega arith)
-all_pairs_cons R x xs h pairs (suc i) (suc j) d lt within = pairs i j d (omega arith) (omega arith)
-
 not_here : (p : ℕ) (ps : List ℕ) → has ps p ≡ false → All (λ q. p ≢ q) ps
 not_here p [] n = All-nil (λ q. p ≢ q)
 not_here p (q ∷ ps) n =
-    let parts = or_false (q == p) (has ps p) n in
+    let parts = or_parts (q == p) (has ps p) n in
     All-cons (λ r. p ≢ r) q ps (λ same. eqb-false q p parts.0 (sym same)) (not_here p ps parts.1)
 
 -- ---- places of boards
@@ -127,19 +154,19 @@ module _ {V : Type 0} (f : V → Want) (boards : List BoardRow) (test : BoardRow
   unseen used (v ∷ vs) [] c = absurd c
   unseen used (v ∷ vs) (p ∷ ps) c = (c.0, c.1, c.2, unseen used vs ps c.3)
 
-  within : (used : List ℕ) (vs : List V) (ps : List ℕ) → Chooses (candidate_by f boards test) used vs ps → All (λ i. i < length boards) ps
-  within used [] [] c = All-nil (λ i. i < length boards)
-  within used [] (p ∷ ps) c = absurd c
-  within used (v ∷ vs) [] c = absurd c
-  within used (v ∷ vs) (p ∷ ps) c =
-      All-cons (λ i. i < length boards) p ps (candidate_within boards test (f v) p c.0) (within used vs ps c.3)
+  all_within : (used : List ℕ) (vs : List V) (ps : List ℕ) → Chooses (candidate_by f boards test) used vs ps → All (λ i. i < length boards) ps
+  all_within used [] [] c = All-nil (λ i. i < length boards)
+  all_within used [] (p ∷ ps) c = absurd c
+  all_within used (v ∷ vs) [] c = absurd c
+  all_within used (v ∷ vs) (p ∷ ps) c =
+      All-cons (λ i. i < length boards) p ps (candidate_within boards test (f v) p c.0) (all_within used vs ps c.3)
 
-  different : (used : List ℕ) (vs : List V) (ps : List ℕ) → Chooses (candidate_by f boards test) used vs ps → AllPairs (λ i j. i ≢ j) ps
-  different used [] [] c = all_pairs_nil (λ i j. i ≢ j)
-  different used [] (p ∷ ps) c = absurd c
-  different used (v ∷ vs) [] c = absurd c
-  different used (v ∷ vs) (p ∷ ps) c =
-      all_pairs_cons (λ i j. i ≢ j) p ps (not_here p ps c.2) (different used vs ps c.3)
+  all_different : (used : List ℕ) (vs : List V) (ps : List ℕ) → Chooses (candidate_by f boards test) used vs ps → AllPairs (λ i j. i ≢ j) ps
+  all_different used [] [] c = all_pairs_nil (λ i j. i ≢ j)
+  all_different used [] (p ∷ ps) c = absurd c
+  all_different used (v ∷ vs) [] c = absurd c
+  all_different used (v ∷ vs) (p ∷ ps) c =
+      AllPairs-cons (λ i j. i ≢ j) p ps (not_here p ps c.2) (all_different used vs ps c.3)
 
   -- ---- the answer of the search
 
@@ -171,16 +198,26 @@ module _ {V : Type 0} (f : V → Want) (boards : List BoardRow) (test : BoardRow
     pub is_least : (r : Option (List ℕ)) → IfSome r (λ ps. IsLeastChoice (candidate_by f boards test) [] vs ps) → IfNone r ((ps : List ℕ) → Chooses (candidate_by f boards test) [] vs ps → ⊥) → option_map (boards_at boards) r ≡ least boards test (map f vs)
     is_least r found none = same_answer r (least boards test (map f vs)) found none (least_answers boards test (map f vs) ordered)
 
-  module _ (vs : List V) (r : Option (List ℕ)) (found : IfSome r (λ ps. IsLeastChoice (candidate_by f boards test) [] vs ps)) where
-    pub as_many : IfSome r (λ ps. length ps ≡ length vs)
-    as_many = IfSome_then r found (λ ps choice. length-chosen (candidate_by f boards test) [] vs ps choice.chooses)
+    -- all that is said of the places that are found
+    pub record IsFound (r : Option (List ℕ)) : Type 0 where
+      pub least : option_map (boards_at boards) r ≡ least boards test (map f vs)
+      pub len : IfSome r (λ ps. length ps ≡ length vs)
+      pub within : IfSome r (λ ps. All (λ i. i < length boards) ps)
+      pub different : IfSome r (λ ps. AllPairs (λ i j. i ≢ j) ps)
 
-    pub all_within : IfSome r (λ ps. All (λ i. i < length boards) ps)
-    all_within = IfSome_then r found (λ ps choice. within [] vs ps choice.chooses)
-
-    pub all_different : IfSome r (λ ps. AllPairs (λ i j. i ≢ j) ps)
-    all_different = IfSome_then r found (λ ps choice. different [] vs ps choice.chooses)
-
-pub IfNone_then : {X : Type 0} (r : Option X) {P Q : Type 0} → IfNone r P → (P → Q) → IfNone r Q
-IfNone_then None h f = f h
-IfNone_then (Some x) h f = tt
+    pub is_found : (lists : List (List ℕ)) → AreShortlists (candidate_by f boards test) (length vs) vs lists → (r : Option (List ℕ))
+        → IfSome r (Found [] lists) → IfNone r ((ps : List ℕ) → Chooses has [] lists ps → ⊥) → IsFound r
+    is_found lists short None found none = record {
+      least = is_least None tt (none_from_lists (candidate_by f boards test) vs lists short none);
+      len = tt;
+      within = tt;
+      different = tt;
+    }
+    is_found lists short (Some ps) found none =
+        let choice = found_from_lists (candidate_by f boards test) vs lists short ps found in
+        record {
+          least = is_least (Some ps) choice tt;
+          len = length-chosen (candidate_by f boards test) [] vs ps choice.chooses;
+          within = all_within [] vs ps choice.chooses;
+          different = all_different [] vs ps choice.chooses;
+        }

@@ -1,7 +1,7 @@
 -- The queues after a call of put or take, as callers see them.
-use Rattle.std.proofs.Common.{◌≡◌, ◌∙◌, ◌==◌, ◌≤◌, ◌++◌, ℕ, List, [], ◌∷◌, length, map, arith, cond, not, Option, Some, None, Result, Ok, Err, refl, sym, ap, subst, Bool, true, false}
-use Rattle.std.specs.Prelude.{OnOk, OnErr}
-use Rattle.std.specs.List.{AllByRecursion, filter}
+use Rattle.std.proofs.Common.{◌≡◌, ◌∙◌, ◌==◌, ◌≤◌, ◌++◌, ℕ, List, [], ◌∷◌, length, map, arith, cond, not, Option, Some, None, Result, Ok, Err, refl, sym, ap, subst, Bool, false, ◌<◌, zero, suc, get_or}
+use Rattle.std.specs.Prelude.{OnOk, OnErr, unwrap_or}
+use Rattle.std.specs.List.{AllByRecursion, filter, find, remove}
 use Rattle.std.specs.BTreeMap.{insert_entry}
 use Rattle.std.specs.Ordering.{is_eq, nat_cmp}
 use Rattle.farm_types.specs.Table.{put}
@@ -11,18 +11,53 @@ use Rattle.farm_pick.specs.Kept.{spot_cmp, queued_cmp, kind_at, shown_claims, cl
 use Rattle.farm_pick.specs.declared.spot.Spot.{Spot}
 use Rattle.farm_pick.specs.declared.spot.Place.{Place}
 use Rattle.farm_pick.specs.declared.idle.IdleRow.{IdleRow}
-use Rattle.std.specs.Prelude.{unwrap_or}
-use Rattle.farm_types.proofs.Put.{AllByRecursion-put, AllByRecursion-weaker, put_sorted}
+use Rattle.farm_types.proofs.Put.{AllByRecursion-put, AllByRecursion-weaker, put_sorted, found_passes}
 use Rattle.std.specs.Cmp.{IsTotalOrder, on_total}
 use Rattle.std.specs.Str.{bytes_eq}
 use Rattle.std.proofs.lemmas.List.Kept.{IsStrictlySortedBy-filter}
-use Rattle.farm_sound.proofs.Lists.{filter_all}
-use Rattle.std.specs.Cmp.Lexicographic.{nat_list_cmp_total}
+use Rattle.std.proofs.lemmas.Result.{on_err_weaker, on_ok_weaker}
+use Rattle.farm_sound.proofs.Lists.{filter_all, all_fail}
+use Rattle.std.specs.Cmp.Lexicographic.{nat_list_cmp_total, nat_list_eq_equiv}
 use Rattle.std.specs.List.Sorted.{IsStrictlySortedBy}
-use Rattle.std.specs.Ordering.{match_ordering}
-use Rattle.std.specs.declared.cmp.Ordering.{Ordering}
-use Rattle.std.specs.declared.cmp.Ordering.TheVariants.{Equal, Greater, Less}
+use Rattle.std.specs.declared.cmp.Ordering.TheVariants.{Less}
+use Rattle.farm_pick.proofs.Entries.{filter_seen, put_seen, all_pass}
 use Rattle.farm_pick.proofs.Keeping.{are_more, kind_more, long, shown_more, no_place, no_claim, after_put, shown_put, none_taken, after_take, shown_take}
+use Rattle.std.proofs.lemmas.Bool.{not_from_false}
+use Rattle.std.proofs.lemmas.Map.Keys.{Less-from_sorted}
+use Rattle.std.proofs.lemmas.Slice.Eq.{bytes_eq-Decides}
+use Rattle.farm_types.proofs.Searched.{same_names}
+use Rattle.farm_sound.proofs.Own.{text_itself}
+
+-- ---- the free boards without one of them
+
+module _ (name : List ℕ) where
+  abbrev is_other : IdleRow → Bool
+  is_other r = not (bytes_eq r.name name)
+
+  -- a row below another has another name
+  other_name : (a b : IdleRow) → idle_cmp a b ≡ Less → bytes_eq a.name b.name ≡ false
+  other_name a b less = same_names a.name b.name ∙ ap is_eq less
+
+  taken_from : (rows : List IdleRow) (i : ℕ) → IsStrictlySortedBy idle_cmp rows → i < length rows → ((d : IdleRow) → (get_or rows i d).name ≡ name)
+      → filter is_other rows ≡ remove rows i
+  unfolding IsStrictlySortedBy
+  taken_from [] i sorted low here = absurd (omega arith)
+  taken_from (r ∷ rows) zero sorted low here = rw (here r, text_itself name) (all_pass is_other rows (AllByRecursion-weaker
+      (λ y less. not_from_false (bytes_eq y.name name) (ap (bytes_eq y.name) (sym (here r)) ∙ nat_list_eq_equiv.symm y.name r.name ∙ other_name r y less)) rows sorted.0))
+  taken_from (r ∷ rows) (suc i) sorted low here =
+      let less : idle_cmp r (get_or rows i r) ≡ Less = Less-from_sorted idle_cmp (r ∷ rows) 0 (suc i) r sorted (omega arith) low in
+      let other : bytes_eq r.name name ≡ false = ap (bytes_eq r.name) (sym (here r)) ∙ other_name r (get_or rows i r) less in
+      rw other (ap (λ rs. r ∷ rs) (taken_from rows i sorted.1 (omega arith) here))
+
+  -- the row that is found is the only one of its name
+  pub taken_at : (rows : List IdleRow) (i : ℕ) → IsStrictlySortedBy idle_cmp rows → i < length rows
+      → ((d : IdleRow) → find (λ r. bytes_eq r.name name) rows ≡ Some (get_or rows i d)) → remove rows i ≡ filter is_other rows
+  taken_at rows i sorted low found =
+      sym (taken_from rows i sorted low (λ d. (bytes_eq-Decides (get_or rows i d).name name).0 (found_passes (λ r. bytes_eq r.name name) (get_or rows i d) rows (found d))))
+
+  -- and where none is found all have other names
+  pub none_at : (rows : List IdleRow) → find (λ r. bytes_eq r.name name) rows ≡ None → rows ≡ filter is_other rows
+  none_at rows none = sym (all_pass is_other rows (AllByRecursion-weaker (λ r differs. not_from_false (bytes_eq r.name name) differs) rows (all_fail (λ r. bytes_eq r.name name) rows none)))
 
 abbrev shows : List (List ℕ) → List (Spot × Claim) → List IdleRow → QueueLists
 shows kinds es rows = record { claims = shown_claims kinds es; boards = map (shown_idle kinds) rows }
@@ -33,9 +68,7 @@ idle_total = on_total (λ (r : IdleRow). r.name) nat_list_cmp_total
 -- the free boards, with some types more
 idle_more : (kinds more : List (List ℕ)) (rows : List IdleRow) → AllByRecursion (IsIdle kinds) rows → map (shown_idle (kinds ++ more)) rows ≡ map (shown_idle kinds) rows
 idle_more kinds more [] all = refl
-idle_more kinds more (r ∷ rows) all =
-    ap (λ k. record { name = r.name; kind = unwrap_or k [] } ∷ map (shown_idle (kinds ++ more)) rows) (kind_more kinds more r.queue all.0.high)
-    ∙ ap (λ xs. shown_idle kinds r ∷ xs) (idle_more kinds more rows all.1)
+idle_more kinds more (r ∷ rows) all = rw (kind_more kinds more r.queue all.0.high) (ap (λ xs. shown_idle kinds r ∷ xs) (idle_more kinds more rows all.1))
 
 each_more : (kinds more : List (List ℕ)) (rows : List IdleRow) → AllByRecursion (IsIdle kinds) rows → AllByRecursion (IsIdle (kinds ++ more)) rows
 each_more kinds more rows all = AllByRecursion-weaker (λ r i. record { low = i.low; high = (let l = long kinds more in omega (arith, l, i.high)) }) rows all
@@ -61,16 +94,6 @@ module _ (kinds : List (List ℕ)) (es : List (Spot × Claim)) (ps : List (ℕ �
 
   -- a board is taken
   module _ (name : List ℕ) (news : List IdleRow) (is : news ≡ filter (λ r. not (bytes_eq r.name name)) rows) where
-    filter_shown : (rs : List IdleRow) → map (shown_idle kinds) (filter (λ r. not (bytes_eq r.name name)) rs) ≡ filter (λ b. not (bytes_eq b.name name)) (map (shown_idle kinds) rs)
-    filter_shown [] = refl
-    filter_shown (r ∷ rs) = by (not (bytes_eq r.name name)) (filter_shown rs)
-      where
-        by : (v : Bool) → map (shown_idle kinds) (filter (λ r. not (bytes_eq r.name name)) rs) ≡ filter (λ b. not (bytes_eq b.name name)) (map (shown_idle kinds) rs)
-            → map (shown_idle kinds) (cond v (r ∷ filter (λ r. not (bytes_eq r.name name)) rs) (filter (λ r. not (bytes_eq r.name name)) rs))
-            ≡ cond v (shown_idle kinds r ∷ filter (λ b. not (bytes_eq b.name name)) (map (shown_idle kinds) rs)) (filter (λ b. not (bytes_eq b.name name)) (map (shown_idle kinds) rs))
-        by true rest = ap (λ xs. shown_idle kinds r ∷ xs) rest
-        by false rest = rest
-
     pub taken_well : IsWell kinds es ps news
     taken_well = record {
       queues = well.queues;
@@ -83,7 +106,7 @@ module _ (kinds : List (List ℕ)) (es : List (Spot × Claim)) (ps : List (ℕ �
 
     pub taken_shown : (seen : QueueLists) → shows kinds es rows ≡ seen → shows kinds es news ≡ record { claims = seen.claims; boards = filter (λ b. not (bytes_eq b.name name)) seen.boards }
     taken_shown seen view =
-        ap (shows kinds es) is ∙ ap (λ bs. record { claims = shown_claims kinds es; boards = bs }) (filter_shown rows)
+        ap (shows kinds es) is ∙ ap (λ bs. record { claims = shown_claims kinds es; boards = bs }) (filter_seen (shown_idle kinds) (λ b. not (bytes_eq b.name name)) rows)
         ∙ ap (λ (l : QueueLists). record { claims = l.claims; boards = filter (λ b. not (bytes_eq b.name name)) l.boards }) view
 
   -- some types more
@@ -110,19 +133,6 @@ module _ (kinds : List (List ℕ)) (es : List (Spot × Claim)) (ps : List (ℕ �
     refused_kind (Ok x) seen is = tt
     refused_kind (Err e) seen is = both_grown ∙ is
 
-    -- a board is put
-    map_put : (row : IdleRow) (rs : List IdleRow) → map (shown_idle more_kinds) (put idle_cmp rs row) ≡ put named_cmp (map (shown_idle more_kinds) rs) (shown_idle more_kinds row)
-    map_put row [] = refl
-    map_put row (r ∷ rs) = by (idle_cmp row r) (map_put row rs)
-      where
-        by : (o : Ordering) → map (shown_idle more_kinds) (put idle_cmp rs row) ≡ put named_cmp (map (shown_idle more_kinds) rs) (shown_idle more_kinds row)
-            → map (shown_idle more_kinds) (match_ordering o (row ∷ r ∷ rs) (row ∷ rs) (r ∷ put idle_cmp rs row))
-            ≡ match_ordering o (shown_idle more_kinds row ∷ map (shown_idle more_kinds) (r ∷ rs)) (shown_idle more_kinds row ∷ map (shown_idle more_kinds) rs)
-            (shown_idle more_kinds r ∷ put named_cmp (map (shown_idle more_kinds) rs) (shown_idle more_kinds row))
-        by Less rest = refl
-        by Equal rest = refl
-        by Greater rest = ap (λ xs. shown_idle more_kinds r ∷ xs) rest
-
     module _ (row : IdleRow) (kind : List ℕ) (low : 1 ≤ row.queue) (queue : (row.queue ≤ length more_kinds) × (kind_at more_kinds row.queue ≡ Some kind))
         {A E : Type 0} (r : Result A E) (news : List IdleRow) (added : OnOk r (news ≡ put idle_cmp rows row))
         (stay : OnErr r (news ≡ rows)) where
@@ -138,23 +148,14 @@ module _ (kinds : List (List ℕ)) (es : List (Spot × Claim)) (ps : List (ℕ �
           by (Err x) is stays = subst (AreIdle more_kinds) (sym stays) idle_grown
 
       pub board_ok : (seen : QueueLists) → shows kinds es rows ≡ seen → OnOk r (shows more_kinds es news ≡ record { claims = seen.claims; boards = put named_cmp seen.boards (record { name = row.name; kind = kind }) })
-      board_ok seen view = by r added
-        where
-          by : (o : Result A E) → OnOk o (news ≡ put idle_cmp rows row)
-              → OnOk o (shows more_kinds es news ≡ record { claims = seen.claims; boards = put named_cmp seen.boards (record { name = row.name; kind = kind }) })
-          by (Ok x) is =
-              ap (shows more_kinds es) is
-              ∙ ap (λ bs. record { claims = shown_claims more_kinds es; boards = bs }) (map_put row rows
-              ∙ ap (λ k. put named_cmp (map (shown_idle more_kinds) rows) (record { name = row.name; kind = unwrap_or k [] })) queue.1)
-              ∙ ap (λ (l : QueueLists). record { claims = l.claims; boards = put named_cmp l.boards (record { name = row.name; kind = kind }) }) (both_grown ∙ view)
-          by (Err x) is = tt
+      board_ok seen view = on_ok_weaker r (λ is.
+          ap (shows more_kinds es) is
+          ∙ ap (λ bs. record { claims = shown_claims more_kinds es; boards = bs }) (put_seen (shown_idle more_kinds) idle_cmp named_cmp (λ a b. refl) rows row
+          ∙ ap (λ k. put named_cmp (map (shown_idle more_kinds) rows) (record { name = row.name; kind = unwrap_or k [] })) queue.1)
+          ∙ ap (λ (l : QueueLists). record { claims = l.claims; boards = put named_cmp l.boards (record { name = row.name; kind = kind }) }) (both_grown ∙ view)) added
 
       pub board_err : (seen : QueueLists) → shows kinds es rows ≡ seen → OnErr r (shows more_kinds es news ≡ seen)
-      board_err seen view = by r stay
-        where
-          by : (o : Result A E) → OnErr o (news ≡ rows) → OnErr o (shows more_kinds es news ≡ seen)
-          by (Ok x) is = tt
-          by (Err x) is = ap (shows more_kinds es) is ∙ both_grown ∙ view
+      board_err seen view = on_err_weaker r (λ is. ap (shows more_kinds es) is ∙ both_grown ∙ view) stay
 
     module _ (spot : Spot) (claim : Claim) (seen : QueueLists) (view : shows kinds es rows ≡ seen) (number : spot.number ≡ claim.number) (priority : spot.priority ≡ claim.priority)
         (kind : Option (List ℕ)) (queue : (spot.queue ≤ length more_kinds) × (kind_at more_kinds spot.queue ≡ kind))
@@ -184,23 +185,12 @@ module _ (kinds : List (List ℕ)) (es : List (Spot × Claim)) (ps : List (ℕ �
             by (Err x) a b c d e = subst (λ q. AreQueues more_kinds fs q) (sym e) (subst (λ f. AreQueues more_kinds f ps) (sym d) grown)
 
         pub put_ok : OnOk r (shows more_kinds fs rows ≡ record { claims = put queued_cmp seen.claims (record { claim = claim; kind = kind }); boards = seen.boards })
-        put_ok = by r added claims places
-          where
-            by : (o : Result A E) → OnOk o (fs ≡ insert_entry spot_cmp es spot claim)
-                → OnOk o ((s : Spot) → claim_at fs s ≡ cond (is_eq (spot_cmp spot s)) (Some claim) (claim_at es s))
-                → OnOk o ((n : ℕ) → place_at qs n ≡ cond (is_eq (nat_cmp spot.number n)) (Some (record { queue = spot.queue; priority = spot.priority })) (place_at ps n))
-                → OnOk o (shows more_kinds fs rows ≡ record { claims = put queued_cmp seen.claims (record { claim = claim; kind = kind }); boards = seen.boards })
-            by (Ok x) a b c =
-                ap (λ cs. record { claims = cs; boards = map (shown_idle more_kinds) rows }) (shown_put more_kinds es ps grown spot claim number priority (queue.0) absent_grown fs qs a b c
-                ∙ ap (λ xs. put queued_cmp xs (record { claim = claim; kind = kind_at more_kinds spot.queue })) shown_grown
-                ∙ ap (λ k. put queued_cmp (shown_claims kinds es) (record { claim = claim; kind = k })) (queue.1))
-                ∙ ap (λ bs. record { claims = put queued_cmp (shown_claims kinds es) (record { claim = claim; kind = kind }); boards = bs }) boards_grown
-                ∙ ap (λ (l : QueueLists). record { claims = put queued_cmp l.claims (record { claim = claim; kind = kind }); boards = l.boards }) view
-            by (Err x) a b c = tt
+        put_ok = on_ok_weaker r (λ is.
+            ap (λ cs. record { claims = cs; boards = map (shown_idle more_kinds) rows }) (shown_put more_kinds es ps grown spot claim number priority (queue.0) absent_grown fs is
+            ∙ ap (λ xs. put queued_cmp xs (record { claim = claim; kind = kind_at more_kinds spot.queue })) shown_grown
+            ∙ ap (λ k. put queued_cmp (shown_claims kinds es) (record { claim = claim; kind = k })) (queue.1))
+            ∙ ap (λ bs. record { claims = put queued_cmp (shown_claims kinds es) (record { claim = claim; kind = kind }); boards = bs }) boards_grown
+            ∙ ap (λ (l : QueueLists). record { claims = put queued_cmp l.claims (record { claim = claim; kind = kind }); boards = l.boards }) view) added
 
         pub put_err : OnErr r (shows more_kinds fs rows ≡ seen)
-        put_err = by r stay
-          where
-            by : (o : Result A E) → OnErr o (fs ≡ es) → OnErr o (shows more_kinds fs rows ≡ seen)
-            by (Ok x) a = tt
-            by (Err x) a = ap (λ f. shows more_kinds f rows) a ∙ both_grown ∙ view
+        put_err = on_err_weaker r (λ is. ap (λ f. shows more_kinds f rows) is ∙ both_grown ∙ view) stay

@@ -16,11 +16,12 @@ use Rattle.farm_types.specs.declared.rows.Holder.{Holder}
 use Rattle.farm_types.specs.declared.rows.JobRow.{JobRow}
 use Rattle.farm_types.specs.declared.rows.State.{State}
 use Rattle.farm_types.proofs.Put.{AllByRecursion-weaker}
-use Rattle.farm_sound.proofs.Lists.{all_join, none_pass}
+use Rattle.farm_sound.proofs.Lists.{all_join, among_append, none_pass}
 use Rattle.farm_sound.proofs.Own.{differs_more, itself}
 use Rattle.farm_sound.proofs.Where.{AllByRecursion-both}
-use Rattle.farm_pick.proofs.Adding.{claims_added, put_behind}
-use Rattle.farm_pick.proofs.Taking.{among_itself, one_fails}
+use Rattle.farm_pick.proofs.Putting.{claims_added, put_behind}
+use Rattle.farm_pick.proofs.Entries.{among_itself}
+use Rattle.farm_pick.proofs.Taking.{one_fails}
 
 abbrev AreBelow : ℕ → List JobRow → Type 0
 AreBelow n jobs = AllByRecursion (λ j. j.number < n) jobs
@@ -65,10 +66,6 @@ check_all (b ∷ bs) F below = by (has_room F 1) (λ G low. check_all bs G low)
           are = ((omega arith, refl), AllByRecursion-weaker (λ j two. (omega (arith, two.0), two.1)) is.new is.are);
         }
 
-among_behind : {A : Type 0} (x : A) (xs ys : List A) → IsAmong x ys → IsAmong x (xs ++ ys)
-among_behind x [] ys at = at
-among_behind x (y ∷ xs) ys at = inr (among_behind x xs ys at)
-
 -- a job that doesn't wait leads no claim
 leads_none : (G : Farm) (j : JobRow) → IsAmong j G.jobs → waits j ≡ false → leads_claim G j ≡ false
 leads_none G j at is = ap (λ v. (j.number == j.group) && v) (one_fails (λ r. r.group == j.group) waits j G.jobs at (itself j.group) is)
@@ -81,7 +78,7 @@ claims_checked F G sound is =
     F.jobs sound.steady.jobs)
     ∙ ap (λ js. claims F ++ map (group_claim G) js)
     (none_pass (leads_claim G) is.new
-    (AllByRecursion-weaker (λ n two. leads_none G n (subst (IsAmong n) (sym is.jobs) (among_behind n F.jobs is.new two.0)) two.1.1) is.new
+    (AllByRecursion-weaker (λ n two. leads_none G n (subst (IsAmong n) (sym is.jobs) (among_append n F.jobs is.new (inr two.0))) two.1.1) is.new
     (AllByRecursion-both (λ n. IsAmong n is.new) (IsNew F.next) is.new (among_itself is.new) is.are)))
     ∙ append-nil (claims F)
 

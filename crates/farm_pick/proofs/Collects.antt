@@ -1,7 +1,7 @@
 -- A group that collects stays in the queue.
 use Rattle.std.proofs.Common.{◌&&◌, ◌==◌, ◌∙◌, ◌∷◌, ◌≡◌, List, Some, ap, inl, inr, nat_le, length, map, not, refl, sym, true, ℕ, []}
 use mathlib.Core.Bool.{true≢false}
-use Rattle.std.specs.List.{AllByRecursion, filter, fold, list_all}
+use Rattle.std.specs.List.{AllByRecursion, fold, list_all}
 use Rattle.std.proofs.Math.Bool.{and-true}
 use Rattle.farm_types.specs.Farm.{Farm, job_of, members}
 use Rattle.farm_types.specs.Pass.{collect, give_member, may_collect, pass_over, placed_job}
@@ -13,12 +13,12 @@ use Rattle.farm_types.specs.declared.rows.JobState.{JobState}
 use Rattle.farm_types.proofs.Put.{AllByRecursion-weaker}
 use Rattle.farm_sound.proofs.Claims.{IsClaim, IsGroupClaim, queue_claims}
 use Rattle.farm_sound.proofs.Collect.{collect_is, pairs_for, pairs_of}
-use Rattle.farm_sound.proofs.Group.{given, given_group, given_number, given_same, jobs_given}
+use Rattle.farm_sound.proofs.Group.{given, jobs_given}
 use Rattle.farm_sound.proofs.Lists.{all_tested, among_has, filter_all}
 use Rattle.farm_sound.proofs.Own.{only_job, own_job}
 use Rattle.farm_sound.proofs.Tests.{both, same_number}
 use Rattle.farm_sound.proofs.Where.{AllByRecursion-both, all_true, by_cases, map_id}
-use Rattle.farm_pick.proofs.Taking.{queue_stays, seen_same}
+use Rattle.farm_pick.proofs.Taking.{given_claim, queue_stays}
 
 abbrev S : JobState
 S = JobState.Scheduling
@@ -45,8 +45,7 @@ module _ (F : Farm) (sound : IsSound F) where
       (record {
         jobs = collected_jobs F j.group;
         reservations = ap (λ (G : Farm). G.reservations) (collect_is (members F j.group) F) ∙ kept ps F ∙ sym (map_id F.reservations);
-        same_job = λ m. let same = given_same S ps m in
-            record { number = given_number S ps m; group = given_group S ps m; owner = same.0; priority = same.1; want = same.2 };
+        same_job = given_claim S ps;
         same_res = λ r. refl;
         jobs_wait = AllByRecursion-weaker (λ m own. given_waits ps m (wait_too m own) ∙ sym (and-true (waits m))) F.jobs (own_job F sound.steady);
         reservations_wait = AllByRecursion-weaker (λ r _. sym (and-true (is_waiting r))) F.reservations (all_true F.reservations);

@@ -1,19 +1,19 @@
 -- What each command leaves of the queue.
-use Rattle.std.proofs.Common.{◌&&◌, ◌+◌, ◌==◌, ◌||◌, ◌∙◌, ◌∷◌, ◌≡◌, ◌≢◌, ◌≤◌, Bool, List, None, Option, Some, ap, arith, cond, false, is_none, is_some, length, nat_le, not, refl, sym, true, ℕ, []}
-use Rattle.std.specs.List.{AllByRecursion, list_all}
+use Rattle.std.proofs.Common.{◌&&◌, ◌+◌, ◌==◌, ◌||◌, ◌∙◌, ◌∷◌, ◌≡◌, ◌≢◌, ◌≤◌, Bool, List, None, Option, Some, ap, arith, cond, false, is_none, length, not, refl, sym, true, ℕ, []}
+use Rattle.std.specs.List.{AllByRecursion}
 use Rattle.std.specs.Option.{option_map_or}
-use Rattle.std.specs.Str.{bytes_eq, is_utf8}
-use Rattle.std.proofs.Math.Bool.{and-false, and-true}
+use Rattle.std.specs.Str.{bytes_eq}
+use Rattle.std.proofs.Math.Bool.{and-true}
 use Rattle.std.proofs.lemmas.Bool.Decides.{nat_tests}
 use Rattle.std.proofs.lemmas.Simd.{map-map}
-use Rattle.farm_types.specs.Limits.{longest_key, longest_name, longest_text}
+use Rattle.farm_types.specs.Limits.{longest_key, longest_name}
 use Rattle.farm_types.specs.Refusals.{forbidden, no_job, no_reservation, reservation_expired, wrong_job_state, wrong_reservation_state}
 use Rattle.farm_types.specs.Change.{act, after_check, after_job, cancel_group, done_with, finish_one, in_state, is_unstarted, farm_at_call, new_res, start_group}
 use Rattle.farm_types.specs.Codes.{same_job_state, same_res_state}
 use Rattle.farm_types.specs.Farm.{Farm, board_of, job_of, put_board, res_of}
 use Rattle.farm_types.specs.Pass.{giving_back, change_jobs, change_res, freed_board, is_dead, unplaced_job}
 use Rattle.farm_types.specs.Pick.{is_waiting, queue, res_claim, waits}
-use Rattle.farm_types.specs.Proper.{is_priority, is_proper_cmd, is_want}
+use Rattle.farm_types.specs.Proper.{is_proper_cmd}
 use Rattle.farm_types.specs.Refuse.{first_code, is_alive, moment, own_refusal, owned_by, reasons, refusal, res_is, res_reasons}
 use Rattle.farm_types.specs.Sound.{IsSound, phase}
 use Rattle.farm_types.specs.Words.{is_word}
@@ -36,9 +36,8 @@ use Rattle.farm_sound.proofs.Tests.{acquired_from, allocated_from, both, same_nu
 use Rattle.farm_sound.proofs.Where.{all_true, by_cases, map_id}
 use Rattle.farm_sound.proofs.Whole.{Alike}
 use Rattle.farm_pick.specs.Follow.{queue_after, queue_without}
-use Rattle.farm_pick.proofs.Groups.{groups_differ, reservations_differ}
 use Rattle.farm_pick.proofs.Putting.{reserve_puts, submit_puts}
-use Rattle.farm_pick.proofs.Taking.{SameClaim, and_other, other, queue_stays, queue_takes, same_claim, same_then}
+use Rattle.farm_pick.proofs.Taking.{SameClaim, and_other, other, queue_stays, queue_takes, reservations_go, same_claim, same_then, takes_reservations, groups_differ, reservations_differ}
 
 -- ---- states
 
@@ -48,34 +47,25 @@ in_queue s = same_job_state s JobState.Submitted || same_job_state s JobState.Sc
 
 -- it does so in its first phase
 pub waits_by_phase : (s : JobState) → in_queue s ≡ (phase s == 0)
-waits_by_phase JobState.Submitted = refl
-waits_by_phase JobState.Scheduling = refl
-waits_by_phase JobState.Scheduled = refl
-waits_by_phase JobState.Running = refl
-waits_by_phase JobState.Canceling = refl
-waits_by_phase JobState.Finished = refl
+waits_by_phase s = grind arith
 
--- of a group that is canceled none waits after the first step, and the second changes nothing of that
-waits_ended : (v : Bool) (s : JobState)
-    → cond (v && (in_queue s || same_job_state s JobState.Scheduled)) false (in_queue s)
-    ≡ (in_queue s && not v)
-waits_ended true JobState.Submitted = refl
-waits_ended true JobState.Scheduling = refl
-waits_ended true JobState.Scheduled = refl
-waits_ended true JobState.Running = refl
-waits_ended true JobState.Canceling = refl
-waits_ended true JobState.Finished = refl
-waits_ended false s = sym (and-true (in_queue s))
+-- the two steps of a canceled group, at one job
+abbrev ended : ℕ → JobRow → JobRow
+ended g m = cond ((m.group == g) && is_unstarted m) (record m { state = JobState.Finished; outcome = Some Outcome.Canceled }) m
 
-waits_still : (v : Bool) (s : JobState)
-    → cond (v && same_job_state s JobState.Running) false (in_queue s) ≡ in_queue s
-waits_still true JobState.Submitted = refl
-waits_still true JobState.Scheduling = refl
-waits_still true JobState.Scheduled = refl
-waits_still true JobState.Running = refl
-waits_still true JobState.Canceling = refl
-waits_still true JobState.Finished = refl
-waits_still false s = refl
+abbrev stopped : ℕ → JobRow → JobRow
+stopped g m = cond ((m.group == g) && same_job_state m.state JobState.Running) (record m { state = JobState.Canceling }) m
+
+ended_same : (g : ℕ) (m : JobRow) → SameClaim m (ended g m)
+ended_same g m = by_cases (SameClaim m) ((m.group == g) && is_unstarted m) (record m { state = JobState.Finished; outcome = Some Outcome.Canceled }) m
+    (λ _. record { number = refl; group = refl; owner = refl; priority = refl; want = refl }) (λ _. same_claim m)
+
+stopped_same : (g : ℕ) (m : JobRow) → SameClaim m (stopped g m)
+stopped_same g m = by_cases (SameClaim m) ((m.group == g) && same_job_state m.state JobState.Running) (record m { state = JobState.Canceling }) m
+    (λ _. record { number = refl; group = refl; owner = refl; priority = refl; want = refl }) (λ _. same_claim m)
+
+canceled_waits : (g : ℕ) (m : JobRow) → waits (stopped g (ended g m)) ≡ (waits m && other g m.group)
+canceled_waits g m = grind arith
 
 -- ---- rows that wait as before
 
@@ -96,15 +86,8 @@ module _ (F : Farm) where
   reservations_stay : (test : ResRow → Bool) (f : ResRow → ResRow) (g : BoardRow → BoardRow) → ((r : ResRow) → res_claim (f r) ≡ res_claim r)
       → AllByRecursion (λ r. test r ≡ true → is_waiting (f r) ≡ is_waiting r) F.reservations → queue (change_res test f g F) ≡ queue F
   reservations_stay test f g same stay = queue_stays F (change_res test f g F) (λ j. j) (λ r. cond (test r) (f r) r)
-      (record {
-        jobs = sym (map_id F.jobs);
-        reservations = refl;
-        same_job = same_claim;
-        same_res = λ r. by_cases (λ q. res_claim q ≡ res_claim r) (test r) (f r) r (λ _. same r) (λ _. refl);
-        jobs_wait = AllByRecursion-weaker (λ j _. sym (and-true (waits j))) F.jobs (all_true F.jobs);
-        reservations_wait = AllByRecursion-weaker (λ r stays. by_cases (λ q. is_waiting q ≡ (is_waiting r && true)) (test r) (f r) r
-            (λ so. stays so ∙ sym (and-true (is_waiting r))) (λ _. sym (and-true (is_waiting r)))) F.reservations stay;
-      })
+      (takes_reservations F (change_res test f g F) (λ _. true) test f refl refl same (AllByRecursion-weaker (λ j _. refl) F.jobs (all_true F.jobs))
+      (AllByRecursion-weaker (λ r stays. ((λ so. stays so ∙ sym (and-true (is_waiting r))), (λ _. refl))) F.reservations stay))
 
 -- the collecting group that gives its boards back waits on
 pub backs_follow : (F : Farm) → queue (giving_back F) ≡ queue F
@@ -136,33 +119,6 @@ module _ (F : Farm) (sound : IsSound F) where
       (λ m only so. sym (ap waits (only (same_number m.number j.number so ∙ at)) ∙ waits_by_phase j.state ∙ ap (λ p. p == 0) started))
       F.jobs (only_job F sound.steady n j there))
 
-  -- the two steps of a canceled group, at one job
-  abbrev ended : ℕ → JobRow → JobRow
-  ended g m = cond ((m.group == g) && is_unstarted m) (record m { state = JobState.Finished; outcome = Some Outcome.Canceled }) m
-
-  abbrev stopped : ℕ → JobRow → JobRow
-  stopped g m = cond ((m.group == g) && same_job_state m.state JobState.Running) (record m { state = JobState.Canceling }) m
-
-  ended_same : (g : ℕ) (m : JobRow) → SameClaim m (ended g m)
-  ended_same g m = by_cases (SameClaim m) ((m.group == g) && is_unstarted m) (record m { state = JobState.Finished; outcome = Some Outcome.Canceled }) m
-      (λ _. record { number = refl; group = refl; owner = refl; priority = refl; want = refl }) (λ _. same_claim m)
-
-  stopped_same : (g : ℕ) (m : JobRow) → SameClaim m (stopped g m)
-  stopped_same g m = by_cases (SameClaim m) ((m.group == g) && same_job_state m.state JobState.Running) (record m { state = JobState.Canceling }) m
-      (λ _. record { number = refl; group = refl; owner = refl; priority = refl; want = refl }) (λ _. same_claim m)
-
-  waits_in : (v : Bool) (k m : JobRow) → waits k ≡ false → waits (cond v k m) ≡ cond v false (waits m)
-  waits_in true k m is = is
-  waits_in false k m is = refl
-
-  canceled_waits : (g : ℕ) (m : JobRow) → waits (stopped g (ended g m)) ≡ (waits m && other g m.group)
-  canceled_waits g m =
-      let k : JobRow = ended g m in
-      waits_in ((k.group == g) && same_job_state k.state JobState.Running) (record k { state = JobState.Canceling }) k refl
-      ∙ waits_still (k.group == g) k.state
-      ∙ waits_in ((m.group == g) && is_unstarted m) (record m { state = JobState.Finished; outcome = Some Outcome.Canceled }) m refl
-      ∙ waits_ended (m.group == g) m.state
-
   cancel_follows : (n : ℕ) (j : JobRow) → job_of F n ≡ Some j → queue (cancel_group j.group F) ≡ queue_without j.group (queue F)
   cancel_follows n j there =
       queue_takes F (cancel_group j.group F) (other j.group) (λ m. stopped j.group (ended j.group m)) (λ r. r)
@@ -176,11 +132,6 @@ module _ (F : Farm) (sound : IsSound F) where
             (reservations_differ F sound.steady n j there);
       })
       sound.steady
-
-  cancel_by : (n : ℕ) (o : Option JobRow) → job_of F n ≡ o
-      → queue (option_map_or (λ j. done_with j.group (cancel_group j.group F)) o (done_with 0 F)).farm ≡ option_map_or (λ j. queue_without j.group (queue F)) o (queue F)
-  cancel_by n None there = refl
-  cancel_by n (Some j) there = cancel_follows n j there
 
   -- ---- reservations
 
@@ -197,22 +148,9 @@ module _ (F : Farm) (sound : IsSound F) where
 
   cancel_res_follows : (n : ℕ) (r : ResRow) → res_of F n ≡ Some r
       → queue (change_res (λ q. q.number == n) (λ q. record q { state = ResState.Canceled }) freed_board F) ≡ queue_without n (queue F)
-  cancel_res_follows n r there =
-      queue_takes F (change_res (λ q. q.number == n) (λ q. record q { state = ResState.Canceled }) freed_board F) (other n) (λ j. j)
-      (λ q. cond (q.number == n) (record q { state = ResState.Canceled }) q)
-      (record {
-        jobs = sym (map_id F.jobs);
-        reservations = refl;
-        same_job = same_claim;
-        same_res = λ q. by_cases (λ p. res_claim p ≡ res_claim q) (q.number == n) (record q { state = ResState.Canceled }) q (λ _. refl) (λ _. refl);
-        jobs_wait = AllByRecursion-weaker (λ j differs. and_other (waits j) j.group n differs) F.jobs (groups_differ F sound.steady n r there);
-        reservations_wait = AllByRecursion-weaker (λ q _. waits_after q (q.number == n)) F.reservations (all_true F.reservations);
-      })
-      sound.steady
-    where
-      waits_after : (q : ResRow) (v : Bool) → is_waiting (cond v (record q { state = ResState.Canceled }) q) ≡ (is_waiting q && not v)
-      waits_after q true = sym (and-false (is_waiting q))
-      waits_after q false = sym (and-true (is_waiting q))
+  cancel_res_follows n r there = reservations_go F (change_res (λ q. q.number == n) (λ q. record q { state = ResState.Canceled }) freed_board F) (other n) (λ q. q.number == n)
+      (λ q. record q { state = ResState.Canceled }) sound.steady refl refl (λ q. refl) (λ q. refl)
+      (AllByRecursion-weaker (λ j differs. ap not differs) F.jobs (groups_differ F sound.steady n r there)) (AllByRecursion-weaker (λ q _. refl) F.reservations (all_true F.reservations))
 
 -- ---- each command
 
@@ -241,20 +179,7 @@ right_job F n right is =
 proper_group : (priority : ℕ) (wants : List Want) (roles : List (Option (List ℕ))) (body : List ℕ) → is_proper_cmd (Cmd.Submit priority wants roles body) ≡ true
     → (1 ≤ length wants) × (length roles ≡ length wants)
 unfolding is_proper_cmd
-proper_group priority wants roles body is =
-    let first = is_priority priority && nat_le 1 (length wants) in
-    let second = first && nat_le (length wants) 4 in
-    let third = second && list_all (λ (w : Want). is_some w.kind && is_want w) wants in
-    let fourth = third && (length roles == length wants) in
-    let fifth = fourth && list_all (λ (r : Option (List ℕ)). option_map_or (is_word longest_name) r true) roles in
-    let p7 = both (fifth && nat_le (length body) longest_text) (is_utf8 body) is in
-    let p6 = both fifth (nat_le (length body) longest_text) p7.0 in
-    let p5 = both fourth (list_all (λ (r : Option (List ℕ)). option_map_or (is_word longest_name) r true) roles) p6.0 in
-    let p4 = both third (length roles == length wants) p5.0 in
-    let p3 = both second (list_all (λ (w : Want). is_some w.kind && is_want w) wants) p4.0 in
-    let p2 = both first (nat_le (length wants) 4) p3.0 in
-    let p1 = both (is_priority priority) (nat_le 1 (length wants)) p2.0 in
-    ((let e = p1.1 in grind (arith, nat_tests)), same_number (length roles) (length wants) p4.1)
+proper_group priority wants roles body is = grind (arith, nat_tests)
 
 module _ (F : Farm) (t : ℕ) (caller : List ℕ) (sound : IsSound F) where
   board_by : (f : BoardRow → BoardRow) (o : Option BoardRow) → queue (option_map_or (λ b. put_board F (f b)) o F) ≡ queue F
@@ -265,35 +190,6 @@ module _ (F : Farm) (t : ℕ) (caller : List ℕ) (sound : IsSound F) where
   abbrev Leaves : Cmd → Type 0
   Leaves cmd = queue (act F caller cmd).farm ≡ queue_after F caller cmd
 
-  start_by : (n : ℕ) → first_code (reasons F t caller (Cmd.Start n)) ≡ None → Leaves (Cmd.Start n)
-  start_by n clear =
-      let j = right_job F n (λ j. same_job_state j.state JobState.Scheduled) clear in
-      ap (λ o. queue (option_map_or (λ j. done_with j.group (start_group j.group F)) o (done_with 0 F)).farm) j.1
-      ∙ start_follows F sound n j.0 j.1 (scheduled_from j.0.state j.2)
-
-  finish_by : (n : ℕ) (outcome : Outcome) → first_code (reasons F t caller (Cmd.Finish n outcome)) ≡ None → Leaves (Cmd.Finish n outcome)
-  finish_by n outcome clear =
-      let j = right_job F n (λ j. same_job_state j.state JobState.Running || same_job_state j.state JobState.Canceling) clear in
-      ap (λ o. queue (option_map_or (λ j. done_with n (finish_one F.clock outcome F j)) o (done_with 0 F)).farm) j.1
-      ∙ finish_follows F sound n F.clock j.0 outcome j.1 (started_from j.0.state j.2).0
-
-  acquire_by : (n : ℕ) → first_code (reasons F t caller (Cmd.Acquire n)) ≡ None → Leaves (Cmd.Acquire n)
-  acquire_by n clear =
-      let r = right_res F t n (λ r. bytes_eq caller r.owner) (λ r. same_res_state r.state ResState.Allocated) clear in
-      moved_follows F sound n r.0 (λ q. record q { state = ResState.Acquired }) (in_state State.Running) r.1
-      (ap (λ s. same_res_state s ResState.Waiting) (allocated_from r.0.state r.2)) (λ q. refl) (λ q. refl)
-
-  release_by : (n : ℕ) → first_code (reasons F t caller (Cmd.Release n)) ≡ None → Leaves (Cmd.Release n)
-  release_by n clear =
-      let r = right_res F t n (λ r. owned_by caller r.owner) (λ r. same_res_state r.state ResState.Acquired) clear in
-      moved_follows F sound n r.0 (λ q. record q { state = ResState.Allocated; deadline = F.clock + 60 }) (in_state State.Reserved) r.1
-      (ap (λ s. same_res_state s ResState.Waiting) (acquired_from r.0.state r.2)) (λ q. refl) (λ q. refl)
-
-  cancel_res_by : (n : ℕ) → first_code (reasons F t caller (Cmd.CancelRes n)) ≡ None → Leaves (Cmd.CancelRes n)
-  cancel_res_by n clear =
-      let r = right_res F t n (λ r. owned_by caller r.owner) is_alive clear in
-      cancel_res_follows F sound n r.0 r.1
-
   -- a command that is proper and has no reason against it
   command_follows : (cmd : Cmd) → is_proper_cmd cmd ≡ true → first_code (reasons F t caller cmd) ≡ None → cmd ≢ Cmd.Pass → Leaves cmd
   command_follows (Cmd.AddType name check) proper clear command = refl
@@ -303,15 +199,34 @@ module _ (F : Farm) (t : ℕ) (caller : List ℕ) (sound : IsSound F) where
   command_follows (Cmd.Submit priority wants roles body) proper clear command =
       let is = proper_group priority wants roles body proper in
       submit_puts F sound caller priority wants roles body is.0 is.1
-  command_follows (Cmd.Cancel n) proper clear command = cancel_by F sound n (job_of F n) refl
-  command_follows (Cmd.Start n) proper clear command = start_by n clear
-  command_follows (Cmd.Finish n outcome) proper clear command = finish_by n outcome clear
+  command_follows (Cmd.Cancel n) proper clear command = by (job_of F n) refl
+    where
+      by : (o : Option JobRow) → job_of F n ≡ o
+          → queue (option_map_or (λ j. done_with j.group (cancel_group j.group F)) o (done_with 0 F)).farm ≡ option_map_or (λ j. queue_without j.group (queue F)) o (queue F)
+      by None there = refl
+      by (Some j) there = cancel_follows F sound n j there
+  command_follows (Cmd.Start n) proper clear command =
+      let j = right_job F n (λ j. same_job_state j.state JobState.Scheduled) clear in
+      ap (λ o. queue (option_map_or (λ j. done_with j.group (start_group j.group F)) o (done_with 0 F)).farm) j.1
+      ∙ start_follows F sound n j.0 j.1 (scheduled_from j.0.state j.2)
+  command_follows (Cmd.Finish n outcome) proper clear command =
+      let j = right_job F n (λ j. same_job_state j.state JobState.Running || same_job_state j.state JobState.Canceling) clear in
+      ap (λ o. queue (option_map_or (λ j. done_with n (finish_one F.clock outcome F j)) o (done_with 0 F)).farm) j.1
+      ∙ finish_follows F sound n F.clock j.0 outcome j.1 (started_from j.0.state j.2).0
   command_follows (Cmd.Reserve priority tags) proper clear command =
       reserve_puts F sound (new_res F.next caller priority tags (F.clock + 60)) (F.next + 1) refl refl
-  command_follows (Cmd.Acquire n) proper clear command = acquire_by n clear
-  command_follows (Cmd.Release n) proper clear command = release_by n clear
+  command_follows (Cmd.Acquire n) proper clear command =
+      let r = right_res F t n (λ r. bytes_eq caller r.owner) (λ r. same_res_state r.state ResState.Allocated) clear in
+      moved_follows F sound n r.0 (λ q. record q { state = ResState.Acquired }) (in_state State.Running) r.1
+      (ap (λ s. same_res_state s ResState.Waiting) (allocated_from r.0.state r.2)) (λ q. refl) (λ q. refl)
+  command_follows (Cmd.Release n) proper clear command =
+      let r = right_res F t n (λ r. owned_by caller r.owner) (λ r. same_res_state r.state ResState.Acquired) clear in
+      moved_follows F sound n r.0 (λ q. record q { state = ResState.Allocated; deadline = F.clock + 60 }) (in_state State.Reserved) r.1
+      (ap (λ s. same_res_state s ResState.Waiting) (acquired_from r.0.state r.2)) (λ q. refl) (λ q. refl)
   command_follows (Cmd.Refresh n) proper clear command = refresh_follows F sound n (F.clock + 60)
-  command_follows (Cmd.CancelRes n) proper clear command = cancel_res_by n clear
+  command_follows (Cmd.CancelRes n) proper clear command =
+      let r = right_res F t n (λ r. owned_by caller r.owner) is_alive clear in
+      cancel_res_follows F sound n r.0 r.1
   command_follows Cmd.Pass proper clear command = absurd (command refl)
 
 -- ---- in a farm whose clock has moved

@@ -1,12 +1,12 @@
 -- The queue as the queues show it while they are filled: what is put and taken, and which numbers stand there.
-use Rattle.std.proofs.Common.{◌+◌, ◌<◌, ◌==◌, ◌∙◌, ◌∷◌, ◌≡◌, ◌≤◌, Bool, IsNone, IsTrue, List, Some, add-one, ap, arith, cond, drop, false, get_or, inl, inr, length, map, refl, subst, suc, sym, true, zero, ℕ, []}
+use Rattle.std.proofs.Common.{◌+◌, ◌<◌, ◌==◌, ◌∙◌, ◌∷◌, ◌≡◌, ◌≤◌, Bool, IsNone, IsTrue, List, Some, add-one, ap, arith, drop, get_or, inl, inr, length, map, refl, subst, suc, sym, true, zero, ℕ, []}
 use mathlib.Core.Bool.{true≢false}
 use Rattle.std.specs.Prelude.{nat_le}
 use Rattle.std.specs.List.{AllByRecursion, filter}
 use Rattle.std.specs.List.Sorted.{IsStrictlySortedBy}
 use Rattle.std.specs.Ordering.{match_ordering}
 use Rattle.std.specs.declared.cmp.Ordering.{Ordering}
-use Rattle.std.specs.declared.cmp.Ordering.TheVariants.{Equal, Greater, Less}
+use Rattle.std.specs.declared.cmp.Ordering.TheVariants.{Less}
 use Rattle.std.proofs.lemmas.Bool.Decides.{nat_tests}
 use Rattle.std.proofs.lemmas.List.{drop_more}
 use Rattle.farm_types.specs.Limits.{highest_priority}
@@ -22,32 +22,18 @@ use Rattle.farm_sound.proofs.Lists.{each_weaker, each_with}
 use Rattle.farm_sound.proofs.Where.{AllByRecursion-map}
 use Rattle.farm_pick.specs.Kept.{queued_cmp}
 use Rattle.farm_pick.specs.Queued.{Queued, queued_of}
+use Rattle.farm_pick.proofs.Entries.{filter_seen, put_seen}
 use Rattle.farm_pick.proofs.Ordered.{not_below_itself}
 
 -- ---- what is put and what is taken, as the queues show it
 
 -- a claim is put where its shown one is put
 pub queued_put : (q : List Claimed) (c : Claimed) → map queued_of (put claim_cmp q c) ≡ put queued_cmp (map queued_of q) (queued_of c)
-queued_put [] c = refl
-queued_put (r ∷ q) c = by (claim_cmp c r) (queued_put q c)
-  where
-    by : (o : Ordering) → map queued_of (put claim_cmp q c) ≡ put queued_cmp (map queued_of q) (queued_of c)
-        → map queued_of (match_ordering o (c ∷ r ∷ q) (c ∷ q) (r ∷ put claim_cmp q c))
-        ≡ match_ordering o (queued_of c ∷ queued_of r ∷ map queued_of q) (queued_of c ∷ map queued_of q) (queued_of r ∷ put queued_cmp (map queued_of q) (queued_of c))
-    by Less rest = refl
-    by Equal rest = refl
-    by Greater rest = ap (λ xs. queued_of r ∷ xs) rest
+queued_put q c = put_seen queued_of claim_cmp queued_cmp (λ a b. refl) q c
 
 -- claims that pass by their numbers are shown as the shown ones that pass
 pub queued_filter : (p : ℕ → Bool) (q : List Claimed) → map queued_of (filter (λ c. p c.number) q) ≡ filter (λ x. p x.claim.number) (map queued_of q)
-queued_filter p [] = refl
-queued_filter p (c ∷ q) = by (p c.number) (queued_filter p q)
-  where
-    by : (v : Bool) → map queued_of (filter (λ d. p d.number) q) ≡ filter (λ x. p x.claim.number) (map queued_of q)
-        → map queued_of (cond v (c ∷ filter (λ d. p d.number) q) (filter (λ d. p d.number) q))
-        ≡ cond v (queued_of c ∷ filter (λ x. p x.claim.number) (map queued_of q)) (filter (λ x. p x.claim.number) (map queued_of q))
-    by true rest = ap (λ xs. queued_of c ∷ xs) rest
-    by false rest = rest
+queued_filter p q = filter_seen queued_of (λ x. p x.claim.number) q
 
 -- ---- what each claim's row says of it
 
@@ -134,17 +120,13 @@ numbers_differ F sound =
 
 -- ---- the queue filled from its end
 
--- how an element stands to those behind it
-each_behind : {R : Type 0} (S : R → R → Type 0) (xs : List R) (k : ℕ) (x : R) → EachTwo S xs → k < length xs → get_or xs k x ≡ x
-    → AllByRecursion (S x) (drop (suc k) xs)
-each_behind S [] k x each low is = absurd (omega arith)
-each_behind S (y ∷ xs) zero x each low is = subst (λ z. AllByRecursion (S z) xs) is each.0
-each_behind S (y ∷ xs) (suc k) x each low is = each_behind S xs k x each.1 (omega arith) is
-
 -- the same, with the place as callers write it
 each_after : {R : Type 0} (S : R → R → Type 0) (xs : List R) (k : ℕ) (x : R) → EachTwo S xs → k < length xs → get_or xs k x ≡ x
     → AllByRecursion (S x) (drop (k + 1) xs)
-each_after S xs k x each low is = subst (λ n. AllByRecursion (S x) (drop n xs)) (sym (add-one k)) (each_behind S xs k x each low is)
+each_after S [] k x each low is = absurd (omega arith)
+each_after S (y ∷ xs) zero x each low is = subst (λ z. AllByRecursion (S z) xs) is each.0
+each_after S (y ∷ xs) (suc k) x each low is =
+    subst (λ n. AllByRecursion (S x) (drop n (y ∷ xs))) (sym (add-one (suc k))) (subst (λ n. AllByRecursion (S x) (drop n xs)) (add-one k) (each_after S xs k x each.1 (omega arith) is))
 
 -- what goes before all others is put at the front
 put_first : {R : Type 0} (cmp : R → R → Ordering) (x : R) (xs : List R) → AllByRecursion (λ y. cmp x y ≡ Less) xs → put cmp xs x ≡ x ∷ xs

@@ -1,18 +1,20 @@
 -- The first claim of several queues.
-use Rattle.std.proofs.Common.{◌≡◌, ◌∙◌, ◌<◌, ◌≤◌, ◌+◌, ◌⊎◌, ℕ, zero, suc, List, [], ◌∷◌, Bool, true, false, cond, Option, Some, None, inl, inr, refl, sym, ap, arith}
+use Rattle.std.proofs.Common.{◌≡◌, ◌∙◌, ◌<◌, ◌+◌, ◌⊎◌, ℕ, List, [], ◌∷◌, Bool, true, false, Option, Some, None, refl, sym, ap, arith}
 use mathlib.Core.Bool.{true≢false}
 use Rattle.std.specs.Cmp.{IsTotalOrder, back_total, nat_cmp_total, on_total, then_total}
 use Rattle.std.specs.List.{AllByRecursion}
-use Rattle.std.specs.Map.{lookup}
 use Rattle.std.specs.Ordering.{is_eq, is_gt, nat_cmp, ordering_then, ordering_reverse}
 use Rattle.std.specs.declared.cmp.Ordering.{Ordering}
 use Rattle.std.specs.declared.cmp.Ordering.TheVariants.{Less}
 use Rattle.std.proofs.lemmas.Cmp.{tied_itself}
 use Rattle.farm_types.specs.Pick.{IsAmong, shown_cmp}
+use Rattle.farm_types.specs.Sound.{EachTwo}
 use Rattle.farm_types.specs.declared.claims.Claim.{Claim}
+use Rattle.farm_sound.proofs.Lists.{among_has}
 use Rattle.farm_pick.specs.Kept.{spot_cmp, claim_at, IsKeyed}
 use Rattle.farm_pick.specs.Heads.{IsFirstBehind, IsFirst, rank_cmp}
 use Rattle.farm_pick.specs.declared.spot.Spot.{Spot}
+use Rattle.farm_pick.proofs.Entries.{found_entry}
 use Rattle.farm_pick.proofs.Keeping.{tied}
 
 pub rank_total : IsTotalOrder rank_cmp
@@ -22,17 +24,15 @@ rank_total = then_total (on_total (λ (s : Spot). s.priority) (back_total nat_cm
 pub same_queue : (s t : Spot) → s.queue ≡ t.queue → spot_cmp s t ≡ rank_cmp s t
 same_queue s t is = ap (λ o. ordering_then o (rank_cmp s t)) (ap (nat_cmp s.queue) (sym is) ∙ tied_itself nat_cmp_total s.queue)
 
--- the claim that is found has the rank of its spot
-pub found_entry : {K X : Type 0} (P : K × X → Type 0) (test : K → Bool) (v : X) (es : List (K × X)) → AllByRecursion P es → lookup test es ≡ Some v
-    → (e : K × X) × P e × (test e.0 ≡ true) × (e.1 ≡ v) × IsAmong e es
-found_entry P test v [] all found = cc
-found_entry P test v (e ∷ es) all found = by (test e.0) refl found (λ rest. found_entry P test v es all.1 rest)
-  where
-    by : (w : Bool) → test e.0 ≡ w → cond w (Some e.1) (lookup test es) ≡ Some v
-        → (lookup test es ≡ Some v → (d : _) × P d × (test d.0 ≡ true) × (d.1 ≡ v) × IsAmong d es)
-        → (d : _) × P d × (test d.0 ≡ true) × (d.1 ≡ v) × IsAmong d (e ∷ es)
-    by true is here rest = let same : e.1 ≡ v = cc in (e, all.0, is, same, inl refl)
-    by false is here rest = let more = rest here in (more.0, more.1, more.2, more.3, inr more.4)
+-- two entries of one number are one
+pub one_entry : (es : List (Spot × Claim)) → EachTwo (λ a b. a.1.number ≡ b.1.number → ⊥) es → (a b : Spot × Claim) → IsAmong a es → IsAmong b es → a.1.number ≡ b.1.number → a ≡ b
+one_entry [] each a b here there same = absurd here
+one_entry (e ∷ es) each a b here there same = grind (
+  arith,
+  one_entry es each.1 a b,
+  among_has (λ (d : Spot × Claim). e.1.number ≡ d.1.number → ⊥) a es each.0,
+  among_has (λ (d : Spot × Claim). e.1.number ≡ d.1.number → ⊥) b es each.0,
+)
 
 pub record IsRanked (s : Spot) (c : Claim) : Type 0 where
   pub number : s.number ≡ c.number
@@ -45,27 +45,10 @@ ranked_at kinds es s c keyed is =
     record { number = t.number ∙ e.1.number ∙ ap (λ (d : Claim). d.number) e.3; priority = t.priority ∙ e.1.priority ∙ ap (λ (d : Claim). d.priority) e.3 }
 
 pub shown_rank : (s t : Spot) (c d : Claim) → IsRanked s c → IsRanked t d → shown_cmp c d ≡ rank_cmp s t
-shown_rank s t c d one other =
-    ap (λ p. ordering_then (nat_cmp p c.priority) (nat_cmp c.number d.number)) (sym other.priority)
-    ∙ ap (λ p. ordering_then (nat_cmp t.priority p) (nat_cmp c.number d.number)) (sym one.priority)
-    ∙ ap (λ n. ordering_then (nat_cmp t.priority s.priority) (nat_cmp n d.number)) (sym one.number)
-    ∙ ap (λ n. ordering_then (nat_cmp t.priority s.priority) (nat_cmp s.number n)) (sym other.number)
+shown_rank s t c d one other = rw (one.number, one.priority, other.number, other.priority) refl
 
 pub below : (n q : ℕ) → q < n + 1 → (q < n) ⊎ (q ≡ n)
-below n q low = by (nat_lt_or n q)
-  where
-    nat_lt_or : (n q : ℕ) → (q < n) ⊎ (n ≤ q)
-    nat_lt_or zero q = inr (omega arith)
-    nat_lt_or (suc n) zero = inl (omega arith)
-    nat_lt_or (suc n) (suc q) = up (nat_lt_or n q)
-      where
-        up : (q < n) ⊎ (n ≤ q) → (suc q < suc n) ⊎ (suc n ≤ suc q)
-        up (inl a) = inl (omega arith)
-        up (inr a) = inr (omega arith)
-
-    by : (q < n) ⊎ (n ≤ q) → (q < n) ⊎ (q ≡ n)
-    by (inl a) = inl a
-    by (inr a) = inr (omega arith)
+below n q low = grind arith
 
 flip : (s t : Spot) (o : Ordering) → rank_cmp s t ≡ o → rank_cmp t s ≡ ordering_reverse o
 flip s t o is = rank_total.antisymm t s ∙ ap ordering_reverse is

@@ -28,8 +28,8 @@ use Rattle.farm_sound.proofs.Tests.{same_number}
 use Rattle.farm_sound.proofs.Where.{AllByRecursion-both, all_true, by_cases, map_id}
 use Rattle.farm_pick.specs.Follow.{queue_without}
 use Rattle.farm_pick.specs.Queued.{IdleBoard, idle_board, idle_boards}
-use Rattle.farm_pick.proofs.Groups.{groups_differ, reservations_differ}
-use Rattle.farm_pick.proofs.Taking.{SameClaim, among_itself, and_other, any_own, other, queue_takes, same_claim, same_then, taken}
+use Rattle.farm_pick.proofs.Entries.{among_itself}
+use Rattle.farm_pick.proofs.Taking.{and_other, any_own, given_claim, other, queue_takes, reservations_go, taken, groups_differ, reservations_differ}
 
 -- ---- the free boards
 
@@ -38,18 +38,13 @@ free_after : (types : List TypeRow) (h : Holder) (name : List ℕ) → is_nobody
     → (is_free types (cond (bytes_eq b.name name) (held_board h State.Reserved b) b) ≡ (is_free types b && not (bytes_eq name b.name)))
     × (idle_board (cond (bytes_eq b.name name) (held_board h State.Reserved b) b) ≡ idle_board b)
 free_after types h name taken b = (
-  by (bytes_eq b.name name) refl,
+  rw (nat_list_eq_equiv.symm name b.name) (by (bytes_eq b.name name)),
   by_cases (λ c. idle_board c ≡ idle_board b) (bytes_eq b.name name) (held_board h State.Reserved b) b (λ _. refl) (λ _. refl),
 )
   where
-    back : bytes_eq name b.name ≡ bytes_eq b.name name
-    back = nat_list_eq_equiv.symm name b.name
-
-    by : (v : Bool) → bytes_eq b.name name ≡ v → is_free types (cond v (held_board h State.Reserved b) b) ≡ (is_free types b && not (bytes_eq name b.name))
-    by true is =
-        ap (λ v. serves types (held_board h State.Reserved b) && v) taken ∙ and-false (serves types (held_board h State.Reserved b))
-        ∙ sym (ap (λ v. is_free types b && not v) (back ∙ is) ∙ and-false (is_free types b))
-    by false is = sym (ap (λ v. is_free types b && not v) (back ∙ is) ∙ and-true (is_free types b))
+    by : (v : Bool) → is_free types (cond v (held_board h State.Reserved b) b) ≡ (is_free types b && not v)
+    by true = ap (λ v. serves types (held_board h State.Reserved b) && v) taken ∙ and-false (serves types (held_board h State.Reserved b)) ∙ sym (and-false (is_free types b))
+    by false = sym (and-true (is_free types b))
 
 one_given : (types : List TypeRow) (h : Holder) (name : List ℕ) → is_nobody h ≡ false → (boards : List BoardRow)
     → map idle_board (filter (is_free types) (change_where (λ c. bytes_eq c.name name) (held_board h State.Reserved) boards))
@@ -73,13 +68,7 @@ all_left (x ∷ xs) = ap (λ ys. x ∷ ys) (all_left xs)
 
 left_twice : (b : BoardRow) (bs : List BoardRow) (xs : List IdleBoard) → filter (is_left bs) (filter (λ x. not (bytes_eq b.name x.name)) xs) ≡ filter (is_left (b ∷ bs)) xs
 left_twice b bs [] = refl
-left_twice b bs (x ∷ xs) = by (bytes_eq b.name x.name) (left_twice b bs xs)
-  where
-    by : (v : Bool) → filter (is_left bs) (filter (λ x. not (bytes_eq b.name x.name)) xs) ≡ filter (is_left (b ∷ bs)) xs
-        → filter (is_left bs) (cond (not v) (x ∷ filter (λ x. not (bytes_eq b.name x.name)) xs) (filter (λ x. not (bytes_eq b.name x.name)) xs))
-        ≡ cond (not (v || list_any (λ c. bytes_eq c.name x.name) bs)) (x ∷ filter (is_left (b ∷ bs)) xs) (filter (is_left (b ∷ bs)) xs)
-    by true rest = rest
-    by false rest = ap (λ ys. cond (is_left bs x) (x ∷ ys) ys) rest
+left_twice b bs (x ∷ xs) = grind (arith, left_twice b bs xs)
 
 -- each member's board goes
 group_given : (ms : List JobRow) (bs : List BoardRow) (F : Farm) → length bs ≡ length ms
@@ -102,23 +91,11 @@ Leaves F c bs t = (queue (give F c bs t) ≡ queue_without c.number (queue F)) �
 given_waits : (ps : List (JobRow × BoardRow)) (m : JobRow)
     → waits (given JobState.Scheduled ps m) ≡ (waits m && not (list_any (λ (p : JobRow × BoardRow). m.number == p.0.number) ps))
 given_waits [] m = sym (and-true (waits m))
-given_waits (p ∷ ps) m = by (m.number == p.0.number) (given_waits ps (placed_job JobState.Scheduled p.1.name m)) (given_waits ps m)
-  where
-    by : (v : Bool) → waits (given JobState.Scheduled ps (placed_job JobState.Scheduled p.1.name m)) ≡ false
-        → waits (given JobState.Scheduled ps m) ≡ (waits m && not (list_any (λ (p : JobRow × BoardRow). m.number == p.0.number) ps))
-        → waits (given JobState.Scheduled ps (cond v (placed_job JobState.Scheduled p.1.name m) m))
-        ≡ (waits m && not (v || list_any (λ (p : JobRow × BoardRow). m.number == p.0.number) ps))
-    by true one other = one ∙ sym (and-false (waits m))
-    by false one other = other
-
-given_same : (ps : List (JobRow × BoardRow)) (m : JobRow) → SameClaim m (given JobState.Scheduled ps m)
-given_same [] m = same_claim m
-given_same (p ∷ ps) m =
-    let after = cond (m.number == p.0.number) (placed_job JobState.Scheduled p.1.name m) m in
-    same_then m after (given JobState.Scheduled ps after)
-    (by_cases (SameClaim m) (m.number == p.0.number) (placed_job JobState.Scheduled p.1.name m) m
-    (λ _. record { number = refl; group = refl; owner = refl; priority = refl; want = refl }) (λ _. same_claim m))
-    (given_same ps after)
+given_waits (p ∷ ps) m = elim (m.number == p.0.number) as (λ v. waits (given JobState.Scheduled ps (cond v (placed_job JobState.Scheduled p.1.name m) m))
+    ≡ (waits m && not (v || list_any (λ (p : JobRow × BoardRow). m.number == p.0.number) ps))) [
+      | true ↦ given_waits ps (placed_job JobState.Scheduled p.1.name m) ∙ sym (and-false (waits m))
+      | false ↦ given_waits ps m
+    ]
 
 -- each member has a board
 zip_any : (n : ℕ) (ms : List JobRow) (bs : List BoardRow) → length bs ≡ length ms
@@ -136,23 +113,11 @@ module _ (F : Farm) (bs : List BoardRow) (t : ℕ) (sound : IsSound F) where
       by [] one = absurd (omega arith)
       by (b ∷ a ∷ bs) one = absurd (omega arith)
       by (b ∷ []) one = (
-        queue_takes F (give_res F r.number (b ∷ []) t) (other r.number) (λ j. j) (λ q. cond (q.number == r.number) (allocated_reservation b.name t q) q)
-            (record {
-              jobs = sym (map_id F.jobs);
-              reservations = refl;
-              same_job = same_claim;
-              same_res = λ q. by_cases (λ k. res_claim k ≡ res_claim q) (q.number == r.number) (allocated_reservation b.name t q) q (λ _. refl) (λ _. refl);
-              jobs_wait = AllByRecursion-weaker (λ j differs. and_other (waits j) j.group r.number differs) F.jobs
-                  (groups_differ F sound.steady r.number r is.0);
-              reservations_wait = AllByRecursion-weaker (λ q _. waits_after q (q.number == r.number)) F.reservations (all_true F.reservations);
-            })
-            sound.steady,
+        reservations_go F (give_res F r.number (b ∷ []) t) (other r.number) (λ q. q.number == r.number) (allocated_reservation b.name t) sound.steady refl refl (λ q. refl) (λ q. refl)
+            (AllByRecursion-weaker (λ j differs. ap not differs) F.jobs (groups_differ F sound.steady r.number r is.0))
+            (AllByRecursion-weaker (λ q _. refl) F.reservations (all_true F.reservations)),
         one_given F.types (Holder.Res r.number) b.name refl F.boards ∙ sym (all_left _) ∙ left_twice b [] (idle_boards F),
       )
-        where
-          waits_after : (q : ResRow) (v : Bool) → is_waiting (cond v (allocated_reservation b.name t q) q) ≡ (is_waiting q && not v)
-          waits_after q true = sym (and-false (is_waiting q))
-          waits_after q false = sym (and-true (is_waiting q))
 
   -- a group is given its boards
   after_group : (j : JobRow) (c : Claimed) → IsGroupClaim F c j → length bs ≡ length (members F j.group) → Leaves F (group_claim F j) bs t
@@ -161,7 +126,7 @@ module _ (F : Farm) (bs : List BoardRow) (t : ℕ) (sound : IsSound F) where
         (record {
           jobs = jobs_given JobState.Scheduled (zip (members F j.group) bs) F;
           reservations = res_kept (zip (members F j.group) bs) F ∙ sym (map_id F.reservations);
-          same_job = given_same (zip (members F j.group) bs);
+          same_job = given_claim JobState.Scheduled (zip (members F j.group) bs);
           same_res = λ r. refl;
           jobs_wait = AllByRecursion-weaker (λ m two. waits_after m two.0 two.1) F.jobs
               (AllByRecursion-both (λ m. IsAmong m F.jobs) (λ m. job_of F m.number ≡ Some m) F.jobs (among_itself F.jobs) (own_job F sound.steady));

@@ -1,7 +1,7 @@
 -- The heads of the queues, one after the other, as callers see them.
-use Rattle.std.proofs.Common.{◌≡◌, ◌∙◌, ◌&&◌, ◌||◌, ◌==◌, ◌≤◌, ◌<◌, ◌+◌, ◌-◌, ℕ, zero, suc, List, [], ◌∷◌, length, map, Bool, true, false, Option, None, refl, sym, ap, subst, arith}
-use mathlib.Core.Bool.{true≢false}
+use Rattle.std.proofs.Common.{◌≡◌, ◌∙◌, ◌&&◌, ◌||◌, ◌==◌, ◌≤◌, ◌<◌, ◌+◌, ◌-◌, ℕ, zero, suc, List, [], ◌∷◌, length, map, Bool, true, false, Option, None, inl, inr, refl, sym, ap, subst, arith, ◌++◌}
 use Rattle.std.specs.List.{AllByRecursion, cons_option, filter_map, list_any, range_with_len}
+use Rattle.std.proofs.lemmas.Bool.{cases_Bool, eqb-false, or_left, or_right}
 use Rattle.farm_types.specs.Sound.{EachTwo}
 use Rattle.farm_types.specs.declared.claims.Claim.{Claim}
 use Rattle.farm_sound.proofs.Own.{differs_more, itself}
@@ -14,10 +14,47 @@ use Rattle.farm_pick.specs.declared.idle.IdleRow.{IdleRow}
 use Rattle.farm_pick.specs.declared.spot.Place.{Place}
 use Rattle.farm_pick.specs.declared.spot.Spot.{Spot}
 use Rattle.farm_pick.proofs.Apart.{same_kinds, same_open}
-use Rattle.farm_pick.proofs.Entries.{all_put}
+use Rattle.farm_pick.proofs.Entries.{all_put, none_before, sorted_seen}
 use Rattle.farm_pick.proofs.First.{first_alone, none_alone}
-use Rattle.farm_pick.proofs.Keeping.{queued_total}
-use Rattle.farm_pick.proofs.Shown.{first_shown}
+use Rattle.farm_pick.proofs.Keeping.{queued_total, shown_apart}
+use Rattle.farm_pick.proofs.Shown.{first_shown, sorted_put_all}
+use Rattle.std.specs.List.Sorted.{IsPermutation, IsSortedBy}
+use Rattle.std.specs.Ordering.{is_lt}
+use Rattle.std.proofs.lemmas.List.{append-nil}
+use Rattle.std.proofs.lemmas.List.Sorted.{IsPermutation-map, IsPermutation-sym, IsPermutation-trans}
+use Rattle.std.proofs.lemmas.Simd.{map-map}
+use Rattle.farm_types.specs.Pick.{shown_cmp}
+use Rattle.farm_sound.proofs.Queue.{put_all_permutes}
+use Rattle.farm_pick.proofs.Ordered.{sorted_is_one}
+use Rattle.farm_pick.proofs.Queued.{shown_total}
+
+-- ---- the claims of the map, once they are sorted, are those that callers see
+
+abbrev claims_of : List Queued → List Claim
+claims_of xs = map (λ (x : Queued). x.claim) xs
+
+module _ (kinds : List (List ℕ)) (es : List (Spot × Claim)) (apart : EachTwo (λ a b. a.1.number ≡ b.1.number → ⊥) es) where
+  permuted : IsPermutation (map (λ (e : Spot × Claim). e.1) es) (claims_of (shown_claims kinds es))
+  permuted =
+      subst (λ xs. IsPermutation xs (claims_of (shown_claims kinds es)))
+      (ap claims_of (append-nil (map (shown_entry kinds) es)) ∙ map-map (λ (x : Queued). x.claim) (shown_entry kinds) es)
+      (IsPermutation-map (λ (x : Queued). x.claim) (map (shown_entry kinds) es ++ []) (shown_claims kinds es)
+      (put_all_permutes queued_cmp queued_total (map (shown_entry kinds) es) [] (shown_apart kinds es apart) (none_before queued_cmp queued_total (map (shown_entry kinds) es))))
+
+  sorted_claims : (sorted : List Claim) → IsPermutation (map (λ (e : Spot × Claim). e.1) es) sorted → IsSortedBy (λ a b. is_lt (shown_cmp a b)) sorted
+      → sorted ≡ claims_of (shown_claims kinds es)
+  sorted_claims sorted permutes in_order =
+      sorted_is_one shown_cmp shown_total (claims_of (shown_claims kinds es)) sorted
+      (sorted_seen queued_cmp shown_cmp (λ x. x.claim) (λ a b less. less) (shown_claims kinds es) (sorted_put_all queued_cmp queued_total (λ x. true) (map (shown_entry kinds) es)))
+      (IsPermutation-trans (claims_of (shown_claims kinds es)) (map (λ (e : Spot × Claim). e.1) es) sorted
+      (IsPermutation-sym (map (λ (e : Spot × Claim). e.1) es) (claims_of (shown_claims kinds es)) permuted) permutes) in_order
+
+-- as callers see them
+pub claims_seen : (kinds : List (List ℕ)) (es : List (Spot × Claim)) (ps : List (ℕ × Place)) (rows : List IdleRow) → IsWell kinds es ps rows → (seen : QueueLists)
+    → record { claims = shown_claims kinds es; boards = map (shown_idle kinds) rows } ≡ seen → (sorted : List Claim) → IsPermutation (map (λ (e : Spot × Claim). e.1) es) sorted
+    → IsSortedBy (λ a b. is_lt (shown_cmp a b)) sorted → sorted ≡ map (λ (x : Queued). x.claim) seen.claims
+claims_seen kinds es ps rows well seen view sorted permutes in_order =
+    sorted_claims kinds es well.queues.apart sorted permutes in_order ∙ ap (λ (l : QueueLists). claims_of l.claims) view
 
 -- ---- the head of one queue
 
@@ -81,21 +118,10 @@ module _ (kinds : List (List ℕ)) (es : List (Spot × Claim)) (rows : List Idle
 
   is_there : (q a n : ℕ) → a ≤ q → q < a + n → a + n ≤ length kinds + 1 → list_any (λ k. same_kind k (kind_at kinds q)) (kinds_from a n) ≡ true
   is_there q a zero from below low = absurd (omega arith)
-  is_there q a (suc n) from below low = by (q == a) refl (λ up. is_there q (a + 1) n up (omega arith) (omega arith))
-    where
-      here : (v : Bool) → (q == a) ≡ v → same_kind (kind_at kinds a) (kind_at kinds q) ≡ v
-      here v is = sym (same_kinds kinds are.idle.apart a q (omega arith) (omega arith)) ∙ is
-
-      or_true : (v : Bool) → (v || true) ≡ true
-      or_true true = refl
-      or_true false = refl
-
-      by : (v : Bool) → (q == a) ≡ v → (a + 1 ≤ q → list_any (λ k. same_kind k (kind_at kinds q)) (kinds_from (a + 1) n) ≡ true)
-          → (same_kind (kind_at kinds a) (kind_at kinds q) || list_any (λ k. same_kind k (kind_at kinds q)) (kinds_from (a + 1) n)) ≡ true
-      by true is rest = ap (λ v. v || list_any (λ k. same_kind k (kind_at kinds q)) (kinds_from (a + 1) n)) (here true is)
-      by false is rest =
-          let other : q ≡ a → ⊥ = λ same. true≢false (sym (ap (λ m. q == m) (sym same) ∙ itself q) ∙ is) in
-          ap (λ v. same_kind (kind_at kinds a) (kind_at kinds q) || v) (rest (omega arith)) ∙ or_true (same_kind (kind_at kinds a) (kind_at kinds q))
+  is_there q a (suc n) from below low = elim (cases_Bool (q == a)) [
+    | inl is ↦ or_left (same_kind (kind_at kinds a) (kind_at kinds q)) _ (sym (same_kinds kinds are.idle.apart a q (omega arith) (omega arith)) ∙ is)
+    | inr is ↦ let other = eqb-false q a is in or_right (same_kind (kind_at kinds a) (kind_at kinds q)) _ (is_there q (a + 1) n (omega arith) (omega arith) (omega arith))
+  ]
 
   pub are_kinds : AreKindsOf (shown_claims kinds es) (kinds_from 0 (length kinds + 1))
   are_kinds = record {

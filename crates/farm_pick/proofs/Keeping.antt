@@ -1,31 +1,31 @@
 -- What a put and a take keep of the queues.
-use Rattle.std.proofs.Common.{◌≡◌, ◌∙◌, ◌&&◌, ◌==◌, ◌≤◌, ◌++◌, ℕ, zero, suc, List, [], ◌∷◌, length, map, Bool, true, false, cond, not, Option, Some, None, is_some, inl, inr, refl, sym, ap, subst, arith}
+use Rattle.std.proofs.Common.{◌≡◌, ◌∙◌, ◌&&◌, ◌==◌, ◌≤◌, ◌++◌, ℕ, zero, suc, List, [], ◌∷◌, length, map, Bool, true, false, cond, not, Option, Some, None, is_some, refl, sym, ap, subst, arith}
 use mathlib.Core.Bool.{true≢false, false≢true}
-use Rattle.std.specs.Cmp.{IsTotalOrder, on_total, tied_then}
+use Rattle.std.specs.Cmp.{IsTotalOrder, on_total}
 use Rattle.std.specs.List.{AllByRecursion, filter}
-use Rattle.std.specs.Map.{lookup, remove_entry}
+use Rattle.std.specs.Map.{remove_entry}
 use Rattle.std.specs.BTreeMap.{insert_entry}
 use Rattle.std.specs.Option.{option_map_or}
-use Rattle.std.specs.Ordering.{is_eq, nat_cmp, ordering_then}
-use Rattle.std.specs.declared.cmp.Ordering.{Ordering}
-use Rattle.std.specs.declared.cmp.Ordering.TheVariants.{Equal, Greater, Less}
+use Rattle.std.specs.Ordering.{is_eq, nat_cmp}
+use Rattle.std.specs.declared.cmp.Ordering.TheVariants.{Equal}
+use Rattle.std.proofs.lemmas.Bool.{ne_eqb, not_from_false}
+use Rattle.std.proofs.lemmas.Bool.Decides.{nat_tests}
 use Rattle.std.proofs.lemmas.Cmp.{ranked}
 use Rattle.farm_types.specs.Pick.{IsAmong, shown_cmp}
 use Rattle.farm_types.specs.Sound.{EachTwo}
 use Rattle.farm_types.specs.Table.{put, put_all}
 use Rattle.farm_types.specs.declared.claims.Claim.{Claim}
 use Rattle.farm_types.proofs.Put.{AllByRecursion-weaker}
-use Rattle.farm_types.proofs.Searched.{same_numbers}
+use Rattle.farm_sound.proofs.Clear.{none_of}
 use Rattle.farm_sound.proofs.Lists.{among_has, each_map}
 use Rattle.farm_sound.proofs.Own.{itself}
-use Rattle.farm_sound.proofs.Tests.{both, same_number}
 use Rattle.farm_sound.proofs.Where.{AllByRecursion-both, AllByRecursion-map}
 use Rattle.farm_pick.proofs.Queued.{shown_total}
 use Rattle.farm_pick.specs.Queued.{Queued}
 use Rattle.farm_pick.specs.Kept.{spot_cmp, queued_cmp, kind_at, shown_entry, shown_claims, IsKeyed, claim_at, place_at, is_placed, AreQueues}
 use Rattle.farm_pick.specs.declared.spot.Spot.{Spot}
 use Rattle.farm_pick.specs.declared.spot.Place.{Place}
-use Rattle.farm_pick.proofs.Entries.{IsApart, all_insert, each_insert, all_remove, each_remove, all_put, all_unput, shown_insert, shown_remove, filter_put}
+use Rattle.farm_pick.proofs.Entries.{IsApart, all_pass, all_unmap, among_itself, entry_found, found_entry, all_insert, each_insert, all_remove, each_remove, all_put, all_unput, shown_insert, shown_remove, filter_put}
 
 pub queued_total : IsTotalOrder queued_cmp
 queued_total = on_total (λ (x : Queued). x.claim) shown_total
@@ -36,12 +36,7 @@ abbrev OtherNumber : Spot × Claim → Spot × Claim → Type 0
 OtherNumber a b = a.1.number ≡ b.1.number → ⊥
 
 ties_number : (a b : Claim) → shown_cmp a b ≡ Equal → a.number ≡ b.number
-ties_number a b ties = by (nat_cmp b.priority a.priority) ties
-  where
-    by : (o : Ordering) → ordering_then o (nat_cmp a.number b.number) ≡ Equal → a.number ≡ b.number
-    by Less is = cc
-    by Equal is = ranked a.number b.number Equal (sym is)
-    by Greater is = cc
+ties_number a b ties = grind (arith, ranked a.number b.number)
 
 pub other_apart : (kinds : List (List ℕ)) (a b : Spot × Claim) → OtherNumber a b → IsApart queued_cmp (shown_entry kinds a) (shown_entry kinds b)
 other_apart kinds a b other ties = other (ties_number a.1 b.1 ties)
@@ -55,56 +50,17 @@ pub record AreTied (a b : Spot) : Type 0 where
   pub priority : a.priority ≡ b.priority
   pub number : a.number ≡ b.number
 
-spot_test : (a b : Spot) → is_eq (spot_cmp a b) ≡ ((a.queue == b.queue) && ((b.priority == a.priority) && (a.number == b.number)))
-spot_test a b =
-    sym (tied_then (nat_cmp a.queue b.queue) (ordering_then (nat_cmp b.priority a.priority) (nat_cmp a.number b.number)))
-    ∙ ap (λ v. is_eq (nat_cmp a.queue b.queue) && v) (sym (tied_then (nat_cmp b.priority a.priority) (nat_cmp a.number b.number)))
-    ∙ ap (λ v. v && (is_eq (nat_cmp b.priority a.priority) && is_eq (nat_cmp a.number b.number))) (sym (same_numbers a.queue b.queue))
-    ∙ ap (λ v. (a.queue == b.queue) && (v && is_eq (nat_cmp a.number b.number))) (sym (same_numbers b.priority a.priority))
-    ∙ ap (λ v. (a.queue == b.queue) && ((b.priority == a.priority) && v)) (sym (same_numbers a.number b.number))
-
 pub tied : (a b : Spot) → is_eq (spot_cmp a b) ≡ true → AreTied a b
-tied a b is =
-    let outer = both (a.queue == b.queue) ((b.priority == a.priority) && (a.number == b.number)) (sym (spot_test a b) ∙ is) in
-    let inner = both (b.priority == a.priority) (a.number == b.number) outer.1 in
-    record { queue = same_number a.queue b.queue outer.0; priority = sym (same_number b.priority a.priority inner.0); number = same_number a.number b.number inner.1 }
+tied a b is = record { queue = grind (arith, nat_tests); priority = grind (arith, nat_tests); number = grind (arith, nat_tests) }
 
 pub tie : (a b : Spot) → AreTied a b → is_eq (spot_cmp a b) ≡ true
-tie a b t =
-    spot_test a b
-    ∙ ap (λ v. v && ((b.priority == a.priority) && (a.number == b.number))) (ap (λ q. a.queue == q) (sym t.queue) ∙ itself a.queue)
-    ∙ ap (λ v. v && (a.number == b.number)) (ap (λ q. q == a.priority) (sym t.priority) ∙ itself a.priority)
-    ∙ (ap (λ n. a.number == n) (sym t.number) ∙ itself a.number)
+tie a b t = grind (arith, nat_tests)
 
 -- ---- look-ups
-
-lookup_has : {K X : Type 0} (P : K × X → Type 0) (test : K → Bool) (v : X) (es : List (K × X)) → AllByRecursion P es → lookup test es ≡ Some v
-    → (e : K × X) × P e × (test e.0 ≡ true) × IsAmong e es
-lookup_has P test v [] all found = cc
-lookup_has P test v (e ∷ es) all found = by (test e.0) refl found (λ rest. lookup_has P test v es all.1 rest)
-  where
-    by : (w : Bool) → test e.0 ≡ w → cond w (Some e.1) (lookup test es) ≡ Some v
-        → (lookup test es ≡ Some v → (d : _) × P d × (test d.0 ≡ true) × IsAmong d es)
-        → (d : _) × P d × (test d.0 ≡ true) × IsAmong d (e ∷ es)
-    by true is here rest = (e, all.0, is, inl refl)
-    by false is here rest = let more = rest here in (more.0, more.1, more.2, inr more.3)
-
-lookup_some : {K X : Type 0} (test : K → Bool) (e : K × X) (es : List (K × X)) → IsAmong e es → test e.0 ≡ true → is_some (lookup test es) ≡ true
-lookup_some test e [] at is = absurd at
-lookup_some test e (d ∷ es) at is = by (test d.0) refl at (λ rest. lookup_some test e es rest is)
-  where
-    by : (w : Bool) → test d.0 ≡ w → IsAmong e (d ∷ es) → (IsAmong e es → is_some (lookup test es) ≡ true) → is_some (cond w (Some d.1) (lookup test es)) ≡ true
-    by true has at rest = refl
-    by false has (inl same) rest = absurd (true≢false (sym is ∙ ap (λ (x : _). test x.0) same ∙ has))
-    by false has (inr more) rest = rest more
 
 some_is : {X : Type 0} (o : Option X) → is_some o ≡ true → (x : X) × (o ≡ Some x)
 some_is None is = absurd (false≢true is)
 some_is (Some x) is = (x, refl)
-
-none_is : {X : Type 0} (o : Option X) → is_some o ≡ false → o ≡ None
-none_is None is = refl
-none_is (Some x) is = absurd (true≢false is)
 
 -- ---- more types
 
@@ -116,9 +72,7 @@ kind_more (k ∷ kinds) more (suc (suc q)) low = kind_more kinds more (suc q) (o
 
 shown_more_map : (kinds more : List (List ℕ)) (es : List (Spot × Claim)) → AllByRecursion (IsKeyed kinds) es → map (shown_entry (kinds ++ more)) es ≡ map (shown_entry kinds) es
 shown_more_map kinds more [] all = refl
-shown_more_map kinds more (e ∷ es) all =
-    ap (λ k. record { claim = e.1; kind = k } ∷ map (shown_entry (kinds ++ more)) es) (kind_more kinds more e.0.queue all.0.queue)
-    ∙ ap (λ xs. shown_entry kinds e ∷ xs) (shown_more_map kinds more es all.1)
+shown_more_map kinds more (e ∷ es) all = rw (kind_more kinds more e.0.queue all.0.queue) (ap (λ xs. shown_entry kinds e ∷ xs) (shown_more_map kinds more es all.1))
 
 pub shown_more : (kinds more : List (List ℕ)) (es : List (Spot × Claim)) → AllByRecursion (IsKeyed kinds) es → shown_claims (kinds ++ more) es ≡ shown_claims kinds es
 shown_more kinds more es all = ap (put_all queued_cmp []) (shown_more_map kinds more es all)
@@ -137,11 +91,7 @@ are_more kinds more es ps are = record {
 module _ (kinds : List (List ℕ)) (es : List (Spot × Claim)) (ps : List (ℕ × Place)) (are : AreQueues kinds es ps) where
   -- what is said of all claims that are shown is said of the entries
   pub all_entries : (P : Queued → Type 0) → AllByRecursion P (shown_claims kinds es) → AllByRecursion (λ e. P (shown_entry kinds e)) es
-  all_entries P all = back es (all_unput queued_cmp queued_total P (map (shown_entry kinds) es) (shown_apart kinds es are.apart) all)
-    where
-      back : (ds : List (Spot × Claim)) → AllByRecursion P (map (shown_entry kinds) ds) → AllByRecursion (λ e. P (shown_entry kinds e)) ds
-      back [] all = tt
-      back (d ∷ ds) all = (all.0, back ds all.1)
+  all_entries P all = all_unmap P (shown_entry kinds) es (all_unput queued_cmp queued_total P (map (shown_entry kinds) es) (shown_apart kinds es are.apart) all)
 
   -- where a number is placed its claim stands
   pub placed_some : (n : ℕ) (p : Place) → place_at ps n ≡ Some p → (v : Claim) × (claim_at es (record { queue = p.queue; priority = p.priority; number = n }) ≡ Some v)
@@ -156,7 +106,7 @@ module _ (kinds : List (List ℕ)) (es : List (Spot × Claim)) (ps : List (ℕ �
   -- and a claim's number is placed
   pub entry_placed : (e : Spot × Claim) → IsAmong e es → place_at ps e.0.number ≡ None → ⊥
   entry_placed e at none =
-      let here = lookup_some (λ x. is_eq (spot_cmp e.0 x)) e es at (tie e.0 e.0 (record { queue = refl; priority = refl; number = refl })) in
+      let here = entry_found (λ x. is_eq (spot_cmp e.0 x)) e es at (tie e.0 e.0 (record { queue = refl; priority = refl; number = refl })) in
       true≢false (sym here ∙ are.placed e.0 ∙ ap (λ o. option_map_or (λ (r : Place). (r.queue == e.0.queue) && (r.priority == e.0.priority)) o false) none)
 
   module _ (spot : Spot) (claim : Claim) (number : spot.number ≡ claim.number) (priority : spot.priority ≡ claim.priority) (queue : spot.queue ≤ length kinds)
@@ -172,68 +122,25 @@ module _ (kinds : List (List ℕ)) (es : List (Spot × Claim)) (ps : List (ℕ �
         by (Some p) is =
             let s : Spot = record { queue = p.queue; priority = p.priority; number = spot.number } in
             let v = placed_some spot.number p is in
-            let e = lookup_has (λ (e : Spot × Claim). IsKeyed kinds e × (e.1.number ≡ claim.number → ⊥)) (λ x. is_eq (spot_cmp s x)) v.0 es
+            let e = found_entry (λ (e : Spot × Claim). IsKeyed kinds e × (e.1.number ≡ claim.number → ⊥)) (λ x. is_eq (spot_cmp s x)) v.0 es
             (AllByRecursion-both (IsKeyed kinds) (λ (e : Spot × Claim). e.1.number ≡ claim.number → ⊥) es are.keyed absent_entries) v.1 in
             absurd (e.1.1 (sym e.1.0.number ∙ sym (tied s e.0.0 e.2).number ∙ number))
 
     pub no_claim : claim_at es spot ≡ None
-    no_claim = none_is (claim_at es spot)
+    no_claim = none_of (claim_at es spot)
         (are.placed spot ∙ ap (λ o. option_map_or (λ (r : Place). (r.queue == spot.queue) && (r.priority == spot.priority)) o false) no_place)
+
+    pub shown_put : (fs : List (Spot × Claim)) → fs ≡ insert_entry spot_cmp es spot claim → shown_claims kinds fs ≡ put queued_cmp (shown_claims kinds es) (shown_entry kinds (spot, claim))
+    shown_put fs added =
+        ap (λ xs. put_all queued_cmp [] (map (shown_entry kinds) xs)) added
+        ∙ shown_insert queued_cmp queued_total (shown_entry kinds) spot_cmp spot claim es []
+        (AllByRecursion-weaker (λ e other. other_apart kinds (spot, claim) e (λ same. other (sym same))) es absent_entries) no_claim
 
     module _ (fs : List (Spot × Claim)) (qs : List (ℕ × Place)) (added : fs ≡ insert_entry spot_cmp es spot claim)
         (claims : (s : Spot) → claim_at fs s ≡ cond (is_eq (spot_cmp spot s)) (Some claim) (claim_at es s))
         (places : (n : ℕ) → place_at qs n ≡ cond (is_eq (nat_cmp spot.number n)) (Some (record { queue = spot.queue; priority = spot.priority })) (place_at ps n)) where
       placed_after : (s : Spot) → is_some (claim_at fs s) ≡ is_placed qs s
-      placed_after s = by (is_eq (spot_cmp spot s)) refl (is_eq (nat_cmp spot.number s.number)) refl
-        where
-          claims_at : (v : Bool) → is_eq (spot_cmp spot s) ≡ v → is_some (claim_at fs s) ≡ is_some (cond v (Some claim) (claim_at es s))
-          claims_at v is = ap is_some (claims s) ∙ ap (λ u. is_some (cond u (Some claim) (claim_at es s))) is
-
-          place : Place
-          place = record { queue = spot.queue; priority = spot.priority }
-
-          test : Place → Bool
-          test r = (r.queue == s.queue) && (r.priority == s.priority)
-
-          places_at : (v : Bool) → is_eq (nat_cmp spot.number s.number) ≡ v → is_placed qs s ≡ option_map_or test (cond v (Some place) (place_at ps s.number)) false
-          places_at v is = ap (λ o. option_map_or test o false) (places s.number) ∙ ap (λ u. option_map_or test (cond u (Some place) (place_at ps s.number)) false) is
-
-          numbers : (v : Bool) → is_eq (nat_cmp spot.number s.number) ≡ v → (spot.number == s.number) ≡ v
-          numbers v is = same_numbers spot.number s.number ∙ is
-
-          swap : (a b : ℕ) (v : Bool) → (a == b) ≡ v → (b == a) ≡ v
-          swap a b true is = ap (λ x. b == x) (same_number a b is) ∙ itself b
-          swap a b false is = by_flip (b == a) refl
-            where
-              by_flip : (w : Bool) → (b == a) ≡ w → (b == a) ≡ false
-              by_flip false other = other
-              by_flip true same = absurd (true≢false (sym (ap (λ x. a == x) (same_number b a same) ∙ itself a) ∙ is))
-
-          by : (v : Bool) → is_eq (spot_cmp spot s) ≡ v → (w : Bool) → is_eq (nat_cmp spot.number s.number) ≡ w → is_some (claim_at fs s) ≡ is_placed qs s
-          by true is true has =
-              let t = tied spot s is in
-              claims_at true is ∙ sym (places_at true has
-              ∙ ap (λ v. v && (spot.priority == s.priority)) (ap (λ q. spot.queue == q) (sym t.queue) ∙ itself spot.queue)
-              ∙ (ap (λ q. spot.priority == q) (sym t.priority) ∙ itself spot.priority))
-          by true is false has =
-              let t = tied spot s is in
-              absurd (true≢false (sym (ap (λ n. spot.number == n) (sym t.number) ∙ itself spot.number) ∙ numbers false has))
-          by false is true has =
-              let same : spot.number ≡ s.number = same_number spot.number s.number (numbers true has) in
-              claims_at false is ∙ are.placed s
-              ∙ ap (λ o. option_map_or test o false) (ap (place_at ps) (sym same) ∙ no_place)
-              ∙ sym (places_at true has ∙ differ (test place) refl)
-            where
-              differ : (u : Bool) → test place ≡ u → test place ≡ false
-              differ false other = other
-              differ true same_place =
-                  let two = both (spot.queue == s.queue) (spot.priority == s.priority) same_place in
-                  absurd (true≢false (sym (tie spot s (record {
-                    queue = same_number spot.queue s.queue two.0;
-                    priority = same_number spot.priority s.priority two.1;
-                    number = same_number spot.number s.number (numbers true has);
-                  })) ∙ is))
-          by false is false has = claims_at false is ∙ are.placed s ∙ sym (places_at false has)
+      placed_after s = rw (claims s, places s.number) (grind (arith, nat_tests, are.placed s, no_place))
 
       pub after_put : AreQueues kinds fs qs
       after_put = record {
@@ -244,40 +151,19 @@ module _ (kinds : List (List ℕ)) (es : List (Spot × Claim)) (ps : List (ℕ �
         placed = placed_after;
       }
 
-      pub shown_put : shown_claims kinds fs ≡ put queued_cmp (shown_claims kinds es) (shown_entry kinds (spot, claim))
-      shown_put =
-          ap (λ xs. put_all queued_cmp [] (map (shown_entry kinds) xs)) added
-          ∙ shown_insert queued_cmp queued_total (shown_entry kinds) spot_cmp spot claim es []
-          (AllByRecursion-weaker (λ e other. other_apart kinds (spot, claim) e (λ same. other (sym same))) es absent_entries) no_claim
-
   -- ---- one is taken
 
   abbrev is_other : ℕ → Queued → Bool
   is_other n x = not (x.claim.number == n)
 
-  other_true : (a n : ℕ) → (a ≡ n → ⊥) → not (a == n) ≡ true
-  other_true a n other = by (a == n) refl
-    where
-      by : (v : Bool) → (a == n) ≡ v → not v ≡ true
-      by true same = absurd (other (same_number a n same))
-      by false differs = refl
-
   all_shown : (P : Queued → Type 0) (ds : List (Spot × Claim)) → AllByRecursion (λ e. P (shown_entry kinds e)) ds → AllByRecursion P (shown_claims kinds ds)
   all_shown P ds all = all_put queued_cmp queued_total P (map (shown_entry kinds) ds) [] tt (AllByRecursion-map (λ e. P (shown_entry kinds e)) P (shown_entry kinds) (λ e one. one) ds all)
 
-  filter_same : (n : ℕ) (xs : List Queued) → AllByRecursion (λ x. is_other n x ≡ true) xs → filter (is_other n) xs ≡ xs
-  filter_same n [] all = refl
-  filter_same n (x ∷ xs) all = ap (λ v. cond v (x ∷ filter (is_other n) xs) (filter (is_other n) xs)) all.0 ∙ ap (λ ys. x ∷ ys) (filter_same n xs all.1)
-
-  all_entry : (ds : List (Spot × Claim)) → AllByRecursion (λ d. IsAmong d ds) ds
-  all_entry [] = tt
-  all_entry (d ∷ ds) = (inl refl, AllByRecursion-weaker (λ e at. inr at) ds (all_entry ds))
-
   -- a number that isn't placed is no claim's
   pub none_taken : (n : ℕ) → place_at ps n ≡ None → shown_claims kinds es ≡ filter (is_other n) (shown_claims kinds es)
-  none_taken n none = sym (filter_same n (shown_claims kinds es) (all_shown (λ x. is_other n x ≡ true) es
-      (AllByRecursion-weaker (λ e two. other_true e.1.number n (λ same. entry_placed e two.0 (ap (place_at ps) (two.1.number ∙ same) ∙ none))) es
-      (AllByRecursion-both (λ d. IsAmong d es) (IsKeyed kinds) es (all_entry es) are.keyed))))
+  none_taken n none = sym (all_pass (is_other n) (shown_claims kinds es) (all_shown (λ x. is_other n x ≡ true) es
+      (AllByRecursion-weaker (λ e two. not_from_false (e.1.number == n) (ne_eqb e.1.number n (λ same. entry_placed e two.0 (ap (place_at ps) (two.1.number ∙ same) ∙ none)))) es
+      (AllByRecursion-both (λ d. IsAmong d es) (IsKeyed kinds) es (among_itself es) are.keyed))))
 
   module _ (n : ℕ) (p : Place) (there : place_at ps n ≡ Some p) (fs : List (Spot × Claim)) (qs : List (ℕ × Place)) where
     abbrev spot_of : Spot
@@ -287,38 +173,7 @@ module _ (kinds : List (List ℕ)) (es : List (Spot × Claim)) (ps : List (ℕ �
         (claims : (s : Spot) → claim_at fs s ≡ cond (is_eq (spot_cmp spot_of s)) None (claim_at es s))
         (places : (m : ℕ) → place_at qs m ≡ cond (is_eq (nat_cmp n m)) None (place_at ps m)) where
       gone_after : (s : Spot) → is_some (claim_at fs s) ≡ is_placed qs s
-      gone_after s = by (is_eq (spot_cmp spot_of s)) refl (is_eq (nat_cmp n s.number)) refl
-        where
-          claims_at : (v : Bool) → is_eq (spot_cmp spot_of s) ≡ v → is_some (claim_at fs s) ≡ is_some (cond v None (claim_at es s))
-          claims_at v is = ap is_some (claims s) ∙ ap (λ u. is_some (cond u None (claim_at es s))) is
-
-          test : Place → Bool
-          test r = (r.queue == s.queue) && (r.priority == s.priority)
-
-          places_at : (v : Bool) → is_eq (nat_cmp n s.number) ≡ v → is_placed qs s ≡ option_map_or test (cond v None (place_at ps s.number)) false
-          places_at v is = ap (λ o. option_map_or test o false) (places s.number) ∙ ap (λ u. option_map_or test (cond u None (place_at ps s.number)) false) is
-
-          by : (v : Bool) → is_eq (spot_cmp spot_of s) ≡ v → (w : Bool) → is_eq (nat_cmp n s.number) ≡ w → is_some (claim_at fs s) ≡ is_placed qs s
-          by true is true has = claims_at true is ∙ sym (places_at true has)
-          by true is false has =
-              let t = tied spot_of s is in
-              absurd (true≢false (sym (ap (λ m. n == m) (sym t.number) ∙ itself n) ∙ (same_numbers n s.number ∙ has)))
-          by false is true has =
-              let same : n ≡ s.number = same_number n s.number (same_numbers n s.number ∙ has) in
-              claims_at false is ∙ are.placed s
-              ∙ ap (λ o. option_map_or test o false) (ap (place_at ps) (sym same) ∙ there)
-              ∙ (differ (test p) refl ∙ sym (places_at true has))
-            where
-              differ : (u : Bool) → test p ≡ u → test p ≡ false
-              differ false other = other
-              differ true same_place =
-                  let two = both (p.queue == s.queue) (p.priority == s.priority) same_place in
-                  absurd (true≢false (sym (tie spot_of s (record {
-                    queue = same_number p.queue s.queue two.0;
-                    priority = same_number p.priority s.priority two.1;
-                    number = same_number n s.number (same_numbers n s.number ∙ has);
-                  })) ∙ is))
-          by false is false has = claims_at false is ∙ are.placed s ∙ sym (places_at false has)
+      gone_after s = rw (claims s, places s.number) (grind (arith, nat_tests, are.placed s, there))
 
       pub after_take : AreQueues kinds fs qs
       after_take = record {
@@ -340,4 +195,4 @@ module _ (kinds : List (List ℕ)) (es : List (Spot × Claim)) (ps : List (ℕ �
           (all_shown (λ r. queued_cmp (shown_entry kinds one.entry) r ≡ Equal → ⊥) (remove_entry (λ x. is_eq (spot_cmp spot_of x)) es)
           (AllByRecursion-weaker (λ e other. other_apart kinds one.entry e other) (remove_entry (λ x. is_eq (spot_cmp spot_of x)) es) one.others))
           (all_shown (λ r. is_other n r ≡ true) (remove_entry (λ x. is_eq (spot_cmp spot_of x)) es)
-          (AllByRecursion-weaker (λ e other. other_true e.1.number n (λ same. other (sym number ∙ sym same))) (remove_entry (λ x. is_eq (spot_cmp spot_of x)) es) one.others)))
+          (AllByRecursion-weaker (λ e other. not_from_false (e.1.number == n) (ne_eqb e.1.number n (λ same. other (sym number ∙ sym same)))) (remove_entry (λ x. is_eq (spot_cmp spot_of x)) es) one.others)))

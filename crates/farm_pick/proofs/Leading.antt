@@ -1,10 +1,12 @@
 -- The queue of a claim: that of the type that its group's first member wants, or the reservations'.
-use Rattle.std.proofs.Common.{◌==◌, ◌∙◌, ◌∷◌, ◌≡◌, ◌≤◌, ◌<◌, Bool, List, None, Option, Some, ap, arith, cond, false, inl, inr, map, refl, sym, true, ℕ, []}
+use Rattle.std.proofs.Common.{◌==◌, ◌∙◌, ◌∷◌, ◌≡◌, ◌≤◌, ◌<◌, List, None, Some, ap, arith, cond, false, inl, inr, map, refl, sym, true, ℕ, []}
 use mathlib.Core.Bool.{true≢false}
 use Rattle.std.specs.List.{AllByRecursion, filter, find}
 use Rattle.std.specs.List.Sorted.{IsStrictlySortedBy}
 use Rattle.std.specs.declared.cmp.Ordering.TheVariants.{Less}
+use Rattle.std.proofs.lemmas.Bool.{cases_Bool}
 use Rattle.std.proofs.lemmas.Cmp.{ranked}
+use Rattle.std.proofs.lemmas.Option.{same_Some}
 use Rattle.farm_types.specs.Farm.{Farm, job_of}
 use Rattle.farm_types.specs.Pick.{Claimed}
 use Rattle.farm_types.specs.Sound.{IsSound}
@@ -20,23 +22,17 @@ first_wants : (g : ℕ) (j : JobRow) (jobs : List JobRow) → IsStrictlySortedBy
     → find (λ m. m.number == g) jobs ≡ Some j → j.number ≡ g → j.group ≡ g → first_kind (map (λ m. m.want) (filter (λ m. m.group == g) jobs)) ≡ j.want.kind
 unfolding IsStrictlySortedBy
 first_wants g j [] sorted near found at mine = cc
-first_wants g j (k ∷ jobs) sorted near found at mine = by (k.number == g) found (λ later. first_wants g j jobs sorted.1 near.1 later at mine)
-  where
-    kind_with : Bool → Option (List ℕ)
-    kind_with v = first_kind (map (λ (m : JobRow). m.want) (cond v (k ∷ filter (λ m. m.group == g) jobs) (filter (λ m. m.group == g) jobs)))
-
-    by : (v : Bool) → cond v (Some k) (find (λ m. m.number == g) jobs) ≡ Some j
-        → (find (λ m. m.number == g) jobs ≡ Some j → first_kind (map (λ (m : JobRow). m.want) (filter (λ m. m.group == g) jobs)) ≡ j.want.kind)
-        → kind_with (k.group == g) ≡ j.want.kind
-    by true here rest =
-        let same : k ≡ j = cc in
-        let own : (k.group == g) ≡ true = ap (λ (m : JobRow). m.group == g) same ∙ ap (λ n. n == g) mine ∙ itself g in
-        ap kind_with own ∙ ap (λ (m : JobRow). m.want.kind) same
-    by false here rest =
-        let less : job_cmp k j ≡ Less = found_has (λ m. job_cmp k m ≡ Less) (λ m. m.number == g) j jobs sorted.0 here in
-        let below : k.number < j.number = ranked k.number j.number Less (sym less) in
-        let low : k.group ≤ k.number = near.0 in
-        ap kind_with (differs k.group g (omega (arith, below, low, at))) ∙ rest here
+first_wants g j (k ∷ jobs) sorted near found at mine = elim (cases_Bool (k.number == g)) [
+  | inl here ↦
+      let same : k ≡ j = same_Some k j (rw here at found) in
+      rw (ap (λ (m : JobRow). m.group == g) same ∙ ap (λ n. n == g) mine ∙ itself g) (ap (λ (m : JobRow). m.want.kind) same)
+  | inr other ↦
+      let later = rw other at found in
+      let less : job_cmp k j ≡ Less = found_has (λ m. job_cmp k m ≡ Less) (λ m. m.number == g) j jobs sorted.0 later in
+      let below : k.number < j.number = ranked k.number j.number Less (sym less) in
+      let low : k.group ≤ k.number = near.0 in
+      rw (differs k.group g (omega (arith, below, low, at))) (first_wants g j jobs sorted.1 near.1 later at mine)
+]
 
 -- a group's queue is that of the type that the job with its number wants
 pub lead_of : (F : Farm) (c : Claimed) → IsSound F → IsClaim F c → c.reservation ≡ false

@@ -1,20 +1,22 @@
 -- Free boards by their rows, and the short list that they give.
-use Rattle.std.proofs.Common.{◌≡◌, ◌∙◌, ◌&&◌, ◌||◌, ◌==◌, ◌<◌, ◌≤◌, ◌+◌, ◌-◌, ◌⊎◌, ℕ, zero, suc, List, [], ◌∷◌, ◌++◌, length, map, drop, get_or, filter, Bool, true, false, cond, Option, Some, None, inl, inr, refl, sym, ap, subst, arith, add-one, drop-cons}
-use mathlib.Core.Bool.{true≢false, false≢true}
+use Rattle.std.proofs.Common.{◌≡◌, ◌∙◌, ◌&&◌, ◌||◌, ◌==◌, ◌<◌, ◌≤◌, ◌+◌, ◌-◌, ℕ, zero, suc, List, [], ◌∷◌, ◌++◌, length, map, drop, get_or, filter, Bool, true, false, cond, Some, None, inl, inr, refl, sym, ap, arith, add-one, drop-cons}
+use mathlib.Core.Bool.{true≢false}
 use Rattle.std.specs.Prelude.{slice_get, unwrap_or}
 use Rattle.std.specs.List.{AllByRecursion, find}
 use Rattle.std.specs.List.Sorted.{IsStrictlySortedBy}
 use Rattle.std.specs.Option.{option_map_or}
 use Rattle.std.specs.Str.{bytes_eq}
-use Rattle.std.proofs.lemmas.Bool.{cases_lt, cases_order}
+use Rattle.std.proofs.Math.Bool.{and-true}
+use Rattle.std.proofs.lemmas.Bool.{and_left, and_right, cases_lt, false_from_ne_true}
 use Rattle.std.proofs.lemmas.List.{drop-drop, drop_all}
-use Rattle.std.proofs.lemmas.Option.{slice_get-get_or}
+use Rattle.std.proofs.lemmas.Option.{same_Some, slice_get-get_or, slice_get_read}
 use Rattle.std.proofs.lemmas.Slice.Eq.{bytes_eq-Decides}
 use Rattle.farm_types.specs.Table.{board_cmp}
 use Rattle.farm_types.specs.Pick.{fits}
 use Rattle.farm_types.specs.declared.rows.BoardRow.{BoardRow}
 use Rattle.farm_types.specs.declared.rows.Want.{Want}
-use Rattle.farm_types.proofs.Put.{found_passes}
+use Rattle.farm_types.proofs.Put.{AllByRecursion-weaker, found_passes}
+use Rattle.farm_sound.proofs.Lists.{all_fail, among_has}
 use Rattle.farm_sound.proofs.Own.{text_itself}
 use Rattle.farm_sound.proofs.Tests.{both}
 use Rattle.farm_pick.specs.Choice.{IsShortlist, candidate_at}
@@ -23,13 +25,13 @@ use Rattle.farm_pick.specs.Fitting.{is_named, named_at}
 use Rattle.farm_pick.specs.Kept.{IsIdle, kind_at, shown_idle}
 use Rattle.farm_pick.specs.Queued.{IdleBoard, idle_board}
 use Rattle.farm_pick.specs.declared.idle.IdleRow.{IdleRow}
-use Rattle.farm_pick.proofs.Choices.{IsShortlistBelow, all_weaker, shortlist_full, shortlist_past, shortlist_whole, shortlist_with}
-use Rattle.farm_pick.proofs.Places.{names_differ, same_from_some}
+use Rattle.farm_pick.proofs.Choices.{IsShortlistBelow, shortlist_full, shortlist_past, shortlist_whole, shortlist_with}
+use Rattle.farm_pick.proofs.Places.{among_at, none_passing, same_place, some_passing}
 
 -- ---- the board of a name
 
-board_is : (boards : List BoardRow) (p : ℕ) → p < length boards → (b : BoardRow) → b ≡ get_or boards p b → slice_get boards p ≡ Some b
-board_is boards p low b is = slice_get-get_or boards p b low ∙ ap Some (sym is)
+board_is : {X : Type 0} (xs : List X) (p : ℕ) → p < length xs → (x : X) → x ≡ get_or xs p x → slice_get xs p ≡ Some x
+board_is xs p low x is = slice_get_read xs (length xs) p x refl low is
 
 -- the board at a place, and its name
 its_name : (boards : List BoardRow) (name : List ℕ) (p : ℕ) → p < length boards → is_named boards name p ≡ true → (b : BoardRow) → b ≡ get_or boards p b
@@ -59,48 +61,18 @@ module _ (boards : List BoardRow) (sorted : IsStrictlySortedBy board_cmp boards)
       ap (λ o. option_map_or (λ b. has_name b && fits b want) o false) (board_is boards p low b is)
       ∙ ap (λ v. v && fits b want) (its_name boards name p low named b is) ∙ fit
 
-  -- what stands at a place
-  named_by : (o : Option BoardRow) → ((b : BoardRow) → o ≡ Some b → (has_name b && fits b want) ≡ false) → option_map_or (λ b. has_name b && fits b want) o false ≡ false
-  named_by None none = refl
-  named_by (Some b) none = none b refl
-
-  and_false : (a b : Bool) → (a ≡ true → b ≡ false) → (a && b) ≡ false
-  and_false true b f = f refl
-  and_false false b f = refl
-
   pub none_fits : (p : ℕ) → p < length boards → is_named boards name p ≡ true → (b : BoardRow) → b ≡ get_or boards p b
       → fits b want ≡ false → (q : ℕ) → named_at boards name want q ≡ false
-  none_fits p low named b is unfit q = named_by (slice_get boards q) (λ c at. and_false (has_name c) (fits c want) (λ same. by c at same (cases_order p q)))
-    where
-      here : slice_get boards p ≡ Some b
-      here = board_is boards p low b is
-
-      mine : bytes_eq b.name name ≡ true
-      mine = its_name boards name p low named b is
-
-      apart : (c : BoardRow) → slice_get boards q ≡ Some c → has_name c ≡ true → (p ≡ q → ⊥) → ⊥
-      apart c at same other =
-          let one : b.name ≡ c.name = (bytes_eq-Decides b.name name).0 mine ∙ sym ((bytes_eq-Decides c.name name).0 same) in
-          true≢false (sym (ap (bytes_eq b.name) (sym one) ∙ text_itself b.name) ∙ names_differ boards sorted p q b c here at other)
-
-      by : (c : BoardRow) → slice_get boards q ≡ Some c → has_name c ≡ true → (p ≡ q) ⊎ ((p < q) ⊎ (q < p)) → fits c want ≡ false
-      by c at same (inl is) = ap (λ (x : BoardRow). fits x want) (same_from_some c b (sym at ∙ ap (slice_get boards) (sym is) ∙ here)) ∙ unfit
-      by c at same (inr (inl less)) = absurd (apart c at same (λ e. let n : p < p = omega arith in absurd (omega arith)))
-      by c at same (inr (inr less)) = absurd (apart c at same (λ e. let n : p < p = omega arith in absurd (omega arith)))
-
-  none_has : (rows : List BoardRow) → find has_name rows ≡ None → (q : ℕ) (c : BoardRow) → slice_get rows q ≡ Some c → has_name c ≡ false
-  none_has [] none q c at = cc
-  none_has (r ∷ rows) none q c at = by (has_name r) refl none (λ more m here. none_has rows more m c here) q at
-    where
-      by : (v : Bool) → has_name r ≡ v → cond v (Some r) (find has_name rows) ≡ None
-          → (find has_name rows ≡ None → (m : ℕ) → slice_get rows m ≡ Some c → has_name c ≡ false)
-          → (q : ℕ) → slice_get (r ∷ rows) q ≡ Some c → has_name c ≡ false
-      by true is here rest q at = cc
-      by false is here rest zero at = ap has_name (sym (same_from_some r c at)) ∙ is
-      by false is here rest (suc q) at = rest here q at
+  none_fits p low named b is unfit q = none_passing (λ c. has_name c && fits c want) (slice_get boards q) (λ c at. false_from_ne_true (has_name c && fits c want) (λ two.
+      let parts = both (has_name c) (fits c want) two in
+      let names : b.name ≡ c.name = (bytes_eq-Decides b.name name).0 (its_name boards name p low named b is) ∙ sym ((bytes_eq-Decides c.name name).0 parts.0) in
+      let here = board_is boards p low b is in
+      let same = same_Some b c (sym here ∙ ap (slice_get boards) (same_place boards sorted p q b c here at names) ∙ at) in
+      true≢false (sym parts.1 ∙ ap (λ (x : BoardRow). fits x want) (sym same) ∙ unfit)))
 
   pub none_named : find has_name boards ≡ None → (q : ℕ) → named_at boards name want q ≡ false
-  none_named none q = named_by (slice_get boards q) (λ c at. ap (λ v. v && fits c want) (none_has boards none q c at))
+  none_named none q = none_passing (λ c. has_name c && fits c want) (slice_get boards q) (λ c at.
+      and_left (has_name c) (fits c want) (among_has (λ c. has_name c ≡ false) c boards (all_fail has_name boards none) (among_at boards q c at)))
 
 -- ---- the next free board
 
@@ -138,19 +110,13 @@ module _ (free : BoardRow → Bool) where
           }
         where
           earlier : (m : ℕ) (d : BoardRow) → m < suc (more here).at → slice_get (c ∷ bs) m ≡ Some d → free d ≡ false
-          earlier zero d less at = ap free (sym (same_from_some c d at)) ∙ has
+          earlier zero d less at = ap free (sym (same_Some c d at)) ∙ has
           earlier (suc m) d less at = (more here).before m d (omega arith) at
 
   none_free : (bs : List BoardRow) → [] ≡ map idle_board (filter free bs) → (m : ℕ) (c : BoardRow) → slice_get bs m ≡ Some c → free c ≡ false
   none_free [] is m c at = cc
-  none_free (b ∷ bs) is m c at = by (free b) refl is (λ more n here. none_free bs more n c here) m at
-    where
-      by : (v : Bool) → free b ≡ v → [] ≡ map idle_board (cond v (b ∷ filter free bs) (filter free bs))
-          → ([] ≡ map idle_board (filter free bs) → (n : ℕ) → slice_get bs n ≡ Some c → free c ≡ false)
-          → (m : ℕ) → slice_get (b ∷ bs) m ≡ Some c → free c ≡ false
-      by true has here rest m at = cc
-      by false has here rest zero at = ap free (sym (same_from_some b c at)) ∙ has
-      by false has here rest (suc m) at = rest here m at
+  none_free (b ∷ bs) is zero c at = grind (arith, same_Some b c at)
+  none_free (b ∷ bs) is (suc m) c at = grind (arith, λ (less : [] ≡ map idle_board (filter free bs)). none_free bs less m c at)
 
 slice_get-drop : {X : Type 0} (xs : List X) (n m : ℕ) → slice_get (drop n xs) m ≡ slice_get xs (n + m)
 slice_get-drop xs zero m = let none : m ≡ 0 + m = omega arith in ap (slice_get xs) none
@@ -158,11 +124,6 @@ slice_get-drop [] (suc n) m = refl
 slice_get-drop (x ∷ xs) (suc n) m =
     let up : suc (n + m) ≡ suc n + m = omega arith in
     slice_get-drop xs n m ∙ ap (slice_get (x ∷ xs)) up
-
-idle_at : {X : Type 0} (P : X → Type 0) (xs : List X) (k : ℕ) (x : X) → AllByRecursion P xs → k < length xs → x ≡ get_or xs k x → P x
-idle_at P [] k x all low is = absurd (omega arith)
-idle_at P (y ∷ xs) zero x all low is = subst P (sym is) all.0
-idle_at P (y ∷ xs) (suc k) x all low is = idle_at P xs k x all.1 (omega arith) is
 
 -- ---- the short list
 
@@ -176,21 +137,13 @@ module _ (kinds : List (List ℕ)) (rows : List IdleRow) (boards : List BoardRow
     pub part : IsShortlistBelow test limit at xs
     pub rest : map (shown_idle kinds) (drop k rows) ≡ map idle_board (filter free (drop at boards))
 
-  test_free : (o : Option BoardRow) → ((c : BoardRow) → o ≡ Some c → free c ≡ false) → option_map_or (λ c. fits c want && free c) o false ≡ false
-  test_free None none = refl
-  test_free (Some c) none = ap (λ v. fits c want && v) (none c refl) ∙ and_none (fits c want)
-    where
-      and_none : (v : Bool) → (v && false) ≡ false
-      and_none true = refl
-      and_none false = refl
-
   -- a short list reaches as far as no place passes
   further : (i j : ℕ) (xs : List ℕ) → i ≤ j → ((x : ℕ) → i ≤ x → x < j → test x ≡ false) → IsShortlistBelow test limit i xs → IsShortlistBelow test limit j xs
   further i j xs le none part = record {
     short = part.short;
     ascends = part.ascends;
     pass = part.pass;
-    below = all_weaker (λ x. x < i) (λ x. x < j) xs (λ x less. omega arith) part.below;
+    below = AllByRecursion-weaker (λ x less. omega arith) xs part.below;
     first = λ x less passes. elim (cases_lt x i) [
       | inl early ↦ part.first x early passes
       | inr late ↦ absurd (true≢false (sym passes ∙ none x late less))
@@ -218,16 +171,10 @@ module _ (kinds : List (List ℕ)) (rows : List IdleRow) (boards : List BoardRow
     name_is = ap (bytes_eq next.board.name) (sym named) ∙ text_itself next.board.name
 
     test_is : test place ≡ fits next.board want
-    test_is =
-        ap (λ o. option_map_or (λ b. fits b want && free b) o false) board_here ∙ ap (λ v. fits next.board want && v) next.passes
-        ∙ and_one (fits next.board want)
-      where
-        and_one : (v : Bool) → (v && true) ≡ v
-        and_one true = refl
-        and_one false = refl
+    test_is = rw (board_here, next.passes) (and-true (fits next.board want))
 
     up_to : IsShortlistBelow test limit place xs
-    up_to = further listed.at place xs (omega arith) (λ x late less. test_free (slice_get boards x) (λ c at. none x late less c at)) listed.part
+    up_to = further listed.at place xs (omega arith) (λ x late less. none_passing (λ c. fits c want && free c) (slice_get boards x) (λ c at. and_right (fits c want) (free c) (none x late less c at))) listed.part
       where
         none : (x : ℕ) → listed.at ≤ x → x < place → (c : BoardRow) → slice_get boards x ≡ Some c → free c ≡ false
         none x late less c at =
@@ -246,49 +193,32 @@ module _ (kinds : List (List ℕ)) (rows : List IdleRow) (boards : List BoardRow
         (none : ((queue == 0) || (row.queue == queue)) ≡ true → (p : ℕ) → named_at boards row.name want p ≡ false) where
       asked : fits next.board want ≡ true → ((queue == 0) || (row.queue == queue)) ≡ true
       asked fit =
-          let mine = idle_at (IsIdle kinds) rows k row idle low is in
+          let mine = among_has (IsIdle kinds) row rows idle (among_at rows k row (board_is rows k low row is)) in
           asks row.queue mine.low mine.high ∙ ap (λ (of : List ℕ). option_map_or (λ k. bytes_eq of k) want.kind true) (sym of_kind)
           ∙ (both (option_map_or (λ k. bytes_eq next.board.kind k) want.kind true) _ fit).0
-
-      unfit : (v : Bool) → fits next.board want ≡ v → fits next.board want ≡ false
-      unfit false is = is
-      unfit true is = absurd (true≢false (sym (ap (λ o. option_map_or (λ b. bytes_eq b.name row.name && fits b want) o false) board_here
-          ∙ ap (λ v. v && fits next.board want) name_is ∙ is) ∙ none (asked is) place))
 
       pub listed_past : IsListed (k + 1) xs
       listed_past = record {
         at = place + 1;
-        part = shortlist_past test limit place xs up_to place (test_is ∙ unfit (fits next.board want) refl) refl;
+        part = shortlist_past test limit place xs up_to place (test_is ∙ false_from_ne_true (fits next.board want) (λ fit.
+            true≢false (sym (rw (board_here, name_is, fit) refl) ∙ none (asked fit) place))) refl;
         rest = others;
       }
 
     module _ (sorted : IsStrictlySortedBy board_cmp boards) (p : ℕ) (here : named_at boards row.name want p ≡ true) where
-      found_at : (o : Option BoardRow) → option_map_or (λ b. bytes_eq b.name row.name && fits b want) o false ≡ true
-          → (b : BoardRow) × (o ≡ Some b) × (bytes_eq b.name row.name ≡ true) × (fits b want ≡ true)
-      found_at None is = absurd (false≢true is)
-      found_at (Some b) is = let two = both (bytes_eq b.name row.name) (fits b want) is in (b, refl, two.0, two.1)
+      b : (b : BoardRow) × (slice_get boards p ≡ Some b) × ((bytes_eq b.name row.name && fits b want) ≡ true)
+      b = some_passing (λ (b : BoardRow). bytes_eq b.name row.name && fits b want) (slice_get boards p) here
+
+      parts : (bytes_eq b.0.name row.name ≡ true) × (fits b.0 want ≡ true)
+      parts = both (bytes_eq b.0.name row.name) (fits b.0 want) b.2
 
       one_place : p ≡ place
-      one_place = by (cases_order p place)
-        where
-          b : (b : BoardRow) × (slice_get boards p ≡ Some b) × (bytes_eq b.name row.name ≡ true) × (fits b want ≡ true)
-          b = found_at (slice_get boards p) here
-
-          apart : (p ≡ place → ⊥) → ⊥
-          apart other =
-              let same : b.0.name ≡ next.board.name = (bytes_eq-Decides b.0.name row.name).0 b.2 ∙ sym named in
-              true≢false (sym (ap (bytes_eq b.0.name) (sym same) ∙ text_itself b.0.name) ∙ names_differ boards sorted p place b.0 next.board b.1 board_here other)
-
-          by : (p ≡ place) ⊎ ((p < place) ⊎ (place < p)) → p ≡ place
-          by (inl same) = same
-          by (inr (inl less)) = absurd (apart (λ e. absurd (omega arith)))
-          by (inr (inr less)) = absurd (apart (λ e. absurd (omega arith)))
+      one_place = same_place boards sorted p place b.0 next.board b.1 board_here ((bytes_eq-Decides b.0.name row.name).0 parts.0 ∙ sym named)
 
       passes_here : test p ≡ true
       passes_here =
-          let b = found_at (slice_get boards p) here in
-          let same : b.0 ≡ next.board = same_from_some b.0 next.board (sym b.1 ∙ ap (slice_get boards) one_place ∙ board_here) in
-          ap test one_place ∙ test_is ∙ ap (λ (c : BoardRow). fits c want) (sym same) ∙ b.3
+          let same : b.0 ≡ next.board = same_Some b.0 next.board (sym b.1 ∙ ap (slice_get boards) one_place ∙ board_here) in
+          ap test one_place ∙ test_is ∙ ap (λ (c : BoardRow). fits c want) (sym same) ∙ parts.1
 
       pub listed_with : length xs < limit → IsListed (k + 1) (xs ++ p ∷ [])
       listed_with room = record { at = place + 1; part = shortlist_with test limit place xs up_to p passes_here one_place room; rest = others }
@@ -299,7 +229,7 @@ module _ (kinds : List (List ℕ)) (rows : List IdleRow) (boards : List BoardRow
   pub listed_whole : (k : ℕ) (xs : List ℕ) → IsListed k xs → length rows ≤ k → IsShortlist test limit xs
   listed_whole k xs listed high = shortlist_whole test limit listed.at xs listed.part (λ x passes. elim (cases_lt x listed.at) [
     | inl less ↦ less
-    | inr late ↦ absurd (true≢false (sym passes ∙ test_free (slice_get boards x) (λ c at. none x late c at)))
+    | inr late ↦ absurd (true≢false (sym passes ∙ none_passing (λ c. fits c want && free c) (slice_get boards x) (λ c at. and_right (fits c want) (free c) (none x late c at))))
   ])
     where
       none : (x : ℕ) → listed.at ≤ x → (c : BoardRow) → slice_get boards x ≡ Some c → free c ≡ false

@@ -1,50 +1,29 @@
 -- Lists of boards that meet wants, and choices of their places.
-use Rattle.std.proofs.Common.{◌≡◌, ℕ, suc, ◌&&◌, Bool, true, false, List, [], ◌∷◌, length, refl, sym, ap, ◌∙◌, inl, inr}
-use Rattle.std.specs.Prelude.{slice_get, not}
-use Rattle.std.specs.List.{list_all, list_any}
+use Rattle.std.proofs.Common.{◌≡◌, ℕ, Bool, true, false, List, [], ◌∷◌, refl, sym, ap, ◌∙◌, inl, inr, arith}
+use Rattle.std.specs.Prelude.{slice_get}
+use Rattle.std.specs.List.{list_any}
 use Rattle.std.specs.Option.{option_map_or}
 use Rattle.std.specs.Str.{bytes_eq}
-use Rattle.std.specs.Cmp.Lexicographic.{pointwise}
 use Rattle.std.specs.Ordering.{is_lt, ordering_then}
 use Rattle.std.specs.declared.cmp.Ordering.TheVariants.{Equal}
-use Rattle.std.proofs.lemmas.Bool.{false≢true, and_parts, and_from, not-true}
+use Rattle.std.proofs.lemmas.Bool.{false≢true, and_parts, and_from}
+use Rattle.std.proofs.lemmas.Option.{same_Some}
 use Rattle.farm_types.specs.Table.{board_cmp}
-use Rattle.farm_types.specs.Pick.{AreAmong, fits, are_apart, meets, names_cmp}
+use Rattle.farm_types.specs.Pick.{AreAmong, fits, meets, names_cmp}
 use Rattle.farm_types.specs.declared.rows.Want.{Want}
 use Rattle.farm_types.specs.declared.rows.BoardRow.{BoardRow}
 use Rattle.farm_pick.specs.Test.{is_candidate}
 use Rattle.farm_pick.specs.Choice.{Chooses, IsNotAfter, candidate_at}
-use Rattle.farm_pick.proofs.Places.{AreInNameOrder, AreAt, candidate_board, among_at, place_of, apart, not_among, same_from_some, rises, board_cmp-self, board_cmp-reverse}
+use Rattle.farm_pick.proofs.Places.{AreInNameOrder, AreAt, candidate_board, among_at, place_of, apart, not_among, rises, board_cmp-self, board_cmp-reverse}
 
 -- ---- one board more
 
-and_six : (f p n a t l : Bool) → f ≡ true → n ≡ true → t ≡ true → (p && a && l) ≡ true → ((f && p) && (n && a) && (t && l)) ≡ true
-and_six f p n a t l e g h r = rw (e, g, h) r
-
-six_parts : (f p n a t l : Bool) → ((f && p) && (n && a) && (t && l)) ≡ true → (f ≡ true) × (n ≡ true) × (t ≡ true) × ((p && a && l) ≡ true)
-six_parts f p n a t l e =
-    let outer = and_parts ((f && p) && (n && a)) (t && l) e in
-    let inner = and_parts (f && p) (n && a) outer.0 in
-    let fp = and_parts f p inner.0 in
-    let na = and_parts n a inner.1 in
-    let tl = and_parts t l outer.1 in
-    (fp.0, na.0, tl.0, and_from (p && a) l (and_from p a fp.1 na.1) tl.1)
-
 module _ (test : BoardRow → Bool) (w : Want) (ws : List Want) (b : BoardRow) (bs : List BoardRow) where
   pub meets_more : fits b w ≡ true → list_any (λ c. bytes_eq b.name c.name) bs ≡ false → test b ≡ true → meets test ws bs ≡ true → meets test (w ∷ ws) (b ∷ bs) ≡ true
-  meets_more fit new good rest =
-      and_six (fits b w) (pointwise fits bs ws) (not (list_any (λ c. bytes_eq b.name c.name) bs)) (are_apart bs) (test b) (list_all test bs) fit (ap not new) good rest
+  meets_more fit new good rest = grind arith
 
   pub meets_parts : meets test (w ∷ ws) (b ∷ bs) ≡ true → (fits b w ≡ true) × (list_any (λ c. bytes_eq b.name c.name) bs ≡ false) × (test b ≡ true) × (meets test ws bs ≡ true)
-  meets_parts m =
-      let parts = six_parts (fits b w) (pointwise fits bs ws) (not (list_any (λ c. bytes_eq b.name c.name) bs)) (are_apart bs) (test b) (list_all test bs) m in
-      (parts.0, not-true (list_any (λ c. bytes_eq b.name c.name) bs) parts.1, parts.2, parts.3)
-
-pub length-meets : (test : BoardRow → Bool) (ws : List Want) (bs : List BoardRow) → meets test ws bs ≡ true → length bs ≡ length ws
-length-meets test [] [] m = refl
-length-meets test [] (b ∷ bs) m = absurd (false≢true m)
-length-meets test (w ∷ ws) [] m = absurd (false≢true m)
-length-meets test (w ∷ ws) (b ∷ bs) m = ap suc (length-meets test ws bs (meets_parts test w ws b bs m).3)
+  meets_parts m = grind arith
 
 -- ---- a choice of places is a list of boards that meets the wants, and the other way round
 
@@ -102,7 +81,7 @@ module _ (boards : List BoardRow) (ordered : AreInNameOrder boards) where
             let up = rises boards ordered p q b c at.0 at'.0 less in
             ap (λ r. is_lt (ordering_then r (names_cmp cs bs))) (board_cmp-reverse b c up)
         | inr same ↦
-            let one : b ≡ c = same_from_some b c (sym at.0 ∙ (ap (slice_get boards) same.0 ∙ at'.0)) in
+            let one : b ≡ c = same_Some b c (sym at.0 ∙ (ap (slice_get boards) same.0 ∙ at'.0)) in
             let tie : board_cmp c b ≡ Equal = ap (λ (x : BoardRow). board_cmp c x) one ∙ board_cmp-self c in
             ap (λ r. is_lt (ordering_then r (names_cmp cs bs))) tie ∙ not_before ps qs bs cs at.1 at'.1 same.1
       ]

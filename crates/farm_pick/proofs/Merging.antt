@@ -1,19 +1,20 @@
 -- Trying alone the claims that may change the farm serves just what trying all of them serves.
-use Rattle.std.proofs.Common.{◌&&◌, ◌||◌, ◌+◌, ◌==◌, ◌<◌, ◌≤◌, ◌∙◌, ◌∷◌, ◌≡◌, Bool, List, None, Option, Some, ap, arith, cond, false, inl, inr, length, nat_le, not, refl, subst, suc, sym, true, zero, ℕ, []}
+use Rattle.std.proofs.Common.{◌&&◌, ◌+◌, ◌==◌, ◌<◌, ◌≤◌, ◌∙◌, ◌∷◌, ◌≡◌, Bool, List, None, Option, Some, ap, arith, cond, false, inl, inr, length, nat_le, not, refl, subst, suc, sym, true, zero, ℕ, []}
 use mathlib.Core.Bool.{true≢false}
 use Rattle.std.specs.List.{AllByRecursion, filter, find, fold, zip}
 use Rattle.std.specs.List.Sorted.{IsStrictlySortedBy}
 use Rattle.std.specs.Option.{option_map_or}
 use Rattle.std.specs.Str.{bytes_eq}
 use Rattle.std.proofs.Math.Bool.{and-false}
-use Rattle.std.proofs.lemmas.List.{length-map}
+use Rattle.std.proofs.lemmas.Bool.{cases_Bool, not-true}
+use Rattle.std.proofs.lemmas.Bool.Decides.{nat_tests}
+use Rattle.std.proofs.lemmas.List.{length-map, nil_from_length}
 use Rattle.std.proofs.lemmas.List.Sums.{fold-append}
 use Rattle.farm_types.specs.Farm.{Farm, members}
 use Rattle.farm_types.specs.Pass.{Served, collect, give, give_group, give_member, give_res, held_board, is_group, may_collect, pass_over, serve, serve_all}
 use Rattle.farm_types.specs.Pick.{IsAmong, Claimed, is_free, least, queue}
 use Rattle.farm_types.specs.Sound.{EachTwo, IsSound}
 use Rattle.farm_types.specs.Table.{board_cmp, change_where}
-use Rattle.farm_types.specs.Words.{text_cmp}
 use Rattle.farm_types.specs.declared.rows.BoardRow.{BoardRow}
 use Rattle.farm_types.specs.declared.rows.Holder.{Holder}
 use Rattle.farm_types.specs.declared.rows.JobRow.{JobRow}
@@ -26,29 +27,24 @@ use Rattle.farm_sound.proofs.Lists.{among_has, filter_all, filter_back, length_f
 use Rattle.farm_sound.proofs.Own.{itself}
 use Rattle.farm_sound.proofs.Queue.{among_queue}
 use Rattle.farm_sound.proofs.Serve.{IsOpen-give, IsSound-give, give_clock, over}
-use Rattle.farm_sound.proofs.Tests.{both, same_number}
+use Rattle.farm_sound.proofs.Tests.{both, both_false, same_number}
 use Rattle.farm_sound.proofs.Unmet.{IsUnmet, IsUnmet-give}
 use Rattle.farm_sound.proofs.Where.{AllByRecursion-both, all_true, by_cases, sorted_map}
 use Rattle.farm_pick.specs.Follow.{queue_without}
 use Rattle.farm_pick.specs.Queued.{idle_boards, is_open, queue_kind}
-use Rattle.farm_pick.specs.Merged.{comes_after, first_tried, is_tried, may_act, merged_pass, next_lent, next_tried, rest}
+use Rattle.farm_pick.specs.Merged.{comes_after, first_tried, may_act, merged_pass, next_lent, next_tried, rest}
 use Rattle.farm_pick.proofs.Closed.{closed_is_unmet}
 use Rattle.farm_pick.proofs.Collects.{collecting_follows}
 use Rattle.farm_pick.proofs.Filling.{numbers_differ, one_claim}
 use Rattle.farm_pick.proofs.Giving.{giving_follows}
+use Rattle.farm_pick.proofs.Sieved.{found_there}
 use Rattle.farm_pick.proofs.Later.{Continues, after_itself, after_more, among_later, later, later_none, leads_nowhere, leads_on, less_from}
 
 -- ---- a claim has a want
 
 some_pass : (test other : JobRow → Bool) (j : JobRow) (jobs : List JobRow) → find other jobs ≡ Some j → test j ≡ true → 1 ≤ length (filter test jobs)
 some_pass test other j [] found is = cc
-some_pass test other j (k ∷ jobs) found is = by (other k) found (test k) refl (λ rest. some_pass test other j jobs rest is)
-  where
-    by : (v : Bool) → cond v (Some k) (find other jobs) ≡ Some j → (w : Bool) → test k ≡ w → (find other jobs ≡ Some j → 1 ≤ length (filter test jobs))
-        → 1 ≤ length (cond w (k ∷ filter test jobs) (filter test jobs))
-    by v found true has rest = omega arith
-    by true found false has rest = let same : k ≡ j = cc in absurd (true≢false (sym is ∙ ap test (sym same) ∙ has))
-    by false found false has rest = rest found
+some_pass test other j (k ∷ jobs) found is = grind (arith, some_pass test other j jobs)
 
 pub some_want : (F : Farm) (c : Claimed) → IsClaim F c → 1 ≤ length c.wants
 some_want F c (inl (r, is)) = let one : length c.wants ≡ 1 = ap (λ (d : Claimed). length d.wants) is.2 in omega (arith, one)
@@ -62,23 +58,18 @@ some_want F c (inr (j, is)) =
 -- no claim but those of a number fails the test
 filter_without : (p : Claimed → Bool) (n : ℕ) (cs : List Claimed) → AllByRecursion (λ d. d.number ≡ n → p d ≡ false) cs → filter p (queue_without n cs) ≡ filter p cs
 filter_without p n [] all = refl
-filter_without p n (d ∷ cs) all = by (d.number == n) refl (filter_without p n cs all.1)
-  where
-    by : (v : Bool) → (d.number == n) ≡ v → filter p (queue_without n cs) ≡ filter p cs
-        → filter p (cond (not v) (d ∷ queue_without n cs) (queue_without n cs)) ≡ cond (p d) (d ∷ filter p cs) (filter p cs)
-    by true is more = more ∙ sym (ap (λ v. cond v (d ∷ filter p cs) (filter p cs)) (all.0 (same_number d.number n is)))
-    by false is more = ap (λ ds. cond (p d) (d ∷ ds) ds) more
+filter_without p n (d ∷ cs) all = grind (arith, nat_tests, filter_without p n cs all.1, all.0)
 
-pub record Leaves (t : ℕ) (s : Served) (c : Claimed) : Type 0 where
-  pub low : t ≤ (serve t s c).farm.clock
-  pub sound : IsSound (serve t s c).farm
+pub record Leaves (t : ℕ) (s : Served) (c : Claimed) (u : Served) : Type 0 where
+  pub low : t ≤ u.farm.clock
+  pub sound : IsSound u.farm
   -- the claims that are open stay so, but the one that was tried
-  pub opens : (d : Claimed) → (c ≡ d → ⊥) → IsOpen s.farm d → IsOpen (serve t s c).farm d
+  pub opens : (d : Claimed) → (c ≡ d → ⊥) → IsOpen s.farm d → IsOpen u.farm d
   -- of the queue it leaves those that pass a test which it fails
-  pub keeps : (p : Claimed → Bool) → p c ≡ false → filter p (queue (serve t s c).farm) ≡ filter p (queue s.farm)
+  pub keeps : (p : Claimed → Bool) → p c ≡ false → filter p (queue u.farm) ≡ filter p (queue s.farm)
 
-pub leaves : (t : ℕ) (s : Served) (c : Claimed) → t ≤ s.farm.clock → IsSound s.farm → IsOpen s.farm c → Leaves t s c
-leaves t s c low sound is = record { low = parts.0; sound = parts.1; opens = parts.2; keeps = parts.3 }
+pub leaves : (t : ℕ) (s : Served) (c : Claimed) → t ≤ s.farm.clock → IsSound s.farm → IsOpen s.farm c → Leaves t s c (serve t s c)
+leaves t s c low sound is = by (least s.farm.boards (is_free s.farm.types) c.wants) refl
   where
     claim : IsClaim s.farm c
     claim = claim_of_open s.farm c is
@@ -90,42 +81,27 @@ leaves t s c low sound is = record { low = parts.0; sound = parts.1; opens = par
     fails p none = AllByRecursion-weaker (λ d has same. ap p (one_claim s.farm sound.steady d c has claim same) ∙ none) (queue s.farm)
         (queue_claims s.farm sound.steady)
 
-    Parts : Served → Type 0
-    Parts u = (t ≤ u.farm.clock) × IsSound u.farm × ((d : Claimed) → (c ≡ d → ⊥) → IsOpen s.farm d → IsOpen u.farm d)
-        × ((p : Claimed → Bool) → p c ≡ false → filter p (queue u.farm) ≡ filter p (queue s.farm))
-
     by : (o : Option (List BoardRow)) → least s.farm.boards (is_free s.farm.types) c.wants ≡ o
-        → Parts (option_map_or (λ bs. record { farm = give s.farm c bs t; claims = s.claims + 1 }) o (record { farm = pass_over s.farm c; claims = s.claims }))
+        → Leaves t s c (option_map_or (λ bs. record { farm = give s.farm c bs t; claims = s.claims + 1 }) o (record { farm = pass_over s.farm c; claims = s.claims }))
     by None met =
-        let passed = over s.farm c is sound in (
-          (let same = passed.clock in omega (arith, low, same)),
-          passed.sound,
-          passed.opens,
-          λ p none. ap (filter p) (collecting_follows s.farm sound c among),
-        )
-    by (Some bs) met =
-        let two = giving_follows s.farm c bs t sound low among met in (
-          omega (arith, low, give_clock s.farm c bs t),
-          IsSound-give s.farm c bs t is met low sound,
-          λ d apart has. IsOpen-give s.farm c d bs t is has apart met sound,
-          λ p none. ap (filter p) two.0 ∙ filter_without p c.number (queue s.farm) (fails p none),
-        )
-
-    parts : Parts (serve t s c)
-    parts = by (least s.farm.boards (is_free s.farm.types) c.wants) refl
+        let passed = over s.farm c is sound in
+        record {
+          low = (let same = passed.clock in omega (arith, low, same));
+          sound = passed.sound;
+          opens = passed.opens;
+          keeps = λ p none. ap (filter p) (collecting_follows s.farm sound c among);
+        }
+    by (Some bs) met = record {
+      low = omega (arith, low, give_clock s.farm c bs t);
+      sound = IsSound-give s.farm c bs t is met low sound;
+      opens = λ d apart has. IsOpen-give s.farm c d bs t is has apart met sound;
+      keeps = λ p none. ap (filter p) (giving_follows s.farm c bs t sound low among met).0 ∙ filter_without p c.number (queue s.farm) (fails p none);
+    }
 
 -- one claim that is served is one less in the queue
 length_without : (c : Claimed) (cs : List Claimed) → IsAmong c cs → 1 + length (queue_without c.number cs) ≤ length cs
 length_without c [] at = absurd at
-length_without c (d ∷ cs) (inl same) =
-    subst (λ v. 1 + length (cond (not v) (d ∷ queue_without c.number cs) (queue_without c.number cs)) ≤ length (d ∷ cs))
-    (sym (ap (λ (e : Claimed). d.number == e.number) same ∙ itself d.number))
-    (let few = length_filter (λ (e : Claimed). not (e.number == c.number)) cs in omega (arith, few))
-length_without c (d ∷ cs) (inr at) = by (d.number == c.number) (length_without c cs at)
-  where
-    by : (v : Bool) → 1 + length (queue_without c.number cs) ≤ length cs → 1 + length (cond (not v) (d ∷ queue_without c.number cs) (queue_without c.number cs)) ≤ length (d ∷ cs)
-    by true few = omega (arith, few)
-    by false few = omega (arith, few)
+length_without c (d ∷ cs) at = grind (arith, nat_tests, length_without c cs, length_filter (λ (e : Claimed). not (e.number == c.number)) cs)
 
 pub served_few : (t : ℕ) (s : Served) (c : Claimed) → IsSound s.farm → t ≤ s.farm.clock → IsAmong c (queue s.farm)
     → (serve t s c).claims + length (queue (serve t s c).farm) ≤ s.claims + length (queue s.farm)
@@ -144,17 +120,7 @@ served_few t s c sound low at = by (least s.farm.boards (is_free s.farm.types) c
 -- ---- claims that are passed over
 
 pub unserved : (t : ℕ) (s : Served) (c : Claimed) → least s.farm.boards (is_free s.farm.types) c.wants ≡ None → may_collect s.farm c ≡ false → serve t s c ≡ s
-unserved t s c none out =
-    ap (λ o. option_map_or (λ bs. record { farm = give s.farm c bs t; claims = s.claims + 1 }) o (record { farm = pass_over s.farm c; claims = s.claims })) none
-    ∙ by (may_collect s.farm c) out
-  where
-    by : (v : Bool) → v ≡ false → record { farm = cond v (collect s.farm c.number) s.farm; claims = s.claims } ≡ s
-    by true is = absurd (true≢false is)
-    by false is = refl
-
-either : (a b : Bool) → (a || b) ≡ false → (a ≡ false) × (b ≡ false)
-either true b is = absurd (true≢false is)
-either false b is = (refl, is)
+unserved t s c none out = rw (none, out) refl
 
 -- the claim of a group is passed over, as it went first
 abbrev pub serve_but : ℕ → ℕ → Served → Claimed → Served
@@ -167,23 +133,20 @@ skips former t s sound = AllByRecursion-weaker (λ d claim. by d claim (is_group
     by : (d : Claimed) → IsClaim s.farm d → (v : Bool) → (not v && may_act s.farm d) ≡ false → cond v s (serve t s d) ≡ s
     by d claim true out = refl
     by d claim false out =
-        let two = either (is_open (idle_boards s.farm) (queue_kind d)) (may_collect s.farm d) out in
+        let two = both_false (is_open (idle_boards s.farm) (queue_kind d)) (may_collect s.farm d) out in
         unserved t s d (closed_is_unmet s.farm sound.steady.boards_sorted d (some_want s.farm d claim) two.0) two.1
 
 -- all claims but that of a group
 fold_but : (former t : ℕ) (last : Option Claimed) (s : Served) (cs : List Claimed)
     → fold (serve_but former t) s (later last cs) ≡ fold (serve t) s (filter (λ c. comes_after last c && not (is_group former c)) cs)
 fold_but former t last s [] = refl
-fold_but former t last s (c ∷ cs) = by (comes_after last c) (is_group former c) refl (fold_but former t last s cs) (fold_but former t last (serve t s c) cs)
-  where
-    by : (v w : Bool) → is_group former c ≡ w
-        → fold (serve_but former t) s (later last cs) ≡ fold (serve t) s (filter (λ c. comes_after last c && not (is_group former c)) cs)
-        → fold (serve_but former t) (serve t s c) (later last cs) ≡ fold (serve t) (serve t s c) (filter (λ c. comes_after last c && not (is_group former c)) cs)
-        → fold (serve_but former t) s (cond v (c ∷ later last cs) (later last cs))
-        ≡ fold (serve t) s (cond (v && not w) (c ∷ filter (λ c. comes_after last c && not (is_group former c)) cs) (filter (λ c. comes_after last c && not (is_group former c)) cs))
-    by true true is here tried = ap (λ v. fold (serve_but former t) (cond v s (serve t s c)) (later last cs)) is ∙ here
-    by true false is here tried = ap (λ v. fold (serve_but former t) (cond v s (serve t s c)) (later last cs)) is ∙ tried
-    by false w is here tried = here
+fold_but former t last s (c ∷ cs) = elim (cases_Bool (comes_after last c)) [
+  | inl after ↦ elim (cases_Bool (is_group former c)) [
+    | inl mine ↦ rw (after, mine) (ap (λ v. fold (serve_but former t) (cond v s (serve t s c)) (later last cs)) mine ∙ fold_but former t last s cs)
+    | inr other ↦ rw (after, other) (ap (λ v. fold (serve_but former t) (cond v s (serve t s c)) (later last cs)) other ∙ fold_but former t last (serve t s c) cs)
+  ]
+  | inr not_after ↦ rw not_after (fold_but former t last s cs)
+]
 
 -- ---- all claims in turn
 
@@ -215,18 +178,9 @@ rest_behind former F last c after all =
 lent_is : (F : Farm) (last : Option Claimed) (c : Claimed) → next_lent F last ≡ Some c → (comes_after last c ≡ true) × (may_act F c ≡ true)
 lent_is F last c next = both (comes_after last c) (may_act F c) (found_passes (λ d. comes_after last d && may_act F d) c (queue F) next)
 
-not_true : (v : Bool) → not v ≡ true → v ≡ false
-not_true true is = absurd (true≢false (sym is))
-not_true false is = refl
-
 -- what is found stands in the list
 pub found_among : (p : Claimed → Bool) (c : Claimed) (cs : List Claimed) → find p cs ≡ Some c → IsAmong c cs
-found_among p c [] is = cc
-found_among p c (d ∷ cs) is = by (p d) is (λ more. found_among p c cs more)
-  where
-    by : (v : Bool) → cond v (Some d) (find p cs) ≡ Some c → (find p cs ≡ Some c → IsAmong c cs) → IsAmong c (d ∷ cs)
-    by true is more = let same : d ≡ c = cc in inl (sym same)
-    by false is more = inr (more is)
+found_among p c cs is = found_there p c cs is
 
 -- claims that fail a test are passed over
 abbrev pub Skips : ℕ → ℕ → Served → (Claimed → Bool) → Type 0
@@ -258,14 +212,14 @@ module _ (former t : ℕ) (s : Served) (last : Option Claimed) (c : Claimed) (tr
       differs = (both (not (is_group former c)) (test c) passes.1).0
 
       other : is_group former c ≡ false
-      other = not_true (is_group former c) differs
+      other = not-true (is_group former c) differs
 
       open_claim : IsOpen s.farm c
       open_claim = among_has (IsOpen s.farm) c (rest former last s.farm) trying.coming
           (among_later (λ d. comes_after last d && not (is_group former d)) c (queue s.farm)
           (found_among (λ d. comes_after last d && (not (is_group former d) && test d)) c (queue s.farm) next) (λ i. passes.0 i && differs i))
 
-      after : Leaves t s c
+      after : Leaves t s c (serve t s c)
       after = leaves t s c trying.low trying.sound open_claim
 
       on : Continues (serve_but former t) s (λ d. not (is_group former d) && test d) last c (queue s.farm)
@@ -319,8 +273,6 @@ pub none_tried : (former t : ℕ) (s : Served) (last : Option Claimed) → IsSou
     → fold (serve t) s (rest former last s.farm) ≡ s
 none_tried former t s last sound = none_by former t s last (may_act s.farm) (skips former t s sound)
 
--- ---- what is lent is what is tried, but for the group that went first
-
 -- ---- the first part of a pass
 
 -- a group has one claim at most
@@ -329,14 +281,12 @@ pub one_group : (g : ℕ) (cs : List Claimed) → EachTwo (λ a b. a.number ≡ 
 one_group g [] apart = refl
 one_group g (d ∷ cs) apart = by (is_group g d) refl (one_group g cs apart.1)
   where
-    other : is_group g d ≡ true → (e : Claimed) → (d.number ≡ e.number → ⊥) → (v : Bool) → is_group g e ≡ v → is_group g e ≡ false
-    other is e differ true has = absurd (differ
-        (same_number d.number g (both (not d.reservation) (d.number == g) is).1 ∙ sym (same_number e.number g (both (not e.reservation) (e.number == g) has).1)))
-    other is e differ false has = has
+    other : is_group g d ≡ true → (e : Claimed) → (d.number ≡ e.number → ⊥) → is_group g e ≡ false
+    other is e differ = grind (arith, nat_tests)
 
     by : (v : Bool) → is_group g d ≡ v → filter (is_group g) cs ≡ option_map_or (λ c. c ∷ []) (find (is_group g) cs) []
         → cond v (d ∷ filter (is_group g) cs) (filter (is_group g) cs) ≡ option_map_or (λ c. c ∷ []) (cond v (Some d) (find (is_group g) cs)) []
-    by true is more = ap (λ ds. d ∷ ds) (none_pass (is_group g) cs (AllByRecursion-weaker (λ e differ. other is e differ (is_group g e) refl) cs apart.0))
+    by true is more = ap (λ ds. d ∷ ds) (none_pass (is_group g) cs (AllByRecursion-weaker (λ e differ. other is e differ) cs apart.0))
     by false is more = more
 
 module _ (F : Farm) (group t : ℕ) (sound : IsSound F) (none : F.collector ≡ 0) (low : t ≤ F.clock) where
@@ -397,7 +347,7 @@ module _ (F : Farm) (group t : ℕ) (sound : IsSound F) (none : F.collector ≡ 
       among : IsAmong c (queue F)
       among = found_among (is_group group) c (queue F) found
 
-      after : Leaves t start c
+      after : Leaves t start c (serve t start c)
       after = leaves t start c low sound (among_has (IsOpen F) c (queue F) are_open among)
 
       same : rest group None (serve t start c).farm ≡ rest group None F
@@ -405,14 +355,10 @@ module _ (F : Farm) (group t : ℕ) (sound : IsSound F) (none : F.collector ≡ 
 
 -- ---- a pass that tries them alone
 
-no_length : (xs : List Claimed) → length xs ≤ 0 → xs ≡ []
-no_length [] low = refl
-no_length (x ∷ xs) low = absurd (omega arith)
-
 merged_on : (n former t : ℕ) (s : Served) (last : Option Claimed) → IsTrying former t s last → length (later last (queue s.farm)) ≤ n
     → merged_pass former n t s last ≡ fold (serve t) s (rest former last s.farm)
 merged_on zero former t s last trying few =
-    sym (ap (fold (serve_but former t) s) (no_length (later last (queue s.farm)) few)) ∙ fold_but former t last s (queue s.farm)
+    sym (ap (fold (serve_but former t) s) (nil_from_length (later last (queue s.farm)) (omega arith))) ∙ fold_but former t last s (queue s.farm)
 merged_on (suc n) former t s last trying few =
     by (next_tried former s.farm last) refl (λ c on few. merged_on n former t (serve t s c) (Some c) on few)
   where
@@ -444,11 +390,7 @@ merging_serves F group t n sound none low few = by (find (is_group group) (queue
 
 held_sorted : (h : Holder) (name : List ℕ) (bs : List BoardRow) → IsStrictlySortedBy board_cmp bs
     → IsStrictlySortedBy board_cmp (change_where (λ b. bytes_eq b.name name) (held_board h State.Reserved) bs)
-held_sorted h name bs sorted =
-    sorted_map board_cmp (λ b. cond (bytes_eq b.name name) (held_board h State.Reserved b) b) (λ a b i. text_cmp (name_kept a i) (name_kept b i)) bs sorted
-  where
-    name_kept : (b : BoardRow) → (cond (bytes_eq b.name name) (held_board h State.Reserved b) b).name ≡ b.name
-    name_kept b = by_cases (λ (c : BoardRow). c.name ≡ b.name) (bytes_eq b.name name) (held_board h State.Reserved b) b (λ _. refl) (λ _. refl)
+held_sorted h name bs sorted = sorted_map board_cmp (λ b. cond (bytes_eq b.name name) (held_board h State.Reserved b) b) (λ a b. grind arith) bs sorted
 
 members_sorted : (ps : List (JobRow × BoardRow)) (F : Farm) → IsStrictlySortedBy board_cmp F.boards
     → IsStrictlySortedBy board_cmp (fold (give_member JobState.Scheduled) F ps).boards
@@ -466,22 +408,18 @@ give_sorted F c bs t sorted = by_cases (λ (G : Farm). IsStrictlySortedBy board_
 
 pub unmet_stays : (t : ℕ) (s : Served) (c : Claimed) (wants : List Want) → IsSound s.farm → t ≤ s.farm.clock → IsAmong c (queue s.farm)
     → least s.farm.boards (is_free s.farm.types) wants ≡ None → least (serve t s c).farm.boards (is_free (serve t s c).farm.types) wants ≡ None
-unmet_stays t s c wants sound low at none = by (least s.farm.boards (is_free s.farm.types) c.wants)
+unmet_stays t s c wants sound low at none = by (least s.farm.boards (is_free s.farm.types) c.wants) refl
   where
     claim : IsClaim s.farm c
     claim = among_has (IsClaim s.farm) c (queue s.farm) (queue_claims s.farm sound.steady) at
 
     -- while none collects each claim is open
-    when : may_collect s.farm c ≡ true → IsUnmet (pass_over s.farm c) wants
+    when : may_collect s.farm c ≡ true → IsUnmet (collect s.farm c.number) wants
     when may =
         let nobody = (both (s.farm.collector == 0) (not c.reservation) (both ((s.farm.collector == 0) && not c.reservation) (nat_le 2 (length c.wants)) may).0).0 in
-        (over s.farm c (open_of_claim s.farm (same_number s.farm.collector 0 nobody) sound.collecting c claim) sound).unmet wants none
+        rw may at ((over s.farm c (open_of_claim s.farm (same_number s.farm.collector 0 nobody) sound.collecting c claim) sound).unmet wants none)
 
-    passed_over : (v : Bool) → may_collect s.farm c ≡ v → IsUnmet (pass_over s.farm c) wants
-    passed_over true may = when may
-    passed_over false may = subst (λ (G : Farm). IsUnmet G wants) (sym (ap (λ v. cond v (collect s.farm c.number) s.farm) may)) none
-
-    by : (o : Option (List BoardRow))
+    by : (o : Option (List BoardRow)) → least s.farm.boards (is_free s.farm.types) c.wants ≡ o
         → IsUnmet (option_map_or {U = Served} (λ bs. record { farm = give s.farm c bs t; claims = s.claims + 1 }) o (record { farm = pass_over s.farm c; claims = s.claims })).farm wants
-    by None = passed_over (may_collect s.farm c) refl
-    by (Some bs) = IsUnmet-give s.farm c bs t wants (give_sorted s.farm c bs t sound.steady.boards_sorted) none
+    by None met = by_cases (λ (G : Farm). IsUnmet G wants) (may_collect s.farm c) (collect s.farm c.number) s.farm when (λ _. none)
+    by (Some bs) met = IsUnmet-give s.farm c bs t wants (give_sorted s.farm c bs t sound.steady.boards_sorted) none

@@ -1,6 +1,5 @@
 -- A list in strict order is the only sorted list of its elements, and two of the same elements are one.
 use Rattle.std.proofs.Common.{◌≡◌, ◌⊎◌, inl, inr, ◌+◌, List, [], ◌∷◌, get_or, Bool, false, sym, ap, ◌∙◌, refl, subst, arith}
-use mathlib.Core.Bool.{true≢false}
 use denote.Ref.{Bor}
 use denote.Param.Members.{Mut}
 use Rattle.std.specs.Cmp.{IsTotalOrder, IsStrictWeakOrder}
@@ -15,8 +14,8 @@ use Rattle.std.proofs.lemmas.List.Elements.{All-from_recursion, recursion_from_A
 use Rattle.std.proofs.lemmas.List.Sorted.{All-permutation, IsPermutation-sym, ranks_by}
 use Rattle.std.proofs.lemmas.Map.Keys.{IsDistinct-IsPermutation, IsDistinct-from_sorted, apart_from_distinct, sorted_from_all_adjacent}
 use Rattle.farm_types.specs.Pick.{IsAmong}
-use Rattle.farm_types.proofs.Put.{AllByRecursion-weaker}
 use Rattle.farm_sound.proofs.Lists.{among_has}
+use Rattle.farm_pick.proofs.Entries.{among_itself}
 
 module _ {R : Type 0} (cmp : R → R → Ordering) (total : IsTotalOrder cmp) where
   pub not_below_itself : (x : R) → cmp x x ≡ Less → ⊥
@@ -35,11 +34,8 @@ module _ {R : Type 0} (cmp : R → R → Ordering) (total : IsTotalOrder cmp) wh
 
   among_rest : (x : R) (ys xs : List R) → AllByRecursion (λ z. cmp x z ≡ Less) xs → AllByRecursion (λ z. IsAmong z (x ∷ ys)) xs → AllByRecursion (λ z. IsAmong z ys) xs
   among_rest x ys [] above among = tt
-  among_rest x ys (z ∷ xs) above among = (by among.0, among_rest x ys xs above.1 among.1)
-    where
-      by : IsAmong z (x ∷ ys) → IsAmong z ys
-      by (inl same) = absurd (not_below_itself x (subst (λ w. cmp x w ≡ Less) same above.0))
-      by (inr at) = at
+  among_rest x ys (z ∷ xs) above among =
+      (elim among.0 [ inl same ↦ absurd (not_below_itself x (subst (λ w. cmp x w ≡ Less) same above.0)) | inr at ↦ at ], among_rest x ys xs above.1 among.1)
 
   -- two lists in strict order that have the same elements are one
   pub same_elements : (xs ys : List R) → IsStrictlySortedBy cmp xs → IsStrictlySortedBy cmp ys
@@ -59,37 +55,25 @@ module _ {R : Type 0} (cmp : R → R → Ordering) (total : IsTotalOrder cmp) wh
   pub tied_same : (x y : R) (xs : List R) → IsStrictlySortedBy cmp xs → IsAmong x xs → IsAmong y xs → cmp x y ≡ Equal → x ≡ y
   unfolding IsStrictlySortedBy
   tied_same x y [] rise here there tie = absurd here
-  tied_same x y (z ∷ xs) rise (inl is) (inl same) tie = is ∙ sym same
-  tied_same x y (z ∷ xs) rise (inl is) (inr at) tie =
-      let less : cmp z y ≡ Less = among_has (λ w. cmp z w ≡ Less) y xs rise.0 at in
-      let e : Equal ≡ Less = sym tie ∙ ap (λ w. cmp w y) is ∙ less in cc
-  tied_same x y (z ∷ xs) rise (inr at) (inl same) tie =
-      let less : cmp z x ≡ Less = among_has (λ w. cmp z w ≡ Less) x xs rise.0 at in
-      let e : Equal ≡ Less = sym (total.antisymm y x ∙ ap ordering_reverse tie) ∙ ap (λ w. cmp w x) same ∙ less in cc
-  tied_same x y (z ∷ xs) rise (inr at) (inr more) tie = tied_same x y xs rise.1 at more tie
+  tied_same x y (z ∷ xs) rise here there tie = grind (
+    arith,
+    tied_same x y xs rise.1,
+    total.antisymm y x,
+    among_has (λ w. cmp z w ≡ Less) x xs rise.0,
+    among_has (λ w. cmp z w ≡ Less) y xs rise.0,
+  )
 
   -- ---- permutations
-
-  among_itself : (xs : List R) → AllByRecursion (λ x. IsAmong x xs) xs
-  among_itself [] = tt
-  among_itself (x ∷ xs) = (inl refl, AllByRecursion-weaker (λ z at. inr at) xs (among_itself xs))
 
   among_permuted : (xs ys : List R) → IsPermutation xs ys → AllByRecursion (λ y. IsAmong y xs) ys
   among_permuted xs ys permuted = recursion_from_All (λ y. IsAmong y xs) ys
       (All-permutation (λ y. IsAmong y xs) xs ys permuted (All-from_recursion (λ x. IsAmong x xs) xs (among_itself xs)))
 
   equal_back : (o : Ordering) → is_eq (ordering_reverse o) ≡ is_eq o
-  equal_back Less = refl
-  equal_back Equal = refl
-  equal_back Greater = refl
+  equal_back o = grind arith
 
   less_left : (a b : R) → is_lt (cmp b a) ≡ false → eq_by_cmp cmp a b ≡ false → cmp a b ≡ Less
-  less_left a b above apart = by (cmp a b) refl
-    where
-      by : (o : Ordering) → cmp a b ≡ o → cmp a b ≡ Less
-      by Less is = is
-      by Equal is = absurd (true≢false (sym (ap is_eq is) ∙ apart))
-      by Greater is = absurd (true≢false (sym (ap is_lt (total.antisymm b a ∙ ap ordering_reverse is)) ∙ above))
+  less_left a b above apart = grind (arith, total.antisymm b a)
 
   strictly : (ys : List R) → IsSortedBy (λ a b. is_lt (cmp a b)) ys → IsDistinct (eq_by_cmp cmp) ys → IsStrictlySortedBy cmp ys
   unfolding IsStrictlySortedBy

@@ -2,10 +2,11 @@
 use Rattle.std.proofs.Common.{◌&&◌, ◌++◌, ◌+◌, ◌<◌, ◌==◌, ◌∙◌, ◌∷◌, ◌≡◌, ◌≤◌, Bool, List, None, Option, ap, arith, cond, false, length, map, refl, sym, true, ℕ, []}
 use Rattle.std.specs.Cmp.{nat_cmp_is}
 use Rattle.std.specs.List.{AllByRecursion, filter, list_all}
-use Rattle.std.specs.Ordering.{nat_cmp, ordering_then}
+use Rattle.std.specs.Ordering.{match_ordering}
 use Rattle.std.specs.declared.cmp.Ordering.{Ordering}
-use Rattle.std.specs.declared.cmp.Ordering.TheVariants.{Equal, Greater, Less}
-use Rattle.std.proofs.lemmas.Cmp.{ranked}
+use Rattle.std.specs.declared.cmp.Ordering.TheVariants.{Equal, Greater}
+use Rattle.std.proofs.lemmas.Bool.{and_from}
+use Rattle.std.proofs.lemmas.Bool.Decides.{nat_tests}
 use Rattle.std.proofs.lemmas.List.{append-nil, append_assoc, map-append}
 use Rattle.std.proofs.lemmas.List.Elements.{filter-append}
 use Rattle.std.proofs.lemmas.List.Sums.{fold-append}
@@ -23,8 +24,45 @@ use Rattle.farm_sound.proofs.Claims.{claim_total}
 use Rattle.farm_sound.proofs.Lists.{all_join, filter_all, none_pass}
 use Rattle.farm_sound.proofs.Own.{differs, differs_more, itself}
 use Rattle.farm_sound.proofs.Where.{AllByRecursion-map}
-use Rattle.farm_pick.proofs.Adding.{claims_added, put_behind}
-use Rattle.farm_pick.proofs.Entries.{IsApart, put_late}
+use Rattle.farm_pick.proofs.Entries.{IsApart, all_pass, put_late}
+
+-- ---- rows are added behind the others, and their claims to the others
+
+-- a row above all others is put behind them
+pub put_behind : {R : Type 0} (cmp : R → R → Ordering) (row : R) (rows : List R) → AllByRecursion (λ r. cmp row r ≡ Greater) rows
+    → put cmp rows row ≡ rows ++ row ∷ []
+put_behind cmp row [] above = refl
+put_behind cmp row (r ∷ rows) above =
+    ap (λ o. match_ordering o (row ∷ r ∷ rows) (row ∷ rows) (r ∷ put cmp rows row)) above.0
+    ∙ ap (λ rs. r ∷ rs) (put_behind cmp row rows above.1)
+
+-- elements that pass alike, and are seen alike
+seen_alike : {A B : Type 0} (p q : A → Bool) (f g : A → B) (xs : List A) → AllByRecursion (λ x. (p x ≡ q x) × (f x ≡ g x)) xs
+    → map f (filter p xs) ≡ map g (filter q xs)
+seen_alike p q f g [] all = refl
+seen_alike p q f g (x ∷ xs) all = grind (arith, seen_alike p q f g xs all.1)
+
+-- jobs of new groups
+module _ (F G : Farm) (new : List JobRow) (jobs : G.jobs ≡ F.jobs ++ new) (reservations : G.reservations ≡ F.reservations)
+    (apart : AllByRecursion (λ j. AllByRecursion (λ n. (n.group == j.group) ≡ false) new) F.jobs) where
+  members_still : (g : ℕ) → AllByRecursion (λ n. (n.group == g) ≡ false) new → members G g ≡ members F g
+  members_still g others =
+      ap (filter (λ r. r.group == g)) jobs ∙ filter-append (λ r. r.group == g) F.jobs new
+      ∙ ap (λ ms. members F g ++ ms) (none_pass (λ r. r.group == g) new others) ∙ append-nil (members F g)
+
+  pub claims_added : claims G ≡ claims F ++ map (group_claim G) (filter (leads_claim G) new)
+  claims_added =
+      let R = map res_claim (filter is_waiting F.reservations) in
+      (λ i. map res_claim (filter is_waiting (reservations i)) ++ map (group_claim G) (filter (leads_claim G) (jobs i)))
+      ∙ ap (λ js. R ++ map (group_claim G) js) (filter-append (leads_claim G) F.jobs new)
+      ∙ ap (λ cs. R ++ cs) (map-append (group_claim G) (filter (leads_claim G) F.jobs) (filter (leads_claim G) new))
+      ∙ ap (λ cs. R ++ (cs ++ map (group_claim G) (filter (leads_claim G) new)))
+      (seen_alike (leads_claim G) (leads_claim F) (group_claim G) (group_claim F) F.jobs
+      (AllByRecursion-weaker (λ j others. (
+        ap (λ ms. (j.number == j.group) && list_all waits ms) (members_still j.group others),
+        ap (λ ms. record { reservation = false; number = j.group; owner = j.owner; priority = j.priority; wants = map (λ (m : JobRow). m.want) ms }) (members_still j.group others),
+      )) F.jobs apart))
+      ∙ sym (append_assoc R (map (group_claim F) (filter (leads_claim F) F.jobs)) (map (group_claim G) (filter (leads_claim G) new)))
 
 -- ---- the members of a new group
 
@@ -77,11 +115,9 @@ module _ (group : ℕ) (owner : List ℕ) (priority : ℕ) where
   members_wants (want ∷ wants) [] number body long = absurd (omega arith)
   members_wants (want ∷ wants) (role ∷ roles) number body long = ap (λ ws. want ∷ ws) (members_wants wants roles (number + 1) [] (omega arith))
 
-all_pass : {A : Type 0} (test : A → Bool) (xs : List A) → AllByRecursion (λ x. test x ≡ true) xs → (filter test xs ≡ xs) × (list_all test xs ≡ true)
-all_pass test [] all = (refl, refl)
-all_pass test (x ∷ xs) all =
-    let rest = all_pass test xs all.1 in
-    (ap (λ v. cond v (x ∷ filter test xs) (filter test xs)) all.0 ∙ ap (λ ys. x ∷ ys) rest.0, ap (λ v. v && list_all test xs) all.0 ∙ rest.1)
+all_hold : {A : Type 0} (test : A → Bool) (xs : List A) → AllByRecursion (λ x. test x ≡ true) xs → list_all test xs ≡ true
+all_hold test [] all = refl
+all_hold test (x ∷ xs) all = and_from (test x) (list_all test xs) all.0 (all_hold test xs all.1)
 
 -- ---- a new group
 
@@ -118,13 +154,13 @@ module _ (F : Farm) (sound : IsSound F) (caller : List ℕ) (priority : ℕ) (wa
       ap (filter mine) jobs_are ∙ filter-append mine F.jobs new
       ∙ ap (λ ms. ms ++ filter mine new)
       (none_pass mine F.jobs (AllByRecursion-weaker (λ j row. differs j.group F.next (omega (arith, row.group.0, row.number.1))) F.jobs sound.steady.jobs))
-      ∙ (all_pass mine new (AllByRecursion-weaker (λ m is. ap (λ g. g == F.next) is.1 ∙ itself F.next) new new_are)).0
+      ∙ all_pass mine new (AllByRecursion-weaker (λ m is. ap (λ g. g == F.next) is.1 ∙ itself F.next) new new_are)
 
   -- the first of them leads its claim, and the others lead none
   first_leads : leads_claim G one ≡ true
   first_leads =
       ap (λ v. v && list_all waits (members G F.next)) (itself F.next)
-      ∙ ap (list_all waits) members_are ∙ (all_pass waits new (AllByRecursion-weaker (λ m is. is.2) new new_are)).1
+      ∙ ap (list_all waits) members_are ∙ all_hold waits new (AllByRecursion-weaker (λ m is. is.2) new new_are)
 
   one_leads : filter (leads_claim G) new ≡ one ∷ []
   one_leads =
@@ -158,12 +194,7 @@ submit_puts F sound caller priority (want ∷ wants) (role ∷ roles) body some 
 -- ---- a new reservation
 
 claim_ties : (c d : Claimed) → claim_cmp c d ≡ Equal → c.number ≡ d.number
-claim_ties c d ties = by (nat_cmp d.priority c.priority) ties
-  where
-    by : (o : Ordering) → ordering_then o (nat_cmp c.number d.number) ≡ Equal → c.number ≡ d.number
-    by Less is = cc
-    by Equal is = ranked c.number d.number Equal (sym is)
-    by Greater is = cc
+claim_ties c d ties = grind (arith, nat_tests)
 
 pub reserve_puts : (F : Farm) → IsSound F → (row : ResRow) (next : ℕ) → row.number ≡ F.next → is_waiting row ≡ true
     → queue (record (put_res F row) { next = next }) ≡ put claim_cmp (queue F) (res_claim row)

@@ -1,16 +1,17 @@
 -- The sorted claims of a farm's rows are its queue.
-use Rattle.std.proofs.Common.{◌≡◌, ℕ, zero, suc, ◌+◌, ◌<◌, ◌≤◌, ◌==◌, ◌&&◌, ◌++◌, List, [], ◌∷◌, length, map, take, Bool, true, false, cond, sym, ap, ◌∙◌, refl, subst, arith}
+use Rattle.std.proofs.Common.{◌≡◌, ℕ, zero, suc, ◌+◌, ◌<◌, ◌≤◌, ◌==◌, ◌&&◌, ◌++◌, List, [], ◌∷◌, length, map, take, Bool, true, false, cond, inl, inr, sym, ap, ◌∙◌, refl, subst, arith}
 use Rattle.std.specs.Cmp.{IsTotalOrder, back_total, nat_cmp_total, on_total, then_total}
 use Rattle.std.specs.List.{AllByRecursion, filter, list_all}
 use Rattle.std.specs.List.Sorted.{IsPermutation, IsSortedBy, IsStrictlySortedBy}
 use Rattle.std.specs.Ordering.{is_lt}
 use Rattle.std.specs.declared.cmp.Ordering.TheVariants.{Less}
+use Rattle.std.proofs.lemmas.Bool.{cases_Bool}
 use Rattle.std.proofs.lemmas.Cmp.{ranked}
 use Rattle.std.proofs.lemmas.List.{append-nil, length-map, map-append}
 use Rattle.std.proofs.lemmas.List.Sorted.{IsPermutation-map, IsPermutation-sym, IsPermutation-trans}
 use Rattle.std.proofs.lemmas.Simd.{map-map}
 use Rattle.farm_types.specs.Farm.{Farm, members}
-use Rattle.farm_types.specs.Pick.{Claimed, claim_cmp, claims, group_claim, is_waiting, leads_claim, queue, res_claim, shown_claim, shown_cmp, waits}
+use Rattle.farm_types.specs.Pick.{claim_cmp, claims, group_claim, is_waiting, leads_claim, queue, res_claim, shown_claim, shown_cmp, waits}
 use Rattle.farm_types.specs.Sound.{IsSteady}
 use Rattle.farm_types.specs.Table.{job_cmp}
 use Rattle.farm_types.specs.declared.claims.Claim.{Claim}
@@ -23,8 +24,9 @@ use Rattle.farm_sound.proofs.Lists.{none_pass}
 use Rattle.farm_sound.proofs.Own.{differs, differs_more, itself}
 use Rattle.farm_sound.proofs.Queue.{queue_permutes}
 use Rattle.farm_sound.proofs.Tests.{both, same_number}
-use Rattle.farm_sound.proofs.Where.{AllByRecursion-both, AllByRecursion-map}
+use Rattle.farm_sound.proofs.Where.{AllByRecursion-both}
 use Rattle.farm_pick.specs.Queue.{leads, mates, most_mates, shown_group, shown_groups, shown_reservation}
+use Rattle.farm_pick.proofs.Entries.{sorted_seen}
 use Rattle.farm_pick.proofs.Ordered.{sorted_is_one}
 
 -- ---- the members of a group stand near its first one
@@ -91,32 +93,20 @@ module _ (F : Farm) where
   unfolding IsStrictlySortedBy
   groups_shown low [] sorted near above here = refl
   groups_shown low (j ∷ jobs) sorted near above here =
-      by (leads_claim F j) refl
-      (groups_shown (j.number + 1) jobs sorted.1 near.1 (behind j jobs sorted.0) (members_behind low j jobs near.0 above.0 here))
-    where
-      own : j.number ≡ j.group → members F j.group ≡ j ∷ mates j (take most_mates jobs)
-      own = members_near low j jobs sorted near.1 above.0 here
-
-      by : (v : Bool) → leads_claim F j ≡ v → map shown_claim (map (group_claim F) (filter (leads_claim F) jobs)) ≡ shown_groups jobs
-          → map shown_claim (map (group_claim F) (cond v (j ∷ filter (leads_claim F) jobs) (filter (leads_claim F) jobs)))
-          ≡ cond (leads j (take most_mates jobs)) (shown_group j (take most_mates jobs) ∷ shown_groups jobs) (shown_groups jobs)
-      by true is rest =
-          let first = same_number j.number j.group (both (j.number == j.group) (list_all waits (members F j.group)) is).0 in
-          ap (λ c. c ∷ map shown_claim (map (group_claim F) (filter (leads_claim F) jobs))) (group_same j (take most_mates jobs) (own first))
-          ∙ ap (λ cs. shown_group j (take most_mates jobs) ∷ cs) rest
-          ∙ ap (λ v. cond v (shown_group j (take most_mates jobs) ∷ shown_groups jobs) (shown_groups jobs)) (sym is ∙ leads_same j (take most_mates jobs) own)
-      by false is rest = rest ∙ ap (λ v. cond v (shown_group j (take most_mates jobs) ∷ shown_groups jobs) (shown_groups jobs)) (sym is ∙ leads_same j (take most_mates jobs) own)
+      let own : (j.number ≡ j.group → members F j.group ≡ j ∷ mates j (take most_mates jobs)) = members_near low j jobs sorted near.1 above.0 here in
+      let same = leads_same j (take most_mates jobs) own in
+      let rest = groups_shown (j.number + 1) jobs sorted.1 near.1 (behind j jobs sorted.0) (members_behind low j jobs near.0 above.0 here) in
+      elim (cases_Bool (leads_claim F j)) [
+        | inl is ↦
+            let first = same_number j.number j.group (both (j.number == j.group) (list_all waits (members F j.group)) is).0 in
+            rw (is, sym same ∙ is) (λ i. group_same j (take most_mates jobs) (own first) i ∷ rest i)
+        | inr is ↦ rw (is, sym same ∙ is) rest
+      ]
 
 -- ---- the queue
 
 pub shown_total : IsTotalOrder shown_cmp
 shown_total = then_total (on_total (λ (c : Claim). c.priority) (back_total nat_cmp_total)) (on_total (λ (c : Claim). c.number) nat_cmp_total)
-
-shown_sorted : (cs : List Claimed) → IsStrictlySortedBy claim_cmp cs → IsStrictlySortedBy shown_cmp (map shown_claim cs)
-unfolding IsStrictlySortedBy
-shown_sorted [] sorted = tt
-shown_sorted (c ∷ cs) sorted =
-    (AllByRecursion-map (λ d. claim_cmp c d ≡ Less) (λ d. shown_cmp (shown_claim c) d ≡ Less) shown_claim (λ d less. less) cs sorted.0, shown_sorted cs sorted.1)
 
 module _ (F : Farm) (steady : IsSteady F) where
   claims_shown : map shown_claim (claims F) ≡ map shown_reservation (filter is_waiting F.reservations) ++ shown_groups F.jobs
@@ -136,7 +126,7 @@ module _ (F : Farm) (steady : IsSteady F) where
       → IsPermutation found sorted → IsSortedBy (λ a b. is_lt (shown_cmp a b)) sorted → sorted ≡ map shown_claim (queue F)
   queue_shown found sorted is permuted in_order =
       let same : found ≡ map shown_claim (claims F) = is ∙ sym claims_shown in
-      sorted_is_one shown_cmp shown_total (map shown_claim (queue F)) sorted (shown_sorted (queue F) (queue_sorted F))
+      sorted_is_one shown_cmp shown_total (map shown_claim (queue F)) sorted (sorted_seen claim_cmp shown_cmp shown_claim (λ a b less. less) (queue F) (queue_sorted F))
       (IsPermutation-trans (map shown_claim (queue F)) (map shown_claim (claims F)) sorted
       (IsPermutation-sym (map shown_claim (claims F)) (map shown_claim (queue F)) queue_of_claims)
       (subst (λ cs. IsPermutation cs sorted) same permuted)) in_order

@@ -1,19 +1,19 @@
 -- The first claim of the queues, as callers see it.
-use Rattle.std.proofs.Common.{◌≡◌, ◌∙◌, ◌&&◌, ◌≤◌, ◌+◌, ℕ, List, [], ◌∷◌, length, map, Bool, true, false, cond, Option, Some, None, IsSome, is_some, inl, inr, refl, sym, ap, subst, arith}
-use mathlib.Core.Bool.{true≢false, false≢true}
+use Rattle.std.proofs.Common.{◌≡◌, ◌∙◌, ◌&&◌, ◌≤◌, ◌+◌, ℕ, List, [], ◌∷◌, length, map, Bool, true, Option, Some, None, IsSome, is_some, inl, inr, refl, sym, ap, subst, arith}
+use mathlib.Core.Bool.{true≢false}
 use Rattle.std.specs.Cmp.{IsTotalOrder}
 use Rattle.std.specs.List.{AllByRecursion, find}
 use Rattle.std.specs.List.Sorted.{IsStrictlySortedBy}
 use Rattle.std.specs.Option.{option_map}
-use Rattle.std.specs.Map.{lookup}
-use Rattle.std.specs.Ordering.{is_eq, is_lt, nat_cmp, ordering_then}
+use Rattle.std.specs.Ordering.{is_eq, is_lt}
 use Rattle.std.specs.declared.cmp.Ordering.{Ordering}
-use Rattle.std.specs.declared.cmp.Ordering.TheVariants.{Equal, Greater, Less}
+use Rattle.std.specs.declared.cmp.Ordering.TheVariants.{Less}
 use Rattle.farm_types.specs.Pick.{IsAmong}
 use Rattle.farm_types.specs.Sound.{EachTwo}
 use Rattle.farm_types.specs.Table.{put, put_all}
 use Rattle.farm_types.specs.declared.claims.Claim.{Claim}
 use Rattle.farm_types.proofs.Put.{put_sorted}
+use Rattle.farm_types.proofs.Searched.{is_lt-Less}
 use Rattle.farm_sound.proofs.Lists.{among_has}
 use Rattle.farm_sound.proofs.Tests.{both}
 use Rattle.farm_pick.specs.Queued.{Queued}
@@ -22,32 +22,23 @@ use Rattle.farm_pick.specs.Kept.{spot_cmp, queued_cmp, kind_at, shown_entry, sho
 use Rattle.farm_pick.specs.Heads.{IsFirst, is_later, rank_cmp, rank_of_claim}
 use Rattle.farm_pick.specs.declared.spot.Spot.{Spot}
 use Rattle.farm_pick.specs.declared.spot.Place.{Place}
-use Rattle.farm_pick.proofs.Entries.{all_put, all_among}
+use Rattle.farm_pick.proofs.Entries.{all_put, all_among, among_map, entry_found, found_entry}
 use Rattle.farm_pick.proofs.Keeping.{queued_total, shown_apart, tie, tied}
-use Rattle.farm_pick.proofs.First.{IsRanked, found_entry, ranked_at, shown_rank}
+use Rattle.farm_pick.proofs.First.{IsRanked, ranked_at, shown_rank}
 
 -- ---- the first of a list in strict order that passes
 
 module _ {R : Type 0} (cmp : R → R → Ordering) (total : IsTotalOrder cmp) (test : R → Bool) where
   pub find_none : (xs : List R) → ((x : R) → IsAmong x xs → test x ≡ true → ⊥) → find test xs ≡ None
   find_none [] none = refl
-  find_none (x ∷ xs) none = by (test x) refl (find_none xs (λ y at. none y (inr at)))
-    where
-      by : (v : Bool) → test x ≡ v → find test xs ≡ None → cond v (Some x) (find test xs) ≡ None
-      by true is rest = absurd (none x (inl refl) is)
-      by false is rest = rest
+  find_none (x ∷ xs) none = grind (arith, none x (inl refl), find_none xs (λ y at. none y (inr at)))
 
   pub find_first : (c : R) (xs : List R) → IsStrictlySortedBy cmp xs → IsAmong c xs → test c ≡ true → ((x : R) → IsAmong x xs → test x ≡ true → cmp x c ≡ Less → ⊥)
       → find test xs ≡ Some c
   unfolding IsStrictlySortedBy
   find_first c [] sorted at is least = absurd at
-  find_first c (x ∷ xs) sorted at is least = by (test x) refl at (λ later. find_first c xs sorted.1 later is (λ y there. least y (inr there)))
-    where
-      by : (v : Bool) → test x ≡ v → IsAmong c (x ∷ xs) → (IsAmong c xs → find test xs ≡ Some c) → cond v (Some x) (find test xs) ≡ Some c
-      by true has (inl same) rest = ap Some (sym same)
-      by true has (inr later) rest = absurd (least x (inl refl) has (among_has (λ y. cmp x y ≡ Less) c xs sorted.0 later))
-      by false has (inl same) rest = absurd (true≢false (sym is ∙ ap test same ∙ has))
-      by false has (inr later) rest = rest later
+  find_first c (x ∷ xs) sorted at is least =
+      grind (arith, among_has (λ y. cmp x y ≡ Less) c xs sorted.0, least x (inl refl), λ (later : IsAmong c xs). find_first c xs sorted.1 later is (λ y there. least y (inr there)))
 
   all_sorted : (rows ys : List R) → IsStrictlySortedBy cmp rows → IsStrictlySortedBy cmp (put_all cmp rows ys)
   all_sorted rows [] sorted = sorted
@@ -57,25 +48,9 @@ module _ {R : Type 0} (cmp : R → R → Ordering) (total : IsTotalOrder cmp) (t
   unfolding IsStrictlySortedBy
   sorted_put_all ys = all_sorted [] ys tt
 
-some_there : {K X : Type 0} (test : K → Bool) (e : K × X) (es : List (K × X)) → IsAmong e es → test e.0 ≡ true → IsSome (lookup test es)
-some_there test e [] at is = absurd at
-some_there test e (d ∷ es) at is = by (test d.0) refl at (λ later. some_there test e es later is)
-  where
-    by : (w : Bool) → test d.0 ≡ w → IsAmong e (d ∷ es) → (IsAmong e es → IsSome (lookup test es)) → IsSome (cond w (Some d.1) (lookup test es))
-    by true has at rest = refl
-    by false has (inl same) rest = absurd (true≢false (sym is ∙ ap (λ (x : _). test x.0) same ∙ has))
-    by false has (inr more) rest = rest more
-
 -- whether a claim comes after a spot, and by its own spot
 pub rank_of : (last s : Spot) (c : Claim) → IsRanked s c → rank_of_claim last c ≡ rank_cmp last s
-rank_of last s c r =
-    ap (λ p. ordering_then (nat_cmp p last.priority) (nat_cmp last.number c.number)) (sym r.priority)
-    ∙ ap (λ n. ordering_then (nat_cmp s.priority last.priority) (nat_cmp last.number n)) (sym r.number)
-
-pub less_is : (o : Ordering) → is_lt o ≡ true → o ≡ Less
-less_is Less is = refl
-less_is Equal is = absurd (false≢true is)
-less_is Greater is = absurd (false≢true is)
+rank_of last s c r = rw (r.priority, r.number) refl
 
 module _ (kinds : List (List ℕ)) (es : List (Spot × Claim)) (keyed : AllByRecursion (IsKeyed kinds) es)
     (apart : EachTwo (λ a b. a.1.number ≡ b.1.number → ⊥) es) (last : Spot) (test : ℕ → Bool)
@@ -94,14 +69,9 @@ module _ (kinds : List (List ℕ)) (es : List (Spot × Claim)) (keyed : AllByRec
   pub entry_of : (x : Queued) → IsAmong x (shown_claims kinds es) → IsEntry x
   entry_of x at = among_has IsEntry x (shown_claims kinds es) (all_put queued_cmp queued_total IsEntry (map (shown_entry kinds) es) [] tt (entries_self es (λ e at. at))) at
 
-  among_map : (e : Spot × Claim) (ds : List (Spot × Claim)) → IsAmong e ds → IsAmong (shown_entry kinds e) (map (shown_entry kinds) ds)
-  among_map e [] at = at
-  among_map e (d ∷ ds) (inl same) = inl (ap (shown_entry kinds) same)
-  among_map e (d ∷ ds) (inr at) = inr (among_map e ds at)
-
   pub shown_at : (e : Spot × Claim) → IsAmong e es → IsAmong (shown_entry kinds e) (shown_claims kinds es)
   shown_at e at = among_has (λ x. IsAmong x (shown_claims kinds es)) (shown_entry kinds e) (map (shown_entry kinds) es)
-      (all_among queued_cmp queued_total (map (shown_entry kinds) es) (shown_apart kinds es apart)) (among_map e es at)
+      (all_among queued_cmp queued_total (map (shown_entry kinds) es) (shown_apart kinds es apart)) (among_map (shown_entry kinds) e es at)
 
   keyed_at : (e : Spot × Claim) → IsAmong e es → IsKeyed kinds e
   keyed_at e at = among_has (IsKeyed kinds) e es keyed at
@@ -111,10 +81,10 @@ module _ (kinds : List (List ℕ)) (es : List (Spot × Claim)) (keyed : AllByRec
   tests e at is =
       let two = both (is_later last e.1) (opens (kind_at kinds e.0.queue)) is in
       let key = keyed_at e at in
-      (sym (rank_of last e.0 e.1 (record { number = key.number; priority = key.priority })) ∙ less_is (rank_of_claim last e.1) two.0, same_test e.0.queue key.queue ∙ two.1)
+      (sym (rank_of last e.0 e.1 (record { number = key.number; priority = key.priority })) ∙ is_lt-Less (rank_of_claim last e.1) two.0, same_test e.0.queue key.queue ∙ two.1)
 
   pub IsSome-at : (e : Spot × Claim) → IsAmong e es → IsSome (claim_at es e.0)
-  IsSome-at e at = some_there (λ x. is_eq (spot_cmp e.0 x)) e es at (tie e.0 e.0 (record { queue = refl; priority = refl; number = refl }))
+  IsSome-at e at = entry_found (λ x. is_eq (spot_cmp e.0 x)) e es at (tie e.0 e.0 (record { queue = refl; priority = refl; number = refl }))
 
   pub first_shown : (o : Option Claim) → IsFirst es test (length kinds + 1) last o → o ≡ option_map (λ (x : Queued). x.claim) (find passes (shown_claims kinds es))
   first_shown None first =

@@ -1,5 +1,5 @@
 -- The spots of the claims of two boards or more, and the first of these claims as callers see it.
-use Rattle.std.proofs.Common.{◌&&◌, ◌||◌, ◌∙◌, ◌∷◌, ◌≡◌, ◌≤◌, Bool, List, None, Option, Some, ap, arith, cond, false, is_some, inl, inr, map, nat_le, not, refl, subst, sym, true, ℕ, []}
+use Rattle.std.proofs.Common.{◌&&◌, ◌||◌, ◌∙◌, ◌∷◌, ◌≡◌, ◌≤◌, Bool, List, None, Option, Some, ap, arith, cond, false, is_some, map, nat_le, not, refl, subst, sym, true, ℕ}
 use mathlib.Core.Bool.{true≢false}
 use Rattle.std.specs.BTreeSet.{BTreeSet, IsKeyRangeOf}
 use Rattle.std.specs.List.{AllByRecursion, find}
@@ -11,6 +11,7 @@ use Rattle.std.proofs.lemmas.Bool.Decides.{nat_tests}
 use Rattle.farm_types.specs.Pick.{IsAmong}
 use Rattle.farm_types.specs.Sound.{EachTwo}
 use Rattle.farm_types.specs.declared.claims.Claim.{Claim}
+use Rattle.farm_types.proofs.Searched.{is_lt-Less}
 use Rattle.farm_sound.proofs.Lists.{among_has}
 use Rattle.farm_sound.proofs.Tests.{both}
 use Rattle.farm_pick.specs.Heads.{is_later, rank_cmp, rank_of_claim}
@@ -21,9 +22,10 @@ use Rattle.farm_pick.specs.declared.idle.IdleRow.{IdleRow}
 use Rattle.farm_pick.specs.declared.multi_board.Rank.{Rank}
 use Rattle.farm_pick.specs.declared.spot.Place.{Place}
 use Rattle.farm_pick.specs.declared.spot.Spot.{Spot}
-use Rattle.farm_pick.proofs.First.{IsRanked, found_entry, ranked_at, shown_rank}
+use Rattle.farm_pick.proofs.Entries.{found_entry}
+use Rattle.farm_pick.proofs.First.{IsRanked, one_entry, ranked_at, shown_rank}
 use Rattle.farm_pick.proofs.Keeping.{queued_total}
-use Rattle.farm_pick.proofs.Shown.{IsSome-at, entry_of, find_first, find_none, less_is, rank_of, shown_at, sorted_put_all}
+use Rattle.farm_pick.proofs.Shown.{IsSome-at, entry_of, find_first, find_none, rank_of, shown_at, sorted_put_all}
 
 -- ---- the set of spots
 
@@ -34,33 +36,12 @@ next_some s last k found more range is =
     (from.1.0.0, from.1.1, λ t less has. from.2 (record { spot = t }) (less, tt) has)
 
 pub noted : (v w : Bool) (n : ℕ) → 2 ≤ n → cond v true w ≡ (w || (nat_le 2 n && v))
-noted v w n low = by v w (nat_le 2 n) many
-  where
-    many : nat_le 2 n ≡ true
-    many = grind (arith, nat_tests)
-
-    by : (v w b : Bool) → b ≡ true → cond v true w ≡ (w || (b && v))
-    by true true b is = refl
-    by false true b is = refl
-    by true false b is = sym (ap (λ u. u && true) is)
-    by false false b is = sym (ap (λ u. u && false) is)
+noted v w n low = grind (arith, nat_tests)
 
 pub forgotten : (v w : Bool) → cond v false w ≡ (not v && w)
-forgotten true w = refl
-forgotten false w = refl
+forgotten v w = grind arith
 
 -- ---- what is shown
-
--- one entry alone has a number
-one_of : (a b : Spot × Claim) (es : List (Spot × Claim)) → EachTwo (λ a b. a.1.number ≡ b.1.number → ⊥) es → IsAmong a es → IsAmong b es
-    → a.1.number ≡ b.1.number → a ≡ b
-one_of a b [] each here there same = absurd here
-one_of a b (e ∷ es) each (inl is) (inl at) same = is ∙ sym at
-one_of a b (e ∷ es) each (inl is) (inr at) same =
-    absurd (among_has (λ d. e.1.number ≡ d.1.number → ⊥) b es each.0 at (sym (ap (λ (d : Spot × Claim). d.1.number) is) ∙ same))
-one_of a b (e ∷ es) each (inr is) (inl at) same =
-    absurd (among_has (λ d. e.1.number ≡ d.1.number → ⊥) a es each.0 is (sym (ap (λ (d : Spot × Claim). d.1.number) at) ∙ sym same))
-one_of a b (e ∷ es) each (inr is) (inr at) same = one_of a b es each.1 is at same
 
 module _ (kinds : List (List ℕ)) (es : List (Spot × Claim)) (keyed : AllByRecursion (IsKeyed kinds) es)
     (apart : EachTwo (λ a b. a.1.number ≡ b.1.number → ⊥) es) (last : Spot) where
@@ -84,13 +65,13 @@ module _ (kinds : List (List ℕ)) (es : List (Spot × Claim)) (keyed : AllByRec
           let d = found_entry (IsKeyed kinds) (λ x. is_eq (spot_cmp e.0 x)) c es keyed is in
           let same : d.0.1.number ≡ e.1.number =
           ap (λ (k : Claim). k.number) d.3 ∙ sym (ranked_at kinds es e.0 c keyed is).number ∙ (ranked e at).number in
-          ap Some (sym d.3 ∙ ap (λ (k : Spot × Claim). k.1) (one_of d.0 e es apart d.4 at same))
+          ap Some (sym d.3 ∙ ap (λ (k : Spot × Claim). k.1) (one_entry es apart d.0 e d.4 at same))
 
   -- what the test says of an entry
   tests : (e : Spot × Claim) → IsAmong e es → passes (shown_entry kinds e) ≡ true → (rank_cmp last e.0 ≡ Less) × (is_several es e.0 ≡ true)
   tests e at is =
       let two = both (is_later last e.1) (nat_le 2 e.1.boards) is in (
-        sym (rank_of last e.0 e.1 (ranked e at)) ∙ less_is (rank_of_claim last e.1) two.0,
+        sym (rank_of last e.0 e.1 (ranked e at)) ∙ is_lt-Less (rank_of_claim last e.1) two.0,
         ap (λ o. option_map_or (λ (c : Claim). nat_le 2 c.boards) o false) (own_claim e at) ∙ two.1,
       )
 

@@ -1,27 +1,66 @@
 -- A farm whose rows change in their places keeps the claims of some numbers, and its queue with them.
-use Rattle.std.proofs.Common.{◌&&◌, ◌||◌, ◌++◌, ◌==◌, ◌∙◌, ◌∷◌, ◌≡◌, Bool, List, ap, cond, false, inl, inr, map, not, refl, sym, true, ℕ, []}
+use Rattle.std.proofs.Common.{◌&&◌, ◌++◌, ◌==◌, ◌∙◌, ◌∷◌, ◌≡◌, Bool, List, ap, cond, false, inl, inr, map, not, refl, sym, true, ℕ, [], arith, ◌+◌, ◌-◌, ◌≤◌, IsNone, Some, subst, suc, zero}
 use mathlib.Core.Bool.{true≢false}
 use Rattle.std.specs.List.{AllByRecursion, filter, list_all, list_any}
-use Rattle.std.proofs.Math.Bool.{and-false, and-true, or-true}
+use Rattle.std.proofs.Math.Bool.{and-false, and-true}
+use Rattle.std.proofs.lemmas.Bool.{false_from_ne_true, or_from, cases_eq, ne_eqb}
 use Rattle.std.proofs.lemmas.List.Elements.{filter-append}
 use Rattle.std.proofs.lemmas.List.Folds.{list_all-map}
 use Rattle.std.proofs.lemmas.List.Kept.{IsStrictlySortedBy-filter}
-use Rattle.farm_types.specs.Farm.{Farm}
+use Rattle.farm_types.specs.Farm.{Farm, job_of, res_of}
 use Rattle.farm_types.specs.Pick.{IsAmong, Claimed, claim_cmp, claims, group_claim, is_waiting, leads_claim, queue, res_claim, waits}
-use Rattle.farm_types.specs.Sound.{IsSteady}
+use Rattle.farm_types.specs.Sound.{IsSteady, IsJobRow}
 use Rattle.farm_types.specs.Table.{put_all}
+use Rattle.farm_types.specs.declared.rows.BoardRow.{BoardRow}
 use Rattle.farm_types.specs.declared.rows.JobRow.{JobRow}
+use Rattle.farm_types.specs.declared.rows.JobState.{JobState}
 use Rattle.farm_types.specs.declared.rows.ResRow.{ResRow}
-use Rattle.farm_types.proofs.Put.{AllByRecursion-weaker}
+use Rattle.farm_types.proofs.Put.{AllByRecursion-weaker, found_has, found_passes}
 use Rattle.farm_sound.proofs.Claims.{all_claims, claim_total, queue_sorted}
+use Rattle.farm_sound.proofs.Group.{given, given_group, given_number, given_same}
 use Rattle.farm_sound.proofs.Lists.{filter_all}
-use Rattle.farm_sound.proofs.Own.{itself}
+use Rattle.farm_sound.proofs.Own.{itself, own_res}
 use Rattle.farm_sound.proofs.Queue.{among_queue}
 use Rattle.farm_sound.proofs.Tests.{same_number}
-use Rattle.farm_sound.proofs.Where.{AllByRecursion-both}
-use Rattle.farm_pick.proofs.Entries.{all_put, among_puts}
+use Rattle.farm_sound.proofs.Where.{AllByRecursion-both, by_cases, map_id}
+use Rattle.farm_pick.proofs.Entries.{all_put, among_itself, among_map, among_puts}
 use Rattle.farm_pick.proofs.Later.{among_later, later_none}
 use Rattle.farm_pick.proofs.Ordered.{same_elements, tied_same}
+
+-- ---- a group's number is that of its first member, so it is no reservation's
+
+module _ (F : Farm) (steady : IsSteady F) where
+  -- of a job so many places behind its group's first member
+  none_at : (n : ℕ) (j : JobRow) → j.number ≤ j.group + n → IsJobRow F j → IsNone (res_of F j.group)
+  none_at zero j near is =
+      let same : j.number ≡ j.group = omega (arith, is.group.0, near) in
+      subst (λ k. IsNone (res_of F k)) same is.apart
+  none_at (suc n) j near is = elim (cases_eq j.number j.group) [
+    | inl same ↦ subst (λ k. IsNone (res_of F k)) same is.apart
+    | inr other ↦
+        let f = is.follows other in
+        let row : IsJobRow F f.previous = found_has (IsJobRow F) (λ r. r.number == j.number - 1) f.previous F.jobs steady.jobs f.there in
+        let at : f.previous.number ≡ j.number - 1 =
+        same_number f.previous.number (j.number - 1) (found_passes (λ (r : JobRow). r.number == j.number - 1) f.previous F.jobs f.there) in
+        subst (λ k. IsNone (res_of F k)) f.group (none_at n f.previous (let group = f.group in omega (arith, at, group, near)) row)
+  ]
+
+  group_apart : AllByRecursion (λ j. IsNone (res_of F j.group)) F.jobs
+  group_apart = AllByRecursion-weaker (λ j is. none_at j.number j (omega arith) is) F.jobs steady.jobs
+
+  -- a reservation that is there has another number than a group
+  apart_from : (n g : ℕ) (r : ResRow) → res_of F n ≡ Some r → IsNone (res_of F g) → (n ≡ g) → ⊥
+  apart_from n g r there none same = true≢false (subst IsNone (ap (res_of F) (sym same) ∙ there) none)
+
+  -- no group has a reservation's number
+  pub groups_differ : (n : ℕ) (r : ResRow) → res_of F n ≡ Some r → AllByRecursion (λ j. (j.group == n) ≡ false) F.jobs
+  groups_differ n r there = AllByRecursion-weaker (λ j none. ne_eqb j.group n (λ same. apart_from n j.group r there none (sym same))) F.jobs group_apart
+
+  -- no reservation has a group's number
+  pub reservations_differ : (n : ℕ) (j : JobRow) → job_of F n ≡ Some j → AllByRecursion (λ r. (r.number == j.group) ≡ false) F.reservations
+  reservations_differ n j there =
+      let none : IsNone (res_of F j.group) = found_has (λ k. IsNone (res_of F k.group)) (λ r. r.number == n) j F.jobs group_apart there in
+      AllByRecursion-weaker (λ r own. ne_eqb r.number j.group (λ same. apart_from r.number j.group r own none same)) F.reservations (own_res F steady)
 
 -- ---- lists
 
@@ -30,86 +69,40 @@ pub taken : {A B : Type 0} (f : A → A) (test new : A → Bool) (view seen : A 
     → AllByRecursion (λ x. (new (f x) ≡ (test x && kept (view x))) × (seen (f x) ≡ view x)) xs
     → map seen (filter new (map f xs)) ≡ filter kept (map view (filter test xs))
 taken f test new view seen kept [] all = refl
-taken f test new view seen kept (x ∷ xs) all =
-    ap (λ v. map seen (cond v (f x ∷ filter new (map f xs)) (filter new (map f xs)))) all.0.0
-    ∙ by (test x) (kept (view x)) refl (taken f test new view seen kept xs all.1)
-  where
-    by : (v w : Bool) → kept (view x) ≡ w → map seen (filter new (map f xs)) ≡ filter kept (map view (filter test xs))
-        → map seen (cond (v && w) (f x ∷ filter new (map f xs)) (filter new (map f xs))) ≡ filter kept (map view (cond v (x ∷ filter test xs) (filter test xs)))
-    by true true is rest =
-        let earlier = filter kept (map view (filter test xs)) in
-        ap (λ y. y ∷ map seen (filter new (map f xs))) all.0.1 ∙ ap (λ ys. view x ∷ ys) rest ∙ ap (λ v. cond v (view x ∷ earlier) earlier) (sym is)
-    by true false is rest =
-        let earlier = filter kept (map view (filter test xs)) in
-        rest ∙ ap (λ v. cond v (view x ∷ earlier) earlier) (sym is)
-    by false w is rest = rest
+taken f test new view seen kept (x ∷ xs) all = grind (arith, taken f test new view seen kept xs all.1)
 
 -- elements that pass as before, and are seen as before
 pub seen_same : {A B : Type 0} (f : A → A) (test : A → Bool) (view : A → B) (xs : List A)
     → AllByRecursion (λ x. (test (f x) ≡ test x) × (test x ≡ true → view (f x) ≡ view x)) xs
     → map view (filter test (map f xs)) ≡ map view (filter test xs)
 seen_same f test view [] all = refl
-seen_same f test view (x ∷ xs) all =
-    ap (λ v. map view (cond v (f x ∷ filter test (map f xs)) (filter test (map f xs)))) all.0.0
-    ∙ by (test x) refl (seen_same f test view xs all.1)
-  where
-    by : (v : Bool) → test x ≡ v → map view (filter test (map f xs)) ≡ map view (filter test xs)
-        → map view (cond v (f x ∷ filter test (map f xs)) (filter test (map f xs))) ≡ map view (cond v (x ∷ filter test xs) (filter test xs))
-    by true is rest = ap (λ y. y ∷ map view (filter test (map f xs))) (all.0.1 is) ∙ ap (λ ys. view x ∷ ys) rest
-    by false is rest = rest
+seen_same f test view (x ∷ xs) all = grind (arith, seen_same f test view xs all.1)
 
 -- one of those that pass the first test fails the second
 pub one_fails : {A : Type 0} (test pass : A → Bool) (x : A) (xs : List A) → IsAmong x xs → test x ≡ true → pass x ≡ false
     → list_all pass (filter test xs) ≡ false
 one_fails test pass x [] at is fails = absurd at
-one_fails test pass x (y ∷ xs) at is fails = by (test y) refl at (λ more. one_fails test pass x xs more is fails)
-  where
-    by : (v : Bool) → test y ≡ v → IsAmong x (y ∷ xs) → (IsAmong x xs → list_all pass (filter test xs) ≡ false)
-        → list_all pass (cond v (y ∷ filter test xs) (filter test xs)) ≡ false
-    by true has (inl same) rest = ap (λ v. v && list_all pass (filter test xs)) (sym (ap pass same) ∙ fails)
-    by true has (inr more) rest = ap (λ v. pass y && v) (rest more) ∙ and-false (pass y)
-    by false has (inl same) rest = absurd (true≢false (sym is ∙ ap test same ∙ has))
-    by false has (inr more) rest = rest more
+one_fails test pass x (y ∷ xs) at is fails = grind (arith, one_fails test pass x xs)
 
 -- none passes
 pub none_any : {A : Type 0} (test : A → Bool) (xs : List A) → AllByRecursion (λ x. test x ≡ false) xs → list_any test xs ≡ false
 none_any test [] all = refl
-none_any test (x ∷ xs) all = ap (λ v. v || list_any test xs) all.0 ∙ none_any test xs all.1
+none_any test (x ∷ xs) all = or_from (test x) (list_any test xs) all.0 (none_any test xs all.1)
 
 -- one that passes both tests
 one_any : {A : Type 0} (test pass : A → Bool) (x : A) (xs : List A) → IsAmong x xs → test x ≡ true → pass x ≡ true → list_any pass (filter test xs) ≡ true
 one_any test pass x [] at is passes = absurd at
-one_any test pass x (y ∷ xs) at is passes = by (test y) refl at (λ more. one_any test pass x xs more is passes)
-  where
-    by : (v : Bool) → test y ≡ v → IsAmong x (y ∷ xs) → (IsAmong x xs → list_any pass (filter test xs) ≡ true)
-        → list_any pass (cond v (y ∷ filter test xs) (filter test xs)) ≡ true
-    by true has (inl same) rest = ap (λ v. v || list_any pass (filter test xs)) (sym (ap pass same) ∙ passes)
-    by true has (inr more) rest = ap (λ v. pass y || v) (rest more) ∙ or-true (pass y)
-    by false has (inl same) rest = absurd (true≢false (sym is ∙ ap test same ∙ has))
-    by false has (inr more) rest = rest more
+one_any test pass x (y ∷ xs) at is passes = grind (arith, one_any test pass x xs)
 
 -- where x alone passes the second test, one of those that pass the first does so if x passes the first
 pub any_own : {A : Type 0} (test own : A → Bool) (x : A) (xs : List A) → IsAmong x xs → own x ≡ true → AllByRecursion (λ q. own q ≡ true → q ≡ x) xs
     → list_any own (filter test xs) ≡ test x
 any_own {A = A} test own x xs at is only = by (test x) refl
   where
-    other : (q : A) → (own q ≡ true → q ≡ x) → test q ≡ true → test x ≡ false → (v : Bool) → own q ≡ v → own q ≡ false
-    other q alone passes fails true same = absurd (true≢false (sym passes ∙ ap test (alone same) ∙ fails))
-    other q alone passes fails false differs = differs
-
     by : (v : Bool) → test x ≡ v → list_any own (filter test xs) ≡ v
     by true passes = one_any test own x xs at passes is
-    by false fails = none_any own (filter test xs)
-        (AllByRecursion-weaker (λ q two. other q two.0 two.1 fails (own q) refl) (filter test xs) (filter_all (λ q. own q ≡ true → q ≡ x) test xs only))
-
-pub among_itself : {A : Type 0} (xs : List A) → AllByRecursion (λ x. IsAmong x xs) xs
-among_itself [] = tt
-among_itself (x ∷ xs) = (inl refl, AllByRecursion-weaker (λ y at. inr at) xs (among_itself xs))
-
-among_mapped : {A : Type 0} (f : A → A) (x : A) (xs : List A) → IsAmong x xs → IsAmong (f x) (map f xs)
-among_mapped f x [] at = absurd at
-among_mapped f x (y ∷ xs) (inl same) = inl (ap f same)
-among_mapped f x (y ∷ xs) (inr at) = inr (among_mapped f x xs at)
+    by false fails = none_any own (filter test xs) (AllByRecursion-weaker
+        (λ q two. false_from_ne_true (own q) (λ same. true≢false (sym two.1 ∙ ap test (two.0 same) ∙ fails))) (filter test xs) (filter_all (λ q. own q ≡ true → q ≡ x) test xs only))
 
 -- ---- the queue of some of the claims
 
@@ -157,6 +150,12 @@ same_then j k m first then = record {
   want = then.want ∙ first.want;
 }
 
+-- a job that is given a board keeps all that
+pub given_claim : (state : JobState) (ps : List (JobRow × BoardRow)) (m : JobRow) → SameClaim m (given state ps m)
+given_claim state ps m =
+    let same = given_same state ps m in
+    record { number = given_number state ps m; group = given_group state ps m; owner = same.0; priority = same.1; want = same.2 }
+
 module _ (F G : Farm) (kept : ℕ → Bool) (fj : JobRow → JobRow) (fr : ResRow → ResRow) where
   -- the jobs of the groups that are kept wait as before, and those of the others do so no more; the reservations likewise
   pub record Takes : Type 0 where
@@ -195,16 +194,13 @@ module _ (F G : Farm) (kept : ℕ → Bool) (fj : JobRow → JobRow) (fr : ResRo
         ∙ by (kept j.group) refl
       where
         by : (v : Bool) → kept j.group ≡ v
-            → ((j.number == j.group) && list_all waits (filter (of_group j.group) (map fj F.jobs))) ≡ (leads_claim F j && kept j.group)
-        by true stays =
-            ap (λ v. (j.number == j.group) && v) (all_same j.group stays)
-            ∙ sym (ap (λ v. leads_claim F j && v) stays ∙ and-true (leads_claim F j))
+            → ((j.number == j.group) && list_all waits (filter (of_group j.group) (map fj F.jobs))) ≡ (leads_claim F j && v)
+        by true stays = ap (λ v. (j.number == j.group) && v) (all_same j.group stays) ∙ sym (and-true (leads_claim F j))
         by false goes =
             ap (λ v. (j.number == j.group) && v)
-            (one_fails (of_group j.group) waits (fj j) (map fj F.jobs) (among_mapped fj j F.jobs at)
+            (one_fails (of_group j.group) waits (fj j) (map fj F.jobs) (among_map fj j F.jobs at)
             (same_group j.group j ∙ itself j.group) (is ∙ ap (λ v. waits j && v) goes ∙ and-false (waits j)))
-            ∙ and-false (j.number == j.group)
-            ∙ sym (ap (λ v. leads_claim F j && v) goes ∙ and-false (leads_claim F j))
+            ∙ and-false (j.number == j.group) ∙ sym (and-false (leads_claim F j))
 
     claim_after : (j : JobRow) → group_claim G (fj j) ≡ group_claim F j
     claim_after j =
@@ -229,6 +225,32 @@ module _ (F G : Farm) (kept : ℕ → Bool) (fj : JobRow → JobRow) (fr : ResRo
 
     pub queue_takes : IsSteady F → queue G ≡ filter (λ c. kept c.number) (queue F)
     queue_takes old = queue_taken F G (λ c. kept c.number) old claims_taken
+
+-- some reservations change, and no job
+pub takes_reservations : (F G : Farm) (kept : ℕ → Bool) (test : ResRow → Bool) (f : ResRow → ResRow) → G.jobs ≡ F.jobs
+    → G.reservations ≡ map (λ r. cond (test r) (f r) r) F.reservations → ((r : ResRow) → res_claim (f r) ≡ res_claim r) → AllByRecursion (λ j. kept j.group ≡ true) F.jobs
+    → AllByRecursion (λ r. (test r ≡ true → is_waiting (f r) ≡ (is_waiting r && kept r.number)) × (test r ≡ false → kept r.number ≡ true)) F.reservations
+    → Takes F G kept (λ j. j) (λ r. cond (test r) (f r) r)
+takes_reservations F G kept test f jobs reservations same others mine = record {
+  jobs = jobs ∙ sym (map_id F.jobs);
+  reservations = reservations;
+  same_job = same_claim;
+  same_res = λ r. by_cases (λ q. res_claim q ≡ res_claim r) (test r) (f r) r (λ _. same r) (λ _. refl);
+  jobs_wait = AllByRecursion-weaker (λ j stays. sym (ap (λ v. waits j && v) stays ∙ and-true (waits j))) F.jobs others;
+  reservations_wait = AllByRecursion-weaker (λ r two. by_cases (λ q. is_waiting q ≡ (is_waiting r && kept r.number)) (test r) (f r) r two.0
+      (λ out. sym (ap (λ v. is_waiting r && v) (two.1 out) ∙ and-true (is_waiting r)))) F.reservations mine;
+}
+
+-- those that change wait no more: their claims go
+pub reservations_go : (F G : Farm) (kept : ℕ → Bool) (test : ResRow → Bool) (f : ResRow → ResRow) → IsSteady F → G.jobs ≡ F.jobs
+    → G.reservations ≡ map (λ r. cond (test r) (f r) r) F.reservations → ((r : ResRow) → res_claim (f r) ≡ res_claim r) → ((r : ResRow) → is_waiting (f r) ≡ false)
+    → AllByRecursion (λ j. kept j.group ≡ true) F.jobs → AllByRecursion (λ r. kept r.number ≡ not (test r)) F.reservations
+    → queue G ≡ filter (λ c. kept c.number) (queue F)
+reservations_go F G kept test f steady jobs reservations same gone others mine =
+    queue_takes F G kept (λ j. j) (λ r. cond (test r) (f r) r) (takes_reservations F G kept test f jobs reservations same others (AllByRecursion-weaker (λ r is. (
+      (λ so. gone r ∙ sym (ap (λ v. is_waiting r && v) (is ∙ ap not so) ∙ and-false (is_waiting r))),
+      (λ out. is ∙ ap not out),
+    )) F.reservations mine)) steady
 
 -- whether a number is another
 abbrev pub other : ℕ → ℕ → Bool

@@ -8,14 +8,21 @@ use Rattle.std.specs.Option.{option_map}
 use Rattle.std.specs.Ordering.{is_eq, is_gt, is_lt, nat_cmp, ordering_then, ordering_reverse}
 use Rattle.std.specs.declared.cmp.Ordering.{Ordering}
 use Rattle.std.specs.declared.cmp.Ordering.TheVariants.{Equal, Greater, Less}
-use Rattle.std.proofs.lemmas.Cmp.{ranked, tied_itself}
+use Rattle.std.proofs.lemmas.Bool.{false_from_ne_true}
+use Rattle.std.proofs.lemmas.Bool.Decides.{nat_tests}
+use Rattle.std.proofs.lemmas.Cmp.{tied_itself}
+use Rattle.std.proofs.lemmas.Option.{none-some, same_Some}
 use Rattle.std.proofs.lemmas.List.{get_or-set_same, get_or-set_other, get_or_append_left, get_or_default, get_or_push, length-append, length-set}
 use Rattle.farm_types.specs.Pick.{IsAmong, shown_cmp}
 use Rattle.farm_types.specs.Sound.{EachTwo}
 use Rattle.farm_types.specs.declared.claims.Claim.{Claim}
+use Rattle.farm_types.proofs.Put.{found_passes}
+use Rattle.farm_types.proofs.Searched.{is_lt-Less}
+use Rattle.farm_sound.proofs.Clear.{none_of}
 use Rattle.farm_sound.proofs.Lists.{among_has}
+use Rattle.farm_sound.proofs.Where.{all_true}
 use Rattle.farm_sound.proofs.Own.{itself}
-use Rattle.farm_sound.proofs.Tests.{same_number}
+use Rattle.farm_sound.proofs.Tests.{both, same_number}
 use Rattle.farm_pick.proofs.Apart.{same_open}
 use Rattle.farm_pick.specs.Heads.{AreHeads, IsFirst, is_later, queue_open, rank_cmp, rank_of_claim}
 use Rattle.farm_pick.specs.Kept.{IsKeyed, claim_at, queued_cmp, shown_claims, shown_entry, shown_idle, spot_cmp}
@@ -24,12 +31,12 @@ use Rattle.farm_pick.specs.declared.idle.IdleRow.{IdleRow}
 use Rattle.farm_pick.specs.Walked.{AreCursors, IsCursorAt, IsCursor, IsLeastOf, IsWalk, StandsIn, StepsTo, entries_behind, earlier_place, walk_from}
 use Rattle.farm_pick.specs.declared.spot.Spot.{Spot}
 use Rattle.farm_pick.specs.declared.walk.Cursor.{Cursor}
-use Rattle.farm_pick.proofs.First.{IsRanked, below, found_entry, rank_total, ranked_at, same_queue, shown_rank}
+use Rattle.farm_pick.proofs.Entries.{all_unmap, found_entry}
+use Rattle.farm_pick.proofs.First.{IsRanked, below, one_entry, rank_total, ranked_at, same_queue, shown_rank}
 use Rattle.farm_pick.proofs.Keeping.{queued_total, tie, tied}
-use Rattle.farm_pick.proofs.Ordered.{not_below_itself}
 use Rattle.farm_pick.proofs.Queued.{shown_total}
 use Rattle.farm_pick.proofs.Shown.{first_shown, sorted_put_all}
-use Rattle.farm_pick.proofs.Sieved.{filter_of_none, found_first, found_of_filter, found_passes, found_there, none_of_filter, none_passes, sieve, sieve_on}
+use Rattle.farm_pick.proofs.Sieved.{filter_of_none, found_first, found_of_filter, found_there, none_of_filter, none_passes, sieve, sieve_on}
 
 -- ---- the entries of a map in order
 
@@ -41,10 +48,6 @@ entry_cmp a b = spot_cmp a.0 b.0
 
 entry_total : IsTotalOrder entry_cmp
 entry_total = on_total (λ (e : Spot × Claim). e.0) spot_total
-
-all_unmap : {A B : Type 0} (P : B → Type 0) (f : A → B) (xs : List A) → AllByRecursion P (map f xs) → AllByRecursion (λ x. P (f x)) xs
-all_unmap P f [] all = tt
-all_unmap P f (x ∷ xs) all = (all.0, all_unmap P f xs all.1)
 
 entries_rise : (es : List (Spot × Claim)) → IsStrictlySortedBy spot_cmp (map (λ e. e.0) es) → IsStrictlySortedBy entry_cmp es
 unfolding IsStrictlySortedBy
@@ -63,21 +66,12 @@ found_at (d ∷ es) sorted e (inl same) =
     ap (λ o. cond (is_eq o) (Some d.1) (claim_at es e.0)) (ap (spot_cmp e.0) (sym (ap (λ (x : Spot × Claim). x.0) same)) ∙ tied_itself spot_total e.0)
     ∙ ap (λ (x : Spot × Claim). Some x.1) (sym same)
 found_at (d ∷ es) sorted e (inr later) =
-    by (is_eq (spot_cmp e.0 d.0)) refl ∙ found_at es sorted.1 e later
+    ap (λ o. cond (is_eq o) (Some d.1) (claim_at es e.0)) (spot_total.antisymm e.0 d.0 ∙ ap ordering_reverse less) ∙ found_at es sorted.1 e later
   where
     less : entry_cmp d e ≡ Less
     less = among_has (λ (x : Spot × Claim). entry_cmp d x ≡ Less) e es sorted.0 later
 
-    by : (v : Bool) → is_eq (spot_cmp e.0 d.0) ≡ v → cond v (Some d.1) (claim_at es e.0) ≡ claim_at es e.0
-    by true is = absurd (not_below_itself spot_cmp spot_total d.0 (subst (λ s. spot_cmp d.0 s ≡ Less) (sym (one_spot e.0 d.0 is)) less))
-    by false is = refl
-
 -- ---- a queue's first claim behind a spot
-
--- what stands at a spot is an entry
-all_any : (es : List (Spot × Claim)) → AllByRecursion (λ e. Unit {0}) es
-all_any [] = tt
-all_any (e ∷ es) = (tt, all_any es)
 
 entry_at : (es : List (Spot × Claim)) (t : Spot) → IsSome (claim_at es t) → (d : Spot × Claim) × IsAmong d es × (d.0 ≡ t)
 entry_at es t some = by (claim_at es t) refl some
@@ -85,29 +79,12 @@ entry_at es t some = by (claim_at es t) refl some
     by : (o : Option Claim) → claim_at es t ≡ o → IsSome o → (d : Spot × Claim) × IsAmong d es × (d.0 ≡ t)
     by None is some = absurd (true≢false (sym some))
     by (Some c) is some =
-        let e = found_entry (λ e. Unit {0}) (λ x. is_eq (spot_cmp t x)) c es (all_any es) is in
+        let e = found_entry (λ e. Unit {0}) (λ x. is_eq (spot_cmp t x)) c es (all_true es) is in
         (e.0, e.4, one_spot t e.0.0 e.2)
 
 -- a spot behind another isn't in an earlier queue
 queue_rises : (s t : Spot) → is_gt (spot_cmp s t) ≡ false → s.queue ≤ t.queue
-queue_rises s t is = by (nat_cmp s.queue t.queue) refl is
-  where
-    by : (o : Ordering) → nat_cmp s.queue t.queue ≡ o → is_gt (ordering_then o (rank_cmp s t)) ≡ false → s.queue ≤ t.queue
-    by Less so is = let less = ranked s.queue t.queue Less (sym so) in omega arith
-    by Equal so is = let same = ranked s.queue t.queue Equal (sym so) in omega arith
-    by Greater so is = absurd (true≢false is)
-
-not_greater : (o : Ordering) → o ≡ Less → is_gt o ≡ false
-not_greater o is = ap is_gt is
-
-less_of : (o : Ordering) → is_lt o ≡ true → o ≡ Less
-less_of Less is = refl
-less_of Equal is = absurd (true≢false (sym is))
-less_of Greater is = absurd (true≢false (sym is))
-
-true_left : (v w : Bool) → (v && w) ≡ true → v ≡ true
-true_left true w is = refl
-true_left false w is = is
+queue_rises s t is = grind (arith, nat_tests)
 
 module _ (es : List (Spot × Claim)) (sorted : IsStrictlySortedBy spot_cmp (map (λ e. e.0) es)) (s : Spot) where
   abbrev is_behind : Spot × Claim → Bool
@@ -128,16 +105,12 @@ module _ (es : List (Spot × Claim)) (sorted : IsStrictlySortedBy spot_cmp (map 
       (behind_is d.0 (ap (spot_cmp s) d.2 ∙ less)))
 
   after_left : (e : Spot × Claim) (more : List (Spot × Claim)) → entries_behind es s ≡ e ∷ more → spot_cmp s e.0 ≡ Less
-  after_left e more is = less_of (spot_cmp s e.0) (true_left (is_lt (spot_cmp s e.0)) true (found_passes is_behind e es (found_of_filter is_behind es e more is)))
+  after_left e more is = is_lt-Less (spot_cmp s e.0) (both (is_lt (spot_cmp s e.0)) true (found_passes is_behind e es (found_of_filter is_behind es e more is))).0
 
   none_left : entries_behind es s ≡ [] → (t : Spot) → spot_cmp s t ≡ Less → claim_at es t ≡ None
-  none_left is t less = by (claim_at es t) refl
-    where
-      by : (o : Option Claim) → claim_at es t ≡ o → o ≡ None
-      by None so = refl
-      by (Some c) so =
-          let d = entry_at es t (ap is_some so) in
-          absurd (none_passes is_behind d.0 es (none_of_filter is_behind es is) d.1 (behind_is d.0 (ap (spot_cmp s) d.2 ∙ less)))
+  none_left is t less = none_of (claim_at es t) (false_from_ne_true (is_some (claim_at es t)) (λ some.
+      let d = entry_at es t some in
+      none_passes is_behind d.0 es (none_of_filter is_behind es is) d.1 (behind_is d.0 (ap (spot_cmp s) d.2 ∙ less))))
 
   -- one step on
   pub stands_in : (rest : List (Spot × Claim)) (o : Option Cursor) → rest ≡ entries_behind es s → StepsTo rest s.queue o → StandsIn es s o
@@ -145,14 +118,10 @@ module _ (es : List (Spot × Claim)) (sorted : IsStrictlySortedBy spot_cmp (map 
     where
       by : (xs : List (Spot × Claim)) → entries_behind es s ≡ xs → (t : Spot) → t.queue ≡ s.queue → spot_cmp s t ≡ Less → claim_at es t ≡ None
       by [] left t same less = none_left left t less
-      by (e ∷ more) left t same less = open_end (claim_at es t) refl
-        where
-          open_end : (o : Option Claim) → claim_at es t ≡ o → o ≡ None
-          open_end None so = refl
-          open_end (Some c) so =
-              let low = queue_rises s e.0 (not_greater (spot_cmp s e.0) (after_left e more left)) in
-              let high = queue_rises e.0 t (first_left e more left t less (ap is_some so)) in
-              absurd (steps e more (is ∙ left) (omega (arith, low, high, same)))
+      by (e ∷ more) left t same less = none_of (claim_at es t) (false_from_ne_true (is_some (claim_at es t)) (λ some.
+          let low = queue_rises s e.0 (ap is_gt (after_left e more left)) in
+          let high = queue_rises e.0 t (first_left e more left t less some) in
+          steps e more (is ∙ left) (omega (arith, low, high, same))))
   stands_in rest (Some x) is steps =
       let left : entries_behind es s ≡ (steps.0, x.claim.now) ∷ x.rest = sym is ∙ steps.1 in
       record {
@@ -162,7 +131,7 @@ module _ (es : List (Spot × Claim)) (sorted : IsStrictlySortedBy spot_cmp (map 
         claim = found_at es rises (steps.0, x.claim.now) (found_there is_behind (steps.0, x.claim.now) es (found_of_filter is_behind es (steps.0, x.claim.now) x.rest left));
         first = λ t same less some. first_left (steps.0, x.claim.now) x.rest left t less some;
         rest = sieve_on entry_cmp entry_total (λ e. is_lt (spot_cmp s e.0)) (λ e. true)
-            (λ a b is less. ap is_lt (spot_total.trans s a.0 b.0 (less_of (spot_cmp s a.0) is) less)) (steps.0, x.claim.now) x.rest es rises left;
+            (λ a b is less. ap is_lt (spot_total.trans s a.0 b.0 (is_lt-Less (spot_cmp s a.0) is) less)) (steps.0, x.claim.now) x.rest es rises left;
         sorted = sorted;
       }
 
@@ -190,34 +159,14 @@ cursor_seen es test last (Some x) is stands = (is, stands)
 pub cursor_unseen : (es : List (Spot × Claim)) (test : ℕ → Bool) (last : Spot) → test last.queue ≡ false → IsCursor es test last None
 cursor_unseen es test last closed = λ is. absurd (true≢false (sym is ∙ closed))
 
--- two entries of one number are one
-one_entry : (es : List (Spot × Claim)) → EachTwo (λ a b. a.1.number ≡ b.1.number → ⊥) es → (a b : Spot × Claim) → IsAmong a es → IsAmong b es → a.1.number ≡ b.1.number → a ≡ b
-one_entry [] each a b here there same = absurd here
-one_entry (e ∷ es) each a b (inl here) (inl there) same = here ∙ sym there
-one_entry (e ∷ es) each a b (inl here) (inr there) same =
-    absurd (among_has (λ (d : Spot × Claim). e.1.number ≡ d.1.number → ⊥) b es each.0 there (sym (ap (λ (d : Spot × Claim). d.1.number) here) ∙ same))
-one_entry (e ∷ es) each a b (inr here) (inl there) same =
-    absurd (among_has (λ (d : Spot × Claim). e.1.number ≡ d.1.number → ⊥) a es each.0 here (sym (ap (λ (d : Spot × Claim). d.1.number) there) ∙ sym same))
-one_entry (e ∷ es) each a b (inr here) (inr there) same = one_entry es each.1 a b here there same
-
 same_rank : (s t : Spot) → rank_cmp s t ≡ Equal → s.number ≡ t.number
-same_rank s t is = by (nat_cmp t.priority s.priority) is
-  where
-    by : (o : Ordering) → ordering_then o (nat_cmp s.number t.number) ≡ Equal → s.number ≡ t.number
-    by Less is = cc
-    by Equal is = ranked s.number t.number Equal (sym is)
-    by Greater is = cc
+same_rank s t is = grind (arith, nat_tests)
 
 -- ---- which claim goes first
 
 -- one that isn't after another goes before what the other does
 no_later : (s t u : Spot) → is_gt (rank_cmp s t) ≡ false → rank_cmp t u ≡ Less → rank_cmp s u ≡ Less
-no_later s t u le less = by (rank_cmp s t) refl le
-  where
-    by : (o : Ordering) → rank_cmp s t ≡ o → is_gt o ≡ false → rank_cmp s u ≡ Less
-    by Less is le = rank_total.trans s t u is less
-    by Equal is le = rank_total.congr s t u is ∙ less
-    by Greater is le = absurd (true≢false le)
+no_later s t u le less = grind (arith, rank_total.trans s t u, rank_total.congr s t u)
 
 -- so far
 abbrev pub LeastBelow : List (Option Cursor) → ℕ → Option (ℕ × Claim) → Type 0
@@ -231,54 +180,41 @@ not_itself c = ap is_lt (tied_itself shown_total c)
 
 -- what isn't before one isn't before an earlier one
 not_before_less : (a b c : Claim) → is_lt (shown_cmp a c) ≡ false → is_lt (shown_cmp b c) ≡ true → is_lt (shown_cmp a b) ≡ false
-not_before_less a b c above less = by (is_lt (shown_cmp a b)) refl
-  where
-    by : (v : Bool) → is_lt (shown_cmp a b) ≡ v → v ≡ false
-    by true is = absurd (true≢false (sym (ap is_lt (shown_total.trans a b c (less_of (shown_cmp a b) is) (less_of (shown_cmp b c) less))) ∙ above))
-    by false is = refl
-
-some_one : {X : Type 0} (x y : X) → Some x ≡ Some y → x ≡ y
-some_one x y is = cc
+not_before_less a b c above less = false_from_ne_true (is_lt (shown_cmp a b)) (λ is.
+    true≢false (sym (ap is_lt (shown_total.trans a b c (is_lt-Less (shown_cmp a b) is) (is_lt-Less (shown_cmp b c) less))) ∙ above))
 
 pub least_more : (cursors : List (Option Cursor)) (n : ℕ) (o : Option Cursor) (f : Option (ℕ × Claim)) → get_or cursors n None ≡ o → LeastBelow cursors n f
     → LeastBelow cursors (n + 1) (earlier_place f n o)
-least_more cursors n None None is least = λ i low. by i (below n i low)
-  where
-    by : (i : ℕ) → (i < n) ⊎ (i ≡ n) → get_or cursors i None ≡ None
-    by i (inl less) = least i less
-    by i (inr same) = ap (λ m. get_or cursors m None) same ∙ is
-least_more cursors n None (Some f) is least =
-    (least.0, (let low = least.1 in omega arith), least.2, least.3, λ i y low at. by i y at (below n i low))
-  where
-    by : (i : ℕ) (y : Cursor) → get_or cursors i None ≡ Some y → (i < n) ⊎ (i ≡ n) → is_lt (shown_cmp y.claim.now f.1) ≡ false
-    by i y at (inl less) = least.4 i y less at
-    by i y at (inr same) = let none : ◌≡◌ {A = Option Cursor} None (Some y) = sym is ∙ ap (λ m. get_or cursors m None) (sym same) ∙ at in cc
-least_more cursors n (Some x) None is least = (x, omega arith, is, refl, λ i y low at. by i y at (below n i low))
-  where
-    by : (i : ℕ) (y : Cursor) → get_or cursors i None ≡ Some y → (i < n) ⊎ (i ≡ n) → is_lt (shown_cmp y.claim.now x.claim.now) ≡ false
-    by i y at (inl less) = let none : ◌≡◌ {A = Option Cursor} None (Some y) = sym (least i less) ∙ at in cc
-    by i y at (inr same) =
-        let here = some_one x y (sym is ∙ ap (λ m. get_or cursors m None) (sym same) ∙ at) in
-        ap (λ (z : Cursor). is_lt (shown_cmp z.claim.now x.claim.now)) (sym here) ∙ not_itself x.claim.now
+least_more cursors n None None is least = λ i low. elim (below n i low) [ inl less ↦ least i less | inr same ↦ ap (λ m. get_or cursors m None) same ∙ is ]
+least_more cursors n None (Some f) is least = (
+  least.0,
+  (let low = least.1 in omega arith),
+  least.2,
+  least.3,
+  λ i y low at. elim (below n i low) [ inl less ↦ least.4 i y less at | inr same ↦ absurd (none-some y (sym is ∙ ap (λ m. get_or cursors m None) (sym same) ∙ at)) ],
+)
+least_more cursors n (Some x) None is least = (
+  x,
+  omega arith,
+  is,
+  refl,
+  λ i y low at. elim (below n i low) [
+    | inl less ↦ absurd (none-some y (sym (least i less) ∙ at))
+    | inr same ↦ ap (λ (z : Cursor). is_lt (shown_cmp z.claim.now x.claim.now)) (same_Some y x (sym at ∙ ap (λ m. get_or cursors m None) same ∙ is)) ∙ not_itself x.claim.now
+  ],
+)
 least_more cursors n (Some x) (Some f) is least = by (is_lt (shown_cmp x.claim.now f.1)) refl
   where
     here_or : (d : Claim) → is_lt (shown_cmp x.claim.now d) ≡ false → ((i : ℕ) (y : Cursor) → i < n → get_or cursors i None ≡ Some y → is_lt (shown_cmp y.claim.now d) ≡ false)
-        → (i : ℕ) (y : Cursor) → get_or cursors i None ≡ Some y → (i < n) ⊎ (i ≡ n) → is_lt (shown_cmp y.claim.now d) ≡ false
-    here_or d here_no old i y at (inl less) = old i y less at
-    here_or d here_no old i y at (inr same) =
-        let here = some_one x y (sym is ∙ ap (λ m. get_or cursors m None) (sym same) ∙ at) in
-        ap (λ (z : Cursor). is_lt (shown_cmp z.claim.now d)) (sym here) ∙ here_no
+        → (i : ℕ) (y : Cursor) → i < n + 1 → get_or cursors i None ≡ Some y → is_lt (shown_cmp y.claim.now d) ≡ false
+    here_or d here_no old i y low at = elim (below n i low) [
+      | inl less ↦ old i y less at
+      | inr same ↦ ap (λ (z : Cursor). is_lt (shown_cmp z.claim.now d)) (same_Some y x (sym at ∙ ap (λ m. get_or cursors m None) same ∙ is)) ∙ here_no
+    ]
 
     by : (v : Bool) → is_lt (shown_cmp x.claim.now f.1) ≡ v → LeastBelow cursors (n + 1) (cond v (Some (n, x.claim.now)) (Some f))
-    by true less = (
-      x,
-      omega arith,
-      is,
-      refl,
-      λ i y low at. here_or x.claim.now (not_itself x.claim.now)
-          (λ i y low at. not_before_less y.claim.now x.claim.now f.1 (least.4 i y low at) less) i y at (below n i low),
-    )
-    by false above = (least.0, (let low = least.1 in omega arith), least.2, least.3, λ i y low at. here_or f.1 above least.4 i y at (below n i low))
+    by true less = (x, omega arith, is, refl, here_or x.claim.now (not_itself x.claim.now) (λ i y low at. not_before_less y.claim.now x.claim.now f.1 (least.4 i y low at) less))
+    by false above = (least.0, (let low = least.1 in omega arith), least.2, least.3, here_or f.1 above least.4)
 
 module _ (kinds : List (List ℕ)) (es : List (Spot × Claim)) (keyed : AllByRecursion (IsKeyed kinds) es) (test : ℕ → Bool) (last : Spot) (n : ℕ)
     (cursors : List (Option Cursor)) (are : AreCursors es test last n cursors) where
@@ -402,7 +338,7 @@ module _ (kinds : List (List ℕ)) (es : List (Spot × Claim)) (keyed : AllByRec
 rank_up : (last : Spot) (x y : Queued) → is_later last x.claim ≡ true → queued_cmp x y ≡ Less → is_later last y.claim ≡ true
 rank_up last x y is less =
     ap is_lt (rank_total.trans last (record { queue = 0; priority = x.claim.priority; number = x.claim.number }) (record { queue = 0; priority = y.claim.priority; number = y.claim.number })
-    (less_of (rank_of_claim last x.claim) is) less)
+    (is_lt-Less (rank_of_claim last x.claim) is) less)
 
 module _ (kinds : List (List ℕ)) (es : List (Spot × Claim)) (rows : List IdleRow) (are : AreHeads kinds es rows) (last : Spot) where
   abbrev opens : Option (List ℕ) → Bool
@@ -473,7 +409,7 @@ module _ (kinds : List (List ℕ)) (es : List (Spot × Claim)) (rows : List Idle
   least_here = subst (λ xs. IsLeastOf xs (Some place)) same least
 
   is_x : least_here.0 ≡ x
-  is_x = some_one least_here.0 x (sym least_here.2 ∙ sym taken)
+  is_x = same_Some least_here.0 x (sym least_here.2 ∙ sym taken)
 
   least_x : (i : ℕ) (y : Cursor) → i < length cursors → get_or cursors i None ≡ Some y → is_lt (shown_cmp y.claim.now x.claim.now) ≡ false
   least_x i y low at = ap (λ (z : Cursor). is_lt (shown_cmp y.claim.now z.claim.now)) (sym is_x) ∙ least_here.3 i y low at

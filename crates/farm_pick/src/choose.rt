@@ -28,7 +28,7 @@ pub fn shortlist(
         if found.len() >= limit {
             break;
         }
-        if fit::is_candidate_at(boards, types, want, free, place) {
+        if fit::is_candidate(types, want, free, &boards[place]) {
             found = found.with(place);
         }
     }

@@ -1,22 +1,21 @@
 //! The claims of all queues in one ordered map, one queue behind the other.
-ghost use Rattle.std.specs.Prelude.{◌≡◌, ◌≤◌, ◌||◌, ℕ, length, cond, Some, None, OnOk, OnErr};
-ghost use Rattle.std.specs.Prelude.{IfOk, MatchOption};
+ghost use Rattle.std.specs.Prelude.{◌≡◌, ◌≤◌, ◌||◌, ℕ, length, cond, Some, None, IfOk, OnOk, OnErr};
 ghost use Rattle.std.specs.List.Sorted.{IsPermutation, IsSortedBy};
 ghost use Rattle.std.specs.BTreeMap.{insert_entry, values};
 ghost use Rattle.std.specs.Option.{option_copied};
 ghost use Rattle.std.specs.Ordering.{is_eq, is_lt, nat_cmp};
 ghost use Rattle.farm_types.specs.Pick.{shown_cmp};
+ghost use Rattle.farm_pick.specs.Kept.{spot_cmp, claim_at, place_at};
 ghost use Rattle.farm_pick.specs.Heads.{AreHeads, IsFirstBehind, head_in, queue_open};
-ghost use Rattle.farm_pick.specs.Kept.{spot_cmp, claim_at, place_at, TakesOrStays};
 
 use crate::idle::{self, IdleRow};
 use crate::order::queue_order;
 use crate::spot::{Place, Spot};
+use crate::walk;
 use farm_types::{Claim, Name};
 use std::alloc::{AllocError, Global};
 use std::cmp::Ordering;
 use std::collections::{BTreeMap, VecDeque};
-use std::ops::Bound;
 
 /// Puts a claim at its spot, and notes where its number stands. A refused growth changes nothing.
 pub fn put(
@@ -50,53 +49,16 @@ pub fn put(
     Ok(())
 }
 
-/// Takes the claim of a number from its spot, if there is one, and gives this spot.
-pub fn take(
-    claims: &mut BTreeMap<Spot, Claim>,
-    places: &mut BTreeMap<u64, Place>,
-    number: u64,
-) -> Option<Spot>
-    ensures taken { TakesOrStays claims.old.entries claims.new.entries places.old.entries
-        places.new.entries number (place_at places.old.entries number) }
-    ensures spot { MatchOption result (claims.new.entries ≡ claims.old.entries)
-        (λ spot. (s : Spot) → claim_at claims.new.entries s
-        ≡ cond (is_eq (spot_cmp spot s)) None (claim_at claims.old.entries s)) }
-{
-    match places.remove(&number) {
-        None => None,
-        Some(place) => {
-            let spot = Spot {
-                queue: place.queue,
-                priority: place.priority,
-                number,
-            };
-            let _claim = claims.remove(&spot);
-            Some(spot)
-        }
-    }
-}
-
 /// The first claim of the queue of a spot that comes after the spot.
-pub fn head(claims: &BTreeMap<Spot, Claim>, last: Spot) -> Option<&Claim>
+fn head(claims: &BTreeMap<Spot, Claim>, last: Spot) -> Option<&Claim>
     ensures { IsFirstBehind claims.now.entries last (option_copied result) }
 {
-    match claims
-        .range((Bound::Excluded(last), Bound::Unbounded))
-        .next()
-    {
-        None => None,
-        Some((spot, claim)) => {
-            if spot.queue == last.queue {
-                Some(claim)
-            } else {
-                None
-            }
-        }
-    }
+    let cursor = walk::cursor_after(claims, last)?;
+    Some(cursor.claim)
 }
 
 /// Whether the queue is looked at.
-pub fn is_seen(rows: &VecDeque<IdleRow>, queue: usize, all: bool) -> bool
+fn is_seen(rows: &VecDeque<IdleRow>, queue: usize, all: bool) -> bool
     ensures { result ≡ (all || queue_open rows.now.items queue) }
 {
     all || idle::is_open(rows, queue)

@@ -5,7 +5,6 @@ ghost use Rattle.std.specs.Option.{option_map_or, option_copied};
 ghost use Rattle.farm_types.specs.Words.{name_tag};
 ghost use Rattle.farm_types.specs.Pick.{fits, check_of, serves, is_free};
 ghost use Rattle.farm_pick.specs.Test.{carries, passes, is_candidate};
-ghost use Rattle.farm_pick.specs.Choice.{candidate_at};
 
 use crate::free::Free;
 use farm_types::{BoardRow, Check, Health, Holder, Name, Tag, TypeRow, Want};
@@ -13,20 +12,14 @@ use farm_types::{BoardRow, Check, Health, Holder, Name, Tag, TypeRow, Want};
 fn is_of_kind(board: &BoardRow, kind: &Option<Name>) -> bool
     ensures { result ≡ option_map_or (λ k. bytes_eq board.now.kind k) kind.now true }
 {
-    match kind {
-        None => true,
-        Some(kind) => board.kind.is(kind),
-    }
+    kind.as_ref().is_none_or(|kind| board.kind.is(kind))
 }
 
 /// Whether the text is the tag that a board of this name carries for it: `name=` and the name.
 fn is_name_tag(text: &str, name: &str) -> bool
     ensures { result ≡ bytes_eq text.now (name_tag name.now) }
 {
-    match text.strip_prefix("name=") {
-        Some(rest) => rest == name,
-        None => false,
-    }
+    text.strip_prefix("name=").is_some_and(|rest| rest == name)
 }
 
 fn is_among(tags: &[Tag], wanted: &str) -> bool
@@ -66,10 +59,7 @@ fn row_of<'a>(types: &'a [TypeRow], kind: &Name) -> Option<&'a TypeRow>
 fn check_of(types: &[TypeRow], kind: &Name) -> Check
     ensures { result ≡ check_of types.now kind.now }
 {
-    match row_of(types, kind) {
-        Some(row) => row.check,
-        None => Check::Never,
-    }
+    row_of(types, kind).map_or(Check::Never, |row| row.check)
 }
 
 /// Whether the board is Good, or Unknown and of a type that isn't checked. Only an Unknown board
@@ -107,20 +97,4 @@ pub fn is_candidate(types: &[TypeRow], want: &Want, free: Free, board: &BoardRow
     ensures { result ≡ is_candidate (passes types.now free) want.now board.now }
 {
     passes(types, free, board) && fits(board, want)
-}
-
-/// Whether there is a board at the place that may be given for the want.
-pub fn is_candidate_at(
-    boards: &[BoardRow],
-    types: &[TypeRow],
-    want: &Want,
-    free: Free,
-    place: usize,
-) -> bool
-    ensures { result ≡ candidate_at boards.now (passes types.now free) want.now place }
-{
-    match boards.get(place) {
-        Some(board) => is_candidate(types, want, free, board),
-        None => false,
-    }
 }

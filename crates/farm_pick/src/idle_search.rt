@@ -63,16 +63,12 @@ fn fitting_place(
     if !idle::is_in(row, queue) {
         return None;
     }
-    match place_of(boards, &row.name, *behind) {
-        Some(place) => {
-            *behind = place + 1;
-            if fit::fits(&boards[place], want) {
-                Some(place)
-            } else {
-                None
-            }
-        }
-        None => None,
+    let place = place_of(boards, &row.name, *behind)?;
+    *behind = place + 1;
+    if fit::fits(&boards[place], want) {
+        Some(place)
+    } else {
+        None
     }
 }
 

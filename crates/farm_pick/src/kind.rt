@@ -1,6 +1,7 @@
 //! The types that have a queue: that of the type at place i is queue i + 1.
 ghost use Rattle.std.specs.Prelude.{List, [], ◌≡◌, ◌≤◌, ◌<◌, ◌==◌, ◌||◌, ◌++◌, ℕ, length};
 ghost use Rattle.std.specs.Prelude.{slice_get, unwrap_or, Some, false, true, IfNone, IfOk, IfSome};
+ghost use Rattle.std.specs.List.{position};
 ghost use Rattle.std.specs.Option.{option_map_or};
 ghost use Rattle.std.specs.Str.{bytes_eq};
 ghost use Rattle.farm_pick.specs.Kept.{kind_at, AreKinds};
@@ -8,29 +9,11 @@ ghost use Rattle.farm_pick.specs.Kept.{kind_at, AreKinds};
 use farm_types::Name;
 use std::alloc::AllocError;
 
-/// Whether a type is at the place.
-fn is_kind(kinds: &[Name], at: usize, kind: &Name) -> bool
-    ensures { result ≡ option_map_or (λ k. bytes_eq k kind.now) (slice_get kinds.now at) false }
-{
-    match kinds.get(at) {
-        None => false,
-        Some(own) => own.is(kind),
-    }
-}
-
 /// The place of a type, if it is there. A scan of 64 types at most.
 fn place_of(kinds: &[Name], kind: &Name) -> Option<usize>
-    ensures found { IfSome result (λ i. (i < length kinds.now)
-        × (slice_get kinds.now i ≡ Some kind.now)) }
-    ensures none { IfNone result ((i : ℕ) → i < length kinds.now
-        → option_map_or (λ k. bytes_eq k kind.now) (slice_get kinds.now i) false ≡ false) }
+    ensures { result ≡ position (λ k. bytes_eq k kind.now) kinds.now }
 {
-    for at in 0..kinds.len() {
-        if is_kind(kinds, at, kind) {
-            return Some(at);
-        }
-    }
-    None
+    kinds.iter().position(|own| own.is(kind))
 }
 
 /// The queue of a type; one that isn't there yet is added behind the others, with a copy of its

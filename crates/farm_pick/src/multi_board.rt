@@ -113,7 +113,7 @@ pub fn put(
     put
 }
 
-/// Takes the claim of a number as `claim_index::take` does, and forgets its spot.
+/// Takes the claim of a number from its spot, if there is one, and forgets the spot.
 pub fn take(
     claims: &mut BTreeMap<Spot, Claim>,
     places: &mut BTreeMap<u64, Place>,
@@ -125,7 +125,13 @@ pub fn take(
     ensures several { AreSeveral claims.old.entries several.old.keys
         → AreSeveral claims.new.entries several.new.keys }
 {
-    if let Some(spot) = claim_index::take(claims, places, number) {
+    if let Some(place) = places.remove(&number) {
+        let spot = Spot {
+            queue: place.queue,
+            priority: place.priority,
+            number,
+        };
+        let _claim = claims.remove(&spot);
         forget(several, spot);
     }
 }
@@ -135,13 +141,9 @@ fn next_spot(several: &BTreeSet<Rank>, last: Spot) -> Option<Spot>
     ensures { IsNextSpot several.now.keys last result }
 {
     let last = Rank { spot: last };
-    match several
-        .range((Bound::Excluded(last), Bound::Unbounded))
-        .next()
-    {
-        None => None,
-        Some(rank) => Some(rank.spot),
-    }
+    let after = (Bound::Excluded(last), Bound::Unbounded);
+    let rank = several.range(after).next()?;
+    Some(rank.spot)
 }
 
 /// The first claim of two boards or more that comes after a spot of queue 0, whatever its own
@@ -155,8 +157,5 @@ pub fn first<'a>(
     requires queue { last.queue ≡ 0 }
     ensures { IsFirstSeveral claims.now.entries last (option_copied result) }
 {
-    match next_spot(several, last) {
-        None => None,
-        Some(spot) => claims.get(&spot),
-    }
+    claims.get(&next_spot(several, last)?)
 }

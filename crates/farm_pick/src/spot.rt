@@ -69,16 +69,13 @@ pub struct Place {
 pub fn last_spot(after: Option<(Priority, u64)>) -> Spot
     ensures { result ≡ last_spot after }
 {
-    match after {
-        None => Spot {
-            queue: 0,
-            priority: ABOVE_ALL,
-            number: 0,
-        },
-        Some((priority, number)) => Spot {
-            queue: 0,
-            priority: priority.get(),
-            number,
-        },
+    let (priority, number) = match after {
+        None => (ABOVE_ALL, 0),
+        Some((priority, number)) => (priority.get(), number),
+    };
+    Spot {
+        queue: 0,
+        priority,
+        number,
     }
 }

@@ -28,20 +28,12 @@ pub struct Cursor<'a> {
 fn step<'a>(mut rest: Range<'a, Spot, Claim>, queue: usize) -> Option<Cursor<'a>>
     ensures { StepsTo rest.entry queue result }
 {
-    match rest.next() {
-        None => None,
-        Some((spot, claim)) => {
-            if spot.queue == queue {
-                Some(Cursor { claim, rest })
-            } else {
-                None
-            }
-        }
-    }
+    let (spot, claim) = rest.next()?;
+    (spot.queue == queue).then_some(Cursor { claim, rest })
 }
 
 /// Where a walk begins in the queue of a spot: at its first claim after the spot.
-fn cursor_after<'a>(claims: &'a BTreeMap<Spot, Claim>, last: Spot) -> Option<Cursor<'a>>
+pub fn cursor_after<'a>(claims: &'a BTreeMap<Spot, Claim>, last: Spot) -> Option<Cursor<'a>>
     ensures { StandsIn claims.now.entries last result }
 {
     step(
@@ -114,10 +106,7 @@ fn first_of(cursors: &[Option<Cursor<'_>>]) -> Option<usize>
     for place in 0..cursors.len() {
         first = earlier(first, place, &cursors[place]);
     }
-    match first {
-        None => None,
-        Some((place, _claim)) => Some(place),
-    }
+    first.map(|(place, _claim)| place)
 }
 
 /// Lends the claims of the open queues that come after a spot, in the order `before`. Contracts see
@@ -179,20 +168,14 @@ impl<'a> Iterator for Walk<'a> {
     ghost remaining = { item_count (λ s. s) };
 
     fn next(&mut self) -> Option<&'a Claim> {
-        match first_of(&self.cursors) {
-            None => None,
-            Some(queue) => match self.cursors[queue].take() {
-                None => None,
-                Some(cursor) => {
-                    self.last = Spot {
-                        queue,
-                        priority: cursor.claim.priority.get(),
-                        number: cursor.claim.number,
-                    };
-                    self.cursors[queue] = step(cursor.rest, queue);
-                    Some(cursor.claim)
-                }
-            },
-        }
+        let queue = first_of(&self.cursors)?;
+        let cursor = self.cursors[queue].take()?;
+        self.last = Spot {
+            queue,
+            priority: cursor.claim.priority.get(),
+            number: cursor.claim.number,
+        };
+        self.cursors[queue] = step(cursor.rest, queue);
+        Some(cursor.claim)
     }
 }

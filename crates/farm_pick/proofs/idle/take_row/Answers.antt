@@ -1,6 +1,6 @@
 use Rattle.std.proofs.Common.{◌≡◌, ◌∙◌, rules}
 use Rattle.std.specs.List.{remove}
-use Rattle.farm_pick.proofs.Taken.{taken_at, none_at}
+use Rattle.farm_pick.proofs.Calls.{taken_at, none_at}
 use Rattle.farm_pick.proofs.idle.take_row.Goals as goal
 
 pub returns-in-Ok : goal.returns-in-Ok

@@ -1,4 +1,4 @@
-use Rattle.farm_pick.proofs.Lists.{least_answers}
+use Rattle.farm_pick.proofs.Answering.{least_answers}
 use Rattle.farm_pick.proofs.laws.least_is_least.Goals as goal
 
 pub returns : goal.returns

@@ -1,4 +1,4 @@
-use Rattle.farm_pick.proofs.Unique.{one_least as lemma}
+use Rattle.farm_pick.proofs.Answering.{one_least as lemma}
 use Rattle.farm_pick.proofs.laws.one_least.Goals as goal
 
 pub returns : goal.returns

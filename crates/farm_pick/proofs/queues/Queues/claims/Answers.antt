@@ -1,4 +1,4 @@
-use Rattle.farm_pick.proofs.Sorting.{claims_seen}
+use Rattle.farm_pick.proofs.Headed.{claims_seen}
 use Rattle.farm_pick.proofs.queues.Queues.claims.Goals as goal
 
 pub returns : goal.returns
