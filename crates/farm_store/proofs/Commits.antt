@@ -1,11 +1,10 @@
 -- What a transaction begins with, and what its commit leaves.
-use Rattle.std.proofs.Common.{refl, inl, inr, ◌≡◌, false, sym, ap, subst, ◌∙◌}
+use Rattle.std.proofs.Common.{refl, inl, inr, ◌≡◌, false, sym, ap, subst, ◌∙◌, true}
 use Rattle.sqlite.specs.Effect.{Database}
 use Rattle.sqlite.specs.Held.{Held, state}
 use Rattle.sqlite.specs.State.{State, HasCleanDisk, IsRolledBack, Shows, Survives}
 use Rattle.sqlite.specs.Tree.{Trees}
 use Rattle.sqlite_trees.specs.declared.store.Store.{Ghosts}
-use Rattle.std.proofs.Common.{true}
 use Rattle.farm_store.specs.Columns.{TableRows}
 use Rattle.farm_store.specs.Holds.{Holds, IsInside, ShowsTables, Stands}
 use Rattle.farm_store.specs.Reading.{CommitShows}

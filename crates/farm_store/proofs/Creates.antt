@@ -27,14 +27,7 @@ use Rattle.farm_store.specs.Places.{TableSlot, of_types, of_boards, of_jobs, of_
 use Rattle.farm_store.specs.Stored.{ListsRows}
 use Rattle.sqlite_catalog.specs.Listing.{AreListed}
 use Rattle.sqlite_trees.specs.Objects.{catalog_tree}
-use Rattle.std.proofs.Common.{Ordering}
-
-went : {B E R : Type 0} {b : B} {Stops : E → Type 0} → ((stop : E) × Stops stop × (Ok b ≡ Err stop)) ⊎ R → R
-went (inl stopped) = absurd (let e = stopped.2 in cc)
-went (inr on) = on
-
-same_value : {B E : Type 0} {a b : B} → ◌≡◌ {A = Result B E} (Ok a) (Ok b) → a ≡ b
-same_value e = cc
+use Rattle.farm_store.proofs.Replace.{went, same_value}
 
 pub record Makes (old new : State) (schema : Schema) (table : Table) : Type 0 where
   pub is : new.now.schema ≡ created schema table
@@ -42,9 +35,9 @@ pub record Makes (old new : State) (schema : Schema) (table : Table) : Type 0 wh
   pub others : KeepsRows schema.tables old.now.trees new.now.trees
   pub sound : IsDatabase new.now
 
-makes : (old new : State) (text : List ℕ) (s : Schema) (t : Table) → command_of (understood s text) ≡ CreateTable → statement_of text (understood s text) ≡ text → IsPlain (understood s text)
-    → table_defined_by text ≡ Ok t → lacks_sequence (created s t) ≡ false → old.now.schema ≡ s → HasRun text old new → Makes old new s t
-makes old new text s t is whole plain defined no_sequence has ran =
+makes : (old new : State) (text : List ℕ) (s : Schema) (t : Table) → old.now.schema ≡ s → HasRun text old new → command_of (understood s text) ≡ CreateTable → statement_of text (understood s text) ≡ text → IsPlain (understood s text)
+    → table_defined_by text ≡ Ok t → lacks_sequence (created s t) ≡ false → Makes old new s t
+makes old new text s t has ran is whole plain defined no_sequence =
     let w = subst (λ u. Writes old new Rattle.std.proofs.Common.None CreateTable u [] ran.0) whole (runs_as text [] old new s has CreateTable is plain ran.0 ran.1) in
     let all = went w.changed in
     let first = went all.1 in
@@ -61,61 +54,19 @@ makes old new text s t is whole plain defined no_sequence has ran =
       sound = w.sound;
     }
 
-abbrev pub schema_1 : Schema
-schema_1 = created no_schema types_table
-
-pub makes_types : (old new : State) → old.now.schema ≡ no_schema → HasRun MAKE_TYPES.now old new → Makes old new no_schema types_table
-unfolding understood everything
-makes_types old new has ran = makes old new MAKE_TYPES.now no_schema types_table refl refl (refl, refl) refl refl has ran
-
-abbrev pub schema_2 : Schema
-schema_2 = created schema_1 boards_table
-
-pub makes_boards : (old new : State) → old.now.schema ≡ schema_1 → HasRun MAKE_BOARDS.now old new → Makes old new schema_1 boards_table
-unfolding understood everything
-makes_boards old new has ran = makes old new MAKE_BOARDS.now schema_1 boards_table refl refl (refl, refl) refl refl has ran
-
-abbrev pub schema_3 : Schema
-schema_3 = created schema_2 jobs_table
-
-pub makes_jobs : (old new : State) → old.now.schema ≡ schema_2 → HasRun MAKE_JOBS.now old new → Makes old new schema_2 jobs_table
-unfolding understood everything
-makes_jobs old new has ran = makes old new MAKE_JOBS.now schema_2 jobs_table refl refl (refl, refl) refl refl has ran
-
-abbrev pub schema_4 : Schema
-schema_4 = created schema_3 reservations_table
-
-pub makes_reservations : (old new : State) → old.now.schema ≡ schema_3 → HasRun MAKE_RESERVATIONS.now old new → Makes old new schema_3 reservations_table
-unfolding understood everything
-makes_reservations old new has ran = makes old new MAKE_RESERVATIONS.now schema_3 reservations_table refl refl (refl, refl) refl refl has ran
-
-abbrev pub schema_5 : Schema
-schema_5 = created schema_4 kept_table
-
-pub makes_kept : (old new : State) → old.now.schema ≡ schema_4 → HasRun MAKE_KEPT.now old new → Makes old new schema_4 kept_table
-unfolding understood everything
-makes_kept old new has ran = makes old new MAKE_KEPT.now schema_4 kept_table refl refl (refl, refl) refl refl has ran
-
-pub makes_meta : (old new : State) → old.now.schema ≡ schema_5 → HasRun MAKE_META.now old new → Makes old new schema_5 meta_table
-unfolding understood everything
-makes_meta old new has ran = makes old new MAKE_META.now schema_5 meta_table refl refl (refl, refl) refl refl has ran
-
-no_rows_there : (cmp : Row → Row → Ordering) (show : Row → Row) (width : ℕ) (raws : List Row) → raws ≡ [] → ListsRows cmp show width raws []
-no_rows_there cmp show width [] is = record { ordered = tt; keyed = tt; apart = tt; strict = tt; wide = tt; sound = λ r none. absurd none; complete = λ raw none. absurd none }
-no_rows_there cmp show width (r ∷ raws) is = absurd (let e = is in cc)
-
 none_at : (p : TableSlot) (db : Trees) → db p.tree ≡ [] → ListsRows p.cmp p.show p.width (db p.tree) []
-none_at p db is = no_rows_there p.cmp p.show p.width (db p.tree) is
+none_at p db is = subst (λ raws. ListsRows p.cmp p.show p.width raws []) (sym is) (record { ordered = tt; keyed = tt; apart = tt; strict = tt; wide = tt; sound = λ r none. absurd none; complete = λ raw none. absurd none })
 
 -- the six tables are made, and have no rows
 pub makes_all : (a b c d e f h : State) → a.now.schema ≡ no_schema → HasRun MAKE_TYPES.now a b → HasRun MAKE_BOARDS.now b c → HasRun MAKE_JOBS.now c d → HasRun MAKE_RESERVATIONS.now d e → HasRun MAKE_KEPT.now e f → HasRun MAKE_META.now f h → IsInside h no_rows
+unfolding understood everything
 makes_all a b c d e f h has one two three four five six =
-    let p = makes_types a b has one in
-    let q = makes_boards b c p.is two in
-    let r = makes_jobs c d q.is three in
-    let s = makes_reservations d e r.is four in
-    let t = makes_kept e f s.is five in
-    let u = makes_meta f h t.is six in
+    let p = makes a b MAKE_TYPES.now no_schema types_table has one refl refl (refl, refl) refl refl in
+    let q = makes b c MAKE_BOARDS.now _ boards_table p.is two refl refl (refl, refl) refl refl in
+    let r = makes c d MAKE_JOBS.now _ jobs_table q.is three refl refl (refl, refl) refl refl in
+    let s = makes d e MAKE_RESERVATIONS.now _ reservations_table r.is four refl refl (refl, refl) refl refl in
+    let t = makes e f MAKE_KEPT.now _ kept_table s.is five refl refl (refl, refl) refl refl in
+    let u = makes f h MAKE_META.now _ meta_table t.is six refl refl (refl, refl) refl refl in
     let types : h.now.trees 0 ≡ [] = u.others.0 ∙ t.others.0 ∙ s.others.0 ∙ r.others.0 ∙ q.others.0 ∙ p.empty in
     let boards : h.now.trees 2 ≡ [] = u.others.1.0 ∙ t.others.1.0 ∙ s.others.1.0 ∙ r.others.1.0 ∙ q.empty in
     let jobs : h.now.trees 4 ≡ [] = u.others.1.1.0 ∙ t.others.1.1.0 ∙ s.others.1.1.0 ∙ r.empty in
@@ -146,9 +97,6 @@ taken old new text s refused has ran =
     let no : true ≡ false = ap is_ok known ∙ refused in cc
 
 -- the first table is not made over the farm's
-pub types_taken : (old new : State) → old.now.schema ≡ farm_schema → HasRun MAKE_TYPES.now old new → ⊥
-unfolding understood everything
-types_taken old new has ran = taken old new MAKE_TYPES.now farm_schema refl has ran
-
 pub tables_taken : (old new : State) (T : TableRows) → IsInside old T → HasRun MAKE_TYPES.now old new → ⊥
-tables_taken old new T at ran = types_taken old new (at.shown ran.2).schema ran
+unfolding understood everything
+tables_taken old new T at ran = taken old new MAKE_TYPES.now farm_schema refl (at.shown ran.2).schema ran

@@ -30,7 +30,7 @@ first_total = on_total (λ (r : Row). column r 0) value_cmp_total
 pub two_total : IsTotalOrder by_two
 two_total = then_total (on_total (λ (r : Row). column r 0) value_cmp_total) (on_total (λ (r : Row). column r 1) value_cmp_total)
 
-from_test : (b : Bool) → is_true (from_truth (Some b)) ≡ b
+pub from_test : (b : Bool) → is_true (from_truth (Some b)) ≡ b
 from_test true = refl
 from_test false = refl
 
@@ -54,7 +54,7 @@ equal_is_tied (Real x) b q = both_there (Real x) b refl q
 equal_is_tied (Text t) b q = both_there (Text t) b refl q
 equal_is_tied (Blob t) b q = both_there (Blob t) b refl q
 
-and_true : (b : Bool) → (b && true) ≡ b
+pub and_true : (b : Bool) → (b && true) ≡ b
 and_true true = refl
 and_true false = refl
 

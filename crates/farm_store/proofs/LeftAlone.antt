@@ -3,7 +3,7 @@ use Rattle.std.proofs.Common.{inl, inr, ◌≡◌, ◌⊎◌, ◌++◌, ℕ, fal
 use Rattle.sqlite.specs.Clock.{timed}
 use Rattle.sqlite.specs.Effect.{Database}
 use Rattle.sqlite.specs.Order.{Row}
-use Rattle.sqlite.specs.State.{State, HasCleanDisk, Begins, Fails, FailsToQuery, FailsToShow, IsNotRun, IsRolledBack, IsUnchanged, Shown, Survives}
+use Rattle.sqlite.specs.State.{State, HasCleanDisk, Begins, FailsToQuery, FailsToShow, IsNotRun, IsRolledBack, IsUnchanged, Shown, Survives}
 use Rattle.sqlite.specs.Tree.{Trees}
 use Rattle.sqlite.specs.declared.error.Error.{Error}
 use Rattle.sqlite_schema.specs.declared.command.Returning.{Returning}
@@ -33,11 +33,6 @@ failed_left sql params old new e (inr h) = by h.0.returning h.2
     by : (o : Option Returning) → FailsToShow old new sql h.0 (timed params h.0.formats h.1.now) e o → IsLeft old new
     by None it = inl it.3
     by (Some what) it = elim it [ inl still ↦ inl still.1 | inr undone ↦ inr undone.3 ]
-
--- a step to the next row that failed
-pub stopped_left : (old new : State) (e : Error) → Fails old new ⊥ e ⊎ IsUnchanged old new → IsLeft old new
-stopped_left old new e (inl h) = inr h.3
-stopped_left old new e (inr h) = inl h
 
 stands : (old new : State) (T : TableRows) → IsLeft old new → new.in_transaction ≡ false → ((db : Trees) → new.may_leave db → old.may_leave db) → Stands old T → Stands new T
 stands old new T (inl same) auto left at = record {

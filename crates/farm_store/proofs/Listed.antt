@@ -1,5 +1,5 @@
 -- A list of objects lists one schema at most.
-use Rattle.std.proofs.Common.{MatchBool, Option, ◌≡◌, ◌≢◌, ◌⊎◌, inl, inr, ℕ, pos, ◌+◌, ◌<◌, List, [], ◌∷◌, ◌++◌, codes, filter, slice_get, slice_index_or, Bool, true, false, None, Some, Ok, refl, sym, ap, subst, ◌∙◌, arith}
+use Rattle.std.proofs.Common.{MatchBool, Option, ◌≡◌, ◌≢◌, ◌⊎◌, inl, inr, ℕ, pos, ◌+◌, ◌<◌, List, [], ◌∷◌, ◌++◌, codes, filter, slice_get, slice_index_or, Bool, true, false, None, Some, Ok, refl, sym, ap, subst, ◌∙◌, arith, zero, suc}
 use Rattle.std.specs.Fmt.{decimal}
 use Rattle.std.specs.List.{AllZip}
 use Rattle.std.proofs.lemmas.Fmt.{decimal_injective}
@@ -18,7 +18,6 @@ use Rattle.sqlite_rules.specs.Lists.{Has}
 use Rattle.sqlite_catalog.specs.Listing.{AreListed, IsAside, IsDefined, IsForeign, IsIndexRow, IsReadable, IsTableRow, IsViewRow, automatic, is_table_row, is_index_row, is_view_row}
 use Rattle.sqlite_resolve.specs.Compile.{table_defined_by}
 use Rattle.sqlite_rules.proofs.ListLemmas.{all_has}
-use Rattle.std.proofs.Common.{zero, suc}
 use Rattle.sqlite_catalog.proofs.StepLemmas.{same_itself}
 use Rattle.sqlite.specs.Effect.{Database}
 use Rattle.sqlite.specs.State.{State, Opens, IsLive}

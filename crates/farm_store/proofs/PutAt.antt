@@ -15,7 +15,6 @@ use Rattle.farm_store.specs.Places.{TableSlot, IsTableSlot, HoldsAt, put_at, of_
 use Rattle.farm_store.specs.Schema.{farm_schema}
 use Rattle.farm_store.specs.Stored.{ListsRows}
 use Rattle.farm_store.proofs.Keys.{first_total, two_total}
-use Rattle.farm_store.proofs.OneRow.{Upserted}
 
 abbrev places : List TableSlot
 places = of_types ∷ of_boards ∷ of_jobs ∷ of_reservations ∷ of_kept ∷ of_meta ∷ []
@@ -123,15 +122,6 @@ module _ (p : TableSlot) (known : IsKnown p) (old new : State) (T : TableRows) (
           holds = record { listed = did.listed; types = now.0; boards = now.1.0; jobs = now.1.1.0; reservations = now.1.1.1.0; kept = now.1.1.1.1.0; meta = now.1.1.1.1.1.0 };
         };
       }
-
-pub stands_put : (p : TableSlot) (known : IsKnown p) (old new : State) (T : TableRows) (x : Row) → Upserted p old new x → ShowsTables old.now T → IsTrue new.in_transaction → IsInside new (put_at p T (x ∷ []))
-stands_put p known old new T x did at =
-    stands_rewritten p known old new T (put p.cmp (p.rows T) x) (record {
-      schema = did.schema;
-      listed = did.listed;
-      others = did.others;
-      lists = did.lists (p.rows T) (known.find old.now.trees T at.holds);
-    }) at
 
 -- ---- one row after another
 

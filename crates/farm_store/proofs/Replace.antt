@@ -1,7 +1,9 @@
--- What INSERT OR REPLACE of one row does.
-use Rattle.std.proofs.Common.{◌≡◌, ◌≢◌, ◌⊎◌, inl, inr, ℕ, ℤ, List, [], ◌∷◌, ◌++◌, length, ◌/◌, Bool, true, false, not, cond, slice_get, Option, Some, None, Ok, Err, Result, refl, sym, ap, subst, ◌∙◌}
+-- What a row that is put into one table makes of it: it stands in the place of those that conflict with it.
+use Rattle.std.proofs.Common.{◌≡◌, ◌≢◌, ◌⊎◌, inl, inr, ℕ, ℤ, List, [], ◌∷◌, Bool, true, false, not, cond, filter, Option, None, Ok, Err, Result, Ordering, Less, Equal, Greater, is_eq, refl, sym, ap, subst, ◌∙◌}
+use Rattle.std.specs.Cmp.{IsTotalOrder}
 use Rattle.std.specs.List.{AllByRecursion}
-use Rattle.std.proofs.lemmas.Bool.{cases_Bool, not-true}
+use Rattle.std.specs.Ordering.{match_ordering}
+use Rattle.std.proofs.lemmas.Bool.{cases_Bool, not-true, false_from_ne_true}
 use Rattle.std.proofs.lemmas.Cmp.{tied_itself}
 use Rattle.sqlite_value.specs.declared.keys.Order.{Order}
 use Rattle.sqlite_value.proofs.OrderLemmas.{value_cmp_total}
@@ -10,39 +12,33 @@ use Rattle.sqlite.specs.declared.types.Value.TheVariants.{Null, Int}
 use Rattle.sqlite.specs.Order.{Row}
 use Rattle.sqlite_value.specs.Order.{value_cmp}
 use Rattle.sqlite.specs.Tree.{Trees}
-use Rattle.sqlite_trees.specs.Tree.{rowid, has_rowid, without_rowid, IsTable, IsAscending}
+use Rattle.sqlite_trees.specs.Tree.{rowid, has_rowid, without_rowid, IsTable, IsAscending, put_row}
 use Rattle.sqlite_trees.specs.View.{is_int}
+use Rattle.sqlite_trees.proofs.TreeLemmas.{IsTable-put_row, all-put_row}
 use Rattle.sqlite.specs.Ops.{unary}
 use Rattle.sqlite.specs.Table.{Table}
-use Rattle.sqlite.specs.Schema.{Schema}
 use Rattle.sqlite_schema.specs.declared.schema.Column.{Column}
+use Rattle.sqlite_schema.specs.declared.schema.Keys.{Keys}
 use Rattle.sqlite.specs.Kind.TheVariants.{Integer}
 use Rattle.sqlite_schema.specs.declared.command.Conflict.TheVariants.{Replace}
-use Rattle.sqlite.specs.Source.TheVariants.{Values}
-use Rattle.sqlite.specs.Term.{Term}
 use Rattle.sqlite_rules.specs.Lists.{Has}
 use Rattle.sqlite_rules.specs.Keys.{conflicts, AreConflicts}
 use Rattle.sqlite.specs.Cast.{cast, cast_row}
 use Rattle.sqlite_rules.specs.Calls.{ids_of}
 use Rattle.sqlite_rules.specs.Action.{works}
-use Rattle.sqlite.specs.Rowids.TheVariants.{Chosen, Given}
-use Rattle.sqlite.specs.Edit.{edit_of, are_fresh, with_rowid, without_all, put_all, row_at, id_in, taken_by}
-use Rattle.sqlite.specs.Effect.{Database, value_rows}
-use Rattle.sqlite.specs.Does.{Tally, Does, AtPlace, OnRows}
+use Rattle.sqlite.specs.Rowids.TheVariants.{Given}
+use Rattle.sqlite.specs.Edit.{edit_of, are_fresh, without_all, put_all, row_at, id_in, taken_by}
 use Rattle.sqlite.specs.declared.run.Mode.{Mode}
-use Rattle.sqlite_rules.specs.declared.error.Refusal.{Refusal}
-use Rattle.sqlite.specs.Command.TheVariants.{InsertOr}
-use Rattle.sqlite.specs.Rows.{Task, count_of, Written, nothing, Puts, Clears, Judged, Tries, TriesEach, InsertsOr, mended}
+use Rattle.sqlite.specs.Rows.{Task, Written, Puts, Clears}
 use Rattle.sqlite.proofs.Callers.{one_step}
 use Rattle.sqlite_rules.proofs.ListLemmas.{all_has, all_from, has_filtered}
 use Rattle.sqlite_rules.proofs.ProbeLemmas.{has_mapped, mapped_has}
 use Rattle.sqlite_rules.proofs.TableLemmas.{int_is, put_all_has, put_all_keeps, put_all_adds, without_all_has}
 use Rattle.sqlite_rules.proofs.PlaceLemmas.{left_or_taken, row_at_is}
-use Rattle.farm_store.specs.Schema.{strict_table}
-use Rattle.farm_store.specs.Replaces.{Replaces}
-use Rattle.farm_store.specs.Stored.{HasInt, Differ}
-use Rattle.sqlite_trees.proofs.TreeLemmas.{IsTable-put_row, all-put_row}
-use Rattle.std.proofs.Common.{filter, Less}
+use Rattle.farm_types.specs.Table.{put}
+use Rattle.farm_store.specs.Schema.{farm_schema, strict_table}
+use Rattle.farm_store.specs.Stored.{HasInt, Differ, IsWide, ListsRows}
+use Rattle.farm_store.proofs.Sorted.{all_put, put_strict, put_adds, put_keeps, put_has}
 
 either : (b : Bool) (x : Value) → cond b x x ≡ x
 either true x = refl
@@ -95,22 +91,57 @@ pub left_table : (ids : List ℤ) (rows : List Row) → IsTable rows → AllByRe
 left_table [] rows up all = (up, all)
 left_table (id ∷ ids) rows up all = left_table ids (without_rowid id rows) (filter_table (λ r. not (has_rowid id r)) rows up) (filter_all HasInt (λ r. not (has_rowid id r)) rows all)
 
-module _ (show : Row → Row) (limit : Option ℕ) (mode : Mode) (schema : Schema) (name : List ℕ) (tree : ℕ) (columns : List Column) (key : Option ℕ) (primary : List ℕ) (uniques : List (List ℕ)) (orders : List Order)
-    (still : (olds news : List Row) → works schema mode.keys 0 tree olds news ≡ []) (params : Row) where
+-- of rows that show different columns, those that show the same are one
+pub apart_same : (show : Row → Row) (raws : List Row) (a b : Row) → IsAscending (Differ show) raws → Has raws a → Has raws b → show a ≡ show b → a ≡ b
+apart_same show [] a b up h k same = absurd h
+apart_same show (r ∷ raws) a b up (inl h) (inl k) same = h ∙ sym k
+apart_same show (r ∷ raws) a b up (inl h) (inr k) same = absurd (all_has (Differ show r) raws b up.0 k (ap show (sym h) ∙ same))
+apart_same show (r ∷ raws) a b up (inr h) (inl k) same = absurd (all_has (Differ show r) raws a up.0 h (ap show (sym k) ∙ sym same))
+apart_same show (r ∷ raws) a b up (inr h) (inr k) same = apart_same show raws a b up.1 h k same
+
+-- a row that differs from each is put among them
+put_apart : (show : Row → Row) (new : Row) (rows : List Row) → IsAscending (Differ show) rows → AllByRecursion (Differ show new) rows → IsAscending (Differ show) (put_row new rows)
+put_apart show new [] up other = (tt, tt)
+put_apart show new (r ∷ rows) up other = elim (value_cmp (rowid r) (rowid new)) as (λ o. IsAscending (Differ show) (match_ordering o (r ∷ put_row new rows) (new ∷ rows) (new ∷ r ∷ rows))) [
+  | Less ↦ (all-put_row (Differ show r) new rows (λ e. other.0 (sym e)) up.0, put_apart show new rows up.1 other.1)
+  | Equal ↦ (other.1, up.1)
+  | Greater ↦ (other, up)
+]
+
+-- one table has these rows now, and the others are as they were
+pub record TableBecomes (cmp : Row → Row → Ordering) (show : Row → Row) (width tree : ℕ) (db : Trees) (rows : List Row) (next : Trees) : Type 0 where
+  pub lists : ListsRows cmp show width (next tree) rows
+  pub others : AllByRecursion (λ t. t.tree ≢ tree → next t.tree ≡ db t.tree) farm_schema.tables
+
+pub eq_is : (o : Ordering) → is_eq o ≡ true → o ≡ Equal
+eq_is Less h = absurd (cc)
+eq_is Equal h = refl
+eq_is Greater h = absurd (cc)
+
+module _ {cmp : Row → Row → Ordering} (total : IsTotalOrder cmp) (show : Row → Row) (width : ℕ) (limit : Option ℕ) (mode : Mode) (name : List ℕ) (tree : ℕ) (columns : List Column) (key : Option ℕ) (primary : List ℕ) (uniques : List (List ℕ)) (orders : List Order)
+    (still : (keys : Keys) (olds news : List Row) → works farm_schema keys 0 tree olds news ≡ []) (params : Row) where
   abbrev table : Table
   table = strict_table name tree columns key primary uniques orders
 
   abbrev task : Task
-  task = record { limit = limit; keys = mode.keys; schema = schema; table = table; params = params }
+  task = record { limit = limit; keys = mode.keys; schema = farm_schema; table = table; params = params }
 
-  module _ (db : Trees) (new : Row) (ordered : IsTable (db tree)) (all_keyed : AllByRecursion HasInt (db tree)) (own : HasInt new) (stays : cast_row table new ≡ new) where
+  module _ (db : Trees) (rows : List Row) (it : ListsRows cmp show width (db tree) rows) (new x : Row) (own : HasInt new) (stays : cast_row table new ≡ new) (is : show new ≡ x) (wide : IsWide width x)
+      -- a row conflicts with the new one where it has its key
+      (clash : (raw : Row) → Has (db tree) raw → conflicts None farm_schema.indexes table new raw ≡ is_eq (cmp (show raw) x)) where
     keyed : (r : Row) → Has (db tree) r → is_int (rowid r) ≡ true
-    keyed r h = all_has HasInt (db tree) r all_keyed h
+    keyed r h = all_has HasInt (db tree) r it.keyed h
+
+    tied : (raw : Row) → Has (db tree) raw → conflicts None farm_schema.indexes table new raw ≡ true → cmp (show raw) x ≡ Equal
+    tied raw h clashes = eq_is _ (sym (clash raw h) ∙ clashes)
+
+    apart : (raw : Row) → Has (db tree) raw → conflicts None farm_schema.indexes table new raw ≡ false → cmp (show raw) x ≢ Equal
+    apart raw h free tie = let e = sym (clash raw h ∙ ap is_eq tie) ∙ free in cc
 
     -- the rows that conflict are gone, and no other
-    cleared : (found : List Row) → AreConflicts None schema.indexes table (db tree) new found → (r : Row) → Has (db tree) r → conflicts None schema.indexes table new r ≡ false
+    cleared : (found : List Row) → AreConflicts None farm_schema.indexes table (db tree) new found → (r : Row) → Has (db tree) r → conflicts None farm_schema.indexes table new r ≡ false
         → Has (without_all (db tree) (ids_of found)) r
-    cleared found are r h free = elim (left_or_taken (db tree) (ids_of found) r ordered h) [
+    cleared found are r h free = elim (left_or_taken (db tree) (ids_of found) r it.ordered h) [
       | inl left ↦ left
       | inr taken ↦
           let m = has_mapped (row_at (db tree)) (ids_of found) r taken in
@@ -118,13 +149,13 @@ module _ (show : Row → Row) (limit : Option ℕ) (mode : Mode) (schema : Schem
           let s = are.sound i.0 i.1 in
           let id : m.0 ≡ id_in (rowid s.0) = i.2 ∙ ap (λ x. id_in (rowid x)) s.3 in
           let own : has_rowid m.0 s.0 ≡ true = subst (λ k. has_rowid k s.0 ≡ true) (sym id) (has_own s.0 (keyed s.0 s.1)) in
-          let same : r ≡ s.0 = m.2 ∙ row_at_is (db tree) m.0 s.0 ordered s.1 own in
-          let clash : conflicts None schema.indexes table new r ≡ true = subst (λ x. conflicts None schema.indexes table new x ≡ true) (sym same) s.2 in
+          let same : r ≡ s.0 = m.2 ∙ row_at_is (db tree) m.0 s.0 it.ordered s.1 own in
+          let clash : conflicts None farm_schema.indexes table new r ≡ true = subst (λ x. conflicts None farm_schema.indexes table new x ≡ true) (sym same) s.2 in
           absurd (let e = sym clash ∙ free in cc)
     ]
 
-    free_if_left : (found : List Row) → AreConflicts None schema.indexes table (db tree) new found → (r : Row) → Has (without_all (db tree) (ids_of found)) r → conflicts None schema.indexes table new r ≡ false
-    free_if_left found are r left = elim (cases_Bool (conflicts None schema.indexes table new r)) [
+    free_if_left : (found : List Row) → AreConflicts None farm_schema.indexes table (db tree) new found → (r : Row) → Has (without_all (db tree) (ids_of found)) r → conflicts None farm_schema.indexes table new r ≡ false
+    free_if_left found are r left = elim (cases_Bool (conflicts None farm_schema.indexes table new r)) [
       | inl clash ↦
           let h = without_all_has (ids_of found) (db tree) r left in
           let id = mapped_has (λ x. id_in (rowid x)) found (rowid r ∷ []) (are.complete r h clash) in
@@ -134,82 +165,58 @@ module _ (show : Row → Row) (limit : Option ℕ) (mode : Mode) (schema : Schem
     ]
 
     puts_is : (mid : Trees) (w : Written) → Puts task new mid (Ok w)
-        → (are_fresh (mid tree) (new ∷ []) ≡ true) × (w.trees tree ≡ put_all (mid tree) (new ∷ [])) × AllByRecursion (λ t. t.tree ≢ tree → w.trees t.tree ≡ mid t.tree) schema.tables
+        → (are_fresh (mid tree) (new ∷ []) ≡ true) × (w.trees tree ≡ put_all (mid tree) (new ∷ [])) × AllByRecursion (λ t. t.tree ≢ tree → w.trees t.tree ≡ mid t.tree) farm_schema.tables
     puts_is mid w h =
         let done = went h in
         let edit = edit_of mid table [] Given 0 (new ∷ []) in
-        let applied = one_step schema mode.keys mid done.0 edit (still (taken_by mid edit) edit.news) done.1 in
+        let applied = one_step farm_schema mode.keys mid done.0 edit (still mode.keys (taken_by mid edit) edit.news) done.1 in
         let is : done.0 ≡ w.trees = sym (ap (λ (it : Written). it.trees) (same_value done.2)) in (
           subst (λ r. are_fresh (mid tree) (r ∷ []) ≡ true) stays applied.fresh,
           subst (λ (t : Trees). t tree ≡ put_all (mid tree) (new ∷ [])) is (applied.rows ∙ ap (λ r. put_all (mid tree) (r ∷ [])) stays),
-          subst (λ (u : Trees). AllByRecursion (λ t. t.tree ≢ tree → u t.tree ≡ mid t.tree) schema.tables) is applied.tables,
+          subst (λ (u : Trees). AllByRecursion (λ t. t.tree ≢ tree → u t.tree ≡ mid t.tree) farm_schema.tables) is applied.tables,
         )
 
     -- the row is put where those that conflict with it were taken out
-    pub from_put : (found : List Row) → AreConflicts None schema.indexes table (db tree) new found → (next : Trees) → are_fresh (without_all (db tree) (ids_of found)) (new ∷ []) ≡ true
-        → next tree ≡ put_all (without_all (db tree) (ids_of found)) (new ∷ []) → AllByRecursion (λ t. t.tree ≢ tree → next t.tree ≡ db t.tree) schema.tables → Replaces show schema table new db next
-    from_put found are next fresh put others =
+    pub from_put : (found : List Row) → AreConflicts None farm_schema.indexes table (db tree) new found → (next : Trees) → are_fresh (without_all (db tree) (ids_of found)) (new ∷ []) ≡ true
+        → next tree ≡ put_all (without_all (db tree) (ids_of found)) (new ∷ []) → AllByRecursion (λ t. t.tree ≢ tree → next t.tree ≡ db t.tree) farm_schema.tables → TableBecomes cmp show width tree db (put cmp rows x) next
+    from_put found are next fresh written others =
         let left = without_all (db tree) (ids_of found) in
+        let before = left_table (ids_of found) (db tree) it.ordered it.keyed in
+        let free = λ (r : Row) (h : Has left r). apart r (without_all_has (ids_of found) (db tree) r h) (free_if_left found are r h) in
         record {
-          added = subst (λ l. Has l new) (sym put) (put_all_adds (new ∷ []) left new fresh (inl refl));
-          kept = λ r was free. subst (λ l. Has l r) (sym put) (put_all_keeps (new ∷ []) left r fresh (cleared found are r was free));
-          rest = λ r there. elim (put_all_has (new ∷ []) left r (subst (λ l. Has l r) put there)) [
-            | inl fresh ↦ inl (elim fresh [ inl same ↦ same | inr none ↦ absurd none ])
-            | inr old ↦ inr (without_all_has (ids_of found) (db tree) r old, free_if_left found are r old)
-          ];
-          left = left;
-          is = put;
-          free = λ r h. (without_all_has (ids_of found) (db tree) r h, free_if_left found are r h);
-          apart = λ up. left_apart (Differ show) (ids_of found) (db tree) up;
-          ordered = subst IsTable (sym put) (IsTable-put_row new left (left_table (ids_of found) (db tree) ordered all_keyed).0);
-          keyed = subst (AllByRecursion HasInt) (sym put) (all-put_row HasInt new left own (left_table (ids_of found) (db tree) ordered all_keyed).1);
           others = others;
+          lists = subst (λ l. ListsRows cmp show width l (put cmp rows x)) (sym written) (record {
+            ordered = IsTable-put_row new left before.0;
+            keyed = all-put_row HasInt new left own before.1;
+            apart = put_apart show new left (left_apart (Differ show) (ids_of found) (db tree) it.apart) (all_from _ left (λ r h same. free r h (ap (λ y. cmp y x) (sym same ∙ is) ∙ tied_itself total x)));
+            strict = put_strict total x rows it.strict;
+            wide = all_put cmp (IsWide width) x rows wide it.wide;
+            sound = λ r h. elim (put_has total x rows r it.strict h) [
+              | inl same ↦ (new, put_all_adds (new ∷ []) left new fresh (inl refl), is ∙ sym same)
+              | inr was ↦
+                  let raw = it.sound r was.0 in
+                  let other = false_from_ne_true _ (λ clashes. was.1 (ap (λ y. cmp y x) (sym raw.2) ∙ tied raw.0 raw.1 clashes)) in
+                  (raw.0, put_all_keeps (new ∷ []) left raw.0 fresh (cleared found are raw.0 raw.1 other), raw.2)
+            ];
+            complete = λ raw h. elim (put_all_has (new ∷ []) left raw h) [
+              | inl wrote ↦ elim wrote [ inl same ↦ subst (Has (put cmp rows x)) (sym (ap show same ∙ is)) (put_adds total x rows) | inr none ↦ absurd none ]
+              | inr old ↦ put_keeps total x rows (show raw) (it.complete raw (without_all_has (ids_of found) (db tree) raw old)) (free raw old)
+            ];
+          });
         }
 
-    from_mid : (found : List Row) → AreConflicts None schema.indexes table (db tree) new found → (mid : Trees) → mid tree ≡ without_all (db tree) (ids_of found)
-        → AllByRecursion (λ t. t.tree ≢ tree → mid t.tree ≡ db t.tree) schema.tables → (w : Written) → Puts task new mid (Ok w) → Replaces show schema table new db w.trees
+    from_mid : (found : List Row) → AreConflicts None farm_schema.indexes table (db tree) new found → (mid : Trees) → mid tree ≡ without_all (db tree) (ids_of found)
+        → AllByRecursion (λ t. t.tree ≢ tree → mid t.tree ≡ db t.tree) farm_schema.tables → (w : Written) → Puts task new mid (Ok w) → TableBecomes cmp show width tree db (put cmp rows x) w.trees
     from_mid found are mid left others w h =
-        let put = puts_is mid w h in
-        from_put found are w.trees (subst (λ l. are_fresh l (new ∷ []) ≡ true) left put.0) (put.1 ∙ ap (λ l. put_all l (new ∷ [])) left)
-        (all_from _ schema.tables (λ t known other. all_has _ schema.tables t put.2 known other ∙ all_has _ schema.tables t others known other))
+        let done = puts_is mid w h in
+        from_put found are w.trees (subst (λ l. are_fresh l (new ∷ []) ≡ true) left done.0) (done.1 ∙ ap (λ l. put_all l (new ∷ [])) left)
+        (all_from (λ (t : Table). t.tree ≢ tree → w.trees t.tree ≡ db t.tree) farm_schema.tables (λ t known other.
+        all_has (λ (t : Table). t.tree ≢ tree → w.trees t.tree ≡ mid t.tree) farm_schema.tables t done.2 known other ∙ all_has (λ (t : Table). t.tree ≢ tree → mid t.tree ≡ db t.tree) farm_schema.tables t others known other))
 
-    pub clears : (found : List Row) → AreConflicts None schema.indexes table (db tree) new found → (w : Written) → Clears task Replace new db found (Ok w) → Replaces show schema table new db w.trees
-    clears [] are w h = from_mid [] are db refl (all_from _ schema.tables (λ t known other. refl)) w h
+    pub clears : (found : List Row) → AreConflicts None farm_schema.indexes table (db tree) new found → (w : Written) → Clears task Replace new db found (Ok w) → TableBecomes cmp show width tree db (put cmp rows x) w.trees
+    clears [] are w h = from_mid [] are db refl (all_from (λ (t : Table). t.tree ≢ tree → db t.tree ≡ db t.tree) farm_schema.tables (λ t known other. refl)) w h
     clears (x ∷ more) are w h =
         let done = went h in
         let edit = edit_of db table (ids_of (x ∷ more)) Given 0 [] in
-        let applied = one_step schema mode.keys db done.0 edit (still (taken_by db edit) edit.news) done.1 in
+        let applied = one_step farm_schema mode.keys db done.0 edit (still mode.keys (taken_by db edit) edit.news) done.1 in
         from_mid (x ∷ more) are done.0 applied.rows applied.tables w done.2
-
-    upserted : (verdict : Option Refusal) (w : Written) → Judged task Replace [] new db verdict (Ok w) → Replaces show schema table new db w.trees
-    upserted None w h = clears h.0 h.1 w h.2
-    upserted (Some why) w h = absurd (cc)
-
-    tried : (w : Written) → Tries task Replace [] new db (Ok w) → Replaces show schema table new db w.trees
-    tried w (inl h) = absurd (let e = h.1 in cc)
-    tried w (inr h) = upserted h.0 w h.2
-
-    pub inserted : (terms : List Term) (width : ℕ) (source : Row) → value_rows (params ++ []) width (length terms / width) terms ≡ source ∷ []
-        → with_rowid Chosen (db tree) (cast_row table (mended Replace table source)) ≡ new → (w : Written) → InsertsOr task Replace [] (Values terms width) db (Ok w) → Replaces show schema table new db w.trees
-    inserted terms width source source_is new_is w h =
-        let sourced = went h in
-        let counted = went sourced.2 in
-        let each = went counted.2 in
-        let settled = went each.2 in
-        let trees : w.trees ≡ each.0.0.trees = ap (λ (it : Written). it.trees) (same_value settled.2) ∙ same_value settled.1 in
-        let one = went (subst (λ rows. TriesEach task Replace [] rows (count_of counted.0) (nothing db) (Ok each.0)) (sourced.1.1 ∙ source_is) each.1) in
-        let last : each.0.0.trees ≡ one.0.trees = ap (λ (it : Written × ℤ). it.0.trees) (same_value one.2) in
-        subst (λ (t : Trees). Replaces show schema table new db t) (sym (trees ∙ last)) (tried one.0 (subst (λ n. Tries task Replace [] n db (Ok one.0)) new_is one.1))
-
-    pub does : (at : ℕ) → slice_get schema.tables at ≡ Some table → (terms : List Term) (width : ℕ) (source : Row) → value_rows (params ++ []) width (length terms / width) terms ≡ source ∷ []
-        → with_rowid Chosen (db tree) (cast_row table (mended Replace table source)) ≡ new → (text : List ℕ) (tally : Tally) (after : Database)
-        → Does limit mode params (record { schema = schema; trees = db }) text None (InsertOr at Replace (Values terms width) []) (Ok (tally, after))
-        → (after.schema ≡ schema) × Replaces show schema table new db after.trees
-    does at there terms width source source_is new_is text tally after h =
-        let done = went (subst (λ o. AtPlace {X = Table} (λ t. OnRows (record { limit = limit; keys = mode.keys; schema = schema; table = t; params = params }) mode None (InsertOr at Replace (Values terms width) []) db) o (Ok (tally, after))) there h) in
-        let tested = went done.2 in
-        let shown = went tested.2 in
-        let now = ap (λ (p : Tally × Database). p.1) (same_value shown.2) in (
-          ap (λ (d : Database). d.schema) now,
-          subst (λ (t : Trees). Replaces show schema table new db t) (sym (ap (λ (d : Database). d.trees) now)) (inserted terms width source source_is new_is done.0 done.1),
-        )

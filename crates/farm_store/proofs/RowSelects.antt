@@ -1,5 +1,5 @@
 -- The query of each table, and what it answers.
-use Rattle.std.proofs.Common.{refl, ◌≡◌, ◌-◌, ℕ, zero, suc, pos, negsuc, List, [], ◌∷◌, map, flat_map, false, None, ap, ap₂, sym, subst, ◌∙◌}
+use Rattle.std.proofs.Common.{refl, ◌≡◌, ◌-◌, ℕ, zero, suc, pos, negsuc, List, [], ◌∷◌, map, flat_map, false, None, ap, ap₂, sym, subst, ◌∙◌, IsTrue}
 use Rattle.std.specs.Ordering.{ordering_then}
 use Rattle.sqlite.specs.declared.types.Value.{Value}
 use Rattle.sqlite.specs.declared.types.Value.TheVariants.{Int}
@@ -26,7 +26,7 @@ use Rattle.farm_store.specs.declared.reservations.TheConstants.{READ as READ_RES
 use Rattle.farm_store.specs.declared.kept.TheConstants.{READ as READ_KEPT}
 use Rattle.farm_store.specs.declared.meta.TheConstants.{READ as READ_META}
 use Rattle.farm_store.specs.Schema.{types_table, boards_table, jobs_table, reservations_table, kept_table, meta_table}
-use Rattle.farm_store.specs.Columns.{TableRows, by_first, by_two}
+use Rattle.farm_store.specs.Columns.{TableRows, by_first, by_two, IsOfSchema, is_version_row}
 use Rattle.farm_store.specs.Holds.{ShowsTables}
 use Rattle.farm_store.specs.Places.{TableSlot, of_types, of_boards, of_jobs, of_reservations, of_kept, of_meta}
 use Rattle.farm_store.specs.Queries.{AsksFor, OnlyReads, ReturnsRows}
@@ -35,6 +35,8 @@ use Rattle.farm_store.proofs.OnlyReads.{only_reads}
 use Rattle.farm_store.proofs.ColumnsFrom.{columns_from, whole, of_unnumbered, of_numbered}
 use Rattle.farm_store.proofs.PutAt.{IsKnown, types_known, boards_known, jobs_known, reservations_known, kept_known, meta_known}
 use Rattle.farm_store.proofs.Selects.{IsQuery, answer_of, goes_on, rows_are}
+use Rattle.std.specs.List.{list_any}
+use Rattle.farm_store.specs.Versions.{MayHaveVersion, HasVersion}
 
 -- the columns of the raw row from one place on
 abbrev cols : ℕ → ℕ → List Term
@@ -129,68 +131,34 @@ module _ (p : TableSlot) (known : IsKnown p) (alone : (db : Trees) → overlay d
 
 -- ---- the texts
 
-types_is : IsQuery READ_TYPES.now (by_key of_types) (names_of types_table)
-unfolding understood everything
-types_is = refl
-
-types_only : OnlyReads READ_TYPES.now
-unfolding everything listing_schema
-types_only = only_reads READ_TYPES.now (λ schema. (refl, refl)) refl
-
 pub asks_types : AsksFor of_types READ_TYPES.now
-asks_types = asks_by_key of_types types_known (λ db. refl) READ_TYPES.now (names_of types_table) types_only types_is (λ r. refl) (λ a b. refl)
-
-boards_is : IsQuery READ_BOARDS.now (by_key of_boards) (names_of boards_table)
-unfolding understood everything
-boards_is = refl
-
-boards_only : OnlyReads READ_BOARDS.now
-unfolding everything listing_schema
-boards_only = only_reads READ_BOARDS.now (λ schema. (refl, refl)) refl
+unfolding understood everything listing_schema
+asks_types = asks_by_key of_types types_known (λ db. refl) READ_TYPES.now (names_of types_table) (only_reads READ_TYPES.now (λ schema. (refl, refl)) refl) refl (λ r. refl) (λ a b. refl)
 
 pub asks_boards : AsksFor of_boards READ_BOARDS.now
-asks_boards = asks_by_key of_boards boards_known (λ db. refl) READ_BOARDS.now (names_of boards_table) boards_only boards_is (λ r. refl) (λ a b. refl)
-
-jobs_is : IsQuery READ_JOBS.now (by_number of_jobs) (names_of jobs_table)
-unfolding understood everything
-jobs_is = refl
-
-jobs_only : OnlyReads READ_JOBS.now
-unfolding everything listing_schema
-jobs_only = only_reads READ_JOBS.now (λ schema. (refl, refl)) refl
+unfolding understood everything listing_schema
+asks_boards = asks_by_key of_boards boards_known (λ db. refl) READ_BOARDS.now (names_of boards_table) (only_reads READ_BOARDS.now (λ schema. (refl, refl)) refl) refl (λ r. refl) (λ a b. refl)
 
 pub asks_jobs : AsksFor of_jobs READ_JOBS.now
-asks_jobs = asks_by_number of_jobs jobs_known (λ db. refl) READ_JOBS.now (names_of jobs_table) jobs_only (of_jobs.width - 1) refl jobs_is (λ r. refl) (λ a b. refl)
-
-reservations_is : IsQuery READ_RESERVATIONS.now (by_number of_reservations) (names_of reservations_table)
-unfolding understood everything
-reservations_is = refl
-
-reservations_only : OnlyReads READ_RESERVATIONS.now
-unfolding everything listing_schema
-reservations_only = only_reads READ_RESERVATIONS.now (λ schema. (refl, refl)) refl
+unfolding understood everything listing_schema
+asks_jobs = asks_by_number of_jobs jobs_known (λ db. refl) READ_JOBS.now (names_of jobs_table) (only_reads READ_JOBS.now (λ schema. (refl, refl)) refl) (of_jobs.width - 1) refl refl (λ r. refl) (λ a b. refl)
 
 pub asks_reservations : AsksFor of_reservations READ_RESERVATIONS.now
-asks_reservations = asks_by_number of_reservations reservations_known (λ db. refl) READ_RESERVATIONS.now (names_of reservations_table) reservations_only (of_reservations.width - 1) refl reservations_is (λ r. refl) (λ a b. refl)
-
-kept_is : IsQuery READ_KEPT.now (by_keys of_kept) (names_of kept_table)
-unfolding understood everything
-kept_is = refl
-
-kept_only : OnlyReads READ_KEPT.now
-unfolding everything listing_schema
-kept_only = only_reads READ_KEPT.now (λ schema. (refl, refl)) refl
+unfolding understood everything listing_schema
+asks_reservations = asks_by_number of_reservations reservations_known (λ db. refl) READ_RESERVATIONS.now (names_of reservations_table) (only_reads READ_RESERVATIONS.now (λ schema. (refl, refl)) refl) (of_reservations.width - 1) refl refl (λ r. refl) (λ a b. refl)
 
 pub asks_kept : AsksFor of_kept READ_KEPT.now
-asks_kept = asks_by_keys of_kept kept_known (λ db. refl) READ_KEPT.now (names_of kept_table) kept_only kept_is (λ r. refl) (λ a b. refl)
-
-meta_is : IsQuery READ_META.now (by_key of_meta) (names_of meta_table)
-unfolding understood everything
-meta_is = refl
-
-meta_only : OnlyReads READ_META.now
-unfolding everything listing_schema
-meta_only = only_reads READ_META.now (λ schema. (refl, refl)) refl
+unfolding understood everything listing_schema
+asks_kept = asks_by_keys of_kept kept_known (λ db. refl) READ_KEPT.now (names_of kept_table) (only_reads READ_KEPT.now (λ schema. (refl, refl)) refl) refl (λ r. refl) (λ a b. refl)
 
 pub asks_meta : AsksFor of_meta READ_META.now
-asks_meta = asks_by_key of_meta meta_known (λ db. refl) READ_META.now (names_of meta_table) meta_only meta_is (λ r. refl) (λ a b. refl)
+unfolding understood everything listing_schema
+asks_meta = asks_by_key of_meta meta_known (λ db. refl) READ_META.now (names_of meta_table) (only_reads READ_META.now (λ schema. (refl, refl)) refl) refl (λ r. refl) (λ a b. refl)
+
+-- ---- which version the table of the numbers has
+
+pub schema_from_version : (db : Database) (T : TableRows) → ShowsTables db T → (version : ℕ) → MayHaveVersion version db → IsOfSchema version T
+schema_from_version db T see version reported = subst (λ rows. IsTrue (list_any (is_version_row version) rows)) (asks_meta.all db T reported.0 see reported.1) reported.2
+
+pub version_from_schema : (db : Database) (T : TableRows) → ShowsTables db T → (version : ℕ) → IsOfSchema version T → HasVersion version db
+version_from_schema db T see version is rows shows = subst (λ found. IsTrue (list_any (is_version_row version) found)) (sym (asks_meta.all db T rows see shows)) is

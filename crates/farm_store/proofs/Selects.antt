@@ -1,9 +1,17 @@
--- What a query of a table answers.
-use Rattle.std.proofs.Common.{refl, ◌≡◌, ◌++◌, ℕ, List, [], ◌∷◌, map, flat_map, Ok, sym, ap, subst, ◌∙◌, Ordering}
-use Rattle.std.specs.Cmp.{IsTotalOrder}
+-- What a query of a table answers: the rows of the table, in their order.
+use Rattle.std.proofs.Common.{refl, ◌≡◌, ◌≢◌, inl, inr, ℕ, List, [], ◌∷◌, map, sym, ap, subst, ◌∙◌, ◌≤◌, Ordering, Less, Equal, ◌++◌, flat_map, Ok}
 use Rattle.std.specs.List.{AllByRecursion}
-use Rattle.std.specs.List.Sorted.{IsPermutation}
+use Rattle.std.specs.List.Sorted.{IsPermutation, IsSorted}
+use Rattle.std.specs.Cmp.{IsTotalOrder}
+use Rattle.std.proofs.lemmas.List.Sorted.{sum_by-IsPermutation, IsPermutation-sym}
 use Rattle.sqlite.specs.Order.{Row}
+use Rattle.sqlite_trees.specs.Tree.{IsAscending}
+use Rattle.sqlite_rules.specs.Lists.{Has}
+use Rattle.sqlite_rules.proofs.ListLemmas.{all_has}
+use Rattle.sqlite_rules.proofs.ProbeLemmas.{has_mapped, mapped_has}
+use Rattle.farm_store.specs.Stored.{IsStrict, Differ, ListsRows, IsWide}
+use Rattle.farm_store.proofs.Sorted.{tie_same}
+use Rattle.farm_store.proofs.Order.{permuted, tied, at_most_one, strictly, same_rows}
 use Rattle.sqlite.specs.Effect.{Database, Reads, ReadsFirst}
 use Rattle.sqlite.specs.Query.{Query, IsAnswer, Output, output, page}
 use Rattle.sqlite.specs.Program.{overlay}
@@ -15,8 +23,44 @@ use Rattle.sqlite_sql.specs.Query.{output_cmp}
 use Rattle.sqlite_sql.proofs.QueryLemmas.{output_cmp_total}
 use Rattle.farm_store.specs.Schema.{farm_schema}
 use Rattle.farm_store.specs.Queries.{ReturnsRows, ReturnsFirstRows}
-use Rattle.farm_store.specs.Stored.{IsWide, ListsRows}
-use Rattle.farm_store.proofs.Loads.{answers}
+
+module _ {O : Type 0} {cmp : Row → Row → Ordering} (total : IsTotalOrder cmp) {c : O → O → Ordering} (totally : IsTotalOrder c) (show : Row → Row) (width : ℕ) (P Q : Row → O)
+    (shows : (raw : Row) → P raw ≡ Q (show raw)) (keeps : (a b : Row) → c (Q a) (Q b) ≡ cmp a b) where
+  all_strict : (a : Row) (rows : List Row) → AllByRecursion (λ b. cmp a b ≡ Less) rows → AllByRecursion (λ q. c (Q a) q ≡ Less) (map Q rows)
+  all_strict a [] all = tt
+  all_strict a (b ∷ rows) all = (keeps a b ∙ all.0, all_strict a rows all.1)
+
+  map_strict : (rows : List Row) → IsStrict cmp rows → IsStrict c (map Q rows)
+  map_strict [] up = tt
+  map_strict (a ∷ rows) up = (all_strict a rows up.0, map_strict rows up.1)
+
+  all_mapped : (R : O → Type 0) (raws : List Row) → ((r : Row) → Has raws r → R (P r)) → AllByRecursion R (map P raws)
+  all_mapped R [] f = tt
+  all_mapped R (r ∷ raws) f = (f r (inl refl), all_mapped R raws (λ s h. f s (inr h)))
+
+  -- no two rows show one key
+  shown_apart : (raws : List Row) → IsAscending (Differ show) raws → ((a b : Row) → Has raws a → Has raws b → c (P a) (P b) ≡ Equal → show a ≡ show b) → IsAscending (λ x y. c x y ≢ Equal) (map P raws)
+  shown_apart [] up same = tt
+  shown_apart (r ∷ raws) up same = (
+    all_mapped (λ q. c (P r) q ≢ Equal) raws (λ s h tie. all_has (Differ show r) raws s up.0 h (same r s (inl refl) (inr h) tie)),
+    shown_apart raws up.1 (λ a b h k. same a b (inr h) (inr k)),
+  )
+
+  pub answers : (raws rows : List Row) (ordered : List O) → ListsRows cmp show width raws rows → IsPermutation (map P raws) ordered → IsSorted c ordered → ordered ≡ map Q rows
+  answers raws rows ordered it same sorted =
+      let apart = shown_apart raws it.apart (λ a b h k tie.
+      let e : cmp (show a) (show b) ≡ Equal = sym (keeps (show a) (show b)) ∙ ap (λ q. c q (Q (show b))) (sym (shows a)) ∙ ap (c (P a)) (sym (shows b)) ∙ tie in
+      tie_same total rows (show a) (show b) it.strict (it.complete a h) (it.complete b k) e) in
+      same_rows totally ordered (map Q rows)
+      (strictly totally ordered sorted (λ q. subst (λ n. n ≤ 1) (sym (sum_by-IsPermutation (tied totally q) (map P raws) ordered same)) (at_most_one totally q (map P raws) apart)))
+      (map_strict rows it.strict)
+      (λ q h.
+      let m = has_mapped P raws q (permuted (map P raws) ordered same q h) in
+      subst (Has (map Q rows)) (sym (m.2 ∙ shows m.0)) (mapped_has Q rows (show m.0) (it.complete m.0 m.1)))
+      (λ q h.
+      let m = has_mapped Q rows q h in
+      let raw = it.sound m.0 m.1 in
+      permuted ordered (map P raws) (IsPermutation-sym (map P raws) ordered same) q (subst (Has (map P raws)) (shows raw.0 ∙ ap Q raw.2 ∙ sym m.2) (mapped_has P raws raw.0 raw.1)))
 
 -- the text is this query of the farm's tables
 abbrev pub IsQuery : List ℕ → Query → List (List ℕ) → Type 0

@@ -9,7 +9,6 @@ pub mod Queries
 pub mod Raising
 pub mod Readable
 pub mod Reading
-pub mod Replaces
 pub mod Schema
 pub mod Stored
 pub mod Texts

@@ -160,6 +160,7 @@ impl Stored for BoardRow {
 
     ghost IsGood = { λ _. IsReadableBoard };
 
+    #[tactic(auto, using(crate::proofs::RowSelects::asks_boards))]
     fn query() -> &'static str {
         READ
     }

@@ -199,6 +199,7 @@ impl Stored for JobRow {
 
     ghost IsGood = { IsReadableJobIn };
 
+    #[tactic(auto, using(crate::proofs::RowSelects::asks_jobs))]
     fn query() -> &'static str {
         READ
     }

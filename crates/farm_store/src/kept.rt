@@ -94,6 +94,7 @@ impl Stored for KeptRow {
 
     ghost IsGood = { λ _. IsReadableKept };
 
+    #[tactic(auto, using(crate::proofs::RowSelects::asks_kept))]
     fn query() -> &'static str {
         READ
     }

@@ -53,6 +53,7 @@ pub fn editions_are_apart()
 {}
 
 /// The words of a sound farm are words, so its tables can be read.
+#[tactic(auto, using(crate::proofs::SoundReadable::sound_is_readable))]
 pub fn sound_is_readable()
     ensures { (F : Farm) → IsSound F → IsReadable F }
 {}

@@ -4,7 +4,7 @@
 //! `load_first`, and made those of the second by `raise`.
 //!
 //! Read `specs/` in the order Columns, Schema, Stored, Places, Holds, which say what a store holds;
-//! then Edits, Replaces, Texts of writing; then Queries, Versions, Readable, Editions, Reading of
+//! then Edits, Texts of writing; then Queries, Versions, Readable, Editions, Reading of
 //! reading; Faults has the faults' numbers.
 #![tactic(auto)]
 

@@ -4,10 +4,9 @@ ghost use Rattle.std.specs.Prelude.{MatchResult, false, ⊤};
 ghost use Rattle.std.specs.List.{AllByRecursion, list_any};
 ghost use Rattle.sqlite.specs.Held.{state};
 ghost use Rattle.sqlite.specs.State.{HasCleanDisk};
-ghost use Rattle.sqlite.specs.Values.{bound};
 ghost use Rattle.farm_types.specs.Small.{IsSmall};
 ghost use Rattle.farm_store.specs.Columns.{TableRows, first_meta_rows, meta_row, meta_rows};
-ghost use Rattle.farm_store.specs.Columns.{number_rows, is_version_row, meta_values};
+ghost use Rattle.farm_store.specs.Columns.{number_rows, is_version_row};
 ghost use Rattle.farm_store.specs.Editions.{IsCollectorIn, meta_rows_in, other_edition, schema_of};
 ghost use Rattle.farm_store.specs.Editions.{version_fault};
 ghost use Rattle.farm_store.specs.Edits.{ChangesTables, GoesOn, StaysOpen};
@@ -26,7 +25,6 @@ use crate::schema::{FIRST_SCHEMA, SCHEMA};
 use crate::tables::{are_columns, is_keyed};
 use crate::values::{number, text};
 use farm_types::MetaRow;
-use sqlite::types::ValueRef;
 use sqlite::{Alter, Connection, Error, Row, Transaction};
 use sqlite_schema::schema::{Kind, Table};
 
@@ -56,14 +54,7 @@ pub(crate) fn is_numbers(table: &Table) -> bool
     is_keyed(table, "meta", 8, &[1]) && are_columns(table.columns.as_slice(), &wanted)
 }
 
-/// Its columns.
-fn meta_columns(name: &str, value: u64) -> [ValueRef<'_>; 2]
-    requires small { IsSmall value }
-    ensures { bound result ≡ meta_row name.now value }
-{
-    [text(name), number(value)]
-}
-
+/// Puts a number into the row with its name, or adds it.
 pub(crate) fn put_number<S: Alter>(
     tx: &mut Transaction<'_, S>,
     name: &str,
@@ -76,47 +67,9 @@ pub(crate) fn put_number<S: Alter>(
     ensures stays_open { StaysOpen result (state S.Store tx.old.conn.now)
         (state S.Store tx.new.conn.now) }
 {
-    let columns = meta_columns(name, value);
+    let columns = [text(name), number(value)];
     tx.execute(PUT, &columns)?;
     Ok(())
-}
-
-pub(crate) fn put_numbers<S: Alter>(
-    tx: &mut Transaction<'_, S>,
-    numbers: MetaRow,
-) -> Result<(), Error>
-    requires clock { IsSmall numbers.clock }
-    requires collector { IsSmall numbers.collector }
-    requires count { IsSmall numbers.count }
-    requires next { IsSmall numbers.next }
-    ensures goes_on { GoesOn S.Store tx.old tx.new }
-    ensures put { ChangesTables result (state S.Store tx.old.conn.now)
-        (state S.Store tx.new.conn.now)
-        (λ T. put_at of_meta T (number_rows numbers)) }
-    ensures stays_open { StaysOpen result (state S.Store tx.old.conn.now)
-        (state S.Store tx.new.conn.now) }
-{
-    put_number(tx, "clock", numbers.clock)?;
-    put_number(tx, "collector", numbers.collector)?;
-    put_number(tx, "count", numbers.count)?;
-    put_number(tx, "next", numbers.next)?;
-    Ok(())
-}
-
-/// The four numbers as they are bound.
-fn number_values<'a>(numbers: MetaRow) -> [ValueRef<'a>; 4]
-    requires clock { IsSmall numbers.clock }
-    requires collector { IsSmall numbers.collector }
-    requires count { IsSmall numbers.count }
-    requires next { IsSmall numbers.next }
-    ensures { bound result ≡ meta_values numbers }
-{
-    [
-        number(numbers.clock),
-        number(numbers.collector),
-        number(numbers.count),
-        number(numbers.next),
-    ]
 }
 
 /// Changes the numbers of a table that has them and this edition's version.
@@ -136,7 +89,12 @@ pub(crate) fn change_numbers<S: Alter>(
     ensures stays_open { StaysOpen result (state S.Store tx.old.conn.now)
         (state S.Store tx.new.conn.now) }
 {
-    let values = number_values(numbers);
+    let values = [
+        number(numbers.clock),
+        number(numbers.collector),
+        number(numbers.count),
+        number(numbers.next),
+    ];
     tx.execute(CHANGE, &values)?;
     Ok(())
 }

@@ -104,6 +104,7 @@ impl Stored for ResRow {
 
     ghost IsGood = { λ _. IsReadableRes };
 
+    #[tactic(auto, using(crate::proofs::RowSelects::asks_reservations))]
     fn query() -> &'static str {
         READ
     }

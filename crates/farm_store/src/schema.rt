@@ -11,10 +11,9 @@ ghost use Rattle.farm_store.specs.Reading.{CommitShows};
 ghost use Rattle.farm_store.specs.Schema.{no_schema};
 
 use crate::fault::StoreFault;
-use crate::meta::{put_number, put_numbers};
+use crate::meta::put_number;
 use crate::tables::is_no_schema;
 use crate::{boards, jobs, kept, meta, reservations, types};
-use farm_types::MetaRow;
 use sqlite::{Alter, Connection, Error, Transaction};
 
 /// The version of the tables, which is one of their numbers.
@@ -68,13 +67,10 @@ fn put_first_numbers<S: Alter>(tx: &mut Transaction<'_, S>) -> Result<(), Error>
     ensures stays_open { StaysOpen result (state S.Store tx.old.conn.now)
         (state S.Store tx.new.conn.now) }
 {
-    let first = MetaRow {
-        clock: 0,
-        collector: 0,
-        count: 0,
-        next: 1,
-    };
-    put_numbers(tx, first)?;
+    put_number(tx, "clock", 0)?;
+    put_number(tx, "collector", 0)?;
+    put_number(tx, "count", 0)?;
+    put_number(tx, "next", 1)?;
     put_number(tx, "schema", SCHEMA)?;
     Ok(())
 }

@@ -111,6 +111,7 @@ impl Stored for TypeRow {
 
     ghost IsGood = { λ _. IsReadableType };
 
+    #[tactic(auto, using(crate::proofs::RowSelects::asks_types))]
     fn query() -> &'static str {
         READ
     }

@@ -46,10 +46,7 @@ pub(crate) fn is_number_at(row: &Row, at: usize, number: u64) -> bool
     ensures { result ≡ is_number number (column row.now at) }
 {
     match row.get_ref(at) {
-        Ok(ValueRef::Int(found)) => match u64::try_from(found) {
-            Ok(found) => found == number,
-            Err(_) => false,
-        },
+        Ok(ValueRef::Int(found)) => u64::try_from(found).ok() == Some(number),
         _ => false,
     }
 }
@@ -58,10 +55,7 @@ pub(crate) fn number_at(row: &Row, at: usize) -> Result<u64, StoreFault>
     ensures { ReadsAs result (λ _. ⊤) (λ n. Int (pos n)) (column row.now at) }
 {
     match row.get_ref(at) {
-        Ok(ValueRef::Int(n)) => match u64::try_from(n) {
-            Ok(n) => Ok(n),
-            Err(_) => Err(StoreFault::BadStore),
-        },
+        Ok(ValueRef::Int(n)) => u64::try_from(n).ok().ok_or(StoreFault::BadStore),
         _ => Err(StoreFault::BadStore),
     }
 }
@@ -133,10 +127,9 @@ pub(crate) fn body_at(alloc: Global, row: &Row, at: usize) -> Result<Body, Store
 pub(crate) fn priority_at(row: &Row, at: usize) -> Result<Priority, StoreFault>
     ensures { ReadsAs result (λ p. IsTrue (is_priority p)) (λ p. Int (pos p)) (column row.now at) }
 {
-    match Priority::of(number_at(row, at)?) {
-        Ok(priority) => Ok(priority),
-        Err(_) => Err(StoreFault::BadStore),
-    }
+    Priority::of(number_at(row, at)?)
+        .ok()
+        .ok_or(StoreFault::BadStore)
 }
 
 pub(crate) fn health_at(row: &Row, at: usize) -> Result<Health, StoreFault>

@@ -1,4 +1,4 @@
-use Rattle.farm_store.proofs.TablesVersion.{schema_from_version, version_from_schema}
+use Rattle.farm_store.proofs.RowSelects.{schema_from_version, version_from_schema}
 use Rattle.farm_store.proofs.laws.versions_agree.Goals as goal
 
 pub returns-clause-may : goal.returns-clause-may

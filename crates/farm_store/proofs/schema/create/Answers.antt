@@ -79,39 +79,21 @@ returns-clause-ok g c clean =
 
 pub returns-clause-refused : goal.returns-clause-refused
 returns-clause-refused g c clean T at =
-    let end = c.commit.new.self.0 in
-    let late : HasCleanDisk (state g.S.Store end) = search rules in
-    let filled = state g.S.Store c.put_first_numbers.new.tx.conn.now in
-    let made = state g.S.Store c.make_all.new.tx.conn.now in
-    let begin = state g.S.Store c.transaction-tx.result.conn.now in
-    let filled_clean : HasCleanDisk filled = omega (arith, c.commit.ensures.survives.clean) in
-    let made_clean = was_clean c.put_first_numbers.ensures.goes_on filled_clean in
-    let is = c.transaction-tx.ensures.begun in
-    c.in_ok-make_all.ensures.refused made_clean T (begun g.S.Store c.args.conn.now c.transaction-tx.result.conn.now is T at)
+    let late : HasCleanDisk (state g.S.Store c.commit.new.self.0) = search rules in
+    let filled : HasCleanDisk (state g.S.Store c.put_first_numbers.new.tx.conn.now) = omega (arith, c.commit.ensures.survives.clean) in
+    c.in_ok-make_all.ensures.refused (was_clean c.put_first_numbers.ensures.goes_on filled) T (begun g.S.Store c.args.conn.now c.transaction-tx.result.conn.now c.transaction-tx.ensures.begun T at)
 
 pub returns-clause-stands : goal.returns-clause-stands
 returns-clause-stands g c clean T at =
-    let end = c.commit.new.self.0 in
-    let late : HasCleanDisk (state g.S.Store end) = search rules in
-    let filled = state g.S.Store c.put_first_numbers.new.tx.conn.now in
-    let made = state g.S.Store c.make_all.new.tx.conn.now in
-    let begin = state g.S.Store c.transaction-tx.result.conn.now in
-    let filled_clean : HasCleanDisk filled = omega (arith, c.commit.ensures.survives.clean) in
-    let made_clean = was_clean c.put_first_numbers.ensures.goes_on filled_clean in
-    let is = c.transaction-tx.ensures.begun in
-    absurd (c.in_ok-make_all.ensures.refused made_clean T (begun g.S.Store c.args.conn.now c.transaction-tx.result.conn.now is T at))
+    let late : HasCleanDisk (state g.S.Store c.commit.new.self.0) = search rules in
+    let filled : HasCleanDisk (state g.S.Store c.put_first_numbers.new.tx.conn.now) = omega (arith, c.commit.ensures.survives.clean) in
+    absurd (c.in_ok-make_all.ensures.refused (was_clean c.put_first_numbers.ensures.goes_on filled) T (begun g.S.Store c.args.conn.now c.transaction-tx.result.conn.now c.transaction-tx.ensures.begun T at))
 
 pub returns-in_err-commit-clause-stands : goal.returns-in_err-commit-clause-stands
 returns-in_err-commit-clause-stands g c clean T at =
-    let end = c.commit.new.self.0 in
-    let late : HasCleanDisk (state g.S.Store end) = search rules in
-    let filled = state g.S.Store c.put_first_numbers.new.tx.conn.now in
-    let made = state g.S.Store c.make_all.new.tx.conn.now in
-    let begin = state g.S.Store c.transaction-tx.result.conn.now in
-    let filled_clean : HasCleanDisk filled = omega (arith, c.commit.ensures.survives.clean) in
-    let made_clean = was_clean c.put_first_numbers.ensures.goes_on filled_clean in
-    let is = c.transaction-tx.ensures.begun in
-    absurd (c.in_ok-make_all.ensures.refused made_clean T (begun g.S.Store c.args.conn.now c.transaction-tx.result.conn.now is T at))
+    let late : HasCleanDisk (state g.S.Store c.commit.new.self.0) = search rules in
+    let filled : HasCleanDisk (state g.S.Store c.put_first_numbers.new.tx.conn.now) = omega (arith, c.commit.ensures.survives.clean) in
+    absurd (c.in_ok-make_all.ensures.refused (was_clean c.put_first_numbers.ensures.goes_on filled) T (begun g.S.Store c.args.conn.now c.transaction-tx.result.conn.now c.transaction-tx.ensures.begun T at))
 
 pub returns-in_err-put_first_numbers-clause-stands : goal.returns-in_err-put_first_numbers-clause-stands
 returns-in_err-put_first_numbers-clause-stands g c clean T at =

@@ -23,28 +23,23 @@ returns-clause-made g c clean inside has =
 
 pub returns-in_err-make-2-clause-kept : goal.returns-in_err-make-2-clause-kept
 returns-in_err-make-2-clause-kept g c clean T at =
-    let late = was_clean c.make-2.ensures.goes_on clean in
-    absurd (tables_taken (state g.S.Store c.args.tx.now.conn.now) (state g.S.Store c.make.new.tx.conn.now) T at (c.in_ok-make.ensures.ran late at.inside))
+    absurd (tables_taken (state g.S.Store c.args.tx.now.conn.now) (state g.S.Store c.make.new.tx.conn.now) T at (c.in_ok-make.ensures.ran (was_clean c.make-2.ensures.goes_on clean) at.inside))
 
 pub returns-in_err-make-3-clause-kept : goal.returns-in_err-make-3-clause-kept
 returns-in_err-make-3-clause-kept g c clean T at =
-    let late = was_clean c.make-2.ensures.goes_on (was_clean c.make-3.ensures.goes_on clean) in
-    absurd (tables_taken (state g.S.Store c.args.tx.now.conn.now) (state g.S.Store c.make.new.tx.conn.now) T at (c.in_ok-make.ensures.ran late at.inside))
+    absurd (tables_taken (state g.S.Store c.args.tx.now.conn.now) (state g.S.Store c.make.new.tx.conn.now) T at (c.in_ok-make.ensures.ran (was_clean c.make-2.ensures.goes_on (was_clean c.make-3.ensures.goes_on clean)) at.inside))
 
 pub returns-in_err-make-4-clause-kept : goal.returns-in_err-make-4-clause-kept
 returns-in_err-make-4-clause-kept g c clean T at =
-    let late = was_clean c.make-2.ensures.goes_on (was_clean c.make-3.ensures.goes_on (was_clean c.make-4.ensures.goes_on clean)) in
-    absurd (tables_taken (state g.S.Store c.args.tx.now.conn.now) (state g.S.Store c.make.new.tx.conn.now) T at (c.in_ok-make.ensures.ran late at.inside))
+    absurd (tables_taken (state g.S.Store c.args.tx.now.conn.now) (state g.S.Store c.make.new.tx.conn.now) T at (c.in_ok-make.ensures.ran (was_clean c.make-2.ensures.goes_on (was_clean c.make-3.ensures.goes_on (was_clean c.make-4.ensures.goes_on clean))) at.inside))
 
 pub returns-in_err-make-5-clause-kept : goal.returns-in_err-make-5-clause-kept
 returns-in_err-make-5-clause-kept g c clean T at =
-    let late = was_clean c.make-2.ensures.goes_on (was_clean c.make-3.ensures.goes_on (was_clean c.make-4.ensures.goes_on (was_clean c.make-5.ensures.goes_on clean))) in
-    absurd (tables_taken (state g.S.Store c.args.tx.now.conn.now) (state g.S.Store c.make.new.tx.conn.now) T at (c.in_ok-make.ensures.ran late at.inside))
+    absurd (tables_taken (state g.S.Store c.args.tx.now.conn.now) (state g.S.Store c.make.new.tx.conn.now) T at (c.in_ok-make.ensures.ran (was_clean c.make-2.ensures.goes_on (was_clean c.make-3.ensures.goes_on (was_clean c.make-4.ensures.goes_on (was_clean c.make-5.ensures.goes_on clean)))) at.inside))
 
 pub returns-in_err-make-6-clause-kept : goal.returns-in_err-make-6-clause-kept
 returns-in_err-make-6-clause-kept g c clean T at =
-    let late = was_clean c.make-2.ensures.goes_on (was_clean c.make-3.ensures.goes_on (was_clean c.make-4.ensures.goes_on (was_clean c.make-5.ensures.goes_on (was_clean c.make-6.ensures.goes_on clean)))) in
-    absurd (tables_taken (state g.S.Store c.args.tx.now.conn.now) (state g.S.Store c.make.new.tx.conn.now) T at (c.in_ok-make.ensures.ran late at.inside))
+    absurd (tables_taken (state g.S.Store c.args.tx.now.conn.now) (state g.S.Store c.make.new.tx.conn.now) T at (c.in_ok-make.ensures.ran (was_clean c.make-2.ensures.goes_on (was_clean c.make-3.ensures.goes_on (was_clean c.make-4.ensures.goes_on (was_clean c.make-5.ensures.goes_on (was_clean c.make-6.ensures.goes_on clean))))) at.inside))
 
 pub returns-in_err-make-clause-kept : goal.returns-in_err-make-clause-kept
 returns-in_err-make-clause-kept g c clean T at shows still =
@@ -53,10 +48,8 @@ returns-in_err-make-clause-kept g c clean T at shows still =
 
 pub returns-clause-kept : goal.returns-clause-kept
 returns-clause-kept g c clean T at =
-    let late = was_clean c.make-2.ensures.goes_on (was_clean c.make-3.ensures.goes_on (was_clean c.make-4.ensures.goes_on (was_clean c.make-5.ensures.goes_on (was_clean c.make-6.ensures.goes_on clean)))) in
-    absurd (tables_taken (state g.S.Store c.args.tx.now.conn.now) (state g.S.Store c.make.new.tx.conn.now) T at (c.in_ok-make.ensures.ran late at.inside))
+    absurd (tables_taken (state g.S.Store c.args.tx.now.conn.now) (state g.S.Store c.make.new.tx.conn.now) T at (c.in_ok-make.ensures.ran (was_clean c.make-2.ensures.goes_on (was_clean c.make-3.ensures.goes_on (was_clean c.make-4.ensures.goes_on (was_clean c.make-5.ensures.goes_on (was_clean c.make-6.ensures.goes_on clean))))) at.inside))
 
 pub returns-clause-refused : goal.returns-clause-refused
 returns-clause-refused g c clean T at =
-    let late = was_clean c.make-2.ensures.goes_on (was_clean c.make-3.ensures.goes_on (was_clean c.make-4.ensures.goes_on (was_clean c.make-5.ensures.goes_on (was_clean c.make-6.ensures.goes_on clean)))) in
-    tables_taken (state g.S.Store c.args.tx.now.conn.now) (state g.S.Store c.make.new.tx.conn.now) T at (c.in_ok-make.ensures.ran late at.inside)
+    tables_taken (state g.S.Store c.args.tx.now.conn.now) (state g.S.Store c.make.new.tx.conn.now) T at (c.in_ok-make.ensures.ran (was_clean c.make-2.ensures.goes_on (was_clean c.make-3.ensures.goes_on (was_clean c.make-4.ensures.goes_on (was_clean c.make-5.ensures.goes_on (was_clean c.make-6.ensures.goes_on clean))))) at.inside)

@@ -1,5 +1,5 @@
 use Rattle.sqlite.specs.Held.{state}
-use Rattle.farm_store.proofs.PutBoard.{puts_board}
+use Rattle.farm_store.proofs.RowPuts.{puts_board}
 use Rattle.farm_store.proofs.boards.TaggedBoardRowUpsert.put.Goals as goal
 
 pub returns-clause-put : goal.returns-clause-put
