@@ -149,8 +149,7 @@ IsHeldByKeys-put_board F row held_by holds held_board = record {
 
     still : (b : BoardRow) (h : Holder) → IsHeldBy F b h → IsHeldBy G b h
     still b Holder.Nobody is = is
-    still b (Holder.Job n) is = is
-    still b (Holder.Res n) is = is
+    still b h is = is
 
     rows : (h : Holder) (x : Hold) → hold_of G h ≡ Some x → IsSomeAnd (board_of G x.board) (λ b. b.holder ≡ h)
     rows h x is = subst (λ o. IsSomeAnd o (λ b. b.holder ≡ h)) (sym (board_of-put F row x.board))
@@ -200,8 +199,7 @@ pub record Replaces (b row : BoardRow) : Type 0 where
 
 held_by_same : (F : Farm) (b row : BoardRow) (h : Holder) → Replaces b row → IsHeldBy F b h → IsHeldBy F row h
 held_by_same F b row Holder.Nobody same held_by = same.state ∙ held_by
-held_by_same F b row (Holder.Job n) same held_by = held_by ∙ (λ i. Some (record { board = sym same.name i; holder = sym same.holder i; state = sym same.state i }))
-held_by_same F b row (Holder.Res n) same held_by = held_by ∙ (λ i. Some (record { board = sym same.name i; holder = sym same.holder i; state = sym same.state i }))
+held_by_same F b row h same held_by = held_by ∙ (λ i. Some (record { board = sym same.name i; holder = sym same.holder i; state = sym same.state i }))
 
 -- the test by which a board is found is that of its key
 tied : (name : List ℕ) (row : BoardRow) → row.name ≡ name → (r : BoardRow) → bytes_eq r.name name ≡ is_eq (board_cmp row r)

@@ -177,10 +177,8 @@ check_all (b ∷ bs) F all apart sound =
 
 due_kept : (check : Check) (t : ℕ) (b : BoardRow) → is_due_by check t b ≡ true → b.health ≡ Health.Retired → ⊥
 due_kept Check.Never t b due retired = false≢true due
-due_kept (Check.Hours n) t b due retired =
-    false≢true (ap (λ h. same_health h Health.Unknown || (same_health h Health.Good && is_reached t b (Check.Hours n))) (sym retired) ∙ due)
-due_kept (Check.Jobs n) t b due retired =
-    false≢true (ap (λ h. same_health h Health.Unknown || (same_health h Health.Good && is_reached t b (Check.Jobs n))) (sym retired) ∙ due)
+due_kept check t b due retired =
+    false≢true (ap (λ h. same_health h Health.Unknown || (same_health h Health.Good && is_reached t b check)) (sym retired) ∙ due)
 
 apart_filter : (test : BoardRow → Bool) (bs : List BoardRow) → IsStrictlySortedBy board_cmp bs → AreApartBoards (filter test bs)
 unfolding IsStrictlySortedBy

@@ -78,10 +78,7 @@ open_of_claim F none collecting c (inr (j, is)) = inr (
     submitted : (s : JobState) → (s ≡ JobState.Scheduling → ⊥) → phase s ≡ 0 → s ≡ JobState.Submitted
     submitted JobState.Submitted apart first = refl
     submitted JobState.Scheduling apart first = absurd (apart refl)
-    submitted JobState.Scheduled apart first = absurd (omega arith)
-    submitted JobState.Running apart first = absurd (omega arith)
-    submitted JobState.Canceling apart first = absurd (omega arith)
-    submitted JobState.Finished apart first = absurd (omega arith)
+    submitted s apart first = absurd (omega arith)
 
 -- ---- the queue
 

@@ -46,9 +46,8 @@ used_check : (F : Farm) (o : Outcome) (b : BoardRow) → IsBoardRow F b → Used
 used_check F Outcome.Complete b is =
     used_graded F Health.Good b (record b { jobs_since = 0; last_check = F.clock })
     (record { same = refl; since = omega arith; checked = omega arith })
-used_check F Outcome.Incomplete b is = used_graded F Health.Bad b b (record { same = refl; since = is.since; checked = is.checked })
-used_check F Outcome.Infra b is = used_graded F Health.Bad b b (record { same = refl; since = is.since; checked = is.checked })
 used_check F Outcome.Canceled b is = record { same = refl; since = is.since; checked = is.checked }
+used_check F o b is = used_graded F Health.Bad b b (record { same = refl; since = is.since; checked = is.checked })
 
 idle_row : (F : Farm) (b c : BoardRow) → Used F b c → IsBoardRow F b → IsBoardRow F (freed_board c)
 idle_row F b c used is = record {
@@ -87,9 +86,8 @@ module _ (F : Farm) (n : ℕ) (j : JobRow) (named : Outcome) (there : job_of F n
 
       checked : (o : Outcome) → description_of (after_check o F.clock b) ≡ description_of b
       checked Outcome.Complete = graded Health.Good (record b { jobs_since = 0; last_check = F.clock })
-      checked Outcome.Incomplete = graded Health.Bad b
-      checked Outcome.Infra = graded Health.Bad b
       checked Outcome.Canceled = refl
+      checked o = graded Health.Bad b
 
       job_used : (o : Outcome) → description_of (after_job o b) ≡ description_of b
       job_used o = by_cases (λ (d : BoardRow). description_of d ≡ description_of b) (same_outcome o Outcome.Infra)

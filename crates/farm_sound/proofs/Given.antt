@@ -35,8 +35,7 @@ module _ (F G : Farm) (h0 : Holder) (b0 : BoardRow) where
 
   held_by_stays : IsGift → (c : BoardRow) (h : Holder) → IsHeldBy F c h → IsHeldBy G c h
   held_by_stays gift c Holder.Nobody held_by = held_by
-  held_by_stays gift c (Holder.Job n) held_by = stays_by (Holder.Job n) None (gift.stays (Holder.Job n)) gift.nothing (shown_hold c) held_by
-  held_by_stays gift c (Holder.Res n) held_by = stays_by (Holder.Res n) None (gift.stays (Holder.Res n)) gift.nothing (shown_hold c) held_by
+  held_by_stays gift c h held_by = stays_by h None (gift.stays h) gift.nothing (shown_hold c) held_by
 
   held_by_given : IsGift → (c : BoardRow) → IsHeldBy F c c.holder → IsHeldBy G (given_board c) (given_board c).holder
   held_by_given gift c held_by =

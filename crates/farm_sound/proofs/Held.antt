@@ -42,13 +42,11 @@ holder_is F (Holder.Res n) x is = by (res_of F n) refl is
 -- a board's holder that holds something holds this board
 pub held_is : (F : Farm) (b : BoardRow) (h : Holder) (x : Hold) → IsHeldBy F b h → hold_of F h ≡ Some x → x ≡ shown_hold b
 held_is F b Holder.Nobody x held_by is = cc
-held_is F b (Holder.Job n) x held_by is = cc
-held_is F b (Holder.Res n) x held_by is = cc
+held_is F b h x held_by is = cc
 
 pub held_from : (F : Farm) (b : BoardRow) (h : Holder) → hold_of F h ≡ Some (shown_hold b) → IsHeldBy F b h
 held_from F b Holder.Nobody is = cc
-held_from F b (Holder.Job n) is = is
-held_from F b (Holder.Res n) is = is
+held_from F b h is = is
 
 -- the board after its holder's row has changed: in nobody's hands, or in the same ones
 abbrev pub IsLeft : Option Hold → BoardRow → Type 0
@@ -73,13 +71,11 @@ module _ (F G : Farm) (moved : Holder → Bool) (g : BoardRow → BoardRow) wher
 
   held_by_stays : Regives → (b : BoardRow) (h : Holder) → moved h ≡ false → IsHeldBy F b h → IsHeldBy G b h
   held_by_stays re b Holder.Nobody apart held_by = held_by
-  held_by_stays re b (Holder.Job n) apart held_by = re.stays (Holder.Job n) apart ∙ held_by
-  held_by_stays re b (Holder.Res n) apart held_by = re.stays (Holder.Res n) apart ∙ held_by
+  held_by_stays re b h apart held_by = re.stays h apart ∙ held_by
 
   held_by_moved : Regives → (b : BoardRow) (h : Holder) → moved h ≡ true → b.holder ≡ h → IsHeldBy F b h → IsHeldBy G (g b) (g b).holder
   held_by_moved re b Holder.Nobody so mine held_by = absurd (true≢false (sym so ∙ re.nobody))
-  held_by_moved re b (Holder.Job n) so mine held_by = held_by_left b (Holder.Job n) (hold_of G (Holder.Job n)) refl mine (re.gives (Holder.Job n) b so mine held_by)
-  held_by_moved re b (Holder.Res n) so mine held_by = held_by_left b (Holder.Res n) (hold_of G (Holder.Res n)) refl mine (re.gives (Holder.Res n) b so mine held_by)
+  held_by_moved re b h so mine held_by = held_by_left b h (hold_of G h) refl mine (re.gives h b so mine held_by)
 
   held_by_after : Regives → (b : BoardRow) → IsHeldBy F b b.holder → IsHeldBy G (cond (moved b.holder) (g b) b) (cond (moved b.holder) (g b) b).holder
   held_by_after re b held_by =

@@ -23,20 +23,12 @@ use Rattle.farm_sound.proofs.Where.{AllByRecursion-map, all_true, by_cases}
 use Rattle.farm_sound.proofs.Whole.{Alike, Alike-kept, Alike-where, AreGroupsInPhase-map}
 
 scheduled_at : (s : JobState) → phase s ≡ 1 → s ≡ JobState.Scheduled
-scheduled_at JobState.Submitted is = absurd (omega arith)
-scheduled_at JobState.Scheduling is = absurd (omega arith)
 scheduled_at JobState.Scheduled is = refl
-scheduled_at JobState.Running is = absurd (omega arith)
-scheduled_at JobState.Canceling is = absurd (omega arith)
-scheduled_at JobState.Finished is = absurd (omega arith)
+scheduled_at s is = absurd (omega arith)
 
 unstarted_phase : (s : JobState) → ((same_job_state s JobState.Submitted || same_job_state s JobState.Scheduling) || same_job_state s JobState.Scheduled) ≡ nat_lt (phase s) 2
 unstarted_phase JobState.Submitted = refl
-unstarted_phase JobState.Scheduling = refl
-unstarted_phase JobState.Scheduled = refl
-unstarted_phase JobState.Running = refl
-unstarted_phase JobState.Canceling = refl
-unstarted_phase JobState.Finished = refl
+unstarted_phase s = refl
 
 -- ---- Start
 
@@ -108,11 +100,7 @@ canceled_scheduling group j = by (j.group == group) refl
             → (cond (is_unstarted (record j { state = s })) (record j { state = JobState.Finished; outcome = Some Outcome.Canceled }) (record j { state = s })).state ≡ JobState.Scheduling
             → (j.state ≡ JobState.Scheduling) × (true ≡ false)
         mine JobState.Submitted at is = cc
-        mine JobState.Scheduling at is = cc
-        mine JobState.Scheduled at is = cc
-        mine JobState.Running at is = cc
-        mine JobState.Canceling at is = cc
-        mine JobState.Finished at is = cc
+        mine s at is = cc
 
 collecting_canceled : (F : Farm) (group : ℕ) → IsSound F → IsCollecting (cond (F.collector == group) 0 F.collector) (map (canceled group) F.jobs)
 collecting_canceled F group sound = by (F.collector == group) refl

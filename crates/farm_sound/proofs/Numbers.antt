@@ -47,8 +47,7 @@ IsSound-empty = record {
   where
     rows : (h : Holder) (x : Hold) → hold_of empty_farm h ≡ Some x → IsSomeAnd (board_of empty_farm x.board) (λ b. b.holder ≡ h)
     rows Holder.Nobody x is = cc
-    rows (Holder.Job n) x is = cc
-    rows (Holder.Res n) x is = cc
+    rows h x is = cc
 
 -- ---- the clock
 

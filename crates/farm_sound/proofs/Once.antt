@@ -174,10 +174,8 @@ module _ (F : Farm) (steady : IsSteady F) where
     where
       none : (h : Holder) → b.holder ≡ h → IsHeldBy F b h → find (λ x. bytes_eq x.board b.name) (holds F) ≡ None → shown_hold b ≡ no_hold b.name
       none Holder.Nobody at held_by is = λ i. record { board = b.name; holder = at i; state = held_by i }
-      none (Holder.Job n) at held_by is =
-          absurd (among_none (λ x. bytes_eq x.board b.name) (shown_hold b) (holds F) (among_holds (Holder.Job n) (shown_hold b) held_by) (text_itself b.name) is)
-      none (Holder.Res n) at held_by is =
-          absurd (among_none (λ x. bytes_eq x.board b.name) (shown_hold b) (holds F) (among_holds (Holder.Res n) (shown_hold b) held_by) (text_itself b.name) is)
+      none h at held_by is =
+          absurd (among_none (λ x. bytes_eq x.board b.name) (shown_hold b) (holds F) (among_holds h (shown_hold b) held_by) (text_itself b.name) is)
 
       by : (o : Option Hold) → find (λ h. bytes_eq h.board b.name) (holds F) ≡ o → shown_hold b ≡ unwrap_or o (no_hold b.name)
       by None is = none b.holder refl held_by is

@@ -42,30 +42,13 @@ acted F t caller Cmd.Pass is sound = acted_pass F t caller sound
 -- the reasons and the room are those of the farm before its clock moved
 pub IsAccepted-moved : (F : Farm) (m t : ℕ) (caller : List ℕ) (cmd : Cmd) → IsAccepted F t caller cmd → IsAccepted (record F { clock = m }) t caller cmd
 IsAccepted-moved F m t caller (Cmd.AddType name check) is = record { caller = is.caller; proper = is.proper; clear = is.clear; room = is.room }
-IsAccepted-moved F m t caller (Cmd.AddBoard name kind tags) is = record { caller = is.caller; proper = is.proper; clear = is.clear; room = is.room }
-IsAccepted-moved F m t caller (Cmd.SetTags name tags) is = record { caller = is.caller; proper = is.proper; clear = is.clear; room = is.room }
-IsAccepted-moved F m t caller (Cmd.SetHealth name health) is = record { caller = is.caller; proper = is.proper; clear = is.clear; room = is.room }
-IsAccepted-moved F m t caller (Cmd.Submit priority wants roles body) is = record { caller = is.caller; proper = is.proper; clear = is.clear; room = is.room }
-IsAccepted-moved F m t caller (Cmd.Reserve priority tags) is = record { caller = is.caller; proper = is.proper; clear = is.clear; room = is.room }
 IsAccepted-moved F m t caller cmd is = record { caller = is.caller; proper = is.proper; clear = is.clear; room = is.room }
 
 -- ---- the reply is kept
 
 low_kind : (cmd : Cmd) → (1 ≤ kind_of cmd) × (kind_of cmd ≤ last_kind)
 low_kind (Cmd.AddType a b) = (omega arith, omega arith)
-low_kind (Cmd.AddBoard a b c) = (omega arith, omega arith)
-low_kind (Cmd.SetTags a b) = (omega arith, omega arith)
-low_kind (Cmd.SetHealth a b) = (omega arith, omega arith)
-low_kind (Cmd.Submit a b c d) = (omega arith, omega arith)
-low_kind (Cmd.Cancel a) = (omega arith, omega arith)
-low_kind (Cmd.Start a) = (omega arith, omega arith)
-low_kind (Cmd.Finish a b) = (omega arith, omega arith)
-low_kind (Cmd.Reserve a b) = (omega arith, omega arith)
-low_kind (Cmd.Acquire a) = (omega arith, omega arith)
-low_kind (Cmd.Release a) = (omega arith, omega arith)
-low_kind (Cmd.Refresh a) = (omega arith, omega arith)
-low_kind (Cmd.CancelRes a) = (omega arith, omega arith)
-low_kind Cmd.Pass = (omega arith, omega arith)
+low_kind cmd = (omega arith, omega arith)
 
 IsSound-keep : (F : Farm) (call : Call) (d : Done) → Acted F d → (is_some call.key && nat_le most_replies (length F.kept)) ≡ false
     → IsSound (keep call d.reply d.farm)

@@ -29,29 +29,18 @@ not_false false is = absurd (false≢true (sym is))
 -- ---- states
 
 pub running_from : (s : JobState) → same_job_state s JobState.Running ≡ true → s ≡ JobState.Running
-running_from JobState.Submitted is = absurd (false≢true is)
-running_from JobState.Scheduled is = absurd (false≢true is)
 running_from JobState.Running is = refl
-running_from JobState.Canceling is = absurd (false≢true is)
-running_from JobState.Finished is = absurd (false≢true is)
-running_from JobState.Scheduling is = absurd (false≢true is)
+running_from s is = absurd (false≢true is)
 
 pub scheduled_from : (s : JobState) → same_job_state s JobState.Scheduled ≡ true → s ≡ JobState.Scheduled
 scheduled_from JobState.Scheduled is = refl
-scheduled_from JobState.Submitted is = absurd (false≢true is)
-scheduled_from JobState.Running is = absurd (false≢true is)
-scheduled_from JobState.Canceling is = absurd (false≢true is)
-scheduled_from JobState.Finished is = absurd (false≢true is)
-scheduled_from JobState.Scheduling is = absurd (false≢true is)
+scheduled_from s is = absurd (false≢true is)
 
 pub started_from : (s : JobState) → (same_job_state s JobState.Running || same_job_state s JobState.Canceling) ≡ true
     → (phase s ≡ 2) × (s ≡ JobState.Finished → ⊥)
 started_from JobState.Running is = (refl, λ e. cc)
 started_from JobState.Canceling is = (refl, λ e. cc)
-started_from JobState.Submitted is = absurd (false≢true is)
-started_from JobState.Scheduled is = absurd (false≢true is)
-started_from JobState.Finished is = absurd (false≢true is)
-started_from JobState.Scheduling is = absurd (false≢true is)
+started_from s is = absurd (false≢true is)
 
 -- who waits for boards is in the first phase
 pub waits_from : (j : JobRow) → waits j ≡ true → phase j.state ≡ 0
@@ -60,53 +49,32 @@ waits_from j is = by j.state is
     by : (s : JobState) → (same_job_state s JobState.Submitted || same_job_state s JobState.Scheduling) ≡ true → phase s ≡ 0
     by JobState.Submitted is = refl
     by JobState.Scheduling is = refl
-    by JobState.Scheduled is = absurd (false≢true is)
-    by JobState.Running is = absurd (false≢true is)
-    by JobState.Canceling is = absurd (false≢true is)
-    by JobState.Finished is = absurd (false≢true is)
+    by s is = absurd (false≢true is)
 
 pub scheduling_from : (s : JobState) → same_job_state s JobState.Scheduling ≡ true → s ≡ JobState.Scheduling
 scheduling_from JobState.Scheduling is = refl
-scheduling_from JobState.Submitted is = absurd (false≢true is)
-scheduling_from JobState.Scheduled is = absurd (false≢true is)
-scheduling_from JobState.Running is = absurd (false≢true is)
-scheduling_from JobState.Canceling is = absurd (false≢true is)
-scheduling_from JobState.Finished is = absurd (false≢true is)
+scheduling_from s is = absurd (false≢true is)
 
 pub waiting_from : (s : ResState) → same_res_state s ResState.Waiting ≡ true → s ≡ ResState.Waiting
 waiting_from ResState.Waiting is = refl
-waiting_from ResState.Allocated is = absurd (false≢true is)
-waiting_from ResState.Acquired is = absurd (false≢true is)
-waiting_from ResState.Expired is = absurd (false≢true is)
-waiting_from ResState.Canceled is = absurd (false≢true is)
+waiting_from s is = absurd (false≢true is)
 
 pub allocated_from : (s : ResState) → same_res_state s ResState.Allocated ≡ true → s ≡ ResState.Allocated
 allocated_from ResState.Allocated is = refl
-allocated_from ResState.Waiting is = absurd (false≢true is)
-allocated_from ResState.Acquired is = absurd (false≢true is)
-allocated_from ResState.Expired is = absurd (false≢true is)
-allocated_from ResState.Canceled is = absurd (false≢true is)
+allocated_from s is = absurd (false≢true is)
 
 pub acquired_from : (s : ResState) → same_res_state s ResState.Acquired ≡ true → s ≡ ResState.Acquired
 acquired_from ResState.Acquired is = refl
-acquired_from ResState.Waiting is = absurd (false≢true is)
-acquired_from ResState.Allocated is = absurd (false≢true is)
-acquired_from ResState.Expired is = absurd (false≢true is)
-acquired_from ResState.Canceled is = absurd (false≢true is)
+acquired_from s is = absurd (false≢true is)
 
 -- ---- holders
 
 pub nobody_from : (h : Holder) → is_nobody h ≡ true → h ≡ Holder.Nobody
 nobody_from Holder.Nobody is = refl
-nobody_from (Holder.Job n) is = absurd (false≢true is)
-nobody_from (Holder.Res n) is = absurd (false≢true is)
-
-nobody_from_not : (h : Holder) → not (is_nobody h) ≡ false → h ≡ Holder.Nobody
-nobody_from_not Holder.Nobody is = refl
-nobody_from_not (Holder.Job n) is = absurd (false≢true (sym is))
-nobody_from_not (Holder.Res n) is = absurd (false≢true (sym is))
+nobody_from h is = absurd (false≢true is)
 
 -- a Retired board has no holder
 pub retired_idle : (health : Health) (h : Holder) → (same_health health Health.Retired && not (is_nobody h)) ≡ false → health ≡ Health.Retired
     → h ≡ Holder.Nobody
-retired_idle health h is retired = nobody_from_not h (subst (λ x. (same_health x Health.Retired && not (is_nobody h)) ≡ false) retired is)
+retired_idle health Holder.Nobody is retired = refl
+retired_idle health h is retired = absurd (false≢true (sym (subst (λ x. (same_health x Health.Retired && true) ≡ false) retired is)))
