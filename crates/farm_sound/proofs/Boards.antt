@@ -20,8 +20,8 @@ use Rattle.farm_types.specs.declared.rows.Holder.{Holder}
 use Rattle.farm_types.specs.declared.rows.State.{State}
 use Rattle.farm_types.specs.declared.rows.TypeRow.{TypeRow}
 use Rattle.farm_types.proofs.Put.{AllByRecursion-put, AllByRecursion-weaker, count_put, count_replaced, find_put, find_put_is, found_has, found_passes, length_put, put_sorted}
-use Rattle.farm_sound.proofs.Add.{IsHeldByKeys-same}
-use Rattle.farm_sound.proofs.Grow.{Grows, IsBoardRow-grows, IsJobRow-grows, IsResRow-grows, same_texts}
+use Rattle.farm_sound.proofs.Add.{IsHeldByKeys-same_rows}
+use Rattle.farm_sound.proofs.Grow.{IsBoardRow-grows, IsSteady-edited, no_edit, rows_grow, same_texts}
 
 pub type_total : IsTotalOrder type_cmp
 type_total = on_total (λ (r : TypeRow). r.name) nat_list_cmp_total
@@ -31,64 +31,23 @@ board_total = on_total (λ (r : BoardRow). r.name) nat_list_cmp_total
 
 -- ---- a type is added
 
-type_grows : (F : Farm) (row : TypeRow) → Grows F (put_type F row)
-type_grows F row = record {
-  types = λ k. find_put type_cmp type_total row (λ r. bytes_eq r.name k) (λ r tie. ap (λ n. bytes_eq n k) (same_texts row.name r.name tie)) F.types;
-  boards = λ k h. h;
-  jobs = λ n p is. (p, is, refl, refl, refl, refl);
-  reservations = λ n lt h. h;
-  clock = omega arith;
-  next = omega arith;
-}
-
 pub IsSound-put_type : (F : Farm) (row : TypeRow) → IsTypeRow row → length F.types < most_boards_of_type → IsSound F → IsSound (put_type F row)
-IsSound-put_type F row is room sound =
-    let G : Farm = put_type F row in
-    let steady = sound.steady in
-    let grows = type_grows F row in
-    record {
-      steady = record {
-        types_sorted = put_sorted type_cmp type_total row F.types steady.types_sorted;
-        boards_sorted = steady.boards_sorted;
-        jobs_sorted = steady.jobs_sorted;
-        reservations_sorted = steady.reservations_sorted;
-        kept_sorted = steady.kept_sorted;
-        types = AllByRecursion-put type_cmp type_total row IsTypeRow is F.types steady.types;
-        boards = AllByRecursion-weaker (IsBoardRow-grows F G grows) F.boards steady.boards;
-        jobs = AllByRecursion-weaker (IsJobRow-grows F G grows) F.jobs steady.jobs;
-        reservations = AllByRecursion-weaker (IsResRow-grows F G grows) F.reservations steady.reservations;
-        kept = steady.kept;
+IsSound-put_type F row is room sound = record {
+  steady = IsSteady-edited
+      (record (no_edit F sound.steady) {
+        farm = put_type F row;
+        more_types = λ k. find_put type_cmp type_total row (λ r. bytes_eq r.name k) (λ r tie. ap (λ n. bytes_eq n k) (same_texts row.name r.name tie)) F.types;
+        types_sorted = put_sorted type_cmp type_total row F.types sound.steady.types_sorted;
+        types = AllByRecursion-put type_cmp type_total row IsTypeRow is F.types sound.steady.types;
         few_types = omega (arith, length_put type_cmp type_total row F.types);
-        few_boards = steady.few_boards;
-        few_of_kind = steady.few_of_kind;
-        few_jobs = steady.few_jobs;
-        few_reservations = steady.few_reservations;
-        few_kept = steady.few_kept;
-        clock = steady.clock;
-        count = steady.count;
-        next = steady.next;
-      };
-      held = IsHeldByKeys-same F G same refl sound.held;
-      whole = sound.whole;
-      collecting = sound.collecting;
-    }
-  where
-    same : (h : Holder) → hold_of (put_type F row) h ≡ hold_of F h
-    same Holder.Nobody = refl
-    same (Holder.Job n) = refl
-    same (Holder.Res n) = refl
+      })
+      (rows_grow F (put_type F row) sound.steady);
+  held = IsHeldByKeys-same_rows F (put_type F row) refl refl refl sound.held;
+  whole = sound.whole;
+  collecting = sound.collecting;
+}
 
 -- ---- a board is put
-
-board_grows : (F : Farm) (row : BoardRow) → Grows F (put_board F row)
-board_grows F row = record {
-  types = λ k h. h;
-  boards = λ k. find_put board_cmp board_total row (λ r. bytes_eq r.name k) (λ r tie. ap (λ n. bytes_eq n k) (same_texts row.name r.name tie)) F.boards;
-  jobs = λ n p is. (p, is, refl, refl, refl, refl);
-  reservations = λ n lt h. h;
-  clock = omega arith;
-  next = omega arith;
-}
 
 text_ties : (a b k : List ℕ) → bytes_eq a k ≡ true → bytes_eq b k ≡ true → text_cmp a b ≡ Equal
 text_ties a b k here there =
@@ -104,31 +63,16 @@ board_of-put F row k =
 -- the row's place among the boards keeps all that a farm promises but the counts of boards
 IsSteady-put_board : (F : Farm) (row : BoardRow) → IsBoardRow F row → length (put_board F row).boards ≤ most_boards
     → ((kind : List ℕ) → length (filter (λ b. bytes_eq b.kind kind) (put_board F row).boards) ≤ most_boards_of_type) → IsSteady F → IsSteady (put_board F row)
-IsSteady-put_board F row is few few_of_kind steady =
-    let G : Farm = put_board F row in
-    let grows = board_grows F row in
-    record {
-      types_sorted = steady.types_sorted;
+IsSteady-put_board F row is few few_of_kind steady = IsSteady-edited
+    (record (no_edit F steady) {
+      farm = put_board F row;
+      more_boards = λ k. find_put board_cmp board_total row (λ r. bytes_eq r.name k) (λ r tie. ap (λ n. bytes_eq n k) (same_texts row.name r.name tie)) F.boards;
       boards_sorted = put_sorted board_cmp board_total row F.boards steady.boards_sorted;
-      jobs_sorted = steady.jobs_sorted;
-      reservations_sorted = steady.reservations_sorted;
-      kept_sorted = steady.kept_sorted;
-      types = steady.types;
-      boards = AllByRecursion-put board_cmp board_total row (IsBoardRow G) (IsBoardRow-grows F G grows row is) F.boards
-          (AllByRecursion-weaker (IsBoardRow-grows F G grows) F.boards steady.boards);
-      jobs = AllByRecursion-weaker (IsJobRow-grows F G grows) F.jobs steady.jobs;
-      reservations = AllByRecursion-weaker (IsResRow-grows F G grows) F.reservations steady.reservations;
-      kept = steady.kept;
-      few_types = steady.few_types;
       few_boards = few;
       few_of_kind = few_of_kind;
-      few_jobs = steady.few_jobs;
-      few_reservations = steady.few_reservations;
-      few_kept = steady.few_kept;
-      clock = steady.clock;
-      count = steady.count;
-      next = steady.next;
-    }
+    })
+    (λ grows. let old = rows_grow F (put_board F row) steady grows in
+    (AllByRecursion-put board_cmp board_total row (IsBoardRow (put_board F row)) (IsBoardRow-grows F (put_board F row) grows row is) F.boards old.0, old.1, old.2))
 
 -- the row's holder is right, and it names the row's board where that is asked
 IsHeldByKeys-put_board : (F : Farm) (row : BoardRow) → IsHeldBy F row row.holder

@@ -13,53 +13,19 @@ use Rattle.farm_types.specs.declared.rows.Holder.{Holder}
 use Rattle.farm_types.specs.declared.rows.JobRow.{JobRow}
 use Rattle.farm_types.specs.declared.rows.JobState.{JobState}
 use Rattle.farm_types.proofs.Put.{AllByRecursion-put, AllByRecursion-weaker}
-use Rattle.farm_sound.proofs.Add.{IsHeldByKeys-same, job_total}
-use Rattle.farm_sound.proofs.Grow.{Grows, IsBoardRow-grows, IsJobRow-grows, IsResRow-grows}
+use Rattle.farm_sound.proofs.Add.{IsHeldByKeys-same_rows, job_total}
+use Rattle.farm_sound.proofs.Grow.{IsSteady-edited, no_edit, rows_grow}
 use Rattle.farm_sound.proofs.Lists.{none_pass}
 use Rattle.farm_sound.proofs.Where.{AllByRecursion-both, AllByRecursion-map, count_map}
 
 -- ---- the same rows with another collector
 
 pub IsSteady-collector : (F : Farm) (c : ℕ) → IsSteady F → IsSteady (record F { collector = c })
-IsSteady-collector F c steady =
-    let G : Farm = record F { collector = c } in
-    let grows : Grows F G = record {
-      types = λ k h. h;
-      boards = λ k h. h;
-      jobs = λ n p is. (p, is, refl, refl, refl, refl);
-      reservations = λ n lt h. h;
-      clock = omega arith;
-      next = omega arith;
-    } in
-    record {
-      types_sorted = steady.types_sorted;
-      boards_sorted = steady.boards_sorted;
-      jobs_sorted = steady.jobs_sorted;
-      reservations_sorted = steady.reservations_sorted;
-      kept_sorted = steady.kept_sorted;
-      types = steady.types;
-      boards = AllByRecursion-weaker (IsBoardRow-grows F G grows) F.boards steady.boards;
-      jobs = AllByRecursion-weaker (IsJobRow-grows F G grows) F.jobs steady.jobs;
-      reservations = AllByRecursion-weaker (IsResRow-grows F G grows) F.reservations steady.reservations;
-      kept = steady.kept;
-      few_types = steady.few_types;
-      few_boards = steady.few_boards;
-      few_of_kind = steady.few_of_kind;
-      few_jobs = steady.few_jobs;
-      few_reservations = steady.few_reservations;
-      few_kept = steady.few_kept;
-      clock = steady.clock;
-      count = steady.count;
-      next = steady.next;
-    }
+IsSteady-collector F c steady = IsSteady-edited (record (no_edit F steady) { farm = record F { collector = c } })
+    (rows_grow F (record F { collector = c }) steady)
 
 pub IsHeldByKeys-collector : (F : Farm) (c : ℕ) → IsHeldByKeys F → IsHeldByKeys (record F { collector = c })
-IsHeldByKeys-collector F c held = IsHeldByKeys-same F (record F { collector = c }) same refl held
-  where
-    same : (h : Holder) → hold_of (record F { collector = c }) h ≡ hold_of F h
-    same Holder.Nobody = refl
-    same (Holder.Job n) = refl
-    same (Holder.Res n) = refl
+IsHeldByKeys-collector F c held = IsHeldByKeys-same_rows F (record F { collector = c }) refl refl refl held
 
 -- ---- jobs that change in their places
 

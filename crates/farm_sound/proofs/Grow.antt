@@ -1,15 +1,21 @@
 -- A farm that has all that another has.
-use Rattle.std.proofs.Common.{◌-◌, ◌<◌, ◌∙◌, ◌≡◌, ◌≤◌, IfSome, IsNone, IsSome, IsSomeAnd, List, None, Option, Some, ap, arith, sym, ℕ}
+use Rattle.std.proofs.Common.{◌-◌, ◌<◌, ◌∙◌, ◌≡◌, ◌≤◌, IfSome, IsNone, IsSome, IsSomeAnd, List, None, Option, Some, ap, arith, length, refl, sym, ℕ}
+use Rattle.std.specs.List.{AllByRecursion, filter}
+use Rattle.std.specs.List.Sorted.{IsStrictlySortedBy}
 use Rattle.std.specs.Ordering.{is_eq}
+use Rattle.std.specs.Str.{bytes_eq}
 use Rattle.std.specs.declared.cmp.Ordering.TheVariants.{Equal}
 use Rattle.std.proofs.lemmas.Map.Text.{is_eq-slice_cmp}
 use Rattle.std.proofs.lemmas.Slice.Eq.{bytes_eq-Decides}
 use Rattle.farm_types.specs.Farm.{Farm, board_of, job_of, res_of, type_of}
-use Rattle.farm_types.specs.Sound.{Follows, IsBoardRow, IsJobRow, IsResRow}
+use Rattle.farm_types.specs.Limits.{last_moment, most_boards, most_boards_of_type, most_commands, most_jobs, most_replies, most_reservations, most_types, numbers_end}
+use Rattle.farm_types.specs.Sound.{Follows, IsBoardRow, IsJobRow, IsKeptRow, IsResRow, IsSteady, IsTypeRow}
+use Rattle.farm_types.specs.Table.{board_cmp, job_cmp, kept_cmp, res_cmp, type_cmp}
 use Rattle.farm_types.specs.Words.{text_cmp}
 use Rattle.farm_types.specs.declared.rows.BoardRow.{BoardRow}
 use Rattle.farm_types.specs.declared.rows.JobRow.{JobRow}
 use Rattle.farm_types.specs.declared.rows.ResRow.{ResRow}
+use Rattle.farm_types.proofs.Put.{AllByRecursion-weaker}
 
 -- ---- a farm that has all that another has
 
@@ -17,12 +23,15 @@ use Rattle.farm_types.specs.declared.rows.ResRow.{ResRow}
 pub same_texts : (a b : List ℕ) → text_cmp a b ≡ Equal → a ≡ b
 same_texts a b ties = (bytes_eq-Decides a b).0 (sym (is_eq-slice_cmp a b) ∙ ap is_eq ties)
 
+-- a job of the number that the members after it can follow as they followed p
+abbrev pub StillJob : Farm → ℕ → JobRow → Type 0
+StillJob G n p = (q : JobRow) × (job_of G n ≡ Some q) × (q.group ≡ p.group) × (q.owner ≡ p.owner) × (q.priority ≡ p.priority) × (q.checking ≡ p.checking)
+
 -- the later farm has every name that the earlier one has, and its clock and next number are no lower
 pub record Grows (F G : Farm) : Type 0 where
   pub types : (k : List ℕ) → IsSome (type_of F k) → IsSome (type_of G k)
   pub boards : (k : List ℕ) → IsSome (board_of F k) → IsSome (board_of G k)
-  pub jobs : (n : ℕ) (p : JobRow) → job_of F n ≡ Some p
-      → (q : JobRow) × (job_of G n ≡ Some q) × (q.group ≡ p.group) × (q.owner ≡ p.owner) × (q.priority ≡ p.priority) × (q.checking ≡ p.checking)
+  pub jobs : (n : ℕ) (p : JobRow) → job_of F n ≡ Some p → StillJob G n p
   pub reservations : (n : ℕ) → n < F.next → IsNone (res_of F n) → IsNone (res_of G n)
   pub clock : F.clock ≤ G.clock
   pub next : F.next ≤ G.next
@@ -91,3 +100,102 @@ module _ (F G : Farm) (grows : Grows F G) where
     waits = is.waits;
     holds = is.holds;
   }
+
+-- ---- an edited farm
+
+-- the rows that say something of others
+abbrev pub AreRows : Farm → List BoardRow → List JobRow → List ResRow → Type 0
+AreRows G boards jobs reservations = AllByRecursion (IsBoardRow G) boards × AllByRecursion (IsJobRow G) jobs × AllByRecursion (IsResRow G) reservations
+
+pub rows_grow : (F G : Farm) → IsSteady F → Grows F G → AreRows G F.boards F.jobs F.reservations
+rows_grow F G steady grows = (
+  AllByRecursion-weaker (IsBoardRow-grows F G grows) F.boards steady.boards,
+  AllByRecursion-weaker (IsJobRow-grows F G grows) F.jobs steady.jobs,
+  AllByRecursion-weaker (IsResRow-grows F G grows) F.reservations steady.reservations,
+)
+
+-- the farm that an edit leaves: that it grows, and all that makes it steady but those rows
+pub record Edit (F : Farm) : Type 0 where
+  pub farm : Farm
+  pub more_types : (k : List ℕ) → IsSome (type_of F k) → IsSome (type_of farm k)
+  pub more_boards : (k : List ℕ) → IsSome (board_of F k) → IsSome (board_of farm k)
+  pub still_jobs : (n : ℕ) (p : JobRow) → job_of F n ≡ Some p → StillJob farm n p
+  pub still_none : (n : ℕ) → n < F.next → IsNone (res_of F n) → IsNone (res_of farm n)
+  pub later : F.clock ≤ farm.clock
+  pub higher : F.next ≤ farm.next
+  pub types_sorted : IsStrictlySortedBy type_cmp farm.types
+  pub boards_sorted : IsStrictlySortedBy board_cmp farm.boards
+  pub jobs_sorted : IsStrictlySortedBy job_cmp farm.jobs
+  pub reservations_sorted : IsStrictlySortedBy res_cmp farm.reservations
+  pub kept_sorted : IsStrictlySortedBy kept_cmp farm.kept
+  pub types : AllByRecursion IsTypeRow farm.types
+  pub kept : AllByRecursion IsKeptRow farm.kept
+  pub few_types : length farm.types ≤ most_types
+  pub few_boards : length farm.boards ≤ most_boards
+  pub few_of_kind : (kind : List ℕ) → length (filter (λ b. bytes_eq b.kind kind) farm.boards) ≤ most_boards_of_type
+  pub few_jobs : length farm.jobs ≤ most_jobs
+  pub few_reservations : length farm.reservations ≤ most_reservations
+  pub few_kept : length farm.kept ≤ most_replies
+  pub clock : farm.clock ≤ last_moment
+  pub count : farm.count ≤ most_commands
+  pub next : (1 ≤ farm.next) × (farm.next ≤ numbers_end)
+
+-- the edit that leaves the farm as it is: others say what they change in it
+abbrev pub no_edit : (F : Farm) → IsSteady F → Edit F
+no_edit F steady = record {
+  farm = F;
+  more_types = λ k there. there;
+  more_boards = λ k there. there;
+  still_jobs = λ n p is. (p, is, refl, refl, refl, refl);
+  still_none = λ n low none. none;
+  later = omega arith;
+  higher = omega arith;
+  types_sorted = steady.types_sorted;
+  boards_sorted = steady.boards_sorted;
+  jobs_sorted = steady.jobs_sorted;
+  reservations_sorted = steady.reservations_sorted;
+  kept_sorted = steady.kept_sorted;
+  types = steady.types;
+  kept = steady.kept;
+  few_types = steady.few_types;
+  few_boards = steady.few_boards;
+  few_of_kind = steady.few_of_kind;
+  few_jobs = steady.few_jobs;
+  few_reservations = steady.few_reservations;
+  few_kept = steady.few_kept;
+  clock = steady.clock;
+  count = steady.count;
+  next = steady.next;
+}
+
+pub IsSteady-edited : {F : Farm} (e : Edit F) → (Grows F e.farm → AreRows e.farm e.farm.boards e.farm.jobs e.farm.reservations) → IsSteady e.farm
+IsSteady-edited e right =
+    let rows = right (record {
+      types = e.more_types;
+      boards = e.more_boards;
+      jobs = e.still_jobs;
+      reservations = e.still_none;
+      clock = e.later;
+      next = e.higher;
+    }) in
+    record {
+      types_sorted = e.types_sorted;
+      boards_sorted = e.boards_sorted;
+      jobs_sorted = e.jobs_sorted;
+      reservations_sorted = e.reservations_sorted;
+      kept_sorted = e.kept_sorted;
+      types = e.types;
+      boards = rows.0;
+      jobs = rows.1;
+      reservations = rows.2;
+      kept = e.kept;
+      few_types = e.few_types;
+      few_boards = e.few_boards;
+      few_of_kind = e.few_of_kind;
+      few_jobs = e.few_jobs;
+      few_reservations = e.few_reservations;
+      few_kept = e.few_kept;
+      clock = e.clock;
+      count = e.count;
+      next = e.next;
+    }

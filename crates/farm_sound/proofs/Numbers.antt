@@ -10,9 +10,9 @@ use Rattle.farm_types.specs.Sound.{Hold, IsKeptRow, IsSound, hold_of}
 use Rattle.farm_types.specs.Table.{kept_cmp, put}
 use Rattle.farm_types.specs.declared.rows.Holder.{Holder}
 use Rattle.farm_types.specs.declared.rows.KeptRow.{KeptRow}
-use Rattle.farm_types.proofs.Put.{AllByRecursion-put, AllByRecursion-weaker, length_put, put_sorted}
-use Rattle.farm_sound.proofs.Add.{IsHeldByKeys-same}
-use Rattle.farm_sound.proofs.Grow.{Grows, IsBoardRow-grows, IsJobRow-grows, IsResRow-grows}
+use Rattle.farm_types.proofs.Put.{AllByRecursion-put, length_put, put_sorted}
+use Rattle.farm_sound.proofs.Add.{IsHeldByKeys-same_rows}
+use Rattle.farm_sound.proofs.Grow.{IsSteady-edited, no_edit, rows_grow}
 
 -- ---- the empty farm
 
@@ -52,48 +52,13 @@ IsSound-empty = record {
 -- ---- the clock
 
 pub IsSound-moved : (F : Farm) (t : ℕ) → F.clock ≤ t → t ≤ last_moment → IsSound F → IsSound (record F { clock = t })
-IsSound-moved F t later low sound =
-    let G : Farm = record F { clock = t } in
-    let steady = sound.steady in
-    let grows : Grows F G = record {
-      types = λ k h. h;
-      boards = λ k h. h;
-      jobs = λ n p is. (p, is, refl, refl, refl, refl);
-      reservations = λ n lt h. h;
-      clock = later;
-      next = omega arith;
-    } in
-    record {
-      steady = record {
-        types_sorted = steady.types_sorted;
-        boards_sorted = steady.boards_sorted;
-        jobs_sorted = steady.jobs_sorted;
-        reservations_sorted = steady.reservations_sorted;
-        kept_sorted = steady.kept_sorted;
-        types = steady.types;
-        boards = AllByRecursion-weaker (IsBoardRow-grows F G grows) F.boards steady.boards;
-        jobs = AllByRecursion-weaker (IsJobRow-grows F G grows) F.jobs steady.jobs;
-        reservations = AllByRecursion-weaker (IsResRow-grows F G grows) F.reservations steady.reservations;
-        kept = steady.kept;
-        few_types = steady.few_types;
-        few_boards = steady.few_boards;
-        few_of_kind = steady.few_of_kind;
-        few_jobs = steady.few_jobs;
-        few_reservations = steady.few_reservations;
-        few_kept = steady.few_kept;
-        clock = low;
-        count = steady.count;
-        next = steady.next;
-      };
-      held = IsHeldByKeys-same F G same refl sound.held;
-      whole = sound.whole;
-      collecting = sound.collecting;
-    }
-  where
-    same : (h : Holder) → hold_of (record F { clock = t }) h ≡ hold_of F h
-    same Holder.Nobody = refl
-    same (Holder.Job n) = refl
-    same (Holder.Res n) = refl
+IsSound-moved F t later low sound = record {
+  steady = IsSteady-edited (record (no_edit F sound.steady) { farm = record F { clock = t }; later = later; clock = low })
+      (rows_grow F (record F { clock = t }) sound.steady);
+  held = IsHeldByKeys-same_rows F (record F { clock = t }) refl refl refl sound.held;
+  whole = sound.whole;
+  collecting = sound.collecting;
+}
 
 -- ---- a reply is kept, and the command is counted
 
@@ -104,46 +69,13 @@ IsSound-noted : (F : Farm) (kept : List KeptRow) (n : ℕ) → IsStrictlySortedB
     → length kept ≤ most_replies → n ≤ most_commands → IsSound F → IsSound (record F { kept = kept; count = n })
 IsSound-noted F kept n sorted rows few low sound =
     let G : Farm = record F { kept = kept; count = n } in
-    let steady = sound.steady in
-    let grows : Grows F G = record {
-      types = λ k h. h;
-      boards = λ k h. h;
-      jobs = λ n p is. (p, is, refl, refl, refl, refl);
-      reservations = λ n lt h. h;
-      clock = omega arith;
-      next = omega arith;
-    } in
     record {
-      steady = record {
-        types_sorted = steady.types_sorted;
-        boards_sorted = steady.boards_sorted;
-        jobs_sorted = steady.jobs_sorted;
-        reservations_sorted = steady.reservations_sorted;
-        kept_sorted = sorted;
-        types = steady.types;
-        boards = AllByRecursion-weaker (IsBoardRow-grows F G grows) F.boards steady.boards;
-        jobs = AllByRecursion-weaker (IsJobRow-grows F G grows) F.jobs steady.jobs;
-        reservations = AllByRecursion-weaker (IsResRow-grows F G grows) F.reservations steady.reservations;
-        kept = rows;
-        few_types = steady.few_types;
-        few_boards = steady.few_boards;
-        few_of_kind = steady.few_of_kind;
-        few_jobs = steady.few_jobs;
-        few_reservations = steady.few_reservations;
-        few_kept = few;
-        clock = steady.clock;
-        count = low;
-        next = steady.next;
-      };
-      held = IsHeldByKeys-same F G same refl sound.held;
+      steady = IsSteady-edited
+          (record (no_edit F sound.steady) { farm = G; kept_sorted = sorted; kept = rows; few_kept = few; count = low }) (rows_grow F G sound.steady);
+      held = IsHeldByKeys-same_rows F G refl refl refl sound.held;
       whole = sound.whole;
       collecting = sound.collecting;
     }
-  where
-    same : (h : Holder) → hold_of (record F { kept = kept; count = n }) h ≡ hold_of F h
-    same Holder.Nobody = refl
-    same (Holder.Job n) = refl
-    same (Holder.Res n) = refl
 
 pub IsSound-put_kept : (F : Farm) (row : KeptRow) → IsKeptRow row → length F.kept < most_replies → IsSound F → IsSound (put_kept F row)
 IsSound-put_kept F row is room sound =

@@ -11,6 +11,23 @@ pub by_cases : {R : Type 0} (P : R → Type 0) (v : Bool) (x y : R) → (v ≡ t
 by_cases P true x y so other = so refl
 by_cases P false x y so other = other refl
 
+-- a row after the change, and what it keeps
+abbrev pub changed : {R : Type 0} → (R → Bool) → (R → R) → R → R
+changed test f r = cond (test r) (f r) r
+
+pub changed_keeps : {R A : Type 0} (key : R → A) (test : R → Bool) (f : R → R) → ((r : R) → key (f r) ≡ key r) → (r : R) → key (changed test f r) ≡ key r
+changed_keeps key test f same r = by_cases (λ s. key s ≡ key r) (test r) (f r) r (λ _. same r) (λ _. refl)
+
+pub all_changed : {R : Type 0} (Q : R → Type 0) (test : R → Bool) (f : R → R) (rows : List R) → AllByRecursion (λ r. test r ≡ true → Q (f r)) rows
+    → AllByRecursion Q rows → AllByRecursion Q (map (changed test f) rows)
+all_changed Q test f [] so old = tt
+all_changed Q test f (r ∷ rows) so old = (by_cases Q (test r) (f r) r so.0 (λ _. old.0), all_changed Q test f rows so.1 old.1)
+
+-- what holds in both cases of a test
+pub either : {P : Type 0} (v : Bool) → (v ≡ true → P) → (v ≡ false → P) → P
+either true so other = so refl
+either false so other = other refl
+
 -- what holds of each row after the change
 pub AllByRecursion-map : {R S : Type 0} (P : R → Type 0) (Q : S → Type 0) (f : R → S) → ((r : R) → P r → Q (f r)) → (rows : List R)
     → AllByRecursion P rows → AllByRecursion Q (map f rows)
