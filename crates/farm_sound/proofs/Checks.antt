@@ -31,13 +31,12 @@ use Rattle.farm_types.specs.declared.rows.TypeRow.{TypeRow}
 use Rattle.farm_types.proofs.Put.{AllByRecursion-weaker, found_has, found_passes}
 use Rattle.farm_sound.proofs.Add.{IsSteady-add_job, add_job, job_of-add}
 use Rattle.farm_sound.proofs.Collecting.{IsCollecting-add, next_collects_not}
-use Rattle.farm_sound.proofs.Give.{IsFreeBoard, board_row_on, boards_on, on_board}
+use Rattle.farm_sound.proofs.Give.{IsFreeBoard, IsSteady-given_to, boards_on, given_to, still_board, still_there}
 use Rattle.farm_sound.proofs.Given.{IsHeldByKeys-given}
 use Rattle.farm_sound.proofs.Lists.{filter_all}
-use Rattle.farm_sound.proofs.Mapped.{IsSteady-mapped, same_job}
 use Rattle.farm_sound.proofs.Own.{fresh_job, fresh_res, itself, only_board, own_board}
 use Rattle.farm_sound.proofs.Tests.{both, nobody_from, same_number}
-use Rattle.farm_sound.proofs.Where.{AllByRecursion-both, all_true, by_cases, map_id}
+use Rattle.farm_sound.proofs.Where.{AllByRecursion-both, by_cases, either}
 use Rattle.farm_sound.proofs.Whole.{AreGroupsInPhase-add}
 
 -- ---- one check
@@ -65,33 +64,10 @@ module _ (F : Farm) (b : BoardRow) (free : IsFreeBoard F b) (sound : IsSound F) 
 
   -- the board in the check's hands, and then the check
   abbrev F1 : Farm
-  F1 = record F { boards = change_where (λ c. bytes_eq c.name b.name) (held_board (Holder.Job F.next) State.Reserved) F.boards }
+  F1 = given_to (Holder.Job F.next) b F
 
   row_b : IsBoardRow F b
   row_b = found_has (IsBoardRow F) (λ r. bytes_eq r.name b.name) b F.boards sound.steady.boards free.there
-
-  steady1 : IsSteady F1
-  steady1 =
-      IsSteady-mapped F (on_board (Holder.Job F.next) b) (λ j. j) (λ r. r) (λ c. c.name ≡ b.name → c ≡ b) (λ j. Unit {0}) (λ r. Unit {0})
-      (record {
-        board_name = λ c. by_cases (λ (d : BoardRow). d.name ≡ c.name) (bytes_eq c.name b.name) (held_board (Holder.Job F.next) State.Reserved c) c
-            (λ _. refl) (λ _. refl);
-        board_kind = λ c. by_cases (λ (d : BoardRow). d.kind ≡ c.kind) (bytes_eq c.name b.name) (held_board (Holder.Job F.next) State.Reserved c) c
-            (λ _. refl) (λ _. refl);
-        job_same = same_job;
-        res_number = λ r. refl;
-        boards = only_board F sound.steady b free.there;
-        jobs = all_true F.jobs;
-        reservations = all_true F.reservations;
-        board_row = board_row_on F (Holder.Job F.next) b free;
-        job_row = λ j _ is. is;
-        res_row = λ r _ is. is;
-      })
-      (change_where (λ c. bytes_eq c.name b.name) (held_board (Holder.Job F.next) State.Reserved) F.boards) refl F.jobs (sym (map_id F.jobs)) F.reservations
-      (sym (map_id F.reservations)) sound.steady
-
-  board_there : IsSome (board_of F1 b.name)
-  board_there = subst IsSome (sym (boards_on F (Holder.Job F.next) b b.name ∙ ap (option_map (on_board (Holder.Job F.next) b)) free.there)) refl
 
   check_row : IsJobRow (add_job row F1) row
   check_row = record {
@@ -104,7 +80,7 @@ module _ (F : Farm) (b : BoardRow) (free : IsFreeBoard F b) (sound : IsSound F) 
     role = tt;
     body = omega arith;
     text = no_text [] refl;
-    board = board_there;
+    board = still_there F (Holder.Job F.next) b free;
     outcome = (λ e. absurd (false≢true e), λ e. cc);
     waits = λ e. cc;
     holds = λ _. refl;
@@ -113,19 +89,14 @@ module _ (F : Farm) (b : BoardRow) (free : IsFreeBoard F b) (sound : IsSound F) 
     check = λ _. record { alone = refl; owner = refl; priority = refl; state = λ e. absurd (omega (arith, e)); tags = refl; role = refl; body = refl };
   }
 
-  stays_check : (k : ℕ) (v : Bool) → (F.next == k) ≡ v
-      → (hold_of (add_job row F1) (Holder.Job k) ≡ hold_of F (Holder.Job k)) ⊎ (Holder.Job k ≡ Holder.Job F.next)
-  stays_check k true same = inr (ap Holder.Job (sym (same_number F.next k same)))
-  stays_check k false other = inl (ap (λ o. option_map_or job_hold o None) (job_of-add F1 row k ∙ ap (λ v. cond v (Some row) (job_of F k)) other))
-
   stays_all : (h : Holder) → (hold_of (add_job row F1) h ≡ hold_of F h) ⊎ (h ≡ Holder.Job F.next)
-  stays_all Holder.Nobody = inl refl
-  stays_all (Holder.Job k) = stays_check k (F.next == k) refl
-  stays_all (Holder.Res k) = inl refl
+  stays_all (Holder.Job k) = either (F.next == k) (λ same. inr (ap Holder.Job (sym (same_number F.next k same))))
+      (λ other. inl (ap (λ o. option_map_or job_hold o None) (job_of-add F1 row k ∙ ap (λ v. cond v (Some row) (job_of F k)) other)))
+  stays_all h = inl refl
 
   checked_sound : length F.jobs < most_jobs → F.next < numbers_end → IsSound (add_job row F1)
   checked_sound room numbers = record {
-    steady = IsSteady-add_job F1 row refl room numbers check_row steady1;
+    steady = IsSteady-add_job F1 row refl room numbers check_row (IsSteady-given_to F (Holder.Job F.next) b free sound.steady);
     held = IsHeldByKeys-given F (add_job row F1) (Holder.Job F.next) b
         (record {
           free = free.nobody;
@@ -151,8 +122,7 @@ module _ (F : Farm) (b : BoardRow) (free : IsFreeBoard F b) (sound : IsSound F) 
   pub still_free : (c : BoardRow) → bytes_eq c.name b.name ≡ false → IsFreeBoard F c → IsFreeBoard (check_one F b) c
   still_free c other is = by_cases (λ G. IsFreeBoard G c) (has_room F 1) (add_job row F1) F
       (λ _. record {
-        there = boards_on F (Holder.Job F.next) b c.name ∙ ap (option_map (on_board (Holder.Job F.next) b)) is.there
-            ∙ ap (λ v. Some (cond v (held_board (Holder.Job F.next) State.Reserved c) c)) other;
+        there = still_board F (Holder.Job F.next) b c other is.there;
         nobody = is.nobody;
         kept = is.kept;
       })
@@ -183,15 +153,13 @@ due_kept check t b due retired =
 apart_filter : (test : BoardRow → Bool) (bs : List BoardRow) → IsStrictlySortedBy board_cmp bs → AreApartBoards (filter test bs)
 unfolding IsStrictlySortedBy
 apart_filter test [] sorted = tt
-apart_filter test (b ∷ bs) sorted = by (test b) (apart_filter test bs sorted.1)
-  where
-    by : (v : Bool) → AreApartBoards (filter test bs) → AreApartBoards (cond v (b ∷ filter test bs) (filter test bs))
-    by true rest = (
+apart_filter test (b ∷ bs) sorted = by_cases AreApartBoards (test b) (b ∷ filter test bs) (filter test bs)
+    (λ _. (
       AllByRecursion-weaker (λ c two. nat_list_eq_equiv.symm c.name b.name ∙ sym (is_eq-slice_cmp b.name c.name) ∙ ap is_eq two.0) (filter test bs)
           (filter_all (λ c. board_cmp b c ≡ Less) test bs sorted.0),
-      rest,
-    )
-    by false rest = rest
+      apart_filter test bs sorted.1,
+    ))
+    (λ _. apart_filter test bs sorted.1)
 
 pub IsSound-checks : (F : Farm) (t : ℕ) → IsSound F → IsSound (checks F t)
 IsSound-checks F t sound =
@@ -203,27 +171,13 @@ IsSound-checks F t sound =
     (filter (is_due F t) F.boards) (filter_all (λ b. board_of F b.name ≡ Some b) (is_due F t) F.boards (own_board F sound.steady)))
     (apart_filter (is_due F t) F.boards sound.steady.boards_sorted) sound
 
-pub check_clock : (bs : List BoardRow) (F : Farm) → (fold check_one F bs).clock ≡ F.clock
-check_clock [] F = refl
-check_clock (b ∷ bs) F = check_clock bs (check_one F b) ∙ one (has_room F 1)
-  where
-    one : (v : Bool) → (cond v (record F {
-      jobs = put job_cmp F.jobs (check_job F.next b);
-      boards = change_where (λ c. bytes_eq c.name b.name) (held_board (Holder.Job F.next) State.Reserved) F.boards;
-      next = F.next + 1;
-    }) F).clock
-        ≡ F.clock
-    one true = refl
-    one false = refl
+-- they change jobs, boards and the next number alone
+pub checks_rest : (bs : List BoardRow) (F : Farm) → record (fold check_one F bs) { jobs = F.jobs; boards = F.boards; next = F.next } ≡ F
+checks_rest [] F = refl
+checks_rest (b ∷ bs) F =
+    ap (λ (G : Farm). record G { jobs = F.jobs; boards = F.boards; next = F.next }) (checks_rest bs (check_one F b))
+    ∙ by_cases (λ (G : Farm). record G { jobs = F.jobs; boards = F.boards; next = F.next } ≡ F) (has_room F 1) (add_job (check_job F.next b) (given_to (Holder.Job F.next) b F)) F
+    (λ _. refl) (λ _. refl)
 
-pub checks_kept : (bs : List BoardRow) (F : Farm) → (fold check_one F bs).kept ≡ F.kept
-checks_kept [] F = refl
-checks_kept (b ∷ bs) F = checks_kept bs (check_one F b) ∙ one (has_room F 1)
-  where
-    one : (v : Bool) → (cond v (record F {
-      jobs = put job_cmp F.jobs (check_job F.next b);
-      boards = change_where (λ c. bytes_eq c.name b.name) (held_board (Holder.Job F.next) State.Reserved) F.boards;
-      next = F.next + 1;
-    }) F).kept ≡ F.kept
-    one true = refl
-    one false = refl
+pub check_clock : (bs : List BoardRow) (F : Farm) → (fold check_one F bs).clock ≡ F.clock
+check_clock bs F = ap (λ (G : Farm). G.clock) (checks_rest bs F)

@@ -22,12 +22,12 @@ use Rattle.farm_sound.proofs.Claims.{IsClaim, IsGroupClaim, IsOpen, leads}
 use Rattle.farm_sound.proofs.Collecting.{IsHeldByKeys-collector, IsSteady-collector, none_scheduling}
 use Rattle.farm_sound.proofs.Free.{serves_kept}
 use Rattle.farm_sound.proofs.Give.{IsFreeBoard, IsHeldByKeys-give_member, IsSteady-give_member, other_job}
-use Rattle.farm_sound.proofs.Group.{Ready, as_scheduling, filter_sorted, given, given_group, given_number, given_other, given_same, given_state, jobs_given}
+use Rattle.farm_sound.proofs.Group.{Ready, as_scheduling, filter_sorted, given, given_group, given_elsewhere, given_number, given_rest, given_same, given_state, jobs_given, own_members, ready_members}
 use Rattle.farm_sound.proofs.Lists.{filter_all, filter_back}
 use Rattle.farm_sound.proofs.Own.{differs_more, itself, own_board, own_job}
 use Rattle.farm_sound.proofs.Tests.{both, nobody_from, same_number}
 use Rattle.farm_sound.proofs.Unmet.{IsUnmet, IsUnmet-shrinks, Shrinks, fold_shrinks}
-use Rattle.farm_sound.proofs.Where.{AllByRecursion-both, AllByRecursion-map, count_map, find_map}
+use Rattle.farm_sound.proofs.Where.{AllByRecursion-both, AllByRecursion-map, count_map, filter_same, find_map}
 use Rattle.farm_sound.proofs.Whole.{Alike, AreGroupsInPhase-map_by}
 
 -- ---- the boards that are taken
@@ -97,19 +97,6 @@ collect_all (m ∷ ms) F all sorted steady held =
     by None is none some = none
     by (Some b) is none some = some b (first_is_free F m.want b steady is)
 
--- of changed jobs those of a group are the group's, changed
-filter_map_kept : (f : JobRow → JobRow) (group : ℕ) → ((j : JobRow) → (f j).group ≡ j.group) → (jobs : List JobRow)
-    → filter (λ r. r.group == group) (map f jobs) ≡ map f (filter (λ r. r.group == group) jobs)
-filter_map_kept f group same [] = refl
-filter_map_kept f group same (j ∷ jobs) =
-    ap (λ g. cond (g == group) (f j ∷ filter (λ r. r.group == group) (map f jobs)) (filter (λ r. r.group == group) (map f jobs))) (same j)
-    ∙ ap (λ l. cond (j.group == group) (f j ∷ l) l) (filter_map_kept f group same jobs) ∙ by (j.group == group)
-  where
-    by : (v : Bool) → cond v (f j ∷ map f (filter (λ r. r.group == group) jobs)) (map f (filter (λ r. r.group == group) jobs))
-        ≡ map f (cond v (j ∷ filter (λ r. r.group == group) jobs) (filter (λ r. r.group == group) jobs))
-    by true = refl
-    by false = refl
-
 pub map_same : {A : Type 0} (f : JobRow → JobRow) (g : JobRow → A) → ((j : JobRow) → g (f j) ≡ g j) → (ms : List JobRow) → map g (map f ms) ≡ map g ms
 map_same f g same [] = refl
 map_same f g same (m ∷ ms) = λ i. same m i ∷ map_same f g same ms i
@@ -134,12 +121,8 @@ module _ (F : Farm) (j : JobRow) (sound : IsSound F) (none : F.collector ≡ 0) 
   abbrev after : JobRow → JobRow
   after = given S ps
 
-  own_members : AllByRecursion (λ m. (job_of F m.number ≡ Some m) × ((m.group == group) ≡ true)) (members F group)
-  own_members = filter_all (λ m. job_of F m.number ≡ Some m) (λ r. r.group == group) F.jobs (own_job F sound.steady)
-
   pub ready : AllByRecursion (Ready F) (members F group)
-  ready = AllByRecursion-weaker (λ m two. (two.0.0, two.1)) (members F group)
-      (AllByRecursion-both (λ m. (job_of F m.number ≡ Some m) × ((m.group == group) ≡ true)) (λ m. m.state ≡ JobState.Submitted) (members F group) own_members submitted)
+  ready = ready_members F group sound.steady submitted
 
   pub jobs_collected : (collect F group).jobs ≡ map after F.jobs
   jobs_collected = ap (λ (G : Farm). G.jobs) (collect_is (members F group) F) ∙ jobs_given S ps F
@@ -150,22 +133,11 @@ module _ (F : Farm) (j : JobRow) (sound : IsSound F) (none : F.collector ≡ 0) 
     pub mine : m.group ≡ group → m.state ≡ JobState.Submitted
     pub idle : m.state ≡ JobState.Scheduling → ⊥
 
-  part_other : (m : JobRow) → job_of F m.number ≡ Some m → (m.group == group) ≡ false → after m ≡ m
-  part_other m own other = given_other S ps m (AllByRecursion-weaker (λ p two. elsewhere p.0 two.0 two.1 (m.number == p.0.number) refl) ps
-      (pairs_of (λ k. (job_of F k.number ≡ Some k) × ((k.group == group) ≡ true)) (members F group) F own_members))
-    where
-      elsewhere : (k : JobRow) → job_of F k.number ≡ Some k → (k.group == group) ≡ true → (v : Bool) → (m.number == k.number) ≡ v → (m.number == k.number) ≡ false
-      elsewhere k at is true same =
-          let e : m.number ≡ k.number = same_number m.number k.number same in
-          let two : Some m ≡ Some k = sym own ∙ ap (job_of F) e ∙ at in
-          let one : m ≡ k = cc in
-          absurd (false≢true (sym other ∙ ap (λ (x : JobRow). x.group == group) one ∙ is))
-      elsewhere k at is false differ = differ
-
   pub parts : AllByRecursion Part F.jobs
   parts = AllByRecursion-weaker
       (λ m three. record {
-        other = part_other m three.0.0;
+        other = given_elsewhere F group S ps
+            (pairs_of (λ k. (job_of F k.number ≡ Some k) × ((k.group == group) ≡ true)) (members F group) F (own_members F group sound.steady)) m three.0.0;
         mine = λ same. three.0.1 (ap (λ g. g == group) same ∙ itself group);
         idle = three.1;
       }) F.jobs
@@ -222,11 +194,7 @@ module _ (F : Farm) (j : JobRow) (sound : IsSound F) (none : F.collector ≡ 0) 
       }
 
   pub reservations_kept : (collect F group).reservations ≡ F.reservations
-  reservations_kept = ap (λ (G : Farm). G.reservations) (collect_is (members F group) F) ∙ kept ps F
-    where
-      kept : (qs : List (JobRow × BoardRow)) (G : Farm) → (fold (give_member S) G qs).reservations ≡ G.reservations
-      kept [] G = refl
-      kept (q ∷ qs) G = kept qs (give_member S G (q.0, q.1))
+  reservations_kept = ap (λ (G : Farm). G.reservations) (collect_is (members F group) F) ∙ ap (λ (G : Farm). G.reservations) (given_rest S ps F)
 
   pub collect_shrinks : ((collect F group).types ≡ F.types) × Shrinks F.types F.boards (collect F group).boards
   collect_shrinks = subst (λ (G : Farm). (G.types ≡ F.types) × Shrinks F.types F.boards G.boards) (sym (collect_is (members F group) F)) (fold_shrinks S ps F)
@@ -237,7 +205,7 @@ module _ (F : Farm) (j : JobRow) (sound : IsSound F) (none : F.collector ≡ 0) 
   -- ---- the claims afterwards
 
   pub members_after : (n : ℕ) → members (collect F group) n ≡ map after (members F n)
-  members_after n = ap (filter (λ (r : JobRow). r.group == n)) jobs_collected ∙ filter_map_kept after n (given_group S ps) F.jobs
+  members_after n = ap (filter (λ (r : JobRow). r.group == n)) jobs_collected ∙ filter_same (λ (r : JobRow). r.group == n) after (λ r. ap (λ g. g == n) (given_group S ps r)) F.jobs
 
   pub job_after : (n : ℕ) → job_of (collect F group) n ≡ option_map after (job_of F n)
   job_after n = ap (find (λ (r : JobRow). r.number == n)) jobs_collected

@@ -8,7 +8,7 @@ use Rattle.std.proofs.lemmas.Bool.Decides.{nat_tests}
 use Rattle.std.proofs.lemmas.Cmp.{ranked}
 use Rattle.farm_types.specs.Farm.{Farm}
 use Rattle.farm_types.specs.Sound.{IsCollecting, IsHeldByKeys, IsJobRow, IsSteady, hold_of, phase}
-use Rattle.farm_types.specs.Table.{job_cmp, put}
+use Rattle.farm_types.specs.Table.{change_where, job_cmp, put}
 use Rattle.farm_types.specs.declared.rows.Holder.{Holder}
 use Rattle.farm_types.specs.declared.rows.JobRow.{JobRow}
 use Rattle.farm_types.specs.declared.rows.JobState.{JobState}
@@ -16,7 +16,7 @@ use Rattle.farm_types.proofs.Put.{AllByRecursion-put, AllByRecursion-weaker}
 use Rattle.farm_sound.proofs.Add.{IsHeldByKeys-same_rows, job_total}
 use Rattle.farm_sound.proofs.Grow.{IsSteady-edited, no_edit, rows_grow}
 use Rattle.farm_sound.proofs.Lists.{none_pass}
-use Rattle.farm_sound.proofs.Where.{AllByRecursion-both, AllByRecursion-map, count_map}
+use Rattle.farm_sound.proofs.Where.{AllByRecursion-both, AllByRecursion-map, by_cases, changed, changed_keeps, count_map}
 
 -- ---- the same rows with another collector
 
@@ -44,6 +44,17 @@ IsCollecting-map c P f jobs all groups states stays is = record {
       (λ j two e. stays j two.0 low (sym (groups j) ∙ e) (two.1 (sym (groups j) ∙ e))) jobs
       (AllByRecursion-both P (λ j. j.group ≡ c → phase j.state ≡ 0) jobs all (is.waits low));
 }
+
+-- where jobs that pass change
+pub IsCollecting-where : (c : ℕ) (P : JobRow → Type 0) (test : JobRow → Bool) (f : JobRow → JobRow) (jobs : List JobRow) → AllByRecursion P jobs
+    → ((j : JobRow) → (f j).group ≡ j.group)
+    → ((j : JobRow) → test j ≡ true → P j
+    → ((f j).state ≡ JobState.Scheduling → ⊥) × (1 ≤ c → j.group ≡ c → phase j.state ≡ 0 → phase (f j).state ≡ 0))
+    → IsCollecting c jobs → IsCollecting c (change_where test f jobs)
+IsCollecting-where c P test f jobs all groups passes is = IsCollecting-map c P (changed test f) jobs all (changed_keeps (λ (j : JobRow). j.group) test f groups)
+    (λ j p. by_cases (λ (k : JobRow). k.state ≡ JobState.Scheduling → j.state ≡ JobState.Scheduling) (test j) (f j) j
+    (λ so e. absurd ((passes j so p).0 e)) (λ _ e. e))
+    (λ j p low same waits. by_cases (λ (k : JobRow). phase k.state ≡ 0) (test j) (f j) j (λ so. (passes j so p).1 low same waits) (λ _. waits)) is
 
 -- none collects where no job is Scheduling
 pub none_collects : (jobs : List JobRow) → AllByRecursion (λ j. j.state ≡ JobState.Scheduling → ⊥) jobs → IsCollecting 0 jobs

@@ -6,7 +6,7 @@ use Rattle.farm_types.specs.Change.{after_check, after_job, finish_one, graded_b
 use Rattle.farm_types.specs.Codes.{same_health, same_job_state, same_outcome}
 use Rattle.farm_types.specs.Farm.{Farm, job_of, type_of}
 use Rattle.farm_types.specs.Pass.{freed_board}
-use Rattle.farm_types.specs.Sound.{Description, IsBoardRow, IsDescription, IsSound, description_of, phase}
+use Rattle.farm_types.specs.Sound.{Description, IsBoardRow, IsDescription, IsSound, description_of, job_hold, phase}
 use Rattle.farm_types.specs.declared.rows.BoardRow.{BoardRow}
 use Rattle.farm_types.specs.declared.rows.Health.{Health}
 use Rattle.farm_types.specs.declared.rows.Holder.{Holder}
@@ -14,10 +14,10 @@ use Rattle.farm_types.specs.declared.rows.JobRow.{JobRow}
 use Rattle.farm_types.specs.declared.rows.JobState.{JobState}
 use Rattle.farm_types.specs.declared.rows.Outcome.{Outcome}
 use Rattle.farm_types.proofs.Put.{found_passes}
-use Rattle.farm_sound.proofs.ChangeJobs.{IsSound-change_jobs}
-use Rattle.farm_sound.proofs.Collecting.{IsCollecting-map}
+use Rattle.farm_sound.proofs.Changes.{IsSound-change_jobs}
+use Rattle.farm_sound.proofs.Collecting.{IsCollecting-where}
 use Rattle.farm_sound.proofs.Own.{only_job}
-use Rattle.farm_sound.proofs.Rows.{hold_nothing, job_row_in, left_off}
+use Rattle.farm_sound.proofs.Rows.{job_row_in, leaves_off}
 use Rattle.farm_sound.proofs.Tests.{same_number}
 use Rattle.farm_sound.proofs.Where.{all_true, by_cases}
 use Rattle.farm_sound.proofs.Whole.{Alike, AreGroupsInPhase-map_by}
@@ -113,19 +113,19 @@ module _ (F : Farm) (n : ℕ) (j : JobRow) (named : Outcome) (there : job_of F n
       (record {
         jobs = all_true F.jobs;
         same = λ m. record { number = refl; group = refl; owner = refl; priority = refl; checking = refl };
-        row = λ m so _ is. job_row_in F m JobState.Finished (Some outcome) m.board is.board (λ _. refl, λ _. refl) (λ e. absurd (false≢true e)) (λ e. cc) is;
-        board_name = λ b. ap (λ (d : Description). d.name) (description_after b);
-        board_kind = λ b. ap (λ (d : Description). d.kind) (description_after b);
-        board_row = λ b so is. idle_row F b (after b) (used_after b is) is;
-        none = λ m so p is. hold_nothing (Holder.Job m.number) m.board;
-        left = λ m b so p is. left_off (Holder.Job m.number) m.board (freed_board (after b)) refl refl;
+        row = λ m so _ is. job_row_in _ m JobState.Finished (Some outcome) m.board is.board (λ _. refl, λ _. refl) (λ e. absurd (false≢true e)) (λ e. cc) is;
+        boards = record {
+          name = λ b. ap (λ (d : Description). d.name) (description_after b);
+          kind = λ b. ap (λ (d : Description). d.kind) (description_after b);
+          row = λ b is. idle_row F b (after b) (used_after b is) is;
+        };
+        leaves = λ m so p. leaves_off (job_hold m) (Holder.Job m.number) m.board (λ b. freed_board (after b)) (λ b. refl) (λ b. refl);
       })
       (AreGroupsInPhase-map_by F (λ m. m.number ≡ j.number → m ≡ j) (λ m. cond (m.number == j.number) (over m) m) only alike_over sound.whole)
-      (IsCollecting-map F.collector (λ m. m.number ≡ j.number → m ≡ j) (λ m. cond (m.number == j.number) (over m) m) F.jobs only
-      (λ m. by_cases (λ (k : JobRow). k.group ≡ m.group) (m.number == j.number) (over m) m (λ _. refl) (λ _. refl))
-      (λ m p. by_cases (λ (k : JobRow). k.state ≡ JobState.Scheduling → m.state ≡ JobState.Scheduling) (m.number == j.number) (over m) m (λ _ e. cc) (λ _ e. e))
-      (λ m p low same waits. by_cases (λ (k : JobRow). phase k.state ≡ 0) (m.number == j.number) (over m) m
-      (λ so. let s : phase m.state ≡ 2 = ap (λ (k : JobRow). phase k.state) (p (same_number m.number j.number so)) ∙ started in absurd (omega (arith, s, waits)))
-      (λ _. waits))
+      (IsCollecting-where F.collector (λ m. m.number ≡ j.number → m ≡ j) (λ m. m.number == j.number) over F.jobs only (λ m. refl)
+      (λ m so p. (
+        λ e. cc,
+        λ low same waits. let s : phase m.state ≡ 2 = ap (λ (k : JobRow). phase k.state) (p (same_number m.number j.number so)) ∙ started in absurd (omega (arith, s, waits)),
+      ))
       sound.collecting)
       sound

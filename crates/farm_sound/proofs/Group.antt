@@ -22,8 +22,8 @@ use Rattle.farm_sound.proofs.Give.{IsFreeBoard, IsPlaced, IsHeldByKeys-give_memb
 use Rattle.farm_sound.proofs.Lists.{filter_all}
 use Rattle.farm_sound.proofs.Own.{differs_more, own_job}
 use Rattle.farm_sound.proofs.Tests.{both, same_number}
-use Rattle.farm_sound.proofs.Where.{AllByRecursion-both, AllByRecursion-map, by_cases}
-use Rattle.farm_sound.proofs.Whole.{Alike}
+use Rattle.farm_sound.proofs.Where.{AllByRecursion-both, by_cases, either, map_id}
+use Rattle.farm_sound.proofs.Whole.{Alike, AreGroupsInPhase-map_by}
 
 -- ---- pairs of members and boards
 
@@ -70,11 +70,9 @@ zip_all P Q (x ∷ xs) (y ∷ ys) p q = ((p.0, q.0), zip_all P Q xs ys p.1 q.1)
 pub filter_sorted : (test : JobRow → Bool) (xs : List JobRow) → IsStrictlySortedBy job_cmp xs → IsStrictlySortedBy job_cmp (filter test xs)
 unfolding IsStrictlySortedBy
 filter_sorted test [] sorted = tt
-filter_sorted test (x ∷ xs) sorted = by (test x) (filter_sorted test xs sorted.1)
-  where
-    by : (v : Bool) → IsStrictlySortedBy job_cmp (filter test xs) → IsStrictlySortedBy job_cmp (cond v (x ∷ filter test xs) (filter test xs))
-    by true rest = (AllByRecursion-weaker (λ y two. two.0) (filter test xs) (filter_all (λ y. job_cmp x y ≡ Less) test xs sorted.0), rest)
-    by false rest = rest
+filter_sorted test (x ∷ xs) sorted = by_cases (IsStrictlySortedBy job_cmp) (test x) (x ∷ filter test xs) (filter test xs)
+    (λ _. (AllByRecursion-weaker (λ y two. two.0) (filter test xs) (filter_all (λ y. job_cmp x y ≡ Less) test xs sorted.0), filter_sorted test xs sorted.1))
+    (λ _. filter_sorted test xs sorted.1)
 
 not_any : (b : BoardRow) (bs : List BoardRow) → not (list_any (λ c. bytes_eq b.name c.name) bs) ≡ true → AllByRecursion (λ c. bytes_eq c.name b.name ≡ false) bs
 not_any b [] is = tt
@@ -107,12 +105,8 @@ map_map : {A : Type 0} (f g : A → A) (xs : List A) → map g (map f xs) ≡ ma
 map_map f g [] = refl
 map_map f g (x ∷ xs) = ap (λ rest. g (f x) ∷ rest) (map_map f g xs)
 
-map_itself : {A : Type 0} (xs : List A) → xs ≡ map (λ x. x) xs
-map_itself [] = refl
-map_itself (x ∷ xs) = ap (λ rest. x ∷ rest) (map_itself xs)
-
 pub jobs_given : (state : JobState) (ps : List (JobRow × BoardRow)) (F : Farm) → (fold (give_member state) F ps).jobs ≡ map (given state ps) F.jobs
-jobs_given state [] F = map_itself F.jobs
+jobs_given state [] F = sym (map_id F.jobs)
 jobs_given state (p ∷ ps) F = jobs_given state ps (give_member state F (p.0, p.1)) ∙ map_map (λ m. cond (m.number == p.0.number) (placed_job state p.1.name m) m) (given state ps) F.jobs
 
 abbrev HasNumber : ℕ → List (JobRow × BoardRow) → Type 0
@@ -193,11 +187,37 @@ members_number group (m ∷ jobs) =
     later true k at = inr at
     later false k at = at
 
+-- nothing else changes but the boards
+pub given_rest : (state : JobState) (ps : List (JobRow × BoardRow)) (F : Farm) → record (fold (give_member state) F ps) { jobs = F.jobs; boards = F.boards } ≡ F
+given_rest state [] F = refl
+given_rest state (p ∷ ps) F = ap (λ (G : Farm). record G { jobs = F.jobs; boards = F.boards }) (given_rest state ps (give_member state F (p.0, p.1)))
+
 pub collector_kept : (state : JobState) (ps : List (JobRow × BoardRow)) (F : Farm) → (fold (give_member state) F ps).collector ≡ F.collector
-collector_kept state [] F = refl
-collector_kept state (p ∷ ps) F = collector_kept state ps (give_member state F (p.0, p.1))
+collector_kept state ps F = ap (λ (G : Farm). G.collector) (given_rest state ps F)
 
 -- ---- the group
+
+pub own_members : (F : Farm) (group : ℕ) → IsSteady F → AllByRecursion (λ m. (job_of F m.number ≡ Some m) × ((m.group == group) ≡ true)) (members F group)
+own_members F group steady = filter_all (λ m. job_of F m.number ≡ Some m) (λ r. r.group == group) F.jobs (own_job F steady)
+
+pub ready_members : (F : Farm) (group : ℕ) → IsSteady F → AllByRecursion (λ m. m.state ≡ JobState.Submitted) (members F group)
+    → AllByRecursion (Ready F) (members F group)
+ready_members F group steady submitted = AllByRecursion-weaker (λ m two. (two.0.0, two.1)) (members F group)
+    (AllByRecursion-both (λ m. (job_of F m.number ≡ Some m) × ((m.group == group) ≡ true)) (λ m. m.state ≡ JobState.Submitted)
+    (members F group) (own_members F group steady) submitted)
+
+-- a job of another group stays where members of the group get boards
+pub given_elsewhere : (F : Farm) (group : ℕ) (state : JobState) (ps : List (JobRow × BoardRow))
+    → AllByRecursion (λ p. (job_of F p.0.number ≡ Some p.0) × ((p.0.group == group) ≡ true)) ps
+    → (m : JobRow) → job_of F m.number ≡ Some m → (m.group == group) ≡ false → given state ps m ≡ m
+given_elsewhere F group state ps all m own other = given_other state ps m
+    (AllByRecursion-weaker (λ p two. either (m.number == p.0.number) (λ same. absurd (elsewhere p.0 two.0 two.1 same)) (λ differ. differ)) ps all)
+  where
+    elsewhere : (k : JobRow) → job_of F k.number ≡ Some k → (k.group == group) ≡ true → (m.number == k.number) ≡ true → ⊥
+    elsewhere k there is same =
+        let two : Some m ≡ Some k = sym own ∙ ap (job_of F) (same_number m.number k.number same) ∙ there in
+        let one : m ≡ k = cc in
+        false≢true (sym other ∙ ap (λ (x : JobRow). x.group == group) one ∙ is)
 
 module _ (F : Farm) (group : ℕ) (bs : List BoardRow) (sound : IsSound F)
     (waits : AllByRecursion (λ m. m.state ≡ JobState.Submitted) (members F group)) (free : AllByRecursion (IsFreeBoard F) bs)
@@ -205,13 +225,8 @@ module _ (F : Farm) (group : ℕ) (bs : List BoardRow) (sound : IsSound F)
   abbrev pairs : List (JobRow × BoardRow)
   pairs = zip (members F group) bs
 
-  own_members : AllByRecursion (λ m. (job_of F m.number ≡ Some m) × ((m.group == group) ≡ true)) (members F group)
-  own_members = filter_all (λ m. job_of F m.number ≡ Some m) (λ r. r.group == group) F.jobs (own_job F sound.steady)
-
   ready : AllByRecursion (Ready F) (members F group)
-  ready = AllByRecursion-weaker (λ m two. (two.0.0, two.1)) (members F group)
-      (AllByRecursion-both (λ m. (job_of F m.number ≡ Some m) × ((m.group == group) ≡ true)) (λ m. m.state ≡ JobState.Submitted)
-      (members F group) own_members waits)
+  ready = ready_members F group sound.steady waits
 
   pub pairs_ready : AllByRecursion (ArePairs F) pairs
   pairs_ready = zip_all (Ready F) (IsFreeBoard F) (members F group) bs ready free
@@ -227,18 +242,10 @@ module _ (F : Farm) (group : ℕ) (bs : List BoardRow) (sound : IsSound F)
   part : (m : JobRow) → job_of F m.number ≡ Some m → (m.group ≡ group → IsNumberOf m.number (members F group)) → Part m
   part m own named = (
     λ same. given_scheduled pairs m (inr (has_from m.number (members F group) bs long (named same))),
-    λ other. given_other JobState.Scheduled pairs m (AllByRecursion-weaker (λ p two. elsewhere other p.0 two.0.0 two.0.1 (m.number == p.0.number) refl) pairs
-        (zip_all (λ k. (job_of F k.number ≡ Some k) × ((k.group == group) ≡ true)) (λ b. IsFreeBoard F b) (members F group) bs own_members free)),
+    given_elsewhere F group JobState.Scheduled pairs
+        (AllByRecursion-weaker (λ p two. two.0) pairs
+        (zip_all (λ k. (job_of F k.number ≡ Some k) × ((k.group == group) ≡ true)) (IsFreeBoard F) (members F group) bs (own_members F group sound.steady) free)) m own,
   )
-    where
-      elsewhere : (m.group == group) ≡ false → (k : JobRow) → job_of F k.number ≡ Some k → (k.group == group) ≡ true → (v : Bool)
-          → (m.number == k.number) ≡ v → (m.number == k.number) ≡ false
-      elsewhere other k there is true same =
-          let e : m.number ≡ k.number = same_number m.number k.number same in
-          let two : Some m ≡ Some k = sym own ∙ ap (job_of F) e ∙ there in
-          let one : m ≡ k = cc in
-          absurd (false≢true (sym other ∙ ap (λ (x : JobRow). x.group == group) one ∙ is))
-      elsewhere other k there is false differ = differ
 
   pub parts : AllByRecursion Part F.jobs
   parts = AllByRecursion-weaker (λ m two. part m two.0 two.1) F.jobs
@@ -256,12 +263,6 @@ module _ (F : Farm) (group : ℕ) (bs : List BoardRow) (sound : IsSound F)
           let g : j.group ≡ group = same_number j.group group is in
           ap phase (pm.0 (e ∙ g) ∙ sym (pj.0 g))
       by false is = ap (λ (x : JobRow). phase x.state) (pm.1 (ap (λ g. g == group) e ∙ is)) ∙ alike e ∙ sym (ap (λ (x : JobRow). phase x.state) (pj.1 is))
-
-  whole_given : AllByRecursion (λ j. AllByRecursion (Alike j) (map (given JobState.Scheduled pairs) F.jobs)) (map (given JobState.Scheduled pairs) F.jobs)
-  whole_given = AllByRecursion-map (λ j. Part j × AllByRecursion (Alike j) F.jobs) (λ j. AllByRecursion (Alike j) (map (given JobState.Scheduled pairs) F.jobs)) (given JobState.Scheduled pairs)
-      (λ j two. AllByRecursion-map (λ m. Part m × Alike j m) (Alike (given JobState.Scheduled pairs j)) (given JobState.Scheduled pairs)
-      (λ m three. alike_given j m two.0 three.0 three.1) F.jobs (AllByRecursion-both Part (Alike j) F.jobs parts two.1))
-      F.jobs (AllByRecursion-both Part (λ j. AllByRecursion (Alike j) F.jobs) F.jobs parts sound.whole)
 
   -- no job becomes Scheduling
   given_stays : (m : JobRow) → Part m → (given JobState.Scheduled pairs m).state ≡ JobState.Scheduling → m.state ≡ JobState.Scheduling
@@ -286,5 +287,6 @@ module _ (F : Farm) (group : ℕ) (bs : List BoardRow) (sound : IsSound F)
     collecting = subst (λ c. IsCollecting c (give_group F group bs).jobs) (sym (collector_kept JobState.Scheduled pairs F))
         (subst (IsCollecting F.collector) (sym (jobs_given JobState.Scheduled pairs F))
         (IsCollecting-map F.collector Part (given JobState.Scheduled pairs) F.jobs parts (given_group JobState.Scheduled pairs) given_stays given_waits sound.collecting));
-    whole = subst (λ l. AllByRecursion (λ j. AllByRecursion (Alike j) l) l) (sym (jobs_given JobState.Scheduled pairs F)) whole_given;
+    whole = subst (λ l. AllByRecursion (λ j. AllByRecursion (Alike j) l) l) (sym (jobs_given JobState.Scheduled pairs F))
+        (AreGroupsInPhase-map_by F Part (given JobState.Scheduled pairs) parts alike_given sound.whole);
   }

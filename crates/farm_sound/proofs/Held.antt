@@ -1,7 +1,7 @@
 -- Who holds which board, found by keys, after rows have changed.
 use Rattle.std.proofs.Common.{◌==◌, ◌∙◌, ◌≡◌, Bool, IsSomeAnd, List, None, Option, Some, ap, arith, cond, false, map, refl, subst, sym, true, ℕ}
-use mathlib.Core.Bool.{true≢false}
-use Rattle.std.specs.List.{AllByRecursion}
+use mathlib.Core.Bool.{false≢true, true≢false}
+use Rattle.std.specs.List.{AllByRecursion, find}
 use Rattle.std.specs.Option.{option_map, option_map_or}
 use Rattle.std.specs.Str.{bytes_eq}
 use Rattle.std.proofs.lemmas.Bool.Decides.{nat_tests}
@@ -14,7 +14,8 @@ use Rattle.farm_types.specs.declared.rows.JobRow.{JobRow}
 use Rattle.farm_types.specs.declared.rows.ResRow.{ResRow}
 use Rattle.farm_types.specs.declared.rows.State.{State}
 use Rattle.farm_types.proofs.Put.{found_has, found_passes}
-use Rattle.farm_sound.proofs.Where.{AllByRecursion-map, by_cases}
+use Rattle.farm_sound.proofs.Tests.{same_number}
+use Rattle.farm_sound.proofs.Where.{AllByRecursion-map, by_cases, changed}
 
 -- a hold names its holder
 pub hold_names : (h : Holder) (board : Option (List ℕ)) (state : Option State) (x : Hold) → hold h board state ≡ Some x → x.holder ≡ h
@@ -22,22 +23,30 @@ hold_names h None state x is = cc
 hold_names h (Some name) None x is = cc
 hold_names h (Some name) (Some state) x is = let e : record { board = name; holder = h; state = state } ≡ x = cc in sym (ap (λ (y : Hold). y.holder) e)
 
+-- what a number holds is a row's
+pub held_row : {R : Type 0} (number : R → ℕ) (held : R → Option Hold) (rows : List R) (n : ℕ) (x : Hold)
+    → option_map_or held (find (λ r. number r == n) rows) None ≡ Some x → (r : R) × (find (λ r. number r == n) rows ≡ Some r) × (number r ≡ n) × (held r ≡ Some x)
+held_row {R = R} number held rows n x is = by (find (λ r. number r == n) rows) refl is
+  where
+    by : (o : Option R) → find (λ r. number r == n) rows ≡ o → option_map_or held o None ≡ Some x
+        → (r : R) × (find (λ r. number r == n) rows ≡ Some r) × (number r ≡ n) × (held r ≡ Some x)
+    by None there is = cc
+    by (Some r) there is = (r, there, same_number (number r) n (found_passes (λ r. number r == n) r rows there), is)
+
+pub row_of_job : (F : Farm) (n : ℕ) (x : Hold) → hold_of F (Holder.Job n) ≡ Some x
+    → (j : JobRow) × (job_of F n ≡ Some j) × (j.number ≡ n) × (job_hold j ≡ Some x)
+row_of_job F n x is = held_row (λ (j : JobRow). j.number) job_hold F.jobs n x is
+
+pub row_of_res : (F : Farm) (n : ℕ) (x : Hold) → hold_of F (Holder.Res n) ≡ Some x
+    → (r : ResRow) × (res_of F n ≡ Some r) × (r.number ≡ n) × (res_hold r ≡ Some x)
+row_of_res F n x is = held_row (λ (r : ResRow). r.number) res_hold F.reservations n x is
+
 pub holder_is : (F : Farm) (h : Holder) (x : Hold) → hold_of F h ≡ Some x → x.holder ≡ h
 holder_is F Holder.Nobody x is = cc
-holder_is F (Holder.Job n) x is = by (job_of F n) refl is
-  where
-    by : (o : Option JobRow) → job_of F n ≡ o → option_map_or job_hold o None ≡ Some x → x.holder ≡ Holder.Job n
-    by None there is = cc
-    by (Some j) there is =
-        let e : j.number ≡ n = (let p = found_passes (λ (r : JobRow). r.number == n) j F.jobs there in grind (arith, nat_tests)) in
-        hold_names (Holder.Job j.number) j.board (job_gives j.state) x is ∙ ap Holder.Job e
-holder_is F (Holder.Res n) x is = by (res_of F n) refl is
-  where
-    by : (o : Option ResRow) → res_of F n ≡ o → option_map_or res_hold o None ≡ Some x → x.holder ≡ Holder.Res n
-    by None there is = cc
-    by (Some r) there is =
-        let e : r.number ≡ n = (let p = found_passes (λ (r : ResRow). r.number == n) r F.reservations there in grind (arith, nat_tests)) in
-        hold_names (Holder.Res r.number) r.board (res_gives r.state) x is ∙ ap Holder.Res e
+holder_is F (Holder.Job n) x is =
+    let j = row_of_job F n x is in hold_names (Holder.Job j.0.number) j.0.board (job_gives j.0.state) x j.3 ∙ ap Holder.Job j.2
+holder_is F (Holder.Res n) x is =
+    let r = row_of_res F n x is in hold_names (Holder.Res r.0.number) r.0.board (res_gives r.0.state) x r.3 ∙ ap Holder.Res r.2
 
 -- a board's holder that holds something holds this board
 pub held_is : (F : Farm) (b : BoardRow) (h : Holder) (x : Hold) → IsHeldBy F b h → hold_of F h ≡ Some x → x ≡ shown_hold b
@@ -53,15 +62,37 @@ abbrev pub IsLeft : Option Hold → BoardRow → Type 0
 IsLeft None b = (b.holder ≡ Holder.Nobody) × (b.state ≡ State.Idle)
 IsLeft (Some x) b = x ≡ shown_hold b
 
+-- what a row held and holds: a changed one holds nothing where it held nothing, and leaves the board that it held
+pub record Leaves (old new : Option Hold) (g : BoardRow → BoardRow) : Type 0 where
+  pub none : old ≡ None → new ≡ None
+  pub left : (b : BoardRow) → old ≡ Some (shown_hold b) → IsLeft new (g b)
+
+-- the same where it may have changed
+pub record IsMoved (moved : Bool) (old new : Option Hold) (g : BoardRow → BoardRow) : Type 0 where
+  pub stays : moved ≡ false → new ≡ old
+  pub leaves : moved ≡ true → Leaves old new g
+
+pub not_moved : (o : Option Hold) (g : BoardRow → BoardRow) → IsMoved false o o g
+not_moved o g = record { stays = λ _. refl; leaves = λ e. absurd (false≢true e) }
+
+-- a row is found as before, and changed where it passes
+pub moved_row : {R : Type 0} (held : R → Option Hold) (test : R → Bool) (f : R → R) (g : BoardRow → BoardRow) (o : Option R)
+    → ((r : R) → o ≡ Some r → test r ≡ true → Leaves (held r) (held (f r)) g)
+    → IsMoved (option_map_or test o false) (option_map_or held o None) (option_map_or held (option_map (changed test f) o) None) g
+moved_row held test f g None leaves = not_moved None g
+moved_row held test f g (Some r) leaves = by (test r) refl
+  where
+    by : (v : Bool) → test r ≡ v → IsMoved v (held r) (held (cond v (f r) r)) g
+    by true so = record { stays = λ e. absurd (true≢false e); leaves = λ _. leaves r refl so }
+    by false so = not_moved (held r) g
+
 -- some holders' rows change, and the boards that they hold
 module _ (F G : Farm) (moved : Holder → Bool) (g : BoardRow → BoardRow) where
   pub record Regives : Type 0 where
     pub nobody : moved Holder.Nobody ≡ false
     pub name : (b : BoardRow) → (g b).name ≡ b.name
     pub boards : (name : List ℕ) → board_of G name ≡ option_map (λ b. cond (moved b.holder) (g b) b) (board_of F name)
-    pub stays : (h : Holder) → moved h ≡ false → hold_of G h ≡ hold_of F h
-    pub gains_none : (h : Holder) → moved h ≡ true → hold_of F h ≡ None → hold_of G h ≡ None
-    pub gives : (h : Holder) (b : BoardRow) → moved h ≡ true → b.holder ≡ h → hold_of F h ≡ Some (shown_hold b) → IsLeft (hold_of G h) (g b)
+    pub rows : (h : Holder) → IsMoved (moved h) (hold_of F h) (hold_of G h) g
 
   held_by_left : (b : BoardRow) (h : Holder) (o : Option Hold) → hold_of G h ≡ o → b.holder ≡ h → IsLeft o (g b) → IsHeldBy G (g b) (g b).holder
   held_by_left b h None is mine left = subst (λ k. IsHeldBy G (g b) k) (sym left.0) left.1
@@ -71,11 +102,11 @@ module _ (F G : Farm) (moved : Holder → Bool) (g : BoardRow → BoardRow) wher
 
   held_by_stays : Regives → (b : BoardRow) (h : Holder) → moved h ≡ false → IsHeldBy F b h → IsHeldBy G b h
   held_by_stays re b Holder.Nobody apart held_by = held_by
-  held_by_stays re b h apart held_by = re.stays h apart ∙ held_by
+  held_by_stays re b h apart held_by = (re.rows h).stays apart ∙ held_by
 
   held_by_moved : Regives → (b : BoardRow) (h : Holder) → moved h ≡ true → b.holder ≡ h → IsHeldBy F b h → IsHeldBy G (g b) (g b).holder
   held_by_moved re b Holder.Nobody so mine held_by = absurd (true≢false (sym so ∙ re.nobody))
-  held_by_moved re b h so mine held_by = held_by_left b h (hold_of G h) refl mine (re.gives h b so mine held_by)
+  held_by_moved re b h so mine held_by = held_by_left b h (hold_of G h) refl mine (((re.rows h).leaves so).left b held_by)
 
   held_by_after : Regives → (b : BoardRow) → IsHeldBy F b b.holder → IsHeldBy G (cond (moved b.holder) (g b) b) (cond (moved b.holder) (g b) b).holder
   held_by_after re b held_by =
@@ -98,11 +129,11 @@ module _ (F G : Farm) (moved : Holder → Bool) (g : BoardRow → BoardRow) wher
       )
 
       by_hold : moved h ≡ true → (o : Option Hold) → hold_of F h ≡ o → IsSomeAnd (board_of G x.board) (λ b. b.holder ≡ h)
-      by_hold so None was = let n : hold_of G h ≡ None = re.gains_none h so was in cc
+      by_hold so None was = let n : hold_of G h ≡ None = ((re.rows h).leaves so).none was in cc
       by_hold so (Some y) was =
           let t = there y was (board_of F y.board) refl (held_board.rows h y was) in
           let b : BoardRow = t.0 in
-          let left : x ≡ shown_hold (g b) = subst (λ o. IsLeft o (g b)) is (re.gives h b so t.2 (was ∙ ap Some t.3)) in
+          let left : x ≡ shown_hold (g b) = subst (λ o. IsLeft o (g b)) is (((re.rows h).leaves so).left b (was ∙ ap Some t.3)) in
           let here : x.board ≡ y.board = ap (λ (z : Hold). z.board) left ∙ re.name b ∙ sym (ap (λ (z : Hold). z.board) t.3) in
           let found : board_of G x.board ≡ Some (g b) =
           ap (board_of G) here ∙ re.boards y.board ∙ ap (option_map (λ b. cond (moved b.holder) (g b) b)) t.1
@@ -112,7 +143,7 @@ module _ (F G : Farm) (moved : Holder → Bool) (g : BoardRow → BoardRow) wher
       by : (v : Bool) → moved h ≡ v → IsSomeAnd (board_of G x.board) (λ b. b.holder ≡ h)
       by true so = by_hold so (hold_of F h) refl
       by false apart =
-          let was : hold_of F h ≡ Some x = sym (re.stays h apart) ∙ is in
+          let was : hold_of F h ≡ Some x = sym ((re.rows h).stays apart) ∙ is in
           let t = there x was (board_of F x.board) refl (held_board.rows h x was) in
           let b : BoardRow = t.0 in
           let found : board_of G x.board ≡ Some b =

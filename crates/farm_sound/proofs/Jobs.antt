@@ -6,7 +6,7 @@ use Rattle.farm_types.specs.Change.{cancel_group, in_state, is_unstarted, start_
 use Rattle.farm_types.specs.Codes.{same_job_state}
 use Rattle.farm_types.specs.Farm.{Farm, job_of}
 use Rattle.farm_types.specs.Pass.{giving_back, change_jobs, freed_board, unplaced_job}
-use Rattle.farm_types.specs.Sound.{IsCollecting, IsSound, hold, job_gives, phase, shown_hold}
+use Rattle.farm_types.specs.Sound.{IsCollecting, IsSound, hold, job_gives, job_hold, phase}
 use Rattle.farm_types.specs.Table.{change_where}
 use Rattle.farm_types.specs.declared.rows.Holder.{Holder}
 use Rattle.farm_types.specs.declared.rows.JobRow.{JobRow}
@@ -14,13 +14,14 @@ use Rattle.farm_types.specs.declared.rows.JobState.{JobState}
 use Rattle.farm_types.specs.declared.rows.Outcome.{Outcome}
 use Rattle.farm_types.specs.declared.rows.State.{State}
 use Rattle.farm_types.proofs.Put.{AllByRecursion-weaker, found_has}
-use Rattle.farm_sound.proofs.ChangeJobs.{IsSound-change_jobs}
-use Rattle.farm_sound.proofs.Collecting.{IsCollecting-map, none_collects}
+use Rattle.farm_sound.proofs.Changes.{IsSound-change_jobs}
+use Rattle.farm_sound.proofs.Collecting.{IsCollecting-where, none_collects}
+use Rattle.farm_sound.proofs.Held.{Leaves}
 use Rattle.farm_sound.proofs.Own.{itself}
-use Rattle.farm_sound.proofs.Rows.{board_row_in, hold_none, hold_nothing, job_row_at, job_row_in, left_off, left_on, left_same, still_none}
+use Rattle.farm_sound.proofs.Rows.{board_row_in, job_row_at, job_row_in, leaves_off, leaves_on, leaves_same, still_none}
 use Rattle.farm_sound.proofs.Tests.{both, running_from, same_number, scheduling_from}
-use Rattle.farm_sound.proofs.Where.{AllByRecursion-map, all_true, by_cases}
-use Rattle.farm_sound.proofs.Whole.{Alike, Alike-kept, Alike-where, AreGroupsInPhase-map}
+use Rattle.farm_sound.proofs.Where.{AllByRecursion-map, all_true, changed}
+use Rattle.farm_sound.proofs.Whole.{Alike, Alike-kept, Alike-where, AreGroupsInPhase-map_by}
 
 scheduled_at : (s : JobState) → phase s ≡ 1 → s ≡ JobState.Scheduled
 scheduled_at JobState.Scheduled is = refl
@@ -38,34 +39,24 @@ IsSound-start F n j there ready sound =
     let test = λ (m : JobRow). m.group == j.group in
     let f = λ (m : JobRow). record m { state = JobState.Running } in
     let alike = found_has (λ k. AllByRecursion (Alike k) F.jobs) (λ r. r.number == n) j F.jobs sound.whole there in
+    let ready_all : AllByRecursion P F.jobs = AllByRecursion-weaker (λ m is same. scheduled_at m.state (is same ∙ ap phase ready)) F.jobs alike in
     IsSound-change_jobs F test f (in_state State.Running) P F.collector
     (record {
-      jobs = AllByRecursion-weaker (λ m is same. scheduled_at m.state (is same ∙ ap phase ready)) F.jobs alike;
+      jobs = ready_all;
       same = λ m. record { number = refl; group = refl; owner = refl; priority = refl; checking = refl };
       row = λ m so p is.
           let s : m.state ≡ JobState.Scheduled = p (same_number m.group j.group so) in
-          job_row_in F m JobState.Running m.outcome m.board is.board
+          job_row_in _ m JobState.Running m.outcome m.board is.board
           (still_none m.outcome m.state JobState.Running (λ e. let x : JobState.Scheduled ≡ JobState.Finished = sym s ∙ e in cc) (λ e. cc) is.outcome)
           (λ _. is.holds (subst (λ x. IsSome (job_gives x)) (sym s) refl)) (λ e. cc) is;
-      board_name = λ b. refl;
-      board_kind = λ b. refl;
-      board_row = λ b so is. board_row_in F b b.holder State.Running is.retired is;
-      none = λ m so p is.
-          let s : m.state ≡ JobState.Scheduled = p (same_number m.group j.group so) in
-          hold_none (Holder.Job m.number) m.board State.Reserved State.Running (subst (λ x. hold (Holder.Job m.number) m.board (job_gives x) ≡ None) s is);
-      left = λ m b so p is.
-          let s : m.state ≡ JobState.Scheduled = p (same_number m.group j.group so) in
-          left_on (Holder.Job m.number) m.board State.Reserved State.Running b
-          (subst (λ x. hold (Holder.Job m.number) m.board (job_gives x) ≡ Some (shown_hold b)) s is);
+      boards = record { name = λ b. refl; kind = λ b. refl; row = λ b is. board_row_in F b b.holder State.Running is.retired is };
+      leaves = λ m so p. subst (λ x. Leaves (hold (Holder.Job m.number) m.board (job_gives x)) (job_hold (f m)) (in_state State.Running))
+          (sym (p (same_number m.group j.group so))) (leaves_on (Holder.Job m.number) m.board State.Reserved State.Running);
     })
-    (AreGroupsInPhase-map F (change_where test f F.jobs) (λ m. cond (test m) (f m) m) refl
-    (Alike-where test f (λ m. refl) (λ m k so same. refl) (λ m k same _. ap (λ g. g == j.group) same)) sound.whole)
-    (IsCollecting-map F.collector P (λ m. cond (test m) (f m) m) F.jobs
-    (AllByRecursion-weaker (λ m is same. scheduled_at m.state (is same ∙ ap phase ready)) F.jobs alike)
-    (λ m. by_cases (λ (k : JobRow). k.group ≡ m.group) (test m) (f m) m (λ _. refl) (λ _. refl))
-    (λ m p. by_cases (λ (k : JobRow). k.state ≡ JobState.Scheduling → m.state ≡ JobState.Scheduling) (test m) (f m) m (λ _ e. cc) (λ _ e. e))
-    (λ m p low same waits. by_cases (λ (k : JobRow). phase k.state ≡ 0) (test m) (f m) m
-    (λ so. let s : phase m.state ≡ 1 = ap phase (p (same_number m.group j.group so)) in absurd (omega (arith, s, waits))) (λ _. waits))
+    (AreGroupsInPhase-map_by F P (changed test f) ready_all
+    (λ m k _ _. Alike-where test f (λ m. refl) (λ m k so same. refl) (λ m k same _. ap (λ g. g == j.group) same) m k) sound.whole)
+    (IsCollecting-where F.collector P test f F.jobs ready_all (λ m. refl)
+    (λ m so p. (λ e. cc, λ low same waits. let s : phase m.state ≡ 1 = ap phase (p (same_number m.group j.group so)) in absurd (omega (arith, s, waits))))
     sound.collecting)
     sound
 
@@ -80,10 +71,6 @@ unstarted_off group F = record (change_jobs (λ j. (j.group == group) && is_unst
 
 abbrev canceled : ℕ → JobRow → JobRow
 canceled group j = cond ((j.group == group) && is_unstarted j) (record j { state = JobState.Finished; outcome = Some Outcome.Canceled }) j
-
-canceled_group : (group : ℕ) (j : JobRow) → (canceled group j).group ≡ j.group
-canceled_group group j = by_cases (λ (k : JobRow). k.group ≡ j.group) ((j.group == group) && is_unstarted j)
-    (record j { state = JobState.Finished; outcome = Some Outcome.Canceled }) j (λ _. refl) (λ _. refl)
 
 -- a job that is Scheduling afterwards was so before, and in another group
 canceled_scheduling : (group : ℕ) (j : JobRow) → (canceled group j).state ≡ JobState.Scheduling
@@ -113,12 +100,9 @@ collecting_canceled F group sound = by (F.collector == group) refl
         let two = canceled_scheduling group j e in
         false≢true (sym two.1 ∙ ap (λ g. g == group) (only two.0).1 ∙ at))
         F.jobs sound.collecting.only)
-    by false at = IsCollecting-map F.collector (λ j. Unit {0}) (canceled group) F.jobs (all_true F.jobs) (canceled_group group)
-        (λ j _ e. (canceled_scheduling group j e).0)
-        (λ j _ low same waits. by_cases (λ (k : JobRow). phase k.state ≡ 0) ((j.group == group) && is_unstarted j)
-        (record j { state = JobState.Finished; outcome = Some Outcome.Canceled }) j
-        (λ so. absurd (false≢true (sym at ∙ ap (λ g. g == group) (sym same) ∙ (both (j.group == group) (is_unstarted j) so).0)))
-        (λ _. waits))
+    by false at = IsCollecting-where F.collector (λ j. Unit {0}) (λ j. (j.group == group) && is_unstarted j)
+        (λ j. record j { state = JobState.Finished; outcome = Some Outcome.Canceled }) F.jobs (all_true F.jobs) (λ j. refl)
+        (λ j so _. (λ e. cc, λ low same _. absurd (false≢true (sym at ∙ ap (λ g. g == group) (sym same) ∙ (both (j.group == group) (is_unstarted j) so).0))))
         sound.collecting
 
 cancel_unstarted : (F : Farm) (group : ℕ) → IsSound F → IsSound (unstarted_off group F)
@@ -129,18 +113,15 @@ cancel_unstarted F group sound =
     (record {
       jobs = all_true F.jobs;
       same = λ m. record { number = refl; group = refl; owner = refl; priority = refl; checking = refl };
-      row = λ m so p is. job_row_in F m JobState.Finished (Some Outcome.Canceled) m.board is.board (λ _. refl, λ _. refl) (λ e. absurd (false≢true e))
+      row = λ m so p is. job_row_in _ m JobState.Finished (Some Outcome.Canceled) m.board is.board (λ _. refl, λ _. refl) (λ e. absurd (false≢true e))
           (λ e. cc) is;
-      board_name = λ b. refl;
-      board_kind = λ b. refl;
-      board_row = λ b so is. board_row_in F b Holder.Nobody State.Idle (λ _. refl) is;
-      none = λ m so p is. hold_nothing (Holder.Job m.number) m.board;
-      left = λ m b so p is. left_off (Holder.Job m.number) m.board (freed_board b) refl refl;
+      boards = record { name = λ b. refl; kind = λ b. refl; row = λ b is. board_row_in F b Holder.Nobody State.Idle (λ _. refl) is };
+      leaves = λ m so p. leaves_off (job_hold m) (Holder.Job m.number) m.board freed_board (λ b. refl) (λ b. refl);
     })
-    (AreGroupsInPhase-map F (change_where test f F.jobs) (λ m. cond (test m) (f m) m) refl
-    (Alike-where test f (λ m. refl) (λ m k so same. refl)
+    (AreGroupsInPhase-map_by F (λ m. Unit {0}) (changed test f) (all_true F.jobs)
+    (λ m k _ _. Alike-where test f (λ m. refl) (λ m k so same. refl)
     (λ m k same phased. (λ i. (same i == group) && is_unstarted k)
-    ∙ ap (λ v. (m.group == group) && v) (unstarted_phase k.state ∙ ap (λ p. nat_lt p 2) phased ∙ sym (unstarted_phase m.state)))) sound.whole)
+    ∙ ap (λ v. (m.group == group) && v) (unstarted_phase k.state ∙ ap (λ p. nat_lt p 2) phased ∙ sym (unstarted_phase m.state))) m k) sound.whole)
     (collecting_canceled F group sound)
     sound
 
@@ -157,23 +138,17 @@ cancel_running F group sound =
       same = λ m. record { number = refl; group = refl; owner = refl; priority = refl; checking = refl };
       row = λ m so p is.
           let s : m.state ≡ JobState.Running = running m so in
-          job_row_in F m JobState.Canceling m.outcome m.board is.board
+          job_row_in _ m JobState.Canceling m.outcome m.board is.board
           (still_none m.outcome m.state JobState.Canceling (λ e. let x : JobState.Running ≡ JobState.Finished = sym s ∙ e in cc) (λ e. cc) is.outcome)
           (λ _. is.holds (subst (λ x. IsSome (job_gives x)) (sym s) refl)) (λ e. cc) is;
-      board_name = λ b. refl;
-      board_kind = λ b. refl;
-      board_row = λ b so is. is;
-      none = λ m so p is. subst (λ x. hold (Holder.Job m.number) m.board (job_gives x) ≡ None) (running m so) is;
-      left = λ m b so p is. left_same (hold (Holder.Job m.number) m.board (Some State.Running)) b
-          (subst (λ x. hold (Holder.Job m.number) m.board (job_gives x) ≡ Some (shown_hold b)) (running m so) is);
+      boards = record { name = λ b. refl; kind = λ b. refl; row = λ b is. is };
+      leaves = λ m so p. subst (λ x. Leaves (hold (Holder.Job m.number) m.board (job_gives x)) (job_hold (f m)) (λ b. b)) (sym (running m so))
+          (leaves_same (job_hold (f m)));
     })
-    (AreGroupsInPhase-map F (change_where test f F.jobs) (λ m. cond (test m) (f m) m) refl
-    (Alike-kept test f (λ m. refl) (λ m so. ap phase (sym (running m so)))) sound.whole)
-    (IsCollecting-map F.collector (λ m. Unit {0}) (λ m. cond (test m) (f m) m) F.jobs (all_true F.jobs)
-    (λ m. by_cases (λ (k : JobRow). k.group ≡ m.group) (test m) (f m) m (λ _. refl) (λ _. refl))
-    (λ m p. by_cases (λ (k : JobRow). k.state ≡ JobState.Scheduling → m.state ≡ JobState.Scheduling) (test m) (f m) m (λ _ e. cc) (λ _ e. e))
-    (λ m p low same waits. by_cases (λ (k : JobRow). phase k.state ≡ 0) (test m) (f m) m
-    (λ so. let s : phase m.state ≡ 2 = ap phase (running m so) in absurd (omega (arith, s, waits))) (λ _. waits))
+    (AreGroupsInPhase-map_by F (λ m. Unit {0}) (changed test f) (all_true F.jobs)
+    (λ m k _ _. Alike-kept test f (λ m. refl) (λ m so. ap phase (sym (running m so))) m k) sound.whole)
+    (IsCollecting-where F.collector (λ m. Unit {0}) test f F.jobs (all_true F.jobs) (λ m. refl)
+    (λ m so _. (λ e. cc, λ low same waits. let s : phase m.state ≡ 2 = ap phase (running m so) in absurd (omega (arith, s, waits))))
     sound.collecting)
     sound
 
@@ -193,17 +168,14 @@ IsSound-back F sound =
       same = λ m. record { number = refl; group = refl; owner = refl; priority = refl; checking = refl };
       row = λ m so p is.
           let s : m.state ≡ JobState.Scheduling = scheduling m so in
-          job_row_at F m JobState.Submitted m.outcome None tt
+          job_row_at _ m JobState.Submitted m.outcome None tt
           (still_none m.outcome m.state JobState.Submitted (λ e. let x : JobState.Scheduling ≡ JobState.Finished = sym s ∙ e in cc) (λ e. cc) is.outcome)
           (λ e. absurd (false≢true e)) (λ _. refl) (λ yes _. (is.check yes).state (ap phase s)) is;
-      board_name = λ b. refl;
-      board_kind = λ b. refl;
-      board_row = λ b so is. board_row_in F b Holder.Nobody State.Idle (λ _. refl) is;
-      none = λ m so p is. refl;
-      left = λ m b so p is. left_off (Holder.Job m.number) None (freed_board b) refl refl;
+      boards = record { name = λ b. refl; kind = λ b. refl; row = λ b is. board_row_in F b Holder.Nobody State.Idle (λ _. refl) is };
+      leaves = λ m so p. leaves_off (job_hold m) (Holder.Job m.number) None freed_board (λ b. refl) (λ b. refl);
     })
-    (AreGroupsInPhase-map F (change_where test unplaced_job F.jobs) (λ m. cond (test m) (unplaced_job m) m) refl
-    (Alike-kept test unplaced_job (λ m. refl) (λ m so. ap phase (sym (scheduling m so)))) sound.whole)
+    (AreGroupsInPhase-map_by F (λ m. Unit {0}) (changed test unplaced_job) (all_true F.jobs)
+    (λ m k _ _. Alike-kept test unplaced_job (λ m. refl) (λ m so. ap phase (sym (scheduling m so))) m k) sound.whole)
     (none_collects (change_where test unplaced_job F.jobs)
     (AllByRecursion-map (λ j. j.state ≡ JobState.Scheduling → (1 ≤ F.collector) × (j.group ≡ F.collector)) (λ j. j.state ≡ JobState.Scheduling → ⊥)
     (λ m. cond (test m) (unplaced_job m) m) (λ j only. none_left j only (test j) refl) F.jobs sound.collecting.only))

@@ -13,31 +13,13 @@ use Rattle.farm_types.specs.Table.{board_cmp}
 use Rattle.farm_types.specs.declared.rows.BoardRow.{BoardRow}
 use Rattle.farm_types.specs.declared.rows.Want.{Want}
 use Rattle.farm_types.proofs.Put.{AllByRecursion-weaker, found_has, found_passes}
-use Rattle.farm_sound.proofs.Lists.{all_join}
-
-among_all : {A : Type 0} (P : A → Type 0) (x : A) (xs : List A) → AllByRecursion P xs → IsAmong x xs → P x
-among_all P x [] all at = absurd at
-among_all P x (y ∷ ys) all (inl same) = subst P (sym same) all.0
-among_all P x (y ∷ ys) all (inr at) = among_all P x ys all.1 at
-
-among_left : {A : Type 0} (x : A) (xs ys : List A) → IsAmong x xs → IsAmong x (xs ++ ys)
-among_left x [] ys at = absurd at
-among_left x (y ∷ xs) ys (inl same) = inl same
-among_left x (y ∷ xs) ys (inr at) = inr (among_left x xs ys at)
-
-among_right : {A : Type 0} (x : A) (xs ys : List A) → IsAmong x ys → IsAmong x (xs ++ ys)
-among_right x [] ys at = at
-among_right x (y ∷ xs) ys at = inr (among_right x xs ys at)
-
-among_map : {A B : Type 0} (f : A → B) (x : A) (xs : List A) → IsAmong x xs → IsAmong (f x) (map f xs)
-among_map f x [] at = absurd at
-among_map f x (y ∷ ys) (inl same) = inl (ap f same)
-among_map f x (y ∷ ys) (inr at) = inr (among_map f x ys at)
+use Rattle.farm_sound.proofs.Lists.{all_join, all_self, among_append, among_has, among_map, among_none}
+use Rattle.farm_sound.proofs.Where.{AllByRecursion-map, all_true}
 
 among_flat : {A B : Type 0} (f : A → List B) (x : A) (z : B) (xs : List A) → IsAmong x xs → IsAmong z (f x) → IsAmong z (flat_map f xs)
 among_flat f x z [] at here = absurd at
-among_flat f x z (y ∷ ys) (inl same) here = among_left z (f y) (flat_map f ys) (subst (λ w. IsAmong z (f w)) same here)
-among_flat f x z (y ∷ ys) (inr at) here = among_right z (f y) (flat_map f ys) (among_flat f x z ys at here)
+among_flat f x z (y ∷ ys) (inl same) here = among_append z (f y) (flat_map f ys) (inl (subst (λ w. IsAmong z (f w)) same here))
+among_flat f x z (y ∷ ys) (inr at) here = among_append z (f y) (flat_map f ys) (inr (among_flat f x z ys at here))
 
 -- each list of so many of the boards is one of the lists
 pub among_lists : (boards : List BoardRow) (n : ℕ) (cs : List BoardRow) → length cs ≡ n → AllByRecursion (λ c. IsAmong c boards) cs → IsAmong cs (board_lists n boards)
@@ -61,24 +43,16 @@ module _ {A : Type 0} (cmp : A → A → Ordering) (total : IsTotalOrder cmp) wh
       by rest true is here (inl same) = let e : x ≡ b = cc in ap is_lt (ap (λ z. cmp z b) (same ∙ e) ∙ tied_itself total b)
       by rest true is here (inr later) =
           let e : x ≡ b = cc in
-          let less : cmp b c ≡ Less = subst (λ z. cmp z c ≡ Less) e (among_all (λ y. cmp x y ≡ Less) c xs sorted.0 later) in
+          let less : cmp b c ≡ Less = subst (λ z. cmp z c ≡ Less) e (among_has (λ y. cmp x y ≡ Less) c xs sorted.0 later) in
           ap is_lt (total.antisymm c b ∙ ap ordering_reverse less)
       by rest false is here (inl same) = absurd (false≢true (sym is ∙ sym (ap p same) ∙ passes))
       by rest false is here (inr later) = rest here later passes
-
-  all_append : (P : A → Type 0) (xs ys : List A) → AllByRecursion P xs → AllByRecursion P ys → AllByRecursion P (xs ++ ys)
-  all_append P [] ys all more = more
-  all_append P (x ∷ xs) ys all more = (all.0, all_append P xs ys all.1 more)
 
   sorted_append : (xs ys : List A) → IsStrictlySortedBy cmp xs → IsStrictlySortedBy cmp ys
       → AllByRecursion (λ x. AllByRecursion (λ y. cmp x y ≡ Less) ys) xs → IsStrictlySortedBy cmp (xs ++ ys)
   unfolding IsStrictlySortedBy
   sorted_append [] ys sx sy below = sy
-  sorted_append (x ∷ xs) ys sx sy below = (all_append (λ y. cmp x y ≡ Less) xs ys sx.0 below.0, sorted_append xs ys sx.1 sy below.1)
-
-all_map : {A B : Type 0} (P : B → Type 0) (f : A → B) (xs : List A) → ((x : A) → P (f x)) → AllByRecursion P (map f xs)
-all_map P f [] each = tt
-all_map P f (x ∷ xs) each = (each x, all_map P f xs each)
+  sorted_append (x ∷ xs) ys sx sy below = (all_join (λ y. cmp x y ≡ Less) xs ys sx.0 below.0, sorted_append xs ys sx.1 sy below.1)
 
 all_flat : {A B : Type 0} (P : B → Type 0) (Q : A → Type 0) (f : A → List B) (xs : List A) → AllByRecursion Q xs
     → ((x : A) → Q x → AllByRecursion P (f x)) → AllByRecursion P (flat_map f xs)
@@ -107,9 +81,10 @@ flat_sorted rest sorted [] bs = tt
 flat_sorted rest sorted (b ∷ boards) bs =
     sorted_append names_cmp (lists_total board_total) (map (λ bs. b ∷ bs) rest) (flat_map (λ b. map (λ bs. b ∷ bs) rest) boards)
     (block_sorted b rest sorted) (flat_sorted rest sorted boards bs.1)
-    (all_map (λ x. AllByRecursion (λ y. names_cmp x y ≡ Less) (flat_map (λ b. map (λ bs. b ∷ bs) rest) boards)) (λ bs. b ∷ bs) rest
-    (λ xs. all_flat (λ y. names_cmp (b ∷ xs) y ≡ Less) (λ c. board_cmp b c ≡ Less) (λ c. map (λ bs. c ∷ bs) rest) boards bs.0
-    (λ c less. all_map (λ y. names_cmp (b ∷ xs) y ≡ Less) (λ bs. c ∷ bs) rest (λ cs. rw less))))
+    (AllByRecursion-map (λ xs. Unit {0}) (λ x. AllByRecursion (λ y. names_cmp x y ≡ Less) (flat_map (λ b. map (λ bs. b ∷ bs) rest) boards)) (λ bs. b ∷ bs)
+    (λ xs _. all_flat (λ y. names_cmp (b ∷ xs) y ≡ Less) (λ c. board_cmp b c ≡ Less) (λ c. map (λ bs. c ∷ bs) rest) boards bs.0
+    (λ c less. AllByRecursion-map (λ cs. Unit {0}) (λ y. names_cmp (b ∷ xs) y ≡ Less) (λ bs. c ∷ bs) (λ cs _. rw less) rest (all_true rest)))
+    rest (all_true rest))
 
 -- all lists of so many boards in name order are in order
 pub lists_sorted : (boards : List BoardRow) → IsStrictlySortedBy board_cmp boards → (n : ℕ) → IsStrictlySortedBy names_cmp (board_lists n boards)
@@ -131,37 +106,19 @@ least_is_least boards test wants bs cs sorted found among meeting =
     (lists_sorted boards sorted (length wants)) found
     (among_lists boards (length wants) cs (long_as_wants test wants cs meeting) among) meeting
 
-none_found : {A : Type 0} (p : A → Bool) (c : A) (xs : List A) → find p xs ≡ None → IsAmong c xs → p c ≡ true → ⊥
-none_found p c [] none at passes = at
-none_found p c (x ∷ xs) none at passes = by (none_found p c xs) (p x) refl none at
-  where
-    by : (find p xs ≡ None → IsAmong c xs → p c ≡ true → ⊥) → (v : Bool) → p x ≡ v → cond v (Some x) (find p xs) ≡ None → IsAmong c (x ∷ xs) → ⊥
-    by rest true is here at' = cc
-    by rest false is here (inl same) = false≢true (sym is ∙ sym (ap p same) ∙ passes)
-    by rest false is here (inr later) = rest here later passes
-
 -- where none is found, no list meets the wants
 pub none_meets : (boards : List BoardRow) (test : BoardRow → Bool) (wants : List Want) (cs : List BoardRow) → least boards test wants ≡ None
     → AllByRecursion (λ c. IsAmong c boards) cs → meets test wants cs ≡ true → ⊥
 unfolding least
 none_meets boards test wants cs none among meeting =
-    none_found (meets test wants) cs (board_lists (length wants) boards) none
-    (among_lists boards (length wants) cs (long_as_wants test wants cs meeting) among) meeting
-
-all_self : {A : Type 0} (xs : List A) → AllByRecursion (λ x. IsAmong x xs) xs
-all_self [] = tt
-all_self (x ∷ xs) = (inl refl, AllByRecursion-weaker (λ y at. inr at) xs (all_self xs))
-
-all_map_from : {A B : Type 0} (Q : A → Type 0) (P : B → Type 0) (f : A → B) → ((x : A) → Q x → P (f x)) → (xs : List A) → AllByRecursion Q xs
-    → AllByRecursion P (map f xs)
-all_map_from Q P f each [] all = tt
-all_map_from Q P f each (x ∷ xs) all = (each x all.0, all_map_from Q P f each xs all.1)
+    among_none (meets test wants) cs (board_lists (length wants) boards)
+    (among_lists boards (length wants) cs (long_as_wants test wants cs meeting) among) meeting none
 
 lists_among : (boards : List BoardRow) (n : ℕ) → AllByRecursion (AreAmong boards) (board_lists n boards)
 lists_among boards zero = (tt, tt)
 lists_among boards (suc n) =
     all_flat (AreAmong boards) (λ b. IsAmong b boards) (λ b. map (λ bs. b ∷ bs) (board_lists n boards)) boards (all_self boards)
-    (λ b at. all_map_from (AreAmong boards) (AreAmong boards) (λ bs. b ∷ bs) (λ bs all. (at, all)) (board_lists n boards) (lists_among boards n))
+    (λ b at. AllByRecursion-map (AreAmong boards) (AreAmong boards) (λ bs. b ∷ bs) (λ bs all. (at, all)) (board_lists n boards) (lists_among boards n))
 
 -- what is found is the least list
 pub IsLeast-least : (boards : List BoardRow) (test : BoardRow → Bool) (wants : List Want) (bs : List BoardRow) → IsStrictlySortedBy board_cmp boards

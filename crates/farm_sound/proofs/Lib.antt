@@ -9,8 +9,7 @@ pub mod Whole
 pub mod Given
 pub mod Add
 pub mod Rows
-pub mod ChangeJobs
-pub mod ChangeReservations
+pub mod Changes
 pub mod Jobs
 pub mod Finish
 pub mod Submit

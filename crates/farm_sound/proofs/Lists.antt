@@ -1,5 +1,5 @@
 -- Lists: what holds of each element, or of each two, and which pass a test.
-use Rattle.std.proofs.Common.{◌++◌, ◌∙◌, ◌∷◌, ◌≡◌, ◌≤◌, ◌⊎◌, Bool, List, None, Some, arith, cond, false, inl, inr, length, map, refl, subst, sym, true, []}
+use Rattle.std.proofs.Common.{◌++◌, ◌∙◌, ◌∷◌, ◌≡◌, ◌≤◌, ◌⊎◌, Bool, List, None, Some, ap, arith, cond, false, inl, inr, length, map, refl, subst, sym, true, []}
 use mathlib.Core.Bool.{true≢false}
 use Rattle.std.specs.List.{AllByRecursion, filter, find, list_all, list_any}
 use Rattle.std.specs.List.Sorted.{IsStrictlySortedBy}
@@ -7,9 +7,9 @@ use Rattle.std.specs.declared.cmp.Ordering.{Ordering}
 use Rattle.std.specs.declared.cmp.Ordering.TheVariants.{Less}
 use Rattle.farm_types.specs.Pick.{IsAmong}
 use Rattle.farm_types.specs.Sound.{EachTwo}
-use Rattle.farm_types.proofs.Put.{AllByRecursion-weaker}
+use Rattle.farm_types.proofs.Put.{AllByRecursion-weaker, found_has}
 use Rattle.farm_sound.proofs.Tests.{both, both_false}
-use Rattle.farm_sound.proofs.Where.{AllByRecursion-both, AllByRecursion-map}
+use Rattle.farm_sound.proofs.Where.{AllByRecursion-both, AllByRecursion-map, by_cases}
 
 pub all_join : {A : Type 0} (P : A → Type 0) (xs ys : List A) → AllByRecursion P xs → AllByRecursion P ys → AllByRecursion P (xs ++ ys)
 all_join P [] ys all more = more
@@ -24,6 +24,18 @@ among_has P x [] all at = absurd at
 among_has P x (y ∷ ys) all (inl same) = subst P (sym same) all.0
 among_has P x (y ∷ ys) all (inr at) = among_has P x ys all.1 at
 
+pub all_self : {A : Type 0} (xs : List A) → AllByRecursion (λ x. IsAmong x xs) xs
+all_self [] = tt
+all_self (x ∷ xs) = (inl refl, AllByRecursion-weaker (λ y at. inr at) xs (all_self xs))
+
+pub among_found : {A : Type 0} (test : A → Bool) (x : A) (xs : List A) → find test xs ≡ Some x → IsAmong x xs
+among_found test x xs there = found_has (λ y. IsAmong y xs) test x xs (all_self xs) there
+
+pub among_map : {A B : Type 0} (f : A → B) (x : A) (xs : List A) → IsAmong x xs → IsAmong (f x) (map f xs)
+among_map f x [] at = absurd at
+among_map f x (y ∷ ys) (inl same) = inl (ap f same)
+among_map f x (y ∷ ys) (inr at) = inr (among_map f x ys at)
+
 -- ---- elements that pass a test
 
 pub all_tested : {A : Type 0} (test : A → Bool) (xs : List A) → list_all test xs ≡ true → AllByRecursion (λ x. test x ≡ true) xs
@@ -33,12 +45,8 @@ all_tested test (x ∷ xs) is = let two = both (test x) (list_all test xs) is in
 pub filter_all : {A : Type 0} (P : A → Type 0) (test : A → Bool) (xs : List A) → AllByRecursion P xs
     → AllByRecursion (λ x. P x × (test x ≡ true)) (filter test xs)
 filter_all P test [] all = tt
-filter_all P test (x ∷ xs) all = by (test x) refl (filter_all P test xs all.1)
-  where
-    by : (v : Bool) → test x ≡ v → AllByRecursion (λ x. P x × (test x ≡ true)) (filter test xs)
-        → AllByRecursion (λ x. P x × (test x ≡ true)) (cond v (x ∷ filter test xs) (filter test xs))
-    by true is rest = ((all.0, is), rest)
-    by false is rest = rest
+filter_all P test (x ∷ xs) all = by_cases (AllByRecursion (λ x. P x × (test x ≡ true))) (test x) (x ∷ filter test xs) (filter test xs)
+    (λ is. ((all.0, is), filter_all P test xs all.1)) (λ _. filter_all P test xs all.1)
 
 -- what holds of those that pass
 pub filter_back : {A : Type 0} (P : A → Type 0) (test : A → Bool) (xs : List A) → AllByRecursion P (filter test xs)
@@ -71,13 +79,17 @@ all_fail test (x ∷ xs) is = by (test x) refl is (λ later. all_fail test xs la
     by true at is rest = cc
     by false at is rest = (at, rest is)
 
+-- one that passes is among none where none is found
+pub among_none : {A : Type 0} (test : A → Bool) (x : A) (xs : List A) → IsAmong x xs → test x ≡ true → find test xs ≡ None → ⊥
+among_none test x xs at passes none = true≢false (sym passes ∙ among_has (λ y. test y ≡ false) x xs (all_fail test xs none) at)
+
+pub among_filter : {A : Type 0} (test : A → Bool) (x : A) (xs : List A) → IsAmong x xs → test x ≡ true → IsAmong x (filter test xs)
+among_filter test x xs at passes = among_has (λ y. test y ≡ true → IsAmong y (filter test xs)) x xs (filter_back (λ y. IsAmong y (filter test xs)) test xs (all_self (filter test xs))) at passes
+
 pub length_filter : {A : Type 0} (test : A → Bool) (xs : List A) → length (filter test xs) ≤ length xs
 length_filter test [] = omega arith
-length_filter test (x ∷ xs) = by (test x) (length_filter test xs)
-  where
-    by : (v : Bool) → length (filter test xs) ≤ length xs → length (cond v (x ∷ filter test xs) (filter test xs)) ≤ length (x ∷ xs)
-    by true low = omega arith
-    by false low = omega arith
+length_filter test (x ∷ xs) = by_cases (λ l. length l ≤ length (x ∷ xs)) (test x) (x ∷ filter test xs) (filter test xs)
+    (λ _. omega (arith, length_filter test xs)) (λ _. omega (arith, length_filter test xs))
 
 -- ---- each two
 
@@ -101,11 +113,9 @@ pub each_sorted : {A : Type 0} (cmp : A → A → Ordering) (test : A → Bool) 
     → EachTwo (λ a b. cmp a b ≡ Less) (filter test xs)
 unfolding IsStrictlySortedBy
 each_sorted cmp test [] sorted = tt
-each_sorted cmp test (x ∷ xs) sorted = by (test x) (each_sorted cmp test xs sorted.1)
-  where
-    by : (v : Bool) → EachTwo (λ a b. cmp a b ≡ Less) (filter test xs) → EachTwo (λ a b. cmp a b ≡ Less) (cond v (x ∷ filter test xs) (filter test xs))
-    by true rest = (AllByRecursion-weaker (λ y two. two.0) (filter test xs) (filter_all (λ y. cmp x y ≡ Less) test xs sorted.0), rest)
-    by false rest = rest
+each_sorted cmp test (x ∷ xs) sorted = by_cases (EachTwo (λ a b. cmp a b ≡ Less)) (test x) (x ∷ filter test xs) (filter test xs)
+    (λ _. (AllByRecursion-weaker (λ y two. two.0) (filter test xs) (filter_all (λ y. cmp x y ≡ Less) test xs sorted.0), each_sorted cmp test xs sorted.1))
+    (λ _. each_sorted cmp test xs sorted.1)
 
 pub each_weaker : {A : Type 0} (R S : A → A → Type 0) → ((a b : A) → R a b → S a b) → (xs : List A) → EachTwo R xs → EachTwo S xs
 each_weaker R S follows [] each = tt

@@ -20,8 +20,8 @@ use Rattle.farm_types.specs.declared.rows.JobRow.{JobRow}
 use Rattle.farm_types.specs.declared.rows.ResRow.{ResRow}
 use Rattle.farm_types.specs.declared.rows.State.{State}
 use Rattle.farm_types.proofs.Put.{AllByRecursion-weaker, found_has, found_passes}
-use Rattle.farm_sound.proofs.Held.{held_from, held_is, hold_names, holder_is}
-use Rattle.farm_sound.proofs.Lists.{all_join, among_has, each_append, each_weaker, each_with}
+use Rattle.farm_sound.proofs.Held.{held_from, held_is, hold_names, holder_is, row_of_job, row_of_res}
+use Rattle.farm_sound.proofs.Lists.{all_join, among_append, among_found, among_has, among_none, each_append, each_weaker, each_with}
 use Rattle.farm_sound.proofs.Own.{own_board, own_job, own_res, text_itself}
 use Rattle.farm_sound.proofs.Where.{AllByRecursion-both}
 
@@ -47,44 +47,15 @@ filter_map_two {R = R} {S = S} cmp f P two (r ∷ rows) sorted = by (f r) refl (
     by None is rest = rest
     by (Some x) is rest = (filter_map_all f (P x) rows (AllByRecursion-weaker (λ b less y. two r b x y less is) rows sorted.0), rest)
 
-among_found : {A : Type 0} (test : A → Bool) (x : A) (xs : List A) → find test xs ≡ Some x → IsAmong x xs
-among_found test x [] is = cc
-among_found test x (y ∷ ys) is = by (test y) is (among_found test x ys)
+filter_map_has : {R S : Type 0} (f : R → Option S) (rows : List R) → AllByRecursion (λ r. (x : S) → f r ≡ Some x → IsAmong x (filter_map f rows)) rows
+filter_map_has f [] = tt
+filter_map_has {R = R} {S = S} f (r ∷ rows) = by (f r) (filter_map_has f rows)
   where
-    by : (v : Bool) → cond v (Some y) (find test ys) ≡ Some x → (find test ys ≡ Some x → IsAmong x ys) → IsAmong x (y ∷ ys)
-    by true is rest = let e : y ≡ x = cc in inl (sym e)
-    by false is rest = inr (rest is)
-
-among_filter_map : {R S : Type 0} (f : R → Option S) (r : R) (x : S) (rows : List R) → IsAmong r rows → f r ≡ Some x → IsAmong x (filter_map f rows)
-among_filter_map f r x [] at is = absurd at
-among_filter_map {S = S} f r x (q ∷ rows) (inl same) is = by (f q) (ap f (sym same) ∙ is)
-  where
-    by : (o : Option S) → o ≡ Some x → IsAmong x (cons_option o (filter_map f rows))
-    by None is = cc
-    by (Some y) is = let e : y ≡ x = cc in inl (sym e)
-among_filter_map {S = S} f r x (q ∷ rows) (inr at) is = by (f q) (among_filter_map f r x rows at is)
-  where
-    by : (o : Option S) → IsAmong x (filter_map f rows) → IsAmong x (cons_option o (filter_map f rows))
-    by None at = at
-    by (Some y) at = inr at
-
-among_join_left : {A : Type 0} (x : A) (xs ys : List A) → IsAmong x xs → IsAmong x (xs ++ ys)
-among_join_left x [] ys at = absurd at
-among_join_left x (y ∷ xs) ys (inl same) = inl same
-among_join_left x (y ∷ xs) ys (inr at) = inr (among_join_left x xs ys at)
-
-among_join_right : {A : Type 0} (x : A) (xs ys : List A) → IsAmong x ys → IsAmong x (xs ++ ys)
-among_join_right x [] ys at = at
-among_join_right x (y ∷ xs) ys at = inr (among_join_right x xs ys at)
-
-among_none : {A : Type 0} (test : A → Bool) (x : A) (xs : List A) → IsAmong x xs → test x ≡ true → find test xs ≡ None → ⊥
-among_none test x [] at passes none = at
-among_none test x (y ∷ ys) at passes none = by (test y) refl none at (among_none test x ys)
-  where
-    by : (v : Bool) → test y ≡ v → cond v (Some y) (find test ys) ≡ None → IsAmong x (y ∷ ys) → (IsAmong x ys → test x ≡ true → find test ys ≡ None → ⊥) → ⊥
-    by true is none at rest = cc
-    by false is none (inl same) rest = false≢true (sym is ∙ ap test (sym same) ∙ passes)
-    by false is none (inr later) rest = rest later passes none
+    by : (o : Option S) → AllByRecursion (λ q. (x : S) → f q ≡ Some x → IsAmong x (filter_map f rows)) rows
+        → ((x : S) → o ≡ Some x → IsAmong x (cons_option o (filter_map f rows)))
+        × AllByRecursion (λ q. (x : S) → f q ≡ Some x → IsAmong x (cons_option o (filter_map f rows))) rows
+    by None rest = (λ x is. cc, rest)
+    by (Some y) rest = (λ x is. inl (let e : y ≡ x = cc in sym e), AllByRecursion-weaker (λ q at x is. inr (at x is)) rows rest)
 
 -- two of a list that stand to each other in no way are one
 two_same : {S : Type 0} (key : S → List ℕ) (x y : S) (xs : List S) → EachTwo (λ a b. key a ≢ key b) xs → IsAmong x xs → IsAmong y xs → key x ≡ key y → x ≡ y
@@ -139,18 +110,16 @@ module _ (F : Farm) (steady : IsSteady F) where
   -- what is held is in the list
   among_holds : (h : Holder) (x : Hold) → hold_of F h ≡ Some x → IsAmong x (holds F)
   among_holds Holder.Nobody x is = cc
-  among_holds (Holder.Job n) x is = by (job_of F n) refl is
-    where
-      by : (o : Option JobRow) → job_of F n ≡ o → option_map_or job_hold o None ≡ Some x → IsAmong x (holds F)
-      by None there is = cc
-      by (Some j) there is = among_join_left x (filter_map job_hold F.jobs) (filter_map res_hold F.reservations)
-          (among_filter_map job_hold j x F.jobs (among_found (λ r. r.number == n) j F.jobs there) is)
-  among_holds (Holder.Res n) x is = by (res_of F n) refl is
-    where
-      by : (o : Option ResRow) → res_of F n ≡ o → option_map_or res_hold o None ≡ Some x → IsAmong x (holds F)
-      by None there is = cc
-      by (Some r) there is = among_join_right x (filter_map job_hold F.jobs) (filter_map res_hold F.reservations)
-          (among_filter_map res_hold r x F.reservations (among_found (λ q. q.number == n) r F.reservations there) is)
+  among_holds (Holder.Job n) x is =
+      let j = row_of_job F n x is in
+      among_append x (filter_map job_hold F.jobs) (filter_map res_hold F.reservations)
+      (inl (found_has (λ k. (y : Hold) → job_hold k ≡ Some y → IsAmong y (filter_map job_hold F.jobs)) (λ r. r.number == n) j.0 F.jobs
+      (filter_map_has job_hold F.jobs) j.1 x j.3))
+  among_holds (Holder.Res n) x is =
+      let r = row_of_res F n x is in
+      among_append x (filter_map job_hold F.jobs) (filter_map res_hold F.reservations)
+      (inr (found_has (λ k. (y : Hold) → res_hold k ≡ Some y → IsAmong y (filter_map res_hold F.reservations)) (λ q. q.number == n) r.0 F.reservations
+      (filter_map_has res_hold F.reservations) r.1 x r.3))
 
   -- ---- by keys, so once
 
@@ -214,18 +183,13 @@ module _ (F : Farm) (steady : IsSteady F) where
 
   board_there : (h : Holder) (x : Hold) → hold_of F h ≡ Some x → IsSome (board_of F x.board)
   board_there Holder.Nobody x is = cc
-  board_there (Holder.Job n) x is = by (job_of F n) refl is
-    where
-      by : (o : Option JobRow) → job_of F n ≡ o → option_map_or job_hold o None ≡ Some x → IsSome (board_of F x.board)
-      by None there is = cc
-      by (Some j) there is = hold_board (Holder.Job j.number) j.board (job_gives j.state) x is
-          (found_has (IsJobRow F) (λ r. r.number == n) j F.jobs steady.jobs there).board
-  board_there (Holder.Res n) x is = by (res_of F n) refl is
-    where
-      by : (o : Option ResRow) → res_of F n ≡ o → option_map_or res_hold o None ≡ Some x → IsSome (board_of F x.board)
-      by None there is = cc
-      by (Some r) there is = hold_board (Holder.Res r.number) r.board (res_gives r.state) x is
-          (found_has (IsResRow F) (λ q. q.number == n) r F.reservations steady.reservations there).board
+  board_there (Holder.Job n) x is =
+      let j = row_of_job F n x is in
+      hold_board (Holder.Job j.0.number) j.0.board (job_gives j.0.state) x j.3 (found_has (IsJobRow F) (λ r. r.number == n) j.0 F.jobs steady.jobs j.1).board
+  board_there (Holder.Res n) x is =
+      let r = row_of_res F n x is in
+      hold_board (Holder.Res r.0.number) r.0.board (res_gives r.0.state) x r.3
+      (found_has (IsResRow F) (λ q. q.number == n) r.0 F.reservations steady.reservations r.1).board
 
   keys_rows : IsHeldOnce F → (h : Holder) (x : Hold) → hold_of F h ≡ Some x → x.holder ≡ h → IsSomeAnd (board_of F x.board) (λ b. b.holder ≡ h)
   keys_rows held_board h x is mine = by (board_of F x.board) refl (board_there h x is)

@@ -19,13 +19,13 @@ use Rattle.farm_types.specs.declared.rows.State.{State}
 use Rattle.farm_types.specs.declared.rows.Want.{Want}
 use Rattle.farm_types.proofs.Put.{AllByRecursion-weaker, found_has}
 use Rattle.farm_sound.specs.Served.{IsServed, IsCollectorUnmet}
-use Rattle.farm_sound.proofs.Checks.{IsSound-checks, check_clock}
+use Rattle.farm_sound.proofs.Checks.{IsSound-checks, check_clock, checks_rest}
 use Rattle.farm_sound.proofs.Claims.{IsClaim, IsGroupClaim, IsOpen, IsResClaim, all_claims, leads}
 use Rattle.farm_sound.proofs.Free.{free_boards}
 use Rattle.farm_sound.proofs.Give.{IsFreeBoard, res_at}
 use Rattle.farm_sound.proofs.Group.{given, given_number, jobs_given, parts}
 use Rattle.farm_sound.proofs.Jobs.{IsSound-back}
-use Rattle.farm_sound.proofs.Lists.{among_append, filter_back}
+use Rattle.farm_sound.proofs.Lists.{among_append, among_filter, filter_back}
 use Rattle.farm_sound.proofs.Own.{itself}
 use Rattle.farm_sound.proofs.Queue.{among_queue}
 use Rattle.farm_sound.proofs.Reservations.{IsSound-expire}
@@ -33,7 +33,7 @@ use Rattle.farm_sound.proofs.Short.{IsCollectorUnmet-give, IsCollectorUnmet-pass
 use Rattle.farm_sound.proofs.Serve.{AreApartClaims, IsOpen-give, IsOver, IsSound-give, as_many, filter_given, give_clock, over, res_kept, taken_apart, taken_open}
 use Rattle.farm_sound.proofs.Tests.{same_number, waiting_from}
 use Rattle.farm_sound.proofs.Unmet.{IsUnmet, IsUnmet-give}
-use Rattle.farm_sound.proofs.Where.{AllByRecursion-both, find_map}
+use Rattle.farm_sound.proofs.Where.{AllByRecursion-both, either, find_map}
 
 -- what a list of boards leaves: the claims that were there and are another's
 abbrev IsOld : Farm → Claimed → Claimed → Type 0
@@ -216,22 +216,9 @@ served t (c ∷ cs) s is =
     by (Some bs) is unserved served = served bs is
 
 -- a claim of the queue is among those that are taken
-among_passing : (keep : Claimed → Bool) (d : Claimed) (xs : List Claimed) → IsAmong d xs → keep d ≡ true → IsAmong d (filter keep xs)
-among_passing keep d [] at so = absurd at
-among_passing keep d (x ∷ xs) at so = here at (keep x) refl (λ later. among_passing keep d xs later so)
-  where
-    here : IsAmong d (x ∷ xs) → (v : Bool) → keep x ≡ v → (IsAmong d xs → IsAmong d (filter keep xs)) → IsAmong d (cond v (x ∷ filter keep xs) (filter keep xs))
-    here (inl same) true is rest = inl same
-    here (inl same) false is rest = absurd (true≢false (sym so ∙ ap keep same ∙ is))
-    here (inr later) true is rest = inr (rest later)
-    here (inr later) false is rest = rest later
-
 among_split : (test : Claimed → Bool) (d : Claimed) (cs : List Claimed) → IsAmong d cs → IsAmong d (filter test cs ++ filter (λ c. not (test c)) cs)
-among_split test d cs at = by (test d) refl
-  where
-    by : (v : Bool) → test d ≡ v → IsAmong d (filter test cs ++ filter (λ c. not (test c)) cs)
-    by true so = among_append d (filter test cs) (filter (λ c. not (test c)) cs) (inl (among_passing test d cs at so))
-    by false so = among_append d (filter test cs) (filter (λ c. not (test c)) cs) (inr (among_passing (λ c. not (test c)) d cs at (ap not so)))
+among_split test d cs at = among_append d (filter test cs) (filter (λ c. not (test c)) cs) (either (test d)
+    (λ so. inl (among_filter test d cs at so)) (λ so. inr (among_filter (λ c. not (test c)) d cs at (ap not so))))
 
 pub all_served : (F : Farm) (group t : ℕ) → F.collector ≡ 0 → t ≤ F.clock → IsSound F → IsAllServed (serve_all F group t).farm
 all_served F group t none low sound =
@@ -247,24 +234,11 @@ all_served F group t none low sound =
 
 -- ---- the pass
 
--- the checks begin no collection
-check_collector : (bs : List BoardRow) (F : Farm) → (fold check_one F bs).collector ≡ F.collector
-check_collector [] F = refl
-check_collector (b ∷ bs) F = check_collector bs (check_one F b) ∙ one (has_room F 1)
-  where
-    one : (v : Bool) → (cond v (record F {
-      jobs = put job_cmp F.jobs (check_job F.next b);
-      boards = change_where (λ c. bytes_eq c.name b.name) (held_board (Holder.Job F.next) State.Reserved) F.boards;
-      next = F.next + 1;
-    }) F).collector ≡ F.collector
-    one true = refl
-    one false = refl
-
 pub pass_leaves : (F : Farm) → IsSound F → IsAllServed (serve_all (checks (expire (giving_back F) F.clock) F.clock) F.collector F.clock).farm
 pass_leaves F sound =
     let expired : Farm = expire (giving_back F) F.clock in
     let due = filter (is_due expired F.clock) expired.boards in
-    all_served (checks expired F.clock) F.collector F.clock (check_collector due expired) (omega (arith, check_clock due expired))
+    all_served (checks expired F.clock) F.collector F.clock (ap (λ (G : Farm). G.collector) (checks_rest due expired)) (omega (arith, check_clock due expired))
     (IsSound-checks expired F.clock (IsSound-expire (giving_back F) F.clock (IsSound-back F sound)))
 
 pub IsSound-pass : (F : Farm) → IsSound F → IsSound (serve_all (checks (expire (giving_back F) F.clock) F.clock) F.collector F.clock).farm

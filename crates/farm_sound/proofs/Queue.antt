@@ -17,7 +17,7 @@ use Rattle.farm_types.specs.declared.rows.JobRow.{JobRow}
 use Rattle.farm_types.specs.declared.rows.ResRow.{ResRow}
 use Rattle.farm_types.proofs.Put.{AllByRecursion-put, AllByRecursion-weaker}
 use Rattle.farm_sound.proofs.Claims.{IsClaim, claim_total, leads}
-use Rattle.farm_sound.proofs.Lists.{among_append, each_append, each_map, each_sorted, each_weaker, each_with, filter_all}
+use Rattle.farm_sound.proofs.Lists.{among_append, among_filter, among_found, among_map, each_append, each_map, each_sorted, each_weaker, each_with, filter_all}
 use Rattle.farm_sound.proofs.Own.{own_res}
 use Rattle.farm_sound.proofs.Where.{AllByRecursion-both, AllByRecursion-map}
 
@@ -147,28 +147,17 @@ module _ (F : Farm) (steady : IsSteady F) where
 
   -- ---- each claim stands in the queue
 
-  among_filter : {A B : Type 0} (find_test test : A → Bool) (f : A → B) (x : A) (xs : List A) → find find_test xs ≡ Some x → test x ≡ true
-      → IsAmong (f x) (map f (filter test xs))
-  among_filter find_test test f x [] there passes = cc
-  among_filter find_test test f x (y ∷ xs) there passes = by (find_test y) there (test y) refl (λ later. among_filter find_test test f x xs later passes)
-    where
-      by : (v : Bool) → cond v (Some y) (find find_test xs) ≡ Some x → (w : Bool) → test y ≡ w
-          → (find find_test xs ≡ Some x → IsAmong (f x) (map f (filter test xs)))
-          → IsAmong (f x) (map f (cond w (y ∷ filter test xs) (filter test xs)))
-      by true is true here rest = let same : y ≡ x = cc in inl (ap f (sym same))
-      by true is false here rest = let same : y ≡ x = cc in absurd (true≢false (sym passes ∙ ap test (sym same) ∙ here))
-      by false is true here rest = inr (rest is)
-      by false is false here rest = rest is
-
   among_claims : (d : Claimed) → IsClaim F d → IsAmong d (claims F)
   among_claims d (inl (r, is)) =
       subst (λ e. IsAmong e (claims F)) (sym is.2)
       (among_append (res_claim r) (map res_claim (filter is_waiting F.reservations)) (map (group_claim F) (filter (leads_claim F) F.jobs))
-      (inl (among_filter (λ q. q.number == r.number) is_waiting res_claim r F.reservations is.0 is.1)))
+      (inl (among_map res_claim r (filter is_waiting F.reservations)
+      (among_filter is_waiting r F.reservations (among_found (λ q. q.number == r.number) r F.reservations is.0) is.1))))
   among_claims d (inr (j, is)) =
       subst (λ e. IsAmong e (claims F)) (sym is.2)
       (among_append (group_claim F j) (map res_claim (filter is_waiting F.reservations)) (map (group_claim F) (filter (leads_claim F) F.jobs))
-      (inr (among_filter (λ k. k.number == j.number) (leads_claim F) (group_claim F) j F.jobs is.0 is.1)))
+      (inr (among_map (group_claim F) j (filter (leads_claim F) F.jobs)
+      (among_filter (leads_claim F) j F.jobs (among_found (λ k. k.number == j.number) j F.jobs is.0) is.1))))
 
   pub among_queue : (d : Claimed) → IsClaim F d → IsAmong d (queue F)
   among_queue d is = among_put_all claim_cmp claim_total d (claims F) [] claims_apart (none_before (claims F)) (inl (among_claims d is))

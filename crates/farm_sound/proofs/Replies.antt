@@ -11,10 +11,12 @@ use Rattle.farm_types.specs.declared.rows.BoardRow.{BoardRow}
 use Rattle.farm_types.specs.declared.rows.JobRow.{JobRow}
 use Rattle.farm_types.specs.declared.rows.JobState.{JobState}
 use Rattle.farm_types.proofs.Put.{length_put}
-use Rattle.farm_sound.proofs.Checks.{checks_kept}
+use Rattle.farm_sound.proofs.Checks.{checks_rest}
 use Rattle.farm_sound.proofs.Claims.{claim_total}
 use Rattle.farm_sound.proofs.Collect.{collect_is, pairs_for}
+use Rattle.farm_sound.proofs.Group.{given_rest}
 use Rattle.farm_sound.proofs.Lists.{length_filter}
+use Rattle.farm_sound.proofs.Serve.{give_rest}
 use Rattle.farm_sound.proofs.Where.{by_cases}
 
 -- ---- a served claim was a claim
@@ -25,12 +27,9 @@ length_put_all rows (c ∷ changed) = omega (arith, length_put_all (put claim_cm
 
 few_claims : (F : Farm) → length (queue F) ≤ length F.reservations + length F.jobs
 few_claims F =
-    let of_res : length (map res_claim (filter is_waiting F.reservations)) ≡ length (filter is_waiting F.reservations) =
-    length-map (filter is_waiting F.reservations) res_claim in
-    let of_jobs : length (map (group_claim F) (filter (leads_claim F) F.jobs)) ≡ length (filter (leads_claim F) F.jobs) =
-    length-map (filter (leads_claim F) F.jobs) (group_claim F) in
-    let all : length (claims F) ≡ length (map res_claim (filter is_waiting F.reservations)) + length (map (group_claim F) (filter (leads_claim F) F.jobs)) =
-    length-append (map res_claim (filter is_waiting F.reservations)) (map (group_claim F) (filter (leads_claim F) F.jobs)) in
+    let all : length (claims F) ≡ length (filter is_waiting F.reservations) + length (filter (leads_claim F) F.jobs) =
+    length-append (map res_claim (filter is_waiting F.reservations)) (map (group_claim F) (filter (leads_claim F) F.jobs))
+    ∙ (λ i. length-map (filter is_waiting F.reservations) res_claim i + length-map (filter (leads_claim F) F.jobs) (group_claim F) i) in
     omega (arith, length_put_all [] (claims F), length_filter is_waiting F.reservations, length_filter (leads_claim F) F.jobs)
 
 served_few : (t : ℕ) (cs : List Claimed) (s : Served) → (fold (serve t) s cs).claims ≤ s.claims + length cs
@@ -58,24 +57,9 @@ few_served F group t =
 
 -- ---- the kept replies stay
 
-members_kept : (state : JobState) (ps : List (JobRow × BoardRow)) (F : Farm) → (fold (give_member state) F ps).kept ≡ F.kept
-members_kept state [] F = refl
-members_kept state (p ∷ ps) F = members_kept state ps (give_member state F (p.0, p.1))
-
-res_kept : (F : Farm) (n : ℕ) (bs : List BoardRow) (t : ℕ) → (give_res F n bs t).kept ≡ F.kept
-res_kept F n [] t = refl
-res_kept F n (b ∷ bs) t = refl
-
-give_kept : (F : Farm) (c : Claimed) (bs : List BoardRow) (t : ℕ) → (give F c bs t).kept ≡ F.kept
-give_kept F c bs t = by c.reservation
-  where
-    by : (v : Bool) → (cond v (give_res F c.number bs t) (give_group F c.number bs)).kept ≡ F.kept
-    by true = res_kept F c.number bs t
-    by false = members_kept JobState.Scheduled (zip (members F c.number) bs) F
-
 over_kept : (F : Farm) (c : Claimed) → (pass_over F c).kept ≡ F.kept
 over_kept F c = by_cases (λ (G : Farm). G.kept ≡ F.kept) (may_collect F c) (collect F c.number) F
-    (λ _. ap (λ (G : Farm). G.kept) (collect_is (members F c.number) F) ∙ members_kept JobState.Scheduling (pairs_for F (members F c.number)) F) (λ _. refl)
+    (λ _. ap (λ (G : Farm). G.kept) (collect_is (members F c.number) F) ∙ ap (λ (G : Farm). G.kept) (given_rest JobState.Scheduling (pairs_for F (members F c.number)) F)) (λ _. refl)
 
 served_kept : (t : ℕ) (cs : List Claimed) (s : Served) → (fold (serve t) s cs).farm.kept ≡ s.farm.kept
 served_kept t [] s = refl
@@ -85,7 +69,7 @@ served_kept t (c ∷ cs) s = by (λ u. served_kept t cs u) (least s.farm.boards 
         → (fold (serve t) (option_map_or (λ bs. record { farm = give s.farm c bs t; claims = s.claims + 1 }) o
         (record { farm = pass_over s.farm c; claims = s.claims })) cs).farm.kept ≡ s.farm.kept
     by rest None = rest (record { farm = pass_over s.farm c; claims = s.claims }) ∙ over_kept s.farm c
-    by rest (Some bs) = rest (record { farm = give s.farm c bs t; claims = s.claims + 1 }) ∙ give_kept s.farm c bs t
+    by rest (Some bs) = rest (record { farm = give s.farm c bs t; claims = s.claims + 1 }) ∙ ap (λ (G : Farm). G.kept) (give_rest s.farm c bs t)
 
 pub pass_kept : (F : Farm) (group t : ℕ) → (serve_all (checks F t) group t).farm.kept ≡ F.kept
-pass_kept F group t = served_kept t (claims_taken (checks F t) group) (record { farm = checks F t; claims = 0 }) ∙ checks_kept (filter (is_due F t) F.boards) F
+pass_kept F group t = served_kept t (claims_taken (checks F t) group) (record { farm = checks F t; claims = 0 }) ∙ ap (λ (G : Farm). G.kept) (checks_rest (filter (is_due F t) F.boards) F)

@@ -14,9 +14,9 @@ use Rattle.farm_types.specs.declared.rows.ResRow.{ResRow}
 use Rattle.farm_types.specs.declared.rows.ResState.{ResState}
 use Rattle.farm_types.specs.declared.rows.State.{State}
 use Rattle.farm_sound.proofs.Add.{IsHeldByKeys-add_res, IsSteady-add_res}
-use Rattle.farm_sound.proofs.ChangeReservations.{IsSound-change_res}
-use Rattle.farm_sound.proofs.Held.{IsLeft}
-use Rattle.farm_sound.proofs.Rows.{board_row_in, hold_none, hold_nothing, left_off, left_on, left_same, res_row_in}
+use Rattle.farm_sound.proofs.Changes.{IsSound-change_res}
+use Rattle.farm_sound.proofs.Held.{Leaves}
+use Rattle.farm_sound.proofs.Rows.{board_row_in, leaves_off, leaves_on, leaves_same, res_row_in}
 use Rattle.farm_sound.proofs.Tests.{same_number}
 use Rattle.farm_sound.proofs.Where.{all_true}
 
@@ -53,13 +53,10 @@ let_go F test s gives ends sound =
     (record {
       reservations = all_true F.reservations;
       same = λ r. refl;
-      row = λ r so p is. res_row_in F r s r.deadline r.board is.deadline is.board (λ e. absurd (ends e)) (λ e. absurd (false≢true (subst IsSome gives e))) is;
-      board_name = λ b. refl;
-      board_kind = λ b. refl;
-      board_row = λ b so is. board_row_in F b Holder.Nobody State.Idle (λ _. refl) is;
-      none = λ r so p is. ap (hold (Holder.Res r.number) r.board) gives ∙ hold_nothing (Holder.Res r.number) r.board;
-      left = λ r b so p is. subst (λ o. IsLeft (hold (Holder.Res r.number) r.board o) (freed_board b)) (sym gives)
-          (left_off (Holder.Res r.number) r.board (freed_board b) refl refl);
+      row = λ r so p is. res_row_in _ r s r.deadline r.board is.deadline is.board (λ e. absurd (ends e)) (λ e. absurd (false≢true (subst IsSome gives e))) is;
+      boards = record { name = λ b. refl; kind = λ b. refl; row = λ b is. board_row_in F b Holder.Nobody State.Idle (λ _. refl) is };
+      leaves = λ r so p. subst (λ o. Leaves (res_hold r) (hold (Holder.Res r.number) r.board o) freed_board) (sym gives)
+          (leaves_off (res_hold r) (Holder.Res r.number) r.board freed_board (λ b. refl) (λ b. refl));
     })
     sound
 
@@ -80,19 +77,12 @@ goes_on F n s t x y d low from to all sound =
       same = λ r. refl;
       row = λ r so p is.
           let at : r.state ≡ s = p (same_number r.number n so) in
-          res_row_in F r t (d r.deadline) r.board (low r.deadline is.deadline) is.board (λ e. let w : None ≡ Some y = ap res_gives (sym e) ∙ to in cc)
+          res_row_in _ r t (d r.deadline) r.board (low r.deadline is.deadline) is.board (λ e. let w : None ≡ Some y = ap res_gives (sym e) ∙ to in cc)
           (λ _. is.holds (subst IsSome (sym (ap res_gives at ∙ from)) refl)) is;
-      board_name = λ b. refl;
-      board_kind = λ b. refl;
-      board_row = λ b so is. board_row_in F b b.holder y is.retired is;
-      none = λ r so p is.
-          let at : r.state ≡ s = p (same_number r.number n so) in
-          ap (hold (Holder.Res r.number) r.board) to
-          ∙ hold_none (Holder.Res r.number) r.board x y (sym (ap (hold (Holder.Res r.number) r.board) (ap res_gives at ∙ from)) ∙ is);
-      left = λ r b so p is.
-          let at : r.state ≡ s = p (same_number r.number n so) in
-          subst (λ o. IsLeft (hold (Holder.Res r.number) r.board o) (in_state y b)) (sym to)
-          (left_on (Holder.Res r.number) r.board x y b (sym (ap (hold (Holder.Res r.number) r.board) (ap res_gives at ∙ from)) ∙ is));
+      boards = record { name = λ b. refl; kind = λ b. refl; row = λ b is. board_row_in F b b.holder y is.retired is };
+      leaves = λ r so p. subst (λ o. Leaves (res_hold r) (hold (Holder.Res r.number) r.board o) (in_state y)) (sym to)
+          (subst (λ o. Leaves (hold (Holder.Res r.number) r.board o) (hold (Holder.Res r.number) r.board (Some y)) (in_state y))
+          (sym (ap res_gives (p (same_number r.number n so)) ∙ from)) (leaves_on (Holder.Res r.number) r.board x y));
     })
     sound
 
@@ -103,11 +93,8 @@ IsSound-refresh F n sound =
     (record {
       reservations = all_true F.reservations;
       same = λ r. refl;
-      row = λ r so p is. res_row_in F r r.state (F.clock + 60) r.board (omega arith) is.board is.waits is.holds is;
-      board_name = λ b. refl;
-      board_kind = λ b. refl;
-      board_row = λ b so is. is;
-      none = λ r so p is. is;
-      left = λ r b so p is. left_same (res_hold r) b is;
+      row = λ r so p is. res_row_in _ r r.state (F.clock + 60) r.board (omega arith) is.board is.waits is.holds is;
+      boards = record { name = λ b. refl; kind = λ b. refl; row = λ b is. is };
+      leaves = λ r so p. leaves_same (res_hold r);
     })
     sound

@@ -1,5 +1,5 @@
 -- Rows of jobs, reservations and boards in another state, and what they hold then.
-use Rattle.std.proofs.Common.{◌+◌, ◌↔◌, ◌≡◌, ◌≤◌, IsSome, IsTrue, List, None, Option, Some, ap, is_some, refl, true, ℕ}
+use Rattle.std.proofs.Common.{◌+◌, ◌↔◌, ◌≡◌, ◌≤◌, IsSome, IsTrue, List, None, Option, Some, ap, is_some, refl, subst, sym, true, ℕ}
 use Rattle.farm_types.specs.Change.{in_state}
 use Rattle.farm_types.specs.Farm.{Farm}
 use Rattle.farm_types.specs.Sound.{Hold, IsBoardOf, IsBoardRow, IsJobRow, IsResRow, hold, holds, job_gives, phase, res_gives, shown_hold}
@@ -12,7 +12,7 @@ use Rattle.farm_types.specs.declared.rows.Outcome.{Outcome}
 use Rattle.farm_types.specs.declared.rows.ResRow.{ResRow}
 use Rattle.farm_types.specs.declared.rows.ResState.{ResState}
 use Rattle.farm_types.specs.declared.rows.State.{State}
-use Rattle.farm_sound.proofs.Held.{IsLeft}
+use Rattle.farm_sound.proofs.Held.{IsLeft, Leaves}
 
 -- ---- rows in another state
 
@@ -90,24 +90,23 @@ pub hold_nothing : (h : Holder) (board : Option (List ℕ)) → hold h board Non
 hold_nothing h None = refl
 hold_nothing h (Some name) = refl
 
-pub hold_none : (h : Holder) (board : Option (List ℕ)) (s t : State) → hold h board (Some s) ≡ None → hold h board (Some t) ≡ None
-hold_none h None s t is = refl
-hold_none h (Some name) s t is = cc
-
 -- the board goes on in another state
-pub left_on : (h : Holder) (board : Option (List ℕ)) (s t : State) (b : BoardRow) → hold h board (Some s) ≡ Some (shown_hold b)
-    → IsLeft (hold h board (Some t)) (in_state t b)
-left_on h None s t b is = cc
-left_on h (Some name) s t b is =
-    let e : record { board = name; holder = h; state = s } ≡ shown_hold b = cc in
-    ap (λ (x : Hold). record { board = x.board; holder = x.holder; state = t }) e
+pub leaves_on : (h : Holder) (board : Option (List ℕ)) (s t : State) → Leaves (hold h board (Some s)) (hold h board (Some t)) (in_state t)
+leaves_on h None s t = record { none = λ _. refl; left = λ b is. cc }
+leaves_on h (Some name) s t = record {
+  none = λ is. cc;
+  left = λ b is.
+      let e : record { board = name; holder = h; state = s } ≡ shown_hold b = cc in
+      ap (λ (x : Hold). record { board = x.board; holder = x.holder; state = t }) e;
+}
 
 -- the board is let go
-pub left_off : (h : Holder) (board : Option (List ℕ)) (b : BoardRow) → b.holder ≡ Holder.Nobody → b.state ≡ State.Idle → IsLeft (hold h board None) b
-left_off h None b nobody free = (nobody, free)
-left_off h (Some name) b nobody free = (nobody, free)
+pub leaves_off : (old : Option Hold) (h : Holder) (board : Option (List ℕ)) (g : BoardRow → BoardRow) → ((b : BoardRow) → (g b).holder ≡ Holder.Nobody)
+    → ((b : BoardRow) → (g b).state ≡ State.Idle) → Leaves old (hold h board None) g
+leaves_off old h board g nobody free =
+    record { none = λ _. hold_nothing h board; left = λ b _. subst (λ o. IsLeft o (g b)) (sym (hold_nothing h board)) (nobody b, free b) }
 
 -- nothing changes
-pub left_same : (o : Option Hold) (b : BoardRow) → o ≡ Some (shown_hold b) → IsLeft o b
-left_same None b is = cc
-left_same (Some x) b is = cc
+pub leaves_same : (o : Option Hold) → Leaves o o (λ b. b)
+leaves_same None = record { none = λ is. is; left = λ b is. cc }
+leaves_same (Some x) = record { none = λ is. is; left = λ b is. cc }

@@ -22,7 +22,7 @@ use Rattle.farm_sound.proofs.Claims.{IsClaim, IsOpen, IsOpenGroup, IsResClaim, c
 use Rattle.farm_sound.proofs.Collect.{IsSound-collect, IsUnmet-collect, claim_was, collect_is, open_after, pairs_for}
 use Rattle.farm_sound.proofs.Free.{free_boards}
 use Rattle.farm_sound.proofs.Give.{IsFreeBoard, IsSound-give_res, res_at}
-use Rattle.farm_sound.proofs.Group.{IsSound-give_group, collector_kept, given, given_group, given_number, jobs_given, parts}
+use Rattle.farm_sound.proofs.Group.{IsSound-give_group, collector_kept, given, given_group, given_number, given_rest, jobs_given, parts}
 use Rattle.farm_sound.proofs.Lists.{all_join, each_append, each_sorted, each_weaker, filter_all}
 use Rattle.farm_sound.proofs.Tests.{both, same_number, waiting_from}
 use Rattle.farm_sound.proofs.Unmet.{IsUnmet}
@@ -52,23 +52,24 @@ IsSound-give F c bs t (inr (j, is)) found low sound =
 -- ---- the other claims stay claims
 
 pub res_kept : (ps : List (JobRow × BoardRow)) (F : Farm) → (fold (give_member JobState.Scheduled) F ps).reservations ≡ F.reservations
-res_kept [] F = refl
-res_kept (p ∷ ps) F = res_kept ps (give_member JobState.Scheduled F (p.0, p.1))
+res_kept ps F = ap (λ (G : Farm). G.reservations) (given_rest JobState.Scheduled ps F)
 
 pub clock_kept : (state : JobState) (ps : List (JobRow × BoardRow)) (F : Farm) → (fold (give_member state) F ps).clock ≡ F.clock
-clock_kept state [] F = refl
-clock_kept state (p ∷ ps) F = clock_kept state ps (give_member state F (p.0, p.1))
+clock_kept state ps F = ap (λ (G : Farm). G.clock) (given_rest state ps F)
 
-res_clock : (F : Farm) (n : ℕ) (bs : List BoardRow) (t : ℕ) → (give_res F n bs t).clock ≡ F.clock
-res_clock F n [] t = refl
-res_clock F n (b ∷ bs) t = refl
+-- a claim that is served changes jobs, boards and reservations alone
+pub give_rest : (F : Farm) (c : Claimed) (bs : List BoardRow) (t : ℕ)
+    → record (give F c bs t) { jobs = F.jobs; boards = F.boards; reservations = F.reservations } ≡ F
+give_rest F c bs t = by_cases (λ (G : Farm). record G { jobs = F.jobs; boards = F.boards; reservations = F.reservations } ≡ F) c.reservation
+    (give_res F c.number bs t) (give_group F c.number bs) (λ _. of_res bs)
+    (λ _. ap (λ (G : Farm). record G { reservations = F.reservations }) (given_rest JobState.Scheduled (zip (members F c.number) bs) F))
+  where
+    of_res : (bs : List BoardRow) → record (give_res F c.number bs t) { jobs = F.jobs; boards = F.boards; reservations = F.reservations } ≡ F
+    of_res [] = refl
+    of_res (b ∷ bs) = refl
 
 pub give_clock : (F : Farm) (c : Claimed) (bs : List BoardRow) (t : ℕ) → (give F c bs t).clock ≡ F.clock
-give_clock F c bs t = by c.reservation
-  where
-    by : (v : Bool) → (cond v (give_res F c.number bs t) (give_group F c.number bs)).clock ≡ F.clock
-    by true = res_clock F c.number bs t
-    by false = clock_kept JobState.Scheduled (zip (members F c.number) bs) F
+give_clock F c bs t = ap (λ (G : Farm). G.clock) (give_rest F c bs t)
 
 -- a reservation was served
 after_res_res : (F : Farm) (r q : ResRow) (bs : List BoardRow) (t : ℕ) (d : Claimed) → res_of F r.number ≡ Some r → is_waiting r ≡ true

@@ -13,6 +13,7 @@ use Rattle.farm_types.specs.declared.rows.ResRow.{ResRow}
 use Rattle.farm_types.specs.declared.rows.State.{State}
 use Rattle.farm_types.proofs.Put.{AllByRecursion-weaker, found_has, found_passes}
 use Rattle.farm_sound.specs.ByRows.{IsNamedBy, IsShown, IsShownOfJob, IsShownOfRes}
+use Rattle.farm_sound.proofs.Held.{row_of_job, row_of_res}
 use Rattle.farm_sound.proofs.Tests.{same_number}
 use Rattle.farm_sound.proofs.Where.{AllByRecursion-both}
 
@@ -56,18 +57,14 @@ module _ (F : Farm) where
 
   named_from_held : (b : BoardRow) (holder : Holder) → IsHeldBy F b holder → IsNamedBy F b holder
   named_from_held b Holder.Nobody held_board = held_board
-  named_from_held b (Holder.Job n) held_board = by (job_of F n) held_board
-    where
-      by : (o : Option JobRow) → option_map_or job_hold o None ≡ Some (shown_hold b)
-          → IsSomeAnd o (λ j. (j.board ≡ Some b.name) × (job_gives j.state ≡ Some b.state))
-      by None e = cc
-      by (Some j) e = let is = is_hold (Holder.Job j.number) j.board (job_gives j.state) (shown_hold b) e in (is.board, is.state)
-  named_from_held b (Holder.Res n) held_board = by (res_of F n) held_board
-    where
-      by : (o : Option ResRow) → option_map_or res_hold o None ≡ Some (shown_hold b)
-          → IsSomeAnd o (λ r. (r.board ≡ Some b.name) × (res_gives r.state ≡ Some b.state))
-      by None e = cc
-      by (Some r) e = let is = is_hold (Holder.Res r.number) r.board (res_gives r.state) (shown_hold b) e in (is.board, is.state)
+  named_from_held b (Holder.Job n) held_board =
+      let j = row_of_job F n (shown_hold b) held_board in
+      let is = is_hold (Holder.Job j.0.number) j.0.board (job_gives j.0.state) (shown_hold b) j.3 in
+      rw j.1 (is.board, is.state)
+  named_from_held b (Holder.Res n) held_board =
+      let r = row_of_res F n (shown_hold b) held_board in
+      let is = is_hold (Holder.Res r.0.number) r.0.board (res_gives r.0.state) (shown_hold b) r.3 in
+      rw r.1 (is.board, is.state)
 
   -- ---- jobs and reservations
 
@@ -81,23 +78,15 @@ module _ (F : Farm) where
   rows_from_shown : AllByRecursion (IsShownOfJob F) F.jobs → AllByRecursion (IsShownOfRes F) F.reservations
       → (h : Holder) (x : Hold) → hold_of F h ≡ Some x → IsSomeAnd (board_of F x.board) (λ b. b.holder ≡ h)
   rows_from_shown jobs reservations Holder.Nobody x e = cc
-  rows_from_shown jobs reservations (Holder.Job n) x e = by (job_of F n) refl e
-    where
-      by : (o : Option JobRow) → job_of F n ≡ o → option_map_or job_hold o None ≡ Some x → IsSomeAnd (board_of F x.board) (λ b. b.holder ≡ Holder.Job n)
-      by None is e = cc
-      by (Some j) is e =
-          shown_of j.board (job_gives j.state) (Holder.Job j.number) (Holder.Job n) x (found_has (IsShownOfJob F) (λ r. r.number == n) j F.jobs jobs is)
-          (is_hold (Holder.Job j.number) j.board (job_gives j.state) x e)
-          (ap Holder.Job (same_number j.number n (found_passes (λ r. r.number == n) j F.jobs is)))
-  rows_from_shown jobs reservations (Holder.Res n) x e = by (res_of F n) refl e
-    where
-      by : (o : Option ResRow) → res_of F n ≡ o → option_map_or res_hold o None ≡ Some x → IsSomeAnd (board_of F x.board) (λ b. b.holder ≡ Holder.Res n)
-      by None is e = cc
-      by (Some r) is e =
-          shown_of r.board (res_gives r.state) (Holder.Res r.number) (Holder.Res n) x
-          (found_has (IsShownOfRes F) (λ q. q.number == n) r F.reservations reservations is)
-          (is_hold (Holder.Res r.number) r.board (res_gives r.state) x e)
-          (ap Holder.Res (same_number r.number n (found_passes (λ q. q.number == n) r F.reservations is)))
+  rows_from_shown jobs reservations (Holder.Job n) x e =
+      let j = row_of_job F n x e in
+      shown_of j.0.board (job_gives j.0.state) (Holder.Job j.0.number) (Holder.Job n) x (found_has (IsShownOfJob F) (λ r. r.number == n) j.0 F.jobs jobs j.1)
+      (is_hold (Holder.Job j.0.number) j.0.board (job_gives j.0.state) x j.3) (ap Holder.Job j.2)
+  rows_from_shown jobs reservations (Holder.Res n) x e =
+      let r = row_of_res F n x e in
+      shown_of r.0.board (res_gives r.0.state) (Holder.Res r.0.number) (Holder.Res n) x
+      (found_has (IsShownOfRes F) (λ q. q.number == n) r.0 F.reservations reservations r.1)
+      (is_hold (Holder.Res r.0.number) r.0.board (res_gives r.0.state) x r.3) (ap Holder.Res r.2)
 
   pub held_from_shown : AllByRecursion (λ b. IsNamedBy F b b.holder) F.boards → AllByRecursion (IsShownOfJob F) F.jobs
       → AllByRecursion (IsShownOfRes F) F.reservations

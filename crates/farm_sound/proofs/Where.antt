@@ -1,10 +1,13 @@
 -- Rows that are changed where they pass a test.
-use Rattle.std.proofs.Common.{◌∙◌, ◌∷◌, ◌≡◌, Bool, List, Some, ap, cond, false, length, map, refl, suc, true, []}
+use Rattle.std.proofs.Common.{◌∙◌, ◌∷◌, ◌≡◌, Bool, List, None, Option, Some, ap, cond, false, length, map, refl, suc, true, []}
 use Rattle.std.specs.List.{AllByRecursion, filter, find}
 use Rattle.std.specs.List.Sorted.{IsStrictlySortedBy}
 use Rattle.std.specs.Option.{option_map}
 use Rattle.std.specs.declared.cmp.Ordering.{Ordering}
 use Rattle.std.specs.declared.cmp.Ordering.TheVariants.{Less}
+use Rattle.std.proofs.lemmas.List.{length-map}
+use Rattle.farm_types.specs.Table.{change_where}
+use Rattle.farm_types.proofs.Put.{found_passes}
 
 -- each row is the changed one or itself
 pub by_cases : {R : Type 0} (P : R → Type 0) (v : Bool) (x y : R) → (v ≡ true → P x) → (v ≡ false → P y) → P (cond v x y)
@@ -48,16 +51,38 @@ find_map test f same (r ∷ rows) = rw (same r, find_map test f same rows) (by (
     by true = refl
     by false = refl
 
--- as many pass a test by what stays
+-- a row is found as before, and changed
+pub find_where : {R : Type 0} (p test : R → Bool) (f : R → R) → ((r : R) → p (f r) ≡ p r) → (rows : List R)
+    → find p (change_where test f rows) ≡ option_map (changed test f) (find p rows)
+find_where p test f same rows = find_map p (changed test f) (changed_keeps p test f same) rows
+
+-- and as before where it isn't one of those that change
+pub find_untouched : {R : Type 0} (p test : R → Bool) (f : R → R) → ((r : R) → p (f r) ≡ p r) → ((r : R) → p r ≡ true → test r ≡ false) → (rows : List R)
+    → find p (change_where test f rows) ≡ find p rows
+find_untouched {R = R} p test f same apart rows = find_where p test f same rows ∙ by (find p rows) refl
+  where
+    by : (o : Option R) → find p rows ≡ o → option_map (changed test f) o ≡ o
+    by None is = refl
+    by (Some r) is = ap (λ v. Some (cond v (f r) r)) (apart r (found_passes p r rows is))
+
+pub find_touched : {R : Type 0} (p test : R → Bool) (f : R → R) → ((r : R) → p (f r) ≡ p r) → (r : R) (rows : List R) → find p rows ≡ Some r → test r ≡ true
+    → find p (change_where test f rows) ≡ Some (f r)
+find_touched p test f same r rows there so =
+    find_where p test f same rows ∙ ap (option_map (changed test f)) there ∙ ap (λ v. Some (cond v (f r) r)) so
+
+-- the same rows pass a test by what stays, so as many
+pub filter_same : {R : Type 0} (test : R → Bool) (f : R → R) → ((r : R) → test (f r) ≡ test r) → (rows : List R)
+    → filter test (map f rows) ≡ map f (filter test rows)
+filter_same test f same [] = refl
+filter_same test f same (r ∷ rows) = rw (same r, filter_same test f same rows) (by (test r))
+  where
+    by : (v : Bool) → cond v (f r ∷ map f (filter test rows)) (map f (filter test rows)) ≡ map f (cond v (r ∷ filter test rows) (filter test rows))
+    by true = refl
+    by false = refl
+
 pub count_map : {R : Type 0} (test : R → Bool) (f : R → R) → ((r : R) → test (f r) ≡ test r) → (rows : List R)
     → length (filter test (map f rows)) ≡ length (filter test rows)
-count_map test f same [] = refl
-count_map test f same (r ∷ rows) = rw (same r) (by (count_map test f same rows) (test r))
-  where
-    by : length (filter test (map f rows)) ≡ length (filter test rows) → (v : Bool)
-        → length (cond v (f r ∷ filter test (map f rows)) (filter test (map f rows))) ≡ length (cond v (r ∷ filter test rows) (filter test rows))
-    by rest true = ap suc rest
-    by rest false = rest
+count_map test f same rows = ap length (filter_same test f same rows) ∙ length-map (filter test rows) f
 
 -- rows in order of what stays are in order
 pub sorted_map : {R : Type 0} (cmp : R → R → Ordering) (f : R → R) → ((a b : R) → cmp (f a) (f b) ≡ cmp a b) → (rows : List R)

@@ -14,15 +14,6 @@ use Rattle.farm_sound.proofs.Where.{AllByRecursion-both, AllByRecursion-map, by_
 abbrev pub Alike : JobRow → JobRow → Type 0
 Alike j m = m.group ≡ j.group → phase m.state ≡ phase j.state
 
--- a change that keeps this of each two keeps it of all
-pub AreGroupsInPhase-map : (F : Farm) (J : List JobRow) (f : JobRow → JobRow) → J ≡ map f F.jobs → ((j m : JobRow) → Alike j m → Alike (f j) (f m)) → AreGroupsInPhase F
-    → AreGroupsInPhase (record F { jobs = J })
-AreGroupsInPhase-map F J f is alike whole =
-    subst (λ l. AllByRecursion (λ j. AllByRecursion (λ m. m.group ≡ j.group → phase m.state ≡ phase j.state) l) l) (sym is)
-    (AllByRecursion-map (λ j. AllByRecursion (λ m. m.group ≡ j.group → phase m.state ≡ phase j.state) F.jobs)
-    (λ j. AllByRecursion (λ m. m.group ≡ j.group → phase m.state ≡ phase j.state) (map f F.jobs)) f
-    (λ j all. AllByRecursion-map (Alike j) (Alike (f j)) f (λ m. alike j m) F.jobs all) F.jobs whole)
-
 -- the jobs that pass change so that those of one group stay in one phase: all of a group in one phase pass, or none
 pub Alike-where : (test : JobRow → Bool) (f : JobRow → JobRow) → ((j : JobRow) → (f j).group ≡ j.group)
     → ((j m : JobRow) → test j ≡ true → test m ≡ true → phase (f m).state ≡ phase (f j).state)
@@ -46,7 +37,7 @@ Alike-kept test f groups kept j m alike =
     (λ _ same. alike (same ∙ groups j) ∙ sym (kept j so)))
     (λ _. by_cases (λ n. Alike j n) (test m) (f m) m (λ mso same. kept m mso ∙ alike (sym (groups m) ∙ same)) (λ _. alike))
 
--- the same with what is known of each job
+-- a change that keeps this of each two, by what is known of each job, keeps it of all
 pub AreGroupsInPhase-map_by : (F : Farm) (P : JobRow → Type 0) (f : JobRow → JobRow) → AllByRecursion P F.jobs
     → ((j m : JobRow) → P j → P m → Alike j m → Alike (f j) (f m)) → AreGroupsInPhase F
     → AllByRecursion (λ j. AllByRecursion (Alike j) (map f F.jobs)) (map f F.jobs)
