@@ -1,5 +1,5 @@
 //! The test of type rows and board rows: each by itself, and against the rows that it names.
-ghost use Rattle.std.specs.Prelude.{◌≡◌, ◌↔◌, IsTrue, Some, length};
+ghost use Rattle.std.specs.Prelude.{◌≡◌, ◌↔◌, IsTrue, length};
 ghost use Rattle.std.specs.List.{filter};
 ghost use Rattle.std.specs.List.Sorted.{IsStrictlySortedBy};
 ghost use Rattle.std.specs.Str.{bytes_eq};
@@ -51,16 +51,6 @@ pub fn is_of_few(rows: &Rows, row: &BoardRow) -> bool
     count_kind(rows, &row.kind) <= MOST_BOARDS_OF_TYPE
 }
 
-/// Whether a row gives a board this state.
-fn is_state(given: Option<State>, state: State) -> bool
-    ensures { IsTrue result ↔ (given ≡ Some state) }
-{
-    match given {
-        None => false,
-        Some(given) => given == state,
-    }
-}
-
 /// Whether the board's holder names the board, and gives it its state.
 pub fn is_held(rows: &Rows, row: &BoardRow) -> bool
     requires { IsOrdered (farm_of rows.now) }
@@ -68,17 +58,11 @@ pub fn is_held(rows: &Rows, row: &BoardRow) -> bool
 {
     match row.holder {
         Holder::Nobody => matches!(row.state, State::Idle),
-        Holder::Job(number) => match job_of(rows.jobs.as_slice(), number) {
-            None => false,
-            Some(job) => {
-                is_named(&job.board, &row.name) && is_state(job_gives(job.state), row.state)
-            }
-        },
-        Holder::Res(number) => match res_of(rows.reservations.as_slice(), number) {
-            None => false,
-            Some(res) => {
-                is_named(&res.board, &row.name) && is_state(res_gives(res.state), row.state)
-            }
-        },
+        Holder::Job(number) => job_of(rows.jobs.as_slice(), number).is_some_and(|job| {
+            is_named(&job.board, &row.name) && job_gives(job.state) == Some(row.state)
+        }),
+        Holder::Res(number) => res_of(rows.reservations.as_slice(), number).is_some_and(|res| {
+            is_named(&res.board, &row.name) && res_gives(res.state) == Some(row.state)
+        }),
     }
 }

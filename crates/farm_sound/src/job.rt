@@ -9,8 +9,8 @@ ghost use Rattle.farm_types.specs.Sound.{phase};
 ghost use Rattle.farm_sound.specs.ByRows.{IsOrdered, IsJobNumbered, IsJobWorded, IsJobPlaced};
 ghost use Rattle.farm_sound.specs.ByRows.{IsJobGrouped, IsInStep, IsShownOfJob};
 
-use crate::seek::{board_of, job_of, res_of};
-use crate::want::{names_board, names_type, prove_role, prove_want};
+use crate::seek::{job_of, res_of};
+use crate::want::{is_shown, names_board, names_type, prove_role, prove_want};
 use farm_types::{
     HIGHEST_PRIORITY, Holder, JobRow, JobState, LONGEST_TEXT, MOST_WANTS, Rows, State,
 };
@@ -79,16 +79,13 @@ fn follows(rows: &Rows, row: &JobRow) -> bool
     requires number { 1 ≤ row.now.number }
     ensures { IsTrue result ↔ Follows (farm_of rows.now) row.now }
 {
-    match job_of(rows.jobs.as_slice(), row.number - 1) {
-        None => false,
-        Some(previous) => {
-            previous.group == row.group
-                && previous.owner.is(&row.owner)
-                && previous.priority.get() == row.priority.get()
-                && !previous.checking
-                && row.body.is_empty()
-        }
-    }
+    job_of(rows.jobs.as_slice(), row.number - 1).is_some_and(|previous| {
+        previous.group == row.group
+            && previous.owner.is(&row.owner)
+            && previous.priority.get() == row.priority.get()
+            && !previous.checking
+            && row.body.is_empty()
+    })
 }
 
 /// The lines on a check.
@@ -127,20 +124,8 @@ pub fn is_in_step(rows: &Rows, row: &JobRow) -> bool
     requires number { 1 ≤ row.now.number }
     ensures { IsTrue result ↔ IsInStep (farm_of rows.now) row.now }
 {
-    row.number == row.group
-        || match job_of(rows.jobs.as_slice(), row.number - 1) {
-            None => false,
-            Some(previous) => phase(previous.state) == phase(row.state),
-        }
-}
-
-fn is_job(holder: Holder, number: u64) -> bool
-    ensures { IsTrue result ↔ (holder ≡ Holder.Job number) }
-{
-    match holder {
-        Holder::Job(job) => job == number,
-        _ => false,
-    }
+    let in_phase = |previous: &JobRow| phase(previous.state) == phase(row.state);
+    row.number == row.group || job_of(rows.jobs.as_slice(), row.number - 1).is_some_and(in_phase)
 }
 
 /// Whether the board that a job holds says so.
@@ -148,14 +133,12 @@ pub fn is_shown_of_job(rows: &Rows, row: &JobRow) -> bool
     requires { IsStrictlySortedBy board_cmp rows.now.boards.items }
     ensures { IsTrue result ↔ IsShownOfJob (farm_of rows.now) row.now }
 {
-    match (job_gives(row.state), &row.board) {
-        (None, _) => true,
-        (Some(_), None) => false,
-        (Some(_), Some(name)) => match board_of(rows.boards.as_slice(), name) {
-            None => false,
-            Some(board) => is_job(board.holder, row.number),
-        },
-    }
+    is_shown(
+        rows,
+        job_gives(row.state),
+        &row.board,
+        Holder::Job(row.number),
+    )
 }
 
 /// How many jobs are of the group.

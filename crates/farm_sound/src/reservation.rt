@@ -7,8 +7,7 @@ ghost use Rattle.farm_types.specs.Farm.{farm_of};
 ghost use Rattle.farm_types.specs.Sound.{IsResRow, res_gives};
 ghost use Rattle.farm_sound.specs.ByRows.{IsShownOfRes};
 
-use crate::seek::board_of;
-use crate::want::{names_board, prove_want};
+use crate::want::{is_shown, names_board, prove_want};
 use farm_types::{Holder, LEASE, ResRow, ResState, Rows, State};
 
 /// The state that a reservation gives the board that it holds, if it holds one.
@@ -42,26 +41,15 @@ pub fn is_res_row(rows: &Rows, row: &ResRow) -> bool
         }
 }
 
-fn is_res(holder: Holder, number: u64) -> bool
-    ensures { IsTrue result ↔ (holder ≡ Holder.Res number) }
-{
-    match holder {
-        Holder::Res(res) => res == number,
-        _ => false,
-    }
-}
-
 /// Whether the board that a reservation holds says so.
 pub fn is_shown_of_res(rows: &Rows, row: &ResRow) -> bool
     requires { IsStrictlySortedBy board_cmp rows.now.boards.items }
     ensures { IsTrue result ↔ IsShownOfRes (farm_of rows.now) row.now }
 {
-    match (res_gives(row.state), &row.board) {
-        (None, _) => true,
-        (Some(_), None) => false,
-        (Some(_), Some(name)) => match board_of(rows.boards.as_slice(), name) {
-            None => false,
-            Some(board) => is_res(board.holder, row.number),
-        },
-    }
+    is_shown(
+        rows,
+        res_gives(row.state),
+        &row.board,
+        Holder::Res(row.number),
+    )
 }

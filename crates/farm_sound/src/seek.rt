@@ -22,10 +22,8 @@ pub fn type_of<'a>(rows: &'a [TypeRow], name: &Name) -> Option<&'a TypeRow>
     requires { IsStrictlySortedBy type_cmp rows.now }
     ensures { option_copied result ≡ type_in rows.now name.now }
 {
-    match type_at(rows, name) {
-        Ok(at) => Some(&rows[at]),
-        Err(_) => None,
-    }
+    let at = type_at(rows, name).ok()?;
+    Some(&rows[at])
 }
 
 /// The place of the board with that name, or the place at which such a one is to be inserted.
@@ -42,10 +40,8 @@ pub fn board_of<'a>(rows: &'a [BoardRow], name: &Name) -> Option<&'a BoardRow>
     requires { IsStrictlySortedBy board_cmp rows.now }
     ensures { option_copied result ≡ board_in rows.now name.now }
 {
-    match board_at(rows, name) {
-        Ok(at) => Some(&rows[at]),
-        Err(_) => None,
-    }
+    let at = board_at(rows, name).ok()?;
+    Some(&rows[at])
 }
 
 /// The place of the job with that number, or the place at which such a one is to be inserted.
@@ -61,10 +57,8 @@ pub fn job_of(rows: &[JobRow], number: u64) -> Option<&JobRow>
     requires { IsStrictlySortedBy job_cmp rows.now }
     ensures { option_copied result ≡ job_in rows.now number }
 {
-    match job_at(rows, number) {
-        Ok(at) => Some(&rows[at]),
-        Err(_) => None,
-    }
+    let at = job_at(rows, number).ok()?;
+    Some(&rows[at])
 }
 
 /// The place of the reservation with that number, or the place at which such a one is to be
@@ -81,8 +75,6 @@ pub fn res_of(rows: &[ResRow], number: u64) -> Option<&ResRow>
     requires { IsStrictlySortedBy res_cmp rows.now }
     ensures { option_copied result ≡ res_in rows.now number }
 {
-    match res_at(rows, number) {
-        Ok(at) => Some(&rows[at]),
-        Err(_) => None,
-    }
+    let at = res_at(rows, number).ok()?;
+    Some(&rows[at])
 }

@@ -6,9 +6,10 @@ ghost use Rattle.farm_types.specs.Table.{type_cmp, board_cmp};
 ghost use Rattle.farm_types.specs.Farm.{farm_of, type_of};
 ghost use Rattle.farm_types.specs.Proper.{is_want};
 ghost use Rattle.farm_types.specs.Sound.{IsBoardOf};
+ghost use Rattle.farm_sound.specs.ByRows.{IsShown};
 
 use crate::seek::{board_of, type_of};
-use farm_types::{Name, Rows, Want};
+use farm_types::{BoardRow, Holder, Name, Rows, State, Want};
 
 /// A want names a type, if it names one, and tags.
 pub(crate) fn prove_want(want: &Want)
@@ -35,10 +36,8 @@ pub fn names_type(rows: &Rows, kind: &Option<Name>) -> bool
     ensures { IsTrue result
         ↔ IsSomeAnd kind.now (λ kind. IsSome (type_of (farm_of rows.now) kind)) }
 {
-    match kind {
-        None => false,
-        Some(kind) => type_of(rows.types.as_slice(), kind).is_some(),
-    }
+    kind.as_ref()
+        .is_some_and(|kind| type_of(rows.types.as_slice(), kind).is_some())
 }
 
 /// Whether the board that is named, if one is, is there.
@@ -46,18 +45,28 @@ pub fn names_board(rows: &Rows, board: &Option<Name>) -> bool
     requires { IsStrictlySortedBy board_cmp rows.now.boards.items }
     ensures { IsTrue result ↔ IsBoardOf (farm_of rows.now) board.now }
 {
-    match board {
-        None => true,
-        Some(name) => board_of(rows.boards.as_slice(), name).is_some(),
-    }
+    board
+        .as_ref()
+        .is_none_or(|name| board_of(rows.boards.as_slice(), name).is_some())
 }
 
 /// Whether a board is named, and has this name.
 pub fn is_named(board: &Option<Name>, name: &Name) -> bool
     ensures { IsTrue result ↔ (board.now ≡ Some name.now) }
 {
-    match board {
-        None => false,
-        Some(board) => board.is(name),
+    board.as_ref().is_some_and(|board| board.is(name))
+}
+
+/// Whether the board that a row holds, where its state gives it one, says so.
+pub fn is_shown(rows: &Rows, given: Option<State>, board: &Option<Name>, holder: Holder) -> bool
+    requires { IsStrictlySortedBy board_cmp rows.now.boards.items }
+    ensures { IsTrue result
+        ↔ IfSome given (λ _. IsShown (farm_of rows.now) board.now holder) }
+{
+    let is_holder = |board: &BoardRow| board.holder == holder;
+    match (given, board) {
+        (None, _) => true,
+        (Some(_), None) => false,
+        (Some(_), Some(name)) => board_of(rows.boards.as_slice(), name).is_some_and(is_holder),
     }
 }
