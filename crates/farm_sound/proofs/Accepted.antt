@@ -1,16 +1,13 @@
 -- What a command that isn't refused has, and what it leaves: a sound farm, a small reply, and the kept replies.
 use Rattle.std.proofs.Common.{◌==◌, ◌≡◌, ◌≤◌, List, None, Some, arith, false, true, ℕ}
+use Rattle.farm_sound.proofs.Names.{Farm, JobRow, ResRow, found_has, found_passes, job_of, res_of}
 use Rattle.farm_types.specs.Limits.{numbers_end}
 use Rattle.farm_types.specs.Change.{Done, done_with}
-use Rattle.farm_types.specs.Farm.{Farm, job_of, res_of}
 use Rattle.farm_types.specs.Proper.{is_proper_cmd}
 use Rattle.farm_types.specs.Refuse.{first_code, is_full_for, reasons}
 use Rattle.farm_types.specs.Sound.{IsJobRow, IsResRow, IsSound}
 use Rattle.farm_types.specs.Words.{IsName}
 use Rattle.farm_types.specs.declared.calls.Cmd.{Cmd}
-use Rattle.farm_types.specs.declared.rows.JobRow.{JobRow}
-use Rattle.farm_types.specs.declared.rows.ResRow.{ResRow}
-use Rattle.farm_types.proofs.Put.{found_has, found_passes}
 use Rattle.farm_sound.proofs.Tests.{same_number}
 
 -- what a command that isn't refused has

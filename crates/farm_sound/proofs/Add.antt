@@ -1,23 +1,12 @@
 -- A row with the next number is added.
 use Rattle.std.proofs.Common.{◌+◌, ◌<◌, ◌==◌, ◌∙◌, ◌≡◌, Bool, IsNone, IsSomeAnd, List, None, Option, Some, ap, arith, cond, false, length, refl, subst, sym, true, ℕ}
+use Rattle.farm_sound.proofs.Names.{AllByRecursion, AllByRecursion-put, AllByRecursion-weaker, BoardRow, Equal, Farm, Holder, JobRow, ResRow, bytes_eq, find, find_put_is, found_has, found_passes, job_of, length_put, nat_tests, option_map_or, put_sorted, ranked, res_of, tied_itself}
 use Rattle.std.specs.Cmp.{IsTotalOrder, nat_cmp_total, on_total}
-use Rattle.std.specs.List.{AllByRecursion, find}
-use Rattle.std.specs.Option.{option_map_or}
 use Rattle.std.specs.Ordering.{nat_cmp}
-use Rattle.std.specs.Str.{bytes_eq}
-use Rattle.std.specs.declared.cmp.Ordering.TheVariants.{Equal}
-use Rattle.std.proofs.lemmas.Bool.Decides.{nat_tests}
-use Rattle.std.proofs.lemmas.Cmp.{ranked, tied_itself}
 use Rattle.farm_types.specs.Limits.{most_jobs, most_reservations, numbers_end}
-use Rattle.farm_types.specs.Farm.{Farm, job_of, res_of}
 use Rattle.farm_types.specs.Pass.{held_board}
 use Rattle.farm_types.specs.Sound.{Hold, IsHeldBy, IsHeldByKeys, IsJobRow, IsResRow, IsSteady, hold_of, job_hold, res_hold}
 use Rattle.farm_types.specs.Table.{job_cmp, put, res_cmp}
-use Rattle.farm_types.specs.declared.rows.BoardRow.{BoardRow}
-use Rattle.farm_types.specs.declared.rows.Holder.{Holder}
-use Rattle.farm_types.specs.declared.rows.JobRow.{JobRow}
-use Rattle.farm_types.specs.declared.rows.ResRow.{ResRow}
-use Rattle.farm_types.proofs.Put.{AllByRecursion-put, AllByRecursion-weaker, find_put_is, found_has, found_passes, length_put, put_sorted}
 use Rattle.farm_sound.proofs.Grow.{IsSteady-edited, no_edit, rows_grow}
 use Rattle.farm_sound.proofs.Own.{differs_more, fresh_job, fresh_res}
 use Rattle.farm_sound.proofs.Tests.{same_number}

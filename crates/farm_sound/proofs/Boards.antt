@@ -1,25 +1,15 @@
 -- The commands on types and boards keep soundness.
 use Rattle.std.proofs.Common.{◌+◌, ◌<◌, ◌∙◌, ◌∷◌, ◌≡◌, ◌≤◌, Bool, IsSomeAnd, List, None, Some, ap, arith, cond, false, length, refl, subst, sym, true, ℕ, []}
+use Rattle.farm_sound.proofs.Names.{AllByRecursion-put, AllByRecursion-weaker, BoardRow, Equal, Farm, Holder, State, TypeRow, board_of, bytes_eq, bytes_eq-Decides, count_put, count_replaced, filter, find, find_put, find_put_is, found_has, found_passes, length_put, put_board, put_sorted, put_type, tied_itself}
 use Rattle.std.specs.Cmp.{IsTotalOrder, on_total}
 use Rattle.std.specs.Cmp.Lexicographic.{nat_list_cmp_total, nat_list_eq_equiv}
-use Rattle.std.specs.List.{filter, find}
 use Rattle.std.specs.Ordering.{is_eq}
-use Rattle.std.specs.Str.{bytes_eq}
-use Rattle.std.specs.declared.cmp.Ordering.TheVariants.{Equal}
-use Rattle.std.proofs.lemmas.Cmp.{tied_itself}
 use Rattle.std.proofs.lemmas.Map.Text.{is_eq-slice_cmp}
-use Rattle.std.proofs.lemmas.Slice.Eq.{bytes_eq-Decides}
 use Rattle.farm_types.specs.Limits.{most_boards, most_boards_of_type}
-use Rattle.farm_types.specs.Farm.{Farm, board_of, put_board, put_type}
 use Rattle.farm_types.specs.Pass.{held_board, freed_board}
 use Rattle.farm_types.specs.Sound.{Hold, IsBoardRow, IsHeldBy, IsHeldByKeys, IsSound, IsSteady, IsTypeRow, hold_of, holds}
 use Rattle.farm_types.specs.Table.{board_cmp, type_cmp}
 use Rattle.farm_types.specs.Words.{text_cmp}
-use Rattle.farm_types.specs.declared.rows.BoardRow.{BoardRow}
-use Rattle.farm_types.specs.declared.rows.Holder.{Holder}
-use Rattle.farm_types.specs.declared.rows.State.{State}
-use Rattle.farm_types.specs.declared.rows.TypeRow.{TypeRow}
-use Rattle.farm_types.proofs.Put.{AllByRecursion-put, AllByRecursion-weaker, count_put, count_replaced, find_put, find_put_is, found_has, found_passes, length_put, put_sorted}
 use Rattle.farm_sound.proofs.Add.{IsHeldByKeys-same_rows}
 use Rattle.farm_sound.proofs.Grow.{IsBoardRow-grows, IsSteady-edited, no_edit, rows_grow, same_texts}
 

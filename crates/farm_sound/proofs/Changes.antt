@@ -1,17 +1,9 @@
 -- Soundness is kept where jobs or reservations that pass a test change, and the boards that they hold.
 use Rattle.std.proofs.Common.{◌==◌, ◌∙◌, ◌≡◌, Bool, None, ap, false, refl, subst, sym, true, ℕ}
-use Rattle.std.specs.List.{AllByRecursion, find}
-use Rattle.std.specs.Option.{option_map_or}
-use Rattle.std.specs.Str.{bytes_eq}
-use Rattle.farm_types.specs.Farm.{Farm, job_of, res_of}
+use Rattle.farm_sound.proofs.Names.{AllByRecursion, AllByRecursion-weaker, BoardRow, Farm, Holder, JobRow, ResRow, bytes_eq, find, found_has, job_of, option_map_or, res_of}
 use Rattle.farm_types.specs.Pass.{change_jobs, change_res, held_board, is_job_so, is_res_so}
 use Rattle.farm_types.specs.Sound.{AreGroupsInPhase, IsBoardRow, IsCollecting, IsHeldByKeys, IsJobRow, IsResRow, IsSound, IsSteady, hold_of, job_hold, res_hold}
 use Rattle.farm_types.specs.Table.{change_where}
-use Rattle.farm_types.specs.declared.rows.BoardRow.{BoardRow}
-use Rattle.farm_types.specs.declared.rows.Holder.{Holder}
-use Rattle.farm_types.specs.declared.rows.JobRow.{JobRow}
-use Rattle.farm_types.specs.declared.rows.ResRow.{ResRow}
-use Rattle.farm_types.proofs.Put.{AllByRecursion-weaker, found_has}
 use Rattle.farm_sound.proofs.Collecting.{IsHeldByKeys-collector, IsSteady-collector}
 use Rattle.farm_sound.proofs.Held.{IsHeldByKeys-regiven, IsMoved, Leaves, moved_row, not_moved}
 use Rattle.farm_sound.proofs.Mapped.{IsSteady-boards, IsSteady-jobs, IsSteady-reservations, SameJob}
@@ -31,7 +23,7 @@ module _ (F : Farm) (so : Holder → Bool) (g : BoardRow → BoardRow) where
   IsSteady-boards_changed ch steady = IsSteady-boards F steady (λ b. so b.holder) g ch.name ch.kind
       (AllByRecursion-weaker (λ b is _. ch.row b is) F.boards steady.boards)
 
-  -- whose rows change in G too
+  -- in G the rows of those holders have changed too
   IsHeldByKeys-changed : (G : Farm) → ChangesBoards → G.boards ≡ boards_changed.boards → so Holder.Nobody ≡ false
       → ((h : Holder) → IsMoved (so h) (hold_of F h) (hold_of G h) g) → IsHeldByKeys F → IsHeldByKeys G
   IsHeldByKeys-changed G ch same nobody rows held_board = IsHeldByKeys-regiven F G so g

@@ -1,19 +1,12 @@
 -- The checks of a pass keep soundness.
 use Rattle.std.proofs.Common.{◌&&◌, ◌+◌, ◌<◌, ◌==◌, ◌||◌, ◌∙◌, ◌∷◌, ◌≡◌, ◌⊎◌, Bool, IsNone, IsSome, IsTrue, List, None, Option, Some, ap, arith, codes, cond, false, inl, inr, length, nat_le, refl, subst, sym, true, ℕ, []}
-use mathlib.Core.Bool.{false≢true}
+use Rattle.farm_sound.proofs.Names.{AllByRecursion, AllByRecursion-weaker, BoardRow, Check, Farm, Health, Holder, JobRow, Less, State, TypeRow, board_of, bytes_eq, bytes_eq-Decides, false≢true, filter, fold, found_has, found_passes, job_of, nat_tests, option_map, option_map_or, type_of}
 use Rattle.std.specs.Cmp.Lexicographic.{nat_list_eq_equiv}
-use Rattle.std.specs.List.{AllByRecursion, filter, fold}
 use Rattle.std.specs.List.Sorted.{IsStrictlySortedBy}
-use Rattle.std.specs.Option.{option_map, option_map_or}
 use Rattle.std.specs.Ordering.{is_eq}
-use Rattle.std.specs.Str.{bytes_eq}
-use Rattle.std.specs.declared.cmp.Ordering.TheVariants.{Less}
-use Rattle.std.proofs.lemmas.Bool.Decides.{nat_tests}
 use Rattle.std.proofs.lemmas.Map.Text.{is_eq-slice_cmp}
-use Rattle.std.proofs.lemmas.Slice.Eq.{bytes_eq-Decides}
 use Rattle.farm_types.specs.Limits.{most_jobs, numbers_end}
 use Rattle.farm_types.specs.Codes.{same_health}
-use Rattle.farm_types.specs.Farm.{Farm, board_of, job_of, type_of}
 use Rattle.farm_types.specs.Pass.{check_job, check_one, checks, has_room, held_board, is_due, is_due_by, is_reached}
 use Rattle.farm_types.specs.Pick.{check_of, is_nobody}
 use Rattle.farm_types.specs.Proper.{is_want}
@@ -21,18 +14,10 @@ use Rattle.farm_types.specs.Sound.{IsBoardRow, IsJobRow, IsSound, IsSteady, IsTy
 use Rattle.farm_types.specs.Table.{board_cmp, change_where, job_cmp, put}
 use Rattle.farm_types.proofs.WordLemmas.{no_text}
 use Rattle.farm_types.specs.Words.{IsName, is_tags, is_word}
-use Rattle.farm_types.specs.declared.rows.BoardRow.{BoardRow}
-use Rattle.farm_types.specs.declared.rows.Check.{Check}
-use Rattle.farm_types.specs.declared.rows.Health.{Health}
-use Rattle.farm_types.specs.declared.rows.Holder.{Holder}
-use Rattle.farm_types.specs.declared.rows.JobRow.{JobRow}
-use Rattle.farm_types.specs.declared.rows.State.{State}
-use Rattle.farm_types.specs.declared.rows.TypeRow.{TypeRow}
-use Rattle.farm_types.proofs.Put.{AllByRecursion-weaker, found_has, found_passes}
 use Rattle.farm_sound.proofs.Add.{IsSteady-add_job, add_job, job_of-add}
 use Rattle.farm_sound.proofs.Collecting.{IsCollecting-add, next_collects_not}
 use Rattle.farm_sound.proofs.Give.{IsFreeBoard, IsSteady-given_to, boards_on, given_to, still_board, still_there}
-use Rattle.farm_sound.proofs.Given.{IsHeldByKeys-given}
+use Rattle.farm_sound.proofs.Held.{IsHeldByKeys-given}
 use Rattle.farm_sound.proofs.Lists.{filter_all}
 use Rattle.farm_sound.proofs.Own.{fresh_job, fresh_res, itself, only_board, own_board}
 use Rattle.farm_sound.proofs.Tests.{both, nobody_from, same_number}

@@ -1,23 +1,11 @@
 -- A group that can't be served collects: each member in turn takes the first free board that fits it.
 use Rattle.std.proofs.Common.{◌&&◌, ◌==◌, ◌∙◌, ◌∷◌, ◌≡◌, ◌≤◌, ◌⊎◌, Bool, List, None, Option, Some, ap, arith, cond, false, inl, inr, length, map, refl, subst, sym, true, ℕ, []}
-use mathlib.Core.Bool.{false≢true}
-use Rattle.std.specs.List.{AllByRecursion, filter, find, fold, list_all}
+use Rattle.farm_sound.proofs.Names.{AllByRecursion, AllByRecursion-weaker, BoardRow, Farm, JobRow, JobState, Less, ResRow, Want, bytes_eq, false≢true, filter, find, fold, found_has, found_passes, job_of, list_all, members, option_map, option_map_or, ranked}
 use Rattle.std.specs.List.Sorted.{IsStrictlySortedBy}
-use Rattle.std.specs.Option.{option_map, option_map_or}
-use Rattle.std.specs.Str.{bytes_eq}
-use Rattle.std.specs.declared.cmp.Ordering.TheVariants.{Less}
-use Rattle.std.proofs.lemmas.Cmp.{ranked}
-use Rattle.farm_types.specs.Farm.{Farm, job_of, members}
 use Rattle.farm_types.specs.Pass.{collect, collect_member, first_free, give_member}
 use Rattle.farm_types.specs.Pick.{Claimed, fits, group_claim, is_free, is_nobody, leads_claim, serves, waits}
 use Rattle.farm_types.specs.Sound.{IsCollecting, IsHeldByKeys, IsJobRow, IsSound, IsSteady, phase}
 use Rattle.farm_types.specs.Table.{job_cmp}
-use Rattle.farm_types.specs.declared.rows.BoardRow.{BoardRow}
-use Rattle.farm_types.specs.declared.rows.JobRow.{JobRow}
-use Rattle.farm_types.specs.declared.rows.JobState.{JobState}
-use Rattle.farm_types.specs.declared.rows.ResRow.{ResRow}
-use Rattle.farm_types.specs.declared.rows.Want.{Want}
-use Rattle.farm_types.proofs.Put.{AllByRecursion-weaker, found_has, found_passes}
 use Rattle.farm_sound.proofs.Claims.{IsClaim, IsGroupClaim, IsOpen, leads}
 use Rattle.farm_sound.proofs.Collecting.{IsHeldByKeys-collector, IsSteady-collector, none_scheduling}
 use Rattle.farm_sound.proofs.Free.{serves_kept}

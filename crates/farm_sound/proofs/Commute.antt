@@ -1,21 +1,15 @@
 -- Rows with different keys are put in any order.
 use Rattle.std.proofs.Common.{◌∙◌, ◌∷◌, ◌≡◌, List, ap, refl, sym, []}
+use Rattle.farm_sound.proofs.Names.{Equal, Greater, Less, Ordering}
 use Rattle.std.specs.Cmp.{IsTotalOrder}
 use Rattle.std.specs.Ordering.{match_ordering, ordering_reverse}
-use Rattle.std.specs.declared.cmp.Ordering.{Ordering}
-use Rattle.std.specs.declared.cmp.Ordering.TheVariants.{Equal, Greater, Less}
 use Rattle.farm_types.specs.Table.{put}
 
 module _ {R : Type 0} (cmp : R → R → Ordering) (total : IsTotalOrder cmp) where
-  -- a row below, at and above the first one
-  put_less : (row r : R) (rows : List R) → cmp row r ≡ Less → put cmp (r ∷ rows) row ≡ row ∷ r ∷ rows
-  put_less row r rows is = ap (λ o. match_ordering o (row ∷ r ∷ rows) (row ∷ rows) (r ∷ put cmp rows row)) is
-
-  put_equal : (row r : R) (rows : List R) → cmp row r ≡ Equal → put cmp (r ∷ rows) row ≡ row ∷ rows
-  put_equal row r rows is = ap (λ o. match_ordering o (row ∷ r ∷ rows) (row ∷ rows) (r ∷ put cmp rows row)) is
-
-  put_greater : (row r : R) (rows : List R) → cmp row r ≡ Greater → put cmp (r ∷ rows) row ≡ r ∷ put cmp rows row
-  put_greater row r rows is = ap (λ o. match_ordering o (row ∷ r ∷ rows) (row ∷ rows) (r ∷ put cmp rows row)) is
+  -- a row below, at or above the first one
+  put_by : (o : Ordering) (row r : R) (rows : List R) → cmp row r ≡ o
+      → put cmp (r ∷ rows) row ≡ match_ordering o (row ∷ r ∷ rows) (row ∷ rows) (r ∷ put cmp rows row)
+  put_by o row r rows is = ap (λ o. match_ordering o (row ∷ r ∷ rows) (row ∷ rows) (r ∷ put cmp rows row)) is
 
   flip : (a b : R) (o : Ordering) → cmp a b ≡ o → cmp b a ≡ ordering_reverse o
   flip a b o is = total.antisymm b a ∙ ap ordering_reverse is
@@ -26,28 +20,28 @@ module _ {R : Type 0} (cmp : R → R → Ordering) (total : IsTotalOrder cmp) wh
   both_first a b rows apart first second = by (cmp a b) refl
     where
       by : (o : Ordering) → cmp a b ≡ o → put cmp (a ∷ rows) b ≡ put cmp (b ∷ rows) a
-      by Less is = put_greater b a rows (flip a b Less is) ∙ ap (λ rest. a ∷ rest) second ∙ sym (put_less a b rows is)
+      by Less is = put_by Greater b a rows (flip a b Less is) ∙ ap (λ rest. a ∷ rest) second ∙ sym (put_by Less a b rows is)
       by Equal is = absurd (apart is)
-      by Greater is = put_less b a rows (flip a b Greater is) ∙ ap (λ rest. b ∷ rest) (sym first) ∙ sym (put_greater a b rows is)
+      by Greater is = put_by Less b a rows (flip a b Greater is) ∙ ap (λ rest. b ∷ rest) (sym first) ∙ sym (put_by Greater a b rows is)
 
   -- one below the first row or at it, and one above it
   parted : (a b r : R) (rows : List R) → cmp b r ≡ Greater → ((xs : List R) → put cmp (r ∷ xs) a ≡ a ∷ r ∷ xs) → cmp b a ≡ Greater
       → put cmp (put cmp (r ∷ rows) a) b ≡ put cmp (put cmp (r ∷ rows) b) a
   parted a b r rows above low high =
-      ap (λ xs. put cmp xs b) (low rows) ∙ put_greater b a (r ∷ rows) high ∙ ap (λ xs. a ∷ xs) (put_greater b r rows above)
-      ∙ sym (ap (λ xs. put cmp xs a) (put_greater b r rows above) ∙ low (put cmp rows b))
+      ap (λ xs. put cmp xs b) (low rows) ∙ put_by Greater b a (r ∷ rows) high ∙ ap (λ xs. a ∷ xs) (put_by Greater b r rows above)
+      ∙ sym (ap (λ xs. put cmp xs a) (put_by Greater b r rows above) ∙ low (put cmp rows b))
 
   replaced : (a b r : R) (rows : List R) → cmp a r ≡ Equal → cmp b r ≡ Greater → put cmp (put cmp (r ∷ rows) a) b ≡ put cmp (put cmp (r ∷ rows) b) a
   replaced a b r rows at above =
       let high : cmp b a ≡ Greater = flip a b Less (total.congr a r b at ∙ flip b r Greater above) in
-      ap (λ xs. put cmp xs b) (put_equal a r rows at) ∙ put_greater b a rows high
-      ∙ sym (ap (λ xs. put cmp xs a) (put_greater b r rows above) ∙ put_equal a r (put cmp rows b) at)
+      ap (λ xs. put cmp xs b) (put_by Equal a r rows at) ∙ put_by Greater b a rows high
+      ∙ sym (ap (λ xs. put cmp xs a) (put_by Greater b r rows above) ∙ put_by Equal a r (put cmp rows b) at)
 
   beside : (a b r : R) (rows : List R) → cmp a r ≡ Less → cmp b r ≡ Equal → put cmp (put cmp (r ∷ rows) a) b ≡ put cmp (put cmp (r ∷ rows) b) a
   beside a b r rows below at =
       let high : cmp b a ≡ Greater = total.congr b r a at ∙ flip a r Less below in
-      ap (λ xs. put cmp xs b) (put_less a r rows below) ∙ put_greater b a (r ∷ rows) high ∙ ap (λ xs. a ∷ xs) (put_equal b r rows at)
-      ∙ sym (ap (λ xs. put cmp xs a) (put_equal b r rows at) ∙ put_less a b rows (flip b a Greater high))
+      ap (λ xs. put cmp xs b) (put_by Less a r rows below) ∙ put_by Greater b a (r ∷ rows) high ∙ ap (λ xs. a ∷ xs) (put_by Equal b r rows at)
+      ∙ sym (ap (λ xs. put cmp xs a) (put_by Equal b r rows at) ∙ put_by Less a b rows (flip b a Greater high))
 
   pub puts_commute : (a b : R) → (cmp a b ≡ Equal → ⊥) → (rows : List R) → put cmp (put cmp rows a) b ≡ put cmp (put cmp rows b) a
   puts_commute a b apart [] = both_first a b [] apart refl refl
@@ -59,15 +53,15 @@ module _ {R : Type 0} (cmp : R → R → Ordering) (total : IsTotalOrder cmp) wh
       by : put cmp (put cmp rows a) b ≡ put cmp (put cmp rows b) a → (o : Ordering) → cmp a r ≡ o → (p : Ordering) → cmp b r ≡ p
           → put cmp (put cmp (r ∷ rows) a) b ≡ put cmp (put cmp (r ∷ rows) b) a
       by rest Less is Less has =
-          ap (λ xs. put cmp xs b) (put_less a r rows is) ∙ both_first a b (r ∷ rows) apart (put_less a r rows is) (put_less b r rows has)
-          ∙ sym (ap (λ xs. put cmp xs a) (put_less b r rows has))
+          ap (λ xs. put cmp xs b) (put_by Less a r rows is) ∙ both_first a b (r ∷ rows) apart (put_by Less a r rows is) (put_by Less b r rows has)
+          ∙ sym (ap (λ xs. put cmp xs a) (put_by Less b r rows has))
       by rest Less is Equal has = beside a b r rows is has
-      by rest Less is Greater has = parted a b r rows has (λ xs. put_less a r xs is) (above_both b a has is)
+      by rest Less is Greater has = parted a b r rows has (λ xs. put_by Less a r xs is) (above_both b a has is)
       by rest Equal is Less has = sym (beside b a r rows has is)
       by rest Equal is Equal has = absurd (apart (total.congr a r b is ∙ flip b r Equal has))
       by rest Equal is Greater has = replaced a b r rows is has
-      by rest Greater is Less has = sym (parted b a r rows is (λ xs. put_less b r xs has) (above_both a b is has))
+      by rest Greater is Less has = sym (parted b a r rows is (λ xs. put_by Less b r xs has) (above_both a b is has))
       by rest Greater is Equal has = sym (replaced b a r rows has is)
       by rest Greater is Greater has =
-          ap (λ xs. put cmp xs b) (put_greater a r rows is) ∙ put_greater b r (put cmp rows a) has ∙ ap (λ xs. r ∷ xs) rest
-          ∙ sym (ap (λ xs. put cmp xs a) (put_greater b r rows has) ∙ put_greater a r (put cmp rows b) is)
+          ap (λ xs. put cmp xs b) (put_by Greater a r rows is) ∙ put_by Greater b r (put cmp rows a) has ∙ ap (λ xs. r ∷ xs) rest
+          ∙ sym (ap (λ xs. put cmp xs a) (put_by Greater b r rows has) ∙ put_by Greater a r (put cmp rows b) is)

@@ -1,17 +1,10 @@
 -- The boards of the least list are free.
 use Rattle.std.proofs.Common.{◌&&◌, ◌||◌, ◌∙◌, ◌≡◌, List, Some, ap, length, not, sym, true}
-use mathlib.Core.Bool.{false≢true}
+use Rattle.farm_sound.proofs.Names.{AllByRecursion, AllByRecursion-weaker, BoardRow, Farm, Health, TypeRow, Want, board_of, false≢true, list_all}
 use Rattle.std.specs.Cmp.Lexicographic.{as_long, pointwise}
-use Rattle.std.specs.List.{AllByRecursion, list_all}
 use Rattle.farm_types.specs.Codes.{same_health}
-use Rattle.farm_types.specs.Farm.{Farm, board_of}
 use Rattle.farm_types.specs.Pick.{IsAmong, are_apart, check_of, fits, is_checked, is_free, is_nobody, least, serves}
 use Rattle.farm_types.specs.Sound.{IsSteady}
-use Rattle.farm_types.specs.declared.rows.BoardRow.{BoardRow}
-use Rattle.farm_types.specs.declared.rows.Health.{Health}
-use Rattle.farm_types.specs.declared.rows.TypeRow.{TypeRow}
-use Rattle.farm_types.specs.declared.rows.Want.{Want}
-use Rattle.farm_types.proofs.Put.{AllByRecursion-weaker}
 use Rattle.farm_sound.proofs.Give.{IsFreeBoard}
 use Rattle.farm_sound.proofs.Least.{IsLeast-least}
 use Rattle.farm_sound.proofs.Lists.{all_tested, among_has}

@@ -1,22 +1,10 @@
 -- Free boards are given to claims.
 use Rattle.std.proofs.Common.{◌+◌, ◌==◌, ◌∙◌, ◌∷◌, ◌≡◌, ◌≤◌, ◌⊎◌, Bool, IsSome, List, None, Option, Some, ap, arith, cond, false, inl, inr, refl, subst, sym, true, ℕ}
-use Rattle.std.specs.Option.{option_map, option_map_or}
-use Rattle.std.specs.Str.{bytes_eq}
-use Rattle.std.proofs.lemmas.Slice.Eq.{bytes_eq-Decides}
-use Rattle.farm_types.specs.Farm.{Farm, board_of, job_of, res_of}
+use Rattle.farm_sound.proofs.Names.{AllByRecursion-weaker, BoardRow, Farm, Health, Holder, JobRow, JobState, ResRow, ResState, State, board_of, bytes_eq, bytes_eq-Decides, found_passes, job_of, option_map, option_map_or, res_of}
 use Rattle.farm_types.specs.Pass.{allocated_reservation, give_member, give_res, held_board, placed_job}
 use Rattle.farm_types.specs.Sound.{IsBoardRow, IsHeldByKeys, IsJobRow, IsResRow, IsSound, IsSteady, hold, hold_of, job_gives, job_hold, phase, res_gives, res_hold}
 use Rattle.farm_types.specs.Table.{change_where}
-use Rattle.farm_types.specs.declared.rows.BoardRow.{BoardRow}
-use Rattle.farm_types.specs.declared.rows.Health.{Health}
-use Rattle.farm_types.specs.declared.rows.Holder.{Holder}
-use Rattle.farm_types.specs.declared.rows.JobRow.{JobRow}
-use Rattle.farm_types.specs.declared.rows.JobState.{JobState}
-use Rattle.farm_types.specs.declared.rows.ResRow.{ResRow}
-use Rattle.farm_types.specs.declared.rows.ResState.{ResState}
-use Rattle.farm_types.specs.declared.rows.State.{State}
-use Rattle.farm_types.proofs.Put.{AllByRecursion-weaker, found_passes}
-use Rattle.farm_sound.proofs.Given.{IsHeldByKeys-given}
+use Rattle.farm_sound.proofs.Held.{IsHeldByKeys-given}
 use Rattle.farm_sound.proofs.Mapped.{IsSteady-boards, IsSteady-jobs, IsSteady-reservations}
 use Rattle.farm_sound.proofs.Own.{itself, only_board, only_job}
 use Rattle.farm_sound.proofs.Rows.{board_row_in, hold_nothing, job_row_at, res_row_in, still_none}

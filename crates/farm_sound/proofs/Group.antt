@@ -1,22 +1,12 @@
 -- A group is given its boards, member by member.
 use Rattle.std.proofs.Common.{◌==◌, ◌||◌, ◌∙◌, ◌∷◌, ◌≡◌, ◌≤◌, ◌⊎◌, Bool, List, Some, ap, arith, cond, false, inl, inr, length, map, not, refl, subst, sym, true, ℕ, []}
-use mathlib.Core.Bool.{false≢true}
+use Rattle.farm_sound.proofs.Names.{AllByRecursion, AllByRecursion-weaker, BoardRow, Farm, JobRow, JobState, Less, bytes_eq, false≢true, filter, fold, job_of, list_any, members, nat_tests, ranked, zip}
 use Rattle.std.specs.Cmp.Lexicographic.{nat_list_eq_equiv}
-use Rattle.std.specs.List.{AllByRecursion, filter, fold, list_any, zip}
 use Rattle.std.specs.List.Sorted.{IsStrictlySortedBy}
-use Rattle.std.specs.Str.{bytes_eq}
-use Rattle.std.specs.declared.cmp.Ordering.TheVariants.{Less}
-use Rattle.std.proofs.lemmas.Bool.Decides.{nat_tests}
-use Rattle.std.proofs.lemmas.Cmp.{ranked}
-use Rattle.farm_types.specs.Farm.{Farm, job_of, members}
 use Rattle.farm_types.specs.Pass.{give_group, give_member, held_board, placed_job}
 use Rattle.farm_types.specs.Pick.{are_apart}
 use Rattle.farm_types.specs.Sound.{IsCollecting, IsHeldByKeys, IsSound, IsSteady, phase}
 use Rattle.farm_types.specs.Table.{job_cmp}
-use Rattle.farm_types.specs.declared.rows.BoardRow.{BoardRow}
-use Rattle.farm_types.specs.declared.rows.JobRow.{JobRow}
-use Rattle.farm_types.specs.declared.rows.JobState.{JobState}
-use Rattle.farm_types.proofs.Put.{AllByRecursion-weaker}
 use Rattle.farm_sound.proofs.Collecting.{IsCollecting-map}
 use Rattle.farm_sound.proofs.Give.{IsFreeBoard, IsPlaced, IsHeldByKeys-give_member, IsSteady-give_member, other_board, other_job}
 use Rattle.farm_sound.proofs.Lists.{filter_all}

@@ -1,21 +1,13 @@
 -- A farm that has all that another has.
 use Rattle.std.proofs.Common.{◌-◌, ◌<◌, ◌∙◌, ◌≡◌, ◌≤◌, IfSome, IsNone, IsSome, IsSomeAnd, List, None, Option, Some, ap, arith, length, refl, sym, ℕ}
-use Rattle.std.specs.List.{AllByRecursion, filter}
+use Rattle.farm_sound.proofs.Names.{AllByRecursion, AllByRecursion-weaker, BoardRow, Equal, Farm, JobRow, ResRow, board_of, bytes_eq, bytes_eq-Decides, filter, job_of, res_of, type_of}
 use Rattle.std.specs.List.Sorted.{IsStrictlySortedBy}
 use Rattle.std.specs.Ordering.{is_eq}
-use Rattle.std.specs.Str.{bytes_eq}
-use Rattle.std.specs.declared.cmp.Ordering.TheVariants.{Equal}
 use Rattle.std.proofs.lemmas.Map.Text.{is_eq-slice_cmp}
-use Rattle.std.proofs.lemmas.Slice.Eq.{bytes_eq-Decides}
-use Rattle.farm_types.specs.Farm.{Farm, board_of, job_of, res_of, type_of}
 use Rattle.farm_types.specs.Limits.{last_moment, most_boards, most_boards_of_type, most_commands, most_jobs, most_replies, most_reservations, most_types, numbers_end}
 use Rattle.farm_types.specs.Sound.{Follows, IsBoardRow, IsJobRow, IsKeptRow, IsResRow, IsSteady, IsTypeRow}
 use Rattle.farm_types.specs.Table.{board_cmp, job_cmp, kept_cmp, res_cmp, type_cmp}
 use Rattle.farm_types.specs.Words.{text_cmp}
-use Rattle.farm_types.specs.declared.rows.BoardRow.{BoardRow}
-use Rattle.farm_types.specs.declared.rows.JobRow.{JobRow}
-use Rattle.farm_types.specs.declared.rows.ResRow.{ResRow}
-use Rattle.farm_types.proofs.Put.{AllByRecursion-weaker}
 
 -- ---- a farm that has all that another has
 
@@ -140,7 +132,7 @@ pub record Edit (F : Farm) : Type 0 where
   pub count : farm.count ≤ most_commands
   pub next : (1 ≤ farm.next) × (farm.next ≤ numbers_end)
 
--- the edit that leaves the farm as it is: others say what they change in it
+-- the edit that changes nothing: another edit is this one with what it changes
 abbrev pub no_edit : (F : Farm) → IsSteady F → Edit F
 no_edit F steady = record {
   farm = F;

@@ -1,18 +1,12 @@
 -- The first list of boards that meets the wants is the least one.
 use Rattle.std.proofs.Common.{◌&&◌, ◌++◌, ◌∙◌, ◌∷◌, ◌≡◌, Bool, List, None, Ordering, Some, ap, arith, cond, false, inl, inr, length, map, refl, subst, suc, sym, true, zero, ℕ, []}
-use mathlib.Core.Bool.{false≢true}
+use Rattle.farm_sound.proofs.Names.{AllByRecursion, AllByRecursion-weaker, BoardRow, Less, Want, false≢true, find, flat_map, found_has, found_passes, list_all, tied_itself}
 use Rattle.std.specs.Cmp.{IsTotalOrder, first_so, on_total}
 use Rattle.std.specs.Cmp.Lexicographic.{as_long, lists_total, nat_list_cmp_total, pointwise}
-use Rattle.std.specs.List.{AllByRecursion, find, flat_map, list_all}
 use Rattle.std.specs.List.Sorted.{IsStrictlySortedBy}
 use Rattle.std.specs.Ordering.{is_lt, ordering_reverse}
-use Rattle.std.specs.declared.cmp.Ordering.TheVariants.{Less}
-use Rattle.std.proofs.lemmas.Cmp.{tied_itself}
 use Rattle.farm_types.specs.Pick.{IsAmong, AreAmong, IsLeast, are_apart, fits, least, board_lists, meets, names_cmp}
 use Rattle.farm_types.specs.Table.{board_cmp}
-use Rattle.farm_types.specs.declared.rows.BoardRow.{BoardRow}
-use Rattle.farm_types.specs.declared.rows.Want.{Want}
-use Rattle.farm_types.proofs.Put.{AllByRecursion-weaker, found_has, found_passes}
 use Rattle.farm_sound.proofs.Lists.{all_join, all_self, among_append, among_has, among_map, among_none}
 use Rattle.farm_sound.proofs.Where.{AllByRecursion-map, all_true}
 

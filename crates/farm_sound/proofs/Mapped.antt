@@ -1,20 +1,12 @@
 -- A steady farm stays so where rows that pass a test change in their places.
 use Rattle.std.proofs.Common.{◌==◌, ◌∙◌, ◌≡◌, ◌≤◌, Bool, IsNone, IsSome, None, Option, Some, ap, length, map, refl, subst, sym, true}
-use mathlib.Core.Bool.{false≢true, true≢false}
-use Rattle.std.specs.List.{AllByRecursion, find}
-use Rattle.std.specs.Option.{option_map}
+use Rattle.farm_sound.proofs.Names.{AllByRecursion, AllByRecursion-weaker, BoardRow, Farm, JobRow, ResRow, board_of, bytes_eq, false≢true, find, option_map, res_of, true≢false}
 use Rattle.std.specs.Ordering.{nat_cmp}
-use Rattle.std.specs.Str.{bytes_eq}
 use Rattle.std.proofs.lemmas.List.{length-map}
 use Rattle.farm_types.specs.Limits.{most_boards, most_boards_of_type, most_jobs, most_reservations}
-use Rattle.farm_types.specs.Farm.{Farm, board_of, res_of}
 use Rattle.farm_types.specs.Sound.{IsBoardRow, IsJobRow, IsResRow, IsSteady}
 use Rattle.farm_types.specs.Table.{board_cmp, change_where, job_cmp, res_cmp}
 use Rattle.farm_types.specs.Words.{text_cmp}
-use Rattle.farm_types.specs.declared.rows.BoardRow.{BoardRow}
-use Rattle.farm_types.specs.declared.rows.JobRow.{JobRow}
-use Rattle.farm_types.specs.declared.rows.ResRow.{ResRow}
-use Rattle.farm_types.proofs.Put.{AllByRecursion-weaker}
 use Rattle.farm_sound.proofs.Grow.{IsBoardRow-grows, IsJobRow-grows, IsResRow-grows, IsSteady-edited, no_edit, rows_grow}
 use Rattle.farm_sound.proofs.Where.{all_changed, by_cases, changed, changed_keeps, count_map, find_where, sorted_map}
 

@@ -1,16 +1,12 @@
 -- The empty farm, and what stays sound when the clock moves, a reply is kept or a command is counted.
 use Rattle.std.proofs.Common.{◌<◌, ◌≡◌, ◌≤◌, IsSomeAnd, List, Some, arith, length, refl, ℕ}
+use Rattle.farm_sound.proofs.Names.{AllByRecursion, AllByRecursion-put, Farm, Holder, KeptRow, board_of, empty_farm, length_put, put_kept, put_sorted}
 use Rattle.std.specs.Cmp.{IsTotalOrder, on_total, then_total}
 use Rattle.std.specs.Cmp.Lexicographic.{nat_list_cmp_total}
-use Rattle.std.specs.List.{AllByRecursion}
 use Rattle.std.specs.List.Sorted.{IsStrictlySortedBy}
 use Rattle.farm_types.specs.Limits.{last_moment, most_commands, most_replies}
-use Rattle.farm_types.specs.Farm.{Farm, board_of, empty_farm, put_kept}
 use Rattle.farm_types.specs.Sound.{Hold, IsKeptRow, IsSound, hold_of}
 use Rattle.farm_types.specs.Table.{kept_cmp, put}
-use Rattle.farm_types.specs.declared.rows.Holder.{Holder}
-use Rattle.farm_types.specs.declared.rows.KeptRow.{KeptRow}
-use Rattle.farm_types.proofs.Put.{AllByRecursion-put, length_put, put_sorted}
 use Rattle.farm_sound.proofs.Add.{IsHeldByKeys-same_rows}
 use Rattle.farm_sound.proofs.Grow.{IsSteady-edited, no_edit, rows_grow}
 

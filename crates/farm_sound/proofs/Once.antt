@@ -1,25 +1,11 @@
 -- Holders found by keys say that no board is held twice, and that each says who holds it; and back.
 use Rattle.std.proofs.Common.{◌++◌, ◌<◌, ◌==◌, ◌∙◌, ◌∷◌, ◌≡◌, ◌≢◌, Bool, IsSome, IsSomeAnd, List, None, Option, Some, ap, arith, cond, false, inl, inr, refl, subst, sym, true, unwrap_or, ℕ, []}
-use mathlib.Core.Bool.{false≢true}
-use Rattle.std.specs.List.{AllByRecursion, cons_option, filter_map, find}
+use Rattle.farm_sound.proofs.Names.{AllByRecursion, AllByRecursion-weaker, BoardRow, Farm, Holder, JobRow, Less, Ordering, ResRow, State, board_of, bytes_eq, bytes_eq-Decides, cons_option, false≢true, filter_map, find, found_has, found_passes, job_of, option_map_or, ranked, res_of}
 use Rattle.std.specs.List.Sorted.{IsStrictlySortedBy}
-use Rattle.std.specs.Option.{option_map_or}
-use Rattle.std.specs.Str.{bytes_eq}
-use Rattle.std.specs.declared.cmp.Ordering.{Ordering}
-use Rattle.std.specs.declared.cmp.Ordering.TheVariants.{Less}
-use Rattle.std.proofs.lemmas.Cmp.{ranked}
-use Rattle.std.proofs.lemmas.Slice.Eq.{bytes_eq-Decides}
-use Rattle.farm_types.specs.Farm.{Farm, board_of, job_of, res_of}
 use Rattle.farm_types.specs.Pass.{held_board}
 use Rattle.farm_types.specs.Pick.{IsAmong}
 use Rattle.farm_types.specs.Sound.{EachTwo, Hold, IsBoardOf, IsHeldBy, IsHeldByKeys, IsHeldOnce, IsJobRow, IsResRow, IsSteady, hold, hold_of, holds, job_gives, job_hold, no_hold, res_gives, res_hold, shown_hold}
 use Rattle.farm_types.specs.Table.{job_cmp, res_cmp}
-use Rattle.farm_types.specs.declared.rows.BoardRow.{BoardRow}
-use Rattle.farm_types.specs.declared.rows.Holder.{Holder}
-use Rattle.farm_types.specs.declared.rows.JobRow.{JobRow}
-use Rattle.farm_types.specs.declared.rows.ResRow.{ResRow}
-use Rattle.farm_types.specs.declared.rows.State.{State}
-use Rattle.farm_types.proofs.Put.{AllByRecursion-weaker, found_has, found_passes}
 use Rattle.farm_sound.proofs.Held.{held_from, held_is, hold_names, holder_is, row_of_job, row_of_res}
 use Rattle.farm_sound.proofs.Lists.{all_join, among_append, among_found, among_has, among_none, each_append, each_weaker, each_with}
 use Rattle.farm_sound.proofs.Own.{own_board, own_job, own_res, text_itself}

@@ -1,22 +1,11 @@
 -- Each row is found by its own key, and no row by the next number.
 use Rattle.std.proofs.Common.{◌<◌, ◌==◌, ◌∙◌, ◌∷◌, ◌≡◌, ◌≤◌, Bool, List, None, Some, ap, arith, cond, false, refl, sym, true, ℕ, []}
-use Rattle.std.specs.List.{AllByRecursion, find}
+use Rattle.farm_sound.proofs.Names.{AllByRecursion, AllByRecursion-weaker, BoardRow, Farm, JobRow, Less, Ordering, ResRow, board_of, bytes_eq, bytes_eq-Decides, find, job_of, nat_tests, ranked, res_of}
 use Rattle.std.specs.List.Sorted.{IsStrictlySortedBy}
 use Rattle.std.specs.Ordering.{is_eq}
-use Rattle.std.specs.Str.{bytes_eq}
-use Rattle.std.specs.declared.cmp.Ordering.{Ordering}
-use Rattle.std.specs.declared.cmp.Ordering.TheVariants.{Less}
-use Rattle.std.proofs.lemmas.Bool.Decides.{nat_tests}
-use Rattle.std.proofs.lemmas.Cmp.{ranked}
 use Rattle.std.proofs.lemmas.Map.Text.{is_eq-slice_cmp}
-use Rattle.std.proofs.lemmas.Slice.Eq.{bytes_eq-Decides}
-use Rattle.farm_types.specs.Farm.{Farm, board_of, job_of, res_of}
 use Rattle.farm_types.specs.Sound.{IsSteady}
 use Rattle.farm_types.specs.Table.{board_cmp, job_cmp, res_cmp}
-use Rattle.farm_types.specs.declared.rows.BoardRow.{BoardRow}
-use Rattle.farm_types.specs.declared.rows.JobRow.{JobRow}
-use Rattle.farm_types.specs.declared.rows.ResRow.{ResRow}
-use Rattle.farm_types.proofs.Put.{AllByRecursion-weaker}
 use Rattle.farm_sound.proofs.Lists.{none_found}
 
 pub found_all : {R : Type 0} (cmp : R → R → Ordering) (test : R → R → Bool) → ((r : R) → test r r ≡ true)

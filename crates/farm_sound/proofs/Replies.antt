@@ -1,16 +1,10 @@
 -- How large the numbers of a pass's reply are, and that a pass leaves the kept replies.
 use Rattle.std.proofs.Common.{◌+◌, ◌++◌, ◌∙◌, ◌∷◌, ◌≡◌, ◌≤◌, Bool, List, None, Option, Some, ap, arith, cond, false, length, map, not, refl, sym, true, ℕ, []}
-use Rattle.std.specs.List.{filter, fold, zip}
-use Rattle.std.specs.Option.{option_map_or}
+use Rattle.farm_sound.proofs.Names.{BoardRow, Farm, JobRow, JobState, filter, fold, length_put, members, option_map_or, zip}
 use Rattle.std.proofs.lemmas.List.{length-append, length-map}
-use Rattle.farm_types.specs.Farm.{Farm, members}
 use Rattle.farm_types.specs.Pass.{Served, checks, collect, give, give_group, give_member, give_res, is_due, is_group, may_collect, pass_over, serve, serve_all, claims_taken}
 use Rattle.farm_types.specs.Pick.{Claimed, claim_cmp, claims, group_claim, is_free, is_waiting, leads_claim, least, queue, res_claim}
 use Rattle.farm_types.specs.Table.{put, put_all}
-use Rattle.farm_types.specs.declared.rows.BoardRow.{BoardRow}
-use Rattle.farm_types.specs.declared.rows.JobRow.{JobRow}
-use Rattle.farm_types.specs.declared.rows.JobState.{JobState}
-use Rattle.farm_types.proofs.Put.{length_put}
 use Rattle.farm_sound.proofs.Checks.{checks_rest}
 use Rattle.farm_sound.proofs.Claims.{claim_total}
 use Rattle.farm_sound.proofs.Collect.{collect_is, pairs_for}

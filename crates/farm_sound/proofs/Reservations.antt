@@ -1,18 +1,12 @@
 -- The commands on a reservation keep soundness, and so does their end.
 use Rattle.std.proofs.Common.{◌+◌, ◌<◌, ◌==◌, ◌∙◌, ◌≡◌, ◌≤◌, Bool, IsSome, IsTrue, List, None, Some, ap, arith, length, refl, subst, sym, ℕ}
-use mathlib.Core.Bool.{false≢true}
-use Rattle.std.specs.List.{AllByRecursion}
+use Rattle.farm_sound.proofs.Names.{AllByRecursion, Farm, Holder, ResRow, ResState, State, false≢true, put_res}
 use Rattle.farm_types.specs.Limits.{most_reservations, numbers_end}
 use Rattle.farm_types.specs.Change.{in_state, new_res}
-use Rattle.farm_types.specs.Farm.{Farm, put_res}
 use Rattle.farm_types.specs.Pass.{change_res, expire, freed_board, is_dead}
 use Rattle.farm_types.specs.Proper.{is_priority}
 use Rattle.farm_types.specs.Sound.{IsSound, hold, res_gives, res_hold}
 use Rattle.farm_types.specs.Words.{IsName, IsTags}
-use Rattle.farm_types.specs.declared.rows.Holder.{Holder}
-use Rattle.farm_types.specs.declared.rows.ResRow.{ResRow}
-use Rattle.farm_types.specs.declared.rows.ResState.{ResState}
-use Rattle.farm_types.specs.declared.rows.State.{State}
 use Rattle.farm_sound.proofs.Add.{IsHeldByKeys-add_res, IsSteady-add_res}
 use Rattle.farm_sound.proofs.Changes.{IsSound-change_res}
 use Rattle.farm_sound.proofs.Held.{Leaves}

@@ -1,17 +1,8 @@
 -- Rows of jobs, reservations and boards in another state, and what they hold then.
 use Rattle.std.proofs.Common.{◌+◌, ◌↔◌, ◌≡◌, ◌≤◌, IsSome, IsTrue, List, None, Option, Some, ap, is_some, refl, subst, sym, true, ℕ}
+use Rattle.farm_sound.proofs.Names.{BoardRow, Farm, Health, Holder, JobRow, JobState, Outcome, ResRow, ResState, State}
 use Rattle.farm_types.specs.Change.{in_state}
-use Rattle.farm_types.specs.Farm.{Farm}
 use Rattle.farm_types.specs.Sound.{Hold, IsBoardOf, IsBoardRow, IsJobRow, IsResRow, hold, holds, job_gives, phase, res_gives, shown_hold}
-use Rattle.farm_types.specs.declared.rows.BoardRow.{BoardRow}
-use Rattle.farm_types.specs.declared.rows.Health.{Health}
-use Rattle.farm_types.specs.declared.rows.Holder.{Holder}
-use Rattle.farm_types.specs.declared.rows.JobRow.{JobRow}
-use Rattle.farm_types.specs.declared.rows.JobState.{JobState}
-use Rattle.farm_types.specs.declared.rows.Outcome.{Outcome}
-use Rattle.farm_types.specs.declared.rows.ResRow.{ResRow}
-use Rattle.farm_types.specs.declared.rows.ResState.{ResState}
-use Rattle.farm_types.specs.declared.rows.State.{State}
 use Rattle.farm_sound.proofs.Held.{IsLeft, Leaves}
 
 -- ---- rows in another state

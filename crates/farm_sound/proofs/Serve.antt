@@ -1,23 +1,11 @@
 -- The claims are served in turn.
 use Rattle.std.proofs.Common.{◌&&◌, ◌++◌, ◌==◌, ◌∙◌, ◌∷◌, ◌≡◌, ◌≤◌, Bool, List, Some, ap, arith, cond, false, inl, inr, length, map, nat_le, not, refl, subst, sym, true, ℕ, []}
-use mathlib.Core.Bool.{true≢false}
-use Rattle.std.specs.List.{AllByRecursion, filter, find, fold, list_all, zip}
+use Rattle.farm_sound.proofs.Names.{AllByRecursion, AllByRecursion-weaker, BoardRow, Equal, Farm, JobRow, JobState, Less, ResRow, Want, filter, find, fold, found_has, job_of, list_all, members, nat_tests, option_map, res_of, tied_itself, true≢false, zip}
 use Rattle.std.specs.List.Sorted.{IsStrictlySortedBy}
-use Rattle.std.specs.Option.{option_map}
-use Rattle.std.specs.declared.cmp.Ordering.TheVariants.{Equal, Less}
-use Rattle.std.proofs.lemmas.Bool.Decides.{nat_tests}
-use Rattle.std.proofs.lemmas.Cmp.{tied_itself}
 use Rattle.std.proofs.lemmas.List.{length-map}
-use Rattle.farm_types.specs.Farm.{Farm, job_of, members, res_of}
 use Rattle.farm_types.specs.Pass.{allocated_reservation, collect, give, give_group, give_member, give_res, is_group, may_collect, pass_over, claims_taken}
 use Rattle.farm_types.specs.Pick.{Claimed, claim_cmp, group_claim, is_free, is_waiting, least, queue, res_claim, waits}
 use Rattle.farm_types.specs.Sound.{EachTwo, IsSound}
-use Rattle.farm_types.specs.declared.rows.BoardRow.{BoardRow}
-use Rattle.farm_types.specs.declared.rows.JobRow.{JobRow}
-use Rattle.farm_types.specs.declared.rows.JobState.{JobState}
-use Rattle.farm_types.specs.declared.rows.ResRow.{ResRow}
-use Rattle.farm_types.specs.declared.rows.Want.{Want}
-use Rattle.farm_types.proofs.Put.{AllByRecursion-weaker, found_has}
 use Rattle.farm_sound.proofs.Claims.{IsClaim, IsOpen, IsOpenGroup, IsResClaim, claim_total, leads, open_of_claim, queue_claims, queue_sorted}
 use Rattle.farm_sound.proofs.Collect.{IsSound-collect, IsUnmet-collect, claim_was, collect_is, open_after, pairs_for}
 use Rattle.farm_sound.proofs.Free.{free_boards}

@@ -1,23 +1,12 @@
 -- The group that collects isn't met by the free boards and its own together, from when it began to the end of the pass.
 use Rattle.std.proofs.Common.{◌&&◌, ◌==◌, ◌∙◌, ◌∷◌, ◌≡◌, ◌≤◌, Bool, List, None, Option, Some, ap, cond, false, inl, inr, length, map, refl, subst, sym, true, zip, ℕ, []}
-use Rattle.std.specs.List.{AllByRecursion, filter, fold}
+use Rattle.farm_sound.proofs.Names.{AllByRecursion, AllByRecursion-weaker, BoardRow, Farm, Holder, JobRow, JobState, State, TypeRow, bytes_eq, bytes_eq-Decides, filter, fold, found_has, job_of, members, option_map, option_map_or}
 use Rattle.std.specs.List.Sorted.{IsStrictlySortedBy}
-use Rattle.std.specs.Option.{option_map, option_map_or}
-use Rattle.std.specs.Str.{bytes_eq}
-use Rattle.std.proofs.lemmas.Slice.Eq.{bytes_eq-Decides}
 use Rattle.farm_types.specs.Codes.{same_job_state}
-use Rattle.farm_types.specs.Farm.{Farm, job_of, members}
 use Rattle.farm_types.specs.Pass.{giving_back, collect, collect_member, first_free, give, give_group, give_member, give_res, held_board, freed_board, is_job_so, may_collect, pass_over}
 use Rattle.farm_types.specs.Pick.{IsAmong, Claimed, is_free, is_nobody, leads_claim, least}
 use Rattle.farm_types.specs.Sound.{IsHeldBy, IsHeldByKeys, IsSound, IsSteady, hold, job_gives, job_hold, shown_hold}
 use Rattle.farm_types.specs.Table.{change_where, job_cmp}
-use Rattle.farm_types.specs.declared.rows.BoardRow.{BoardRow}
-use Rattle.farm_types.specs.declared.rows.Holder.{Holder}
-use Rattle.farm_types.specs.declared.rows.JobRow.{JobRow}
-use Rattle.farm_types.specs.declared.rows.JobState.{JobState}
-use Rattle.farm_types.specs.declared.rows.State.{State}
-use Rattle.farm_types.specs.declared.rows.TypeRow.{TypeRow}
-use Rattle.farm_types.proofs.Put.{AllByRecursion-weaker, found_has}
 use Rattle.farm_sound.specs.Served.{IsCollectorUnmet}
 use Rattle.farm_sound.proofs.Claims.{IsOpen, IsOpenGroup}
 use Rattle.farm_sound.proofs.Collect.{Part, collect_shrinks, first_is_free, job_after, map_same, members_after, pairs_for, parts as parts_collected, ready as ready_collected, rest_ready}

@@ -1,17 +1,8 @@
 -- Who holds which board: row by row, and by keys.
 use Rattle.std.proofs.Common.{◌==◌, ◌∙◌, ◌≡◌, IfSome, IsSome, IsSomeAnd, List, None, Option, Some, ap, refl, subst, sym, ℕ}
-use mathlib.Core.Bool.{false≢true}
-use Rattle.std.specs.List.{AllByRecursion}
-use Rattle.std.specs.Option.{option_map_or}
-use Rattle.farm_types.specs.Farm.{Farm, board_of, job_of, res_of}
+use Rattle.farm_sound.proofs.Names.{AllByRecursion, AllByRecursion-weaker, BoardRow, Farm, Holder, JobRow, ResRow, State, board_of, false≢true, found_has, found_passes, job_of, option_map_or, res_of}
 use Rattle.farm_types.specs.Pass.{held_board}
 use Rattle.farm_types.specs.Sound.{Hold, IsHeldBy, IsHeldByKeys, IsJobRow, IsResRow, hold, hold_of, job_gives, job_hold, res_gives, res_hold, shown_hold}
-use Rattle.farm_types.specs.declared.rows.BoardRow.{BoardRow}
-use Rattle.farm_types.specs.declared.rows.Holder.{Holder}
-use Rattle.farm_types.specs.declared.rows.JobRow.{JobRow}
-use Rattle.farm_types.specs.declared.rows.ResRow.{ResRow}
-use Rattle.farm_types.specs.declared.rows.State.{State}
-use Rattle.farm_types.proofs.Put.{AllByRecursion-weaker, found_has, found_passes}
 use Rattle.farm_sound.specs.ByRows.{IsNamedBy, IsShown, IsShownOfJob, IsShownOfRes}
 use Rattle.farm_sound.proofs.Held.{row_of_job, row_of_res}
 use Rattle.farm_sound.proofs.Tests.{same_number}

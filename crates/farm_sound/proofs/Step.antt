@@ -1,10 +1,8 @@
 -- Every command keeps a farm sound, and so does every run.
 use Rattle.std.proofs.Common.{◌&&◌, ◌+◌, ◌<◌, ◌||◌, ◌∷◌, ◌≡◌, ◌≤◌, List, None, Option, Some, arith, false, is_some, length, nat_le, not, refl, subst, sym, true, ℕ, []}
-use Rattle.std.specs.Option.{option_map_or}
-use Rattle.std.proofs.lemmas.Bool.Decides.{nat_tests}
+use Rattle.farm_sound.proofs.Names.{Farm, Reply, nat_tests, option_map_or, put_kept}
 use Rattle.farm_types.specs.Limits.{last_kind, last_moment, longest_key, longest_name, most_commands, most_replies}
 use Rattle.farm_types.specs.Change.{Done, act, change, keep, farm_at_call}
-use Rattle.farm_types.specs.Farm.{Farm, put_kept}
 use Rattle.farm_types.specs.Machine.{repeated_reply, run, step}
 use Rattle.farm_types.specs.Proper.{is_proper_cmd}
 use Rattle.farm_types.specs.Refuse.{early_refusal, is_full_for, is_late, is_reused, kind_of, may_give, moment, own_refusal, refusal}
@@ -12,11 +10,8 @@ use Rattle.farm_types.specs.Sound.{IsSound}
 use Rattle.farm_types.specs.Words.{is_word}
 use Rattle.farm_types.specs.declared.calls.Call.{Call}
 use Rattle.farm_types.specs.declared.calls.Cmd.{Cmd}
-use Rattle.farm_types.specs.declared.rows.Reply.{Reply}
 use Rattle.farm_sound.proofs.Accepted.{Acted, IsAccepted}
-use Rattle.farm_sound.proofs.AcceptedBoards.{acted_add_board, acted_add_type, acted_set_health, acted_set_tags}
-use Rattle.farm_sound.proofs.AcceptedJobs.{acted_cancel, acted_finish, acted_start, acted_submit}
-use Rattle.farm_sound.proofs.AcceptedReservations.{acted_acquire, acted_cancel_res, acted_pass, acted_refresh, acted_release, acted_reserve}
+use Rattle.farm_sound.proofs.AcceptedCommands.{acted_acquire, acted_add_board, acted_add_type, acted_cancel, acted_cancel_res, acted_finish, acted_pass, acted_refresh, acted_release, acted_reserve, acted_set_health, acted_set_tags, acted_start, acted_submit}
 use Rattle.farm_sound.proofs.Answered.{answers_changed, answers_denied, answers_repeated, count_has_room, unrefused}
 use Rattle.farm_sound.proofs.Clear.{first_clear}
 use Rattle.farm_sound.proofs.Numbers.{IsSound-counted, IsSound-moved, IsSound-put_kept}

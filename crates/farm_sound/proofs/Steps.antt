@@ -1,15 +1,8 @@
 -- Groups: each member in the phase of the one before it, and all members in one phase.
 use Rattle.std.proofs.Common.{◌+◌, ◌-◌, ◌==◌, ◌∙◌, ◌≡◌, ◌≢◌, ◌≤◌, Bool, IsSomeAnd, List, None, Option, Some, ap, arith, false, length, refl, subst, suc, sym, true, zero, ℕ}
-use Rattle.std.specs.List.{AllByRecursion, filter, find}
-use Rattle.std.specs.Str.{bytes_eq}
-use Rattle.std.proofs.lemmas.Bool.Decides.{nat_tests}
-use Rattle.std.proofs.lemmas.Slice.Eq.{bytes_eq-Decides}
+use Rattle.farm_sound.proofs.Names.{AllByRecursion, AllByRecursion-weaker, BoardRow, Farm, JobRow, bytes_eq, bytes_eq-Decides, filter, find, found_has, found_passes, job_of, nat_tests}
 use Rattle.farm_types.specs.Limits.{most_boards_of_type}
-use Rattle.farm_types.specs.Farm.{Farm, job_of}
 use Rattle.farm_types.specs.Sound.{Follows, IsJobRow, AreGroupsInPhase, phase}
-use Rattle.farm_types.specs.declared.rows.BoardRow.{BoardRow}
-use Rattle.farm_types.specs.declared.rows.JobRow.{JobRow}
-use Rattle.farm_types.proofs.Put.{AllByRecursion-weaker, found_has, found_passes}
 use Rattle.farm_sound.specs.ByRows.{IsInStep, IsOfFew}
 use Rattle.farm_sound.proofs.Lists.{all_fail, none_pass}
 use Rattle.farm_sound.proofs.Tests.{same_number}

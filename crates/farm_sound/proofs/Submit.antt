@@ -1,19 +1,13 @@
 -- A group is submitted, member by member.
 use Rattle.std.proofs.Common.{◌+◌, ◌-◌, ◌<◌, ◌∙◌, ◌∷◌, ◌≡◌, ◌≢◌, ◌≤◌, IfSome, IsNone, IsSome, IsSomeAnd, IsTrue, List, None, Option, Some, ap, arith, cond, false, length, refl, subst, sym, ℕ, []}
-use mathlib.Core.Bool.{false≢true}
-use Rattle.std.specs.List.{AllByRecursion}
+use Rattle.farm_sound.proofs.Names.{AllByRecursion, AllByRecursion-put, AllByRecursion-weaker, Farm, JobRow, JobState, Want, false≢true, job_of, length_put, put_jobs, type_of}
 use Rattle.farm_types.specs.Limits.{longest_text, most_jobs, numbers_end}
 use Rattle.farm_types.specs.Change.{new_members}
-use Rattle.farm_types.specs.Farm.{Farm, job_of, put_jobs, type_of}
 use Rattle.farm_types.specs.Proper.{is_priority, is_want}
 use Rattle.farm_types.specs.Sound.{IsJobRow, IsSound, phase}
 use Rattle.farm_types.specs.Table.{job_cmp, put, put_all}
 use Rattle.farm_types.proofs.WordLemmas.{no_text}
 use Rattle.farm_types.specs.Words.{IsName, IsText}
-use Rattle.farm_types.specs.declared.rows.JobRow.{JobRow}
-use Rattle.farm_types.specs.declared.rows.JobState.{JobState}
-use Rattle.farm_types.specs.declared.rows.Want.{Want}
-use Rattle.farm_types.proofs.Put.{AllByRecursion-put, AllByRecursion-weaker, length_put}
 use Rattle.farm_sound.proofs.Add.{IsHeldByKeys-add_job, IsSteady-add_job, add_job, job_of-add, job_total}
 use Rattle.farm_sound.proofs.Collecting.{IsCollecting-add}
 use Rattle.farm_sound.proofs.Own.{differs_more, fresh_res, itself}

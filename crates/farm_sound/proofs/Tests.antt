@@ -1,15 +1,9 @@
 -- What the tests of numbers and states say.
 use Rattle.std.proofs.Common.{◌&&◌, ◌==◌, ◌||◌, ◌≡◌, Bool, arith, false, not, refl, subst, sym, true, ℕ}
-use mathlib.Core.Bool.{false≢true}
-use Rattle.std.proofs.lemmas.Bool.Decides.{nat_tests}
+use Rattle.farm_sound.proofs.Names.{Health, Holder, JobRow, JobState, ResState, false≢true, nat_tests}
 use Rattle.farm_types.specs.Codes.{same_health, same_job_state, same_res_state}
 use Rattle.farm_types.specs.Pick.{is_nobody, waits}
 use Rattle.farm_types.specs.Sound.{phase}
-use Rattle.farm_types.specs.declared.rows.Health.{Health}
-use Rattle.farm_types.specs.declared.rows.Holder.{Holder}
-use Rattle.farm_types.specs.declared.rows.JobRow.{JobRow}
-use Rattle.farm_types.specs.declared.rows.JobState.{JobState}
-use Rattle.farm_types.specs.declared.rows.ResState.{ResState}
 
 pub both : (a b : Bool) → (a && b) ≡ true → (a ≡ true) × (b ≡ true)
 both true b is = (refl, is)

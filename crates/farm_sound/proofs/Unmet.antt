@@ -1,22 +1,11 @@
 -- A claim that no free boards meet stays so while others are served: free boards only become fewer.
 use Rattle.std.proofs.Common.{◌&&◌, ◌∙◌, ◌∷◌, ◌≡◌, Bool, List, None, Option, Some, cond, false, inl, inr, refl, subst, sym, true, ℕ, []}
-use mathlib.Core.Bool.{false≢true}
+use Rattle.farm_sound.proofs.Names.{AllByRecursion-weaker, BoardRow, Farm, Holder, JobRow, JobState, State, TypeRow, Want, bytes_eq, false≢true, fold, list_all, members, zip}
 use Rattle.std.specs.Cmp.Lexicographic.{pointwise}
-use Rattle.std.specs.List.{fold, list_all, zip}
 use Rattle.std.specs.List.Sorted.{IsStrictlySortedBy}
-use Rattle.std.specs.Str.{bytes_eq}
-use Rattle.farm_types.specs.Farm.{Farm, members}
 use Rattle.farm_types.specs.Pass.{give, give_group, give_member, give_res, held_board}
 use Rattle.farm_types.specs.Pick.{IsAmong, Claimed, are_apart, fits, is_free, is_nobody, least, serves}
 use Rattle.farm_types.specs.Table.{board_cmp, change_where}
-use Rattle.farm_types.specs.declared.rows.BoardRow.{BoardRow}
-use Rattle.farm_types.specs.declared.rows.Holder.{Holder}
-use Rattle.farm_types.specs.declared.rows.JobRow.{JobRow}
-use Rattle.farm_types.specs.declared.rows.JobState.{JobState}
-use Rattle.farm_types.specs.declared.rows.State.{State}
-use Rattle.farm_types.specs.declared.rows.TypeRow.{TypeRow}
-use Rattle.farm_types.specs.declared.rows.Want.{Want}
-use Rattle.farm_types.proofs.Put.{AllByRecursion-weaker}
 use Rattle.farm_sound.proofs.Least.{IsLeast-least, none_meets}
 use Rattle.farm_sound.proofs.Lists.{all_tested}
 use Rattle.farm_sound.proofs.Tests.{both}

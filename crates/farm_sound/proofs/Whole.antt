@@ -1,13 +1,9 @@
 -- No group is half started, after jobs have changed.
 use Rattle.std.proofs.Common.{◌∙◌, ◌≡◌, Bool, List, cond, map, refl, subst, sym, true}
-use mathlib.Core.Bool.{true≢false}
+use Rattle.farm_sound.proofs.Names.{AllByRecursion, AllByRecursion-put, AllByRecursion-weaker, Farm, JobRow, true≢false}
 use Rattle.std.specs.Cmp.{nat_cmp_total, on_total}
-use Rattle.std.specs.List.{AllByRecursion}
-use Rattle.farm_types.specs.Farm.{Farm}
 use Rattle.farm_types.specs.Sound.{AreGroupsInPhase, phase}
 use Rattle.farm_types.specs.Table.{job_cmp, put}
-use Rattle.farm_types.specs.declared.rows.JobRow.{JobRow}
-use Rattle.farm_types.proofs.Put.{AllByRecursion-put, AllByRecursion-weaker}
 use Rattle.farm_sound.proofs.Where.{AllByRecursion-both, AllByRecursion-map, by_cases}
 
 -- two jobs of one group are in one phase

@@ -2,8 +2,7 @@ use Rattle.std.proofs.Common.{sym, subst}
 use Rattle.std.specs.Option.{option_map_or}
 use Rattle.farm_types.specs.Change.{done_with, cancel_group, start_group, finish_one}
 use Rattle.farm_types.specs.Sound.{IsSound}
-use Rattle.farm_sound.proofs.Finish.{IsSound-finish}
-use Rattle.farm_sound.proofs.Jobs.{IsSound-cancel, IsSound-start}
+use Rattle.farm_sound.proofs.Jobs.{IsSound-cancel, IsSound-finish, IsSound-start}
 use Rattle.farm_sound.proofs.laws.jobs_are_sound.Goals as goal
 
 pub returns-clause-cancel : goal.returns-clause-cancel
