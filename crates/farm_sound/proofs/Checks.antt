@@ -1,17 +1,17 @@
 -- The checks of a pass keep soundness.
 use Rattle.std.proofs.Common.{◌&&◌, ◌+◌, ◌<◌, ◌==◌, ◌||◌, ◌∙◌, ◌∷◌, ◌≡◌, ◌⊎◌, Bool, IsNone, IsSome, IsTrue, List, None, Option, Some, ap, arith, codes, cond, false, inl, inr, length, nat_le, refl, subst, sym, true, ℕ, []}
-use Rattle.farm_sound.proofs.Names.{AllByRecursion, AllByRecursion-weaker, BoardRow, Check, Farm, Health, Holder, JobRow, Less, State, TypeRow, board_of, bytes_eq, bytes_eq-Decides, false≢true, filter, fold, found_has, found_passes, job_of, nat_tests, option_map, option_map_or, type_of}
+use Rattle.farm_sound.proofs.Names.{AllByRecursion, AllByRecursion-weaker, BoardRow, Check, Farm, Health, Holder, JobRow, Less, TypeRow, board_of, bytes_eq, bytes_eq-Decides, false≢true, filter, fold, found_has, found_passes, job_of, nat_tests, option_map_or, type_of}
 use Rattle.std.specs.Cmp.Lexicographic.{nat_list_eq_equiv}
 use Rattle.std.specs.List.Sorted.{IsStrictlySortedBy}
 use Rattle.std.specs.Ordering.{is_eq}
 use Rattle.std.proofs.lemmas.Map.Text.{is_eq-slice_cmp}
 use Rattle.farm_types.specs.Limits.{most_jobs, numbers_end}
 use Rattle.farm_types.specs.Codes.{same_health}
-use Rattle.farm_types.specs.Pass.{check_job, check_one, checks, has_room, held_board, is_due, is_due_by, is_reached}
+use Rattle.farm_types.specs.Pass.{check_job, check_one, checks, has_room, is_due, is_due_by, is_reached}
 use Rattle.farm_types.specs.Pick.{check_of, is_nobody}
 use Rattle.farm_types.specs.Proper.{is_want}
 use Rattle.farm_types.specs.Sound.{IsBoardRow, IsJobRow, IsSound, IsSteady, IsTypeRow, hold_of, job_hold}
-use Rattle.farm_types.specs.Table.{board_cmp, change_where, job_cmp, put}
+use Rattle.farm_types.specs.Table.{board_cmp}
 use Rattle.farm_types.proofs.WordLemmas.{no_text}
 use Rattle.farm_types.specs.Words.{IsName, is_tags, is_word}
 use Rattle.farm_sound.proofs.Add.{IsSteady-add_job, add_job, job_of-add}
@@ -19,7 +19,7 @@ use Rattle.farm_sound.proofs.Collecting.{IsCollecting-add, next_collects_not}
 use Rattle.farm_sound.proofs.Give.{IsFreeBoard, IsSteady-given_to, boards_on, given_to, still_board, still_there}
 use Rattle.farm_sound.proofs.Held.{IsHeldByKeys-given}
 use Rattle.farm_sound.proofs.Lists.{filter_all}
-use Rattle.farm_sound.proofs.Own.{fresh_job, fresh_res, itself, only_board, own_board}
+use Rattle.farm_sound.proofs.Own.{fresh_job, fresh_res, itself, own_board}
 use Rattle.farm_sound.proofs.Tests.{both, nobody_from, same_number}
 use Rattle.farm_sound.proofs.Where.{AllByRecursion-both, by_cases, either}
 use Rattle.farm_sound.proofs.Whole.{AreGroupsInPhase-add}

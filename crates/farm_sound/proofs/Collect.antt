@@ -1,5 +1,5 @@
 -- A group that can't be served collects: each member in turn takes the first free board that fits it.
-use Rattle.std.proofs.Common.{◌&&◌, ◌==◌, ◌∙◌, ◌∷◌, ◌≡◌, ◌≤◌, ◌⊎◌, Bool, List, None, Option, Some, ap, arith, cond, false, inl, inr, length, map, refl, subst, sym, true, ℕ, []}
+use Rattle.std.proofs.Common.{◌&&◌, ◌==◌, ◌∙◌, ◌∷◌, ◌≡◌, ◌≤◌, ◌⊎◌, Bool, List, None, Option, Some, ap, arith, false, inl, inr, length, map, refl, subst, sym, true, ℕ, []}
 use Rattle.farm_sound.proofs.Names.{AllByRecursion, AllByRecursion-weaker, BoardRow, Farm, JobRow, JobState, Less, ResRow, Want, bytes_eq, false≢true, filter, find, fold, found_has, found_passes, job_of, list_all, members, option_map, option_map_or, ranked}
 use Rattle.std.specs.List.Sorted.{IsStrictlySortedBy}
 use Rattle.farm_types.specs.Pass.{collect, collect_member, first_free, give_member}

@@ -1,8 +1,8 @@
 -- Free boards are given to claims.
-use Rattle.std.proofs.Common.{◌+◌, ◌==◌, ◌∙◌, ◌∷◌, ◌≡◌, ◌≤◌, ◌⊎◌, Bool, IsSome, List, None, Option, Some, ap, arith, cond, false, inl, inr, refl, subst, sym, true, ℕ}
+use Rattle.std.proofs.Common.{◌+◌, ◌==◌, ◌∙◌, ◌∷◌, ◌≡◌, ◌≤◌, ◌⊎◌, IsSome, List, None, Some, ap, arith, false, inl, inr, refl, subst, sym, true, ℕ}
 use Rattle.farm_sound.proofs.Names.{AllByRecursion-weaker, BoardRow, Farm, Health, Holder, JobRow, JobState, ResRow, ResState, State, board_of, bytes_eq, bytes_eq-Decides, found_passes, job_of, option_map, option_map_or, res_of}
 use Rattle.farm_types.specs.Pass.{allocated_reservation, give_member, give_res, held_board, placed_job}
-use Rattle.farm_types.specs.Sound.{IsBoardRow, IsHeldByKeys, IsJobRow, IsResRow, IsSound, IsSteady, hold, hold_of, job_gives, job_hold, phase, res_gives, res_hold}
+use Rattle.farm_types.specs.Sound.{IsBoardRow, IsHeldByKeys, IsJobRow, IsSound, IsSteady, hold, hold_of, job_gives, job_hold, phase, res_gives, res_hold}
 use Rattle.farm_types.specs.Table.{change_where}
 use Rattle.farm_sound.proofs.Held.{IsHeldByKeys-given}
 use Rattle.farm_sound.proofs.Mapped.{IsSteady-boards, IsSteady-jobs, IsSteady-reservations}

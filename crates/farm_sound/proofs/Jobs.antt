@@ -1,5 +1,5 @@
 -- The commands on jobs keep soundness.
-use Rattle.std.proofs.Common.{Bool, IsSome, IsTrue, None, Some, ap, arith, cond, false, map, min, nat_lt, refl, subst, sym, true, ℕ, ◌&&◌, ◌+◌, ◌==◌, ◌||◌, ◌∙◌, ◌≡◌, ◌≤◌}
+use Rattle.std.proofs.Common.{Bool, IsSome, None, Some, ap, arith, cond, false, map, min, nat_lt, refl, subst, sym, true, ℕ, ◌&&◌, ◌+◌, ◌==◌, ◌||◌, ◌∙◌, ◌≡◌, ◌≤◌}
 use Rattle.farm_sound.proofs.Names.{AllByRecursion, AllByRecursion-weaker, BoardRow, Farm, Health, Holder, JobRow, JobState, Outcome, State, false≢true, found_has, found_passes, job_of, type_of}
 use Rattle.farm_types.specs.Change.{after_check, after_job, cancel_group, finish_one, graded_board, in_state, is_unstarted, start_group}
 use Rattle.farm_types.specs.Codes.{same_health, same_job_state, same_outcome}

@@ -1,6 +1,6 @@
 -- The first list of boards that meets the wants is the least one.
 use Rattle.std.proofs.Common.{◌&&◌, ◌++◌, ◌∙◌, ◌∷◌, ◌≡◌, Bool, List, None, Ordering, Some, ap, arith, cond, false, inl, inr, length, map, refl, subst, suc, sym, true, zero, ℕ, []}
-use Rattle.farm_sound.proofs.Names.{AllByRecursion, AllByRecursion-weaker, BoardRow, Less, Want, false≢true, find, flat_map, found_has, found_passes, list_all, tied_itself}
+use Rattle.farm_sound.proofs.Names.{AllByRecursion, BoardRow, Less, Want, false≢true, find, flat_map, found_has, found_passes, list_all, tied_itself}
 use Rattle.std.specs.Cmp.{IsTotalOrder, first_so, on_total}
 use Rattle.std.specs.Cmp.Lexicographic.{as_long, lists_total, nat_list_cmp_total, pointwise}
 use Rattle.std.specs.List.Sorted.{IsStrictlySortedBy}

@@ -1,6 +1,6 @@
 -- A steady farm stays so where rows that pass a test change in their places.
-use Rattle.std.proofs.Common.{◌==◌, ◌∙◌, ◌≡◌, ◌≤◌, Bool, IsNone, IsSome, None, Option, Some, ap, length, map, refl, subst, sym, true}
-use Rattle.farm_sound.proofs.Names.{AllByRecursion, AllByRecursion-weaker, BoardRow, Farm, JobRow, ResRow, board_of, bytes_eq, false≢true, find, option_map, res_of, true≢false}
+use Rattle.std.proofs.Common.{◌==◌, ◌∙◌, ◌≡◌, ◌≤◌, Bool, IsNone, IsSome, None, Option, Some, ap, map, refl, subst, sym, true}
+use Rattle.farm_sound.proofs.Names.{AllByRecursion, AllByRecursion-weaker, BoardRow, Farm, JobRow, ResRow, board_of, bytes_eq, false≢true, option_map, res_of, true≢false}
 use Rattle.std.specs.Ordering.{nat_cmp}
 use Rattle.std.proofs.lemmas.List.{length-map}
 use Rattle.farm_types.specs.Limits.{most_boards, most_boards_of_type, most_jobs, most_reservations}

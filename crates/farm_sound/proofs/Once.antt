@@ -1,5 +1,5 @@
 -- Holders found by keys say that no board is held twice, and that each says who holds it; and back.
-use Rattle.std.proofs.Common.{◌++◌, ◌<◌, ◌==◌, ◌∙◌, ◌∷◌, ◌≡◌, ◌≢◌, Bool, IsSome, IsSomeAnd, List, None, Option, Some, ap, arith, cond, false, inl, inr, refl, subst, sym, true, unwrap_or, ℕ, []}
+use Rattle.std.proofs.Common.{◌<◌, ◌==◌, ◌∙◌, ◌∷◌, ◌≡◌, ◌≢◌, IsSome, IsSomeAnd, List, None, Option, Some, ap, arith, inl, inr, refl, subst, sym, unwrap_or, ℕ, []}
 use Rattle.farm_sound.proofs.Names.{AllByRecursion, AllByRecursion-weaker, BoardRow, Farm, Holder, JobRow, Less, Ordering, ResRow, State, board_of, bytes_eq, bytes_eq-Decides, cons_option, false≢true, filter_map, find, found_has, found_passes, job_of, option_map_or, ranked, res_of}
 use Rattle.std.specs.List.Sorted.{IsStrictlySortedBy}
 use Rattle.farm_types.specs.Pass.{held_board}

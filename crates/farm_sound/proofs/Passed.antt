@@ -1,11 +1,9 @@
 -- The pass keeps soundness, and after it no claim is met by free boards: each was met and served, or found none and finds none.
 use Rattle.std.proofs.Common.{◌&&◌, ◌+◌, ◌++◌, ◌==◌, ◌∙◌, ◌∷◌, ◌≡◌, ◌≤◌, ◌⊎◌, Bool, List, None, Option, Some, ap, arith, cond, false, inl, inr, length, map, not, refl, subst, sym, true, ℕ, []}
-use Rattle.farm_sound.proofs.Names.{AllByRecursion, AllByRecursion-weaker, BoardRow, Farm, Holder, JobRow, JobState, ResRow, State, Want, bytes_eq, false≢true, filter, find, fold, found_has, job_of, list_all, members, option_map, option_map_or, res_of, true≢false, zip}
-use Rattle.farm_types.specs.Change.{keep}
-use Rattle.farm_types.specs.Pass.{Served, allocated_reservation, giving_back, check_job, check_one, checks, expire, give, give_group, give_res, has_room, held_board, is_due, is_group, pass_over, serve, serve_all, claims_taken}
+use Rattle.farm_sound.proofs.Names.{AllByRecursion, AllByRecursion-weaker, BoardRow, Farm, JobRow, JobState, ResRow, Want, false≢true, filter, find, fold, found_has, job_of, list_all, members, option_map, option_map_or, res_of, true≢false, zip}
+use Rattle.farm_types.specs.Pass.{Served, allocated_reservation, giving_back, checks, expire, give, give_group, give_res, is_due, is_group, pass_over, serve, serve_all, claims_taken}
 use Rattle.farm_types.specs.Pick.{IsAmong, Claimed, claims, is_free, is_waiting, leads_claim, least, queue, waits}
 use Rattle.farm_types.specs.Sound.{IsSound, phase}
-use Rattle.farm_types.specs.Table.{change_where, job_cmp, put}
 use Rattle.farm_sound.specs.Served.{IsServed, IsCollectorUnmet}
 use Rattle.farm_sound.proofs.Checks.{IsSound-checks, check_clock, checks_rest}
 use Rattle.farm_sound.proofs.Claims.{IsClaim, IsGroupClaim, IsOpen, IsResClaim, all_claims, leads}

@@ -1,8 +1,8 @@
 -- How large the numbers of a pass's reply are, and that a pass leaves the kept replies.
 use Rattle.std.proofs.Common.{◌+◌, ◌++◌, ◌∙◌, ◌∷◌, ◌≡◌, ◌≤◌, Bool, List, None, Option, Some, ap, arith, cond, false, length, map, not, refl, sym, true, ℕ, []}
-use Rattle.farm_sound.proofs.Names.{BoardRow, Farm, JobRow, JobState, filter, fold, length_put, members, option_map_or, zip}
+use Rattle.farm_sound.proofs.Names.{BoardRow, Farm, JobState, filter, fold, length_put, members, option_map_or}
 use Rattle.std.proofs.lemmas.List.{length-append, length-map}
-use Rattle.farm_types.specs.Pass.{Served, checks, collect, give, give_group, give_member, give_res, is_due, is_group, may_collect, pass_over, serve, serve_all, claims_taken}
+use Rattle.farm_types.specs.Pass.{Served, checks, collect, give, is_due, is_group, may_collect, pass_over, serve, serve_all, claims_taken}
 use Rattle.farm_types.specs.Pick.{Claimed, claim_cmp, claims, group_claim, is_free, is_waiting, leads_claim, least, queue, res_claim}
 use Rattle.farm_types.specs.Table.{put, put_all}
 use Rattle.farm_sound.proofs.Checks.{checks_rest}

@@ -1,6 +1,6 @@
 -- Who holds which board: row by row, and by keys.
 use Rattle.std.proofs.Common.{◌==◌, ◌∙◌, ◌≡◌, IfSome, IsSome, IsSomeAnd, List, None, Option, Some, ap, refl, subst, sym, ℕ}
-use Rattle.farm_sound.proofs.Names.{AllByRecursion, AllByRecursion-weaker, BoardRow, Farm, Holder, JobRow, ResRow, State, board_of, false≢true, found_has, found_passes, job_of, option_map_or, res_of}
+use Rattle.farm_sound.proofs.Names.{AllByRecursion, AllByRecursion-weaker, BoardRow, Farm, Holder, State, board_of, false≢true, found_has, found_passes, job_of, option_map_or, res_of}
 use Rattle.farm_types.specs.Pass.{held_board}
 use Rattle.farm_types.specs.Sound.{Hold, IsHeldBy, IsHeldByKeys, IsJobRow, IsResRow, hold, hold_of, job_gives, job_hold, res_gives, res_hold, shown_hold}
 use Rattle.farm_sound.specs.ByRows.{IsNamedBy, IsShown, IsShownOfJob, IsShownOfRes}

@@ -1,5 +1,5 @@
 -- Rows that are changed where they pass a test.
-use Rattle.std.proofs.Common.{◌∙◌, ◌∷◌, ◌≡◌, Bool, List, None, Option, Some, ap, cond, false, length, map, refl, suc, true, []}
+use Rattle.std.proofs.Common.{◌∙◌, ◌∷◌, ◌≡◌, Bool, List, None, Option, Some, ap, cond, false, length, map, refl, true, []}
 use Rattle.farm_sound.proofs.Names.{AllByRecursion, Less, Ordering, filter, find, found_passes, option_map}
 use Rattle.std.specs.List.Sorted.{IsStrictlySortedBy}
 use Rattle.std.proofs.lemmas.List.{length-map}

@@ -1,5 +1,5 @@
 -- No group is half started, after jobs have changed.
-use Rattle.std.proofs.Common.{◌∙◌, ◌≡◌, Bool, List, cond, map, refl, subst, sym, true}
+use Rattle.std.proofs.Common.{◌∙◌, ◌≡◌, Bool, cond, map, refl, sym, true}
 use Rattle.farm_sound.proofs.Names.{AllByRecursion, AllByRecursion-put, AllByRecursion-weaker, Farm, JobRow, true≢false}
 use Rattle.std.specs.Cmp.{nat_cmp_total, on_total}
 use Rattle.farm_types.specs.Sound.{AreGroupsInPhase, phase}
