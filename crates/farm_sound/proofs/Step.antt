@@ -11,28 +11,11 @@ use Rattle.farm_types.specs.Words.{is_word}
 use Rattle.farm_types.specs.declared.calls.Call.{Call}
 use Rattle.farm_types.specs.declared.calls.Cmd.{Cmd}
 use Rattle.farm_sound.proofs.Accepted.{Acted, IsAccepted}
-use Rattle.farm_sound.proofs.AcceptedCommands.{acted_acquire, acted_add_board, acted_add_type, acted_cancel, acted_cancel_res, acted_finish, acted_pass, acted_refresh, acted_release, acted_reserve, acted_set_health, acted_set_tags, acted_start, acted_submit}
+use Rattle.farm_sound.proofs.AcceptedCommands.{acted}
 use Rattle.farm_sound.proofs.Answered.{answers_changed, answers_denied, answers_repeated, count_has_room, unrefused}
 use Rattle.farm_sound.proofs.Clear.{first_clear}
 use Rattle.farm_sound.proofs.Numbers.{IsSound-counted, IsSound-moved, IsSound-put_kept}
 use Rattle.farm_sound.proofs.Tests.{both, both_false}
-
--- every accepted command, in a farm whose clock has moved
-pub acted : (F : Farm) (t : ℕ) (caller : List ℕ) (cmd : Cmd) → IsAccepted F t caller cmd → IsSound F → Acted F (act F caller cmd)
-acted F t caller (Cmd.AddType name check) is sound = acted_add_type F t caller sound name check is
-acted F t caller (Cmd.AddBoard name kind tags) is sound = acted_add_board F t caller sound name kind tags is
-acted F t caller (Cmd.SetTags name tags) is sound = acted_set_tags F t caller sound name tags is
-acted F t caller (Cmd.SetHealth name health) is sound = acted_set_health F t caller sound name health is
-acted F t caller (Cmd.Submit priority wants roles body) is sound = acted_submit F t caller sound priority wants roles body is
-acted F t caller (Cmd.Cancel n) is sound = acted_cancel F t caller sound n is
-acted F t caller (Cmd.Start n) is sound = acted_start F t caller sound n is
-acted F t caller (Cmd.Finish n outcome) is sound = acted_finish F t caller sound n outcome is
-acted F t caller (Cmd.Reserve priority tags) is sound = acted_reserve F t caller sound priority tags is
-acted F t caller (Cmd.Acquire n) is sound = acted_acquire F t caller sound n is
-acted F t caller (Cmd.Release n) is sound = acted_release F t caller sound n is
-acted F t caller (Cmd.Refresh n) is sound = acted_refresh F t caller sound n is
-acted F t caller (Cmd.CancelRes n) is sound = acted_cancel_res F t caller sound n is
-acted F t caller Cmd.Pass is sound = acted_pass F t caller sound
 
 -- the reasons and the room are those of the farm before its clock moved
 pub IsAccepted-moved : (F : Farm) (m t : ℕ) (caller : List ℕ) (cmd : Cmd) → IsAccepted F t caller cmd → IsAccepted (record F { clock = m }) t caller cmd
