@@ -1,7 +1,7 @@
 -- The words of a file: each value has its kind, and then its word.
 use Rattle.std.specs.Prelude.{ℕ, ℤ, pos, negsuc, List, [], ◌∷◌, Option, Some, None, Result, Ok}
 use Rattle.std.specs.Prelude.{codes}
-use Rattle.toml.specs.Data.{Data, Items, no_items, item, get, as_str, as_array}
+use Rattle.toml.specs.Data.{Data, Items, no_items, item, get, as_str, as_array, as_integer}
 use Rattle.farm_types.specs.Limits.{longest_name}
 use Rattle.farm_types.specs.Words.{is_word, word_or}
 use Rattle.farm_types.specs.Tags.{tags_among}
@@ -14,6 +14,13 @@ use Rattle.farm_jobfile.specs.declared.fault.FileKind.{FileKind}
 abbrev pub natural_of : ℤ → Option ℕ
 natural_of (pos n) = Some n
 natural_of (negsuc n) = None
+
+-- the whole number under a key
+unfoldable pub natural_in : FileKind → List ℕ → Data → Result (Option ℕ) Fault
+natural_in file key d = do
+  field ← there_or file (get key d)
+  number ← kind_or file (as_integer field)
+  Ok (natural_of number)
 
 -- a name, or a bad one
 abbrev pub name_or : List ℕ → Result (List ℕ) Fault

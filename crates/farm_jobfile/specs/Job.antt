@@ -14,7 +14,7 @@ use Rattle.farm_types.specs.Refusals.{bad_count, bad_priority}
 use Rattle.farm_types.specs.Reads.{◌>>=◌}
 use Rattle.farm_jobfile.specs.Reading.{Fault, bad, word, there_or, kind_or}
 use Rattle.farm_jobfile.specs.Document.{text_in, tree_in}
-use Rattle.farm_jobfile.specs.Fields.{natural_of, name_or, name_from, name_in, tags_in}
+use Rattle.farm_jobfile.specs.Fields.{natural_of, natural_in, name_or, name_from, name_in, tags_in}
 use Rattle.farm_jobfile.specs.declared.fault.FileKind.TheVariants.{JobFile}
 use Rattle.farm_jobfile.specs.declared.fault.Reason.{Reason}
 use Rattle.farm_jobfile.specs.declared.member.Member.{Member}
@@ -82,10 +82,7 @@ count_or (Some n) = if nat_le 1 n && nat_le n most_wants then Ok n else Err (wor
 
 -- the whole number under the key `count`
 unfoldable pub count_in : Data → Result ℕ Fault
-count_in d = do
-  field ← there_or JobFile (get (codes "count") d)
-  number ← kind_or JobFile (as_integer field)
-  count_or (natural_of number)
+count_in d = natural_in JobFile (codes "count") d >>= count_or
 
 -- the members that play one role
 unfoldable pub role_in : List ℕ → Data → Result (List Member) Fault

@@ -1,7 +1,7 @@
 -- The calls that a lab file spells.
 use Rattle.std.specs.Prelude.{ℕ, List, [], ◌∷◌, ◌++◌, Option, Some, None, option_and_then, Result}
 use Rattle.std.specs.Prelude.{Ok, Err, codes, if◌then◌else◌}
-use Rattle.toml.specs.Data.{Data, Members, no_members, member, get, as_str, as_integer, as_table}
+use Rattle.toml.specs.Data.{Data, Members, no_members, member, get, as_str, as_table}
 use Rattle.farm_types.specs.Proper.{has_no_name_tag}
 use Rattle.farm_types.specs.Limits.{is_every, longest_lab_file}
 use Rattle.farm_types.specs.Called.{unit_called, check_by}
@@ -11,11 +11,12 @@ use Rattle.farm_types.specs.declared.calls.Cmd.{Cmd}
 use Rattle.farm_types.specs.declared.calls.Call.{Call}
 use Rattle.farm_types.specs.Refusals.{bad_tag}
 use Rattle.farm_types.specs.Reads.{◌>>=◌}
-use Rattle.farm_jobfile.specs.Reading.{Fault, bad, word, there_or, kind_or}
+use Rattle.farm_jobfile.specs.Reading.{Fault, bad, word, kind_or}
 use Rattle.farm_jobfile.specs.Document.{text_in, tree_in}
-use Rattle.farm_jobfile.specs.Fields.{natural_of, name_or, name_in, tags_in}
+use Rattle.farm_jobfile.specs.Fields.{natural_in, name_or, name_in, tags_in}
 use Rattle.farm_jobfile.specs.declared.fault.FileKind.TheVariants.{LabFile}
 use Rattle.farm_jobfile.specs.declared.fault.Reason.{Reason}
+use Rattle.farm_jobfile.specs.declared.lab.Section.{Section}
 
 -- who gives a command, at what moment, and the key under which its reply is kept
 pub record LabCall : Type 0 where
@@ -55,10 +56,7 @@ every_or (Some n) = if is_every n then Ok n else Err (bad LabFile Reason.WrongKi
 
 -- the frequency under the key `every`
 unfoldable pub every_in : Data → Result ℕ Fault
-every_in d = do
-  field ← there_or LabFile (get (codes "every") d)
-  number ← kind_or LabFile (as_integer field)
-  every_or (natural_of number)
+every_in d = natural_in LabFile (codes "every") d >>= every_or
 
 -- the check that the two keys spell
 unfoldable pub check_in : Data → Result Check Fault
@@ -89,6 +87,11 @@ board_in now name d = do
   Ok (given_entry (codes "board.") board now (Cmd.AddBoard board kind own))
 
 -- ---- the lab
+
+-- what a member of either table spells
+abbrev pub entry_in : Section → ℕ → List ℕ → Data → Result LabCall Fault
+entry_in Section.Types = type_in
+entry_in Section.Boards = board_in
 
 -- what each member of a table spells, in the order of the tree, which is the byte order of the
 -- names

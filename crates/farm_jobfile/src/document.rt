@@ -32,11 +32,7 @@ pub(crate) fn tree_of(alloc: Global, file: FileKind, text: &str) -> Result<Value
 {
     match toml::table_from_str(alloc, text) {
         Ok(table) => Ok(Value::Table(table)),
-        Err(e) => {
-            if e.is_memory() {
-                return Err(FileFault::NoMemory);
-            }
-            Err(file.bad(Reason::NotToml))
-        }
+        Err(e) if e.is_memory() => Err(FileFault::NoMemory),
+        Err(_) => Err(file.bad(Reason::NotToml)),
     }
 }

@@ -17,10 +17,7 @@ pub(crate) fn table_of<'v>(file: FileKind, value: &'v Value) -> Result<&'v Table
     ensures { viewed (λ table. table_view table.now) result ≡ kind_or file
         (as_table (view value.now)) }
 {
-    match value.as_table() {
-        Some(table) => Ok(table),
-        None => Err(Fault::Bad(file, Reason::WrongKind)),
-    }
+    value.as_table().ok_or(Fault::Bad(file, Reason::WrongKind))
 }
 
 /// The name that a text spells; memory is wanted only where it spells one.
@@ -37,10 +34,8 @@ pub(crate) fn name_from(alloc: Global, file: FileKind, value: &Value) -> Result<
     ensures spells { OrNoMemory text_fault (λ name. name) result (name_from file (view value.now)) }
     ensures memory { result ≡ Err FileFault.NoMemory → IsOk (name_from file (view value.now)) }
 {
-    match value.as_str() {
-        Some(text) => name_of(alloc, text),
-        None => Err(file.bad(Reason::WrongKind)),
-    }
+    let text = value.as_str().ok_or(file.bad(Reason::WrongKind))?;
+    name_of(alloc, text)
 }
 
 /// The name under a key, which must be there; memory is wanted only where there is one.
@@ -56,10 +51,8 @@ pub(crate) fn name_at(
     ensures memory { result ≡ Err FileFault.NoMemory
         → IsOk (name_in file key.now (view value.now)) }
 {
-    match value.get(key) {
-        Some(field) => name_from(alloc, file, field),
-        None => Err(file.bad(Reason::Missing)),
-    }
+    let field = value.get(key).ok_or(file.bad(Reason::Missing))?;
+    name_from(alloc, file, field)
 }
 
 /// The texts of an array's items.
@@ -69,9 +62,7 @@ fn texts_of(alloc: Global, file: FileKind, items: &[Value]) -> Result<Vec<&[u8]>
 {
     let mut texts = Vec::new(alloc);
     for item in items {
-        let Some(text) = item.as_str() else {
-            return Err(file.bad(Reason::WrongKind));
-        };
+        let text = item.as_str().ok_or(file.bad(Reason::WrongKind))?;
         texts.push(text.as_bytes())?;
     }
     Ok(texts)
@@ -82,9 +73,7 @@ fn texts_of(alloc: Global, file: FileKind, items: &[Value]) -> Result<Vec<&[u8]>
 pub(crate) fn tags_from(alloc: Global, file: FileKind, value: &Value) -> Result<Tags, FileFault>
     ensures { OrNoMemory text_fault (λ tags. tags) result (tags_from file (view value.now)) }
 {
-    let Some(items) = value.as_array() else {
-        return Err(file.bad(Reason::WrongKind));
-    };
+    let items = value.as_array().ok_or(file.bad(Reason::WrongKind))?;
     let texts = texts_of(alloc, file, items.as_slice())?;
     Ok(Tags::among(alloc, texts.as_slice())?)
 }

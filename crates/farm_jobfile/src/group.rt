@@ -87,10 +87,7 @@ pub(crate) fn group_of(
     ensures proper { IfOk result (λ cmd. IsTrue (is_proper_cmd cmd)) }
 {
     let (wants, roles) = parts_of(alloc, members)?;
-    let wants = match Wants::of(wants) {
-        Ok(wants) => wants,
-        Err(refusal) => return Err(FileFault::Word(refusal)),
-    };
+    let wants = Wants::of(wants).map_err(FileFault::Word)?;
     let body = Body::of(String::from_str(alloc, text)?);
     Ok(submit(priority, wants, Roles::of(roles), body))
 }

@@ -22,11 +22,9 @@ use toml::Value;
 fn title_of(value: &Value) -> Result<&str, Fault>
     ensures { viewed (λ title. title.now) result ≡ title_in (view value.now) }
 {
-    let Some(field) = value.get("job_name") else {
-        return Err(Fault::Bad(FileKind::JobFile, Reason::Missing));
-    };
-    match field.as_str() {
-        Some("") => Err(Fault::Bad(FileKind::JobFile, Reason::Missing)),
+    let missing = Fault::Bad(FileKind::JobFile, Reason::Missing);
+    match value.get("job_name").ok_or(missing)?.as_str() {
+        Some("") => Err(missing),
         Some(title) => Ok(title),
         None => Err(Fault::Bad(FileKind::JobFile, Reason::WrongKind)),
     }

@@ -1,39 +1,75 @@
 //! The calls that a lab file asks for.
-ghost use Rattle.std.specs.Prelude.{map, codes, All, IfOk};
+ghost use Rattle.std.specs.Prelude.{map, All, IfOk};
 ghost use Rattle.toml.specs.Data.{get};
-ghost use Rattle.toml.specs.View.{view};
+ghost use Rattle.toml.specs.View.{view, table_view};
 ghost use Rattle.farm_types.specs.Reads.{OrNoMemory};
 ghost use Rattle.farm_jobfile.specs.Reading.{text_fault};
-ghost use Rattle.farm_jobfile.specs.Lab.{entry_of, type_in, board_in, section, calls_in, lab};
+ghost use Rattle.farm_jobfile.specs.Lab.{entry_of, entry_in, entries_of, section, calls_in, lab};
 ghost use Rattle.farm_jobfile.specs.Lab.{IsAddition};
 
-use crate::boards::boards_of;
+use crate::boards::board_of;
 use crate::document::{text_of, tree_of};
 use crate::fault::{FileFault, FileKind};
 use crate::fields::table_of;
-use crate::types::types_of;
+use crate::types::type_of;
 use farm_types::{Call, LONGEST_LAB_FILE};
 use std::alloc::Global;
-use toml::Value;
+use toml::{Table, Value};
 
-/// The calls that add the types; there are none where the table is absent.
-fn types_at(alloc: Global, tree: &Value, now: u64) -> Result<Vec<Call>, FileFault>
-    ensures { OrNoMemory text_fault (λ calls. map entry_of calls.items) result
-        (section (type_in now) (get (codes "types") (view tree.now))) }
+/// The tables of a lab file.
+#[derive(Clone, Copy)]
+pub enum Section {
+    Types,
+    Boards,
+}
+
+/// The call that adds a member of a table.
+fn call_of_member(
+    alloc: Global,
+    section: Section,
+    name: &str,
+    value: &Value,
+    now: u64,
+) -> Result<Call, FileFault>
+    ensures { OrNoMemory text_fault (λ call. entry_of call) result
+        (entry_in section now name.now (view value.now)) }
 {
-    match tree.get("types") {
-        Some(value) => types_of(alloc, table_of(FileKind::LabFile, value)?, now),
-        None => Ok(Vec::new(alloc)),
+    match section {
+        Section::Types => type_of(alloc, name, value, now),
+        Section::Boards => board_of(alloc, name, value, now),
     }
 }
 
-/// The calls that add the boards; there are none where the table is absent.
-fn boards_at(alloc: Global, tree: &Value, now: u64) -> Result<Vec<Call>, FileFault>
+/// The calls that add the members of a table, which has them in byte order.
+fn members_of(
+    alloc: Global,
+    section: Section,
+    table: &Table,
+    now: u64,
+) -> Result<Vec<Call>, FileFault>
     ensures { OrNoMemory text_fault (λ calls. map entry_of calls.items) result
-        (section (board_in now) (get (codes "boards") (view tree.now))) }
+        (entries_of (entry_in section now) (table_view table.now)) }
 {
-    match tree.get("boards") {
-        Some(value) => boards_of(alloc, table_of(FileKind::LabFile, value)?, now),
+    let mut calls = Vec::new(alloc);
+    for (name, value) in table.iter() {
+        calls.push(call_of_member(alloc, section, name.as_str(), value, now)?)?;
+    }
+    Ok(calls)
+}
+
+/// The calls that add the members of the table under a key; there are none where it is absent.
+fn section_of(
+    alloc: Global,
+    tree: &Value,
+    key: &str,
+    which: Section,
+    now: u64,
+) -> Result<Vec<Call>, FileFault>
+    ensures { OrNoMemory text_fault (λ calls. map entry_of calls.items) result
+        (section (entry_in which now) (get key.now (view tree.now))) }
+{
+    match tree.get(key) {
+        Some(value) => members_of(alloc, which, table_of(FileKind::LabFile, value)?, now),
         None => Ok(Vec::new(alloc)),
     }
 }
@@ -44,8 +80,8 @@ fn calls_of(alloc: Global, tree: &Value, now: u64) -> Result<Vec<Call>, FileFaul
     ensures { OrNoMemory text_fault (λ calls. map entry_of calls.items) result
         (calls_in now (view tree.now)) }
 {
-    let mut calls = types_at(alloc, tree, now)?;
-    let mut boards = boards_at(alloc, tree, now)?;
+    let mut calls = section_of(alloc, tree, "types", Section::Types, now)?;
+    let mut boards = section_of(alloc, tree, "boards", Section::Boards, now)?;
     calls.append(&mut boards)?;
     Ok(calls)
 }

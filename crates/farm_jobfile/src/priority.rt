@@ -20,10 +20,7 @@ fn priority_of(number: u64) -> Result<Priority, Fault>
 fn named_priority(text: &str) -> Result<Priority, Fault>
     ensures { result ≡ named_or (priority_called text.now) }
 {
-    match Priority::called(text) {
-        Some(priority) => Ok(priority),
-        None => Err(Fault::Word(Refusal { code: BAD_PRIORITY })),
-    }
+    Priority::called(text).ok_or(Fault::Word(Refusal { code: BAD_PRIORITY }))
 }
 
 /// The priority that a value spells: a word, or a whole number.
@@ -35,10 +32,8 @@ fn priority_from(field: &Value) -> Result<Priority, Fault>
         return named_priority(text);
     }
     if let Some(number) = field.as_integer() {
-        return match natural(number) {
-            Some(number) => priority_of(number),
-            None => Err(Fault::Word(Refusal { code: BAD_PRIORITY })),
-        };
+        let number = natural(number).ok_or(Fault::Word(Refusal { code: BAD_PRIORITY }))?;
+        return priority_of(number);
     }
     if field.is_float() {
         return Err(Fault::Word(Refusal { code: BAD_PRIORITY }));

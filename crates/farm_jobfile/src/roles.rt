@@ -5,10 +5,10 @@ ghost use Rattle.farm_types.specs.Reads.{OrNoMemory};
 ghost use Rattle.farm_jobfile.specs.Reading.{text_fault};
 ghost use Rattle.farm_jobfile.specs.Job.{count_or, count_in, role_in, roles_in, roles_from};
 
-use crate::fault::{Fault, FileFault, FileKind, Reason};
+use crate::fault::{Fault, FileFault, FileKind};
 use crate::fields::{name_at, name_of, table_of, tags_at};
 use crate::member::Member;
-use crate::natural::natural;
+use crate::natural::natural_at;
 use farm_types::{BAD_COUNT, MOST_WANTS, Refusal};
 use std::alloc::{AllocError, Global};
 use toml::{Table, Value};
@@ -18,13 +18,7 @@ use toml::{Table, Value};
 fn count_of(value: &Value) -> Result<u64, Fault>
     ensures { result ≡ count_in (view value.now) }
 {
-    let Some(field) = value.get("count") else {
-        return Err(Fault::Bad(FileKind::JobFile, Reason::Missing));
-    };
-    let Some(number) = field.as_integer() else {
-        return Err(Fault::Bad(FileKind::JobFile, Reason::WrongKind));
-    };
-    match natural(number) {
+    match natural_at(FileKind::JobFile, value, "count")? {
         Some(count) if count >= 1 && count <= MOST_WANTS as u64 => Ok(count),
         _ => Err(Fault::Word(Refusal { code: BAD_COUNT })),
     }

@@ -1,19 +1,19 @@
-//! The types of a lab file.
-ghost use Rattle.std.specs.Prelude.{◌≡◌, map, IsTrue, IfOk};
-ghost use Rattle.toml.specs.View.{view, table_view};
+//! A type of a lab file.
+ghost use Rattle.std.specs.Prelude.{◌≡◌, IsTrue, IfOk};
+ghost use Rattle.toml.specs.View.{view};
 ghost use Rattle.farm_types.specs.Limits.{is_every};
 ghost use Rattle.farm_types.specs.Proper.{is_frequency};
 ghost use Rattle.farm_types.specs.Reads.{OrNoMemory};
 ghost use Rattle.farm_jobfile.specs.Reading.{text_fault};
-ghost use Rattle.farm_jobfile.specs.Lab.{entry_of, unit_in, every_in, check_in, type_in, entries_of};
+ghost use Rattle.farm_jobfile.specs.Lab.{entry_of, unit_in, every_in, check_in, type_in};
 
 use crate::call::call_of;
 use crate::fault::{Fault, FileFault, FileKind, Reason};
 use crate::fields::{name_of, table_of};
-use crate::natural::natural;
+use crate::natural::natural_at;
 use farm_types::{Call, Check, CheckUnit, Cmd, is_every};
 use std::alloc::Global;
-use toml::{Table, Value};
+use toml::Value;
 
 /// The unit under the key `check`; absent means none.
 #[tactic(auto, unfolding(crate::specs::Lab::unit_in))]
@@ -23,10 +23,10 @@ fn unit_of(value: &Value) -> Result<CheckUnit, Fault>
     let Some(field) = value.get("check") else {
         return Ok(CheckUnit::None);
     };
-    match field.as_str().and_then(CheckUnit::called) {
-        Some(unit) => Ok(unit),
-        None => Err(Fault::Bad(FileKind::LabFile, Reason::WrongKind)),
-    }
+    field
+        .as_str()
+        .and_then(CheckUnit::called)
+        .ok_or(Fault::Bad(FileKind::LabFile, Reason::WrongKind))
 }
 
 /// The frequency under the key `every`.
@@ -35,13 +35,7 @@ fn every_of(value: &Value) -> Result<u64, Fault>
     ensures every { result ≡ every_in (view value.now) }
     ensures range { IfOk result (λ every. IsTrue (is_every every)) }
 {
-    let Some(field) = value.get("every") else {
-        return Err(Fault::Bad(FileKind::LabFile, Reason::Missing));
-    };
-    let Some(number) = field.as_integer() else {
-        return Err(Fault::Bad(FileKind::LabFile, Reason::WrongKind));
-    };
-    match natural(number) {
+    match natural_at(FileKind::LabFile, value, "every")? {
         Some(every) if is_every(every) => Ok(every),
         _ => Err(Fault::Bad(FileKind::LabFile, Reason::WrongKind)),
     }
@@ -62,7 +56,7 @@ fn check_of(value: &Value) -> Result<Check, Fault>
 
 /// The call that adds one type.
 #[tactic(auto, unfolding(crate::specs::Lab::type_in))]
-fn type_of(alloc: Global, name: &str, value: &Value, now: u64) -> Result<Call, FileFault>
+pub(crate) fn type_of(alloc: Global, name: &str, value: &Value, now: u64) -> Result<Call, FileFault>
     ensures { OrNoMemory text_fault (λ call. entry_of call) result
         (type_in now name.now (view value.now)) }
 {
@@ -71,16 +65,4 @@ fn type_of(alloc: Global, name: &str, value: &Value, now: u64) -> Result<Call, F
     let check = check_of(value)?;
     let cmd = Cmd::add_type(kind, check);
     Ok(call_of(alloc, "type.", name, now, cmd)?)
-}
-
-/// The calls that add the types of a table, which has them in byte order.
-pub(crate) fn types_of(alloc: Global, table: &Table, now: u64) -> Result<Vec<Call>, FileFault>
-    ensures { OrNoMemory text_fault (λ calls. map entry_of calls.items) result
-        (entries_of (type_in now) (table_view table.now)) }
-{
-    let mut calls = Vec::new(alloc);
-    for (name, value) in table.iter() {
-        calls.push(type_of(alloc, name.as_str(), value, now)?)?;
-    }
-    Ok(calls)
 }
