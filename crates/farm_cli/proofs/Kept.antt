@@ -51,9 +51,6 @@ found_keeps c (a ∷ others) test keeps = go (test a) (found_keeps c others test
 
 -- ---- lists of kinds and rows
 
-no : false ≡ true → ⊥
-no h = cc
-
 pub no_fault : {k : ErrorKind} {ks : Kinds} → k ∷ ks ≡ [] → ⊥
 no_fault h = cc
 

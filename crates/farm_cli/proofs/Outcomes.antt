@@ -1,6 +1,6 @@
 -- What a parse of the program's words comes to.
 use Rattle.std.proofs.Common.{Bool, List, [], true, None, Option, Some, inl, inr, ◌≡◌, ◌∙◌, ap, refl, sym, subst}
-use Rattle.clap.specs.Kinds.{HasKind, IsAmong, Kinds}
+use Rattle.clap.specs.Kinds.{HasKind, Kinds}
 use Rattle.clap.specs.Words.{App, HasMatchesOf, Row, Text, fault_of, is_simple_and_free, kind_of, subcommand_of, subcommand_rows_of}
 use Rattle.clap.specs.declared.error.Error.{Error}
 use Rattle.clap.specs.declared.error.kind.ErrorKind.{ErrorKind}
@@ -14,15 +14,9 @@ use Rattle.farm_cli.specs.declared.fault.OrderFault.TheVariants.{Help, Words, No
 use Rattle.farm_cli.proofs.Values.{IsSettled}
 use Rattle.farm_cli.proofs.WalkedFarm.{faultless_order}
 
-is_help : OutOfMemory ≡ DisplayHelp → ⊥
-is_help h = cc
-
-is_version : OutOfMemory ≡ DisplayVersion → ⊥
-is_version h = cc
-
 no_answer : (kind : ErrorKind) → kind ≡ OutOfMemory → IsAnswer kind → ⊥
-no_answer kind m (inl h) = is_help (sym m ∙ h)
-no_answer kind m (inr v) = is_version (sym m ∙ v)
+no_answer kind m (inl h) = let e : OutOfMemory ≡ DisplayHelp = sym m ∙ h in cc
+no_answer kind m (inr v) = let e : OutOfMemory ≡ DisplayVersion = sym m ∙ v in cc
 
 among : (kinds : Kinds) (named : Option (Text × List Row)) (e : Error) (f : OrderFault) → HasKind kinds e → IsOfKind (kind_of e) f
     → IsFaultAmong kinds named f
@@ -62,24 +56,24 @@ settled_open (Some f) left s e = cc
 
 settled_bounds : (o : Option Form) (left : Bool) (f : Form) → IsSettled o left → o ≡ Some f → IsInBounds f
 settled_bounds None left f s e = cc
-settled_bounds (Some g) left f s e = go g e s
-  where
-    go : (g : Form) → Some g ≡ Some f → IsInBounds g → IsInBounds f
-    go g e s = subst (λ (o : Option Form). IsSettled o left) e s
+settled_bounds (Some g) left f s e = subst (λ (o : Option Form). IsSettled o left) e s
+
+-- matches of the program's words name an order within bounds, or leave a choice open
+settled : (app : App) (words : List Text) (m : ArgMatches) → app ≡ farm_app → HasMatchesOf app words m
+    → (is_simple_and_free app ≡ true → fault_of app words ≡ []) → IsSettled (order_in (subcommand_rows_of m)) (leaves_choice (subcommand_of farm_app words))
+settled app words m is matches faultless =
+    subst (λ (o : Option Form). IsSettled o (leaves_choice (subcommand_of farm_app words))) (ap order_in (sym (parse_named app words m is matches)))
+    (faultless_order words (parse_faultless app words is faultless))
 
 -- matches of the program's words that name no order
 pub unnamed : (app : App) (words : List Text) (m : ArgMatches) → app ≡ farm_app → HasMatchesOf app words m
     → (is_simple_and_free app ≡ true → fault_of app words ≡ []) → order_in (subcommand_rows_of m) ≡ None
     → leaves_choice (subcommand_of farm_app words) ≡ true
 unnamed app words m is matches faultless none =
-    let rows = parse_named app words m is matches in
-    settled_open (order_in (subcommand_of farm_app words)) (leaves_choice (subcommand_of farm_app words))
-    (faultless_order words (parse_faultless app words is faultless)) (ap order_in (sym rows) ∙ none)
+    settled_open (order_in (subcommand_rows_of m)) (leaves_choice (subcommand_of farm_app words)) (settled app words m is matches faultless) none
 
 -- and those that name one
 pub named_bounds : (app : App) (words : List Text) (m : ArgMatches) (f : Form) → app ≡ farm_app → HasMatchesOf app words m
     → (is_simple_and_free app ≡ true → fault_of app words ≡ []) → order_in (subcommand_rows_of m) ≡ Some f → IsInBounds f
 named_bounds app words m f is matches faultless some =
-    let rows = parse_named app words m is matches in
-    settled_bounds (order_in (subcommand_of farm_app words)) (leaves_choice (subcommand_of farm_app words)) f
-    (faultless_order words (parse_faultless app words is faultless)) (ap order_in (sym rows) ∙ some)
+    settled_bounds (order_in (subcommand_rows_of m)) (leaves_choice (subcommand_of farm_app words)) f (settled app words m is matches faultless) some

@@ -16,7 +16,7 @@ use Rattle.clap.specs.declared.builder.value_parser.ValueParser.TheVariants as v
 use Rattle.clap.proofs.ValueTestLemmas.{accepts-Accepts, Accepts-accepts}
 use Rattle.farm_cli.specs.Orders.{Form, IsInBounds, DatabaseForm, leaves_choice, minutes_of, argument_number, once, order_named, database_in, port_in, report, serve, argument_text, u16_of, u64_in, which_in}
 use Rattle.farm_cli.specs.declared.order.Report.{Report}
-use Rattle.farm_cli.proofs.Kept.{AllKeep, AreGood, HasPassing, IsGood, help, help_keeps, memory, memory_keeps, value_keeps, value_rule}
+use Rattle.farm_cli.proofs.Kept.{AllKeep, AreGood, HasPassing, IsGood, KeepsGood, help, help_keeps, memory, memory_keeps, value_keeps, value_rule}
 use Rattle.farm_cli.proofs.Walked.{is_missing}
 
 -- ---- the value of an argument
@@ -119,20 +119,14 @@ IsSettled None left = left ≡ true
 abbrev db : Bool → Rule
 db required = value_rule (codes "db") (Some (codes "db")) required None vp.String
 
+abbrev number : Text → Bool → ℕ → ℕ → Rule
+number id required low high = value_rule id (Some id) required None (vp.Unsigned low high)
+
 abbrev at : Rule
-at = value_rule (codes "at") (Some (codes "at")) true None (vp.Unsigned 0 18446744073709551615)
+at = number (codes "at") true 0 18446744073709551615
 
 abbrev word : Text → Rule
 word id = value_rule id None true (Some 1) vp.String
-
-abbrev offset : Text → Rule
-offset id = value_rule id (Some id) false None (vp.Unsigned 0 840)
-
-abbrev port : Rule
-port = value_rule (codes "port") (Some (codes "port")) true None (vp.Unsigned 1 65535)
-
-abbrev max : Rule
-max = value_rule (codes "max") (Some (codes "max")) true None (vp.Unsigned 0 18446744073709551615)
 
 abbrev pub once_rules : List Rule
 once_rules = memory ∷ db false ∷ at ∷ help ∷ []
@@ -140,80 +134,39 @@ once_rules = memory ∷ db false ∷ at ∷ help ∷ []
 abbrev pub init_rules : List Rule
 init_rules = db true ∷ help ∷ []
 
-abbrev pub migrate_rules : List Rule
-migrate_rules = db true ∷ help ∷ []
-
 abbrev pub import_rules : List Rule
 import_rules = db true ∷ at ∷ word (codes "lab") ∷ help ∷ []
 
 abbrev pub serve_rules : List Rule
-serve_rules = db true ∷ port ∷ max ∷ help ∷ []
+serve_rules = db true ∷ number (codes "port") true 1 65535 ∷ number (codes "max") true 0 18446744073709551615 ∷ help ∷ []
 
 abbrev pub report_rules : List Rule
-report_rules = db true ∷ offset (codes "east") ∷ offset (codes "west") ∷ word (codes "which") ∷ help ∷ []
+report_rules = db true ∷ number (codes "east") false 0 840 ∷ number (codes "west") false 0 840 ∷ word (codes "which") ∷ help ∷ []
+
+db_keeps : (c : List Rule) (required : Bool) → arg_by_id c (codes "db") ≡ Some (db required) → KeepsGood c (db required)
+db_keeps c required found = value_keeps c (codes "db") (Some (codes "db")) required None vp.String refl found
+
+word_keeps : (c : List Rule) (id : Text) → arg_by_id c id ≡ Some (word id) → KeepsGood c (word id)
+word_keeps c id found = value_keeps c id None true (Some 1) vp.String refl found
+
+number_keeps : (c : List Rule) (id : Text) (required : Bool) (low high : ℕ) → arg_by_id c id ≡ Some (number id required low high)
+    → KeepsGood c (number id required low high)
+number_keeps c id required low high found = value_keeps c id (Some id) required None (vp.Unsigned low high) refl found
 
 pub once_keep : AllKeep once_rules once_rules
-once_keep = (
-  memory_keeps once_rules refl,
-  (
-    value_keeps once_rules (codes "db") (Some (codes "db")) false None vp.String refl refl,
-    (
-      value_keeps once_rules (codes "at") (Some (codes "at")) true None (vp.Unsigned 0 18446744073709551615) refl refl,
-      (help_keeps once_rules, tt),
-    ),
-  ),
-)
+once_keep = (memory_keeps once_rules refl, (db_keeps once_rules false refl, (number_keeps once_rules (codes "at") true 0 18446744073709551615 refl, (help_keeps once_rules, tt))))
 
 pub init_keep : AllKeep init_rules init_rules
-init_keep = (
-  value_keeps init_rules (codes "db") (Some (codes "db")) true None vp.String refl refl,
-  (help_keeps init_rules, tt),
-)
-
-pub migrate_keep : AllKeep migrate_rules migrate_rules
-migrate_keep = (
-  value_keeps migrate_rules (codes "db") (Some (codes "db")) true None vp.String refl refl,
-  (help_keeps migrate_rules, tt),
-)
+init_keep = (db_keeps init_rules true refl, (help_keeps init_rules, tt))
 
 pub import_keep : AllKeep import_rules import_rules
-import_keep = (
-  value_keeps import_rules (codes "db") (Some (codes "db")) true None vp.String refl refl,
-  (
-    value_keeps import_rules (codes "at") (Some (codes "at")) true None (vp.Unsigned 0 18446744073709551615) refl refl,
-    (
-      value_keeps import_rules (codes "lab") None true (Some 1) vp.String refl refl,
-      (help_keeps import_rules, tt),
-    ),
-  ),
-)
+import_keep = (db_keeps import_rules true refl, (number_keeps import_rules (codes "at") true 0 18446744073709551615 refl, (word_keeps import_rules (codes "lab") refl, (help_keeps import_rules, tt))))
 
 pub serve_keep : AllKeep serve_rules serve_rules
-serve_keep = (
-  value_keeps serve_rules (codes "db") (Some (codes "db")) true None vp.String refl refl,
-  (
-    value_keeps serve_rules (codes "port") (Some (codes "port")) true None (vp.Unsigned 1 65535) refl refl,
-    (
-      value_keeps serve_rules (codes "max") (Some (codes "max")) true None (vp.Unsigned 0 18446744073709551615) refl refl,
-      (help_keeps serve_rules, tt),
-    ),
-  ),
-)
+serve_keep = (db_keeps serve_rules true refl, (number_keeps serve_rules (codes "port") true 1 65535 refl, (number_keeps serve_rules (codes "max") true 0 18446744073709551615 refl, (help_keeps serve_rules, tt))))
 
 pub report_keep : AllKeep report_rules report_rules
-report_keep = (
-  value_keeps report_rules (codes "db") (Some (codes "db")) true None vp.String refl refl,
-  (
-    value_keeps report_rules (codes "east") (Some (codes "east")) false None (vp.Unsigned 0 840) refl refl,
-    (
-      value_keeps report_rules (codes "west") (Some (codes "west")) false None (vp.Unsigned 0 840) refl refl,
-      (
-        value_keeps report_rules (codes "which") None true (Some 1) vp.String refl refl,
-        (help_keeps report_rules, tt),
-      ),
-    ),
-  ),
-)
+report_keep = (db_keeps report_rules true refl, (number_keeps report_rules (codes "east") false 0 840 refl, (number_keeps report_rules (codes "west") false 0 840 refl, (word_keeps report_rules (codes "which") refl, (help_keeps report_rules, tt)))))
 
 -- the rows are good, and no required argument is missing
 abbrev pub AreWhole : List Rule → List Row → Type 0
@@ -237,9 +190,9 @@ init_settles rows whole =
     let f = given_value init_rules (db true) (codes "db") rows refl whole.0 (one_given (is_given (codes "db") rows) whole.1) in
     rw f.1 tt
 
-pub migrate_settles : (rows : List Row) → AreWhole migrate_rules rows → Settles (codes "migrate") rows
+pub migrate_settles : (rows : List Row) → AreWhole init_rules rows → Settles (codes "migrate") rows
 migrate_settles rows whole =
-    let f = given_value migrate_rules (db true) (codes "db") rows refl whole.0 (one_given (is_given (codes "db") rows) whole.1) in
+    let f = given_value init_rules (db true) (codes "db") rows refl whole.0 (one_given (is_given (codes "db") rows) whole.1) in
     rw f.1 tt
 
 pub import_settles : (rows : List Row) → AreWhole import_rules rows → Settles (codes "import") rows

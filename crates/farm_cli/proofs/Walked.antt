@@ -9,12 +9,9 @@ use Rattle.clap.specs.Kinds.{Kinds, or_else}
 use Rattle.clap.specs.Lexer.{long_of, short_of}
 use Rattle.clap.specs.Simple.{Shape, new_shape}
 use Rattle.clap.specs.Takes.{is_given}
-use Rattle.clap.specs.Walk.{Held, Outcome, Row, Rule, Step, Text, Waiting, Walk, after_flag, after_step, arg_by_id, arg_by_index, arg_by_long, arg_by_short, attached_value, bundle_met, bundle_step, done, finished, flag_met, has_long, has_short, idle, is_pending, long_met, long_or_other, next, nothing_held, option, option_met, option_word, plain, plain_word, positional, reacted, refused, rows_after, settled, settled_rows, short_met, short_or_plain, subcommand, subcommand_met, subcommand_or_other, takes_several, takes_values, to_positional, trailing, used_by_id, value, waits, walk, walk_from, walked, walked_from, with_default, word_met}
+use Rattle.clap.specs.Walk.{Held, Outcome, Row, Rule, Step, Text, Waiting, Walk, after_flag, after_step, arg_by_id, arg_by_index, arg_by_long, arg_by_short, attached_value, bundle_met, bundle_step, done, finished, flag_met, has_long, has_short, idle, is_pending, long_met, long_or_other, next, nothing_held, option, option_met, option_word, plain, plain_word, positional, reacted, refused, rows_after, settled, settled_rows, short_met, short_or_plain, subcommand, subcommand_or_other, takes_several, takes_values, to_positional, trailing, used_by_id, value, waits, walk, walk_from, walked, walked_from, with_default, word_met}
 use Rattle.clap.specs.declared.error.kind.ErrorKind.TheVariants.{MissingRequiredArgument, TooManyValues}
 use Rattle.farm_cli.proofs.Kept.{AllKeep, AreGood, KeepsGood, found_keeps, neither, no_fault}
-
-no : false ≡ true → ⊥
-no h = cc
 
 -- the argument is required and wasn't given
 abbrev pub is_missing : List Row → Rule → Bool
@@ -34,6 +31,11 @@ module _ (n : Text) (c : List Rule) (all : AllKeep c c) where
 
   each_used : (test : Rule → Bool) → IfSome (find test c) (KeepsGood c)
   each_used test = found_keeps c c test all
+
+  either_good : {X : Type 0} (b : Bool) (p q : Kinds) (x y : Held × X) → (p ≡ [] → AreGood c x.0.rows) → (q ≡ [] → AreGood c y.0.rows)
+      → cond b p q ≡ [] → AreGood c (cond b x y).0.rows
+  either_good true p q x y one other h = one h
+  either_good false p q x y one other h = other h
 
   -- ---- one word
 
@@ -70,26 +72,20 @@ module _ (n : Text) (c : List Rule) (all : AllKeep c c) where
   long_good : (o : Option Rule) (v : Option Text) (h : Held) → IfSome o (KeepsGood c) → long_fault c false o v h ≡ [] → AreGood c h.rows
       → AreGood c (long_met c o v h).0.rows
   long_good None v h keeps faultless good = good
-  long_good (Some a) v h keeps faultless good = go (takes_values a) faultless
-    where
-      go : (b : Bool) → cond b (option_fault c false a v h) (if is_some v then TooManyValues ∷ [] else react_fault c false a [] h) ≡ []
-          → AreGood c (cond b (option_met c a v h) (flag_met c a v h)).0.rows
-      go true p = option_good a v h keeps p good
-      go false p = flag_good a v h keeps p good
+  long_good (Some a) v h keeps faultless good =
+      either_good (takes_values a) _ _ (option_met c a v h) (flag_met c a v h)
+      (λ p. option_good a v h keeps p good) (λ p. flag_good a v h keeps p good) faultless
 
   -- what a step of a bundle makes of what is held, where the flags after it keep it good
   short_good : (o : Option Rule) (rest : Text) (h : Held) (faults : Held → Kinds) (met : Held → Held × Outcome) → IfSome o (KeepsGood c)
       → ((g : Held) → faults g ≡ [] → AreGood c g.rows → AreGood c (met g).0.rows)
       → short_fault c false o rest h faults ≡ [] → AreGood c h.rows → AreGood c (short_met c o rest h met).0.rows
   short_good None rest h faults met keeps after p good = good
-  short_good (Some a) rest h faults met keeps after p good = go (takes_values a) p
-    where
-      go : (b : Bool) → cond b (option_fault c false a (attached_value rest) h) (or_else (react_fault c false a [] h) (faults (reacted c a [] h))) ≡ []
-          → AreGood c (cond b (option_met c a (attached_value rest) h) (met (reacted c a [] h))).0.rows
-      go true q = option_good a (attached_value rest) h keeps q good
-      go false q =
-          let two = neither (react_fault c false a [] h) (faults (reacted c a [] h)) q in
-          after (reacted c a [] h) two.1 (reacted_good a [] h keeps two.0 good)
+  short_good (Some a) rest h faults met keeps after p good =
+      either_good (takes_values a) _ _ (option_met c a (attached_value rest) h) (met (reacted c a [] h))
+      (λ q. option_good a (attached_value rest) h keeps q good)
+      (λ q. let two = neither (react_fault c false a [] h) (faults (reacted c a [] h)) q in
+      after (reacted c a [] h) two.1 (reacted_good a [] h keeps two.0 good)) p
 
   bundle_step_good : (o : Option ℕ) (flags : Text) (skip : ℕ) (so_far : Outcome) (h : Held) (faults : Text → ℕ → Held → Kinds)
       (met : Text → ℕ → Outcome → Held → Held × Outcome)
@@ -114,11 +110,7 @@ module _ (n : Text) (c : List Rule) (all : AllKeep c c) where
 
   plain_good : (waiting : Waiting) (word : Text) (h : Held) → AreGood c h.rows → AreGood c (plain_word c waiting word h).0.rows
   plain_good idle word h good = good
-  plain_good (option id) word h good = go (arg_by_id c id)
-    where
-      go : (o : Option Rule) → AreGood c (option_word o id word h).0.rows
-      go None = good
-      go (Some a) = good
+  plain_good (option id) word h good = elim (arg_by_id c id) as (λ o. AreGood c (option_word o id word h).0.rows) [ None ↦ good | Some a ↦ good ]
   plain_good positional word h good = good
 
   after_good : (waiting : Waiting) (word : Text) (h : Held) (o : Outcome) → AreGood c h.rows → AreGood c (after_flag c waiting word h o).0.rows
@@ -140,31 +132,18 @@ module _ (n : Text) (c : List Rule) (all : AllKeep c c) where
   flag_word_good waiting word (Some q) h p good =
       after_good waiting word _ _ (long_good (arg_by_long c q.0) q.1 h (each_used (λ a. not (is_some a.index) && has_long a q.0)) p good)
 
-  no_subcommand : (waiting : Waiting) (word : Text) → subcommand_met [] waiting word ≡ None
-  no_subcommand idle word = refl
-  no_subcommand (option id) word = refl
-  no_subcommand positional word = refl
-
   other_good : (waiting : Waiting) (position : ℕ) (word : Text) (h : Held) → other_fault leaf None word h ≡ [] → AreGood c h.rows
       → AreGood c (subcommand_or_other c None waiting position word h).0.rows
-  other_good waiting position word h p good = go (bytes_eq word (45 ∷ 45 ∷ [])) p
-    where
-      go : (b : Bool) → cond b [] (flag_word_fault c false (long_of word) word h) ≡ []
-          → AreGood c (cond b (h, trailing position) (long_or_other c waiting word (long_of word) h)).0.rows
-      go true q = good
-      go false q = flag_word_good waiting word (long_of word) h q good
+  other_good waiting position word h p good =
+      either_good (bytes_eq word (45 ∷ 45 ∷ [])) _ _ (h, trailing position) (long_or_other c waiting word (long_of word) h)
+      (λ q. good) (λ q. flag_word_good waiting word (long_of word) h q good) p
 
   word_good : (is_trailing : Bool) (waiting : Waiting) (position : ℕ) (word : Text) (h : Held) → word_fault leaf [] is_trailing waiting word h ≡ []
       → AreGood c h.rows → AreGood c (word_met c [] is_trailing waiting position word h).0.rows
   word_good true waiting position word h p good = good
-  word_good false waiting position word h p good = go (subcommand_met [] waiting word) (no_subcommand waiting word) p
-    where
-      none : (name : Text) → Some name ≡ None → ⊥
-      none name e = cc
-
-      go : (o : Option Text) → o ≡ None → other_fault leaf o word h ≡ [] → AreGood c (subcommand_or_other c o waiting position word h).0.rows
-      go None e q = other_good waiting position word h q good
-      go (Some name) e q = absurd (none name e)
+  word_good false idle position word h p good = other_good idle position word h p good
+  word_good false (option id) position word h p good = other_good (option id) position word h p good
+  word_good false positional position word h p good = other_good positional position word h p good
 
   -- ---- the walk
 

@@ -14,7 +14,7 @@ use Rattle.clap.specs.Words.{subcommand_of}
 use Rattle.farm_cli.specs.App.{farm_app}
 use Rattle.farm_cli.specs.Orders.{leaves_choice, order_in}
 use Rattle.farm_cli.proofs.Kept.{neither, no_fault}
-use Rattle.farm_cli.proofs.Values.{IsSettled, import_keep, import_rules, import_settles, init_keep, init_rules, init_settles, migrate_keep, migrate_rules, migrate_settles, once_keep, once_rules, once_settles, report_keep, report_rules, report_settles, serve_keep, serve_rules, serve_settles}
+use Rattle.farm_cli.proofs.Values.{IsSettled, import_keep, import_rules, import_settles, init_keep, init_rules, init_settles, migrate_settles, once_keep, once_rules, once_settles, report_keep, report_rules, report_settles, serve_keep, serve_rules, serve_settles}
 use Rattle.farm_cli.proofs.Walked.{leaf_taken}
 
 abbrev top : Shape
@@ -74,11 +74,9 @@ long_step waiting word (Some q) h =
     flag_step waiting word (long_met top.rules (arg_by_long top.rules q.0) q.1 h).0 (long_met top.rules (arg_by_long top.rules q.0) q.1 h).1
 
 other_step : (waiting : Waiting) (position : ℕ) (word : Text) (h : Held) → IsKnownStep (subcommand_or_other top.rules None waiting position word h).1
-other_step waiting position word h = go (bytes_eq word (45 ∷ 45 ∷ []))
-  where
-    go : (b : Bool) → IsKnownStep (cond b (h, trailing position) (long_or_other top.rules waiting word (long_of word) h)).1
-    go true = tt
-    go false = long_step waiting word (long_of word) h
+other_step waiting position word h =
+    elim (bytes_eq word (45 ∷ 45 ∷ [])) as (λ b. IsKnownStep (cond b (h, trailing position) (long_or_other top.rules waiting word (long_of word) h)).1)
+    [ true ↦ tt | false ↦ long_step waiting word (long_of word) h ]
 
 -- the name that a word answers to, by which of the names it is
 abbrev name_met : Bool → Bool → Bool → Bool → Bool → Bool → Bool → Option Text
@@ -146,7 +144,7 @@ known_order : (k : Known) (words : List Text) → entered_fault (built farm_app)
     → IsSettledIn (entered (built farm_app) (Some (name_of k, words)))
 known_order once words p = once_settles (rows_after once_rules [] words) (leaf_taken (codes "once") once_rules once_keep words p)
 known_order init words p = init_settles (rows_after init_rules [] words) (leaf_taken (codes "init") init_rules init_keep words p)
-known_order migrate words p = migrate_settles (rows_after migrate_rules [] words) (leaf_taken (codes "migrate") migrate_rules migrate_keep words p)
+known_order migrate words p = migrate_settles (rows_after init_rules [] words) (leaf_taken (codes "migrate") init_rules init_keep words p)
 known_order import words p = import_settles (rows_after import_rules [] words) (leaf_taken (codes "import") import_rules import_keep words p)
 known_order serve words p = serve_settles (rows_after serve_rules [] words) (leaf_taken (codes "serve") serve_rules serve_keep words p)
 known_order report words p = report_settles (rows_after report_rules [] words) (leaf_taken (codes "report") report_rules report_keep words p)

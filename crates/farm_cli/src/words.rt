@@ -90,20 +90,14 @@ fn named(alloc: Global, matches: &ArgMatches<'_>) -> Result<Option<Order>, Alloc
     let Some((name, given)) = matches.subcommand() else {
         return Ok(None);
     };
-    if name == "once" {
-        once_named(alloc, given)
-    } else if name == "init" {
-        init_named(alloc, given)
-    } else if name == "migrate" {
-        migrate_named(alloc, given)
-    } else if name == "import" {
-        import_named(alloc, given)
-    } else if name == "serve" {
-        serve_named(alloc, given)
-    } else if name == "report" {
-        report_named(alloc, given)
-    } else {
-        Ok(None)
+    match name {
+        "once" => once_named(alloc, given),
+        "init" => init_named(alloc, given),
+        "migrate" => migrate_named(alloc, given),
+        "import" => import_named(alloc, given),
+        "serve" => serve_named(alloc, given),
+        "report" => report_named(alloc, given),
+        _ => Ok(None),
     }
 }
 
@@ -133,33 +127,22 @@ fn init_named(alloc: Global, given: &ArgMatches<'_>) -> Result<Option<Order>, Al
     ensures { IfOk result (λ order.
         option_map form_of order ≡ init_in (rows_of (found_of given.now))) }
 {
-    let Some(file) = text(alloc, given, "db")? else {
-        return Ok(None);
-    };
-    Ok(Some(Order::Init { file }))
+    Ok(text(alloc, given, "db")?.map(|file| Order::Init { file }))
 }
 
 fn migrate_named(alloc: Global, given: &ArgMatches<'_>) -> Result<Option<Order>, AllocError>
     ensures { IfOk result (λ order.
         option_map form_of order ≡ migrate_in (rows_of (found_of given.now))) }
 {
-    let Some(file) = text(alloc, given, "db")? else {
-        return Ok(None);
-    };
-    Ok(Some(Order::Migrate { file }))
+    Ok(text(alloc, given, "db")?.map(|file| Order::Migrate { file }))
 }
 
 fn import_named(alloc: Global, given: &ArgMatches<'_>) -> Result<Option<Order>, AllocError>
     ensures { IfOk result (λ order.
         option_map form_of order ≡ import_in (rows_of (found_of given.now))) }
 {
-    let Some(file) = text(alloc, given, "db")? else {
-        return Ok(None);
-    };
-    let Some(at) = number(given, "at") else {
-        return Ok(None);
-    };
-    let Some(lab) = text(alloc, given, "lab")? else {
+    let (file, lab) = (text(alloc, given, "db")?, text(alloc, given, "lab")?);
+    let (Some(file), Some(at), Some(lab)) = (file, number(given, "at"), lab) else {
         return Ok(None);
     };
     Ok(Some(Order::Import { file, at, lab }))
@@ -169,13 +152,8 @@ fn serve_named(alloc: Global, given: &ArgMatches<'_>) -> Result<Option<Order>, A
     ensures { IfOk result (λ order.
         option_map form_of order ≡ serve_in (rows_of (found_of given.now))) }
 {
-    let Some(file) = text(alloc, given, "db")? else {
-        return Ok(None);
-    };
-    let Some(port) = port(given) else {
-        return Ok(None);
-    };
-    let Some(max) = number(given, "max") else {
+    let file = text(alloc, given, "db")?;
+    let (Some(file), Some(port), Some(max)) = (file, port(given), number(given, "max")) else {
         return Ok(None);
     };
     Ok(Some(Order::Serve { file, port, max }))
@@ -185,10 +163,7 @@ fn report_named(alloc: Global, given: &ArgMatches<'_>) -> Result<Option<Order>, 
     ensures { IfOk result (λ order.
         option_map form_of order ≡ report_in (rows_of (found_of given.now))) }
 {
-    let Some(file) = text(alloc, given, "db")? else {
-        return Ok(None);
-    };
-    let Some(which) = which(given) else {
+    let (Some(file), Some(which)) = (text(alloc, given, "db")?, which(given)) else {
         return Ok(None);
     };
     Ok(Some(Order::Report {
@@ -241,14 +216,11 @@ fn which(given: &ArgMatches<'_>) -> Option<Report>
 fn report_called(name: &str) -> Option<Report>
     ensures { result ≡ report_of name.now }
 {
-    if name == "queue" {
-        Some(Report::Queue)
-    } else if name == "boards" {
-        Some(Report::Boards)
-    } else if name == "reservations" {
-        Some(Report::Reservations)
-    } else {
-        None
+    match name {
+        "queue" => Some(Report::Queue),
+        "boards" => Some(Report::Boards),
+        "reservations" => Some(Report::Reservations),
+        _ => None,
     }
 }
 
