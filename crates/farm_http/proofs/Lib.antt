@@ -3,6 +3,6 @@ pub mod SliceReads
 pub mod Room
 pub mod Whole
 pub mod Known
-pub mod Digits
+pub mod DigitLemmas
 pub mod Found
 pub mod TakenLemmas

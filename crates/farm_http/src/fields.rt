@@ -1,15 +1,15 @@
 //! The fields of a head (RFC 9112, section 5): one by its name, and how long the body is.
-ghost use Rattle.std.specs.Prelude.{◌≡◌, ◌+◌, ◌*◌, ◌<◌, ◌≤◌, length, map, All, IfOk, MatchOption};
+ghost use Rattle.std.specs.Prelude.{◌≡◌, ◌≤◌, length, map, All, IfOk};
 ghost use Rattle.std.specs.Prelude.{nat_lt, ◌&&◌};
-ghost use Rattle.std.specs.Char.{is_ascii_digit, digit_value};
+ghost use Rattle.std.specs.Char.{is_ascii_digit};
 ghost use Rattle.std.specs.List.{list_all};
 ghost use Rattle.std.specs.Str.{str_eq_ignore_ascii_case};
-ghost use Rattle.std.specs.Str.Parse.{digits_value};
 ghost use Rattle.httparse.specs.Spans.{IsHeaderWithin, header_bytes};
 ghost use Rattle.farm_types.specs.Limits.{longest_body};
 ghost use Rattle.farm_http.specs.Fields.{called_lookup, field_of, declared_length, length_among};
 ghost use Rattle.farm_http.specs.Fields.{refusal_by_number};
 
+use crate::digits::{is_digits, number_within};
 use farm_types::{BAD_CODING, BAD_REQUEST, LONGEST_BODY, Refusal, TOO_LARGE};
 use httparse::spans::HeaderSpan;
 
@@ -72,8 +72,8 @@ fn declared(value: &[u8]) -> Result<usize, Refusal>
     if !is_number(value) {
         return Err(Refusal { code: BAD_REQUEST });
     }
-    match small_number(value) {
-        Some(number) => Ok(number),
+    match number_within(value, LONGEST_BODY as u32) {
+        Some(number) => Ok(number as usize),
         None => Err(Refusal { code: TOO_LARGE }),
     }
 }
@@ -83,36 +83,4 @@ fn is_number(value: &[u8]) -> bool
     ensures { result ≡ nat_lt 0 (length value.now) && list_all is_ascii_digit value.now }
 {
     !value.is_empty() && is_digits(value)
-}
-
-/// Whether each byte is a digit.
-fn is_digits(value: &[u8]) -> bool
-    ensures { result ≡ list_all is_ascii_digit value.now }
-{
-    value.iter().all(|byte| byte.is_ascii_digit())
-}
-
-/// The number that digits write, if a body may be so long.
-fn small_number(value: &[u8]) -> Option<usize>
-    ensures { MatchOption result (longest_body < digits_value 10 value.now)
-        (λ n. (n ≤ longest_body) × (n ≡ digits_value 10 value.now)) }
-{
-    let mut number = 0usize;
-    for digit in value {
-        number = number * 10 + value_of(*digit);
-        if number > LONGEST_BODY {
-            return None;
-        }
-    }
-    Some(number)
-}
-
-/// What a digit stands for.
-fn value_of(digit: u8) -> usize
-    ensures { result ≡ digit_value digit }
-{
-    match (digit as char).to_digit(36) {
-        Some(value) => value as usize,
-        None => 36,
-    }
 }

@@ -15,6 +15,7 @@
 
 mod counted_reader;
 mod counted_writer;
+mod digits;
 mod fault;
 mod fields;
 mod input;
@@ -33,6 +34,9 @@ pub use taken::Taken;
 // The parts of a request: method, target, fields and body.
 pub use fields::Repeated;
 pub use parts::{Parts, parts_of};
+
+// What decimal digits write.
+pub use digits::{is_digits, number_within};
 
 // Bytes written whole to an output.
 pub use write::{write_whole, write_whole_counted};
