@@ -1,4 +1,3 @@
-pub mod Digits
 pub mod ObjectLemmas
 pub mod ParameterLemmas
 pub mod PathLaws

@@ -1,12 +1,9 @@
 -- The first segment behind the front of a path.
 use Rattle.std.proofs.Common.{◌≡◌, ℕ, List, [], ◌∷◌, ◌++◌, length, take, drop, Bool, true, false, cond, not, refl, ap, ◌∙◌, ◌==◌, nat_eq, ◌+◌, suc, arith}
+use Rattle.std.proofs.Math.Seq.{drop-append_seam}
 use Rattle.std.specs.List.{before_first, prefix_len}
 use Rattle.matchit.specs.Seek.{has_slash}
 use Rattle.farm_wire.specs.Parameters.{parameter}
-
-drop_front : (p q : List ℕ) → drop (length p) (p ++ q) ≡ q
-drop_front [] q = refl
-drop_front (b ∷ p) q = drop_front p q
 
 one_more : (n : ℕ) → 1 + n ≡ suc n
 one_more n = omega arith
@@ -30,7 +27,7 @@ before_none (b ∷ s) none = by (nat_eq b 47) (before_none s) none
     by false more none = rw (one_more (prefix_len (λ b. not (b == 47)) s)) (ap (λ l. b ∷ l) (more none))
 
 pub middle_parameter : (front s back : List ℕ) → has_slash s ≡ false → parameter front (front ++ (s ++ (47 ∷ back))) ≡ s
-middle_parameter front s back none = ap (before_first (λ b. b == 47)) (drop_front front (s ++ (47 ∷ back))) ∙ before_slash s back none
+middle_parameter front s back none = ap (before_first (λ b. b == 47)) (drop-append_seam front (s ++ (47 ∷ back))) ∙ before_slash s back none
 
 pub last_parameter : (front s : List ℕ) → has_slash s ≡ false → parameter front (front ++ s) ≡ s
-last_parameter front s none = ap (before_first (λ b. b == 47)) (drop_front front s) ∙ before_none s none
+last_parameter front s none = ap (before_first (λ b. b == 47)) (drop-append_seam front s) ∙ before_none s none

@@ -6,6 +6,7 @@ use Rattle.matchit.specs.Rows.{RowsOf}
 use Rattle.std.specs.List.{ends_with}
 use Rattle.std.specs.Cmp.Lexicographic.{pointwise}
 use Rattle.matchit.specs.Seek.{seek, step, own, or_else, param_step, segment, has_slash, cuts, longest_suffix, with_suffix}
+use Rattle.std.proofs.Math.Seq.{drop-append_seam}
 use Rattle.std.proofs.lemmas.Bool.Decides.{nat_tests}
 
 -- the rows that go on after a word
@@ -96,10 +97,6 @@ cut_segment (b ∷ p) rest e = by (nat_eq b 47) (λ h. cut_segment p rest h) e
     by true f h = cc
     by false f h = ap (λ l. b ∷ l) (f h)
 
-drop_front : (p q : List ℕ) → drop (length p) (p ++ q) ≡ q
-drop_front [] q = refl
-drop_front (b ∷ p) q = drop_front p q
-
 one_longer : (p : List ℕ) → length (p ++ (47 ∷ [])) ≡ suc (length p)
 one_longer [] = refl
 one_longer (b ∷ p) = ap suc (one_longer p)
@@ -112,7 +109,7 @@ pub slash_cut : (b : ℕ) (s : List ℕ) → cuts ((b ∷ s) ++ (47 ∷ [])) (47
 slash_cut b s =
     let long : nat_lt 1 (length ((b ∷ s) ++ (47 ∷ []))) ≡ true = ap (λ n. nat_lt 1 (suc n)) (one_longer s) ∙ two_more (length s) in
     let back : drop (length ((b ∷ s) ++ (47 ∷ [])) - 1) ((b ∷ s) ++ (47 ∷ [])) ≡ 47 ∷ [] =
-    ap (λ n. drop (n - 1) ((b ∷ s) ++ (47 ∷ []))) (one_longer (b ∷ s)) ∙ ap (λ n. drop n ((b ∷ s) ++ (47 ∷ []))) (less_one (suc (length s))) ∙ drop_front (b ∷ s) (47 ∷ []) in
+    ap (λ n. drop (n - 1) ((b ∷ s) ++ (47 ∷ []))) (one_longer (b ∷ s)) ∙ ap (λ n. drop n ((b ∷ s) ++ (47 ∷ []))) (less_one (suc (length s))) ∙ drop-append_seam (b ∷ s) (47 ∷ []) in
     ap (λ t. t && ends_with nat_eq ((b ∷ s) ++ (47 ∷ [])) (47 ∷ [])) long ∙ ap (λ l. pointwise nat_eq (47 ∷ []) l) back
 
 -- a parameter that a slash ends

@@ -7,9 +7,9 @@ ghost use Rattle.farm_wire.specs.Shown.{listing, refusal_data};
 
 use crate::allowed::Allowed;
 use crate::head::head;
+use crate::rows_shown::ReplyTo;
 use crate::shown::{Listing, ToJson};
 use crate::sink::Counter;
-use crate::small_shown::ReplyTo;
 use crate::statuses::{METHOD_NOT_ALLOWED, OK, UNAVAILABLE};
 use farm_types::{BoardRow, Claim, JobRow, Refusal, Reply, ResRow, Status, TypeRow, WRONG_METHOD};
 use std::alloc::{AllocError, Global};

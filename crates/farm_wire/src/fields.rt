@@ -1,24 +1,46 @@
-//! The members of a JSON body.
+//! The JSON object of a body, and its members.
 ghost use Rattle.std.specs.Prelude.{◌≡◌, map, codes, Err, IsTrue, IfOk, IsOk};
 ghost use Rattle.farm_types.specs.Proper.{has_no_name_tag};
 ghost use Rattle.serde_json.specs.View.{view, items_view};
 ghost use Rattle.farm_types.specs.Reads.{OrNoMemory, by_code, refused_code, viewed};
 ghost use Rattle.farm_wire.specs.Fields.{text_in, name_in, texts_in, tags_from, tags_in};
-ghost use Rattle.farm_wire.specs.Fields.{board_tags};
+ghost use Rattle.farm_wire.specs.Fields.{board_tags, object_in};
 
 use farm_types::{BAD_REQUEST, BAD_TAG, Name, Refusal, Tags, WordFault};
 use serde_json::Value;
 use std::alloc::Global;
+
+/// The refusal of a body that is not as it should be.
+pub(crate) const BAD: Refusal = Refusal { code: BAD_REQUEST };
+
+/// The object that a body spells; refused where the body is no JSON (RFC 8259), nests deeper than
+/// 127 or is no object.
+#[tactic(auto, unfolding(crate::specs::Fields::object_in))]
+pub(crate) fn object_of(alloc: Global, body: &[u8]) -> Result<Value, WordFault>
+    ensures { OrNoMemory refused_code (λ v. view v) result (object_in body.now) }
+{
+    match Value::from_slice(alloc, body) {
+        Ok(value) => {
+            if value.as_object().is_none() {
+                return Err(WordFault::Refused(BAD));
+            }
+            Ok(value)
+        }
+        Err(e) => {
+            if e.is_memory() {
+                return Err(WordFault::NoMemory);
+            }
+            Err(WordFault::Refused(BAD))
+        }
+    }
+}
 
 /// The text under a key, which must be there. It takes no memory.
 #[tactic(auto, unfolding(crate::specs::Fields::text_in))]
 pub(crate) fn text_of<'v>(value: &'v Value, key: &str) -> Result<&'v str, Refusal>
     ensures { by_code (viewed (λ text. text.now) result) ≡ text_in key.now (view value.now) }
 {
-    match value.get(key).and_then(Value::as_str) {
-        Some(text) => Ok(text),
-        None => Err(Refusal { code: BAD_REQUEST }),
-    }
+    value.get(key).and_then(Value::as_str).ok_or(BAD)
 }
 
 /// The name under a key, which must be there; memory is wanted only where there is one.
@@ -38,9 +60,7 @@ fn texts_of(alloc: Global, items: &[Value]) -> Result<Vec<&[u8]>, WordFault>
 {
     let mut texts = Vec::new(alloc);
     for item in items {
-        let Some(text) = item.as_str() else {
-            return Err(WordFault::Refused(Refusal { code: BAD_REQUEST }));
-        };
+        let text = item.as_str().ok_or(BAD)?;
         texts.push(text.as_bytes())?;
     }
     Ok(texts)
@@ -51,9 +71,7 @@ fn texts_of(alloc: Global, items: &[Value]) -> Result<Vec<&[u8]>, WordFault>
 pub(crate) fn tags_from(alloc: Global, value: &Value) -> Result<Tags, WordFault>
     ensures { OrNoMemory refused_code (λ tags. tags) result (tags_from (view value.now)) }
 {
-    let Some(items) = value.as_array() else {
-        return Err(WordFault::Refused(Refusal { code: BAD_REQUEST }));
-    };
+    let items = value.as_array().ok_or(BAD)?;
     let texts = texts_of(alloc, items.as_slice())?;
     Tags::among(alloc, texts.as_slice())
 }
@@ -63,10 +81,7 @@ pub(crate) fn tags_from(alloc: Global, value: &Value) -> Result<Tags, WordFault>
 pub(crate) fn tags_of(alloc: Global, value: &Value) -> Result<Tags, WordFault>
     ensures { OrNoMemory refused_code (λ tags. tags) result (tags_in (view value.now)) }
 {
-    match value.get("tags") {
-        Some(field) => tags_from(alloc, field),
-        None => Err(WordFault::Refused(Refusal { code: BAD_REQUEST })),
-    }
+    tags_from(alloc, value.get("tags").ok_or(BAD)?)
 }
 
 /// The tags as a board's own, none with the key `name`.

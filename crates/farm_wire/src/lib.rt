@@ -11,31 +11,23 @@
 mod allowed;
 mod answers;
 mod ask;
-mod board_body;
-mod board_shown;
-mod claim_shown;
+mod bodies;
 mod fault;
 mod fields;
 mod head;
-mod job_body;
-mod job_shown;
 mod json_value;
 mod laws;
-mod object;
 mod parameter;
-mod reserve_body;
 mod route;
 mod router;
 mod routes;
+mod rows_shown;
 mod sender;
 mod shown;
 mod sink;
-mod small_shown;
 mod static_answers;
 mod statuses;
 mod text;
-mod type_body;
-mod type_shown;
 
 // One request, read from an input; and bytes written whole to an output.
 pub use farm_http::{

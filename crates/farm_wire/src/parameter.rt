@@ -1,15 +1,13 @@
 //! The parameter of a path: its first segment behind what each path of a group begins with.
-ghost use Rattle.std.specs.Prelude.{◌≡◌, ◌==◌, ◌&&◌, ◌<◌, ◌≤◌, length, drop, Err, IsOk};
-ghost use Rattle.std.specs.Prelude.{MatchOption, not, nat_lt, position};
-ghost use Rattle.std.specs.Char.{is_ascii_digit, digit_value};
-ghost use Rattle.std.specs.List.{before_first, list_all};
-ghost use Rattle.std.specs.Str.Parse.{digits_value};
-ghost use Rattle.farm_types.specs.Limits.{numbers_end};
+ghost use Rattle.std.specs.Prelude.{◌≡◌, ◌==◌, drop, Err, IsOk, position};
+ghost use Rattle.std.specs.List.{before_first};
 ghost use Rattle.farm_types.specs.Reads.{OrNoMemory, by_code, refused_code};
 ghost use Rattle.farm_wire.specs.Parameters.{parameter, begins_with_zero, is_number_text, number_in};
 ghost use Rattle.farm_wire.specs.Parameters.{board_in, job_in, reservation_in};
 
-use farm_types::{BAD_REQUEST, NUMBERS_END, Name, Refusal, WordFault};
+use crate::fields::BAD;
+use farm_http::{is_digits, number_within};
+use farm_types::{NUMBERS_END, Name, Refusal, WordFault};
 use std::alloc::Global;
 
 /// What stands behind the first bytes.
@@ -57,43 +55,11 @@ fn begins_with_zero(text: &[u8]) -> bool
     }
 }
 
-/// Whether each byte is a digit.
-fn is_digits(text: &[u8]) -> bool
-    ensures { result ≡ list_all is_ascii_digit text.now }
-{
-    text.iter().all(|byte| byte.is_ascii_digit())
-}
-
 /// Whether a text is digits that begin with 1 to 9.
 fn is_number_text(text: &[u8]) -> bool
     ensures { result ≡ is_number_text text.now }
 {
     !text.is_empty() && !begins_with_zero(text) && is_digits(text)
-}
-
-/// What a digit stands for.
-fn value_of(digit: u8) -> u64
-    ensures { result ≡ digit_value digit }
-{
-    match (digit as char).to_digit(36) {
-        Some(value) => value as u64,
-        None => 36,
-    }
-}
-
-/// The number that digits write, if it is none too large.
-fn small_number(text: &[u8]) -> Option<u64>
-    ensures { MatchOption result (numbers_end ≤ digits_value 10 text.now)
-        (λ n. (n < numbers_end) × (n ≡ digits_value 10 text.now)) }
-{
-    let mut number = 0u64;
-    for digit in text {
-        number = number * 10 + value_of(*digit);
-        if number >= NUMBERS_END {
-            return None;
-        }
-    }
-    Some(number)
 }
 
 /// The number that a segment writes: one to nine digits that begin with 1 to 9.
@@ -102,11 +68,11 @@ fn number_of(text: &[u8]) -> Result<u64, Refusal>
     ensures { by_code result ≡ number_in text.now }
 {
     if !is_number_text(text) {
-        return Err(Refusal { code: BAD_REQUEST });
+        return Err(BAD);
     }
-    match small_number(text) {
+    match number_within(text, (NUMBERS_END - 1) as u32) {
         Some(number) => Ok(number),
-        None => Err(Refusal { code: BAD_REQUEST }),
+        None => Err(BAD),
     }
 }
 

@@ -3,60 +3,43 @@ ghost use Rattle.std.specs.Prelude.{◌≡◌, IfOk, OnOk, map, []};
 ghost use Rattle.matchit.specs.Route.{parse_route};
 ghost use Rattle.farm_wire.specs.Routes.{rows, with_route, with_routes};
 
+use crate::route::Route::{Get, GetPost, Post};
 use crate::route::{CommandKind, Route, ViewKind};
 use matchit::Router;
 use std::alloc::{AllocError, Global};
 
 /// Each path with its route. A parameter is one segment of at least one byte.
 const TABLE: [(&str, Route); 17] = [
-    (
-        "/types",
-        Route::GetPost(ViewKind::Types, CommandKind::AddType),
-    ),
-    (
-        "/boards",
-        Route::GetPost(ViewKind::Boards, CommandKind::AddBoard),
-    ),
-    ("/boards/{name}/tags", Route::Post(CommandKind::SetTags)),
-    ("/boards/{name}/health", Route::Post(CommandKind::SetHealth)),
-    ("/jobs", Route::Post(CommandKind::Submit)),
-    ("/jobs/{n}", Route::Get(ViewKind::Job)),
-    ("/jobs/{n}/cancel", Route::Post(CommandKind::Cancel)),
-    ("/jobs/{n}/start", Route::Post(CommandKind::Start)),
-    ("/jobs/{n}/finish", Route::Post(CommandKind::Finish)),
+    ("/types", GetPost(ViewKind::Types, CommandKind::AddType)),
+    ("/boards", GetPost(ViewKind::Boards, CommandKind::AddBoard)),
+    ("/boards/{name}/tags", Post(CommandKind::SetTags)),
+    ("/boards/{name}/health", Post(CommandKind::SetHealth)),
+    ("/jobs", Post(CommandKind::Submit)),
+    ("/jobs/{n}", Get(ViewKind::Job)),
+    ("/jobs/{n}/cancel", Post(CommandKind::Cancel)),
+    ("/jobs/{n}/start", Post(CommandKind::Start)),
+    ("/jobs/{n}/finish", Post(CommandKind::Finish)),
     (
         "/reservations",
-        Route::GetPost(ViewKind::Reservations, CommandKind::Reserve),
+        GetPost(ViewKind::Reservations, CommandKind::Reserve),
     ),
-    (
-        "/reservations/{n}/acquire",
-        Route::Post(CommandKind::Acquire),
-    ),
-    (
-        "/reservations/{n}/release",
-        Route::Post(CommandKind::Release),
-    ),
-    (
-        "/reservations/{n}/refresh",
-        Route::Post(CommandKind::Refresh),
-    ),
+    ("/reservations/{n}/acquire", Post(CommandKind::Acquire)),
+    ("/reservations/{n}/release", Post(CommandKind::Release)),
+    ("/reservations/{n}/refresh", Post(CommandKind::Refresh)),
     (
         "/reservations/{n}/cancel",
-        Route::Post(CommandKind::CancelReservation),
+        Post(CommandKind::CancelReservation),
     ),
-    ("/pass", Route::Post(CommandKind::Pass)),
-    ("/queue", Route::Get(ViewKind::Queue)),
-    ("/status", Route::Get(ViewKind::Status)),
+    ("/pass", Post(CommandKind::Pass)),
+    ("/queue", Get(ViewKind::Queue)),
+    ("/status", Get(ViewKind::Status)),
 ];
 
 /// Adds a path. No two paths of the table conflict, so that only memory can be wanting.
 fn add(router: &mut Router<Route>, path: &str, route: Route) -> Result<(), AllocError>
     ensures { OnOk result (router.new ≡ with_route (parse_route path.now) route router.old) }
 {
-    match router.insert(path, route) {
-        Ok(()) => Ok(()),
-        Err(_) => Err(AllocError),
-    }
+    router.insert(path, route).map_err(|_| AllocError)
 }
 
 /// A router of these paths.

@@ -11,17 +11,17 @@ ghost use Rattle.farm_wire.specs.Routes.{rows, path_in, route_in};
 ghost use Rattle.farm_wire.specs.Reading.{denial_of};
 
 use crate::ask::{Ask, View};
-use crate::board_body::{add_board_of, set_health_of, set_tags_of};
+use crate::bodies::{
+    add_board_of, add_type_of, finish_of, reserve_of, set_health_of, set_tags_of, submit_of,
+};
 use crate::fault::AskFault;
-use crate::job_body::{finish_of, submit_of};
+use crate::fields::BAD;
 use crate::parameter::{job_of, reservation_of};
-use crate::reserve_body::reserve_of;
 use crate::route::{CommandKind, Endpoint, Route, ViewKind};
 use crate::router::all_paths;
 use crate::sender::{caller_of, key_of};
-use crate::type_body::add_type_of;
 use farm_http::{Parts, Taken, parts_of};
-use farm_types::{BAD_REQUEST, Call, Cmd, NO_ROUTE, Refusal, WordFault};
+use farm_types::{Call, Cmd, NO_ROUTE, Refusal, WordFault};
 use matchit::Router;
 use std::alloc::{AllocError, Global};
 
@@ -80,10 +80,8 @@ impl Ask {
         ensures { (request : Request) → ParsesTo taken.now.bytes.items taken.now.head request
             → OrNoMemory denial_of shown_ask result (ask request now) }
     {
-        match Routes::new(alloc) {
-            Ok(routes) => routes.ask(alloc, taken, now),
-            Err(_) => Err(AskFault::NoMemory),
-        }
+        let routes = Routes::new(alloc).map_err(|_| AskFault::NoMemory)?;
+        routes.ask(alloc, taken, now)
     }
 }
 
@@ -93,7 +91,7 @@ fn path_of(target: &[u8]) -> Result<&str, Refusal>
 {
     match std::str::from_utf8(target) {
         Ok(text) => Ok(before_query(text)),
-        Err(_) => Err(Refusal { code: BAD_REQUEST }),
+        Err(_) => Err(BAD),
     }
 }
 

@@ -3,8 +3,9 @@ ghost use Rattle.std.specs.Prelude.{◌≡◌, Err, IsOk};
 ghost use Rattle.farm_types.specs.Reads.{OrNoMemory, refused_code};
 ghost use Rattle.farm_wire.specs.Sender.{caller_in, key_in};
 
+use crate::fields::BAD;
 use farm_http::Parts;
-use farm_types::{BAD_REQUEST, Key, Name, Refusal, WordFault};
+use farm_types::{Key, Name, WordFault};
 use std::alloc::Global;
 
 /// The name in the field `x-user`, which must stand there once; memory is wanted only where there
@@ -16,7 +17,7 @@ pub(crate) fn caller_of(alloc: Global, parts: &Parts<'_>) -> Result<Name, WordFa
 {
     match parts.field(b"x-user") {
         Ok(Some(value)) => Name::parse(alloc, value),
-        _ => Err(WordFault::Refused(Refusal { code: BAD_REQUEST })),
+        _ => Err(WordFault::Refused(BAD)),
     }
 }
 
@@ -30,6 +31,6 @@ pub(crate) fn key_of(alloc: Global, parts: &Parts<'_>) -> Result<Option<Key>, Wo
     match parts.field(b"x-key") {
         Ok(None) => Ok(None),
         Ok(Some(value)) => Ok(Some(Key::parse(alloc, value)?)),
-        Err(_) => Err(WordFault::Refused(Refusal { code: BAD_REQUEST })),
+        Err(_) => Err(WordFault::Refused(BAD)),
     }
 }

@@ -50,13 +50,8 @@ impl Sink for Counter {
 
     /// Counts a piece. No memory holds more bytes than can be counted.
     fn put(&mut self, piece: &[u8]) -> Result<(), AllocError> {
-        match self.count.checked_add(piece.len()) {
-            Some(count) => {
-                self.count = count;
-                Ok(())
-            }
-            None => Err(AllocError),
-        }
+        self.count = self.count.checked_add(piece.len()).ok_or(AllocError)?;
+        Ok(())
     }
 
     ghost nothing = { λ a. Prim.search rules };

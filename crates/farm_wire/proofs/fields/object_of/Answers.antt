@@ -1,7 +1,7 @@
 -- What the reader of JSON ensures, as the definition says it.
 use Rattle.std.proofs.Common.{◌≡◌, true, false}
 use Rattle.farm_wire.proofs.ObjectLemmas.{some_object, body_ok, body_err}
-use Rattle.farm_wire.proofs.object.object_of.Goals as goal
+use Rattle.farm_wire.proofs.fields.object_of.Goals as goal
 
 pub returns-else-is_none : goal.returns-else-is_none
 returns-else-is_none c =
