@@ -6,6 +6,7 @@ use Rattle.std.specs.List.{find}
 use Rattle.std.specs.Option.{option_map_or, option_map, option_or}
 use Rattle.std.specs.Ordering.{ordering_then}
 use Rattle.std.specs.Str.{bytes_eq}
+use Rattle.std.proofs.lemmas.Bool.{and_parts}
 use Rattle.std.proofs.lemmas.Cmp.{tied_itself}
 use Rattle.std.proofs.lemmas.List.Sums.{fold-append}
 use Rattle.std.proofs.lemmas.Slice.Eq.{bytes_eq-Decides}
@@ -63,10 +64,6 @@ act_kept F caller Cmd.Pass = pass_kept (expire (giving_back F) F.clock) F.collec
 abbrev is_for : List ℕ → List ℕ → KeptRow → Bool
 is_for caller key r = bytes_eq r.caller caller && bytes_eq r.key key
 
-both : (x y : Bool) → (x && y) ≡ true → (x ≡ true) × (y ≡ true)
-both true y e = (refl, e)
-both false y e = absurd (let no : false ≡ true = e in cc)
-
 then_equal : (x y : Ordering) → ordering_then x y ≡ Equal → (x ≡ Equal) × (y ≡ Equal)
 then_equal Less y e = absurd (let no : Less ≡ Equal = e in cc)
 then_equal Equal y e = (refl, e)
@@ -87,8 +84,8 @@ tied_alike caller key row r tie =
 
 alike_tied : (caller key : List ℕ) (row r : KeptRow) → is_for caller key row ≡ true → is_for caller key r ≡ true → kept_cmp row r ≡ Equal
 alike_tied caller key row r p q =
-    let ps = both (bytes_eq row.caller caller) (bytes_eq row.key key) p in
-    let qs = both (bytes_eq r.caller caller) (bytes_eq r.key key) q in
+    let ps = and_parts (bytes_eq row.caller caller) (bytes_eq row.key key) p in
+    let qs = and_parts (bytes_eq r.caller caller) (bytes_eq r.key key) q in
     let callers : row.caller ≡ r.caller = names_equal row.caller caller ps.0 ∙ sym (names_equal r.caller caller qs.0) in
     let keys : row.key ≡ r.key = names_equal row.key key ps.1 ∙ sym (names_equal r.key key qs.1) in
     subst (λ c. ordering_then (text_cmp row.caller c) (text_cmp row.key r.key) ≡ Equal) callers
@@ -172,7 +169,7 @@ kept_stays_changed F d r caller key row changed is = kept_changed F d caller key
   where
     other : (k : List ℕ) → d.key ≡ Some k → (b : Bool) → is_for caller key (kept_row d k (change F d).reply) ≡ b → cond b (Some (kept_row d k (change F d).reply)) (kept_of F caller key) ≡ Some row
     other k keyed true mine =
-        let parts = both (bytes_eq d.caller caller) (bytes_eq k key) mine in
+        let parts = and_parts (bytes_eq d.caller caller) (bytes_eq k key) mine in
         let callers = names_equal d.caller caller parts.0 in
         let keys = names_equal k key parts.1 in
         let kept : kept_of F d.caller k ≡ Some row = subst (λ c. kept_of F c k ≡ Some row) (sym callers) (subst (λ x. kept_of F caller x ≡ Some row) (sym keys) is) in

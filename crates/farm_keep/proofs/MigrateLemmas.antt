@@ -110,16 +110,13 @@ module _ {A B : Type 0} (r : Result A StoreFault) (s : Result B KeepFault) (faul
 
 -- ---- the version that a store's `meta` has
 
-some_err : {A : Type 0} (s : Result A KeepFault) (f : KeepFault) → s ≡ Err f → result_err s ≡ Some f
-some_err s f is = ap result_err is
-
 was_err : {A : Type 0} (s : Result A KeepFault) (f : KeepFault) → result_err s ≡ Some f → s ≡ Err f
 was_err (Ok a) f is = absurd (let e = is in cc)
 was_err (Err e) f is = (let same : e ≡ f = (let h = is in cc) in ap Err same)
 
 either_err : {A : Type 0} (s : Result A KeepFault) (f g : KeepFault) → (s ≡ Err f) ⊎ (s ≡ Err g) → (result_err s ≡ Some f) ⊎ (result_err s ≡ Some g)
-either_err s f g (inl is) = inl (some_err s f is)
-either_err s f g (inr is) = inr (some_err s g is)
+either_err s f g (inl is) = inl (ap result_err is)
+either_err s f g (inr is) = inr (ap result_err is)
 
 -- it was refused by its version, or failed, and so it is reported
 pub looks_so : {A B : Type 0} (r : Result A StoreFault) (s : Result B KeepFault) (fault : StoreFault) → r ≡ Err fault → IsErrAnd s (λ f. f ≡ fault_of_store fault)

@@ -2,7 +2,7 @@
 ghost use Rattle.std.specs.Prelude.{◌≡◌};
 ghost use Rattle.farm_keep.specs.Faults.{keep_fault_code};
 
-use farm_core::{BadRows, StepFault};
+use farm_core::BadRows;
 use farm_store::StoreFault;
 use farm_types::{BAD_STORE, CLOSED, NEW_SCHEMA, NO_MEMORY, OLD_SCHEMA, Refusal, STORE};
 use thiserror::Error;
@@ -43,17 +43,6 @@ impl KeepFault {
             KeepFault::OldSchema => OLD_SCHEMA,
             KeepFault::NewSchema => NEW_SCHEMA,
         }
-    }
-}
-
-impl From<StepFault> for KeepFault {
-    ghost use Rattle.std.specs.Prelude.{◌≡◌};
-    ghost use Rattle.farm_keep.specs.declared.fault.KeepFault.TheVariants.{NoMemory};
-
-    ghost from_gives = { λ _ fault. fault ≡ NoMemory };
-
-    fn from(_: StepFault) -> KeepFault {
-        KeepFault::NoMemory
     }
 }
 

@@ -69,7 +69,7 @@ impl<S: Alter + Drop> Keeper<S> {
     {
         match opening::make(alloc, conn) {
             Ok(keeper) => Ok(keeper),
-            Err(unkept) => Err(unkept.let_go()),
+            Err(_) => Err(KeepFault::Store),
         }
     }
 
@@ -186,15 +186,10 @@ fn step_and_put<S: Alter>(
         (rows_of (step farm.old.farm call.entry.now)) }
     ensures fault { IfErr result IsOwnFault }
 {
-    let answer = match farm.step(call) {
-        Ok(answer) => answer,
-        Err(_) => return Err(KeepFault::NoMemory),
-    };
+    let answer = farm.step(call).map_err(|_| KeepFault::NoMemory)?;
     let Answer::Did(_, changes) = &answer else {
         return Ok(answer);
     };
-    match put(alloc, conn, changes) {
-        Ok(()) => Ok(answer),
-        Err(fault) => Err(KeepFault::from(fault)),
-    }
+    put(alloc, conn, changes)?;
+    Ok(answer)
 }

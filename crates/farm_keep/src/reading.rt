@@ -31,10 +31,6 @@ pub fn found<S: Alter>(alloc: Global, conn: &mut Connection<S>) -> Result<Farm, 
         → Finds result (state S.Store conn.old) }
     ensures fault { IfErr result IsFindFault }
 {
-    let rows = match load(alloc, conn) {
-        Ok(rows) => rows,
-        Err(fault) => return Err(KeepFault::from(fault)),
-    };
-    let farm = Farm::from_rows(rows)?;
-    Ok(farm)
+    let rows = load(alloc, conn)?;
+    Ok(Farm::from_rows(rows)?)
 }

@@ -43,7 +43,10 @@ impl<S: Alter + Drop> Unkept<S> {
 }
 
 /// A keeper of the empty farm, in a store without tables.
-pub(super) fn make<S: Alter>(alloc: Global, mut conn: Connection<S>) -> Result<Keeper<S>, Unkept<S>>
+pub(super) fn make<S: Alter>(
+    alloc: Global,
+    mut conn: Connection<S>,
+) -> Result<Keeper<S>, Connection<S>>
     requires { conn.in_transaction ≡ false }
     ensures opened { IfOk result (λ k. (k.is_open ≡ true) × (k.farm.farm ≡ empty_farm)) }
     ensures keeps { IfOk result (λ k. (state S.Store conn).now.schema ≡ no_schema
@@ -53,17 +56,16 @@ pub(super) fn make<S: Alter>(alloc: Global, mut conn: Connection<S>) -> Result<K
     ensures bare { OnOk result ((state S.Store conn).now.schema ≡ no_schema) }
     ensures clean { IfOk result (λ k. doubt (state S.Store conn).is_clean ≤ doubt
         (state S.Store k.conn).is_clean) }
-    ensures fault { IfErr result (λ u. u.fault ≡ KeepFault.Store) }
 
     // Where there is none, the store stands for its tables as before, and a stop leaves no more
     // than before, or the tables of the empty farm.
-    ensures autocommit { IfErr result (λ u. u.conn.in_transaction ≡ false) }
-    ensures doubted { IfErr result (λ u. doubt (state S.Store conn).is_clean ≤ doubt
-        (state S.Store u.conn).is_clean) }
-    ensures stands { IfErr result (λ u. HasCleanDisk (state S.Store u.conn) → (T : TableRows)
-        → Stands (state S.Store conn) T → Stands (state S.Store u.conn) T) }
-    ensures left { IfErr result (λ u. HasCleanDisk (state S.Store u.conn) → (db : Trees)
-        → (state S.Store u.conn).may_leave db
+    ensures autocommit { IfErr result (λ c. c.in_transaction ≡ false) }
+    ensures doubted { IfErr result (λ c. doubt (state S.Store conn).is_clean ≤ doubt
+        (state S.Store c).is_clean) }
+    ensures stands { IfErr result (λ c. HasCleanDisk (state S.Store c) → (T : TableRows)
+        → Stands (state S.Store conn) T → Stands (state S.Store c) T) }
+    ensures left { IfErr result (λ c. HasCleanDisk (state S.Store c) → (db : Trees)
+        → (state S.Store c).may_leave db
         → (state S.Store conn).may_leave db ⊎ IsMadeIn (state S.Store conn) db) }
 {
     match create(&mut conn) {
@@ -73,10 +75,7 @@ pub(super) fn make<S: Alter>(alloc: Global, mut conn: Connection<S>) -> Result<K
             alloc,
             is_open: true,
         }),
-        Err(fault) => Err(Unkept {
-            conn,
-            fault: KeepFault::from(fault),
-        }),
+        Err(_) => Err(conn),
     }
 }
 
