@@ -1,16 +1,20 @@
-use Rattle.farm_wire.proofs.PathLaws.{board_tags_route, board_health_route, job_route, job_cancel_route, job_start_route, job_finish_route, reservation_acquire_route, reservation_release_route, reservation_refresh_route, reservation_cancel_route}
+use Rattle.std.proofs.Common.{codes, refl}
+use Rattle.matchit.specs.Route.{scan}
+use Rattle.farm_wire.specs.Routes.{rows}
+use Rattle.farm_wire.proofs.PathLaws.{between_route, board_fork, job_fork, job_route, reservation_fork}
 use Rattle.farm_wire.proofs.laws.paths_with_a_parameter.Goals as goal
 
 pub returns : goal.returns
+unfolding rows scan
 returns c = record {
-  tags = board_tags_route;
-  health = board_health_route;
+  tags = λ b s small none. between_route (codes "/boards/") (codes "tags") _ b s none (board_fork b s small) refl;
+  health = λ b s small none. between_route (codes "/boards/") (codes "health") _ b s none (board_fork b s small) refl;
   job = job_route;
-  cancel = job_cancel_route;
-  start = job_start_route;
-  finish = job_finish_route;
-  acquire = reservation_acquire_route;
-  release = reservation_release_route;
-  refresh = reservation_refresh_route;
-  cancel_reservation = reservation_cancel_route;
+  cancel = λ b s small none. between_route (codes "/jobs/") (codes "cancel") _ b s none (job_fork b s small) refl;
+  start = λ b s small none. between_route (codes "/jobs/") (codes "start") _ b s none (job_fork b s small) refl;
+  finish = λ b s small none. between_route (codes "/jobs/") (codes "finish") _ b s none (job_fork b s small) refl;
+  acquire = λ b s small none. between_route (codes "/reservations/") (codes "acquire") _ b s none (reservation_fork b s small) refl;
+  release = λ b s small none. between_route (codes "/reservations/") (codes "release") _ b s none (reservation_fork b s small) refl;
+  refresh = λ b s small none. between_route (codes "/reservations/") (codes "refresh") _ b s none (reservation_fork b s small) refl;
+  cancel_reservation = λ b s small none. between_route (codes "/reservations/") (codes "cancel") _ b s none (reservation_fork b s small) refl;
 }
