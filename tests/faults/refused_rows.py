@@ -40,7 +40,7 @@ def asked_in(file, name):
     for line in open(f"{DATA}/{file}", encoding="utf-8").read().split("\n"):
         if line.startswith("== "):
             is_found = line == f"== {name}"
-        elif not is_found or not line or line.startswith(("#", "count", "=")):
+        elif not is_found or not line or line.startswith(("#", "count", "=", "<= ")):
             continue
         elif line.startswith("after "):
             asks += asked_in("setups", line[6:])

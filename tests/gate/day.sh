@@ -6,7 +6,7 @@ cd "$(dirname "$0")/../../crates/farm_play"
 said=$(mktemp)
 trap 'rm "$said"' EXIT
 echo "The desk is built without its proofs, so nothing is proved by this; its day is shown in a few minutes."
-rt try --steps 1 --seconds 120 -- show data/day 2> "$said" || {
+rt try --steps 1 --seconds 120 -- show data/rows data/day 2> "$said" || {
     cat "$said"
     exit 1
 }

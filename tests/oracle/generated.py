@@ -7,7 +7,8 @@ to be answered, and which boards, jobs, reservations, queue and status then stan
 from the text of docs/MACHINE.md alone: at each pass all claims are sorted anew, the group that
 collected is taken first, and for each every list of free boards is tried in order of names. The
 transcripts are played by the player that `crates/farm_play` built; each list has to be as computed,
-byte by byte.
+byte by byte. Rows are spelled in short, with all that is computed here; what else a row has is in the file
+of the kinds of rows (crates/farm_play/data/rows).
 """
 import itertools
 import json
@@ -18,6 +19,7 @@ import sys
 import tempfile
 
 LISTS, COMMANDS = 200, 60
+ROWS = os.path.join(os.path.dirname(os.path.realpath(__file__)), "../../crates/farm_play/data/rows")
 GOOD, UNKNOWN, BAD, MAINTENANCE = "Good", "Unknown", "Bad", "Maintenance"
 WAITS = ("Submitted", "Scheduling")
 
@@ -218,35 +220,27 @@ class Lab:
     # ---- what is shown
 
     def shown(self):
-        boards = [
-            {key: self.boards[name][key] for key in
-             ("health", "holder", "jobs_since", "last_check", "name", "state", "tags", "type")}
-            for name in sorted(self.boards)
-        ]
+        boards = ",".join(in_short("board", self.boards[name]) for name in sorted(self.boards))
         queue = [
             {"boards": len(wants), "kind": kind, "number": number, "owner": owner, "priority": -priority}
             for priority, number, kind, owner, wants in self.claims()
         ]
-        leases = [
-            {key: dict(self.leases[n], number=n)[key] for key in
-             ("board", "deadline", "number", "owner", "priority", "state", "tags")}
-            for n in sorted(self.leases)
-        ]
+        leases = ",".join(in_short("reservation", dict(self.leases[n], number=n)) for n in sorted(self.leases))
         status = {
             "boards": len(self.boards), "clock": self.clock, "collector": self.collector, "count": self.count,
             "jobs": len(self.jobs), "next": self.next, "reservations": len(self.leases), "types": len(self.types),
         }
         jobs = [("/jobs/%d" % number, self.job_shown(job)) for number, job in sorted(self.jobs.items())
                 if job["state"] != "Finished"]
-        return [("/boards", {"boards": boards}), ("/queue", {"queue": queue}),
-                ("/reservations", {"reservations": leases}), ("/status", status)] + jobs
+        return [("/boards", '{"boards":[%s]}' % boards), ("/queue", spelled({"queue": queue})),
+                ("/reservations", '{"reservations":[%s]}' % leases), ("/status", spelled(status))] + jobs
 
     @staticmethod
     def job_shown(job):
         kind, tags = job["want"]
         shown = {key: job[key] for key in ("board", "group", "number", "owner", "priority", "role", "state", "text")}
         shown.update(kind="check" if job["checking"] else "ordinary", result="", tags=tags, type=kind)
-        return shown
+        return in_short("job", shown)
 
 
 class List:
@@ -266,7 +260,7 @@ class List:
 
     def look(self):
         for path, view in self.lab.shown():
-            self.lines += ["> - GET " + path, "< 200 " + spelled(view)]
+            self.lines += ["> - GET " + path, "<= 200 " + view]
 
     def at(self, seconds):
         self.now += seconds
@@ -418,6 +412,12 @@ def spelled(value):
     return json.dumps(value, sort_keys=True, separators=(",", ":"))
 
 
+def in_short(kind, row):
+    """A row as transcripts spell it in short, each value without its quotes or brackets."""
+    values = [(key, value if isinstance(value, int) else spelled(value)[1:-1]) for key, value in row.items()]
+    return "(%s; %s)" % (kind, "; ".join("%s=%s" % it for it in values))
+
+
 def main():
     player = os.path.abspath(sys.argv[1])
     chance = random.Random(int(sys.argv[2]) if len(sys.argv) > 2 else 22)
@@ -429,7 +429,7 @@ def main():
                 lines += List(chance, name).made() + [""]
             with open(os.path.join(folder, "lists_%02d" % (at // 10)), "w") as file:
                 file.write("\n".join(lines) + "\n")
-        said = subprocess.run([player] + sorted(os.listdir(folder)), cwd=folder, capture_output=True, text=True)
+        said = subprocess.run([player, ROWS] + sorted(os.listdir(folder)), cwd=folder, capture_output=True, text=True)
         told = said.stdout.split("\n")
         wrong = [line for line in told if line and not line.endswith(": ok")]
         if wrong or [line[:-4] for line in told if line] != names:

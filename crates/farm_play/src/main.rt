@@ -9,6 +9,7 @@
 mod desk;
 mod player;
 mod reporter;
+mod rows;
 mod script;
 mod stops;
 mod store;

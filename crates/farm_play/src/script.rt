@@ -1,4 +1,5 @@
 //! Transcripts: their lines read into steps.
+use crate::rows::Kinds;
 use crate::text::{
     answer, first_word, number_of, push_escaped, push_line, push_times, status_of, unread,
 };
@@ -111,6 +112,7 @@ pub struct Reading {
     line: u64,
     now: u64,
     fields: String,
+    rows: Kinds,
     pub done: Vec<Transcript>,
 }
 
@@ -121,6 +123,7 @@ impl Reading {
             line: 0,
             now: 0,
             fields: String::new(alloc),
+            rows: Kinds::new(alloc),
             done: Vec::new(alloc),
         }
     }
@@ -229,6 +232,12 @@ impl Reading {
         Ok(())
     }
 
+    /// An answer with short rows: STATUS BODY.
+    fn want_rows(&mut self, text: &str) -> io::Result<()> {
+        let whole = self.rows.written_out(text)?;
+        self.want_answer(whole.as_str())
+    }
+
     fn want_field(&mut self, text: &str) -> io::Result<()> {
         self.fields.push_str(text)?;
         self.fields.push_str("\r\n")?;
@@ -247,6 +256,7 @@ impl Reading {
             ">*" => self.times(text)?,
             "|" => push_line(&mut self.step()?.body, text)?,
             "<" => self.want_answer(text)?,
+            "<=" => self.want_rows(text)?,
             "<+" => self.want_field(text)?,
             "<<" => push_escaped(self.wanted()?, text)?,
             "=" => push_line(self.wanted()?, text)?,
@@ -265,6 +275,8 @@ impl Reading {
             "after" => self.go_after(text)?,
             "at" => self.now = number_of(text)?,
             "or" => self.want_other()?,
+            "row" => self.rows.begin(text)?,
+            "member" => self.rows.member(text)?,
             _ => self.mark(word, text)?,
         }
         Ok(())
