@@ -5,6 +5,7 @@
 set -eu
 farm=$(realpath "$1")
 examples=$(cd "$(dirname "$0")/../../examples" && pwd)
+fields=$(realpath "$(dirname "$0")/../shared/fields.py")
 folder=$(mktemp -d)
 trap 'rm -r "$folder"' EXIT
 cd "$folder"
@@ -34,19 +35,22 @@ same() {
 prints ready init --db lab.db
 prints 'accepted 15, kept 0' import --db lab.db --at 7 "$examples/lab.toml"
 prints 'accepted 0, kept 15' import --db lab.db --at 8 "$examples/lab.toml"
-printf '%s' '{"types":[{"check":"hours","every":24,"name":"beaglebone-black"},{"check":"none","every":0,"name":"qemu-aarch64"},{"check":"jobs","every":20,"name":"rpi4b"}]}' > wanted
-ask GET /types nothing | same "GET /types"
+
+# Demands these rows, on the input, of a view: PATH FIELD..
+shows() {
+    path=$1
+    shift
+    cat > wanted
+    ask GET "$path" nothing | python3 "$fields" "$@" | same "GET $path"
+}
+shows /types name check every << 'END'
+beaglebone-black hours 24
+qemu-aarch64 none 0
+rpi4b jobs 20
+END
 
 # The boards in the order of their names, each with its tags in theirs.
-{
-    printf '{"boards":['
-    comma=
-    while read -r name kind tags; do
-        printf '%s{"health":"Maintenance","holder":"none","jobs_since":0,"last_check":0,"name":"%s","state":"Idle","tags":[' "$comma" "$name"
-        printf '"%s"' "$tags" | sed 's/ /","/g'
-        printf '],"type":"%s"}' "$kind"
-        comma=,
-    done << 'END'
+shows /boards name type tags << 'END'
 bbb-01 beaglebone-black outlet=1 power=pdu1 rack=1 serial switch=sw1
 bbb-02 beaglebone-black outlet=2 power=pdu1 rack=1 serial switch=sw1
 bbb-03 beaglebone-black hdmi outlet=3 power=pdu1 rack=1 serial switch=sw1
@@ -60,28 +64,27 @@ rpi4b-02 rpi4b gigabit hdmi outlet=2 power=pdu2 rack=2 sdmux serial switch=sw1
 rpi4b-03 rpi4b gigabit outlet=3 power=pdu2 rack=2 serial switch=sw2 wifi
 rpi4b-04 rpi4b camera=imx219 gigabit outlet=4 power=pdu2 rack=2 serial switch=sw2 wifi
 END
-    printf ']}'
-} > wanted
-ask GET /boards nothing | same "GET /boards"
 
-# Demands what the view of a job shows: NUMBER GROUP PRIORITY ROLE TAGS TYPE, and the file that is its text.
+# Each is new.
+new='Maintenance Idle none 0 0'
+for _ in 1 2 3 4 5 6 7 8 9 10 11 12; do echo "$new"; done | shows /boards health state holder jobs_since last_check
+
+# Demands what the view of a job shows: NUMBER, the file that is its text, GROUP PRIORITY ROLE TYPE TAGS.
 job_is() {
-    {
-        printf '{"board":"","group":%s,"kind":"ordinary","number":%s,"owner":"ann","priority":%s,' "$2" "$1" "$3"
-        printf '"result":"","role":"%s","state":"Submitted","tags":[%s],"text":"' "$4" "$5"
-        sed 's/\\/\\\\/g; s/"/\\"/g; s/$/\\n/' "$7" | tr -d '\n'
-        printf '","type":"%s"}' "$6"
-    } > wanted
-    ask GET "/jobs/$1" nothing | same "GET /jobs/$1"
+    number=$1 text=$2
+    shift 2
+    echo "$1 ann $2 $3 $4 $5" | shows "/jobs/$number" group owner priority role type tags
+    echo "$number ordinary Submitted  " | shows "/jobs/$number" number kind state result board
+    { cat "$text"; echo; } | shows "/jobs/$number" text
 }
 printf '{"number":1}' > wanted
 ask POST /jobs "$examples/boot.toml" | same boot.toml
 printf '{"number":2}' > wanted
 ask POST /jobs "$examples/multinode.toml" | same multinode.toml
-job_is 1 1 50 '' '"power=pdu1","serial"' beaglebone-black "$examples/boot.toml"
-job_is 2 2 70 client '"switch=sw1"' beaglebone-black "$examples/multinode.toml"
-job_is 3 2 70 client '"switch=sw1"' beaglebone-black nothing
-job_is 4 2 70 server '"gigabit","switch=sw1"' rpi4b nothing
+job_is 1 "$examples/boot.toml" 1 50 '' beaglebone-black 'power=pdu1 serial'
+job_is 2 "$examples/multinode.toml" 2 70 client beaglebone-black switch=sw1
+job_is 3 nothing 2 70 client beaglebone-black switch=sw1
+job_is 4 nothing 2 70 server rpi4b 'gigabit switch=sw1'
 printf '{"code":20,"text":"no such job"}' > wanted
 ask GET /jobs/5 nothing | same "GET /jobs/5"
 echo "examples: the lab and both job files are read as they are written"

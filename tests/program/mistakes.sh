@@ -214,7 +214,7 @@ assert sqlite3.sqlite_version_info >= (3, 37)' 2> /dev/null; then
     what='a farm that was changed by hand, and has no log'
     cp lab.db changed.db
     cp lab.db-wal changed.db-wal
-    make_database changed.db "UPDATE meta SET value = 3 WHERE name = 'schema'"
+    make_database changed.db "UPDATE meta SET value = 9 WHERE name = 'schema'"
     [ ! -e changed.db-wal ] || fail "$what: its log is there"
     refuses "$bad_store" changed.db import once report serve
     refuses "$store_fault" changed.db init

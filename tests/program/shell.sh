@@ -15,14 +15,18 @@ cd "$folder"
 printf 'POST /reservations HTTP/1.1\r\nx-user: ann\r\nx-key: r1\r\ncontent-length: 17\r\n\r\n{"tags":["hdmi"]}' |
     "$farm" once --db farm.db --at 1700000300 > answer
 
+# The tables have the columns of the statements in the transcript of the tables.
+sed -n 's/^sql \(CREATE TABLE .*) STRICT\)$/\1;/p' "$tests/../crates/farm_play/data/tables" | sed 6q > made
+[ "$(wc -l < made)" = 6 ] || { echo "SQLite's shell: the transcript of the tables has others"; exit 1; }
+cat > columns << 'END'
+select t.name, c.* from sqlite_schema t, pragma_table_info(t.name) c where t.type = 'table' order by t.name, c.cid;
+END
+{ cat made columns; } | sqlite3 made.db > wanted
+sqlite3 farm.db < columns > found
+diff wanted found || { echo "SQLite's shell: it reads other columns"; exit 1; }
+
 cat > wanted << 'END'
 ok
-boards: name TEXT, kind TEXT, tags TEXT, health INTEGER, state INTEGER, holder INTEGER, held_by INTEGER, jobs_since INTEGER, last_check INTEGER
-jobs: number INTEGER, grp INTEGER, checking INTEGER, owner TEXT, priority INTEGER, kind TEXT, tags TEXT, role TEXT, state INTEGER, outcome INTEGER, board TEXT, body TEXT
-kept: caller TEXT, ckey TEXT, kind INTEGER, a INTEGER, b INTEGER, c INTEGER
-meta: name TEXT, value INTEGER
-reservations: number INTEGER, owner TEXT, priority INTEGER, tags TEXT, state INTEGER, deadline INTEGER, board TEXT
-types: name TEXT, unit INTEGER, every INTEGER
 beaglebone-black|1|24
 qemu-aarch64|0|0
 rpi4b|2|20
@@ -34,18 +38,15 @@ clock|1700000300
 collector|0
 count|16
 next|2
-schema|2
 END
 sqlite3 farm.db > found << 'END'
 pragma integrity_check;
-select t.name || ': ' || group_concat(c.name || ' ' || c.type, ', ')
-    from sqlite_schema t, pragma_table_info(t.name) c where t.type = 'table' group by t.name order by t.name;
-select * from types order by name;
-select * from boards where name = 'bbb-03';
-select * from reservations;
-select * from kept where caller = 'ann';
+select name, unit, every from types order by name;
+select name, kind, tags, health, state, holder, held_by, jobs_since, last_check from boards where name = 'bbb-03';
+select number, owner, priority, tags, state, deadline, board from reservations;
+select caller, ckey, kind, a, b, c from kept where caller = 'ann';
 select caller, count(*) from kept where caller = 'admin';
-select * from meta order by name;
+select name, value from meta where name <> 'schema' order by name;
 END
 diff wanted found || { echo "SQLite's shell: it reads something else"; exit 1; }
 echo "SQLite's shell: the file is whole, with its six tables and their rows"

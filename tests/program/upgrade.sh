@@ -93,7 +93,7 @@ shows_all() {
     cp lab.db* ../away
     sh "$first/show.sh" "$farm" ../away/lab.db > ../found
     rm ../away/lab.db*
-    diff ../shown ../found || fail "after $1 the farm shows something else"
+    python3 "$first/same.py" ../shown ../found || fail "after $1 the farm shows something else"
 }
 
 : > ../request
@@ -233,6 +233,7 @@ damaged() {
     refuses "$1" migrate --db lab.db
 }
 if command -v sqlite3 > /dev/null; then
+    edition=$(sqlite3 lab.db "SELECT value FROM meta WHERE name = 'schema'") # a new farm's
     damaged "$bad_store" "UPDATE jobs SET board = 'bbb-03' WHERE number = 14" # the running check's
     refuses "$old_schema" report --db lab.db boards
     damaged "$bad_store" "UPDATE reservations SET board = 'bbb-03' WHERE number = 16"
@@ -244,8 +245,8 @@ if command -v sqlite3 > /dev/null; then
     damaged "$bad_store" "UPDATE meta SET value = 20 WHERE name = 'next'"
     damaged "$bad_store" "INSERT INTO meta VALUES ('collector', 0)"
     damaged "$bad_store" "UPDATE meta SET value = 0 WHERE name = 'schema'"
-    damaged "$bad_store" "UPDATE meta SET value = 3 WHERE name = 'schema'"
-    damaged "$new_schema" "UPDATE meta SET value = 2 WHERE name = 'schema'"
+    damaged "$bad_store" "UPDATE meta SET value = 9 WHERE name = 'schema'"
+    damaged "$new_schema" "UPDATE meta SET value = $edition WHERE name = 'schema'"
     refuses "$bad_store" report --db lab.db boards
     damaged "$bad_store" 'CREATE TABLE more(it INTEGER)'
     damaged "$store_fault" 'DROP TABLE kept' # (a table that is missing is a fault of the store)
@@ -259,28 +260,23 @@ if command -v sqlite3 > /dev/null; then
 
     # ---- the rows, as the sqlite3 shell reads them
 
-    old_farm
-    sqlite3 lab.db > ../found << 'END'
-SELECT * FROM types ORDER BY name;
-SELECT * FROM boards ORDER BY name;
-SELECT number, grp, checking, owner, priority, kind, tags, role, state + (state > 0), outcome, board, body FROM jobs ORDER BY number;
-SELECT * FROM reservations ORDER BY number;
-SELECT * FROM kept ORDER BY caller, ckey;
-SELECT name, CASE name WHEN 'schema' THEN 2 ELSE value END FROM meta UNION SELECT 'collector', 0 ORDER BY name;
-SELECT sql FROM sqlite_schema ORDER BY name;
-END
-    new_farm
-    sqlite3 lab.db > ../output << 'END'
+    # (jobs' states and the collector are made this edition's before)
+    cat > ../rows << 'END'
 PRAGMA integrity_check;
-SELECT * FROM types ORDER BY name;
-SELECT * FROM boards ORDER BY name;
-SELECT * FROM jobs ORDER BY number;
-SELECT * FROM reservations ORDER BY number;
-SELECT * FROM kept ORDER BY caller, ckey;
-SELECT * FROM meta ORDER BY name;
-SELECT sql FROM sqlite_schema ORDER BY name;
+SELECT name, unit, every FROM types ORDER BY name;
+SELECT name, kind, tags, health, state, holder, held_by, jobs_since, last_check FROM boards ORDER BY name;
+SELECT number, grp, checking, owner, priority, kind, tags, role, state, outcome, board, body FROM jobs ORDER BY number;
+SELECT number, owner, priority, tags, state, deadline, board FROM reservations ORDER BY number;
+SELECT caller, ckey, kind, a, b, c FROM kept ORDER BY caller, ckey;
+SELECT name, value FROM meta WHERE name <> 'schema' ORDER BY name;
+SELECT type, name FROM sqlite_schema ORDER BY name;
 END
-    { echo ok; cat ../found; } | diff - ../output || fail "the rows are others"
+    old_farm
+    sqlite3 lab.db "UPDATE jobs SET state = state + 1 WHERE state > 0; INSERT INTO meta VALUES ('collector', 0)"
+    sqlite3 lab.db < ../rows > ../wanted
+    new_farm
+    sqlite3 lab.db < ../rows > ../output
+    diff ../wanted ../output || fail "the rows are others"
 else
     echo "upgrade: damaged files and rows weren't tried, since there is no sqlite3"
 fi
@@ -293,10 +289,10 @@ if command -v curl > /dev/null; then
     refuses "$store_fault" migrate --db lab.db
     sed -n '/^report/q; p' ../shown > ../views
     while read -r method path; do
-        read -r wanted
-        said=$(curl -sS -X "$method" "http://127.0.0.1:$port$path")
-        [ "$said" = "$wanted" ] || fail "$method $path of the served farm is answered '$said'"
-    done < ../views
+        read -r _
+        printf '%s %s\n%s\n' "$method" "$path" "$(curl -sS -X "$method" "http://127.0.0.1:$port$path")"
+    done < ../views > ../output
+    python3 "$first/same.py" ../views ../output || fail 'the served farm shows something else'
     said=$(curl -sS -H 'x-user: ann' -H 'x-key: nightly-1' --data-binary "@$tests/../examples/boot.toml" "http://127.0.0.1:$port/jobs")
     [ "$said" = '{"number":1}' ] || fail "a command that is sent again is answered '$said'"
     said=$(curl -sS -H 'x-user: dispatcher' -X POST "http://127.0.0.1:$port/jobs/14/start")
