@@ -85,10 +85,10 @@ fizgruk_rows{table="jobs"} 3
 fizgruk_rows{table="reservations"} 2
 # HELP fizgruk_rows_limit Rows that the farm can have.
 # TYPE fizgruk_rows_limit gauge
-fizgruk_rows_limit{table="types"} 64
-fizgruk_rows_limit{table="boards"} 256
-fizgruk_rows_limit{table="jobs"} 100000
-fizgruk_rows_limit{table="reservations"} 100000
+fizgruk_rows_limit{table="types"} MOST
+fizgruk_rows_limit{table="boards"} MOST
+fizgruk_rows_limit{table="jobs"} MOST
+fizgruk_rows_limit{table="reservations"} MOST
 """
 NO_PASSES = """\
 # HELP fizgruk_passes_total Passes that the dispatcher asked for. None are counted: no %s/passes.json.
@@ -110,6 +110,17 @@ fizgruk_jobs_ended_total{outcome="Incomplete"} 1
 fizgruk_jobs_ended_total{outcome="Infra"} 0
 fizgruk_jobs_ended_total{outcome="Canceled"} 0
 """
+
+
+def limits_in_machine():
+    """The limits of tables, as docs/MACHINE.md has them."""
+    rows = re.findall(r"^\| ([a-z; ]+) \| `most_.*` \| ([0-9,; ]+) \|", read(f"{TOP}/docs/MACHINE.md"), re.MULTILINE)
+    pairs = [pair for names, limits in rows for pair in zip(names.split("; "), limits.split("; "))]
+    return {name: limit.replace(",", "") for name, limit in pairs}
+
+
+for table, limit in limits_in_machine().items():
+    SMALL = SMALL.replace(f'{{table="{table}"}} MOST\n', f'{{table="{table}"}} {limit}\n')
 
 
 def replace(file, text):

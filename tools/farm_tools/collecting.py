@@ -6,14 +6,18 @@ import time
 from typing import Any, Dict, List, Optional
 
 from farm_tools import calls, folders, passes
+from farm_tools.lab_file import MOST_BOARDS, MOST_JOBS, MOST_RESERVATIONS, MOST_TYPES
 from farm_tools.prometheus import COUNTER, GAUGE, Family, one
 
 HEALTHS = ("Good", "Bad", "Unknown", "Maintenance", "Retired")
 STATES = ("Idle", "Reserved", "Running")
 KINDS = ("group", "reservation")
 OUTCOMES = ("Complete", "Incomplete", "Infra", "Canceled")
-# How many rows a farm takes (MACHINE.md, Limits), of the tables whose rows the desk counts.
-LIMITS = {"types": 64, "boards": 256, "jobs": 100_000, "reservations": 100_000}
+# How many rows a farm takes, of the tables whose rows the desk counts.
+LIMITS = {
+    "types": MOST_TYPES, "boards": MOST_BOARDS,
+    "jobs": MOST_JOBS, "reservations": MOST_RESERVATIONS,
+}
 
 
 class Collector:

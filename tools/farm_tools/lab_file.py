@@ -8,8 +8,10 @@ from typing import Callable, Dict, Iterable, List, NamedTuple, Optional, Tuple
 
 from farm_tools import parsers
 
+# The limits (docs/MACHINE.md), of all tools.
 NAME, TAG_KEY, TAG_VALUE = 48, 32, 64
 MOST_TAGS, MOST_TYPES, MOST_BOARDS, MOST_OF_A_TYPE = 16, 64, 256, 64
+MOST_JOBS, MOST_RESERVATIONS = 100_000, 100_000
 HIGHEST_PRIORITY, MOST_WANTS, LONGEST_EVERY = 100, 4, 10000
 LONGEST_JOB_FILE, LONGEST_LAB_FILE = 65536, 1048576
 CARRIED, NOT_CARRIED, FAULT = 0, 1, 4
