@@ -131,8 +131,9 @@ impl ResTable {
         Ok(())
     }
 
-    /// Changes one reservation, and notes the lease that it has then, if it may end. With R reservations and L leases it costs O(log R + log L). Where memory runs out the
-    /// table is as it was.
+    /// Changes one reservation, and notes the lease that it has then, if it may end. With R
+    /// reservations and L leases it costs O(log R + log L). Where memory runs out the table is as it
+    /// was.
     pub fn edit(&mut self, edit: ResEdit<'_>) -> Result<(), AllocError>
         requires { IfSome edit.deadline IsSmall }
         ensures rows { OnOk result (self.new.rows ≡ change_where (λ r. r.number == edit.entry.number)
