@@ -68,11 +68,6 @@ module _ {R : Type 0} (test : R → Bool) where
       by false rest = rest
 
   -- rows that fail in front of some rows and behind them are not missed
-  pub filter_near : (n start : ℕ) (rows : List R) → start ≤ length rows → ((k : ℕ) (d : R) → k < start → test (get_or rows k d) ≡ false) → ((k : ℕ) (d : R) → start + n ≤ k → k < length rows → test (get_or rows k d) ≡ false) → filter test (take n (drop start rows)) ≡ filter test rows
-  filter_near n start rows low before behind =
-      filter_take n (drop start rows) (λ k d more lower. rw (get_or-drop start rows k d) (behind (start + k) d (omega arith) (omega (arith, length-drop start rows))))
-      ∙ filter_drop start rows before low
-
   pub filter_between : (start end : ℕ) (rows : List R) → start ≤ end → end ≤ length rows → ((k : ℕ) (d : R) → k < start → test (get_or rows k d) ≡ false) → ((k : ℕ) (d : R) → end ≤ k → k < length rows → test (get_or rows k d) ≡ false) → filter test (take (end - start) (drop start rows)) ≡ filter test rows
   filter_between start end rows le high before behind =
       filter_take (end - start) (drop start rows) (λ k d more low. rw (get_or-drop start rows k d) (behind (start + k) d (omega arith) (omega (arith, length-drop start rows))))

@@ -1,6 +1,5 @@
 pub mod Small
 pub mod Replies
-pub mod Marks
 pub mod Sound
 pub mod Windows
 pub mod Steps
@@ -20,7 +19,6 @@ pub mod Assigned
 pub mod Leasing
 pub mod Skipping
 pub mod Next
-pub mod Lookahead
 pub mod Trying
 pub mod OneTried
 pub mod Commanded

@@ -1,5 +1,5 @@
 -- The next claim that is tried: of the open queues and, while nobody collects, of those of two boards or more.
-use Rattle.std.proofs.Common.{◌≡◌, ◌∙◌, ◌==◌, ◌||◌, ◌&&◌, ◌≤◌, ℕ, List, [], ◌∷◌, map, filter, length, nat_le, Bool, true, false, cond, Option, Some, None, inl, inr, refl, sym, ap, subst, arith}
+use Rattle.std.proofs.Common.{◌≡◌, ◌∙◌, ◌==◌, ◌||◌, ◌&&◌, ◌≤◌, ◌⊎◌, ℕ, List, [], ◌∷◌, map, filter, length, nat_le, Bool, true, false, cond, Option, Some, None, inl, inr, refl, sym, ap, subst, arith}
 use mathlib.Core.Bool.{true≢false}
 use Rattle.std.specs.Prelude.{if◌then◌else◌}
 use Rattle.std.specs.List.{find}
@@ -23,14 +23,11 @@ use Rattle.farm_pick.specs.Queued.{QueueLists, Queued, idle_boards, is_open, que
 use Rattle.farm_pick.specs.Merged.{lent_several}
 use Rattle.farm_pick.specs.Walked.{claims_after}
 use Rattle.farm_pick.proofs.Closed.{closed_is_unmet}
-use Rattle.farm_pick.proofs.Later.{after_itself, less_from, not_back}
+use Rattle.farm_pick.proofs.Later.{after_itself, among_later, less_from, not_back}
 use Rattle.farm_pick.proofs.Merging.{found_among, some_want}
 use Rattle.farm_pick.proofs.Ordered.{tied_same}
-use Rattle.farm_core.specs.Lookahead.{ComesNext, IsNextCandidate, claim_of, upcoming_of, earlier_upcoming}
-use Rattle.farm_core.specs.Serving.{IsSkipped, IsMissed, IsNext}
-use Rattle.farm_core.specs.declared.pass.lookahead.Upcoming.{Upcoming}
-use Rattle.farm_core.proofs.Passing.{asks_claim}
-use Rattle.farm_core.proofs.Skipping.{wants_asked}
+use Rattle.farm_core.specs.Serving.{IsSkipped, IsMissed, IsNext, IsNextBut, IsNextCandidate, wants_of}
+use Rattle.farm_core.proofs.Skipping.{among_filter, wants_among}
 
 -- ---- claims as they are shown
 
@@ -107,202 +104,182 @@ filter_sorted test (x ∷ xs) sorted = by (test x) (filter_sorted test xs sorted
 few_boards : (n : ℕ) → nat_le 2 n ≡ false → n ≤ 1
 few_boards n is = grind (arith, nat_tests, is)
 
-module _ (F : Farm) (sound : IsSound F) (place : Option (ℕ × ℕ)) where
-  abbrev pub is_behind : Claimed → Bool
+-- what goes before the first of two claims goes before both
+before_both : (F : Farm) (a b : Claimed) → IsAmong a (queue F) → IsAmong b (queue F) → (e : Claimed)
+    → (is_lt (claim_cmp b a) ≡ true → is_lt (claim_cmp e b) ≡ true → is_lt (claim_cmp e a) ≡ true)
+    × (is_lt (claim_cmp b a) ≡ false → is_lt (claim_cmp e a) ≡ true → is_lt (claim_cmp e b) ≡ true)
+before_both F a b here there e = (
+  λ less more. ap is_lt (claim_total.trans e b a (less_from e b more) (less_from b a less)),
+  λ not_less less. by (claim_cmp b a) refl not_less less,
+)
+  where
+    by : (o : Ordering) → claim_cmp b a ≡ o → is_lt o ≡ false → is_lt (claim_cmp e a) ≡ true → is_lt (claim_cmp e b) ≡ true
+    by Less is not_less less = absurd (true≢false not_less)
+    by Equal is not_less less = ap (λ d. is_lt (claim_cmp e d)) (tied_same claim_cmp claim_total b a (queue F) (queue_sorted F) there here is) ∙ less
+    by Greater is not_less less =
+        ap is_lt (claim_total.trans e a b (less_from e a less) (claim_total.antisymm a b ∙ ap ordering_reverse is))
+
+module _ (F : Farm) (place : Option (ℕ × ℕ)) where
+  abbrev is_behind : Claimed → Bool
   is_behind d = is_later (last_spot place) (shown_claim d)
 
-  abbrev pub opens : Claimed → Bool
-  opens d = is_open (idle_boards F) (queue_kind d)
+  next_weaker : (P Q : Claimed → Type 0) → ((e : Claimed) → P e → Q e) → (o : Option Claim) → IsNextBut P F place o → IsNextBut Q F place o
+  next_weaker P Q so None next = λ e at behind. so e (next e at behind)
+  next_weaker P Q so (Some c) next = (next.0, next.1, next.2, next.3, λ e at behind less. so e (next.4 e at behind less))
 
-  -- before a claim, if one is given, and else everywhere
-  abbrev pub IsBefore : Claimed → Option Claim → Type 0
-  IsBefore e None = Unit {0}
-  IsBefore e (Some c) = is_lt (shown_cmp (shown_claim e) c) ≡ true
+  -- the first of two that are next, each but for some
+  next_of_both : (P Q : Claimed → Type 0) (a b : Option Claim) → IsNextBut P F place a → IsNextBut Q F place b → IsNextBut (λ e. P e × Q e) F place (earlier_of a b)
+  next_of_both P Q None None one two = λ e at behind. (one e at behind, two e at behind)
+  next_of_both P Q None (Some b) one two = (two.0, two.1, two.2, two.3, λ e at behind less. (one e at behind, two.4 e at behind less))
+  next_of_both P Q (Some a) None one two = (one.0, one.1, one.2, one.3, λ e at behind less. (one.4 e at behind less, two e at behind))
+  next_of_both P Q (Some a) (Some b) one two = choose (is_lt (shown_cmp b a)) refl
+    where
+      shown : (e : Claimed) → (c d : Claimed) → (is_lt (claim_cmp e c) ≡ true → is_lt (claim_cmp e d) ≡ true) → (k l : Claim) → shown_claim c ≡ k → shown_claim d ≡ l
+          → is_lt (shown_cmp (shown_claim e) k) ≡ true → is_lt (shown_cmp (shown_claim e) l) ≡ true
+      shown e c d so k l at there less =
+          ap (λ m. is_lt (shown_cmp (shown_claim e) m)) (sym there) ∙ so (ap (λ m. is_lt (shown_cmp (shown_claim e) m)) at ∙ less)
 
-  -- a claim, if one is given, stands in the queue behind the place
-  abbrev pub Stands : Option Claim → Type 0
-  Stands None = Unit {0}
-  Stands (Some c) = (d : Claimed) × IsAmong d (queue F) × (shown_claim d ≡ c) × (is_later (last_spot place) c ≡ true)
+      compared : (v : Bool) → is_lt (shown_cmp b a) ≡ v → is_lt (claim_cmp two.0 one.0) ≡ v
+      compared v is = (λ i. is_lt (shown_cmp (two.2 i) (one.2 i))) ∙ is
 
-  -- no claim behind the place and before this one passes the test, but such as have the property
-  pub record First (test : Claimed → Bool) (P : Claim → Type 0) (o : Option Claim) : Type 0 where
-    pub stands : Stands o
-    pub before : (e : Claimed) → IsAmong e (queue F) → is_behind e ≡ true → test e ≡ true → IsBefore e o → P (shown_claim e)
+      choose : (v : Bool) → is_lt (shown_cmp b a) ≡ v → IsNextBut (λ e. P e × Q e) F place (cond v (Some b) (Some a))
+      choose true is = (
+        two.0,
+        two.1,
+        two.2,
+        two.3,
+        λ e at behind less.
+            (one.4 e at behind (shown e two.0 one.0 ((before_both F one.0 two.0 one.1 two.1 e).0 (compared true is)) b a two.2 one.2 less), two.4 e at behind less),
+      )
+      choose false is = (
+        one.0,
+        one.1,
+        one.2,
+        one.3,
+        λ e at behind less.
+            (one.4 e at behind less, two.4 e at behind (shown e one.0 two.0 ((before_both F one.0 two.0 one.1 two.1 e).1 (compared false is)) a b one.2 two.2 less)),
+      )
 
-  pub first_several : (o : Option Claim)
+  -- the first claim of two boards or more
+  abbrev IsSmallClaim : Claimed → Type 0
+  IsSmallClaim d = nat_le 2 (length d.wants) ≡ false
+
+  first_several : (o : Option Claim)
       → o ≡ option_map (λ (x : Queued). x.claim) (find (λ x. is_later (last_spot place) x.claim && nat_le 2 x.claim.boards) (map queued_of (queue F)))
-      → First (λ d. nat_le 2 (length d.wants)) (λ c. ⊥) o
+      → IsNextBut IsSmallClaim F place o
   first_several o is = by o (is ∙ find_passing (λ x. is_later (last_spot place) x.claim && nat_le 2 x.claim.boards) (queue F))
     where
       test : Claimed → Bool
       test d = is_behind d && nat_le 2 (length d.wants)
 
-      fails : (e : Claimed) → is_behind e ≡ true → nat_le 2 (length e.wants) ≡ true → test e ≡ false → ⊥
-      fails e behind two out = true≢false (sym (λ i. behind i && two i) ∙ out)
+      fails : (e : Claimed) → is_behind e ≡ true → test e ≡ false → nat_le 2 (length e.wants) ≡ false
+      fails e behind out = ap (λ v. v && nat_le 2 (length e.wants)) (sym behind) ∙ out
 
-      by : (o : Option Claim) → o ≡ option_map shown_claim (find test (queue F)) → First (λ d. nat_le 2 (length d.wants)) (λ c. ⊥) o
-      by None is = record {
-        stands = tt;
-        before = λ e at behind two _. fails e behind two (found_nowhere test (queue F) (shown_none (find test (queue F)) is) e at);
-      }
+      by : (o : Option Claim) → o ≡ option_map shown_claim (find test (queue F)) → IsNextBut IsSmallClaim F place o
+      by None is = λ e at behind. fails e behind (found_nowhere test (queue F) (shown_none (find test (queue F)) is) e at)
       by (Some c) is =
-          let it = shown_some (find test (queue F)) c is in
-          record {
-            stands = (
-              it.0,
-              found_among test it.0 (queue F) it.1,
-              it.2,
-              ap (is_later (last_spot place)) (sym it.2) ∙ (both (is_behind it.0) (nat_le 2 (length it.0.wants)) (found_passes test it.0 (queue F) it.1)).0,
-            );
-            before = λ e at behind two less. fails e behind two
-                (found_first test it.0 (queue F) (queue_sorted F) it.1 e at (ap (λ k. is_lt (shown_cmp (shown_claim e) k)) it.2 ∙ less));
-          }
-
-  abbrev pub every : Claimed → Bool
-  every d = true
-
-  abbrev pub IsMissedThere : Claim → Type 0
-  IsMissedThere c = IsMissed F c.kind c.number
-
-  -- no free boards meet those that go before
-  missed : (o : Option Claim) → First every IsMissedThere o → (e : Claimed) → IsAmong e (queue F) → is_behind e ≡ true → IsBefore e o → IsMissed F (shown_claim e).kind e.number
-  missed o first e at behind less = first.before e at behind refl less
-
-  -- where it is closed no free boards meet a claim
-  pub closed_missed : (e : Claimed) → IsAmong e (queue F) → opens e ≡ false → IsMissed F (shown_claim e).kind e.number
-  closed_missed e at closed =
-      ap (least F.boards (is_free F.types)) (sym (wants_asked F e (asks_claim F e claim)))
-      ∙ closed_is_unmet F sound.steady.boards_sorted e (some_want F e claim) closed
-    where
-      claim : IsClaim F e
-      claim = among_has (IsClaim F) e (queue F) (queue_claims F sound.steady) at
+          let it = shown_some (find test (queue F)) c is in (
+            it.0,
+            found_among test it.0 (queue F) it.1,
+            it.2,
+            ap (is_later (last_spot place)) (sym it.2) ∙ (both (is_behind it.0) (nat_le 2 (length it.0.wants)) (found_passes test it.0 (queue F) it.1)).0,
+            λ e at behind less. fails e behind
+                (found_first test it.0 (queue F) (queue_sorted F) it.1 e at (ap (λ k. is_lt (shown_cmp (shown_claim e) k)) it.2 ∙ less)),
+          )
 
   -- where a group collects
-  pub next_alone : (F.collector ≡ 0 → ⊥) → (o : Option Claim) → First every IsMissedThere o → IsNext F place o
-  next_alone one None first = λ d at behind. (missed None first d at behind tt, λ none. absurd (one none))
-  next_alone one (Some c) first =
-      let it = first.stands in
-      (it.0, it.1, it.2, it.3, λ e at behind less. (missed (Some c) first e at behind less, λ none. absurd (one none)))
+  pub next_alone : (F.collector ≡ 0 → ⊥) → (o : Option Claim) → IsNextCandidate F place o → IsNext F place o
+  next_alone one = next_weaker (λ d. IsMissed F d.wants) (IsSkipped F) (λ e missed. (missed, λ none. absurd (one none)))
 
   -- and where nobody does
-  module _ (lent several : Option Claim) (first : First every IsMissedThere lent) (other : First (λ d. nat_le 2 (length d.wants)) (λ c. ⊥) several) where
-    idle : (e : Claimed) → IsAmong e (queue F) → is_behind e ≡ true → IsBefore e lent → IsBefore e several → IsSkipped F (shown_claim e)
-    idle e at behind less less' = (missed lent first e at behind less, λ _. few_boards (length e.wants) (by (nat_le 2 (length e.wants)) refl))
-      where
-        by : (v : Bool) → nat_le 2 (length e.wants) ≡ v → v ≡ false
-        by true is = absurd (other.before e at behind is less')
-        by false is = refl
+  pub next_both : (queues : QueueLists) → queues ≡ queue_lists F → (o p : Option Claim) → IsNextCandidate F place o
+      → p ≡ option_map (λ (x : Queued). x.claim) (find (λ x. is_later (last_spot place) x.claim && nat_le 2 x.claim.boards) queues.claims) → IsNext F place (earlier_of o p)
+  next_both queues fits o p candidate several =
+      next_weaker (λ e. IsMissed F e.wants × IsSmallClaim e) (IsSkipped F) (λ e two. (two.0, λ _. few_boards (length e.wants) two.1)) (earlier_of o p)
+      (next_of_both (λ d. IsMissed F d.wants) IsSmallClaim o p candidate
+      (first_several p (several ∙ ap (λ (l : QueueLists). option_map (λ (x : Queued). x.claim) (find (λ x. is_later (last_spot place) x.claim && nat_le 2 x.claim.boards) l.claims)) fits)))
 
-    -- what goes before the first of two goes before both
-    before_both : (a b : Claimed) → IsAmong a (queue F) → IsAmong b (queue F) → (e : Claimed)
-        → (is_lt (claim_cmp b a) ≡ true → is_lt (claim_cmp e b) ≡ true → is_lt (claim_cmp e a) ≡ true)
-        × (is_lt (claim_cmp b a) ≡ false → is_lt (claim_cmp e a) ≡ true → is_lt (claim_cmp e b) ≡ true)
-    before_both a b here there e = (
-      λ less more. ap is_lt (claim_total.trans e b a (less_from e b more) (less_from b a less)),
-      λ not_less less. by (claim_cmp b a) refl not_less less,
-    )
-      where
-        by : (o : Ordering) → claim_cmp b a ≡ o → is_lt o ≡ false → is_lt (claim_cmp e a) ≡ true → is_lt (claim_cmp e b) ≡ true
-        by Less is not_less less = absurd (true≢false not_less)
-        by Equal is not_less less = ap (λ d. is_lt (claim_cmp e d)) (tied_same claim_cmp claim_total b a (queue F) (queue_sorted F) there here is) ∙ less
-        by Greater is not_less less =
-            ap is_lt (claim_total.trans e a b (less_from e a less) (claim_total.antisymm a b ∙ ap ordering_reverse is))
+-- ---- the claims of the open queues, one after the other
 
-    pub next_of_both : IsNext F place (earlier_of lent several)
-    next_of_both = by lent several first.stands other.stands idle
-      where
-        Idle : Option Claim → Option Claim → Type 0
-        Idle o p = (e : Claimed) → IsAmong e (queue F) → is_behind e ≡ true → IsBefore e o → IsBefore e p → IsSkipped F (shown_claim e)
+-- of the claims behind a place these are left: no free boards meet the others
+pub record Left (F : Farm) (place : Option (ℕ × ℕ)) (left : List Claimed) (claims : List Claim) : Type 0 where
+  pub shown : map shown_claim left ≡ claims
+  pub sorted : IsStrictlySortedBy claim_cmp left
+  pub stand : (d : Claimed) → IsAmong d left → IsAmong d (queue F) × (is_later (last_spot place) (shown_claim d) ≡ true)
+  pub others : (e : Claimed) → IsAmong e (queue F) → is_later (last_spot place) (shown_claim e) ≡ true → IsMissed F e.wants ⊎ IsAmong e left
 
-        by : (o p : Option Claim) → Stands o → Stands p → Idle o p → IsNext F place (earlier_of o p)
-        by None None one two idle = λ d at behind. idle d at behind tt tt
-        by None (Some b) one two idle = (two.0, two.1, two.2, two.3, λ e at behind less. idle e at behind tt less)
-        by (Some a) None one two idle = (one.0, one.1, one.2, one.3, λ e at behind less. idle e at behind less tt)
-        by (Some a) (Some b) one two idle = choose (is_lt (shown_cmp b a)) refl
-          where
-            shown : (e : Claimed) → (c d : Claimed) → (is_lt (claim_cmp e c) ≡ true → is_lt (claim_cmp e d) ≡ true) → (k l : Claim) → shown_claim c ≡ k → shown_claim d ≡ l
-                → is_lt (shown_cmp (shown_claim e) k) ≡ true → is_lt (shown_cmp (shown_claim e) l) ≡ true
-            shown e c d so k l at there less =
-                ap (λ m. is_lt (shown_cmp (shown_claim e) m)) (sym there) ∙ so (ap (λ m. is_lt (shown_cmp (shown_claim e) m)) at ∙ less)
+module _ (F : Farm) (sound : IsSound F) (place : Option (ℕ × ℕ)) where
+  abbrev pub lends : Claimed → Bool
+  lends d = is_later (last_spot place) (shown_claim d) && is_open (idle_boards F) (queued_of d).kind
 
-            compared : (v : Bool) → is_lt (shown_cmp b a) ≡ v → is_lt (claim_cmp two.0 one.0) ≡ v
-            compared v is = (λ i. is_lt (shown_cmp (two.2 i) (one.2 i))) ∙ is
+  pub all_left : (queues : QueueLists) → queues ≡ queue_lists F → Left F place (filter lends (queue F)) (claims_after (is_open queues.boards) (last_spot place) queues.claims)
+  all_left queues fits = record {
+    shown = sym (ap (λ (l : QueueLists). claims_after (is_open l.boards) (last_spot place) l.claims) fits
+        ∙ map_passing (λ (x : Queued). is_later (last_spot place) x.claim && is_open (idle_boards F) x.kind) (queue F));
+    sorted = filter_sorted lends (queue F) (queue_sorted F);
+    stand = λ d at.
+        let two = among_filter lends d (queue F) at in
+        (two.0, (both (is_later (last_spot place) (shown_claim d)) (is_open (idle_boards F) (queued_of d).kind) two.1).0);
+    others = λ e at later. by e at later (is_open (idle_boards F) (queued_of e).kind) refl;
+  }
+    where
+      -- no free boards meet a claim of a closed queue
+      by : (e : Claimed) → IsAmong e (queue F) → is_later (last_spot place) (shown_claim e) ≡ true → (v : Bool) → is_open (idle_boards F) (queued_of e).kind ≡ v
+          → IsMissed F e.wants ⊎ IsAmong e (filter lends (queue F))
+      by e at later true opened = inr (among_later lends e (queue F) at (λ i. later i && opened i))
+      by e at later false closed =
+          inl (closed_is_unmet F sound.steady.boards_sorted e (some_want F e (among_has (IsClaim F) e (queue F) (queue_claims F sound.steady) at)) closed)
 
-            choose : (v : Bool) → is_lt (shown_cmp b a) ≡ v → IsNext F place (cond v (Some b) (Some a))
-            choose true is = (
-              two.0,
-              two.1,
-              two.2,
-              two.3,
-              λ e at behind less.
-                  idle e at behind (shown e two.0 one.0 ((before_both one.0 two.0 one.1 two.1 e).0 (compared true is)) b a two.2 one.2 less) less,
-            )
-            choose false is = (
-              one.0,
-              one.1,
-              one.2,
-              one.3,
-              λ e at behind less.
-                  idle e at behind less (shown e one.0 two.0 ((before_both one.0 two.0 one.1 two.1 e).1 (compared false is)) a b one.2 two.2 less),
-            )
-
--- ---- what the queues lend
-
--- what they lend after a place, all of it
-abbrev pub lent_after : QueueLists → Option (ℕ × ℕ) → List Claim
-lent_after queues place = claims_after (is_open queues.boards) (last_spot place) queues.claims
-
--- the claim that was reached
-lent_of : (F : Farm) (place : Option (ℕ × ℕ)) (o : Option Upcoming) → IsNextCandidate F place o → Option Claim
-lent_of F place None candidate = None
-lent_of F place (Some x) candidate = Some (shown_claim candidate.0.0)
-
-lent_is : (F : Farm) (place : Option (ℕ × ℕ)) (o : Option Upcoming) (candidate : IsNextCandidate F place o) → option_map upcoming_of (lent_of F place o candidate) ≡ o
-unfolding lent_of
-lent_is F place None candidate = refl
-lent_is F place (Some x) candidate = ap Some candidate.0.2
-
-lent_first : (F : Farm) (sound : IsSound F) (place : Option (ℕ × ℕ)) (o : Option Upcoming) (candidate : IsNextCandidate F place o)
-    → First F sound place (every F sound place) (IsMissedThere F sound place) (lent_of F place o candidate)
-unfolding lent_of
-lent_first F sound place None candidate = record { stands = tt; before = λ e at behind _ less. candidate e at behind }
-lent_first F sound place (Some x) candidate =
-    let is : upcoming_of (shown_claim candidate.0.0) ≡ x = candidate.0.2 in
+  -- the first of them is passed over
+  pub one_left : (left : List Claimed) (claim : Claim) (rest : List Claim) → Left F place left (claim ∷ rest) → IsMissed F (wants_of F claim.kind claim.number)
+      → (ds : List Claimed) × Left F place ds rest
+  unfolding IsStrictlySortedBy
+  one_left [] claim rest l missed = let none : ◌≡◌ {A = List Claim} [] (claim ∷ rest) = l.shown in cc
+  one_left (d ∷ ds) claim rest l missed = (
+    ds,
     record {
-      stands = (candidate.0.0, candidate.0.1, refl, ap (λ y. is_later (last_spot place) (claim_of [] y)) is ∙ candidate.1);
-      before = λ e at behind _ less. candidate.2 e at behind (sym (ap (λ y. is_lt (shown_cmp (shown_claim e) (claim_of [] y))) is) ∙ less);
-    }
+      shown = let is : shown_claim d ∷ map shown_claim ds ≡ claim ∷ rest = l.shown in cc;
+      sorted = l.sorted.1;
+      stand = λ e at. l.stand e (inr at);
+      others = λ e at later. by e (l.others e at later);
+    },
+  )
+    where
+      head : shown_claim d ≡ claim
+      head = let is : shown_claim d ∷ map shown_claim ds ≡ claim ∷ rest = l.shown in cc
 
--- the first of two, but for the owner
-earlier_same : (a b : Option Claim) → option_map upcoming_of (earlier_of a b) ≡ earlier_upcoming (option_map upcoming_of a) (option_map upcoming_of b)
-earlier_same None b = refl
-earlier_same (Some a) None = refl
-earlier_same (Some a) (Some b) = by (is_lt (shown_cmp b a))
-  where
-    by : (v : Bool) → option_map upcoming_of (cond v (Some b) (Some a)) ≡ cond v (Some (upcoming_of b)) (Some (upcoming_of a))
-    by true = refl
-    by false = refl
+      own : IsMissed F d.wants
+      own = subst (IsMissed F) (sym (wants_among F d sound (l.stand d (inl refl)).0 ∙ ap (λ (k : Claim). wants_of F k.kind k.number) head)) missed
 
-comes_next : (F : Farm) (place : Option (ℕ × ℕ)) (o : Option Claim) → IsNext F place o → ComesNext F place (option_map upcoming_of o)
-comes_next F place None next = next
-comes_next F place (Some c) next = (c.owner, next)
+      by : (e : Claimed) → IsMissed F e.wants ⊎ IsAmong e (d ∷ ds) → IsMissed F e.wants ⊎ IsAmong e ds
+      by e (inl out) = inl out
+      by e (inr (inl same)) = inl (subst (λ (c : Claimed). IsMissed F c.wants) (sym same) own)
+      by e (inr (inr there)) = inr there
 
--- the queues are those of the farm
-pub next_lent : (F : Farm) (sound : IsSound F) (place : Option (ℕ × ℕ)) (queues : QueueLists) → queues ≡ queue_lists F → (o : Option Upcoming) → IsNextCandidate F place o
-    → ComesNext F place (if F.collector == 0 then earlier_upcoming o (option_map upcoming_of (lent_several queues place)) else o)
-next_lent F sound place queues fits o candidate = by (F.collector == 0) refl
-  where
-    first : First F sound place (every F sound place) (IsMissedThere F sound place) (lent_of F place o candidate)
-    first = lent_first F sound place o candidate
+  -- or is the next
+  pub reached : (left : List Claimed) (claim : Claim) (rest : List Claim) → Left F place left (claim ∷ rest) → IsNextCandidate F place (Some claim)
+  unfolding IsStrictlySortedBy
+  reached [] claim rest l = let none : ◌≡◌ {A = List Claim} [] (claim ∷ rest) = l.shown in cc
+  reached (d ∷ ds) claim rest l = (
+    d,
+    (l.stand d (inl refl)).0,
+    head,
+    ap (is_later (last_spot place)) (sym head) ∙ (l.stand d (inl refl)).1,
+    λ e at later less. by e (ap (λ k. is_lt (shown_cmp (shown_claim e) k)) head ∙ less) (l.others e at later),
+  )
+    where
+      head : shown_claim d ≡ claim
+      head = let is : shown_claim d ∷ map shown_claim ds ≡ claim ∷ rest = l.shown in cc
 
-    by : (v : Bool) → (F.collector == 0) ≡ v → ComesNext F place (cond v (earlier_upcoming o (option_map upcoming_of (lent_several queues place))) o)
-    by true nobody =
-        let next : IsNext F place (earlier_of (lent_of F place o candidate) (lent_several queues place)) = next_of_both F sound place (lent_of F place o candidate) (lent_several queues place) first
-        (first_several F sound place (lent_several queues place) (ap (λ (l : QueueLists). lent_several l place) fits)) in
-        subst (ComesNext F place)
-        (earlier_same (lent_of F place o candidate) (lent_several queues place) ∙ ap (λ p. earlier_upcoming p (option_map upcoming_of (lent_several queues place))) (lent_is F place o candidate))
-        (comes_next F place (earlier_of (lent_of F place o candidate) (lent_several queues place)) next)
-    by false one =
-        subst (ComesNext F place) (lent_is F place o candidate)
-        (comes_next F place (lent_of F place o candidate)
-        (next_alone F sound place (λ none. true≢false (sym (itself 0) ∙ ap (λ n. n == 0) (sym none) ∙ one)) (lent_of F place o candidate) first))
+      by : (e : Claimed) → is_lt (claim_cmp e d) ≡ true → IsMissed F e.wants ⊎ IsAmong e (d ∷ ds) → IsMissed F e.wants
+      by e less (inl out) = out
+      by e less (inr (inl same)) = absurd (true≢false (sym less ∙ ap (λ c. is_lt (claim_cmp c d)) same ∙ after_itself d))
+      by e less (inr (inr there)) = absurd (true≢false (sym less ∙ not_back d e (among_has (λ y. claim_cmp d y ≡ Less) e ds l.sorted.0 there)))
+
+  -- where none is left
+  pub none_left : (left : List Claimed) → Left F place left [] → IsNextCandidate F place None
+  none_left [] l = λ e at later. elim (l.others e at later) [
+    | inl out ↦ out
+    | inr there ↦ absurd there
+  ]
+  none_left (d ∷ ds) l = let some : ◌≡◌ {A = List Claim} (shown_claim d ∷ map shown_claim ds) [] = l.shown in cc

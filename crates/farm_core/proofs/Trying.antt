@@ -1,9 +1,10 @@
 -- The claims that may change the farm are tried one after the other, and lead to the end of the pass.
-use Rattle.std.proofs.Common.{◌≡◌, ◌∙◌, ◌==◌, ◌||◌, ◌&&◌, ◌+◌, ◌<◌, ◌≤◌, ℕ, List, [], ◌∷◌, length, map, filter, nat_le, Bool, true, false, cond, not, Option, Some, None, inl, inr, refl, sym, ap, subst, arith}
+use Rattle.std.proofs.Common.{◌≡◌, ◌∙◌, ◌==◌, ◌||◌, ◌&&◌, ◌+◌, ◌<◌, ◌≤◌, ℕ, List, [], ◌∷◌, length, map, filter, nat_le, Bool, true, false, cond, not, Option, Some, None, inl, inr, refl, sym, ap, subst, arith, Bor}
 use mathlib.Core.Bool.{true≢false}
 use Rattle.std.specs.List.{AllByRecursion, find, fold, list_all, list_any}
 use Rattle.std.specs.List.Sorted.{IsStrictlySortedBy}
-use Rattle.std.specs.Option.{option_map_or}
+use mir.Val.{bool_byte}
+use Rattle.std.specs.Option.{option_copied, option_map_or}
 use Rattle.std.specs.Ordering.{is_lt, match_ordering}
 use Rattle.std.specs.Str.{bytes_eq}
 use Rattle.std.specs.declared.cmp.Ordering.{Ordering}
@@ -44,15 +45,12 @@ use Rattle.farm_pick.proofs.Later.{after_itself, later, later_none}
 use Rattle.farm_pick.proofs.Merging.{Begins, Goes, IsTrying, Skips, begins_with, begins_without, found_among, none_by, one_group, passed_by, serve_but, some_want, tried_by, unserved}
 use Rattle.farm_core.specs.Following.{without_board, without_boards}
 use Rattle.farm_core.specs.Came.{Seen}
-use Rattle.farm_core.specs.Lookahead.{ComesNext, IsValidLookahead}
-use Rattle.farm_core.specs.declared.pass.lookahead.Upcoming.{Upcoming}
 use Rattle.farm_core.specs.Serving.{Begins as FirstServed, IsSkipped, IsNext, Serves, boards_for, count_after, queues_given}
 use Rattle.farm_core.proofs.Assigned.{all_pass, taken_more}
-use Rattle.farm_core.proofs.Passing.{asks_claim, small_claim}
-use Rattle.farm_core.proofs.Lookahead.{valid_on, valid_past}
+use Rattle.farm_core.proofs.Passing.{small_claim}
 use Rattle.farm_core.proofs.Next.{found_nowhere}
 use Rattle.farm_core.proofs.Serving.{names_of, shown_group}
-use Rattle.farm_core.proofs.Skipping.{one_of, wants_asked}
+use Rattle.farm_core.proofs.Skipping.{one_of}
 
 -- ---- the queues of the farm once a claim was tried
 
@@ -180,9 +178,9 @@ all_from P (x ∷ xs) each = (each x (inl refl), all_from P xs (λ y at. each y 
 not_two : (n : ℕ) → n ≤ 1 → nat_le 2 n ≡ false
 not_two n low = grind (arith, nat_tests, low)
 
-skipped_stays : (t n : ℕ) (G : Farm) (e : Claimed) → IsClaim G e → IsSkipped G (shown_claim e) → serve t (come_to G n) e ≡ come_to G n
-skipped_stays t n G e claim idle =
-    unserved t (come_to G n) e (ap (least G.boards (is_free G.types)) (wants_asked G e (asks_claim G e claim)) ∙ idle.0) (by (G.collector == 0) refl)
+skipped_stays : (t n : ℕ) (G : Farm) (e : Claimed) → IsSkipped G e → serve t (come_to G n) e ≡ come_to G n
+skipped_stays t n G e idle =
+    unserved t (come_to G n) e idle.0 (by (G.collector == 0) refl)
   where
     by : (v : Bool) → (G.collector == 0) ≡ v → ((v && not e.reservation) && nat_le 2 (length e.wants)) ≡ false
     by true nobody =
@@ -216,9 +214,6 @@ module _ (F : Farm) (former : ℕ) (G : Farm) (queues : QueueLists) (count : ℕ
   low_at : (e : Claimed) → IsAmong e (queue G) → e.priority ≤ highest_priority
   low_at e at = among_has (λ c. c.priority ≤ highest_priority) e (queue G) (low_priority G sound) at
 
-  claim_at : (e : Claimed) → IsAmong e (queue G) → IsClaim G e
-  claim_at e at = among_has (IsClaim G) e (queue G) (queue_claims G sound.steady) at
-
   -- behind the place is behind the claim tried last
   later_is : (e : Claimed) → IsAmong e (queue G) → is_later (last_spot place) (shown_claim e) ≡ comes_after trying.last e
   later_is e at = ap (λ p. is_later (last_spot p) (shown_claim e)) trying.tried ∙ later_same trying.last e (low_at e at)
@@ -241,7 +236,7 @@ module _ (F : Farm) (former : ℕ) (G : Farm) (queues : QueueLists) (count : ℕ
         stays : (e : Claimed) → IsAmong e (queue G) → test e ≡ false → serve F.clock (come_to G count) e ≡ come_to G count
         stays e at out =
             let two = both (comes_after trying.last e) (is_lt (claim_cmp e it)) (is_true (comes_after trying.last e && is_lt (claim_cmp e it)) out) in
-            skipped_stays F.clock count G e (claim_at e at)
+            skipped_stays F.clock count G e
             (next.4 e at (later_is e at ∙ two.0) (ap (λ k. is_lt (shown_cmp (shown_claim e) k)) (sym next.2) ∙ two.1))
 
         by : (e : Claimed) → IsAmong e (queue G) → (v : Bool) → (not v && test e) ≡ false
@@ -333,16 +328,22 @@ module _ (F : Farm) (former : ℕ) (G : Farm) (queues : QueueLists) (count : ℕ
               → cond v (come_to G count) (serve F.clock (come_to G count) e) ≡ come_to G count
           by e at true out = refl
           by e at false out =
-              skipped_stays F.clock count G e (claim_at e at) (next e at (later_is e at ∙ is_true (comes_after trying.last e) out))
+              skipped_stays F.clock count G e (next e at (later_is e at ∙ is_true (comes_after trying.last e) out))
 
 -- ---- a turn of the program
 
--- the claim that comes next
-pub next_here : (F : Farm) (place : Option (ℕ × ℕ)) (o : Option Upcoming) (x : Upcoming) → o ≡ Some x → ComesNext F place o → ComesNext F place (Some x)
-next_here F place o x is next = subst (ComesNext F place) is next
+-- the claim that comes next, or that none does
+pub next_here : (F : Farm) (place : Option (ℕ × ℕ)) {o p : Option (Bor Claim)} → o ≡ p → IsNext F place (option_copied o) → IsNext F place (option_copied p)
+next_here F place is next = subst (λ o. IsNext F place (option_copied o)) is next
 
-pub none_here : (F : Farm) (place : Option (ℕ × ℕ)) (o : Option Upcoming) → o ≡ None → ComesNext F place o → IsNext F place None
-none_here F place o is next = subst (ComesNext F place) is next
+-- one more where it was served
+pub as_counted : (n : ℕ) (v : Bool) (more : ℕ) → more ≡ bool_byte v → count_after n v ≡ n + more
+as_counted n true more is = ap (λ m. n + m) (sym is)
+as_counted n false more is = omega (arith, is)
+
+pub one_at_most : (v : Bool) (more : ℕ) → more ≡ bool_byte v → more ≤ 1
+one_at_most true more is = omega (arith, is)
+one_at_most false more is = omega (arith, is)
 
 abbrev pub place_after : Claim → Option (ℕ × ℕ)
 place_after claim = Some (claim.priority, claim.number)
@@ -371,9 +372,6 @@ module _ (F : Farm) (former : ℕ) (D : Seen) (count : ℕ) (place : Option (ℕ
     pub passed_less : left D.queues (place_after claim) < left D.queues place
     passed_less = goes_less F former D.farm D.queues count place trying claim next D.farm D.queues count own_went (omega arith) refl trying.fits
 
-  pub passed_covered : (xs : List Upcoming) → IsValidLookahead D.farm place xs → IsValidLookahead D.farm (place_after claim) xs
-  passed_covered xs valid_lookahead = valid_past D.farm place xs claim valid_lookahead next.3
-
   -- another is tried
   module _ (other : (c : Claimed) → (shown_claim c).kind ≡ claim.kind → c.number ≡ claim.number → is_group former c ≡ false)
       (E : Seen) (served : Bool) (serving : (c : Claimed) → (shown_claim c).kind ≡ claim.kind → c.number ≡ claim.number → IsAmong c (queue D.farm) → Serves D c served E) where
@@ -396,15 +394,8 @@ module _ (F : Farm) (former : ℕ) (D : Seen) (count : ℕ) (place : Option (ℕ
     fits = serves.1 ∙ ap (queues_given D.farm next.0) trying.fits ∙ given_fits D.farm next.0 count trying.on.sound next.1
         ∙ ap (λ (u : Served). queue_lists u.farm) (serves.0 count)
 
-    pub tried_on : (v : Bool) → served ≡ v → Trying F former E.farm E.queues (count_after count v) (place_after claim)
-    tried_on v so = subst (λ v. Trying F former E.farm E.queues (count_after count v) (place_after claim)) so
-        (goes_on F former D.farm D.queues count place trying claim next E.farm E.queues (count_after count served) went (high served) clock fits)
-
-    -- the claims that were looked at ahead stand in the queue as they did
-    pub tried_covered : (xs : List Upcoming) → IsValidLookahead D.farm place xs → IsValidLookahead E.farm (place_after claim) xs
-    tried_covered xs valid_lookahead = subst (λ (k : Claim). IsValidLookahead E.farm (place_after k) xs) next.2
-        (valid_on D.farm E.farm next.0 served trying.on.sound next.1 serves.0 (tried_on served refl).on.sound place xs valid_lookahead
-        (ap (is_later (last_spot place)) next.2 ∙ next.3))
+    pub tried_on : Trying F former E.farm E.queues (count_after count served) (place_after claim)
+    tried_on = goes_on F former D.farm D.queues count place trying claim next E.farm E.queues (count_after count served) went (high served) clock fits
 
     pub tried_less : left E.queues (place_after claim) < left D.queues place
     tried_less = goes_less F former D.farm D.queues count place trying claim next E.farm E.queues (count_after count served) went (high served) clock fits

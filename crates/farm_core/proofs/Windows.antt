@@ -131,26 +131,6 @@ no_member jobs fit group start sorted place k d far low =
     let high = far_on (λ (r : JobRow). r.number) jobs group start 4 sorted place k d far low in
     out_of_reach (JobFilter.Members group) (get_or jobs k d) (all_at IsFitJob jobs k d fit low).near _ refl (λ both. absurd (omega (arith, both.1, high)))
 
--- a row is found by its number
-pub found_res : (rows : List ResRow) (i number : ℕ) (x : ResRow) → IsStrictlySortedBy res_cmp rows → i < length rows → x ≡ get_or rows i x → x.number ≡ number
-    → find (λ (r : ResRow). r.number == number) rows ≡ Some x
-unfolding IsStrictlySortedBy
-found_res [] i number x sorted low is same = absurd (omega arith)
-found_res (r ∷ rows) zero number x sorted low is same =
-    ap (λ v. cond v (Some r) (find (λ (d : ResRow). d.number == number) rows)) (ap (λ n. n == number) (ap (λ (d : ResRow). d.number) (sym is) ∙ same) ∙ itself number) ∙ ap Some (sym is)
-found_res (r ∷ rows) (suc i) number x sorted low is same =
-    by (r.number == number) refl ∙ found_res rows i number x sorted.1 (omega arith) is same
-  where
-    less : res_cmp r x ≡ Less
-    less = subst (λ y. res_cmp r y ≡ Less) (sym is) (all_at (λ y. res_cmp r y ≡ Less) rows i x sorted.0 (omega arith))
-
-    by : (v : Bool) → (r.number == number) ≡ v → cond v (Some r) (find (λ (d : ResRow). d.number == number) rows) ≡ find (λ (d : ResRow). d.number == number) rows
-    by true at =
-        let tie = same_number r.number number at in
-        let below = ranked r.number x.number Less (sym less) in
-        absurd (omega (arith, tie, below, same))
-    by false at = refl
-
 -- a row of a number doesn't pass where none of that number does
 pub none_so : {R : Type 0} (key : R → ℕ) (P : R → Type 0) (test : R → Bool) (number : ℕ) (rows : List R) → AllByRecursion P rows → ((r : R) → P r → key r ≡ number → test r ≡ false)
     → option_map_or test (find (λ r. key r == number) rows) false ≡ false

@@ -2,13 +2,11 @@ pub mod Plain
 pub mod PartitionPoint
 pub mod Leases
 pub mod Replies
-pub mod Marks
 pub mod SmallRows
 pub mod Following
 pub mod Came
 pub mod Edits
 pub mod Collecting
 pub mod Serving
-pub mod Lookahead
 pub mod Shown
 pub mod Answers

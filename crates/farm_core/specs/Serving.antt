@@ -1,13 +1,13 @@
 -- What the program does for one claim of a pass.
 use Rattle.std.specs.Prelude.{◌≡◌, ◌≤◌, ◌<◌, ◌==◌, ◌+◌, ℕ, Bool, true, false, List, [], ◌∷◌}
-use Rattle.std.specs.Prelude.{length, map, not, slice_get}
+use Rattle.std.specs.Prelude.{length, map, not, slice_get, take, Vec}
 use Rattle.std.specs.Prelude.{IsSomeAnd, Option, Some, None, filter_map, option_map}
 use Rattle.std.specs.Prelude.{if◌then◌else◌}
 use Rattle.std.specs.List.{AllByRecursion, filter, fold}
 use Rattle.std.specs.Option.{option_map_or}
 use Rattle.std.specs.Ordering.{is_lt}
 use Rattle.std.specs.Str.{bytes_eq}
-use Rattle.farm_types.specs.Limits.{most_wants}
+use Rattle.std.specs.declared.alloc.Global.{Global}
 use Rattle.farm_types.specs.Table.{change_where}
 use Rattle.farm_types.specs.Farm.{Farm, job_of, members, res_of}
 use Rattle.farm_types.specs.Pass.{allocated_reservation, held_board, is_group, pass_over, placed_job, serve}
@@ -25,7 +25,6 @@ use Rattle.farm_types.specs.declared.rows.JobRow.{JobRow}
 use Rattle.farm_types.specs.declared.rows.Want.{Want}
 use Rattle.farm_core.specs.Came.{Seen}
 use Rattle.farm_core.specs.Following.{without_boards}
-use Rattle.farm_core.specs.declared.pass.lookahead.unsatisfiable.CachedMiss.{CachedMiss}
 
 -- the name of the board at a place, and of those at some places
 abbrev pub name_at : List BoardRow → ℕ → Option (List ℕ)
@@ -62,64 +61,37 @@ wants_of F ClaimKind.Reservation number =
     option_map_or (λ r. r.want ∷ []) (res_of F number) []
 wants_of F ClaimKind.Group number = map (λ m. m.want) (members F number)
 
--- what the members of a group among some rows want, and what the row at a place does
-abbrev pub member_wants : List JobRow → ℕ → List Want
-member_wants rows group = map (λ m. m.want) (filter (λ j. j.group == group) rows)
+-- no free boards meet some wants
+abbrev pub IsMissed : Farm → List Want → Type 0
+IsMissed F wants = least F.boards (is_free F.types) wants ≡ None
 
-abbrev pub want_in : ℕ → Option JobRow → Option Want
-want_in group None = None
-want_in group (Some row) = if row.group == group then Some row.want else None
+-- nor any of those that are remembered
+abbrev pub AreMisses : Farm → List (Vec Want Global) → Type 0
+AreMisses F misses = AllByRecursion (λ v. IsMissed F v.items) misses
 
-abbrev pub want_at : List JobRow → ℕ → ℕ → Option Want
-want_at rows group place = want_in group (slice_get rows place)
-
--- at each of the places that four rows have, a member of the one group and one of the other want
--- the same, or neither group has a member there
-abbrev pub WantAlike : List JobRow → ℕ → List JobRow → ℕ → Type 0
-WantAlike first group second other =
-    (place : ℕ) → place < most_wants → want_at first group place ≡ want_at second other place
-
--- no free boards meet what a claim wants
-abbrev pub IsMissed : Farm → ClaimKind → ℕ → Type 0
-IsMissed F kind number = least F.boards (is_free F.types) (wants_of F kind number) ≡ None
-
--- a claim that waits and that no free boards meet
-pub record IsWaitingMiss (F : Farm) (kind : ClaimKind) (number : ℕ) : Type 0 where
-  pub claimed : Claimed
-  pub among : IsAmong claimed (queue F)
-  pub of_kind : (shown_claim claimed).kind ≡ kind
-  pub numbered : claimed.number ≡ number
-  pub misses : least F.boards (is_free F.types) claimed.wants ≡ None
-
--- each claim that is remembered is such a one
-abbrev pub IfMiss : Farm → Option CachedMiss → Type 0
-IfMiss F None = Unit {0}
-IfMiss F (Some miss) = IsWaitingMiss F miss.kind miss.number
-
-abbrev pub AreMisses : Farm → List (Option CachedMiss) → Type 0
-AreMisses F places = AllByRecursion (IfMiss F) places
-
--- where the first place is empty, all are
-abbrev pub AreFilledInTurn : List (Option CachedMiss) → Type 0
-AreFilledInTurn places = slice_get places 0 ≡ Some None → AllByRecursion (λ o. o ≡ None) places
-
--- a claim with some wants wants the same as one that is remembered
-abbrev pub IsLike : Farm → List Want → Option CachedMiss → Type 0
-IsLike F wants miss =
-    (k : CachedMiss) × (miss ≡ Some k) × (wants ≡ wants_of F k.kind k.number)
+-- some wants are remembered first of all, and behind them seven that were
+abbrev pub IsRemembered : List (Vec Want Global) → List Want → List (Vec Want Global) → Type 0
+IsRemembered old wants new = (v : Vec Want Global) × (v.items ≡ wants) × (new ≡ v ∷ take 7 old)
 
 -- to serve a claim changes nothing: no free boards meet it, and it may not collect
-abbrev pub IsSkipped : Farm → Claim → Type 0
-IsSkipped F c = IsMissed F c.kind c.number × (F.collector ≡ 0 → c.boards ≤ 1)
+abbrev pub IsSkipped : Farm → Claimed → Type 0
+IsSkipped F c = IsMissed F c.wants × (F.collector ≡ 0 → length c.wants ≤ 1)
 
--- the claim is the next of the queue after a place, but for such ones; or all after it are such
-abbrev pub IsNext : Farm → Option (ℕ × ℕ) → Option Claim → Type 0
-IsNext F last None = (d : Claimed) → IsAmong d (queue F)
-    → is_later (last_spot last) (shown_claim d) ≡ true → IsSkipped F (shown_claim d)
-IsNext F last (Some c) =
+-- the claim is the next of the queue after a place, but for some; or all after it are such
+abbrev pub IsNextBut : (Claimed → Type 0) → Farm → Option (ℕ × ℕ) → Option Claim → Type 0
+IsNextBut Skipped F last None = (d : Claimed) → IsAmong d (queue F)
+    → is_later (last_spot last) (shown_claim d) ≡ true → Skipped d
+IsNextBut Skipped F last (Some c) =
     (d : Claimed) × IsAmong d (queue F) × (shown_claim d ≡ c) × (is_later (last_spot last) c ≡ true)
     × ((e : Claimed) → IsAmong e (queue F) → is_later (last_spot last) (shown_claim e) ≡ true
-    → is_lt (shown_cmp (shown_claim e) c) ≡ true → IsSkipped F (shown_claim e))
+    → is_lt (shown_cmp (shown_claim e) c) ≡ true → Skipped e)
+
+-- but for such as no free boards meet, and but for such as to serve changes nothing
+abbrev pub IsNextCandidate : Farm → Option (ℕ × ℕ) → Option Claim → Type 0
+IsNextCandidate F last claim = IsNextBut (λ d. IsMissed F d.wants) F last claim
+
+abbrev pub IsNext : Farm → Option (ℕ × ℕ) → Option Claim → Type 0
+IsNext F last claim = IsNextBut (IsSkipped F) F last claim
 
 -- one more, if a claim was served
 abbrev pub count_after : ℕ → Bool → ℕ

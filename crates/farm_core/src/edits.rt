@@ -12,6 +12,7 @@ use crate::board_effect::BoardEffect;
 use crate::command::job_edit::JobEdit;
 use crate::command::res_edit::{ResEdit, ResFilter};
 use crate::held::Held;
+use crate::job_table::edit_jobs;
 use crate::tables::Tables;
 use std::alloc::AllocError;
 
@@ -36,7 +37,7 @@ impl Tables {
             filter: &edit.jobs,
             effect,
         })?;
-        self.jobs.edit(edit)?;
+        edit_jobs(&mut self.jobs, edit)?;
         Ok(())
     }
 

@@ -2,10 +2,10 @@
 use crate::board_effect::BoardEffect;
 use crate::command::job_edit::JobFilter;
 use crate::command::res_edit::ResFilter;
-use crate::job_table::JobTable;
+use crate::job_table;
 use crate::res_table::ResTable;
-use farm_table::Edit;
-use farm_types::{BoardRow, Holder};
+use farm_table::{Edit, Table};
+use farm_types::{BoardRow, Holder, JobRow};
 use std::alloc::AllocError;
 
 /// A table whose rows may hold boards.
@@ -23,7 +23,7 @@ pub trait Holders {
         ensures { result ≡ is_so self.now filter.now holder };
 }
 
-impl Holders for JobTable {
+impl Holders for Table<JobRow> {
     ghost use Rattle.farm_types.specs.Farm.{empty_farm};
     ghost use Rattle.farm_types.specs.Pass.{is_job_so};
     ghost use Rattle.farm_core.specs.Edits.{job_passes};
@@ -34,7 +34,7 @@ impl Holders for JobTable {
 
     fn is_so(&self, filter: &JobFilter, holder: Holder) -> bool {
         match holder {
-            Holder::Job(number) => self.passes(filter, number),
+            Holder::Job(number) => job_table::passes(self, filter, number),
             Holder::Nobody | Holder::Res(_) => false,
         }
     }

@@ -1,8 +1,8 @@
 //! The machine of the board farm: one farm, and one call after another.
 //!
 //! Read `specs/` in the order Plain, Shown, Answers, which say what callers see; then Replies, how
-//! kept replies are kept, Marks, what stands beside each job, and Leases, beside each reservation;
-//! then PartitionPoint, SmallRows, Following, Came, Edits, Serving, Lookahead, which say what a
+//! kept replies are kept, and Leases, what stands beside each reservation;
+//! then PartitionPoint, SmallRows, Following, Came, Edits, Serving, which say what a
 //! command keeps on its way.
 #![tactic(auto)]
 

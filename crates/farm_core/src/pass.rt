@@ -13,7 +13,8 @@ pub(crate) mod checks;
 pub(crate) mod collect;
 pub(crate) mod expire;
 pub(crate) mod free_index;
-pub(crate) mod lookahead;
+pub(crate) mod misses;
+pub(crate) mod next_claim;
 pub(crate) mod serve;
 
 use crate::tables::Tables;

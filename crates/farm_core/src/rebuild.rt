@@ -8,15 +8,15 @@ ghost use Rattle.farm_core.specs.Following.{IsFresh};
 ghost use Rattle.farm_core.specs.Following.{kind_in};
 ghost use Rattle.farm_core.specs.Plain.{plain_farm};
 
-use crate::job_table::JobTable;
 use crate::pass::free_index::note_boards;
 use crate::tables::Tables;
 use farm_pick::Queues;
-use farm_types::{Claim, ClaimKind};
+use farm_table::Table;
+use farm_types::{Claim, ClaimKind, JobRow};
 use std::alloc::AllocError;
 
 /// Puts a claim into its queue: that of its first member's type, or of the reservations.
-fn put_waiting(queues: &mut Queues, jobs: &JobTable, claim: Claim) -> Result<(), AllocError>
+fn put_waiting(queues: &mut Queues, jobs: &Table<JobRow>, claim: Claim) -> Result<(), AllocError>
     requires { IsFresh claim.number queues.old.claims }
     ensures { OnOk result (queues.new ≡ record queues.old {
       claims = put queued_cmp queues.old.claims
@@ -25,7 +25,7 @@ fn put_waiting(queues: &mut Queues, jobs: &JobTable, claim: Claim) -> Result<(),
 {
     match claim.kind {
         ClaimKind::Reservation => queues.put_claim(claim, &None),
-        ClaimKind::Group => match jobs.find(claim.number) {
+        ClaimKind::Group => match jobs.find(&claim.number) {
             Some(job) => queues.put_claim(claim, &job.want.kind),
             None => queues.put_claim(claim, &None),
         },

@@ -9,12 +9,11 @@ ghost use Rattle.farm_pick.specs.Queued.{queue_lists};
 ghost use Rattle.farm_core.specs.Plain.{plain_farm};
 ghost use Rattle.farm_core.specs.Replies.{kept_reply};
 
-use crate::job_table::JobTable;
 use crate::kept::{KeptReplies, KeptReply};
 use crate::res_table::ResTable;
 use farm_pick::Queues;
 use farm_table::Table;
-use farm_types::{BoardRow, Call, Name, Rows, TypeRow};
+use farm_types::{BoardRow, Call, JobRow, Name, Rows, TypeRow};
 use std::alloc::{AllocError, Global};
 use std::fmt;
 
@@ -24,7 +23,7 @@ use std::fmt;
 pub struct Tables {
     pub types: Table<TypeRow>,
     pub boards: Table<BoardRow>,
-    pub jobs: JobTable,
+    pub jobs: Table<JobRow>,
     pub reservations: ResTable,
     pub kept: KeptReplies,
     /// Who waits, and which boards are free.
@@ -63,7 +62,7 @@ impl Tables {
         Tables {
             types: Table::new(alloc),
             boards: Table::new(alloc),
-            jobs: JobTable::new(alloc),
+            jobs: Table::new(alloc),
             reservations: ResTable::new(alloc),
             kept: KeptReplies::new(alloc),
             queues: Queues::new(alloc),
@@ -74,8 +73,8 @@ impl Tables {
         }
     }
 
-    /// The tables of a sound farm's rows, with empty queues. It takes memory for the kept replies,
-    /// for the marks of the jobs and for the leases.
+    /// The tables of a sound farm's rows, with empty queues. It takes memory for the kept replies
+    /// and for the leases.
     pub fn of(rows: Rows) -> Result<Tables, AllocError>
         requires { IsSound (farm_of rows) }
         ensures farm { IfOk result (λ t. plain_farm t ≡ farm_of rows) }
@@ -83,12 +82,11 @@ impl Tables {
     {
         let alloc = *rows.types.allocator();
         let kept = KeptReplies::of(rows.kept)?;
-        let jobs = JobTable::of(alloc, rows.jobs)?;
         let reservations = ResTable::of(alloc, rows.reservations)?;
         Ok(Tables {
             types: Table::of(rows.types),
             boards: Table::of(rows.boards),
-            jobs,
+            jobs: Table::of(rows.jobs),
             reservations,
             kept,
             queues: Queues::new(alloc),

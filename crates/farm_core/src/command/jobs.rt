@@ -9,16 +9,15 @@ ghost use Rattle.farm_types.specs.Refuse.{first_code, owned_by, can_cancel, canc
 ghost use Rattle.farm_types.specs.Refuse.{start_reasons, finish_reasons};
 ghost use Rattle.farm_types.specs.Small.{IsSmall, IsSmallJob};
 ghost use Rattle.farm_types.specs.declared.calls.Cmd.{Cmd};
-ghost use Rattle.farm_types.specs.declared.rows.JobRow.{JobRow};
 ghost use Rattle.farm_types.specs.declared.rows.JobState.{JobState};
 ghost use Rattle.farm_table.specs.Near.{IsFitJob};
 ghost use Rattle.farm_core.specs.Edits.{outcome_of};
 ghost use Rattle.farm_core.specs.Came.{Acts, CameTo, seen, seen_at};
 ghost use Rattle.farm_core.specs.Plain.{plain_farm};
-ghost use Rattle.farm_core.specs.PartitionPoint.{IsPartitionPoint};
 
 use crate::board_effect::BoardEffect;
 use crate::command::job_edit::{JobEdit, JobFilter, Placement};
+use crate::job_table::{edit_jobs, place_of};
 use crate::refusal::is_admin;
 use crate::tables::Tables;
 use farm_types::{
@@ -68,39 +67,24 @@ impl Tables {
         ensures found { option_copied result ≡ job_of (plain_farm self.now) number }
         ensures small { IfSome result (λ job. (job.now.number ≡ number) × IsSmallJob job.now) }
     {
-        self.jobs.find(number)
+        self.jobs.find(&number)
     }
 
-    /// The few rows from a place on that stand where the members of a group do: no other row is a
-    /// member.
-    pub fn member_rows_from(&self, group: u64, start: usize) -> &[JobRow]
-        requires within { start ≤ length (plain_farm self.now).jobs }
-        requires place { IsPartitionPoint (λ (r : JobRow). r.number) (plain_farm self.now).jobs group start }
+    /// The few rows that stand where the members of a group do: no other row is a member.
+    pub fn member_rows(&self, group: u64) -> &[JobRow]
         ensures members { filter (λ j. j.group == group) result.now
             ≡ members (plain_farm self.now) group }
         ensures few { length result.now ≤ most_wants }
         ensures fit { AllByRecursion IsFitJob result.now }
     {
+        let start = place_of(&self.jobs, group);
         let rows = self.jobs.rows();
         let end = rows.len().min(start.saturating_add(MOST_WANTS));
         &rows[start..end]
     }
 
-    /// The few rows that stand where the members of a group do: no other row is a member.
-    pub fn member_rows(&self, group: u64) -> &[JobRow]
-        requires small { IsSmall group }
-        ensures members { filter (λ j. j.group == group) result.now
-            ≡ members (plain_farm self.now) group }
-        ensures few { length result.now ≤ most_wants }
-        ensures fit { AllByRecursion IsFitJob result.now }
-    {
-        let start = self.jobs.place_of(group);
-        self.member_rows_from(group, start)
-    }
-
     /// Whether some member of a group can be canceled.
     fn can_cancel_some(&self, group: u64) -> bool
-        requires small { IsSmall group }
         ensures { result ≡ list_any can_cancel (members (plain_farm self.now) group) }
     {
         some_can_cancel(self.member_rows(group), group)
@@ -184,12 +168,13 @@ impl Tables {
         };
         self.edit_jobs_and_boards(end, BoardEffect::Free)?;
         self.stop_collecting(group);
-        self.jobs.edit(JobEdit {
+        let stop = JobEdit {
             jobs: JobFilter::Running(group),
             state: JobState::Canceling,
             outcome: None,
             placement: Placement::Stays,
-        })?;
+        };
+        edit_jobs(&mut self.jobs, stop)?;
         self.queues.take_claim(group);
         Ok(group)
     }

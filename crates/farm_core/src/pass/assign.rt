@@ -17,6 +17,7 @@ ghost use Rattle.farm_core.specs.Serving.{assign_named, assign_first, names_at};
 use crate::board_effect::BoardEffect;
 use crate::command::job_edit::{JobEdit, JobFilter, Placement};
 use crate::command::res_edit::ResEdit;
+use crate::job_table::edit_jobs;
 use crate::tables::Tables;
 use farm_types::{Holder, JobState, LEASE, ResState};
 use std::alloc::AllocError;
@@ -47,12 +48,13 @@ impl Tables {
             (seen self.old)) self.new) }
     {
         let name = &self.boards.rows()[at].name;
-        self.jobs.edit(JobEdit {
+        let hold = JobEdit {
             jobs: JobFilter::Numbered(number),
             state,
             outcome: None,
             placement: Placement::On(name),
-        })?;
+        };
+        edit_jobs(&mut self.jobs, hold)?;
         self.reserve_board(at, Holder::Job(number))?;
         Ok(())
     }

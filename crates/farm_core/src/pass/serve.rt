@@ -22,7 +22,7 @@ ghost use Rattle.farm_core.specs.Serving.{AreMisses, MatchesRows, Begins, Serves
 ghost use Rattle.farm_core.specs.Serving.{boards_for};
 ghost use Rattle.farm_core.specs.Serving.{count_after, wants_of};
 
-use crate::pass::lookahead::unsatisfiable::{CachedMiss, MissCache};
+use crate::pass::misses::Misses;
 use crate::tables::Tables;
 use arrayvec::ArrayVec;
 use farm_pick::Picked;
@@ -63,7 +63,11 @@ fn count_in(rows: &[JobRow], group: u64) -> u64
 
 /// What a group's members want, among a few rows, and how many these are; behind them another want
 /// fills the places.
-fn wants_in<'a>(rows: &'a [JobRow], group: u64, other: &'a Want) -> ([&'a Want; MOST_WANTS], usize)
+pub fn wants_in<'a>(
+    rows: &'a [JobRow],
+    group: u64,
+    other: &'a Want,
+) -> ([&'a Want; MOST_WANTS], usize)
     requires { length rows.now ≤ most_wants }
     ensures few { result.1 ≤ most_wants }
     ensures wants { map (λ w. w.now) (take result.1 result.0) ≡ map (λ j. j.want)
@@ -241,7 +245,7 @@ impl Tables {
     /// what was unmet stays so; and it may collect.
     fn try_claim(
         &mut self,
-        misses: &mut MissCache,
+        misses: &mut Misses,
         kind: ClaimKind,
         number: u64,
         boards: u64,
@@ -252,36 +256,31 @@ impl Tables {
         requires small { IsSmall number }
         requires clock { self.old.clock ≤ last_moment }
         requires free { self.old.queues.boards ≡ idle_boards (plain_farm self.old) }
-        requires miss { AreMisses (plain_farm self.old) misses.old }
+        requires miss { AreMisses (plain_farm self.old) misses.old.items }
         ensures serves { IfOk result (λ served. (c : Claimed) → (shown_claim c).kind ≡ kind
             → c.number ≡ number → IsAmong c (queue (plain_farm self.old))
             → Serves (seen self.old) c served (seen self.new)) }
-        ensures miss { OnOk result (AreMisses (plain_farm self.new) misses.new) }
+        ensures miss { OnOk result (AreMisses (plain_farm self.new) misses.new.items) }
         ensures logs { OnOk result (LeadOn self.old self.new) }
     {
         let served = self.serve_claim(kind, number)?;
         if served {
             return Ok(true);
         }
-        let place = self.place_of_claim(kind, number);
-        misses.note(CachedMiss {
-            kind,
-            number,
-            place,
-        });
+        self.note_miss(misses, kind, number)?;
         self.pass_over(kind, number, boards)?;
         Ok(false)
     }
 
     /// Tries the group that collected before, if it is still a claim: it goes first. Gives how many
     /// were served, one or none.
-    fn serve_former(&mut self, misses: &mut MissCache, former: u64) -> Result<u64, AllocError>
+    fn serve_former(&mut self, misses: &mut Misses, former: u64) -> Result<u64, AllocError>
         requires sound { IsSound (plain_farm self.old) }
         requires small { IsSmall former }
         requires fits { self.old.queues ≡ queue_lists (plain_farm self.old) }
-        requires miss { AreMisses (plain_farm self.old) misses.old }
+        requires miss { AreMisses (plain_farm self.old) misses.old.items }
         ensures begun { IfOk result (λ n. Begins (seen self.old) former n (seen self.new)) }
-        ensures miss { OnOk result (AreMisses (plain_farm self.new) misses.new) }
+        ensures miss { OnOk result (AreMisses (plain_farm self.new) misses.new.items) }
         ensures logs { OnOk result (LeadOn self.old self.new) }
     {
         let boards = self.waits_for(former);
@@ -300,9 +299,8 @@ impl Tables {
     ///
     /// A single claim whose queue has no free board isn't looked at, and one that wants the same as
     /// one of the last eight that were found unmet is passed over, unless it may collect. With K
-    /// queues, C claims in open ones, J jobs and F free boards it costs O(K) for each of the C
-    /// claims, O(K log C) more for each few that are looked at ahead, and O(log C + log J + F) for
-    /// each for which boards are searched.
+    /// queues, C claims in open ones, J jobs and F free boards it costs O(K + log J) for each of the
+    /// C claims, and O(K log C + F) more for each for which boards are searched.
     pub fn serve(&mut self, former: u64) -> Result<u64, AllocError>
         requires sound { IsSound (plain_farm self.old) }
         requires nobody { self.old.collector ≡ 0 }
@@ -315,18 +313,15 @@ impl Tables {
         ensures count { IfOk result
             (λ n. n ≡ (serve_all (plain_farm self.old) former self.old.clock).claims) }
     {
-        let mut misses = MissCache::none();
+        let mut misses = VecDeque::new(*self.boards.allocator());
         let mut count = self.serve_former(&mut misses, former)?;
-        let mut lookahead = VecDeque::new(*self.boards.allocator());
         let mut last = None;
-        while let Some(claim) = self.next_claim(&mut lookahead, &misses, last)? {
+        while let Some(claim) = self.next_claim(&misses, last)? {
             let (kind, number, boards) = (claim.kind, claim.number, claim.boards);
             last = Some((claim.priority, number));
             if !is_of_group(kind, number, former) {
                 let served = self.try_claim(&mut misses, kind, number, boards)?;
-                if served {
-                    count += 1;
-                }
+                count += u64::from(served);
             }
         }
         Ok(count)

@@ -24,7 +24,7 @@ returns c = λ b is.
     let boards = change_where (λ (c : BoardRow). bytes_eq c.name b.name) (held_board (Holder.Job c.args.number) State.Reserved) F.boards in
     record {
       now = reserved.now
-          ∙ (λ i. seen_at (record F { jobs = c.in_ok-edit.ensures.rows i; boards = boards }) (seen T))
+          ∙ (λ i. seen_at (record F { jobs = c.in_ok-edit_jobs.ensures.rows i; boards = boards }) (seen T))
           ∙ (λ i. seen_at (record F { jobs = change_where (λ (r : JobRow). r.number == c.args.number) (placed_job c.args.state (read i).name) F.jobs; boards = boards }) (seen T));
-      logs = lead_on_join _ _ _ (jobs_lead _ _ _ (lead_on_none T) c.in_ok-edit.ensures.leads) reserved.logs;
+      logs = lead_on_join _ _ _ (jobs_lead _ _ _ (lead_on_none T) c.in_ok-edit_jobs.ensures.leads) reserved.logs;
     }

@@ -15,10 +15,10 @@ returns c =
     let ended = c.in_ok-edit_jobs_and_boards.ensures in
     let cleared = c.stop_collecting.ensures in
     let K : Farm = plain_farm c.stop_collecting.new.self in
-    let logs = jobs_lead _ _ _ (lead_on_join _ _ _ ended.logs cleared.logs) c.in_ok-edit.ensures.leads in
+    let logs = jobs_lead _ _ _ (lead_on_join _ _ _ ended.logs cleared.logs) c.in_ok-edit_jobs.ensures.leads in
     let queues = ap (λ (s : Seen). s.queues) cleared.now ∙ ap (λ (s : Seen). s.queues) ended.now in
     record {
-      done = canceled (plain_farm c.args.self.now) (plain_farm c.edit_jobs_and_boards.new.self) K _ c.args.number c.in-Some.job.now found (ap (λ (s : Seen). s.farm) ended.now) (ap (λ (s : Seen). s.farm) cleared.now) (λ i. record K { jobs = c.in_ok-edit.ensures.rows i });
+      done = canceled (plain_farm c.args.self.now) (plain_farm c.edit_jobs_and_boards.new.self) K _ c.args.number c.in-Some.job.now found (ap (λ (s : Seen). s.farm) ended.now) (ap (λ (s : Seen). s.farm) cleared.now) (λ i. record K { jobs = c.in_ok-edit_jobs.ensures.rows i });
       queues = c.take_claim.ensures
           ∙ ap (without_claim c.in-Some.job.now.group) queues
           ∙ sym (ap (λ o. option_map_or (λ (j : JobRow). without_claim j.group c.args.self.now.queues) o c.args.self.now.queues) found);
