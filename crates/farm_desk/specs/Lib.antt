@@ -13,6 +13,7 @@ pub mod Preflight
 pub mod Reports
 pub mod Conversations
 pub mod Lines
+pub mod NewFile
 pub mod Clients
 pub mod Connections
 pub mod Scripts

@@ -86,16 +86,23 @@ abbrev pub PrintsIfDone : {A : Type 0} → (ℕ → Type 0) → Option (List ℕ
 PrintsIfDone Room held holds (Ok done) line result = PrintsLine Room held holds line result
 PrintsIfDone Room held holds (Err fault) line result = (result ≡ Err fault) × (holds ≡ held)
 
-module _ (Room : ℕ → Type 0) (held holds : Option (List ℕ)) {D : Type 0} (g : disk.Ghosts D)
-    (image : Image) where
+module _ (Room : ℕ → Type 0) (held holds : Option (List ℕ)) where
   -- the empty farm is made in the files, and its line printed
-  pub record Inits (result : Result End DeskFault) : Type 0 where
+  pub record InitsIn {D : Type 0} (g : disk.Ghosts D) (image : Image) (result : Result End DeskFault)
+      : Type 0 where
     pub made : Result (KeeperState (FileStore D g)) DeskFault
     pub makes : MakesNewFarm image made
     pub prints : PrintsIfDone Room held holds made ready_line result
 
+  -- that is done in the files that are there, or in new ones
+  abbrev pub Inits : {D : Type 0} → disk.Ghosts D → Image → {N : Type 0} → disk.Ghosts N → Image
+      → Result End DeskFault → Type 0
+  Inits g image fresh fresh_image result =
+      InitsIn g image result ⊎ InitsIn fresh fresh_image result
+
   -- the first edition's farm of the files is brought to this one, and its line printed
-  pub record MigratesFile (result : Result End DeskFault) : Type 0 where
+  pub record MigratesFile {D : Type 0} (g : disk.Ghosts D) (image : Image)
+      (result : Result End DeskFault) : Type 0 where
     pub raised : Result (Held (FileStore D g)) DeskFault
     pub upgrades : UpgradesFarm image raised
     pub prints : PrintsIfDone Room held holds raised migrated_line result
@@ -133,15 +140,16 @@ module _ (labs : List ℕ → Option (List ℕ)) (Sure : Type 0) (Room : ℕ →
       pub does : DoesInFiles task ended
       pub ends : IsUnlessLost ended result
 
-    -- what the order does, by its kind
-    abbrev pub DoesOrder : Order → Result End DeskFault → Type 0
-    DoesOrder (Order.Once Database.Memory at) result = DoesInMemory (Task.Answer at) result
-    DoesOrder (Order.Once (Database.File file) at) result = DoesInFiles (Task.Answer at) result
-    DoesOrder (Order.Init file) result = (new.input ≡ old.input)
-        × Inits Room old.output new.output g image result
-    DoesOrder (Order.Migrate file) result = (new.input ≡ old.input)
-        × MigratesFile Room old.output new.output g image result
-    DoesOrder (Order.Import file at lab) result = DoesInFiles (Task.Import at lab) result
-    DoesOrder (Order.Serve file port max) result = DoesWhileThere (Task.Serve port max) result
-    DoesOrder (Order.Report file east west which) result =
-        DoesInFiles (Task.Report east west which) result
+    -- what the order does, by its kind, where it may make new files with this image
+    module _ {N : Type 0} (fresh : disk.Ghosts N) (fresh_image : Image) where
+      abbrev pub DoesOrder : Order → Result End DeskFault → Type 0
+      DoesOrder (Order.Once Database.Memory at) result = DoesInMemory (Task.Answer at) result
+      DoesOrder (Order.Once (Database.File file) at) result = DoesInFiles (Task.Answer at) result
+      DoesOrder (Order.Init file) result = (new.input ≡ old.input)
+          × Inits Room old.output new.output g image fresh fresh_image result
+      DoesOrder (Order.Migrate file) result = (new.input ≡ old.input)
+          × MigratesFile Room old.output new.output g image result
+      DoesOrder (Order.Import file at lab) result = DoesInFiles (Task.Import at lab) result
+      DoesOrder (Order.Serve file port max) result = DoesWhileThere (Task.Serve port max) result
+      DoesOrder (Order.Report file east west which) result =
+          DoesInFiles (Task.Report east west which) result

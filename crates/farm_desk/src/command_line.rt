@@ -11,6 +11,7 @@ ghost use Rattle.farm_desk.specs.Program.{EndsAsRead, EndsOrder, EndsUnread, IsR
 ghost use Rattle.farm_desk.specs.Program.{ShowsHelp};
 
 use crate::fault::DeskFault;
+use crate::new_file::NewFile;
 use crate::orders::{End, carry_out};
 use farm_cli::{Order, OrderFault, order_of};
 use farm_http::{Input, Output};
@@ -56,7 +57,8 @@ pub fn program<R: Input, W: Output, E: Output>(
         (DoesOrder (λ _. None) R.never_fails (W.has_room output.old)
         (streams (R.remaining input.old) (W.contents output.old))
         (streams (R.remaining input.new) (W.contents output.new))
-        ⟦<FileFrom<Unknown> as Disk>⟧ (image_at ⟦<Unknown as Start>⟧)) read
+        ⟦<FileFrom<Unknown> as Disk>⟧ (image_at ⟦<Unknown as Start>⟧)
+        ⟦<FileFrom<NewFile> as Disk>⟧ (image_at ⟦<NewFile as Start>⟧)) read
         (streams (R.remaining input.old) (W.contents output.old))
         (streams (R.remaining input.new) (W.contents output.new))
         (E.contents errors.old) (E.contents errors.new) result }
@@ -78,7 +80,8 @@ fn end_as_read<R: Input, W: Output, E: Output>(
         (DoesOrder (λ _. None) R.never_fails (W.has_room output.old)
         (streams (R.remaining input.old) (W.contents output.old))
         (streams (R.remaining input.new) (W.contents output.new))
-        ⟦<FileFrom<Unknown> as Disk>⟧ (image_at ⟦<Unknown as Start>⟧)) read
+        ⟦<FileFrom<Unknown> as Disk>⟧ (image_at ⟦<Unknown as Start>⟧)
+        ⟦<FileFrom<NewFile> as Disk>⟧ (image_at ⟦<NewFile as Start>⟧)) read
         (streams (R.remaining input.old) (W.contents output.old))
         (streams (R.remaining input.new) (W.contents output.new))
         (E.contents errors.old) (E.contents errors.new) result }
@@ -138,7 +141,8 @@ pub fn perform<R: Input, W: Output, E: Output>(
     ensures { EndsOrder (DoesOrder (λ _. None) R.never_fails (W.has_room output.old)
         (streams (R.remaining input.old) (W.contents output.old))
         (streams (R.remaining input.new) (W.contents output.new))
-        ⟦<FileFrom<Unknown> as Disk>⟧ (image_at ⟦<Unknown as Start>⟧) order)
+        ⟦<FileFrom<Unknown> as Disk>⟧ (image_at ⟦<Unknown as Start>⟧)
+        ⟦<FileFrom<NewFile> as Disk>⟧ (image_at ⟦<NewFile as Start>⟧) order)
         (E.contents errors.old) (E.contents errors.new) result }
 {
     let ended = carry_out(rt, alloc, order, input, output);

@@ -1,5 +1,5 @@
 //! Farms in files: opening one and making one; and reading a lab file.
-ghost use Rattle.std.specs.Prelude.{◌≡◌, ◌⊎◌, ◌↔◌, false, IfOk, IfErr};
+ghost use Rattle.std.specs.Prelude.{◌≡◌, ◌⊎◌, ◌↔◌, false, IfOk, IfErr, IfSome};
 ghost use Rattle.std.specs.IoError.{error_kind};
 ghost use Rattle.std.specs.declared.io.ErrorKind.TheVariants.{OutOfMemory};
 ghost use Rattle.sqlite.specs.Held.{state};
@@ -11,9 +11,11 @@ ghost use Rattle.farm_desk.specs.InFiles.{ShowsFiles, FindsTables, FindsFarm, Ma
 ghost use Rattle.farm_desk.specs.InFiles.{MakesFarm, DeniesTables, HasReason, IsOpenFault};
 ghost use Rattle.farm_desk.specs.LabFiles.{IsTextOf};
 ghost use Rattle.farm_desk.specs.InFiles.{LooksForFarmIn, keep_fault};
+ghost use Rattle.farm_desk.specs.Orders.{MakesNewFarm};
 
 use crate::fault::DeskFault;
 use crate::lab_files::LabFiles;
+use crate::new_file::NewFile;
 use crate::preflight::Preflight;
 use farm_keep::{KeepFault, Keeper};
 use farm_store::opened_stands;
@@ -100,7 +102,35 @@ pub fn make_farm<S: Start>(
     let Some(preflight) = Preflight::of_new_farm(rt, alloc, path) else {
         return Err(DeskFault::Keep(KeepFault::Store));
     };
-    let conn = open(rt, &preflight, path, start)?;
+    make_at(rt, alloc, &preflight, path, start)
+}
+
+/// A keeper of the empty farm in a new file at a path, whose pages are short; none where there is a
+/// file already, or a log that isn't empty, or where no file can be made. What was made for a store
+/// that fails is taken away again.
+pub fn make_new_farm(
+    rt: &HostRuntime,
+    alloc: Global,
+    path: &str,
+) -> Option<Result<FileKeeper<NewFile>, DeskFault>>
+    ensures { IfSome result (MakesNewFarm (image_at ⟦<NewFile as Start>⟧)) }
+{
+    let preflight = Preflight::of_new_file(rt, alloc, path)?;
+    Some(make_at(rt, alloc, &preflight, path, NewFile))
+}
+
+/// A keeper of the empty farm in files that were looked at.
+fn make_at<S: Start>(
+    rt: &HostRuntime,
+    alloc: Global,
+    preflight: &Preflight<'_>,
+    path: &str,
+    start: S,
+) -> Result<FileKeeper<S>, DeskFault>
+    ensures made { IfOk result (MakesFarm (image_at S.Start)) }
+    ensures fault { IfErr result (λ fault. fault ≡ DeskFault.Keep KeepFault.Store) }
+{
+    let conn = open(rt, preflight, path, start)?;
     let made = new_farm_on(alloc, conn);
     if made.is_err() {
         preflight.clean_up(rt);

@@ -5,13 +5,13 @@
 //! those of a listener; `program` is the program `farm`.
 //!
 //! Read `src/` in the order receive, answer, response, conversation; lab_import; clients, serving,
-//! scripted_clients, socket_clients with pending and deadline_stream; preflight, files, upgrade,
-//! open_files, lab_files; report, orders, command_line; laws.
+//! scripted_clients, socket_clients with pending and deadline_stream; new_file, preflight, files,
+//! upgrade, open_files, lab_files; report, orders, command_line; laws.
 //!
 //! Read `specs/` in the order Received, Answers, Encoding, Response, Ends, which say what a
 //! conversation is; Imports, LabFiles, what an import is; Conversations, Clients, Scripts, Connections,
-//! Serving, what serving does; InFiles, Upgrades, which farm files hold; Faults, Lines, Reports,
-//! what the program prints; Tasks, Orders, Program, what it does.
+//! Serving, what serving does; NewFile, InFiles, Upgrades, which farm files hold; Faults, Lines,
+//! Reports, what the program prints; Tasks, Orders, Program, what it does.
 #![tactic(auto)]
 
 mod answer;
@@ -26,6 +26,7 @@ mod files;
 mod lab_files;
 mod lab_import;
 mod laws;
+mod new_file;
 mod open_files;
 mod orders;
 mod pending;
@@ -51,7 +52,8 @@ pub use scripted_clients::{ScriptedClient, ScriptedClients, ServedClient};
 pub use serving::{serve, serve_on};
 
 // Farms in files.
-pub use files::{FileKeeper, make_farm, open_farm};
+pub use files::{FileKeeper, make_farm, make_new_farm, open_farm};
+pub use new_file::NewFile;
 pub use upgrade::migrate_farm;
 
 // The program: its words, the orders that they name, and its exit statuses.

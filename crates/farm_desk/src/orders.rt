@@ -3,17 +3,19 @@ ghost use Rattle.std.specs.Prelude.{◌≡◌, None};
 ghost use Rattle.sqlite_wal.specs.Files.{image_at};
 ghost use Rattle.farm_desk.specs.Conversations.{AnswersOne, desk};
 ghost use Rattle.farm_desk.specs.Imports.{IsImport};
-ghost use Rattle.farm_desk.specs.Lines.{counts_line, port_line, PrintsLine, PrintsImport};
+ghost use Rattle.farm_desk.specs.Lines.{counts_line, port_line, ready_line, PrintsLine, PrintsImport};
 ghost use Rattle.farm_desk.specs.Orders.{streams, DoesInFiles, DoesInMemory, DoesOrder};
 ghost use Rattle.farm_desk.specs.Orders.{DoesWhileThere, Inits, IsUnlessLost, MigratesFile, OpensMemory};
+ghost use Rattle.farm_desk.specs.Orders.{PrintsIfDone};
 ghost use Rattle.farm_desk.specs.Tasks.{DoesTask, ImportsFile, PrintsReportOf, ServesIfListening};
 ghost use Rattle.farm_keep.specs.KeeperState.{KeeperState};
 
 use crate::conversation::converse;
 use crate::fault::DeskFault;
-use crate::files::{lab_fault, make_farm, open_farm, read_lab};
+use crate::files::{lab_fault, make_farm, make_new_farm, open_farm, read_lab};
 use crate::lab_files::LabFiles;
 use crate::lab_import::{ImportEnd, import};
+use crate::new_file::NewFile;
 use crate::open_files::OpenFiles;
 use crate::report::{report_text, zone_between};
 use crate::serving::serve_on_files;
@@ -63,7 +65,8 @@ pub fn carry_out<R: Input, W: Output>(
     ensures { DoesOrder (λ _. None) R.never_fails (W.has_room output.old)
         (streams (R.remaining input.old) (W.contents output.old))
         (streams (R.remaining input.new) (W.contents output.new))
-        ⟦<FileFrom<Unknown> as Disk>⟧ (image_at ⟦<Unknown as Start>⟧) order result }
+        ⟦<FileFrom<Unknown> as Disk>⟧ (image_at ⟦<Unknown as Start>⟧)
+        ⟦<FileFrom<NewFile> as Disk>⟧ (image_at ⟦<NewFile as Start>⟧) order result }
 {
     carry_out_from(rt, alloc, order, Unknown, rt, input, output)
 }
@@ -82,7 +85,8 @@ pub fn carry_out_from<S: Start, L: LabFiles, R: Input, W: Output>(
     ensures { DoesOrder (L.contents labs.now) R.never_fails (W.has_room output.old)
         (streams (R.remaining input.old) (W.contents output.old))
         (streams (R.remaining input.new) (W.contents output.new))
-        ⟦<FileFrom<S> as Disk>⟧ (image_at S.Start) order result }
+        ⟦<FileFrom<S> as Disk>⟧ (image_at S.Start)
+        ⟦<FileFrom<NewFile> as Disk>⟧ (image_at ⟦<NewFile as Start>⟧) order result }
 {
     match order {
         Order::Once { database, at } => match database {
@@ -296,7 +300,7 @@ fn memory_keeper(alloc: Global) -> Result<Keeper<MemStore>, DeskFault>
     Ok(Keeper::fresh(alloc, conn)?)
 }
 
-/// Makes the empty farm in a file.
+/// Makes the empty farm in a file, which is a new one where there is none.
 fn init<S: Start, W: Output>(
     rt: &HostRuntime,
     alloc: Global,
@@ -305,9 +309,24 @@ fn init<S: Start, W: Output>(
     output: &mut W,
 ) -> Result<End, DeskFault>
     ensures { Inits (W.has_room output.old) (W.contents output.old) (W.contents output.new)
-        ⟦<FileFrom<S> as Disk>⟧ (image_at S.Start) result }
+        ⟦<FileFrom<S> as Disk>⟧ (image_at S.Start)
+        ⟦<FileFrom<NewFile> as Disk>⟧ (image_at ⟦<NewFile as Start>⟧) result }
 {
-    make_farm(rt, alloc, file, start)?;
+    match make_new_farm(rt, alloc, file) {
+        Some(made) => print_made(made, output),
+        None => print_made(make_farm(rt, alloc, file, start), output),
+    }
+}
+
+/// Prints that a farm was made.
+fn print_made<K: Drop, W: Output>(
+    made: Result<K, DeskFault>,
+    output: &mut W,
+) -> Result<End, DeskFault>
+    ensures { PrintsIfDone (W.has_room output.old) (W.contents output.old) (W.contents output.new)
+        made ready_line result }
+{
+    let _made = made?;
     print_line(output, b"ready\n")
 }
 

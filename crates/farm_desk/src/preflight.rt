@@ -4,13 +4,14 @@
 //! is known of a path, so the clauses say what is made of a look, and none what it sees. What
 //! another program does to a path between the look and the open isn't seen.
 ghost use Rattle.std.specs.Prelude.{◌≡◌, IfSome};
-ghost use Rattle.farm_desk.specs.Preflight.{MayBeNew};
-ghost use Rattle.farm_desk.specs.declared.preflight.PathState.TheVariants.{Database};
+ghost use Rattle.farm_desk.specs.Preflight.{IsNoLog, MayBeNew};
+ghost use Rattle.farm_desk.specs.declared.preflight.PathState.TheVariants.{Database, Nothing};
 
+use crate::new_file::{REST_OF_PAGE, page_head};
 use os::{RangeLock, try_lock_range};
 use std::alloc::Global;
 use std::fs::{File, OpenOptions};
-use std::io::{ErrorKind, Read};
+use std::io::{ErrorKind, Read, Write};
 use std::os::fd::AsRawFd;
 use std::os::unix::fs::OpenOptionsExt;
 use std::{fs, io};
@@ -107,6 +108,26 @@ impl<'a> Preflight<'a> {
         if is_free { Some(preflight) } else { None }
     }
 
+    /// The check of a farm in a new file, which is made with its first page; none where there is a
+    /// file, or a log that isn't empty, or where none can be made.
+    pub(crate) fn of_new_file(
+        rt: &HostRuntime,
+        alloc: Global,
+        file: &'a str,
+    ) -> Option<Preflight<'a>>
+        ensures path { IfSome result (λ it. it.file.now ≡ file.now) }
+        ensures new { IfSome result (λ it. it.file_state ≡ Nothing × IsNoLog it.log_state) }
+    {
+        let preflight = Preflight::of_paths(rt, alloc, file)?;
+        let is_free = preflight.file_state == PathState::Nothing
+            && matches!(preflight.log_state, PathState::Nothing | PathState::Empty);
+        if is_free && make_new_file(rt, file).is_ok() {
+            Some(preflight)
+        } else {
+            None
+        }
+    }
+
     /// Takes away what this order made of a store that is closed again: a log that wasn't there
     /// before and has no page, and the file that was made for a new farm, where it has no table.
     /// Both stay where another program has the file open; it is locked meanwhile.
@@ -198,11 +219,27 @@ pub(crate) fn log_path(rt: &HostRuntime, alloc: Global, file: &str) -> io::Resul
 }
 
 /// Makes a file where there is nothing.
-fn make_file(rt: &HostRuntime, path: &str) -> io::Result<()> {
+fn make_file(rt: &HostRuntime, path: &str) -> io::Result<File> {
     OpenOptions::new()
         .write(true)
         .create_new(true)
         .mode(MODE)
-        .open(rt, path)?;
-    Ok(())
+        .open(rt, path)
+}
+
+/// Makes a file with its first page where there is nothing. That is on the disk before a store is
+/// opened there, since an open takes the log beside a file without a byte for no log.
+fn make_new_file(rt: &HostRuntime, path: &str) -> io::Result<()> {
+    let mut file = make_file(rt, path)?;
+    let written = write_first_page(&mut file);
+    if written.is_err() {
+        let _ = fs::remove_file(rt, path);
+    }
+    written
+}
+
+fn write_first_page(file: &mut File) -> io::Result<()> {
+    file.write_all(&page_head())?;
+    file.write_all(&[0; REST_OF_PAGE])?;
+    file.sync_all()
 }
