@@ -75,57 +75,37 @@ states_of e jobs all = AllByRecursion-weaker (λ j is. is.state) jobs all
 
 -- ---- the tables of a farm, one by one
 
-pub types_in : (e : Edition) (F : Farm) (T : TableRows) → rows_in e F ≡ T → T.types ≡ map type_columns F.types
-unfolding rows_of first_rows_of
-types_in Edition.First F T is = ap (λ (U : TableRows). U.types) (sym is)
-types_in Edition.Second F T is = ap (λ (U : TableRows). U.types) (sym is)
+pub record Spells (e : Edition) (F : Farm) (T : TableRows) : Type 0 where
+  pub types : T.types ≡ map type_columns F.types
+  pub boards : T.boards ≡ map board_columns F.boards
+  pub jobs : T.jobs ≡ map (job_columns_in e) F.jobs
+  pub reservations : T.reservations ≡ map res_columns F.reservations
+  pub kept : T.kept ≡ map kept_columns F.kept
+  pub meta : T.meta ≡ meta_rows_in e (numbers_of F)
 
-pub boards_in : (e : Edition) (F : Farm) (T : TableRows) → rows_in e F ≡ T → T.boards ≡ map board_columns F.boards
+its_own : (e : Edition) (F : Farm) → Spells e F (rows_in e F)
 unfolding rows_of first_rows_of
-boards_in Edition.First F T is = ap (λ (U : TableRows). U.boards) (sym is)
-boards_in Edition.Second F T is = ap (λ (U : TableRows). U.boards) (sym is)
+its_own Edition.First F = record { types = refl; boards = refl; jobs = refl; reservations = refl; kept = refl; meta = refl }
+its_own Edition.Second F = record { types = refl; boards = refl; jobs = refl; reservations = refl; kept = refl; meta = refl }
 
-pub jobs_in : (e : Edition) (F : Farm) (T : TableRows) → rows_in e F ≡ T → T.jobs ≡ map (job_columns_in e) F.jobs
-unfolding rows_of first_rows_of
-jobs_in Edition.First F T is = ap (λ (U : TableRows). U.jobs) (sym is)
-jobs_in Edition.Second F T is = ap (λ (U : TableRows). U.jobs) (sym is)
-
-pub reservations_in : (e : Edition) (F : Farm) (T : TableRows) → rows_in e F ≡ T → T.reservations ≡ map res_columns F.reservations
-unfolding rows_of first_rows_of
-reservations_in Edition.First F T is = ap (λ (U : TableRows). U.reservations) (sym is)
-reservations_in Edition.Second F T is = ap (λ (U : TableRows). U.reservations) (sym is)
-
-pub kept_in : (e : Edition) (F : Farm) (T : TableRows) → rows_in e F ≡ T → T.kept ≡ map kept_columns F.kept
-unfolding rows_of first_rows_of
-kept_in Edition.First F T is = ap (λ (U : TableRows). U.kept) (sym is)
-kept_in Edition.Second F T is = ap (λ (U : TableRows). U.kept) (sym is)
-
-pub meta_in : (e : Edition) (F : Farm) (T : TableRows) → rows_in e F ≡ T → T.meta ≡ meta_rows_in e (numbers_of F)
-unfolding rows_of first_rows_of
-meta_in Edition.First F T is = ap (λ (U : TableRows). U.meta) (sym is)
-meta_in Edition.Second F T is = ap (λ (U : TableRows). U.meta) (sym is)
+pub spelled : (e : Edition) (F : Farm) (T : TableRows) → rows_in e F ≡ T → Spells e F T
+spelled e F T is = subst (Spells e F) is (its_own e F)
 
 -- six tables that are those of a farm are all that it has
-pub whole_in : (e : Edition) (F : Farm) (T : TableRows) → T.types ≡ map type_columns F.types → T.boards ≡ map board_columns F.boards → T.jobs ≡ map (job_columns_in e) F.jobs
-    → T.reservations ≡ map res_columns F.reservations → T.kept ≡ map kept_columns F.kept → T.meta ≡ meta_rows_in e (numbers_of F) → rows_in e F ≡ T
+pub whole_in : (e : Edition) (F : Farm) (T : TableRows) → Spells e F T → rows_in e F ≡ T
 unfolding rows_of first_rows_of
-whole_in Edition.First F T types boards jobs reservations kept meta = sym (λ i. record { types = types i; boards = boards i; jobs = jobs i; reservations = reservations i; kept = kept i; meta = meta i })
-whole_in Edition.Second F T types boards jobs reservations kept meta = sym (λ i. record { types = types i; boards = boards i; jobs = jobs i; reservations = reservations i; kept = kept i; meta = meta i })
+whole_in Edition.First F T s = sym (λ i. record { types = s.types i; boards = s.boards i; jobs = s.jobs i; reservations = s.reservations i; kept = s.kept i; meta = s.meta i })
+whole_in Edition.Second F T s = sym (λ i. record { types = s.types i; boards = s.boards i; jobs = s.jobs i; reservations = s.reservations i; kept = s.kept i; meta = s.meta i })
 
--- ---- the version: the rows of the numbers have their edition's alone
+-- ---- the version: a farm's tables have their edition's alone
 
-pub numbers_have_version : (e : Edition) (m : MetaRow) → IsTrue (list_any (is_version_row (schema_of e)) (meta_rows_in e m))
-numbers_have_version Edition.First m = refl
-numbers_have_version Edition.Second m = refl
-
-pub numbers_are_own : (e : Edition) (m : MetaRow) → list_any (is_version_row (schema_of (other_edition e))) (meta_rows_in e m) ≡ false
-numbers_are_own Edition.First m = refl
-numbers_are_own Edition.Second m = refl
-
-pub of_own_schema : (e : Edition) (F : Farm) → IsOfSchema (schema_of e) (rows_in e F)
+of_own_schema : (e : Edition) (F : Farm) → IsOfSchema (schema_of e) (rows_in e F)
 unfolding rows_of first_rows_of
 of_own_schema Edition.First F = refl
 of_own_schema Edition.Second F = refl
+
+pub own_schema : (e : Edition) (F : Farm) (T : TableRows) → rows_in e F ≡ T → IsOfSchema (schema_of e) T
+own_schema e F T is = subst (IsOfSchema (schema_of e)) is (of_own_schema e F)
 
 pub not_other : (e : Edition) (F : Farm) → IsOfSchema (schema_of (other_edition e)) (rows_in e F) → ⊥
 unfolding rows_of first_rows_of

@@ -1,6 +1,7 @@
 -- The rows of the farm's numbers.
-use Rattle.std.proofs.Common.{◌≡◌, ◌≢◌, ℕ, pos, List, [], ◌∷◌, length, get_or, Result, Ok, Err, IsErrAnd, sym, ap, subst, ◌∙◌, arith}
+use Rattle.std.proofs.Common.{◌≡◌, ◌≢◌, ◌<◌, ℕ, pos, List, [], ◌∷◌, length, get_or, Result, Ok, Err, IsErrAnd, sym, ap, subst, ◌∙◌, arith}
 use Rattle.std.specs.Prelude.{⊤}
+use Rattle.std.specs.List.{AllByRecursion}
 use Rattle.sqlite.specs.declared.types.Value.TheVariants.{Int, Text}
 use Rattle.sqlite.specs.Order.{Row}
 use Rattle.sqlite_value.specs.Order.{column}
@@ -12,6 +13,7 @@ use Rattle.farm_store.specs.Stored.{IsWide}
 use Rattle.farm_store.specs.declared.fault.StoreFault.{StoreFault}
 use Rattle.farm_store.specs.declared.fault.StoreFault.TheVariants.{BadStore}
 use Rattle.farm_store.proofs.ColumnsFrom.{whole}
+use Rattle.farm_store.proofs.ReadRows.{all_at}
 
 pub number_read : (r : Result ℕ StoreFault) (row : Row) (name : List ℕ) → IsWide of_meta.width row → column row 0 ≡ Text name → ReadsAs r (λ _. ⊤) (λ n. Int (pos n)) (column row 1) → ReadsAs r (λ _. ⊤) (λ value. meta_row name value) row
 number_read (Ok n) row name wide named read = (tt, sym (whole of_meta.width row wide) ∙ rw (named, read.1))
@@ -36,10 +38,12 @@ four_rows (v ∷ w ∷ x ∷ y ∷ z ∷ rest) a b c d len p q r s = absurd (ome
 
 module _ (IsGood : MetaRow → Type 0) (spelled : MetaRow → List Row) where
   -- a row that was refused refuses them all
-  pub refuses_number : (r : Result MetaRow StoreFault) (rows : List Row) (at : ℕ) (row : Row) (name : List ℕ) (f : MetaRow → ℕ) (fault : StoreFault) → IsErrAnd r (λ e. e ≡ fault) → row ≡ get_or rows at row
-      → ((m : MetaRow) → get_or (spelled m) at row ≡ meta_row name (f m)) → IsNoVersionFault fault × (fault ≡ BadStore → (value : ℕ) → ⊤ → row ≢ meta_row name value) → ReadsAs r IsGood spelled rows
-  refuses_number (Ok m) rows at row name f fault is there one refused = absurd is
-  refuses_number (Err e) rows at row name f fault is there one refused = (
-    subst IsNoVersionFault (sym is) refused.0,
-    λ bad m good same. refused.1 (sym is ∙ bad) (f m) tt (there ∙ ap (λ l. get_or l at row) same ∙ one m),
-  )
+  pub refuses_number : (r : Result MetaRow StoreFault) (rows : List Row) (at : ℕ) (row : Row) (name : List ℕ) (f : MetaRow → ℕ) (fault : StoreFault) → at < length rows → IsErrAnd r (λ e. e ≡ fault) → row ≡ get_or rows at row
+      → ((m : MetaRow) → get_or (spelled m) at row ≡ meta_row name (f m)) → (IsWide of_meta.width row → IsNoVersionFault fault × (fault ≡ BadStore → (value : ℕ) → ⊤ → row ≢ meta_row name value))
+      → AllByRecursion (IsWide of_meta.width) rows → ReadsAs r IsGood spelled rows
+  refuses_number (Ok m) rows at row name f fault low is there one refused wide = absurd is
+  refuses_number (Err e) rows at row name f fault low is there one refused wide =
+      let why = refused (subst (IsWide of_meta.width) (sym there) (all_at (IsWide of_meta.width) rows at row wide low)) in (
+        subst IsNoVersionFault (sym is) why.0,
+        λ bad m good same. why.1 (sym is ∙ bad) (f m) tt (there ∙ ap (λ l. get_or l at row) same ∙ one m),
+      )

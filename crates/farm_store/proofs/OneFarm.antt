@@ -8,7 +8,7 @@ use Rattle.sqlite.specs.Order.{Row}
 use Rattle.sqlite_value.specs.Order.{column}
 use Rattle.farm_types.specs.Words.{IsName, IsTags, is_word}
 use Rattle.farm_types.specs.Small.{every_of, held_by}
-use Rattle.farm_types.specs.Tags.{tags_text}
+use Rattle.farm_types.specs.Tags.{tags_text, tags_read}
 use Rattle.farm_types.specs.Farm.{Farm}
 use Rattle.farm_types.specs.Codes.{health_code, health_with, state_code, state_with, job_state_code, job_state_with, outcome_code, outcome_with, res_state_code, res_state_with}
 use Rattle.farm_types.specs.declared.rows.Check.{Check}
@@ -24,13 +24,12 @@ use Rattle.farm_types.specs.declared.rows.JobRow.{JobRow}
 use Rattle.farm_types.specs.declared.rows.ResRow.{ResRow}
 use Rattle.farm_types.specs.declared.rows.KeptRow.{KeptRow}
 use Rattle.farm_types.proofs.SortedTags.{tags_read_back}
-use Rattle.farm_types.specs.Tags.{tags_read}
 use Rattle.farm_types.specs.declared.rows.MetaRow.{MetaRow}
 use Rattle.farm_store.specs.Columns.{rows_of, unit_code, holder_of, checking_code, first_state_code, type_columns, board_columns, res_columns, kept_columns, numbers_of}
 use Rattle.farm_store.specs.Editions.{IsCollectorIn, IsReadableIn, IsReadableJobIn, IsStateIn, job_columns_in, meta_rows_in, rows_in, state_code_in}
 use Rattle.farm_store.specs.Readable.{IsReadable, IsReadableType, IsReadableBoard, IsReadableRes, IsReadableKept}
 use Rattle.farm_store.specs.declared.edition.Edition.{Edition}
-use Rattle.farm_store.proofs.EditionLemmas.{collector_in, readable_jobs, words_in, types_in, boards_in, jobs_in, reservations_in, kept_in, meta_in}
+use Rattle.farm_store.proofs.EditionLemmas.{collector_in, readable_jobs, spelled, words_in}
 
 same_number : (m n : ℕ) → Int (pos m) ≡ Int (pos n) → m ≡ n
 same_number m n e = cc
@@ -214,13 +213,15 @@ one_farm_in e F G p q is =
     let T = rows_in e G in
     let p_words = words_in e F p in
     let q_words = words_in e G q in
-    let types = same_rows IsReadableType type_columns same_type F.types G.types p_words.types q_words.types (sym (types_in e F T is) ∙ types_in e G T refl) in
-    let boards = same_rows IsReadableBoard board_columns same_board F.boards G.boards p_words.boards q_words.boards (sym (boards_in e F T is) ∙ boards_in e G T refl) in
+    let p_rows = spelled e F T is in
+    let q_rows = spelled e G T refl in
+    let types = same_rows IsReadableType type_columns same_type F.types G.types p_words.types q_words.types (sym p_rows.types ∙ q_rows.types) in
+    let boards = same_rows IsReadableBoard board_columns same_board F.boards G.boards p_words.boards q_words.boards (sym p_rows.boards ∙ q_rows.boards) in
     let jobs = same_rows (IsReadableJobIn e) (job_columns_in e) (same_job e) F.jobs G.jobs (readable_jobs e F p) (readable_jobs e G q)
-    (sym (jobs_in e F T is) ∙ jobs_in e G T refl) in
-    let reservations = same_rows IsReadableRes res_columns same_res F.reservations G.reservations p_words.reservations q_words.reservations (sym (reservations_in e F T is) ∙ reservations_in e G T refl) in
-    let kept = same_rows IsReadableKept kept_columns same_kept F.kept G.kept p_words.kept q_words.kept (sym (kept_in e F T is) ∙ kept_in e G T refl) in
-    let numbers : numbers_of F ≡ numbers_of G = same_numbers e (numbers_of F) (numbers_of G) (collector_in e F p) (collector_in e G q) (sym (meta_in e F T is) ∙ meta_in e G T refl) in
+    (sym p_rows.jobs ∙ q_rows.jobs) in
+    let reservations = same_rows IsReadableRes res_columns same_res F.reservations G.reservations p_words.reservations q_words.reservations (sym p_rows.reservations ∙ q_rows.reservations) in
+    let kept = same_rows IsReadableKept kept_columns same_kept F.kept G.kept p_words.kept q_words.kept (sym p_rows.kept ∙ q_rows.kept) in
+    let numbers : numbers_of F ≡ numbers_of G = same_numbers e (numbers_of F) (numbers_of G) (collector_in e F p) (collector_in e G q) (sym p_rows.meta ∙ q_rows.meta) in
     λ i. record { types = types i; boards = boards i; jobs = jobs i; reservations = reservations i; kept = kept i; clock = (numbers i).clock; collector = (numbers i).collector; count = (numbers i).count; next = (numbers i).next }
 
 pub one_farm : (F G : Farm) → IsReadable F → IsReadable G → rows_of F ≡ rows_of G → F ≡ G

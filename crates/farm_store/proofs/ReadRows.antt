@@ -1,5 +1,5 @@
 -- Rows read one after another.
-use Rattle.std.proofs.Common.{◌≡◌, ◌≢◌, ℕ, zero, suc, ◌<◌, List, [], ◌∷◌, ◌++◌, map, length, get_or, Result, Ok, Err, OnOk, IsErrAnd, sym, ap, subst, ◌∙◌, arith}
+use Rattle.std.proofs.Common.{◌≡◌, ◌≢◌, ℕ, zero, suc, ◌<◌, List, [], ◌∷◌, ◌++◌, map, length, get_or, Result, Ok, Err, OnOk, IfErr, IsErrAnd, sym, ap, subst, ◌∙◌, arith}
 use Rattle.std.specs.List.{AllByRecursion}
 use Rattle.std.proofs.lemmas.List.{map-append}
 use Rattle.sqlite.specs.Order.{Row}
@@ -53,6 +53,10 @@ module _ {X : Type 0} (IsGood : X → Type 0) (columns : X → Row) (width : ℕ
 pub on_ok : {A E : Type 0} (r : Result A E) (P : Type 0) → P → OnOk r P
 on_ok (Ok a) P p = p
 on_ok (Err e) P p = tt
+
+pub if_err : {A : Type 0} (r : Result A StoreFault) (fault : StoreFault) → IsErrAnd r (λ f. f ≡ fault) → IsNoVersionFault fault → IfErr r IsNoVersionFault
+if_err (Ok a) fault is none = tt
+if_err (Err f) fault is none = subst IsNoVersionFault (sym is) none
 
 -- a row that was refused refuses them all
 pub refuses : {A X : Type 0} (r : Result A StoreFault) (items : A → List X) (IsGood : X → Type 0) (columns : X → Row) (rows : List Row) (fault : StoreFault) → IsErrAnd r (λ e. e ≡ fault) → IsNoVersionFault fault

@@ -1,16 +1,15 @@
 -- What reading makes of columns and rows.
 use Rattle.std.specs.Prelude.{◌≡◌, ◌≢◌, ◌⊎◌, IsTrue, ℕ, suc, List, [], ◌∷◌, Result, Err}
 use Rattle.std.specs.Prelude.{IfOk, MatchResult, map, ⊤}
-use Rattle.std.specs.List.{AllByRecursion}
+use Rattle.std.specs.List.{AllByRecursion, list_any}
 use Rattle.sqlite.specs.Effect.{Database}
 use Rattle.sqlite.specs.Order.{Row}
 use Rattle.sqlite.specs.State.{State}
 use Rattle.sqlite_value.specs.Order.{column}
 use Rattle.farm_types.specs.Farm.{Farm, farm_of}
 use Rattle.farm_types.specs.declared.calls.Rows.{Rows}
-use Rattle.farm_types.specs.declared.rows.MetaRow.{MetaRow}
-use Rattle.farm_store.specs.Columns.{IsOfSchema, TableRows}
-use Rattle.farm_store.specs.Editions.{IsCollectorIn, IsReadableIn, meta_rows_in, other_edition}
+use Rattle.farm_store.specs.Columns.{IsOfSchema, TableRows, is_version_row}
+use Rattle.farm_store.specs.Editions.{IsReadableIn, other_edition}
 use Rattle.farm_store.specs.Editions.{rows_in, schema_of, version_fault}
 use Rattle.farm_store.specs.Holds.{ShowsTables, Stands}
 use Rattle.farm_store.specs.Versions.{MayHaveVersion, HasVersion}
@@ -77,26 +76,28 @@ pub record LooksFirst {A : Type 0} (edition : Edition) (result : Result A StoreF
       → ¬ MayHaveVersion (schema_of edition) db
       → (result ≡ Err BadStore) ⊎ (result ≡ Err Store)
 
--- the numbers read are those of the tables; they are refused as the other edition's only where the
--- tables are of its version, and as bad only where they have no such numbers
-abbrev pub ReadsNumbers : Edition → Result MetaRow StoreFault → TableRows → Type 0
-ReadsNumbers edition result T =
-    MatchResult result (λ m. IsCollectorIn edition m.collector × (T.meta ≡ meta_rows_in edition m))
-    (λ fault. (fault ≡ version_fault (other_edition edition)
-    → IsOfSchema (schema_of (other_edition edition)) T)
-    × (fault ≡ BadStore → (m : MetaRow) → IsCollectorIn edition m.collector
-    → T.meta ≢ meta_rows_in edition m))
+-- rows of the numbers are refused as the other edition's, or as those of neither
+abbrev pub IsVersionFault : Edition → StoreFault → List Row → Type 0
+IsVersionFault edition fault rows =
+    ((fault ≡ version_fault (other_edition edition))
+    × IsTrue (list_any (is_version_row (schema_of (other_edition edition))) rows))
+    ⊎ ((fault ≡ BadStore)
+    × ¬ IsTrue (list_any (is_version_row (schema_of (other_edition edition))) rows)
+    × ¬ IsTrue (list_any (is_version_row (schema_of edition)) rows))
 
--- the rows read are those of a readable farm with these tables; they are refused as the other
--- edition's only where the tables are of its version, and as bad only where no readable farm has
--- them
+-- they have their edition's version, and not the other's
+abbrev pub IsVersion : Edition → List Row → Type 0
+IsVersion edition rows =
+    ¬ IsTrue (list_any (is_version_row (schema_of (other_edition edition))) rows)
+    × IsTrue (list_any (is_version_row (schema_of edition)) rows)
+
+-- the rows read are those of a readable farm with these tables; they are refused as bad only where
+-- no readable farm has them
 abbrev pub ReadsFarm : Edition → Result Rows StoreFault → TableRows → Type 0
 ReadsFarm edition result T =
     MatchResult result
     (λ rows. IsReadableIn edition (farm_of rows) × (rows_in edition (farm_of rows) ≡ T))
-    (λ fault. (fault ≡ version_fault (other_edition edition)
-    → IsOfSchema (schema_of (other_edition edition)) T)
-    × (fault ≡ BadStore → (F : Farm) → IsReadableIn edition F → rows_in edition F ≢ T))
+    (λ fault. fault ≡ BadStore → (F : Farm) → IsReadableIn edition F → rows_in edition F ≢ T)
 
 -- what a reading of the tables of an edition reports of the store
 pub record ReadsEdition (edition : Edition) (result : Result Rows StoreFault) (s : State)

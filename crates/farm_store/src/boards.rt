@@ -100,10 +100,7 @@ fn holder_at(row: &Row, kind: usize, number: usize) -> Result<Holder, StoreFault
 {
     let kind = number_at(row, kind)?;
     let number = number_at(row, number)?;
-    match holder_with(kind, number) {
-        Some(holder) => Ok(holder),
-        None => Err(StoreFault::BadStore),
-    }
+    holder_with(kind, number).ok_or(StoreFault::BadStore)
 }
 
 /// Its columns; `tags` is the text of the row's tags.
@@ -140,8 +137,7 @@ impl Upsert for Tagged<'_, BoardRow> {
     ghost IsSmall = { λ row. IsSmallBoard row.row.now };
 
     fn put<S: Alter>(&self, tx: &mut Transaction<'_, S>) -> Result<(), Error> {
-        let columns = board_columns(self.row, self.text.as_str());
-        tx.execute(PUT, &columns)?;
+        tx.execute(PUT, &board_columns(self.row, self.text.as_str()))?;
         Ok(())
     }
 

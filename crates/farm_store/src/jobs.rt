@@ -180,8 +180,7 @@ impl Upsert for Tagged<'_, JobRow> {
     ghost IsSmall = { λ row. IsSmallJob row.row.now };
 
     fn put<S: Alter>(&self, tx: &mut Transaction<'_, S>) -> Result<(), Error> {
-        let columns = job_columns(self.row, self.text.as_str());
-        tx.execute(PUT, &columns)?;
+        tx.execute(PUT, &job_columns(self.row, self.text.as_str()))?;
         Ok(())
     }
 

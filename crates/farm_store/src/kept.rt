@@ -74,8 +74,7 @@ impl Upsert for KeptRow {
     ghost IsSmall = { IsSmallKept };
 
     fn put<S: Alter>(&self, tx: &mut Transaction<'_, S>) -> Result<(), Error> {
-        let columns = kept_columns(self);
-        tx.execute(PUT, &columns)?;
+        tx.execute(PUT, &kept_columns(self))?;
         Ok(())
     }
 

@@ -37,6 +37,7 @@ pub fn opened_stands<S: Alter>(conn: &Connection<S>)
 }
 
 /// Farms whose words are words have the same tables only where they are the same farm.
+#[tactic(auto, using(crate::proofs::OneFarm::one_farm))]
 pub fn tables_lose_nothing()
     ensures { (F G : Farm) → IsReadable F → IsReadable G → rows_of F ≡ rows_of G → F ≡ G }
 {}
@@ -48,6 +49,7 @@ pub fn first_tables_lose_nothing()
 {}
 
 /// No farm's tables of this edition are a farm's of the first one.
+#[tactic(auto, using(crate::proofs::EditionLemmas::editions_apart))]
 pub fn editions_are_apart()
     ensures { (F G : Farm) → rows_of F ≢ first_rows_of G }
 {}

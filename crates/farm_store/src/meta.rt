@@ -1,5 +1,5 @@
 //! The table of the farm's numbers: its statements, and what its rows stand for.
-ghost use Rattle.std.specs.Prelude.{◌≡◌, ◌≢◌, ◌↔◌, ◌⊎◌, [], ◌∷◌, Err, IfErr, IfOk, IsTrue, OnOk};
+ghost use Rattle.std.specs.Prelude.{◌≡◌, ◌↔◌, [], ◌∷◌, IfErr, IfOk, IsTrue, OnOk};
 ghost use Rattle.std.specs.Prelude.{MatchResult, false, ⊤};
 ghost use Rattle.std.specs.List.{AllByRecursion, list_any};
 ghost use Rattle.sqlite.specs.Held.{state};
@@ -7,13 +7,11 @@ ghost use Rattle.sqlite.specs.State.{HasCleanDisk};
 ghost use Rattle.farm_types.specs.Small.{IsSmall};
 ghost use Rattle.farm_store.specs.Columns.{TableRows, first_meta_rows, meta_row, meta_rows};
 ghost use Rattle.farm_store.specs.Columns.{number_rows, is_version_row};
-ghost use Rattle.farm_store.specs.Editions.{IsCollectorIn, meta_rows_in, other_edition, schema_of};
-ghost use Rattle.farm_store.specs.Editions.{version_fault};
+ghost use Rattle.farm_store.specs.Editions.{IsCollectorIn, meta_rows_in};
 ghost use Rattle.farm_store.specs.Edits.{ChangesTables, GoesOn, StaysOpen};
 ghost use Rattle.farm_store.specs.Holds.{IsInside, ReadsOnly, Stands};
 ghost use Rattle.farm_store.specs.Places.{of_meta, put_at};
-ghost use Rattle.farm_store.specs.Reading.{LooksAtSchema, LooksFirst, ReadsAs, ReadsNumbers};
-ghost use Rattle.farm_store.specs.Reading.{IsNoVersionFault};
+ghost use Rattle.farm_store.specs.Reading.{IsNoVersionFault, IsVersion, IsVersionFault, ReadsAs};
 ghost use Rattle.farm_store.specs.Schema.{meta_table};
 ghost use Rattle.farm_store.specs.Stored.{IsWide};
 ghost use Rattle.farm_store.specs.Versions.{ShowsNumbers};
@@ -164,7 +162,7 @@ fn second_numbers_of(rows: &[Row]) -> Result<MetaRow, StoreFault>
 }
 
 /// The farm's numbers in an edition.
-fn numbers_of(rows: &[Row], edition: Edition) -> Result<MetaRow, StoreFault>
+pub(crate) fn numbers_of(rows: &[Row], edition: Edition) -> Result<MetaRow, StoreFault>
     ensures read { AllByRecursion (IsWide of_meta.width) rows.now
         → ReadsAs result (λ m. IsCollectorIn edition m.collector) (meta_rows_in edition) rows.now }
     ensures collector { IfOk result (λ m. IsCollectorIn edition m.collector) }
@@ -191,15 +189,9 @@ fn have_version(rows: &[Row], version: u64) -> bool
 }
 
 /// Refuses rows that have the other edition's version, and those that don't have this one's.
-fn look_at_schema(rows: &[Row], edition: Edition) -> Result<(), StoreFault>
-    ensures { MatchResult result
-        (λ _. ¬ IsTrue (list_any (is_version_row (schema_of (other_edition edition))) rows.now)
-        × IsTrue (list_any (is_version_row (schema_of edition)) rows.now))
-        (λ fault. ((fault ≡ version_fault (other_edition edition))
-        × IsTrue (list_any (is_version_row (schema_of (other_edition edition))) rows.now))
-        ⊎ ((fault ≡ StoreFault.BadStore)
-        × ¬ IsTrue (list_any (is_version_row (schema_of (other_edition edition))) rows.now)
-        × ¬ IsTrue (list_any (is_version_row (schema_of edition)) rows.now))) }
+pub(crate) fn look_at_schema(rows: &[Row], edition: Edition) -> Result<(), StoreFault>
+    ensures { MatchResult result (λ _. IsVersion edition rows.now)
+        (λ fault. IsVersionFault edition fault rows.now) }
 {
     let other = edition.other();
     if have_version(rows, other.schema()) {
@@ -211,7 +203,8 @@ fn look_at_schema(rows: &[Row], edition: Edition) -> Result<(), StoreFault>
     }
 }
 
-fn meta_rows<S: Alter>(conn: &mut Connection<S>) -> Result<Vec<Row>, Error>
+/// All rows of the table.
+pub(crate) fn meta_rows<S: Alter>(conn: &mut Connection<S>) -> Result<Vec<Row>, Error>
     requires autocommit { conn.old.in_transaction ≡ false }
     ensures only { ReadsOnly (state S.Store conn.old) (state S.Store conn.new) }
     ensures rows { HasCleanDisk (state S.Store conn.new) → IfOk result (λ rows. (T : TableRows)
@@ -224,27 +217,4 @@ fn meta_rows<S: Alter>(conn: &mut Connection<S>) -> Result<Vec<Row>, Error>
 {
     let rows = conn.query_all(READ, &[])?;
     Ok(rows)
-}
-
-/// The farm's numbers in an edition. The version is looked at before the other rows.
-pub(crate) fn read_numbers<S: Alter>(
-    conn: &mut Connection<S>,
-    edition: Edition,
-) -> Result<MetaRow, StoreFault>
-    requires autocommit { conn.old.in_transaction ≡ false }
-    ensures only { ReadsOnly (state S.Store conn.old) (state S.Store conn.new) }
-    ensures read { HasCleanDisk (state S.Store conn.new) → (T : TableRows)
-        → Stands (state S.Store conn.old) T → ReadsNumbers edition result T }
-    ensures schema { HasCleanDisk (state S.Store conn.new) → (T : TableRows)
-        → Stands (state S.Store conn.old) T → LooksAtSchema edition result T }
-    ensures looked { HasCleanDisk (state S.Store conn.new)
-        → LooksFirst edition result (state S.Store conn.old).now }
-    ensures collector { IfOk result (λ m. IsCollectorIn edition m.collector) }
-    ensures fault { result ≢ Err (version_fault edition) }
-    ensures opened { HasCleanDisk (state S.Store conn.new)
-        → OnOk result (IsTrue (state S.Store conn.old).is_open) }
-{
-    let rows = meta_rows(conn)?;
-    look_at_schema(&rows, edition)?;
-    numbers_of(&rows, edition)
 }

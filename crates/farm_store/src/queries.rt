@@ -15,7 +15,7 @@ ghost use Rattle.farm_store.specs.declared.edition.Edition.TheVariants.{First, S
 
 use crate::edition::Edition;
 use crate::fault::StoreFault;
-use crate::meta::read_numbers;
+use crate::meta::{look_at_schema, meta_rows, numbers_of};
 use crate::queries::rows::read;
 use crate::tables::is_farm_schema;
 use farm_types::{
@@ -64,7 +64,7 @@ fn read_tables<S: Alter>(
 }
 
 /// `read_edition`, whatever other columns, tables, indexes and views the store has: each table by
-/// its query, that of the numbers first.
+/// its query, that of the numbers first, whose version is looked at before all else.
 fn read_any<S: Alter>(
     alloc: Global,
     conn: &mut Connection<S>,
@@ -79,7 +79,9 @@ fn read_any<S: Alter>(
     ensures collector { IfOk result (λ rows. IsCollectorIn edition rows.meta.collector) }
     ensures fault { result ≢ Err (version_fault edition) }
 {
-    let meta = read_numbers(conn, edition)?;
+    let numbers = meta_rows(conn)?;
+    look_at_schema(&numbers, edition)?;
+    let meta = numbers_of(&numbers, edition)?;
     read_tables(alloc, conn, meta, edition)
 }
 
@@ -98,15 +100,11 @@ fn read_edition<S: Alter>(
     ensures fault { result ≢ Err (version_fault edition) }
 {
     let is_ours = is_farm_schema(conn.schema());
-    match read_any(alloc, conn, edition) {
-        Ok(rows) => {
-            if is_ours {
-                Ok(rows)
-            } else {
-                Err(StoreFault::BadStore)
-            }
-        }
-        Err(fault) => Err(fault),
+    let rows = read_any(alloc, conn, edition)?;
+    if is_ours {
+        Ok(rows)
+    } else {
+        Err(StoreFault::BadStore)
     }
 }
 

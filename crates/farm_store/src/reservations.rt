@@ -84,8 +84,7 @@ impl Upsert for Tagged<'_, ResRow> {
     ghost IsSmall = { λ row. IsSmallRes row.row.now };
 
     fn put<S: Alter>(&self, tx: &mut Transaction<'_, S>) -> Result<(), Error> {
-        let columns = res_columns(self.row, self.text.as_str());
-        tx.execute(PUT, &columns)?;
+        tx.execute(PUT, &res_columns(self.row, self.text.as_str()))?;
         Ok(())
     }
 

@@ -91,8 +91,7 @@ impl Upsert for TypeRow {
     ghost IsSmall = { IsSmallType };
 
     fn put<S: Alter>(&self, tx: &mut Transaction<'_, S>) -> Result<(), Error> {
-        let columns = type_columns(self);
-        tx.execute(PUT, &columns)?;
+        tx.execute(PUT, &type_columns(self))?;
         Ok(())
     }
 
@@ -120,10 +119,8 @@ impl Stored for TypeRow {
         let name = name_at(alloc, row, 0)?;
         let unit = number_at(row, 1)?;
         let every = number_at(row, 2)?;
-        match check_of(unit, every) {
-            Some(check) => Ok(TypeRow { name, check }),
-            None => Err(StoreFault::BadStore),
-        }
+        let check = check_of(unit, every).ok_or(StoreFault::BadStore)?;
+        Ok(TypeRow { name, check })
     }
 
     ghost wide = { λ _ x. refl };

@@ -3,66 +3,48 @@ pub(crate) mod rows;
 pub(crate) mod tagged;
 pub(crate) mod texts;
 
-ghost use Rattle.std.specs.Prelude.{◌≡◌, ◌⊎◌, false, map, IsTrue, Err, IfErr, OnOk};
+ghost use Rattle.std.specs.Prelude.{◌≡◌, ◌⊎◌, false, IsTrue, Err, IfErr, OnOk};
 ghost use Rattle.sqlite.specs.Held.{state};
 ghost use Rattle.sqlite.specs.State.{HasCleanDisk};
 ghost use Rattle.farm_types.specs.Farm.{Farm, put_rows};
 ghost use Rattle.farm_types.specs.Small.{AreSmall};
-ghost use Rattle.farm_store.specs.Columns.{rows_of, type_columns, board_columns, job_columns};
-ghost use Rattle.farm_store.specs.Places.{of_boards, of_jobs, of_types, put_at};
-ghost use Rattle.farm_store.specs.Edits.{ChangesTables, GoesOn};
+ghost use Rattle.farm_store.specs.Columns.{rows_of};
+ghost use Rattle.farm_store.specs.Edits.{GoesOn};
 ghost use Rattle.farm_store.specs.Holds.{IsInside, KeepsDoubt, Stands, LeavesEither};
 ghost use Rattle.farm_store.specs.Texts.{AreBeside};
 
 use crate::fault::StoreFault;
 use crate::meta::change_numbers;
 use crate::upserts::rows::put_rows;
-use crate::upserts::texts::Texts;
-use farm_types::Changes;
+use crate::upserts::tagged::Tagged;
+use crate::upserts::texts::tagged_rows;
+use farm_types::{BoardRow, Changes, JobRow, ResRow};
 use sqlite::{Alter, Connection, Error, Transaction};
 use std::alloc::Global;
 
-/// Each changed type, board and job by its table's upsert.
-fn put_lab<S: Alter>(
-    tx: &mut Transaction<'_, S>,
-    changes: &Changes,
-    texts: &Texts<'_>,
-) -> Result<(), Error>
-    requires small { AreSmall changes.now }
-    requires boards { AreBeside texts.now.boards.items changes.now.boards.items }
-    requires jobs { AreBeside texts.now.jobs.items changes.now.jobs.items }
-    ensures goes_on { GoesOn S.Store tx.old tx.new }
-    ensures put { ChangesTables result (state S.Store tx.old.conn.now)
-        (state S.Store tx.new.conn.now)
-        (λ T. put_at of_jobs
-        (put_at of_boards (put_at of_types T (map type_columns changes.now.types.items))
-        (map board_columns changes.now.boards.items))
-        (map job_columns changes.now.jobs.items)) }
-{
-    put_rows(tx, &changes.types)?;
-    put_rows(tx, &texts.boards)?;
-    put_rows(tx, &texts.jobs)?;
-    Ok(())
-}
-
-/// Each changed row by its table's upsert, and the numbers that changed.
+/// Each changed row by its table's upsert, those with tags beside their texts, and the numbers that
+/// changed.
 fn put_all<S: Alter>(
     tx: &mut Transaction<'_, S>,
     changes: &Changes,
-    texts: &Texts<'_>,
+    boards: &[Tagged<'_, BoardRow>],
+    jobs: &[Tagged<'_, JobRow>],
+    reservations: &[Tagged<'_, ResRow>],
 ) -> Result<(), Error>
     requires small { AreSmall changes.now }
-    requires boards { AreBeside texts.now.boards.items changes.now.boards.items }
-    requires jobs { AreBeside texts.now.jobs.items changes.now.jobs.items }
-    requires reservations { AreBeside texts.now.reservations.items changes.now.reservations.items }
+    requires boards { AreBeside boards.now changes.now.boards.items }
+    requires jobs { AreBeside jobs.now changes.now.jobs.items }
+    requires reservations { AreBeside reservations.now changes.now.reservations.items }
     ensures goes_on { GoesOn S.Store tx.old tx.new }
     ensures put { HasCleanDisk (state S.Store tx.new.conn.now)
         → OnOk result ((F : Farm) → IsInside (state S.Store tx.old.conn.now) (rows_of F)
         → IsInside (state S.Store tx.new.conn.now) (rows_of (put_rows F changes.now))
         × IsTrue (state S.Store tx.new.conn.now).is_open) }
 {
-    put_lab(tx, changes, texts)?;
-    put_rows(tx, &texts.reservations)?;
+    put_rows(tx, &changes.types)?;
+    put_rows(tx, boards)?;
+    put_rows(tx, jobs)?;
+    put_rows(tx, reservations)?;
     put_rows(tx, &changes.kept)?;
     change_numbers(tx, changes.meta)?;
     Ok(())
@@ -94,9 +76,11 @@ pub fn put<S: Alter>(
     ensures fault { IfErr result (λ fault. (fault ≡ StoreFault.NoMemory)
         ⊎ (fault ≡ StoreFault.Store)) }
 {
-    let texts = Texts::of(alloc, changes)?;
+    let boards = tagged_rows(alloc, &changes.boards)?;
+    let jobs = tagged_rows(alloc, &changes.jobs)?;
+    let reservations = tagged_rows(alloc, &changes.reservations)?;
     let mut tx = conn.transaction();
-    put_all(&mut tx, changes, &texts)?;
+    put_all(&mut tx, changes, &boards, &jobs, &reservations)?;
     tx.commit()?;
     Ok(())
 }

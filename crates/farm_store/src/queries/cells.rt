@@ -161,20 +161,13 @@ fn first_job_state_at(row: &Row, at: usize) -> Result<JobState, StoreFault>
     }
 }
 
-fn second_job_state_at(row: &Row, at: usize) -> Result<JobState, StoreFault>
-    ensures { ReadsAs result (λ _. ⊤) (λ state. Int (pos (job_state_code state)))
-        (column row.now at) }
-{
-    JobState::from_code(number_at(row, at)?).ok_or(StoreFault::BadStore)
-}
-
 pub(crate) fn job_state_at(row: &Row, at: usize, edition: Edition) -> Result<JobState, StoreFault>
     ensures { ReadsAs result (IsStateIn edition) (λ state. Int (pos (state_code_in edition state)))
         (column row.now at) }
 {
     match edition {
         Edition::First => first_job_state_at(row, at),
-        Edition::Second => second_job_state_at(row, at),
+        Edition::Second => JobState::from_code(number_at(row, at)?).ok_or(StoreFault::BadStore),
     }
 }
 
@@ -192,10 +185,7 @@ pub(crate) fn outcome_at(row: &Row, at: usize) -> Result<Option<Outcome>, StoreF
 {
     match number_at(row, at)? {
         0 => Ok(None),
-        code => match Outcome::from_code(code) {
-            Some(outcome) => Ok(Some(outcome)),
-            None => Err(StoreFault::BadStore),
-        },
+        code => Ok(Some(Outcome::from_code(code).ok_or(StoreFault::BadStore)?)),
     }
 }
 

@@ -24,25 +24,17 @@ returns-then-branch-eq-SCHEMA-clause-read c = λ wide.
     )
 
 pub returns-in_err-collector-clause-read : goal.returns-in_err-collector-clause-read
-returns-in_err-collector-clause-read c = λ wide.
-    let rows = c.args.rows.now in
-    refuses_number (λ _. ⊤) meta_rows c.from_residual-in_err-collector.result rows 1 c.collector-item.result (codes "collector") (λ m. m.collector) c.in_err-collector.field-0.0 c.from_residual-in_err-collector.ensures.1 c.collector-item.is (λ m. refl)
-    (c.in_err-collector.ensures.read (subst (IsWide of_meta.width) (sym c.collector-item.is) (all_at (IsWide of_meta.width) rows 1 c.collector-item.result wide (omega arith))))
+returns-in_err-collector-clause-read c =
+    refuses_number (λ _. ⊤) meta_rows c.from_residual-in_err-collector.result c.args.rows.now 1 c.collector-item.result (codes "collector") (λ m. m.collector) c.in_err-collector.field-0.0 (omega arith) c.from_residual-in_err-collector.ensures.1 c.collector-item.is (λ m. refl) c.in_err-collector.ensures.read
 
 pub returns-in_err-count-clause-read : goal.returns-in_err-count-clause-read
-returns-in_err-count-clause-read c = λ wide.
-    let rows = c.args.rows.now in
-    refuses_number (λ _. ⊤) meta_rows c.from_residual-in_err-count.result rows 2 c.count-item.result (codes "count") (λ m. m.count) c.in_err-count.field-0.0 c.from_residual-in_err-count.ensures.1 c.count-item.is (λ m. refl)
-    (c.in_err-count.ensures.read (subst (IsWide of_meta.width) (sym c.count-item.is) (all_at (IsWide of_meta.width) rows 2 c.count-item.result wide (omega arith))))
+returns-in_err-count-clause-read c =
+    refuses_number (λ _. ⊤) meta_rows c.from_residual-in_err-count.result c.args.rows.now 2 c.count-item.result (codes "count") (λ m. m.count) c.in_err-count.field-0.0 (omega arith) c.from_residual-in_err-count.ensures.1 c.count-item.is (λ m. refl) c.in_err-count.ensures.read
 
 pub returns-in_err-next-clause-read : goal.returns-in_err-next-clause-read
-returns-in_err-next-clause-read c = λ wide.
-    let rows = c.args.rows.now in
-    refuses_number (λ _. ⊤) meta_rows c.from_residual-in_err-next.result rows 3 c.next-item.result (codes "next") (λ m. m.next) c.in_err-next.field-0.0 c.from_residual-in_err-next.ensures.1 c.next-item.is (λ m. refl)
-    (c.in_err-next.ensures.read (subst (IsWide of_meta.width) (sym c.next-item.is) (all_at (IsWide of_meta.width) rows 3 c.next-item.result wide (omega arith))))
+returns-in_err-next-clause-read c =
+    refuses_number (λ _. ⊤) meta_rows c.from_residual-in_err-next.result c.args.rows.now 3 c.next-item.result (codes "next") (λ m. m.next) c.in_err-next.field-0.0 (omega arith) c.from_residual-in_err-next.ensures.1 c.next-item.is (λ m. refl) c.in_err-next.ensures.read
 
 pub returns-in_err-number_of-clause-read : goal.returns-in_err-number_of-clause-read
-returns-in_err-number_of-clause-read c = λ wide.
-    let rows = c.args.rows.now in
-    refuses_number (λ _. ⊤) meta_rows c.from_residual-in_err-number_of.result rows 4 c.schema-item.result (codes "schema") (λ m. second_schema) c.in_err-number_of.field-0.0 c.from_residual-in_err-number_of.ensures.1 c.schema-item.is (λ m. refl)
-    (c.in_err-number_of.ensures.read (subst (IsWide of_meta.width) (sym c.schema-item.is) (all_at (IsWide of_meta.width) rows 4 c.schema-item.result wide (omega arith))))
+returns-in_err-number_of-clause-read c =
+    refuses_number (λ _. ⊤) meta_rows c.from_residual-in_err-number_of.result c.args.rows.now 4 c.schema-item.result (codes "schema") (λ m. second_schema) c.in_err-number_of.field-0.0 (omega arith) c.from_residual-in_err-number_of.ensures.1 c.schema-item.is (λ m. refl) c.in_err-number_of.ensures.read

@@ -1,13 +1,13 @@
 use Rattle.farm_types.specs.declared.calls.Rows.{Rows}
-use Rattle.farm_store.proofs.EditionLemmas.{readable_jobs, words_in, types_in, boards_in, jobs_in, reservations_in, kept_in}
-use Rattle.farm_store.proofs.ReadFarm.{reads, refuses_table}
+use Rattle.farm_store.proofs.EditionLemmas.{readable_jobs, spelled, words_in}
+use Rattle.farm_store.proofs.ReadFarm.{reads, refuses_farm}
 use Rattle.farm_store.proofs.LeftAlone.{early, only_then}
 use Rattle.farm_store.proofs.queries.read_tables.Goals as goal
 
 pub returns-in_err-types-clause-read : goal.returns-in_err-types-clause-read
 returns-in_err-types-clause-read g c clean T at collector numbers =
     let refused = c.in_err-types.ensures.read clean T at in
-    refuses_table c.args.edition c.from_residual.result T c.in_err-types.field-0.0 c.from_residual.ensures.1 refused.0 (λ bad F good is. refused.1 bad F.types (words_in c.args.edition F good).types (types_in c.args.edition F T is))
+    refuses_farm c.args.edition c.from_residual.result T c.in_err-types.field-0.0 c.from_residual.ensures.1 (λ bad F good is. refused.1 bad F.types (words_in c.args.edition F good).types (spelled c.args.edition F T is).types)
 
 pub returns-in_err-boards-clause-only : goal.returns-in_err-boards-clause-only
 returns-in_err-boards-clause-only g c = only_then c.read.ensures.only c.read-2.ensures.only
@@ -15,7 +15,7 @@ returns-in_err-boards-clause-only g c = only_then c.read.ensures.only c.read-2.e
 pub returns-in_err-boards-clause-read : goal.returns-in_err-boards-clause-read
 returns-in_err-boards-clause-read g c clean T at collector numbers =
     let refused = c.in_err-boards.ensures.read clean T ((c.read.ensures.only).stands (early c.read-2.ensures.only clean) T at) in
-    refuses_table c.args.edition c.from_residual-in_err-boards.result T c.in_err-boards.field-0.0 c.from_residual-in_err-boards.ensures.1 refused.0 (λ bad F good is. refused.1 bad F.boards (words_in c.args.edition F good).boards (boards_in c.args.edition F T is))
+    refuses_farm c.args.edition c.from_residual-in_err-boards.result T c.in_err-boards.field-0.0 c.from_residual-in_err-boards.ensures.1 (λ bad F good is. refused.1 bad F.boards (words_in c.args.edition F good).boards (spelled c.args.edition F T is).boards)
 
 pub returns-in_err-jobs-clause-only : goal.returns-in_err-jobs-clause-only
 returns-in_err-jobs-clause-only g c = only_then (only_then c.read.ensures.only c.read-2.ensures.only) c.read-3.ensures.only
@@ -23,7 +23,7 @@ returns-in_err-jobs-clause-only g c = only_then (only_then c.read.ensures.only c
 pub returns-in_err-jobs-clause-read : goal.returns-in_err-jobs-clause-read
 returns-in_err-jobs-clause-read g c clean T at collector numbers =
     let refused = c.in_err-jobs.ensures.read clean T ((only_then c.read.ensures.only c.read-2.ensures.only).stands (early c.read-3.ensures.only clean) T at) in
-    refuses_table c.args.edition c.from_residual-in_err-jobs.result T c.in_err-jobs.field-0.0 c.from_residual-in_err-jobs.ensures.1 refused.0 (λ bad F good is. refused.1 bad F.jobs (readable_jobs c.args.edition F good) (jobs_in c.args.edition F T is))
+    refuses_farm c.args.edition c.from_residual-in_err-jobs.result T c.in_err-jobs.field-0.0 c.from_residual-in_err-jobs.ensures.1 (λ bad F good is. refused.1 bad F.jobs (readable_jobs c.args.edition F good) (spelled c.args.edition F T is).jobs)
 
 pub returns-in_err-reservations-clause-only : goal.returns-in_err-reservations-clause-only
 returns-in_err-reservations-clause-only g c = only_then (only_then (only_then c.read.ensures.only c.read-2.ensures.only) c.read-3.ensures.only) c.read-4.ensures.only
@@ -31,7 +31,7 @@ returns-in_err-reservations-clause-only g c = only_then (only_then (only_then c.
 pub returns-in_err-reservations-clause-read : goal.returns-in_err-reservations-clause-read
 returns-in_err-reservations-clause-read g c clean T at collector numbers =
     let refused = c.in_err-reservations.ensures.read clean T ((only_then (only_then c.read.ensures.only c.read-2.ensures.only) c.read-3.ensures.only).stands (early c.read-4.ensures.only clean) T at) in
-    refuses_table c.args.edition c.from_residual-in_err-reservations.result T c.in_err-reservations.field-0.0 c.from_residual-in_err-reservations.ensures.1 refused.0 (λ bad F good is. refused.1 bad F.reservations (words_in c.args.edition F good).reservations (reservations_in c.args.edition F T is))
+    refuses_farm c.args.edition c.from_residual-in_err-reservations.result T c.in_err-reservations.field-0.0 c.from_residual-in_err-reservations.ensures.1 (λ bad F good is. refused.1 bad F.reservations (words_in c.args.edition F good).reservations (spelled c.args.edition F T is).reservations)
 
 pub returns-in_err-kept-clause-only : goal.returns-in_err-kept-clause-only
 returns-in_err-kept-clause-only g c = only_then (only_then (only_then (only_then c.read.ensures.only c.read-2.ensures.only) c.read-3.ensures.only) c.read-4.ensures.only) c.read-5.ensures.only
@@ -39,7 +39,7 @@ returns-in_err-kept-clause-only g c = only_then (only_then (only_then (only_then
 pub returns-in_err-kept-clause-read : goal.returns-in_err-kept-clause-read
 returns-in_err-kept-clause-read g c clean T at collector numbers =
     let refused = c.in_err-kept.ensures.read clean T ((only_then (only_then (only_then c.read.ensures.only c.read-2.ensures.only) c.read-3.ensures.only) c.read-4.ensures.only).stands (early c.read-5.ensures.only clean) T at) in
-    refuses_table c.args.edition c.from_residual-in_err-kept.result T c.in_err-kept.field-0.0 c.from_residual-in_err-kept.ensures.1 refused.0 (λ bad F good is. refused.1 bad F.kept (words_in c.args.edition F good).kept (kept_in c.args.edition F T is))
+    refuses_farm c.args.edition c.from_residual-in_err-kept.result T c.in_err-kept.field-0.0 c.from_residual-in_err-kept.ensures.1 (λ bad F good is. refused.1 bad F.kept (words_in c.args.edition F good).kept (spelled c.args.edition F T is).kept)
 
 pub returns-clause-only : goal.returns-clause-only
 returns-clause-only g c = only_then (only_then (only_then (only_then c.read.ensures.only c.read-2.ensures.only) c.read-3.ensures.only) c.read-4.ensures.only) c.read-5.ensures.only

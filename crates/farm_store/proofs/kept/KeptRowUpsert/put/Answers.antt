@@ -5,4 +5,4 @@ use Rattle.farm_store.proofs.kept.KeptRowUpsert.put.Goals as goal
 pub returns-clause-put : goal.returns-clause-put
 returns-clause-put g c clean T at =
     puts_reply c.args.self.now (state g.S.Store c.args.tx.now.conn.now) (state g.S.Store c.execute.new.self.conn.now) _ T at
-    (rw c.kept_columns-columns.ensures at (c.in_ok-execute.ensures.runs clean at.inside))
+    (rw c.kept_columns.ensures at (c.in_ok-execute.ensures.runs clean at.inside))

@@ -5,4 +5,4 @@ use Rattle.farm_store.proofs.types.TypeRowUpsert.put.Goals as goal
 pub returns-clause-put : goal.returns-clause-put
 returns-clause-put g c clean T at =
     puts_type c.args.self.now (state g.S.Store c.args.tx.now.conn.now) (state g.S.Store c.execute.new.self.conn.now) _ T at
-    (rw c.type_columns-columns.ensures at (c.in_ok-execute.ensures.runs clean at.inside))
+    (rw c.type_columns.ensures at (c.in_ok-execute.ensures.runs clean at.inside))
