@@ -1,11 +1,10 @@
 -- The two editions of the tables.
-use Rattle.std.proofs.Common.{refl, ◌≡◌, ◌≢◌, List, [], ◌∷◌, map, Result, Ok, Err, IfErr, IsErrAnd, IsTrue, false, sym, ap, subst, ◌∙◌}
-use Rattle.std.specs.List.{AllByRecursion, list_any}
+use Rattle.std.proofs.Common.{refl, ◌≡◌, ◌≢◌, List, [], ◌∷◌, map, Result, Ok, Err, IfErr, IsErrAnd, sym, subst, ◌∙◌}
+use Rattle.std.specs.List.{AllByRecursion}
 use Rattle.farm_types.specs.Farm.{Farm}
 use Rattle.farm_types.specs.declared.rows.JobRow.{JobRow}
-use Rattle.farm_types.specs.declared.rows.MetaRow.{MetaRow}
 use Rattle.farm_types.proofs.Put.{AllByRecursion-weaker}
-use Rattle.farm_store.specs.Columns.{IsOfSchema, TableRows, is_version_row, rows_of, first_rows_of, type_columns, board_columns, res_columns, kept_columns, numbers_of, second_schema}
+use Rattle.farm_store.specs.Columns.{IsOfSchema, TableRows, rows_of, first_rows_of, type_columns, board_columns, res_columns, kept_columns, numbers_of, second_schema}
 use Rattle.farm_store.specs.Editions.{IsCollectorIn, IsReadableIn, IsReadableJobIn, IsStateIn, job_columns_in, meta_rows_in, other_edition, rows_in, schema_of, version_fault}
 use Rattle.farm_store.specs.Readable.{IsReadable, IsReadableJob}
 use Rattle.farm_store.specs.Reading.{IsNoVersionFault}

@@ -1,5 +1,5 @@
 -- What INSERT of one row makes of the tables; and with ON CONFLICT, in a table that is keyed by its first column, a text: the row is written over the one that has the key, or is new.
-use Rattle.std.proofs.Common.{◌≡◌, inl, inr, ℕ, ℤ, List, [], ◌∷◌, ◌++◌, false, length, ◌/◌, slice_get, Option, Some, None, Ok, MatchBool, sym, ap, subst, ◌∙◌, refl, ◌||◌, true, ap₂, is_eq, Equal}
+use Rattle.std.proofs.Common.{◌≡◌, inl, inr, ℕ, ℤ, List, [], ◌∷◌, ◌++◌, false, length, ◌/◌, slice_get, Option, Some, None, Ok, sym, ap, subst, ◌∙◌, refl, ◌||◌, true, ap₂, is_eq, Equal}
 use Rattle.sqlite.specs.Order.{Row}
 use Rattle.sqlite.specs.Table.{Table}
 use Rattle.sqlite.specs.Term.{Term}
@@ -38,7 +38,7 @@ use Rattle.sqlite.specs.Program.{overlay}
 use Rattle.sqlite_sql.specs.Term.{eval_all}
 use Rattle.sqlite_value.specs.Keys.{plain}
 use Rattle.sqlite_value.specs.Order.{column, value_cmp}
-use Rattle.sqlite_trees.specs.Tree.{rowid, IsAscending}
+use Rattle.sqlite_trees.specs.Tree.{rowid}
 use Rattle.sqlite_trees.specs.View.{is_int}
 use Rattle.sqlite_schema.specs.Rules.{agree}
 use Rattle.sqlite_schema.specs.declared.schema.Keys.{Keys}
@@ -51,7 +51,7 @@ use Rattle.sqlite_rules.specs.Lists.{Has}
 use Rattle.sqlite_rules.proofs.ListLemmas.{all_has}
 use Rattle.sqlite_rules.proofs.PlaceLemmas.{tied_same}
 use Rattle.sqlite_rules.proofs.TableLemmas.{int_is}
-use Rattle.farm_store.specs.Stored.{Differ, HasInt, IsWide, ListsRows, row_less_rowid}
+use Rattle.farm_store.specs.Stored.{HasInt, IsWide, ListsRows, row_less_rowid}
 use Rattle.farm_store.proofs.Sorted.{tie_same}
 use Rattle.farm_store.proofs.Keys.{first_total, by_next, or_false, agree_one, agree_next}
 use Rattle.farm_store.proofs.Stays.{all_fit, all_stay}

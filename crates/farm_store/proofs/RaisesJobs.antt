@@ -1,5 +1,5 @@
 -- The statement that makes the rows of the jobs from one number to another those of the second edition.
-use Rattle.std.proofs.Common.{refl, ◌≡◌, ◌≤◌, ℕ, pos, List, [], ◌∷◌, map, drop, codes, Bool, true, false, cond, not, ◌&&◌, None, Some, Ok, sym, ap, ap₂, subst, ◌∙◌, arith, Less, Greater, Equal}
+use Rattle.std.proofs.Common.{refl, ◌≡◌, ◌≤◌, ℕ, pos, List, [], ◌∷◌, map, drop, codes, Bool, true, false, cond, not, ◌&&◌, Some, Ok, sym, ap, ap₂, subst, ◌∙◌, arith, Less, Greater, Equal}
 use Rattle.std.specs.Prelude.{nat_lt}
 use Rattle.std.specs.Ordering.{int_cmp}
 use Rattle.std.specs.List.{AllByRecursion}

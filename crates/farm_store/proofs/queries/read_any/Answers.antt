@@ -7,7 +7,6 @@ use Rattle.farm_store.specs.Editions.{version_fault}
 use Rattle.farm_store.specs.Places.{of_meta}
 use Rattle.farm_store.specs.Reading.{IsVersion, IsVersionFault}
 use Rattle.farm_store.specs.Stored.{IsWide}
-use Rattle.farm_store.specs.Versions.{ShowsNumbers}
 use Rattle.farm_store.specs.declared.edition.Edition.{Edition}
 use Rattle.farm_store.specs.declared.fault.StoreFault.{StoreFault}
 use Rattle.farm_store.proofs.EditionLemmas.{collector_in, never_handed, never_version_fault, no_version, not_bad, not_own, not_store, spelled}
