@@ -1,25 +1,17 @@
 -- Claims that want what was found unmet are passed over.
-use Rattle.std.proofs.Common.{◌≡◌, ◌∙◌, ◌==◌, ◌+◌, ◌≤◌, ◌<◌, ◌++◌, ℕ, zero, suc, List, [], ◌∷◌, add-one, append_assoc, map, length, take, get_or, Bool, true, false, cond, not, Option, Some, None, IsSomeAnd, inl, inr, refl, sym, ap, subst, arith}
+use Rattle.std.proofs.Common.{◌≡◌, ◌∙◌, ◌+◌, ℕ, zero, suc, List, [], ◌∷◌, take, Bool, true, false, cond, Option, Some, None, IsSomeAnd, inl, inr, refl, sym, ap, subst, arith}
 use Rattle.std.specs.List.{filter}
-use Rattle.std.specs.Option.{option_map_or, option_to_list}
-use Rattle.std.proofs.lemmas.List.{take_all}
+use Rattle.std.specs.Option.{option_map_or}
 use Rattle.farm_types.specs.Farm.{Farm, res_of}
-use Rattle.farm_types.specs.Limits.{most_wants}
 use Rattle.farm_types.specs.Pass.{Served, give, pass_over, serve}
 use Rattle.farm_types.specs.Pick.{IsAmong, Claimed, is_free, least, queue, shown_claim}
 use Rattle.farm_types.specs.Sound.{EachTwo, IsSound}
 use Rattle.farm_types.specs.declared.claims.ClaimKind.{ClaimKind}
 use Rattle.farm_types.specs.declared.rows.BoardRow.{BoardRow}
-use Rattle.farm_types.specs.declared.rows.JobRow.{JobRow}
 use Rattle.farm_types.specs.declared.rows.ResRow.{ResRow}
 use Rattle.farm_types.specs.declared.rows.Want.{Want}
 use Rattle.farm_sound.proofs.Claims.{IsClaim, queue_claims}
 use Rattle.farm_sound.proofs.Lists.{among_has}
-use Rattle.farm_sound.proofs.Tests.{same_number}
-use Rattle.farm_pick.proofs.Filling.{numbers_differ}
-use Rattle.farm_pick.proofs.Giving.{giving_follows}
-use Rattle.farm_pick.proofs.Collects.{collecting_follows}
-use Rattle.farm_pick.proofs.Later.{among_later}
 use Rattle.farm_pick.proofs.Merging.{unmet_stays}
 use Rattle.farm_core.specs.Came.{Seen}
 use Rattle.std.specs.Prelude.{Vec}

@@ -2,9 +2,7 @@
 use Rattle.std.proofs.Common.{◌≡◌, ℕ, zero, suc, ◌+◌, ◌<◌, ◌≤◌, ◌-◌, ◌==◌, ◌&&◌, ◌⊎◌, inl, inr, Bool, true, false, List, [], ◌∷◌, length, get_or, Some, cond, Result, Ok, Err, MatchResult, sym, ap, ◌∙◌, refl, subst, arith}
 use Rattle.std.specs.List.{AllByRecursion, find}
 use Rattle.std.specs.Option.{option_map_or}
-use Rattle.farm_types.specs.Table.{job_cmp, res_cmp}
-use Rattle.farm_sound.proofs.Own.{itself}
-use Rattle.farm_sound.proofs.Tests.{same_number}
+use Rattle.farm_types.specs.Table.{job_cmp}
 use Rattle.std.specs.List.Sorted.{IsStrictlySortedBy, IsSortedBy, IsSearchInRange, IsBinarySearchResult}
 use Rattle.std.specs.Cmp.{nat_cmp_total}
 use Rattle.std.specs.Ordering.{ordering_reverse, is_lt, nat_cmp}
@@ -16,7 +14,6 @@ use Rattle.std.proofs.lemmas.List.Sorted.{searchable_from_sorted}
 use Rattle.std.proofs.lemmas.Map.Keys.{Less-from_sorted}
 use Rattle.farm_types.specs.declared.rows.JobRow.{JobRow}
 use Rattle.farm_core.specs.declared.command.job_edit.JobFilter.{JobFilter}
-use Rattle.farm_types.specs.declared.rows.ResRow.{ResRow}
 use Rattle.farm_core.specs.Edits.{job_passes, first_of, reach_of}
 use Rattle.farm_table.specs.Near.{IsFitJob, IsNear}
 use Rattle.farm_core.specs.PartitionPoint.{IsPartitionPoint}

@@ -26,11 +26,7 @@ pub fn lease_if(state: ResState, deadline: u64, number: u64) -> Option<Lease>
     ensures { result ≡ (if may_end_in state
         then Some (record { deadline = deadline; number = number }) else None) }
 {
-    if matches!(state, ResState::Waiting | ResState::Allocated) {
-        Some(Lease { deadline, number })
-    } else {
-        None
-    }
+    matches!(state, ResState::Waiting | ResState::Allocated).then_some(Lease { deadline, number })
 }
 
 /// The lease of a reservation, if it may end.
@@ -68,10 +64,7 @@ fn is_dead_at(reservations: &[ResRow], number: u64, now: u64) -> bool
     requires { IsStrictlySortedBy res_cmp reservations.now }
     ensures { result ≡ is_dead_at now reservations.now number }
 {
-    match seek::res_of(reservations, number) {
-        None => false,
-        Some(row) => is_dead(now, row),
-    }
+    seek::res_of(reservations, number).is_some_and(|row| is_dead(now, row))
 }
 
 /// The number of a reservation that is dead, if there is one: that of the first lease that is over,

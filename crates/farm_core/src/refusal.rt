@@ -36,20 +36,12 @@ fn may_give(caller: &Name, cmd: &Cmd) -> bool
     ensures { result ≡ may_give caller.now cmd.now }
 {
     match cmd {
-        Cmd::AddType(_, _) => is_admin(caller),
-        Cmd::AddBoard(_, _, _) => is_admin(caller),
-        Cmd::SetTags(_, _) => is_admin(caller),
-        Cmd::SetHealth(_, _) => is_admin(caller),
-        Cmd::Submit(_, _, _, _) => !is_dispatcher(caller),
-        Cmd::Start(_) => is_dispatcher(caller) || is_admin(caller),
-        Cmd::Finish(_, _) => is_dispatcher(caller) || is_admin(caller),
-        Cmd::Reserve(_, _) => !is_dispatcher(caller),
-        Cmd::Pass => is_dispatcher(caller) || is_admin(caller),
-        Cmd::Cancel(_) => true,
-        Cmd::Acquire(_) => true,
-        Cmd::Release(_) => true,
-        Cmd::Refresh(_) => true,
-        Cmd::CancelRes(_) => true,
+        Cmd::AddType(_, _) | Cmd::AddBoard(_, _, _) => is_admin(caller),
+        Cmd::SetTags(_, _) | Cmd::SetHealth(_, _) => is_admin(caller),
+        Cmd::Submit(_, _, _, _) | Cmd::Reserve(_, _) => !is_dispatcher(caller),
+        Cmd::Start(_) | Cmd::Finish(_, _) | Cmd::Pass => is_dispatcher(caller) || is_admin(caller),
+        Cmd::Cancel(_) | Cmd::CancelRes(_) => true,
+        Cmd::Acquire(_) | Cmd::Release(_) | Cmd::Refresh(_) => true,
     }
 }
 
@@ -63,10 +55,7 @@ pub fn repeated_reply(call: &Call, kept: Option<KeptReply>) -> Option<Reply>
         return None;
     }
     let kept = kept?;
-    if kept.kind != call.cmd.kind() {
-        return None;
-    }
-    Some(kept.reply)
+    (kept.kind == call.cmd.kind()).then_some(kept.reply)
 }
 
 /// Whether what is kept for a call's key is kept for another command.
@@ -74,10 +63,7 @@ fn is_reused(call: &Call, kept: Option<KeptReply>) -> bool
     ensures { (F : Farm) → kept ≡ option_map kept_reply (kept_for F call.entry.now)
         → result ≡ is_reused F call.entry.now }
 {
-    match kept {
-        None => false,
-        Some(kept) => kept.kind != call.cmd.kind(),
-    }
+    kept.is_some_and(|kept| kept.kind != call.cmd.kind())
 }
 
 /// The reasons that come first, of a call and of what is kept for its key.
@@ -92,10 +78,7 @@ fn early_refusal(call: &Call, kept: Option<KeptReply>) -> Option<u16>
     if is_reused(call, kept) {
         return Some(KEY_REUSED);
     }
-    if !may_give(&call.caller, &call.cmd) {
-        return Some(FORBIDDEN);
-    }
-    None
+    (!may_give(&call.caller, &call.cmd)).then_some(FORBIDDEN)
 }
 
 impl Tables {
@@ -120,16 +103,7 @@ impl Tables {
             Cmd::Reserve(_, _) => {
                 self.reservations.len() >= MOST_RESERVATIONS || self.next >= NUMBERS_END
             }
-            Cmd::SetTags(_, _) => false,
-            Cmd::SetHealth(_, _) => false,
-            Cmd::Cancel(_) => false,
-            Cmd::Start(_) => false,
-            Cmd::Finish(_, _) => false,
-            Cmd::Acquire(_) => false,
-            Cmd::Release(_) => false,
-            Cmd::Refresh(_) => false,
-            Cmd::CancelRes(_) => false,
-            Cmd::Pass => false,
+            _ => false,
         }
     }
 
@@ -160,8 +134,9 @@ impl Tables {
             Cmd::Finish(number, _) => self.refuse_finish(*number),
             Cmd::Acquire(number) => self.refuse_acquire(&call.caller, now, *number),
             Cmd::Release(number) => self.refuse_release(&call.caller, now, *number),
-            Cmd::Refresh(number) => self.refuse_alive(&call.caller, now, *number),
-            Cmd::CancelRes(number) => self.refuse_alive(&call.caller, now, *number),
+            Cmd::Refresh(number) | Cmd::CancelRes(number) => {
+                self.refuse_alive(&call.caller, now, *number)
+            }
             Cmd::Pass => None,
         }
     }
@@ -178,9 +153,6 @@ impl Tables {
         if let Some(code) = self.own_refusal(call) {
             return Some(code);
         }
-        if self.is_full(call) {
-            return Some(FULL);
-        }
-        None
+        self.is_full(call).then_some(FULL)
     }
 }

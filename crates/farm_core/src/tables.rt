@@ -116,9 +116,7 @@ impl Tables {
     pub fn find_kept(&self, call: &Call) -> Option<KeptReply>
         ensures { result ≡ option_map kept_reply (kept_for (plain_farm self.now) call.entry.now) }
     {
-        match &call.key {
-            None => None,
-            Some(key) => self.kept.find(&call.caller, key),
-        }
+        let key = call.key.as_ref()?;
+        self.kept.find(&call.caller, key)
     }
 }

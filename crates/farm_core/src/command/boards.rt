@@ -42,10 +42,7 @@ impl Tables {
         if self.find_type(kind).is_none() {
             return Some(NO_TYPE);
         }
-        if self.find_board(name).is_some() {
-            return Some(BOARD_EXISTS);
-        }
-        None
+        self.find_board(name).is_some().then_some(BOARD_EXISTS)
     }
 
     /// Why a board's tags aren't set.
@@ -54,12 +51,8 @@ impl Tables {
     {
         match self.find_board(name) {
             None => Some(NO_BOARD),
-            Some(row) => {
-                if is_retired(row) {
-                    return Some(RETIRED);
-                }
-                None
-            }
+            Some(row) if is_retired(row) => Some(RETIRED),
+            Some(_) => None,
         }
     }
 
@@ -69,15 +62,12 @@ impl Tables {
     {
         match self.find_board(name) {
             None => Some(NO_BOARD),
-            Some(row) => {
-                if is_retired(row) {
-                    return Some(RETIRED);
-                }
-                if matches!(health, Health::Retired) && !matches!(row.holder, Holder::Nobody) {
-                    return Some(HELD);
-                }
-                None
+            Some(row) if is_retired(row) => Some(RETIRED),
+            Some(row)
+                if matches!(health, Health::Retired) && !matches!(row.holder, Holder::Nobody) => {
+                Some(HELD)
             }
+            Some(_) => None,
         }
     }
 
@@ -87,8 +77,7 @@ impl Tables {
             (new_board name.now kind.now tags.now)) (seen self.old)) self.new) }
     {
         let row = BoardRow::new(name.copy()?, kind.copy()?, tags.copy()?);
-        self.boards.put(row)?;
-        Ok(())
+        self.boards.put(row)
     }
 
     /// Sets a board's tags.

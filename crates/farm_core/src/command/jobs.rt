@@ -96,15 +96,9 @@ impl Tables {
     {
         match self.find_job(number) {
             None => Some(NO_JOB),
-            Some(job) => {
-                if !owned_by(caller, &job.owner) {
-                    return Some(FORBIDDEN);
-                }
-                if !self.can_cancel_some(job.group) {
-                    return Some(WRONG_STATE);
-                }
-                None
-            }
+            Some(job) if !owned_by(caller, &job.owner) => Some(FORBIDDEN),
+            Some(job) if !self.can_cancel_some(job.group) => Some(WRONG_STATE),
+            Some(_) => None,
         }
     }
 
@@ -114,12 +108,8 @@ impl Tables {
     {
         match self.find_job(number) {
             None => Some(NO_JOB),
-            Some(job) => {
-                if !matches!(job.state, JobState::Scheduled) {
-                    return Some(WRONG_STATE);
-                }
-                None
-            }
+            Some(job) if matches!(job.state, JobState::Scheduled) => None,
+            Some(_) => Some(WRONG_STATE),
         }
     }
 
@@ -129,12 +119,8 @@ impl Tables {
     {
         match self.find_job(number) {
             None => Some(NO_JOB),
-            Some(job) => {
-                if !matches!(job.state, JobState::Running | JobState::Canceling) {
-                    return Some(WRONG_STATE);
-                }
-                None
-            }
+            Some(job) if matches!(job.state, JobState::Running | JobState::Canceling) => None,
+            Some(_) => Some(WRONG_STATE),
         }
     }
 }

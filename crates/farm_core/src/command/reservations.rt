@@ -50,10 +50,7 @@ fn refuse_row(row: &ResRow, now: u64, mine: bool, right: bool) -> Option<u16>
     if matches!(row.state, ResState::Expired) || is_dead(now, row) {
         return Some(EXPIRED);
     }
-    if !right {
-        return Some(WRONG_RESERVATION_STATE);
-    }
-    None
+    (!right).then_some(WRONG_RESERVATION_STATE)
 }
 
 impl Tables {
@@ -68,30 +65,22 @@ impl Tables {
     pub fn refuse_acquire(&self, caller: &Name, now: u64, number: u64) -> Option<u16>
         ensures { result ≡ first_code (acquire_reasons (plain_farm self.now) now caller.now number) }
     {
-        match self.find_reservation(number) {
-            None => Some(NO_RESERVATION),
-            Some(row) => refuse_row(
-                row,
-                now,
-                caller.is(&row.owner),
-                matches!(row.state, ResState::Allocated),
-            ),
-        }
+        let Some(row) = self.find_reservation(number) else {
+            return Some(NO_RESERVATION);
+        };
+        let right = matches!(row.state, ResState::Allocated);
+        refuse_row(row, now, caller.is(&row.owner), right)
     }
 
     /// Why a reservation isn't released.
     pub fn refuse_release(&self, caller: &Name, now: u64, number: u64) -> Option<u16>
         ensures { result ≡ first_code (release_reasons (plain_farm self.now) now caller.now number) }
     {
-        match self.find_reservation(number) {
-            None => Some(NO_RESERVATION),
-            Some(row) => refuse_row(
-                row,
-                now,
-                owned_by(caller, &row.owner),
-                matches!(row.state, ResState::Acquired),
-            ),
-        }
+        let Some(row) = self.find_reservation(number) else {
+            return Some(NO_RESERVATION);
+        };
+        let right = matches!(row.state, ResState::Acquired);
+        refuse_row(row, now, owned_by(caller, &row.owner), right)
     }
 
     /// Why a reservation isn't refreshed, or canceled.

@@ -41,10 +41,7 @@ impl Tables {
     pub fn refuse_reserve(&self, tags: &Tags) -> Option<u16>
         ensures { result ≡ first_code (reserve_reasons (plain_farm self.now) tags.now) }
     {
-        if !self.can_serve(tags) {
-            return Some(NO_SUCH_BOARDS);
-        }
-        None
+        (!self.can_serve(tags)).then_some(NO_SUCH_BOARDS)
     }
 }
 

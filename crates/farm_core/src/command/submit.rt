@@ -89,10 +89,8 @@ impl Tables {
         ensures { result ≡ option_map_or (λ kind. is_none (type_of (plain_farm self.now) kind)) kind.now
             false }
     {
-        match kind {
-            None => false,
-            Some(name) => self.find_type(name).is_none(),
-        }
+        kind.as_ref()
+            .is_some_and(|name| self.find_type(name).is_none())
     }
 
     /// Whether some want names a type that isn't there.

@@ -15,10 +15,7 @@ impl Tables {
     pub fn refuse_add_type(&self, name: &Name) -> Option<u16>
         ensures { result ≡ first_code (add_type_reasons (plain_farm self.now) name.now) }
     {
-        if self.find_type(name).is_some() {
-            return Some(TYPE_EXISTS);
-        }
-        None
+        self.find_type(name).is_some().then_some(TYPE_EXISTS)
     }
 
     /// Adds a type.
@@ -28,7 +25,6 @@ impl Tables {
             (record { name = name.now; check = check })) (seen self.old)) self.new) }
     {
         let name = name.copy()?;
-        self.types.put(TypeRow { name, check })?;
-        Ok(())
+        self.types.put(TypeRow { name, check })
     }
 }

@@ -26,10 +26,9 @@ fn is_reached(now: u64, board: &BoardRow, check: Check) -> bool
 {
     match check {
         Check::Never => false,
-        Check::Hours(hours) => match hours.checked_mul(HOUR) {
-            Some(seconds) => seconds <= now.saturating_sub(board.last_check),
-            None => false,
-        },
+        Check::Hours(hours) => hours
+            .checked_mul(HOUR)
+            .is_some_and(|seconds| seconds <= now.saturating_sub(board.last_check)),
         Check::Jobs(jobs) => jobs <= board.jobs_since,
     }
 }
@@ -105,10 +104,7 @@ impl Tables {
     fn check_of(&self, kind: &Name) -> Check
         ensures { result ≡ check_of (plain_farm self.now).types kind.now }
     {
-        match self.find_type(kind) {
-            None => Check::Never,
-            Some(row) => row.check,
-        }
+        self.find_type(kind).map_or(Check::Never, |row| row.check)
     }
 
     /// Whether boards of some type are checked.

@@ -1,4 +1,4 @@
-use Rattle.std.proofs.Common.{◌∙◌, ap, sym, subst, true, false, None, arith}
+use Rattle.std.proofs.Common.{◌∙◌, ap, subst, arith}
 use Rattle.farm_types.specs.Pass.{Served}
 use Rattle.farm_pick.specs.Queued.{queue_lists}
 use Rattle.farm_core.specs.Came.{seen}
