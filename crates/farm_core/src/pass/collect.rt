@@ -26,10 +26,8 @@ impl Tables {
             ≡ first_free (plain_farm self.now) j.want }
         ensures within { IfSome result (λ at. at < length (plain_farm self.now).boards) }
     {
-        match self.find_job(number) {
-            None => None,
-            Some(row) => self.pick_one(&row.want),
-        }
+        let row = self.find_job(number)?;
+        self.pick_one(&row.want)
     }
 
     /// The group that collects gives back what its members hold: they are Submitted, their boards
@@ -63,14 +61,11 @@ impl Tables {
             → Collects (seen self.old) j (seen self.new)) }
         ensures logs { OnOk result (LeadOn self.old self.new) }
     {
-        match self.pick_for_job(number) {
-            None => Ok(()),
-            Some(at) => {
-                self.queues.take_board(&self.boards.rows()[at].name);
-                self.assign_job(JobState::Scheduling, number, at)?;
-                Ok(())
-            }
+        if let Some(at) = self.pick_for_job(number) {
+            self.queues.take_board(&self.boards.rows()[at].name);
+            self.assign_job(JobState::Scheduling, number, at)?;
         }
+        Ok(())
     }
 
     /// The group collects: each member in turn takes the first free board that fits what it wants.

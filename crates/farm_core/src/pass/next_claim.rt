@@ -93,13 +93,10 @@ impl Tables {
             → IsMissed F (wants_of (plain_farm self.now) kind number)
             → AreMisses F misses.new.items) }
     {
-        match self.wants_of(kind, number) {
-            None => Ok(()),
-            Some(found) => {
-                misses::note(misses, &found.0[..found.1])?;
-                Ok(())
-            }
+        if let Some(found) = self.wants_of(kind, number) {
+            misses::note(misses, &found.0[..found.1])?;
         }
+        Ok(())
     }
 
     /// The first claim of the open queues after a priority and a number, if they are given, that

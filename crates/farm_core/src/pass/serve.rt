@@ -146,10 +146,8 @@ impl Tables {
             ≡ least (plain_farm self.now).boards (is_free (plain_farm self.now).types) (r.want ∷ []) }
         ensures within { IfSome result (λ at. at < length (plain_farm self.now).boards) }
     {
-        match self.find_reservation(number) {
-            None => None,
-            Some(row) => self.pick_one(&row.want),
-        }
+        let row = self.find_reservation(number)?;
+        self.pick_one(&row.want)
     }
 
     /// How many boards a group waits for, if it is a claim, and else none.
@@ -174,16 +172,14 @@ impl Tables {
         ensures logs { OnOk result (LeadOn self.old self.new) }
     {
         let rows = self.member_rows(group);
-        match self.pick_for_group(rows, group) {
-            None => Ok(false),
-            Some(picked) => {
-                let numbers = numbers_in(rows, group);
-                let places = picked.places();
-                self.take_assigned(group, places);
-                self.assign_jobs(&numbers, places)?;
-                Ok(true)
-            }
-        }
+        let Some(picked) = self.pick_for_group(rows, group) else {
+            return Ok(false);
+        };
+        let numbers = numbers_in(rows, group);
+        let places = picked.places();
+        self.take_assigned(group, places);
+        self.assign_jobs(&numbers, places)?;
+        Ok(true)
     }
 
     /// Gives a reservation its board, where a free one meets it.
@@ -196,14 +192,12 @@ impl Tables {
             → Tries (seen self.old) c served (seen self.new)) }
         ensures logs { OnOk result (LeadOn self.old self.new) }
     {
-        match self.pick_for_reservation(number) {
-            None => Ok(false),
-            Some(at) => {
-                self.take_assigned(number, &[at]);
-                self.assign_reservation(number, at)?;
-                Ok(true)
-            }
-        }
+        let Some(at) = self.pick_for_reservation(number) else {
+            return Ok(false);
+        };
+        self.take_assigned(number, &[at]);
+        self.assign_reservation(number, at)?;
+        Ok(true)
     }
 
     /// Serves a claim, by its kind and its number, where free boards meet it.

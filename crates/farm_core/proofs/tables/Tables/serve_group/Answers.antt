@@ -26,12 +26,12 @@ pub assign_jobs-requires-clause-small : goal.assign_jobs-requires-clause-small
 assign_jobs-requires-clause-small c =
     rw c.deref.ensures.0 (numbers_small c.member_rows-rows.result.now c.args.group _ c.numbers_in-numbers.ensures c.member_rows-rows.ensures.fit)
 
-pub returns-in_ok-assign_jobs-in-Some-clause-tries : goal.returns-in_ok-assign_jobs-in-Some-clause-tries
-returns-in_ok-assign_jobs-in-Some-clause-tries c = λ d of_group same asks.
+pub returns-clause-tries : goal.returns-clause-tries
+returns-clause-tries c = λ d of_group same asks.
     let F : Farm = plain_farm c.args.self.now in
     let lists = c.args.self.now.queues in
     let taken = c.take_assigned.ensures.now in
-    let given = c.in_ok-assign_jobs-in-Some.ensures.now in
+    let given = c.in_ok-assign_jobs.ensures.now in
     let farm = ap (λ (s : Seen). s.farm) taken in
     let names = names_at F.boards c.in-Some.picked in
     let numbers = c.numbers_in-numbers.result.items in
@@ -52,5 +52,5 @@ returns-in_ok-assign_jobs-in-Some-clause-tries c = λ d of_group same asks.
           ∙ queues_left F d (wants_of (members F c.args.group)) (asks ∙ ap (λ g. wants_of (members F g)) same) lists names picked,
     )
 
-pub returns-in_ok-assign_jobs-in-Some-clause-logs : goal.returns-in_ok-assign_jobs-in-Some-clause-logs
-returns-in_ok-assign_jobs-in-Some-clause-logs c = lead_on_join _ _ _ c.take_assigned.ensures.logs c.in_ok-assign_jobs-in-Some.ensures.logs
+pub returns-clause-logs : goal.returns-clause-logs
+returns-clause-logs c = lead_on_join _ _ _ c.take_assigned.ensures.logs c.in_ok-assign_jobs.ensures.logs

@@ -21,8 +21,8 @@ pub assign_reservation-requires-clause-within : goal.assign_reservation-requires
 assign_reservation-requires-clause-within c =
     subst (λ (F : Farm). c.in-Some.at < length F.boards) (sym (ap (λ (s : Seen). s.farm) c.take_assigned.ensures.now)) c.in-Some.ensures.within
 
-pub returns-in_ok-assign_reservation-in-Some-clause-tries : goal.returns-in_ok-assign_reservation-in-Some-clause-tries
-returns-in_ok-assign_reservation-in-Some-clause-tries c = λ d of_res same asks.
+pub returns-clause-tries : goal.returns-clause-tries
+returns-clause-tries c = λ d of_res same asks.
     let F : Farm = plain_farm c.args.self.now in
     let lists = c.args.self.now.queues in
     let at = c.in-Some.at in
@@ -31,7 +31,7 @@ returns-in_ok-assign_reservation-in-Some-clause-tries c = λ d of_res same asks.
     let names = b.name ∷ [] in
     let taken = c.take_assigned.ensures.now in
     let farm = ap (λ (s : Seen). s.farm) taken in
-    let given = (c.in_ok-assign_reservation-in-Some.ensures b (board.1 ∙ ap (λ (G : Farm). get_or G.boards at b) (sym farm))).now in
+    let given = (c.in_ok-assign_reservation.ensures b (board.1 ∙ ap (λ (G : Farm). get_or G.boards at b) (sym farm))).now in
     let picked : Picks F c.args.number (Some names) = λ r is.
     ap (λ o. option_map names_of (option_map (λ (b : BoardRow). b ∷ []) o)) (ap Some board.1 ∙ sym (slice_get-get_or F.boards at b c.in-Some.ensures.within)) ∙ ap (option_map names_of) (c.in-Some.ensures.least r is) in
     let it = asked F d asks in
@@ -48,9 +48,9 @@ returns-in_ok-assign_reservation-in-Some-clause-tries c = λ d of_res same asks.
           ∙ queues_left F d (it.0.want ∷ []) it.2 lists names (picked it.0 (ap (res_of F) (sym same) ∙ it.1)),
     )
 
-pub returns-in_ok-assign_reservation-in-Some-clause-logs : goal.returns-in_ok-assign_reservation-in-Some-clause-logs
-returns-in_ok-assign_reservation-in-Some-clause-logs c =
+pub returns-clause-logs : goal.returns-clause-logs
+returns-clause-logs c =
     let F : Farm = plain_farm c.args.self.now in
     let board = board_at F.boards c.in-Some.at c.in-Some.ensures.within in
-    let given = c.in_ok-assign_reservation-in-Some.ensures board.0 (board.1 ∙ ap (λ (s : Seen). get_or s.farm.boards c.in-Some.at board.0) (sym c.take_assigned.ensures.now)) in
+    let given = c.in_ok-assign_reservation.ensures board.0 (board.1 ∙ ap (λ (s : Seen). get_or s.farm.boards c.in-Some.at board.0) (sym c.take_assigned.ensures.now)) in
     lead_on_join _ _ _ c.take_assigned.ensures.logs given.logs
