@@ -1,12 +1,10 @@
 //! What is answered to a call or a view: a call is done, a view is shown.
-ghost use Rattle.std.specs.Prelude.{◌≡◌, ◌≤◌, false, map, Ok};
+ghost use Rattle.std.specs.Prelude.{◌≡◌, ◌≤◌, false, Ok};
 ghost use Rattle.sqlite.specs.Held.{state};
 ghost use Rattle.sqlite_trees.specs.View.{doubt};
 ghost use Rattle.farm_core.specs.Answers.{answer_of};
-ghost use Rattle.farm_types.specs.Farm.{job_of};
-ghost use Rattle.farm_types.specs.Pick.{queue, shown_claim};
 ghost use Rattle.farm_types.specs.Refuse.{kind_of};
-ghost use Rattle.farm_desk.specs.Answers.{out_of_answer, IsView, ListsClaims, ShowsJob};
+ghost use Rattle.farm_desk.specs.Answers.{out_of_answer, IsView};
 ghost use Rattle.farm_desk.specs.Response.{IsResponseTo};
 ghost use Rattle.farm_desk.specs.Encoding.{IsEncodedOne, bytes_in};
 ghost use Rattle.farm_wire.specs.declared.ask.Ask.{Ask as Asking};
@@ -76,31 +74,13 @@ fn show(alloc: Global, farm: &Farm, view: View) -> Response
         View::Boards => Response::of(alloc, &Out::Boards(farm.boards())),
         View::Status => Response::of(alloc, &Out::Status(farm.status())),
         View::Reservations => Response::of(alloc, &Out::Reservations(farm.reservations())),
-        View::Job(number) => show_job(alloc, farm, number),
-        View::Queue => show_queue(alloc, farm),
-    }
-}
-
-/// What the view of the queue shows.
-fn show_queue(alloc: Global, farm: &Farm) -> Response
-    requires { farm.now.failed ≡ false }
-    ensures { IsEncodedOne (ListsClaims (map shown_claim (queue farm.now.farm)))
-        (bytes_in result.bytes) result.end }
-{
-    match farm.queue() {
-        Ok(claims) => Response::of(alloc, &Out::Queue(claims.as_slice())),
-        Err(_) => Response::no_memory(),
-    }
-}
-
-/// What the view of one job shows.
-fn show_job(alloc: Global, farm: &Farm, number: u64) -> Response
-    requires { farm.now.failed ≡ false }
-    ensures { IsEncodedOne (ShowsJob (job_of farm.now.farm number))
-        (bytes_in result.bytes) result.end }
-{
-    match farm.job(number) {
-        Some(row) => Response::of(alloc, &Out::Job(row)),
-        None => Response::of(alloc, &Out::Refused(Refusal { code: NO_JOB })),
+        View::Job(number) => match farm.job(number) {
+            Some(row) => Response::of(alloc, &Out::Job(row)),
+            None => Response::of(alloc, &Out::Refused(Refusal { code: NO_JOB })),
+        },
+        View::Queue => match farm.queue() {
+            Ok(claims) => Response::of(alloc, &Out::Queue(claims.as_slice())),
+            Err(_) => Response::no_memory(),
+        },
     }
 }

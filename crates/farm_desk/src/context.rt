@@ -13,19 +13,8 @@ pub(crate) struct Context {
 }
 
 impl Context {
-    /// The context of one conversation.
-    pub(crate) fn for_one(alloc: Global) -> Context {
-        Context {
-            alloc,
-            routes: None,
-        }
-    }
-
-    /// The context of many conversations: the router is built now, where there is memory for it.
-    pub(crate) fn for_many(alloc: Global) -> Context {
-        Context {
-            alloc,
-            routes: Routes::new(alloc).ok(),
-        }
+    /// The context of conversations that share this router.
+    pub(crate) fn new(alloc: Global, routes: Option<Routes>) -> Context {
+        Context { alloc, routes }
     }
 }

@@ -117,7 +117,7 @@ pub fn converse_counted<R: Input, W: Output, S: Alter>(
     ensures clean { doubt (state S.Store keeper.old.conn).is_clean ≤ doubt
         (state S.Store keeper.new.conn).is_clean }
 {
-    let end = Context::for_one(alloc).converse(keeper, reader, writer, now);
+    let end = Context::new(alloc, None).converse(keeper, reader, writer, now);
     if writer.has_failed() {
         return Err(DeskFault::Write);
     }

@@ -1,6 +1,7 @@
 //! A client's stream, with limits of time.
 ghost use Rattle.std.specs.Prelude.{◌≡◌, IfSome, IsSome, None, OnOk, Some};
 
+use farm_http::Output;
 use std::io;
 use std::io::{Error, ErrorKind, Read, Write};
 use std::net::{Shutdown, TcpStream};
@@ -74,6 +75,12 @@ impl<C: Clock> Write for DeadlineStream<'_, C> {
 
     fn flush(&mut self) -> io::Result<()> {
         Ok(())
+    }
+}
+
+impl<C: Clock> Output for DeadlineStream<'_, C> {
+    fn write_once(&mut self, bytes: &[u8]) -> io::Result<usize> {
+        self.write(bytes)
     }
 }
 

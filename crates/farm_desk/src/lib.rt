@@ -15,7 +15,6 @@
 #![tactic(auto)]
 
 mod answer;
-mod client_output;
 mod clients;
 mod command_line;
 mod context;

@@ -3,20 +3,9 @@
 use crate::preflight::log_path;
 use std::alloc::Global;
 use std::cell::Cell;
-use std::fs;
 use std::io::ErrorKind;
 use std::os::unix::fs::MetadataExt;
-
-/// What the system returns for a path.
-#[derive(Clone, Copy, Debug, PartialEq, Eq)]
-enum PathLookup {
-    /// It names this file, which is so long.
-    File(Identity, u64),
-    /// There is none.
-    Nothing,
-    /// It returned another error.
-    Unknown,
-}
+use std::{fs, io};
 
 /// Which file it is.
 #[derive(Clone, Copy, Debug, PartialEq, Eq)]
@@ -74,40 +63,31 @@ impl<'a> OpenFiles<'a> {
 
 impl OpenFile {
     fn new(rt: &HostRuntime, path: String) -> Option<OpenFile> {
-        match look_up(rt, path.as_str()) {
-            PathLookup::File(identity, length) => Some(OpenFile {
-                path,
-                identity,
-                length: Cell::new(length),
-            }),
-            _ => None,
-        }
+        let (identity, length) = look_up(rt, path.as_str()).ok()?;
+        Some(OpenFile {
+            path,
+            identity,
+            length: Cell::new(length),
+        })
     }
 
     /// Whether the path names the file, which didn't get shorter, as far as the system says.
     fn is_present(&self, rt: &HostRuntime) -> bool {
         match look_up(rt, self.path.as_str()) {
-            PathLookup::File(identity, length) => {
+            Ok((identity, length)) => {
                 identity == self.identity && length >= self.length.replace(length)
             }
-            PathLookup::Nothing => false,
-            PathLookup::Unknown => true,
+            Err(error) => !matches!(error.kind(), ErrorKind::NotFound | ErrorKind::NotADirectory),
         }
     }
 }
 
-fn look_up(rt: &HostRuntime, path: &str) -> PathLookup {
-    match fs::metadata(rt, path) {
-        Ok(found) => PathLookup::File(
-            Identity {
-                device: found.dev(),
-                node: found.ino(),
-            },
-            found.len(),
-        ),
-        Err(error) => match error.kind() {
-            ErrorKind::NotFound | ErrorKind::NotADirectory => PathLookup::Nothing,
-            _ => PathLookup::Unknown,
-        },
-    }
+/// The file that a path names, and how long it is.
+fn look_up(rt: &HostRuntime, path: &str) -> io::Result<(Identity, u64)> {
+    let found = fs::metadata(rt, path)?;
+    let identity = Identity {
+        device: found.dev(),
+        node: found.ino(),
+    };
+    Ok((identity, found.len()))
 }

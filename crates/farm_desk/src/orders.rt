@@ -344,11 +344,11 @@ fn print_line<W: Output>(output: &mut W, line: &[u8]) -> Result<End, DeskFault>
 /// Prints, where standard error is a terminal, what is done with a large file, since that takes a
 /// few seconds.
 fn print_size_note(rt: &HostRuntime, file: &str, what: &str) {
-    let Ok(found) = fs::metadata(rt, file) else {
-        return;
-    };
     let mut errors = rt.stderr();
-    if found.len() >= LARGE_FILE && errors.is_terminal() {
+    if let Ok(found) = fs::metadata(rt, file)
+        && found.len() >= LARGE_FILE
+        && errors.is_terminal()
+    {
         let megabytes = found.len() / 1_000_000;
         let _ = writeln!(
             errors,

@@ -1,8 +1,7 @@
 //! Connections that wait until their requests are there.
 use crate::deadline_stream::{limit, set_timeouts};
 use farm_types::{LONGEST_BODY, LONGEST_HEAD};
-use farm_wire::{WireFault, read_request};
-use mio::event::Event;
+use farm_wire::read_request;
 use mio::unix::SourceFd;
 use mio::{Events, Interest, Poll, Token};
 use std::alloc::Global;
@@ -112,7 +111,10 @@ impl Pending {
                 self.poll_events(Some(Duration::ZERO));
             }
             if self.has_first_timed_out(now) {
-                return self.take_incomplete();
+                // A read of it waits for nothing.
+                let waiting = self.incomplete.pop_front()?;
+                deregister(&self.poll, &waiting.stream);
+                return Some(waiting.stream);
             }
             if let Some(waiting) = self.ready.pop_front() {
                 waiting.stream.set_nonblocking(false).ok()?;
@@ -133,11 +135,14 @@ impl Pending {
 
     /// Accepts those that came, as far as there is room.
     fn accept_all(&mut self, listener: &TcpListener, now: Option<Duration>) {
-        if self.is_paused(now) {
+        // Nobody is accepted for a while once the system has refused to.
+        let times = self.paused_until.zip(now);
+        if times.is_some_and(|(until, now)| now < until) {
             return;
         }
         for _ in 0..MOST_WAITING {
-            if self.to_accept == 0 || !self.has_room() {
+            let waiting = self.incomplete.len().saturating_add(self.ready.len());
+            if self.to_accept == 0 || waiting >= MOST_WAITING {
                 return;
             }
             match listener.accept() {
@@ -151,22 +156,11 @@ impl Pending {
                 Err(_) => {
                     self.to_accept -= 1;
                     self.refused = self.refused.saturating_add(1);
-                    self.paused_until = now.map(|now| now.saturating_add(pause()));
+                    let pause = Duration::from_millis(PAUSE_MILLISECONDS);
+                    self.paused_until = now.map(|now| now.saturating_add(pause));
                     return;
                 }
             }
-        }
-    }
-
-    fn has_room(&self) -> bool {
-        self.incomplete.len().saturating_add(self.ready.len()) < MOST_WAITING
-    }
-
-    /// Whether the system refused to accept a moment ago.
-    fn is_paused(&self, now: Option<Duration>) -> bool {
-        match (self.paused_until, now) {
-            (Some(until), Some(now)) => now < until,
-            _ => false,
         }
     }
 
@@ -197,16 +191,8 @@ impl Pending {
     fn has_first_timed_out(&self, now: Option<Duration>) -> bool {
         match (self.incomplete.front(), now) {
             (Some(first), Some(now)) => now.saturating_sub(first.since) > limit(),
-            (Some(_), None) => true,
-            (None, _) => false,
+            (first, _) => first.is_some(),
         }
-    }
-
-    /// Takes the first incomplete connection out. A read of it waits for nothing.
-    fn take_incomplete(&mut self) -> Option<TcpStream> {
-        let waiting = self.incomplete.pop_front()?;
-        deregister(&self.poll, &waiting.stream);
-        Some(waiting.stream)
     }
 
     /// Waits so long at most until bytes or connections came, and moves those whose requests are
@@ -217,23 +203,18 @@ impl Pending {
         }
         for event in self.events.iter() {
             let number = event.token().0;
-            let Ok(place) = self
-                .incomplete
-                .binary_search_by_key(&number, |it| it.number)
-            else {
-                continue;
-            };
-            let Some(waiting) = self.incomplete.get(place) else {
-                continue;
-            };
-            let is_ready = is_ended(event)
-                || is_complete(self.alloc, &waiting.stream, self.bytes.as_mut_slice());
-            if !is_ready {
-                continue;
-            }
-            if let Some(waiting) = self.incomplete.remove(place) {
+            let place = self.incomplete.partition_point(|it| it.number < number);
+            if let Some(waiting) = self.incomplete.get(place)
+                && waiting.number == number
+                && (event.is_read_closed()
+                    || event.is_error()
+                    || is_complete(self.alloc, &waiting.stream, self.bytes.as_mut_slice()))
+                && let Some(waiting) = self.incomplete.remove(place)
+            {
                 deregister(&self.poll, &waiting.stream);
-                put_in_order(&mut self.ready, waiting);
+                let place = self.ready.partition_point(|it| it.number < number);
+                // There is room for it.
+                let _ = self.ready.insert(place, waiting);
             }
         }
     }
@@ -241,42 +222,22 @@ impl Pending {
     /// How long to wait at most.
     fn time_left(&self, now: Option<Duration>) -> Option<Duration> {
         let now = now.unwrap_or(Duration::ZERO);
-        let pause = match self.paused_until {
-            Some(until) if now < until => Some(until.saturating_sub(now)),
-            _ => None,
+        let pause_end = self.paused_until.filter(|until| now < *until);
+        // A millisecond beyond the limit the time is over.
+        let limit = limit().saturating_add(Duration::from_millis(1));
+        let first = self.incomplete.front();
+        let limit_end = first.map(|it| it.since.saturating_add(limit));
+        let end = match (pause_end, limit_end) {
+            (Some(pause_end), Some(limit_end)) => pause_end.min(limit_end),
+            (pause_end, limit_end) => pause_end.or(limit_end)?,
         };
-        let limit = match self.incomplete.front() {
-            Some(first) => Some(
-                first
-                    .since
-                    .saturating_add(limit())
-                    .saturating_sub(now)
-                    .saturating_add(Duration::from_millis(1)),
-            ),
-            None => None,
-        };
-        match (pause, limit) {
-            (Some(pause), Some(limit)) => Some(pause.min(limit)),
-            (Some(pause), None) => Some(pause),
-            (None, limit) => limit,
-        }
+        Some(end.saturating_sub(now))
     }
 }
 
 fn deregister(poll: &Poll, stream: &TcpStream) {
     let fd = stream.as_raw_fd();
     let _ = poll.registry().deregister(&mut SourceFd(&fd));
-}
-
-/// Puts a connection behind those that came before it. There is room for it.
-fn put_in_order(row: &mut VecDeque<Waiting>, waiting: Waiting) {
-    let place = row.partition_point(|it| it.number < waiting.number);
-    let _ = row.insert(place, waiting);
-}
-
-/// Whether a peer sends no more.
-fn is_ended(event: &Event) -> bool {
-    event.is_read_closed() || event.is_error()
 }
 
 /// Whether no further byte is wanted of a connection: a whole request came, or what is none, or as
@@ -306,11 +267,7 @@ fn is_decided(alloc: Global, bytes: &mut [u8], count: usize) -> bool {
         return true;
     }
     let mut rest = &bytes[..=count];
-    let request = read_request(alloc, &mut rest);
-    !rest.is_empty() || matches!(request, Err(WireFault::NoMemory))
-}
-
-/// How long nobody is accepted after the system has refused to.
-fn pause() -> Duration {
-    Duration::from_millis(PAUSE_MILLISECONDS)
+    // Without memory for it nothing is taken.
+    let _ = read_request(alloc, &mut rest);
+    !rest.is_empty()
 }

@@ -3,8 +3,8 @@
 //! byte it takes the log beside it for no log; so what must not be lost is looked at first. Nothing
 //! is known of a path, so the clauses say what is made of a look, and none what it sees. What
 //! another program does to a path between the look and the open isn't seen.
-ghost use Rattle.std.specs.Prelude.{◌≡◌, IfSome};
-ghost use Rattle.farm_desk.specs.Preflight.{IsNoLog, MayBeNew};
+ghost use Rattle.std.specs.Prelude.{◌≡◌, IfOk, IfSome, string_bytes};
+ghost use Rattle.farm_desk.specs.Preflight.{IsLogPath, IsNoLog, MayBeNew, log_path_of};
 ghost use Rattle.farm_desk.specs.declared.preflight.PathState.TheVariants.{Database, Nothing};
 
 use crate::new_file::{REST_OF_PAGE, page_head};
@@ -52,7 +52,8 @@ enum PathState {
 /// The paths of a farm's file and of its log, and what there was before the store was opened.
 #[derive(Debug, Drop)]
 pub(crate) struct Preflight<'a> {
-    file: &'a str,
+    /// The path of the file.
+    pub(crate) file: &'a str,
     file_state: PathState,
     log: String,
     log_state: PathState,
@@ -80,11 +81,7 @@ impl<'a> Preflight<'a> {
         ensures database { IfSome result (λ it. it.file_state ≡ Database) }
     {
         let preflight = Preflight::of_paths(rt, alloc, file)?;
-        if preflight.file_state == PathState::Database {
-            Some(preflight)
-        } else {
-            None
-        }
+        (preflight.file_state == PathState::Database).then_some(preflight)
     }
 
     /// The check of a new farm, whose file is made where there was nothing; none where a file is
@@ -121,11 +118,7 @@ impl<'a> Preflight<'a> {
         let preflight = Preflight::of_paths(rt, alloc, file)?;
         let is_free = preflight.file_state == PathState::Nothing
             && matches!(preflight.log_state, PathState::Nothing | PathState::Empty);
-        if is_free && make_new_file(rt, file).is_ok() {
-            Some(preflight)
-        } else {
-            None
-        }
+        (is_free && make_new_file(rt, file).is_ok()).then_some(preflight)
     }
 
     /// Takes away what this order made of a store that is closed again: a log that wasn't there
@@ -142,11 +135,13 @@ impl<'a> Preflight<'a> {
         if try_lock_range(file.as_raw_fd(), RangeLock::Exclusive, LOCKED.0, LOCKED.1) != 0 {
             return;
         }
-        if self.log_state == PathState::Nothing && has_no_page(rt, self.log.as_str()) {
-            let _ = fs::remove_file(rt, self.log.as_str());
+        let log = self.log.as_str();
+        if self.log_state == PathState::Nothing && matches!(has_no_page(rt, log), Ok(true)) {
+            let _ = fs::remove_file(rt, log);
         }
-        let is_alone = state_at(rt, self.log.as_str()) == PathState::Nothing;
-        if self.file_state == PathState::Nothing && is_alone && has_no_table(&mut file) {
+        let is_new = self.file_state == PathState::Nothing;
+        let is_alone = state_at(rt, log) == PathState::Nothing;
+        if is_new && is_alone && matches!(has_no_table(&mut file), Ok(true)) {
             let _ = fs::remove_file(rt, self.file);
         }
     }
@@ -156,12 +151,9 @@ fn state_at(rt: &HostRuntime, path: &str) -> PathState {
     match fs::metadata(rt, path) {
         Ok(found) if !found.is_file() => PathState::Other,
         Ok(found) if found.len() == 0 => PathState::Empty,
-        Ok(_) => match begins_as_database(rt, path) {
-            Ok(true) => PathState::Database,
-            _ => PathState::Other,
-        },
+        Ok(_) if matches!(begins_as_database(rt, path), Ok(true)) => PathState::Database,
         Err(error) if error.kind() == ErrorKind::NotFound => PathState::Nothing,
-        Err(_) => PathState::Other,
+        _ => PathState::Other,
     }
 }
 
@@ -171,51 +163,46 @@ fn begins_as_database(rt: &HostRuntime, path: &str) -> io::Result<bool> {
     Ok(first == FIRST_BYTES)
 }
 
-/// Whether a log has no page that counts.
-fn has_no_page(rt: &HostRuntime, path: &str) -> bool {
-    match fs::metadata(rt, path) {
-        Ok(found) if !found.is_file() => false,
-        Ok(found) if found.len() < LOG_HEADS as u64 => true,
-        Ok(_) => matches!(first_page_counts(rt, path), Ok(false)),
-        Err(_) => false,
+/// Whether a path has a log without a page that counts. The first page of a log has the log's
+/// salts, which are eight bytes: a page of others is none, and no page behind it counts.
+fn has_no_page(rt: &HostRuntime, path: &str) -> io::Result<bool> {
+    let found = fs::metadata(rt, path)?;
+    if found.len() < LOG_HEADS as u64 || !found.is_file() {
+        return Ok(found.is_file());
     }
-}
-
-/// Whether the first page of a log has the log's salts, which are eight bytes: a page of others is
-/// none, and no page behind it counts.
-fn first_page_counts(rt: &HostRuntime, path: &str) -> io::Result<bool> {
     let mut heads = [0u8; LOG_HEADS];
     File::open(rt, path)?.read_exact(&mut heads)?;
-    Ok(heads[16..24] == heads[40..48])
+    Ok(heads[16..24] != heads[40..48])
 }
 
-/// Whether a file that is read from its first byte on has none, or is a database without a table.
-fn has_no_table(file: &mut File) -> bool {
-    match file.metadata() {
-        Ok(found) if found.len() == 0 => true,
-        Ok(_) => matches!(lists_no_table(file), Ok(true)),
-        Err(_) => false,
+/// Whether a file that is read from its first byte on has none, or is a database without a table:
+/// it begins as each database does, and its list of tables is a leaf without a row. The first byte
+/// may lack, since an open writes it last.
+fn has_no_table(file: &mut File) -> io::Result<bool> {
+    if file.metadata()?.len() == 0 {
+        return Ok(true);
     }
-}
-
-/// Whether a file begins as each database does, and its list of tables is a leaf without a row. The
-/// first byte may lack, since an open writes it last.
-fn lists_no_table(file: &mut File) -> io::Result<bool> {
     let mut first = [0u8; ROOT + 5];
     file.read_exact(&mut first)?;
     Ok(first[1..16] == FIRST_BYTES[1..] && first[ROOT] == LEAF && first.ends_with(&[0, 0]))
 }
 
 /// The path of the log beside a file, or beside the file to which a link leads.
-pub(crate) fn log_path(rt: &HostRuntime, alloc: Global, file: &str) -> io::Result<String> {
+pub(crate) fn log_path(rt: &HostRuntime, alloc: Global, file: &str) -> io::Result<String>
+    ensures { IfOk result (λ log. IsLogPath (string_bytes log)) }
+{
     match fs::canonicalize(rt, file) {
-        Ok(real) => {
-            let real = real.as_str();
-            Ok(format!(in alloc; "{real}-wal")?)
-        }
-        Err(error) if error.kind() == ErrorKind::NotFound => Ok(format!(in alloc; "{file}-wal")?),
+        Ok(real) => path_beside(alloc, real.as_str()),
+        Err(error) if error.kind() == ErrorKind::NotFound => path_beside(alloc, file),
         Err(error) => Err(error),
     }
+}
+
+/// The path of a log as SQLite makes it of the file's.
+fn path_beside(alloc: Global, file: &str) -> io::Result<String>
+    ensures { IfOk result (λ log. string_bytes log ≡ log_path_of file.now) }
+{
+    Ok(format!(in alloc; "{file}-wal")?)
 }
 
 /// Makes a file where there is nothing.

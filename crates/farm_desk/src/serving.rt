@@ -13,7 +13,7 @@ use crate::open_files::OpenFiles;
 use crate::socket_clients::SocketClients;
 use farm_http::{Input, Output};
 use farm_keep::{KeepFault, Keeper};
-use farm_wire::{CountedReader, CountedWriter};
+use farm_wire::{CountedReader, CountedWriter, Routes};
 use sqlite::Alter;
 use std::alloc::Global;
 use std::net::{Net, TcpListener};
@@ -110,7 +110,7 @@ pub fn serve<S: Alter, K: Clients>(
     if keeper.farm().is_none() {
         return Err(DeskFault::Keep(KeepFault::Closed));
     }
-    let context = Context::for_many(alloc);
+    let context = Context::new(alloc, Routes::new(alloc).ok());
     for _ in 0..max {
         if clients.is_over() {
             return Ok(());

@@ -51,16 +51,6 @@ impl<'a, C: Clock + Net> SocketClients<'a, C> {
     }
 }
 
-impl<C: Clock> SocketClients<'_, C> {
-    /// Whether the files are still those that were opened, where they are given.
-    fn has_files(&self) -> bool {
-        match self.files {
-            Some(files) => files.are_present(),
-            None => true,
-        }
-    }
-}
-
 impl<'a, C: Clock> Clients for SocketClients<'a, C> {
     type Reader = BufReader<DeadlineStream<'a, C>>;
 
@@ -72,10 +62,7 @@ impl<'a, C: Clock> Clients for SocketClients<'a, C> {
 
     /// Whether the files were taken away.
     fn is_over(&self) -> bool {
-        match self.files {
-            Some(files) => files.are_lost(),
-            None => false,
-        }
+        self.files.is_some_and(|files| files.are_lost())
     }
 
     /// The next connection whose request is complete. Its stream is buffered, so that a usual head
@@ -89,25 +76,20 @@ impl<'a, C: Clock> Clients for SocketClients<'a, C> {
         let second = stream.try_clone().ok()?;
         let now = moment(self.clock)?;
         let mut writer = DeadlineStream::new(second, self.clock);
-        if !self.has_files() {
+        if self.files.is_some_and(|files| !files.are_present()) {
             refuse(&mut writer, store_answer());
             return None;
         }
-        match BufReader::with_capacity(
-            self.alloc,
-            BUFFER,
-            DeadlineStream::new(stream, self.clock),
-        ) {
-            Ok(reader) => Some(Client {
-                now,
-                reader,
-                writer,
-            }),
-            Err(_) => {
-                refuse(&mut writer, no_memory_answer());
-                None
-            }
-        }
+        let source = DeadlineStream::new(stream, self.clock);
+        let Ok(reader) = BufReader::with_capacity(self.alloc, BUFFER, source) else {
+            refuse(&mut writer, no_memory_answer());
+            return None;
+        };
+        Some(Client {
+            now,
+            reader,
+            writer,
+        })
     }
 
     fn close(&mut self, _reader: BufReader<DeadlineStream<'a, C>>, writer: DeadlineStream<'a, C>) {
@@ -130,9 +112,7 @@ fn next_stream(listener: &TcpListener) -> Option<TcpStream> {
 
 /// The moment of a clock, in whole seconds since 1970-01-01 00:00:00 UTC; none where it fails.
 fn moment<C: Clock>(clock: &C) -> Option<u64> {
-    let since = SystemTime::now(clock)
-        .ok()?
-        .duration_since(UNIX_EPOCH)
-        .ok()?;
+    let now = SystemTime::now(clock).ok()?;
+    let since = now.duration_since(UNIX_EPOCH).ok()?;
     Some(since.as_secs())
 }

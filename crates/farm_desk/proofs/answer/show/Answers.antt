@@ -1,9 +1,9 @@
 -- Each view's answer, with the rows that it borrows.
-use Rattle.std.proofs.Common.{refl, sym, subst}
+use Rattle.std.proofs.Common.{refl, ◌∙◌}
+use Rattle.farm_types.specs.Refusals.{no_job}
 use Rattle.farm_wire.specs.declared.answers.Out.{Out}
-use Rattle.farm_desk.specs.Answers.{IsView}
-use Rattle.farm_desk.specs.Encoding.{IsEncodedOne, bytes_in}
-use Rattle.farm_desk.proofs.AnswerLemmas.{encoded_one}
+use Rattle.farm_desk.specs.Answers.{out_of_refusal}
+use Rattle.farm_desk.proofs.AnswerLemmas.{encoded_one, encoded_no_memory}
 use Rattle.farm_desk.proofs.answer.show.Goals as goal
 
 pub returns-in-Types : goal.returns-in-Types
@@ -18,10 +18,14 @@ returns-in-Status c = encoded_one _ (Out.Status c.status.result) _ _ (rw (c.in-S
 pub returns-in-Reservations : goal.returns-in-Reservations
 returns-in-Reservations c = encoded_one _ (Out.Reservations c.reservations.result) _ _ (rw c.in-Reservations.is c.reservations.ensures) c.of-in-Reservations.ensures
 
-pub returns-in-Queue : goal.returns-in-Queue
-returns-in-Queue c =
-    subst (λ view. IsEncodedOne (IsView view c.args.farm.now.farm) (bytes_in c.show_queue.result.bytes) c.show_queue.result.end) (sym c.in-Queue.is) c.show_queue.ensures
+pub returns-in-Some : goal.returns-in-Some
+returns-in-Some c = encoded_one _ (Out.Job c.in-Some.row) _ _ (rw (c.in-Job.is, c.in-Some.ensures c.requires) refl) c.of-in-Some.ensures
 
-pub returns-in-Job : goal.returns-in-Job
-returns-in-Job c =
-    subst (λ view. IsEncodedOne (IsView view c.args.farm.now.farm) (bytes_in c.show_job.result.bytes) c.show_job.result.end) (sym c.in-Job.is) c.show_job.ensures
+pub returns-in-None : goal.returns-in-None
+returns-in-None c = encoded_one _ (out_of_refusal no_job) _ _ (rw (c.in-Job.is, c.in-None.ensures c.requires) refl) c.of-in-None.ensures
+
+pub returns-in-Ok : goal.returns-in-Ok
+returns-in-Ok c = encoded_one _ (Out.Queue c.as_slice.result) _ _ (rw c.in-Queue.is (c.as_slice.ensures.value ∙ c.in-Ok.ensures c.requires)) c.of-in-Ok.ensures
+
+pub returns-in-Err : goal.returns-in-Err
+returns-in-Err c = encoded_no_memory _ _ _ c.no_memory.ensures.bytes c.no_memory.ensures.end
