@@ -19,10 +19,10 @@ pub returns-in-Reservations : goal.returns-in-Reservations
 returns-in-Reservations c = encoded_one _ (Out.Reservations c.reservations.result) _ _ (rw c.in-Reservations.is c.reservations.ensures) c.of-in-Reservations.ensures
 
 pub returns-in-Some : goal.returns-in-Some
-returns-in-Some c = encoded_one _ (Out.Job c.in-Some.row) _ _ (rw (c.in-Job.is, c.in-Some.ensures c.requires) refl) c.of-in-Some.ensures
+returns-in-Some c = encoded_one _ (Out.Job c.in-Some.row) _ _ (rw (c.in-Job.is, ← c.in-Some.ensures c.requires) refl) c.of-in-Some.ensures
 
 pub returns-in-None : goal.returns-in-None
-returns-in-None c = encoded_one _ (out_of_refusal no_job) _ _ (rw (c.in-Job.is, c.in-None.ensures c.requires) refl) c.of-in-None.ensures
+returns-in-None c = encoded_one _ (out_of_refusal no_job) _ _ (rw (c.in-Job.is, ← c.in-None.ensures c.requires) refl) c.of-in-None.ensures
 
 pub returns-in-Ok : goal.returns-in-Ok
 returns-in-Ok c = encoded_one _ (Out.Queue c.as_slice.result) _ _ (rw c.in-Queue.is (c.as_slice.ensures.value ∙ c.in-Ok.ensures c.requires)) c.of-in-Ok.ensures
