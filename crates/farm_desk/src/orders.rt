@@ -5,7 +5,7 @@ ghost use Rattle.farm_desk.specs.Conversations.{AnswersOne, desk};
 ghost use Rattle.farm_desk.specs.Imports.{IsImport};
 ghost use Rattle.farm_desk.specs.Lines.{counts_line, port_line, ready_line, PrintsLine, PrintsImport};
 ghost use Rattle.farm_desk.specs.Orders.{streams, DoesInFiles, DoesInMemory, DoesOrder};
-ghost use Rattle.farm_desk.specs.Orders.{DoesWhileThere, Inits, IsUnlessLost, MigratesFile, OpensMemory};
+ghost use Rattle.farm_desk.specs.Orders.{DoesWhileThere, Inits, MigratesFile, OpensMemory};
 ghost use Rattle.farm_desk.specs.Orders.{PrintsIfDone};
 ghost use Rattle.farm_desk.specs.Tasks.{DoesTask, ImportsFile, PrintsReportOf, ServesIfListening};
 ghost use Rattle.farm_keep.specs.KeeperState.{KeeperState};
@@ -131,19 +131,9 @@ fn answer_in_memory<L: LabFiles, R: Input, W: Output>(
         (streams (R.remaining input.old) (W.contents output.old))
         (streams (R.remaining input.new) (W.contents output.new)) (Task.Answer at) result }
 {
-    match memory_keeper(alloc) {
-        Ok(keeper) => on_farm(
-            rt,
-            alloc,
-            keeper,
-            Task::Answer { at },
-            labs,
-            None,
-            input,
-            output,
-        ),
-        Err(fault) => Err(fault),
-    }
+    let keeper = memory_keeper(alloc)?;
+    let task = Task::Answer { at };
+    do_task(rt, alloc, keeper, task, labs, None, input, output)
 }
 
 /// Does a task with the farm in a file.
@@ -162,10 +152,8 @@ fn do_in_files<S: Start, L: LabFiles, R: Input, W: Output>(
         (streams (R.remaining input.new) (W.contents output.new))
         ⟦<FileFrom<S> as Disk>⟧ (image_at S.Start) task result }
 {
-    match open_farm(rt, alloc, file, start) {
-        Ok(keeper) => on_farm(rt, alloc, keeper, task, labs, None, input, output),
-        Err(fault) => Err(fault),
-    }
+    let keeper = open_farm(rt, alloc, file, start)?;
+    do_task(rt, alloc, keeper, task, labs, None, input, output)
 }
 
 /// Does a task with the farm in a file as long as that is there. Where somebody takes away the file
@@ -186,31 +174,15 @@ fn do_while_there<S: Start, L: LabFiles, R: Input, W: Output>(
         ⟦<FileFrom<S> as Disk>⟧ (image_at S.Start) task result }
 {
     print_size_note(rt, file, "opening");
-    match open_farm(rt, alloc, file, start) {
-        Ok(keeper) => match OpenFiles::new(rt, alloc, file) {
-            Some(files) => {
-                let ended = on_farm(rt, alloc, keeper, task, labs, Some(&files), input, output);
-                unless_lost(&files, ended)
-            }
-            None => Err(DeskFault::Keep(KeepFault::Store)),
-        },
-        Err(fault) => Err(fault),
+    let keeper = open_farm(rt, alloc, file, start)?;
+    let Some(files) = OpenFiles::new(rt, alloc, file) else {
+        return Err(DeskFault::Keep(KeepFault::Store));
+    };
+    let ended = do_task(rt, alloc, keeper, task, labs, Some(&files), input, output);
+    if ended.is_ok() && files.are_lost() {
+        return Err(DeskFault::Keep(KeepFault::Store));
     }
-}
-
-/// The end of what was done without a fault, unless its files were lost meanwhile.
-fn unless_lost(files: &OpenFiles<'_>, ended: Result<End, DeskFault>) -> Result<End, DeskFault>
-    ensures { IsUnlessLost ended result }
-{
-    match ended {
-        Ok(end) => {
-            if files.are_lost() {
-                return Err(DeskFault::Keep(KeepFault::Store));
-            }
-            Ok(end)
-        }
-        Err(fault) => Err(fault),
-    }
+    ended
 }
 
 /// What is done with a farm that is there.
@@ -226,9 +198,9 @@ enum Task {
     Serve { port: u16, max: u64 },
 }
 
-/// Does an order's task with a keeper's farm. It serves as long as these files are there, where
+/// Does a task with a keeper's farm. It serves as long as these files are there, where
 /// they are passed.
-fn on_farm<L: LabFiles, R: Input, W: Output, S: Alter + Drop>(
+fn do_task<L: LabFiles, R: Input, W: Output, S: Alter + Drop>(
     rt: &HostRuntime,
     alloc: Global,
     mut keeper: Keeper<S>,
@@ -243,32 +215,14 @@ fn on_farm<L: LabFiles, R: Input, W: Output, S: Alter + Drop>(
         (desk left (R.remaining input.new) (W.contents output.new))
         R.never_fails (W.has_room output.old) result }
 {
-    do_task(rt, alloc, &mut keeper, &task, labs, files, input, output)
-}
-
-/// Does a task with a keeper's farm.
-fn do_task<L: LabFiles, R: Input, W: Output, S: Alter>(
-    rt: &HostRuntime,
-    alloc: Global,
-    keeper: &mut Keeper<S>,
-    task: &Task,
-    labs: &L,
-    files: Option<&OpenFiles<'_>>,
-    input: &mut R,
-    output: &mut W,
-) -> Result<End, DeskFault>
-    ensures { DoesTask S.Store (L.contents labs.now) task.now
-        (desk keeper.old (R.remaining input.old) (W.contents output.old))
-        (desk keeper.new (R.remaining input.new) (W.contents output.new))
-        R.never_fails (W.has_room output.old) result }
-{
+    let keeper = &mut keeper;
     match task {
-        Task::Answer { at } => answer_one(alloc, keeper, input, output, *at),
-        Task::Import { at, lab } => import_file(alloc, keeper, labs, lab.as_str(), *at, output),
+        Task::Answer { at } => answer_one(alloc, keeper, input, output, at),
+        Task::Import { at, lab } => import_file(alloc, keeper, labs, lab.as_str(), at, output),
         Task::Report { east, west, which } => {
-            print_report(alloc, keeper, (*east, *west), *which, output)
+            print_report(alloc, keeper, (east, west), which, output)
         }
-        Task::Serve { port, max } => serve(rt, alloc, keeper, *port, *max, files, output),
+        Task::Serve { port, max } => serve(rt, alloc, keeper, port, max, files, output),
     }
 }
 
@@ -330,7 +284,7 @@ fn print_made<K: Drop, W: Output>(
     print_line(output, b"ready\n")
 }
 
-/// Prints the line of an order that was done.
+/// Prints the lines of an order that was done.
 fn print_line<W: Output>(output: &mut W, line: &[u8]) -> Result<End, DeskFault>
     ensures { PrintsLine (W.has_room output.old) (W.contents output.old) (W.contents output.new)
         line.now result }
@@ -370,13 +324,9 @@ fn migrate<S: Start, W: Output>(
         ⟦<FileFrom<S> as Disk>⟧ (image_at S.Start) result }
 {
     print_size_note(rt, file, "migrating");
-    match migrate_farm(rt, alloc, file, start) {
-        Ok(conn) => {
-            let _ = conn.close();
-            print_line(output, b"migrated\n")
-        }
-        Err(fault) => Err(fault),
-    }
+    let conn = migrate_farm(rt, alloc, file, start)?;
+    let _ = conn.close();
+    print_line(output, b"migrated\n")
 }
 
 /// Adds what the lab file at a path lists to a keeper's farm, as far as it can be read.
@@ -492,8 +442,5 @@ fn print_report<W: Output, S: Alter>(
     let Ok(text) = report_text(alloc, farm, which, zone_between(zone.0, zone.1)) else {
         return Err(DeskFault::NoMemory);
     };
-    match write_whole(output, text.as_bytes()) {
-        Ok(()) => Ok(End::Done),
-        Err(_) => Err(DeskFault::Write),
-    }
+    print_line(output, text.as_bytes())
 }

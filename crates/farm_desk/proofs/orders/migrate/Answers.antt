@@ -1,16 +1,19 @@
 use Rattle.std.proofs.Common.{refl}
+use Rattle.std.proofs.lemmas.Result.{err_from_is_err_and}
 use Rattle.farm_desk.proofs.orders.migrate.Goals as goal
 
-pub returns-in-Ok : goal.returns-in-Ok
-returns-in-Ok g c = record {
-  raised = c.migrate_farm.result;
-  upgrades = record { raises = c.migrate_farm.ensures.raised; denied = c.migrate_farm.ensures.denied; version = c.migrate_farm.ensures.version; fault = c.migrate_farm.ensures.fault };
-  prints = rw c.in-Ok.is c.print_line.ensures;
-}
+pub returns-in_err-conn : goal.returns-in_err-conn
+returns-in_err-conn g c =
+    let p = err_from_is_err_and c.from_residual.result c.from_residual.ensures.1 in
+    record {
+      raised = c.migrate_farm.result;
+      upgrades = record { raises = c.migrate_farm.ensures.raised; denied = c.migrate_farm.ensures.denied; version = c.migrate_farm.ensures.version; fault = c.migrate_farm.ensures.fault };
+      prints = rw (c.in_err-conn.was, p.1, p.2) (refl, refl);
+    }
 
-pub returns-in-Err : goal.returns-in-Err
-returns-in-Err g c = record {
+pub returns : goal.returns
+returns g c = record {
   raised = c.migrate_farm.result;
   upgrades = record { raises = c.migrate_farm.ensures.raised; denied = c.migrate_farm.ensures.denied; version = c.migrate_farm.ensures.version; fault = c.migrate_farm.ensures.fault };
-  prints = rw c.in-Err.is (refl, refl);
+  prints = rw c.in_ok-conn.was c.print_line.ensures;
 }
