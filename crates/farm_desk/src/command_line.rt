@@ -4,11 +4,10 @@ ghost use Rattle.std.specs.Io.KnownBytes.{WriteAppends};
 ghost use Rattle.sqlite_wal.specs.Files.{image_at};
 ghost use Rattle.farm_cli.specs.declared.order.Order.{Order as Ordered};
 ghost use Rattle.farm_cli.specs.declared.fault.OrderFault.{OrderFault as Unordered};
-ghost use Rattle.farm_desk.specs.Faults.{exit_status, desk_fault_code, order_status, wrong_words};
+ghost use Rattle.farm_desk.specs.Faults.{exit_status, desk_fault_code, order_status};
 ghost use Rattle.farm_desk.specs.Lines.{fault_line, refusal_line, error_line, WritesPart};
 ghost use Rattle.farm_desk.specs.Orders.{streams, DoesOrder};
-ghost use Rattle.farm_desk.specs.Program.{EndsAsRead, EndsOrder, EndsUnread, IsReadOf, PrintsText};
-ghost use Rattle.farm_desk.specs.Program.{ShowsHelp};
+ghost use Rattle.farm_desk.specs.Program.{EndsAsRead, EndsOrder, EndsUnread, IsReadOf};
 
 use crate::fault::DeskFault;
 use crate::new_file::NewFile;
@@ -63,30 +62,7 @@ pub fn program<R: Input, W: Output, E: Output>(
         (streams (R.remaining input.new) (W.contents output.new))
         (E.contents errors.old) (E.contents errors.new) result }
 {
-    let read = order_of(alloc, words);
-    end_as_read(rt, alloc, read, input, output, errors)
-}
-
-/// Carries out the order that was read, or prints why there is none; returns the exit status.
-fn end_as_read<R: Input, W: Output, E: Output>(
-    rt: &HostRuntime,
-    alloc: Global,
-    read: Result<Order, OrderFault>,
-    input: &mut R,
-    output: &mut W,
-    errors: &mut E,
-) -> u8
-    ensures { EndsAsRead (W.has_room output.old) (E.has_room errors.old)
-        (DoesOrder (λ _. None) R.never_fails (W.has_room output.old)
-        (streams (R.remaining input.old) (W.contents output.old))
-        (streams (R.remaining input.new) (W.contents output.new))
-        ⟦<FileFrom<Unknown> as Disk>⟧ (image_at ⟦<Unknown as Start>⟧)
-        ⟦<FileFrom<NewFile> as Disk>⟧ (image_at ⟦<NewFile as Start>⟧)) read
-        (streams (R.remaining input.old) (W.contents output.old))
-        (streams (R.remaining input.new) (W.contents output.new))
-        (E.contents errors.old) (E.contents errors.new) result }
-{
-    match read {
+    match order_of(alloc, words) {
         Ok(order) => perform(rt, alloc, order, input, output, errors),
         Err(fault) => print_order_fault(fault, output, errors),
     }
@@ -99,31 +75,16 @@ fn print_order_fault<W: Output, E: Output>(fault: OrderFault, output: &mut W, er
         (E.contents errors.old) (E.contents errors.new) result }
 {
     match fault {
-        OrderFault::Help(text) => show_help(text.as_bytes(), output, errors),
-        OrderFault::Words(text) => refuse_words(text.as_bytes(), errors),
+        OrderFault::Help(text) => match write_whole(output, text.as_bytes()) {
+            Ok(()) => DONE,
+            Err(_) => print_fault(errors, DeskFault::Write),
+        },
+        OrderFault::Words(text) => {
+            let _ = write_whole(errors, text.as_bytes());
+            WRONG_WORDS
+        }
         OrderFault::NoMemory => print_fault(errors, DeskFault::NoMemory),
     }
-}
-
-/// Writes help to the output, and returns the exit status.
-fn show_help<W: Output, E: Output>(text: &[u8], output: &mut W, errors: &mut E) -> u8
-    ensures { ShowsHelp (W.has_room output.old) text.now (W.contents output.old) (W.contents output.new)
-        (E.contents errors.old) (E.contents errors.new) result }
-{
-    match write_whole(output, text) {
-        Ok(()) => DONE,
-        Err(_) => print_fault(errors, DeskFault::Write),
-    }
-}
-
-/// Prints what is wrong with the words, and returns the exit status.
-fn refuse_words<E: Output>(text: &[u8], errors: &mut E) -> u8
-    ensures status { result ≡ wrong_words }
-    ensures printed { PrintsText (E.has_room errors.old) (E.contents errors.old)
-        (E.contents errors.new) text.now }
-{
-    let _ = write_whole(errors, text);
-    WRONG_WORDS
 }
 
 /// Carries out an order, and returns the exit status. The lines of faults and of a lab file's

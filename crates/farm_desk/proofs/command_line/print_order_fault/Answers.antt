@@ -1,10 +1,8 @@
-use Rattle.farm_desk.proofs.LineLemmas.{keeps_same}
+use Rattle.std.proofs.Common.{refl}
+use Rattle.farm_desk.proofs.LineLemmas.{keeps_same, text_tried}
 use Rattle.farm_desk.proofs.command_line.print_order_fault.Goals as goal
 
 pub returns-in-Words : goal.returns-in-Words
 returns-in-Words g c =
-    rw c.in-Words.is (c.refuse_words.ensures.status, keeps_same _, rw c.as_bytes-in-Words.ensures.value at c.refuse_words.ensures.printed)
-
-pub returns-in-NoMemory : goal.returns-in-NoMemory
-returns-in-NoMemory g c =
-    rw c.in-NoMemory.is (keeps_same _, record { status_is = c.print_fault.ensures.status; printed = c.print_fault.ensures.printed })
+    let printed = text_tried (g.E.Output.has_room c.args.errors.now) _ _ _ _ c.write_whole-in-Words.ensures.ok c.write_whole-in-Words.ensures.prefix c.write_whole-in-Words.ensures.sure in
+    rw c.in-Words.is (refl, keeps_same _, rw c.as_bytes-in-Words.ensures.value at printed)
