@@ -17,7 +17,7 @@ use Rattle.farm_wire.specs.declared.ask.Ask.{Ask}
 use Rattle.farm_wire.specs.declared.answers.Out.{Out}
 use Rattle.farm_wire.specs.declared.fault.AskFault.{AskFault}
 use Rattle.farm_desk.specs.Answers.{Encodes, out_of_denial, out_of_refusal, out_of_answer}
-use Rattle.farm_desk.specs.Response.{Closes, IsResponse, IsResponseTo, RunsOutOfMemory}
+use Rattle.farm_desk.specs.Response.{IsResponse, IsResponseTo, RunsOutOfMemory}
 use Rattle.farm_desk.specs.Received.{ReceivesBadRequest}
 use Rattle.farm_desk.specs.Encoding.{IsEncoded, IsDenialEncoded, IsEncodedOne}
 use Rattle.farm_desk.specs.declared.fault.DeskFault.{DeskFault}
@@ -25,10 +25,7 @@ use Rattle.farm_desk.specs.declared.fault.DeskFault.{DeskFault}
 response_without_memory : {S : Type 0} (g : Ghosts S) (old new : KeeperState S) (what : Result Ask Denial) (bytes : List ℕ) (end : DeskFault)
     → end ≡ DeskFault.NoMemory → RunsOutOfMemory g old new what bytes → IsResponseTo g old new what bytes (Err end)
 response_without_memory g old new what bytes DeskFault.NoMemory e out = out
-response_without_memory g old new what bytes DeskFault.Read e out = absurd (cc)
-response_without_memory g old new what bytes DeskFault.Write e out = absurd (cc)
-response_without_memory g old new what bytes (DeskFault.Keep fault) e out = absurd (cc)
-response_without_memory g old new what bytes (DeskFault.File fault) e out = absurd (cc)
+response_without_memory g old new what bytes other e out = absurd (cc)
 
 -- an answer that is one of some
 pub encoded_one : (P : Out → Type 0) (out : Out) (bytes : List ℕ) (end : Result ℕ DeskFault) → P out → IsEncoded out bytes end → IsEncodedOne P bytes end
@@ -85,40 +82,35 @@ abbrev acted : KeepFault → Result Answer KeepFault
 acted fault = Err fault
 
 -- a call at which the keeper returned a fault
-pub fault_is_response : {S : Type 0} (g : Ghosts S) (old new : KeeperState S) (call : Call) (fault : KeepFault) (bytes : List ℕ) (end : Result ℕ DeskFault)
+pub fault_is_response : {S : Type 0} (g : Ghosts S) (old new : KeeperState S) (call : Call) (fault : KeepFault) (bytes : List ℕ)
     → (acted fault ≡ Err KeepFault.NoMemory → (new.is_open ≡ false) × (new.conn ≡ old.conn) × IsChange (answer old.farm.farm call))
     → (acted fault ≡ Err KeepFault.Store → (new.is_open ≡ false) × IsChange (answer old.farm.farm call)
     × (KeepsOwnFarm g old → KeepsEither g new old.farm.farm (step old.farm.farm call)))
     → (acted fault ≡ Err KeepFault.Closed ↔ old.is_open ≡ false)
     → (acted fault ≡ Err KeepFault.Closed → new ≡ old)
     → IsActFault fault
-    → bytes ≡ reply_bytes (out_of_refusal (keep_fault_code fault)) → end ≡ Err (DeskFault.Keep fault)
-    → IsResponseTo g old new (Ok (Ask.Call call)) bytes end
-fault_is_response g old new call KeepFault.NoMemory bytes end memory store closed still other encodes ends =
+    → bytes ≡ reply_bytes (out_of_refusal (keep_fault_code fault))
+    → IsResponseTo g old new (Ok (Ask.Call call)) bytes (Err (DeskFault.Keep fault))
+fault_is_response g old new call KeepFault.NoMemory bytes memory store closed still other encodes =
     let lacks = memory refl in
-    let closes : Closes g old new (Ask.Call call) KeepFault.NoMemory bytes = record {
+    record {
       encodes = encodes;
       is_closed = lacks.0;
       cause = record { was_open = open_unless old.is_open (λ shut. let e = closed.1 shut in absurd (cc)); change = lacks.2; store = lacks.1 };
-    } in
-    subst (λ e. IsResponseTo g old new (Ok (Ask.Call call)) bytes e) (sym ends) closes
-fault_is_response g old new call KeepFault.Store bytes end memory store closed still other encodes ends =
+    }
+fault_is_response g old new call KeepFault.Store bytes memory store closed still other encodes =
     let loses = store refl in
-    let closes : Closes g old new (Ask.Call call) KeepFault.Store bytes = record {
+    record {
       encodes = encodes;
       is_closed = loses.0;
       cause = record { was_open = open_unless old.is_open (λ shut. let e = closed.1 shut in absurd (cc)); change = loses.1; leaves = loses.2 };
-    } in
-    subst (λ e. IsResponseTo g old new (Ok (Ask.Call call)) bytes e) (sym ends) closes
-fault_is_response g old new call KeepFault.Closed bytes end memory store closed still other encodes ends =
+    }
+fault_is_response g old new call KeepFault.Closed bytes memory store closed still other encodes =
     let same = still refl in
     let shut = closed.0 refl in
-    let closes : Closes g old new (Ask.Call call) KeepFault.Closed bytes = record {
+    record {
       encodes = encodes;
       is_closed = ap (λ (k : KeeperState _). k.is_open) same ∙ shut;
       cause = record { was_closed = shut; unchanged = same };
-    } in
-    subst (λ e. IsResponseTo g old new (Ok (Ask.Call call)) bytes e) (sym ends) closes
-fault_is_response g old new call KeepFault.BadStore bytes end memory store closed still other encodes ends = absurd other
-fault_is_response g old new call KeepFault.OldSchema bytes end memory store closed still other encodes ends = absurd other
-fault_is_response g old new call KeepFault.NewSchema bytes end memory store closed still other encodes ends = absurd other
+    }
+fault_is_response g old new call fault bytes memory store closed still other encodes = absurd other

@@ -120,14 +120,11 @@ written_response g old new now end a = record { bytes = a.bytes; response_end = 
 
 pub has_response : {S : Type 0} (g : Ghosts S) (old new : Desk S) (now : ℕ) (end : Result ℕ DeskFault)
     → Converses g old new now end → (new.keeper ≡ old.keeper) ⊎ HasResponse g old new now end
-has_response g old new now (Ok status) h = inr (written_response g old new now (Ok status) (h.answered tt))
-has_response g old new now (Err DeskFault.NoMemory) h = inr (written_response g old new now (Err DeskFault.NoMemory) (h.answered tt))
 has_response g old new now (Err DeskFault.Read) h = inl (h.unread refl).unchanged
 has_response g old new now (Err DeskFault.Write) h =
     let u = h.unwritten refl in
     inr (record { bytes = u.bytes; response_end = u.end; response = u.response; same = inr refl })
-has_response g old new now (Err (DeskFault.Keep fault)) h = inr (written_response g old new now (Err (DeskFault.Keep fault)) (h.answered tt))
-has_response g old new now (Err (DeskFault.File fault)) h = inr (written_response g old new now (Err (DeskFault.File fault)) (h.answered tt))
+has_response g old new now end h = inr (written_response g old new now end (h.answered tt))
 
 -- ---- one answer
 

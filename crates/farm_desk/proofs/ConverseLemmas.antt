@@ -1,16 +1,12 @@
 -- An answer that was written, or lost.
-use Rattle.std.proofs.Common.{◌≡◌, ◌≢◌, ℕ, List, Bool, true, false, length, subst, Ok, Err}
+use Rattle.std.proofs.Common.{◌≡◌, ◌≢◌, ℕ, List, Bool, true, false, length, subst, Err}
 use Rattle.std.specs.Prelude.{Option, Result}
 use Rattle.farm_desk.specs.Ends.{Writes, IsAnswered, WritesAnswer, EndsWritten, HasNoRoom, IsUnwritten}
 use Rattle.farm_desk.specs.declared.fault.DeskFault.{DeskFault}
 
 not_read : (end : Result ℕ DeskFault) → EndsWritten end → end ≢ Err DeskFault.Read
 not_read (Err DeskFault.Read) written_end e = absurd written_end
-not_read (Err DeskFault.Write) written_end e = absurd written_end
-not_read (Err DeskFault.NoMemory) written_end e = absurd (cc)
-not_read (Err (DeskFault.Keep fault)) written_end e = absurd (cc)
-not_read (Err (DeskFault.File fault)) written_end e = absurd (cc)
-not_read (Ok status) written_end e = absurd (cc)
+not_read end written_end e = absurd (cc)
 
 -- the writer didn't fail: the whole answer was written
 pub written_whole : (Response : List ℕ → Result ℕ DeskFault → Type 0) (Room : ℕ → Type 0) (failed : Bool) (held holds : Option (List ℕ)) (end : Result ℕ DeskFault)

@@ -48,10 +48,7 @@ pub denies_tables : {S : Type 0} (g : store.Ghosts S) (conn : Held S) (fault : K
     → DeniesTables g conn (DeskFault.Keep fault)
 denies_tables g conn KeepFault.BadStore standing denied = λ F sound on. denied F sound (stands_on g conn (rows_of F) standing on)
 denies_tables g conn KeepFault.OldSchema standing denied = λ T on. denied T (stands_on g conn T standing on)
-denies_tables g conn KeepFault.NewSchema standing denied = tt
-denies_tables g conn KeepFault.NoMemory standing denied = tt
-denies_tables g conn KeepFault.Store standing denied = tt
-denies_tables g conn KeepFault.Closed standing denied = tt
+denies_tables g conn other standing denied = tt
 
 -- where the tables are made, it was opened on none
 pub makes_free : {S : Type 0} (g : store.Ghosts S) (conn : Held S) → IsStanding g conn → ((T : TableRows) → ¬ Stands (state g conn) T)
@@ -128,14 +125,7 @@ denies_farm image conn (DeskFault.Keep KeepFault.BadStore) clean denied shows = 
     denied F sound (opens_tables image conn (rows_of F) shows clean held)
 denies_farm image conn (DeskFault.Keep KeepFault.OldSchema) clean denied shows = λ T held.
     denied T (opens_tables image conn T shows clean held)
-denies_farm image conn (DeskFault.Keep KeepFault.NewSchema) clean denied shows = tt
-denies_farm image conn (DeskFault.Keep KeepFault.NoMemory) clean denied shows = tt
-denies_farm image conn (DeskFault.Keep KeepFault.Store) clean denied shows = tt
-denies_farm image conn (DeskFault.Keep KeepFault.Closed) clean denied shows = tt
-denies_farm image conn DeskFault.NoMemory clean denied shows = tt
-denies_farm image conn DeskFault.Read clean denied shows = tt
-denies_farm image conn DeskFault.Write clean denied shows = tt
-denies_farm image conn (DeskFault.File fault) clean denied shows = tt
+denies_farm image conn other clean denied shows = tt
 
 -- the files of a connection that showed no table were free
 are_free : {D : Type 0} {g : Ghosts D} (image : Image) (conn : Held (FileStore D g)) (k : KeeperState (FileStore D g))

@@ -1,5 +1,5 @@
 -- One more call of an import, and how an import ends.
-use Rattle.std.proofs.Common.{◌≡◌, ◌≤◌, ◌<◌, ◌↔◌, ◌+◌, ℕ, List, [], ◌∷◌, ◌++◌, Bool, true, false, cond, take, length, get_or, refl, sym, ap, ◌∙◌, subst, arith, Err}
+use Rattle.std.proofs.Common.{◌≡◌, ◌≤◌, ◌<◌, ◌↔◌, ◌+◌, ℕ, List, [], ◌∷◌, ◌++◌, Bool, false, cond, take, length, get_or, refl, sym, ap, ◌∙◌, subst, arith, Err}
 use Rattle.std.specs.Prelude.{Option, Some, None, Result}
 use Rattle.std.specs.List.{count_by}
 use Rattle.std.proofs.lemmas.List.{take_all}
@@ -53,45 +53,17 @@ one_more p F G calls i call answered turn =
     ap (count_by p) (answers_with F G calls i call answered turn) ∙ sum_by-append (λ a. cond (p a) 1 0) (answers_of F (take i calls)) (answered ∷ []) in
     omega (arith, e)
 
--- a call more was accepted
-one_accepted : (F G : Farm) (calls : List Call) (i : ℕ) (call : Call) (answered : Answered) (accepted kept : ℕ) → IsNext F G calls i call answered
-    → is_accepted answered ≡ true → is_kept answered ≡ false → accepted + kept ≡ i → IsCounted F calls accepted kept
-    → IsCounted F calls (accepted + 1) kept
-one_accepted F G calls i call answered accepted kept turn is not_kept done was =
-    let there : accepted + 1 + kept ≡ i + 1 = omega (arith, done) in
-    let more : so_far is_accepted F calls (i + 1) ≡ so_far is_accepted F calls i + 1 =
-    one_more is_accepted F G calls i call answered turn ∙ ap (λ b. so_far is_accepted F calls i + cond b 1 0) is in
-    let same : so_far is_kept F calls (i + 1) ≡ so_far is_kept F calls i + 0 =
-    one_more is_kept F G calls i call answered turn ∙ ap (λ b. so_far is_kept F calls i + cond b 1 0) not_kept in
-    let a : accepted ≡ so_far is_accepted F calls i = was.accepted_are ∙ ap (so_far is_accepted F calls) done in
-    let k : kept ≡ so_far is_kept F calls i = was.kept_are ∙ ap (so_far is_kept F calls) done in
-    let a' : accepted + 1 ≡ so_far is_accepted F calls (i + 1) = omega (arith, more, a) in
-    let k' : kept ≡ so_far is_kept F calls (i + 1) = omega (arith, same, k) in
-    record {
-      within = omega (arith, turn.low, done);
-      accepted_are = a' ∙ ap (so_far is_accepted F calls) (sym there);
-      kept_are = k' ∙ ap (so_far is_kept F calls) (sym there);
-    }
-
--- a call more had been accepted before
-one_kept : (F G : Farm) (calls : List Call) (i : ℕ) (call : Call) (answered : Answered) (accepted kept : ℕ) → IsNext F G calls i call answered
-    → is_accepted answered ≡ false → is_kept answered ≡ true → accepted + kept ≡ i → IsCounted F calls accepted kept
-    → IsCounted F calls accepted (kept + 1)
-one_kept F G calls i call answered accepted kept turn not_new is done was =
-    let there : accepted + (kept + 1) ≡ i + 1 = omega (arith, done) in
-    let same : so_far is_accepted F calls (i + 1) ≡ so_far is_accepted F calls i + 0 =
-    one_more is_accepted F G calls i call answered turn ∙ ap (λ b. so_far is_accepted F calls i + cond b 1 0) not_new in
-    let more : so_far is_kept F calls (i + 1) ≡ so_far is_kept F calls i + 1 =
-    one_more is_kept F G calls i call answered turn ∙ ap (λ b. so_far is_kept F calls i + cond b 1 0) is in
-    let a : accepted ≡ so_far is_accepted F calls i = was.accepted_are ∙ ap (so_far is_accepted F calls) done in
-    let k : kept ≡ so_far is_kept F calls i = was.kept_are ∙ ap (so_far is_kept F calls) done in
-    let a' : accepted ≡ so_far is_accepted F calls (i + 1) = omega (arith, same, a) in
-    let k' : kept + 1 ≡ so_far is_kept F calls (i + 1) = omega (arith, more, k) in
-    record {
-      within = omega (arith, turn.low, done);
-      accepted_are = a' ∙ ap (so_far is_accepted F calls) (sym there);
-      kept_are = k' ∙ ap (so_far is_kept F calls) (sym there);
-    }
+-- a call more is counted
+counted_more : (F G : Farm) (calls : List Call) (i : ℕ) (call : Call) (answered : Answered) (accepted kept accepted' kept' : ℕ) → IsNext F G calls i call answered
+    → accepted' ≡ accepted + cond (is_accepted answered) 1 0 → kept' ≡ kept + cond (is_kept answered) 1 0 → accepted' + kept' ≡ i + 1
+    → accepted + kept ≡ i → IsCounted F calls accepted kept → IsCounted F calls accepted' kept'
+counted_more F G calls i call answered accepted kept accepted' kept' turn one_accepted one_kept all done was = record {
+  within = omega (arith, turn.low, all);
+  accepted_are = one_accepted ∙ ap (λ n. n + cond (is_accepted answered) 1 0) (was.accepted_are ∙ ap (so_far is_accepted F calls) done)
+      ∙ sym (one_more is_accepted F G calls i call answered turn) ∙ ap (so_far is_accepted F calls) (sym all);
+  kept_are = one_kept ∙ ap (λ n. n + cond (is_kept answered) 1 0) (was.kept_are ∙ ap (so_far is_kept F calls) done)
+      ∙ sym (one_more is_kept F G calls i call answered turn) ∙ ap (so_far is_kept F calls) (sym all);
+}
 
 -- the counts after one call more
 pub record GoesOn (F : Farm) (calls : List Call) (i : ℕ) (old new : ImportEnd) : Type 0 where
@@ -106,13 +78,13 @@ pub counts_on : (F G : Farm) (calls : List Call) (i : ℕ) (call : Call) (answer
     → refusal ≡ None → Counts answered old new refusal → GoesOn F calls (i + 1) old new
 counts_on F G calls i call (Changed reply) old new refusal turn done was none counts = subst (GoesOn F calls (i + 1) old) (sym counts.0) (record {
   done = omega (arith, done);
-  counted = one_accepted F G calls i call (Changed reply) old.accepted old.kept turn refl refl done was;
+  counted = counted_more F G calls i call (Changed reply) old.accepted old.kept (old.accepted + 1) old.kept turn refl (omega arith) (omega (arith, done)) done was;
   stopped = refl;
   fault = refl;
 })
 counts_on F G calls i call (Repeated reply) old new refusal turn done was none counts = subst (GoesOn F calls (i + 1) old) (sym counts.0) (record {
   done = omega (arith, done);
-  counted = one_kept F G calls i call (Repeated reply) old.accepted old.kept turn refl refl done was;
+  counted = counted_more F G calls i call (Repeated reply) old.accepted old.kept old.accepted (old.kept + 1) turn (omega arith) refl (omega (arith, done)) done was;
   stopped = refl;
   fault = refl;
 })
@@ -195,6 +167,4 @@ faulted_at g old mid new calls i done call KeepFault.Closed low here before same
     let shut = sym opened ∙ closed.0 refl in
     let was = still shut in
     record { was_closed = shut; nothing = same ∙ was.0; unchanged = unchanged refl ∙ was.1 }
-faulted_at g old mid new calls i done call KeepFault.BadStore low here before same opened keeps still memory store closed unchanged other = absurd other
-faulted_at g old mid new calls i done call KeepFault.OldSchema low here before same opened keeps still memory store closed unchanged other = absurd other
-faulted_at g old mid new calls i done call KeepFault.NewSchema low here before same opened keeps still memory store closed unchanged other = absurd other
+faulted_at g old mid new calls i done call fault low here before same opened keeps still memory store closed unchanged other = absurd other

@@ -31,10 +31,7 @@ asked_closes : {S : Type 0} (g : Ghosts S) (old new : KeeperState S) (asked : Re
 asked_closes g old new asked bytes (Ok status) response = inl (reached g old new asked bytes status response).reaches.opened
 asked_closes g old new asked bytes (Err DeskFault.NoMemory) response = inl response.stays_open
 asked_closes g old new (Ok what) bytes (Err (DeskFault.Keep fault)) response = inr response.is_closed
-asked_closes g old new (Err why) bytes (Err (DeskFault.Keep fault)) response = absurd response
-asked_closes g old new asked bytes (Err DeskFault.Read) response = absurd response
-asked_closes g old new asked bytes (Err DeskFault.Write) response = absurd response
-asked_closes g old new asked bytes (Err (DeskFault.File fault)) response = absurd response
+asked_closes g old new asked bytes end response = absurd response
 
 response_closes : {S : Type 0} (g : Ghosts S) (old new : Desk S) (now : ℕ) (bytes : List ℕ) (end : Result ℕ DeskFault)
     → IsResponse g old.keeper new.keeper old.input new.input now bytes end → (new.keeper.is_open ≡ old.keeper.is_open) ⊎ (new.keeper.is_open ≡ false)
@@ -123,10 +120,7 @@ asked_part g old new now end (Ok status) asked bytes same opened receives respon
 asked_part g old new now end (Err DeskFault.NoMemory) asked bytes same opened receives response =
     out_of_memory g old new now end asked same receives response.stays_open response.farm
 asked_part g old new now end (Err (DeskFault.Keep fault)) (Ok what) bytes same opened receives response = both_ways new.keeper.is_open opened response.is_closed
-asked_part g old new now end (Err (DeskFault.Keep fault)) (Err why) bytes same opened receives response = absurd response
-asked_part g old new now end (Err DeskFault.Read) asked bytes same opened receives response = absurd response
-asked_part g old new now end (Err DeskFault.Write) asked bytes same opened receives response = absurd response
-asked_part g old new now end (Err (DeskFault.File fault)) asked bytes same opened receives response = absurd response
+asked_part g old new now end response_end asked bytes same opened receives response = absurd response
 
 part : {S : Type 0} (g : Ghosts S) (old new : Desk S) (now : ℕ) (end : Result ℕ DeskFault) → new.keeper.is_open ≡ true → Converses g old new now end → IsPart g old new now end
 part g old new now end opened h = by (has_response g old new now end h)
@@ -216,10 +210,7 @@ asked_cut g old new now end (Ok status) asked bytes opened closed same receives 
 asked_cut g old new now end (Err DeskFault.NoMemory) asked bytes opened closed same receives response =
     both_ways new.keeper.is_open (response.stays_open ∙ opened) closed
 asked_cut g old new now end (Err (DeskFault.Keep fault)) (Ok what) bytes opened closed same receives response = cut_by g old new now end what fault opened same receives response.cause
-asked_cut g old new now end (Err (DeskFault.Keep fault)) (Err why) bytes opened closed same receives response = absurd response
-asked_cut g old new now end (Err DeskFault.Read) asked bytes opened closed same receives response = absurd response
-asked_cut g old new now end (Err DeskFault.Write) asked bytes opened closed same receives response = absurd response
-asked_cut g old new now end (Err (DeskFault.File fault)) asked bytes opened closed same receives response = absurd response
+asked_cut g old new now end response_end asked bytes opened closed same receives response = absurd response
 
 cut : {S : Type 0} (g : Ghosts S) (old new : Desk S) (now : ℕ) (end : Result ℕ DeskFault) → old.keeper.is_open ≡ true → new.keeper.is_open ≡ false → Converses g old new now end → IsCut g old new now end
 cut g old new now end opened closed h = by (has_response g old new now end h)

@@ -1,5 +1,5 @@
 -- What a conversation makes of a keeper, and one connection after others.
-use Rattle.std.proofs.Common.{◌≡◌, ◌≢◌, ◌≤◌, ◌+◌, ◌↔◌, ℕ, List, [], ◌∷◌, ◌++◌, true, false, refl, sym, ap, ◌∙◌, subst, arith, Ok, Err, inl, inr}
+use Rattle.std.proofs.Common.{◌≡◌, ◌≢◌, ◌≤◌, ◌+◌, ℕ, List, [], ◌∷◌, ◌++◌, true, refl, sym, ap, ◌∙◌, subst, arith, Ok, Err, inl, inr}
 use Rattle.std.specs.Prelude.{Option, Result}
 use Rattle.std.proofs.lemmas.List.{length-append}
 use Rattle.std.proofs.lemmas.List.Sums.{fold-append}
@@ -13,7 +13,7 @@ use Rattle.farm_keep.specs.declared.fault.KeepFault.{KeepFault}
 use Rattle.farm_wire.specs.Reading.{Denial}
 use Rattle.farm_wire.specs.declared.ask.Ask.{Ask}
 use Rattle.farm_desk.specs.Answers.{Answers}
-use Rattle.farm_desk.specs.Response.{Closes, ClosesIfAsked, IsResponse, IsResponseTo, UnchangedOrDone}
+use Rattle.farm_desk.specs.Response.{Closes, IsResponse, IsResponseTo, UnchangedOrDone}
 use Rattle.farm_desk.specs.Ends.{WritesAnswer}
 use Rattle.farm_desk.specs.Serving.{ServingCloses, PassesOn, ServesClients, ServesUntil}
 use Rattle.farm_desk.specs.declared.fault.DeskFault.{DeskFault}
@@ -51,22 +51,15 @@ answered g old new (Ok (Ask.View view)) bytes status opened response = unchanged
 
 ran_out : {S : Type 0} (g : Ghosts S) (old new : KeeperState S) (what : Result Ask Denial)
     → old.is_open ≡ true → new.is_open ≡ old.is_open → UnchangedOrDone g old new what → ServesClients g old new 1
-ran_out g old new (Err why) opened stays same = unchanged g old new 1 opened same
 ran_out g old new (Ok (Ask.Call call)) opened stays (inl same) = unchanged g old new 1 opened same
 ran_out g old new (Ok (Ask.Call call)) opened stays (inr done) = serves_call g old new call opened stays done.farm done.keeps
-ran_out g old new (Ok (Ask.View view)) opened stays same = unchanged g old new 1 opened same
+ran_out g old new what opened stays same = unchanged g old new 1 opened same
 
--- the keeper's fault as one of a conversation
-abbrev given : KeepFault → Result ℕ DeskFault
-given fault = Err (DeskFault.Keep fault)
-
-closed : {S : Type 0} (g : Ghosts S) (old new : KeeperState S) (what : Ask) (fault : KeepFault) (bytes : List ℕ)
-    → Closes g old new what fault bytes → ServesUntil g old new 1 (given fault)
-closed g old new what KeepFault.Closed bytes response = response.cause
-closed g old new what KeepFault.BadStore bytes response = absurd response.cause
-closed g old new what KeepFault.OldSchema bytes response = absurd response.cause
-closed g old new what KeepFault.NewSchema bytes response = absurd response.cause
-closed g old new (Ask.Call call) KeepFault.NoMemory bytes response = record {
+-- the keeper's fault closes it
+closed : {S : Type 0} (A : Type 0) (g : Ghosts S) (old new : KeeperState S) (what : Ask) (fault : KeepFault) (bytes : List ℕ)
+    → Closes g old new what fault bytes → ServesUntil {A = A} g old new 1 (Err (DeskFault.Keep fault))
+closed A g old new what KeepFault.Closed bytes response = response.cause
+closed A g old new (Ask.Call call) KeepFault.NoMemory bytes response = record {
   was_open = response.cause.was_open;
   is_closed = response.is_closed;
   calls = [];
@@ -75,7 +68,7 @@ closed g old new (Ask.Call call) KeepFault.NoMemory bytes response = record {
   change = response.cause.change;
   leaves = λ keeps. subst (λ c. KeepsFarm g (record { conn = c; farm = old.farm; is_open = old.is_open }) old.farm.farm) (sym response.cause.store) keeps;
 }
-closed g old new (Ask.Call call) KeepFault.Store bytes response = record {
+closed A g old new (Ask.Call call) KeepFault.Store bytes response = record {
   was_open = response.cause.was_open;
   is_closed = response.is_closed;
   calls = [];
@@ -84,23 +77,7 @@ closed g old new (Ask.Call call) KeepFault.Store bytes response = record {
   change = response.cause.change;
   leaves = response.cause.leaves;
 }
-closed g old new (Ask.View view) KeepFault.NoMemory bytes response = absurd response.cause
-closed g old new (Ask.View view) KeepFault.Store bytes response = absurd response.cause
-
-closed_if_asked : {S : Type 0} (g : Ghosts S) (old new : KeeperState S) (what : Result Ask Denial) (fault : KeepFault) (bytes : List ℕ)
-    → ClosesIfAsked g old new what fault bytes → ServesUntil g old new 1 (given fault)
-closed_if_asked g old new (Ok what) fault bytes response = closed g old new what fault bytes response
-closed_if_asked g old new (Err why) fault bytes response = absurd response
-
--- the same fault, of whatever there is besides
-repeated_answer : {S A : Type 0} (g : Ghosts S) (old new : KeeperState S) (max : ℕ) (fault : KeepFault) → ServesUntil g old new max (given fault)
-    → (writes : Result A DeskFault) → writes ≡ Err (DeskFault.Keep fault) → ServesUntil g old new max writes
-repeated_answer g old new max KeepFault.NoMemory serves writes same = subst (ServesUntil g old new max) (sym same) serves
-repeated_answer g old new max KeepFault.Store serves writes same = subst (ServesUntil g old new max) (sym same) serves
-repeated_answer g old new max KeepFault.Closed serves writes same = subst (ServesUntil g old new max) (sym same) serves
-repeated_answer g old new max KeepFault.BadStore serves writes same = absurd serves
-repeated_answer g old new max KeepFault.OldSchema serves writes same = absurd serves
-repeated_answer g old new max KeepFault.NewSchema serves writes same = absurd serves
+closed A g old new what fault bytes response = absurd response.cause
 
 asked : {S A : Type 0} (g : Ghosts S) (old new : KeeperState S) (what : Result Ask Denial) (bytes : List ℕ) (end : Result ℕ DeskFault) (writes : Result A DeskFault)
     → old.is_open ≡ true → PassesOn end writes → IsResponseTo g old new what bytes end → ServesUntil g old new 1 writes
@@ -108,11 +85,9 @@ asked g old new what bytes (Ok status) (Ok done) opened passes response = answer
 asked g old new what bytes (Ok status) (Err fault) opened passes response = absurd passes
 asked g old new what bytes (Err DeskFault.NoMemory) (Ok done) opened passes response = ran_out g old new what opened response.stays_open response.farm
 asked g old new what bytes (Err DeskFault.NoMemory) (Err fault) opened passes response = absurd passes
-asked g old new what bytes (Err DeskFault.Read) writes opened passes response = absurd response
-asked g old new what bytes (Err DeskFault.Write) writes opened passes response = absurd response
-asked g old new what bytes (Err (DeskFault.File fault)) writes opened passes response = absurd response
-asked g old new what bytes (Err (DeskFault.Keep fault)) writes opened passes response =
-    repeated_answer g old new 1 fault (closed_if_asked g old new what fault bytes response) writes passes
+asked {A = A} g old new (Ok what) bytes (Err (DeskFault.Keep fault)) writes opened passes response =
+    subst (ServesUntil g old new 1) (sym passes) (closed A g old new what fault bytes response)
+asked g old new what bytes end writes opened passes response = absurd response
 
 not_understood : {S A : Type 0} (g : Ghosts S) (old new : KeeperState S) (end : Result ℕ DeskFault) (writes : Result A DeskFault)
     → old.is_open ≡ true → PassesOn end writes → end ≡ Err DeskFault.NoMemory → new ≡ old → ServesUntil g old new 1 writes
@@ -135,16 +110,8 @@ pub conversation_serves : {S A : Type 0} (g : Ghosts S) (old new : KeeperState S
 conversation_serves g old new input rest now Room failed held holds (Err DeskFault.Read) (Ok done) opened passes prints unread =
     unchanged g old new 1 opened (unread refl)
 conversation_serves g old new input rest now Room failed held holds (Err DeskFault.Read) (Err fault) opened passes prints unread = absurd passes
-conversation_serves g old new input rest now Room failed held holds (Ok status) writes opened passes prints unread =
-    let t = prints (λ e. cc) in response_serves g old new input rest now t.bytes (Ok status) writes opened passes t.response
-conversation_serves g old new input rest now Room failed held holds (Err DeskFault.NoMemory) writes opened passes prints unread =
-    let t = prints (λ e. cc) in response_serves g old new input rest now t.bytes (Err DeskFault.NoMemory) writes opened passes t.response
-conversation_serves g old new input rest now Room failed held holds (Err DeskFault.Write) writes opened passes prints unread =
-    let t = prints (λ e. cc) in response_serves g old new input rest now t.bytes (Err DeskFault.Write) writes opened passes t.response
-conversation_serves g old new input rest now Room failed held holds (Err (DeskFault.Keep fault)) writes opened passes prints unread =
-    let t = prints (λ e. cc) in response_serves g old new input rest now t.bytes (Err (DeskFault.Keep fault)) writes opened passes t.response
-conversation_serves g old new input rest now Room failed held holds (Err (DeskFault.File fault)) writes opened passes prints unread =
-    let t = prints (λ e. cc) in response_serves g old new input rest now t.bytes (Err (DeskFault.File fault)) writes opened passes t.response
+conversation_serves g old new input rest now Room failed held holds end writes opened passes prints unread =
+    let t = prints (λ e. cc) in response_serves g old new input rest now t.bytes end writes opened passes t.response
 
 -- ---- one connection after others
 
@@ -187,13 +154,7 @@ serves_next g old mid new n (Err (DeskFault.Keep KeepFault.Store)) first last =
     (λ calls call kept. subst (λ F. KeepsEither g new F (step F call)) (run_on old.farm.farm mid.farm.farm first.calls calls first.reaches.farm) kept)
 serves_next g old mid new n (Err (DeskFault.Keep KeepFault.Closed)) first last =
     absurd (let e = sym last.was_closed ∙ first.reaches.opened ∙ first.was_open in cc)
-serves_next g old mid new n (Err (DeskFault.Keep KeepFault.BadStore)) first last = absurd last
-serves_next g old mid new n (Err (DeskFault.Keep KeepFault.OldSchema)) first last = absurd last
-serves_next g old mid new n (Err (DeskFault.Keep KeepFault.NewSchema)) first last = absurd last
-serves_next g old mid new n (Err DeskFault.NoMemory) first last = absurd last
-serves_next g old mid new n (Err DeskFault.Read) first last = absurd last
-serves_next g old mid new n (Err DeskFault.Write) first last = absurd last
-serves_next g old mid new n (Err (DeskFault.File fault)) first last = absurd last
+serves_next g old mid new n end first last = absurd last
 
 closes_within : {S : Type 0} (g : Ghosts S) (old new : KeeperState S) (n max : ℕ) (Leaves : List Call → Call → Type 0) → n ≤ max
     → ServingCloses g old new n Leaves → ServingCloses g old new max Leaves
@@ -217,10 +178,4 @@ serves_within g old new n max (Err (DeskFault.Keep KeepFault.NoMemory)) less ser
 serves_within g old new n max (Err (DeskFault.Keep KeepFault.Store)) less serves =
     closes_within g old new n max (λ calls call. KeepsEither g new (run old.farm.farm calls) (step (run old.farm.farm calls) call)) less serves
 serves_within g old new n max (Err (DeskFault.Keep KeepFault.Closed)) less serves = serves
-serves_within g old new n max (Err (DeskFault.Keep KeepFault.BadStore)) less serves = absurd serves
-serves_within g old new n max (Err (DeskFault.Keep KeepFault.OldSchema)) less serves = absurd serves
-serves_within g old new n max (Err (DeskFault.Keep KeepFault.NewSchema)) less serves = absurd serves
-serves_within g old new n max (Err DeskFault.NoMemory) less serves = absurd serves
-serves_within g old new n max (Err DeskFault.Read) less serves = absurd serves
-serves_within g old new n max (Err DeskFault.Write) less serves = absurd serves
-serves_within g old new n max (Err (DeskFault.File fault)) less serves = absurd serves
+serves_within g old new n max end less serves = absurd serves

@@ -42,10 +42,7 @@ pub denies_raise : {S : Type 0} (g : store.Ghosts S) (conn : Held S) (fault : Ke
     → DeniesRaise g conn (DeskFault.Keep fault)
 denies_raise g conn KeepFault.BadStore standing bad newer = λ F sound on. bad refl F sound (stands_on g conn (first_rows_of F) standing on)
 denies_raise g conn KeepFault.NewSchema standing bad newer = λ T on. newer refl T (stands_on g conn T standing on)
-denies_raise g conn KeepFault.OldSchema standing bad newer = tt
-denies_raise g conn KeepFault.NoMemory standing bad newer = tt
-denies_raise g conn KeepFault.Store standing bad newer = tt
-denies_raise g conn KeepFault.Closed standing bad newer = tt
+denies_raise g conn other standing bad newer = tt
 
 -- ---- over files
 
@@ -54,11 +51,8 @@ pub raises_farm : {D : Type 0} {g : Ghosts D} (image : Image) (conn new : Held (
     → RaisesTables over_files conn new → ShowsFiles image conn → RaisesFarm image new
 raises_farm image conn new made shows = record {
   raised = λ clean F sound held.
-      let early : HasCleanDisk (file_state conn) = omega (arith, made.clean) in
-      made.raised clean F sound (opens_tables image conn (first_rows_of F) shows early held);
-  only = λ clean T held.
-      let early : HasCleanDisk (file_state conn) = omega (arith, made.clean) in
-      made.only clean T (opens_tables image conn T shows early held);
+      made.raised clean F sound (opens_tables image conn (first_rows_of F) shows (omega (arith, made.clean)) held);
+  only = λ clean T held. made.only clean T (opens_tables image conn T shows (omega (arith, made.clean)) held);
 }
 
 -- files whose store isn't raised hold no such farm
@@ -68,14 +62,7 @@ denies_upgrade image conn (DeskFault.Keep KeepFault.BadStore) clean denied shows
     denied F sound (opens_tables image conn (first_rows_of F) shows clean held)
 denies_upgrade image conn (DeskFault.Keep KeepFault.NewSchema) clean denied shows = λ T held.
     denied T (opens_tables image conn T shows clean held)
-denies_upgrade image conn (DeskFault.Keep KeepFault.OldSchema) clean denied shows = tt
-denies_upgrade image conn (DeskFault.Keep KeepFault.NoMemory) clean denied shows = tt
-denies_upgrade image conn (DeskFault.Keep KeepFault.Store) clean denied shows = tt
-denies_upgrade image conn (DeskFault.Keep KeepFault.Closed) clean denied shows = tt
-denies_upgrade image conn DeskFault.NoMemory clean denied shows = tt
-denies_upgrade image conn DeskFault.Read clean denied shows = tt
-denies_upgrade image conn DeskFault.Write clean denied shows = tt
-denies_upgrade image conn (DeskFault.File fault) clean denied shows = tt
+denies_upgrade image conn other clean denied shows = tt
 
 -- ---- after a stop
 

@@ -23,14 +23,12 @@ use Rattle.farm_desk.specs.declared.lab_import.ImportEnd.{ImportEnd}
 -- the command was accepted
 abbrev pub is_accepted : Answered → Bool
 is_accepted (Changed reply) = true
-is_accepted (Repeated reply) = false
-is_accepted (Denied code) = false
+is_accepted answered = false
 
 -- it had been accepted before
 abbrev pub is_kept : Answered → Bool
-is_kept (Changed reply) = false
 is_kept (Repeated reply) = true
-is_kept (Denied code) = false
+is_kept answered = false
 
 -- an answer is counted, or it is a refusal and returned
 abbrev pub Counts : Answered → ImportEnd → ImportEnd → Option Refusal → Type 0

@@ -94,9 +94,7 @@ abbrev pub IsResponseTo : {S : Type 0} → Ghosts S → KeeperState S → Keeper
 IsResponseTo g old new what bytes (Ok status) = Answers g old new what bytes status
 IsResponseTo g old new what bytes (Err DeskFault.NoMemory) = RunsOutOfMemory g old new what bytes
 IsResponseTo g old new what bytes (Err (DeskFault.Keep fault)) = ClosesIfAsked g old new what fault bytes
-IsResponseTo g old new what bytes (Err DeskFault.Read) = ⊥
-IsResponseTo g old new what bytes (Err DeskFault.Write) = ⊥
-IsResponseTo g old new what bytes (Err (DeskFault.File fault)) = ⊥
+IsResponseTo g old new what bytes end = ⊥
 
 -- what was asked was understood, and the answer is due to it
 pub record IsDueToAsked {S : Type 0} (g : Ghosts S) (old new : KeeperState S)

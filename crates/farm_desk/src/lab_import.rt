@@ -36,16 +36,11 @@ impl ImportEnd {
         ensures { Counts (answer_of answer.now) self.old self.new result }
     {
         match answer {
-            Answer::Did(_, _) => {
-                self.accepted += 1;
-                None
-            }
-            Answer::Kept(_) => {
-                self.kept += 1;
-                None
-            }
-            Answer::Refused(refusal) => Some(*refusal),
+            Answer::Did(_, _) => self.accepted += 1,
+            Answer::Kept(_) => self.kept += 1,
+            Answer::Refused(refusal) => return Some(*refusal),
         }
+        None
     }
 }
 

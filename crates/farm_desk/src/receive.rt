@@ -35,16 +35,6 @@ impl From<WireFault> for ReceiveError {
     }
 }
 
-impl From<AskFault> for ReceiveError {
-    ghost use Rattle.farm_desk.specs.declared.receive.ReceiveError.TheVariants.{BadRequest};
-
-    ghost from_gives = { λ fault e. e ≡ BadRequest fault };
-
-    fn from(fault: AskFault) -> ReceiveError {
-        ReceiveError::BadRequest(fault)
-    }
-}
-
 impl Context {
     /// Reads one request and returns what it asks at a moment.
     pub(crate) fn receive<R: Input>(
@@ -60,7 +50,10 @@ impl Context {
         ensures sure { R.never_fails → result ≢ Err ReceiveError.Read }
     {
         let taken = read_request_counted(self.alloc, reader)?;
-        Ok(self.ask_of(&taken, now)?)
+        match self.ask_of(&taken, now) {
+            Ok(ask) => Ok(ask),
+            Err(fault) => Err(ReceiveError::BadRequest(fault)),
+        }
     }
 
     /// What a request asks at a moment.

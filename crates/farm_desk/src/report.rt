@@ -1,5 +1,5 @@
 //! The text of a report, by its kind and its time zone.
-ghost use Rattle.std.specs.Prelude.{◌≡◌, ◌≢◌, ◌≤◌, false, Ok, Err, IfOk, string_bytes};
+ghost use Rattle.std.specs.Prelude.{◌≡◌, ◌≢◌, false, Ok, Err, IfOk, string_bytes};
 ghost use Rattle.farm_desk.specs.Reports.{Reports, seconds_ahead};
 
 use farm_cli::Report;

@@ -1,12 +1,12 @@
 //! Serving one client after another: of a listener, or of any other list of clients.
-ghost use Rattle.std.specs.Prelude.{◌≡◌, ◌≤◌, ◌↔◌, ℕ, true, false, Err, IsOk, Result};
+ghost use Rattle.std.specs.Prelude.{◌≡◌, ◌≤◌, ◌↔◌, true, false, Err, IsOk, Result};
 ghost use Rattle.sqlite.specs.Held.{state};
 ghost use Rattle.sqlite_trees.specs.View.{doubt};
 ghost use Rattle.farm_desk.specs.Conversations.{ConversesOnce, desk};
 ghost use Rattle.farm_desk.specs.Serving.{ServesUntil, PassesOn};
 ghost use Rattle.farm_desk.specs.Connections.{ServesInTurn};
 
-use crate::clients::{Client, Clients};
+use crate::clients::Clients;
 use crate::context::Context;
 use crate::fault::DeskFault;
 use crate::open_files::OpenFiles;
@@ -134,16 +134,11 @@ impl Context {
         ensures clean { doubt (state S.Store keeper.old.conn).is_clean ≤ doubt
             (state S.Store keeper.new.conn).is_clean }
     {
-        let Some(client) = clients.next() else {
+        let Some(mut client) = clients.next() else {
             return Ok(());
         };
-        let Client {
-            now,
-            mut reader,
-            mut writer,
-        } = client;
-        let ended = self.serve_one(keeper, &mut reader, &mut writer, now);
-        clients.close(reader, writer);
+        let ended = self.serve_one(keeper, &mut client.reader, &mut client.writer, client.now);
+        clients.close(client.reader, client.writer);
         ended
     }
 

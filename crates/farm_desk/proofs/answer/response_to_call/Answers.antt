@@ -11,5 +11,5 @@ returns-in-Ok-clause-response g c =
 
 pub returns-in-Err-clause-response : goal.returns-in-Err-clause-response
 returns-in-Err-clause-response g c =
-    fault_is_response g.S.Store c.args.keeper.now c.act.new.self c.args.call.now c.in-Err.fault _ _ c.in-Err.ensures.memory c.in-Err.ensures.store
-    c.in-Err.ensures.closed c.in-Err.ensures.still c.in-Err.ensures.fault c.closing.ensures.bytes c.closing.ensures.end
+    rw c.closing.ensures.end (fault_is_response g.S.Store c.args.keeper.now c.act.new.self c.args.call.now c.in-Err.fault _ c.in-Err.ensures.memory c.in-Err.ensures.store
+    c.in-Err.ensures.closed c.in-Err.ensures.still c.in-Err.ensures.fault c.closing.ensures.bytes)

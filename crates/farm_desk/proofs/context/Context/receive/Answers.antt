@@ -11,12 +11,10 @@ returns-in_err-taken-clause-receives g c =
     rw (p.1, p.2) (receive_fails _ _ c.args.now (IsSpent (reading_of c.read_request_counted.new.reader)) c.in_err-taken.field-0.0
     c.in_err-taken.ensures.known c.in_err-taken.ensures.fault)
 
-pub returns-in_err-ask_of-clause-receives : goal.returns-in_err-ask_of-clause-receives
-returns-in_err-ask_of-clause-receives g c =
-    let p = err_from_is_err_and c.from_residual-in_err-ask_of.result c.from_residual-in_err-ask_of.ensures.1 in
-    rw (p.1, p.2) (receives_bad_request _ _ c.args.now (IsSpent (reading_of c.read_request_counted.new.reader)) c.in_ok-taken.taken c.in_err-ask_of.field-0.0
-    c.in_ok-taken.ensures.known c.in_err-ask_of.ensures)
+pub returns-in-Ok-clause-receives : goal.returns-in-Ok-clause-receives
+returns-in-Ok-clause-receives g c =
+    receives_meant _ _ _ (IsSpent (reading_of c.read_request_counted.new.reader)) c.in_ok-taken.taken (Ok c.in-Ok.ask) c.in_ok-taken.ensures.known c.in-Ok.ensures
 
 pub returns-clause-receives : goal.returns-clause-receives
 returns-clause-receives g c =
-    receives_meant _ _ _ (IsSpent (reading_of c.read_request_counted.new.reader)) c.in_ok-taken.taken (Ok c.in_ok-ask_of.field-0) c.in_ok-taken.ensures.known c.in_ok-ask_of.ensures
+    receives_bad_request _ _ c.args.now (IsSpent (reading_of c.read_request_counted.new.reader)) c.in_ok-taken.taken c.in-Err.fault c.in_ok-taken.ensures.known c.in-Err.ensures
