@@ -9,4 +9,5 @@ mod PrefixLemmas
 mod ServingLemmas
 mod ConnectionLemmas
 mod LineLemmas
+mod PendingLemmas
 mod LabLemmas

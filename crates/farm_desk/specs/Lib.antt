@@ -14,6 +14,7 @@ pub mod Reports
 pub mod Conversations
 pub mod Lines
 pub mod NewFile
+pub mod Pending
 pub mod Clients
 pub mod Connections
 pub mod Scripts

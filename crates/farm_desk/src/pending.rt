@@ -1,7 +1,10 @@
 //! Connections that wait until their requests are there.
+ghost use Rattle.std.specs.Prelude.{take, IfSome};
+ghost use Rattle.farm_desk.specs.Pending.{IsDecided};
+
 use crate::deadline_stream::{limit, set_timeouts};
+use farm_http::read_from_memory;
 use farm_types::{LONGEST_BODY, LONGEST_HEAD};
-use farm_wire::read_request;
 use mio::unix::SourceFd;
 use mio::{Events, Interest, Poll, Token};
 use std::alloc::Global;
@@ -247,16 +250,19 @@ fn is_complete(alloc: Global, stream: &TcpStream, bytes: &mut [u8]) -> bool {
         return true;
     };
     match stream.peek(room) {
-        Ok(count) => is_decided(alloc, bytes, count),
+        Ok(count) => is_decided(alloc, bytes, count).unwrap_or(true),
         Err(error) => error.kind() != ErrorKind::WouldBlock,
     }
 }
 
 /// Whether the first bytes decide what a request is: it is read from them, and one more stands
-/// behind them that a request which goes on would take.
-fn is_decided(alloc: Global, bytes: &mut [u8], count: usize) -> bool {
+/// behind them that a request which goes on would take. Nothing is read of no bytes, of as many as
+/// a request may have, of those behind too many ends of lines, and without memory for it.
+fn is_decided(alloc: Global, bytes: &mut [u8], count: usize) -> Option<bool>
+    ensures { IfSome result (IsDecided (take count bytes.old)) }
+{
     if count == 0 || count >= LONGEST_REQUEST || count >= bytes.len() {
-        return true;
+        return None;
     }
     bytes[count] = b'x';
     let empty = bytes
@@ -264,10 +270,13 @@ fn is_decided(alloc: Global, bytes: &mut [u8], count: usize) -> bool {
         .take_while(|byte| matches!(**byte, b'\r' | b'\n'))
         .count();
     if empty > MOST_EMPTY {
-        return true;
+        return None;
     }
     let mut rest = &bytes[..=count];
     // Without memory for it nothing is taken.
-    let _ = read_request(alloc, &mut rest);
-    !rest.is_empty()
+    let _ = read_from_memory(alloc, &mut rest);
+    if rest.len() > count {
+        return None;
+    }
+    Some(!rest.is_empty())
 }
