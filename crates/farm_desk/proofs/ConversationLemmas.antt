@@ -3,7 +3,7 @@ use Rattle.std.proofs.Common.{◌≡◌, ◌⊎◌, ℕ, suc, ◌+◌, ◌<◌, 
 use Rattle.std.specs.Prelude.{Option, Some, None, Result, Ok, Err, IsOk}
 use Rattle.std.specs.List.{AllByRecursion, flat_map}
 use Rattle.std.specs.Io.KnownBytes.{Appends, Consumes}
-use Rattle.std.proofs.KnownBytes.{Appends-nil, Appends-trans}
+use Rattle.std.proofs.KnownBytes.{Appends-trans}
 use Rattle.std.proofs.Math.Seq.{drop-cons}
 use Rattle.std.proofs.lemmas.List.{append_assoc, append-nil, map-append, take_more, take-append-drop}
 use Rattle.std.proofs.lemmas.List.Concat.{flat_map-append}
@@ -18,7 +18,7 @@ use Rattle.farm_keep.specs.KeeperState.{KeeperState, KeepsOwnFarm}
 use Rattle.farm_keep.specs.Restarts.{answer_again}
 use Rattle.farm_keep.proofs.KeptLemmas.{again_kept}
 use Rattle.farm_http.specs.Room.{KeepsRoom, RoomLeft}
-use Rattle.farm_http.proofs.Room.{room_kept, room_left}
+use Rattle.farm_http.proofs.Room.{room_left}
 use Rattle.farm_wire.specs.Reading.{Denial}
 use Rattle.farm_wire.specs.declared.ask.Ask.{Ask}
 use Rattle.farm_wire.specs.declared.ask.View.{View}
@@ -94,9 +94,6 @@ pub record GainsWithin (First Next : ℕ → Type 0) (held holds : Option (List 
   pub bytes : List ℕ
   pub gained : Appends held holds bytes
   pub room : KeepsRoom First Next held holds
-
-pub gains_none : (Room : ℕ → Type 0) (held : Option (List ℕ)) → GainsWithin Room Room held held
-gains_none Room held = record { bytes = []; gained = Appends-nil held; room = room_kept Room held }
 
 pub gains_more : (First Next Last : ℕ → Type 0) (a b c : Option (List ℕ)) (bytes : List ℕ) → GainsWithin First Next a b → Appends b c bytes → KeepsRoom Next Last b c → GainsWithin First Last a c
 gains_more First Next Last a b c bytes all more room = record {
