@@ -9,7 +9,8 @@ reads only the edited functions and what they call: that is a wave. Two edits of
 
 An edit is refused where its function is not proved and an error stands at the function's own lines or in its own
 proof files. What calls an edited function stays unproved too, but has no error of its own, so no edit passes for
-the sake of another.
+the sake of another. Nor does one fail for it: the prover leaves what calls an edited function, so an edit that a
+wave doesn't refuse is tried once more alone.
 
 The libraries below are those that rt ci left in crates/*/out, where nothing has changed since, or those of other
 commands of rt; what is missing is built. The last lines are the processor time and 'N passed, M failed'; the
@@ -95,6 +96,7 @@ PLACE = re.compile(r"(?:note: )?(?:\./)?((?:src|proofs)/\S+?):(\d+):\d+: (.*)")
 # What only tells that a proof names something that the edit took away, or that another's proof is missing.
 NAMES = re.compile(r"has no field|is not in scope|has no `")
 CITES = re.compile(r"was not admitted")
+NOT_REFUSED = "NOT REFUSED"
 
 
 def errors_in(function, lines):
@@ -124,12 +126,19 @@ def judge(edit, lines, changed):
     if not stands:
         return False, f"BAD EDIT: the prover names no function {edit.function.name}"
     if not own or stands[0].endswith(": proved"):
-        return False, f"NOT REFUSED: {edit.function.name} has no error of its own with this edit"
+        return False, f"{NOT_REFUSED}: {edit.function.name} has no error of its own with this edit"
     first = next((it for it in own if not NAMES.search(it)), "")
     if not first:
         why = "only because a proof file names what the edit took away, so this says little"
         return True, f"refused ({why}: change a value and keep the names): {own[0][:160]}"
     return True, f"refused: {first[:160]}"
+
+
+def try_edit(crate, edit, found, wave, sources, kept):
+    """Returns what came of an edit: what was found in its wave, or alone where others of the wave may have hidden it."""
+    if len(wave) == 1 or not found[2].startswith(NOT_REFUSED):
+        return found
+    return try_wave(crate, [edit], sources, kept)[0]
 
 
 def try_wave(crate, wave, sources, kept):
@@ -181,7 +190,8 @@ def try_edits(crate, chosen=()):
     # (further waves take what the first checked of the functions that they leave alone)
     with tempfile.TemporaryDirectory(prefix="waves-") as kept:
         for wave in waves:
-            told += try_wave(crate, wave, sources, kept if len(waves) > 1 else None)
+            found = try_wave(crate, wave, sources, kept)
+            told += [try_edit(crate, edit, it, wave, sources, kept) for edit, it in zip(wave, found)]
     return tell(told)
 
 
