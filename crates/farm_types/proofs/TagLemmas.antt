@@ -123,15 +123,15 @@ joined y (z ∷ ys) x =
 not_none : (n : ℕ) → 0 < n → (n == 0) ≡ false
 not_none n some = grind (arith, nat_tests)
 
-separated : (ys : List (List ℕ)) (x : List ℕ) → (cond (length ys == 0) (tags_text ys) (tags_text ys ++ 44 ∷ [])) ++ x ≡ tags_text (ys ++ x ∷ [])
+separated : (ys : List (List ℕ)) (x : List ℕ) → (tags_text ys ++ cond (length ys == 0) [] (44 ∷ [])) ++ x ≡ tags_text (ys ++ x ∷ [])
 separated [] x = refl
 separated (y ∷ ys) x = rw (not_none (length (y ∷ ys)) (omega arith)) (joined y ys x)
 
 pub tags_text-more : (tags : List (List ℕ)) (at : ℕ) (tag : List ℕ) → at < length tags → get_or tags at tag ≡ tag
-    → (cond (at == 0) (tags_text (take at tags)) (tags_text (take at tags) ++ 44 ∷ [])) ++ tag ≡ tags_text (take (at + 1) tags)
+    → (tags_text (take at tags) ++ cond (at == 0) [] (44 ∷ [])) ++ tag ≡ tags_text (take (at + 1) tags)
 tags_text-more tags at tag lt is =
     let long : length (take at tags) ≡ at = grind (arith, length-take {A = List ℕ}) in
-    let step : (cond (length (take at tags) == 0) (tags_text (take at tags)) (tags_text (take at tags) ++ 44 ∷ [])) ++ tag ≡ tags_text (take at tags ++ tag ∷ []) = separated (take at tags) tag in
+    let step : (tags_text (take at tags) ++ cond (length (take at tags) == 0) [] (44 ∷ [])) ++ tag ≡ tags_text (take at tags ++ tag ∷ []) = separated (take at tags) tag in
     rw (take_more tags at tag lt, is) (rw long at step)
 
 -- no comma stands in a tag, so the parts of a canonical text are its tags

@@ -1,13 +1,97 @@
 //! What a caller asks, and what the farm answers.
-ghost use Rattle.std.specs.Prelude.{◌≡◌, IsTrue, ⊤};
+ghost use Rattle.std.specs.Prelude.{◌≡◌, ◌≤◌, length, IsTrue, IfOk, MatchResult, false};
+ghost use Rattle.farm_types.specs.Limits.{are_few_wants, most_wants};
 ghost use Rattle.farm_types.specs.Proper.{is_proper};
 
-use crate::refusal::Refusal;
+use crate::limits::MOST_WANTS;
+use crate::refusal::{BAD_COUNT, Refusal};
 use crate::rows::{
-    BoardRow, Check, Health, JobRow, KeptRow, MetaRow, Outcome, Reply, ResRow, TypeRow,
+    BoardRow, Check, Health, JobRow, KeptRow, MetaRow, Outcome, Reply, ResRow, TypeRow, Want,
 };
-pub use crate::wants::{Roles, Wants};
 use crate::words::{Body, Key, Name, Priority, Tags};
+use std::alloc::AllocError;
+use std::marker::Model;
+
+/// One up to four wants.
+#[derive(Debug, Drop)]
+pub struct Wants {
+    items: Vec<Want>,
+}
+
+impl Model for Wants {
+    ghost use Rattle.std.specs.Prelude.{List, ℕ, IsTrue};
+    ghost use Rattle.farm_types.specs.declared.rows.Want.{Want};
+
+    ghost Value = { List Want };
+
+    ghost use Rattle.farm_types.specs.Limits.{are_few_wants};
+
+    ghost view = { λ t. t.items.items };
+
+    ghost invariant = { λ t. IsTrue (are_few_wants t.items.items) };
+}
+
+impl Wants {
+    /// The wants of a list; refused as a bad count where there is none, or more than four.
+    pub fn of(items: Vec<Want>) -> Result<Wants, Refusal>
+        ensures { MatchResult result (λ wants. (wants ≡ items.items)
+            × IsTrue (are_few_wants items.items)) (λ refusal. (refusal.code ≡ BAD_COUNT)
+            × (are_few_wants items.items ≡ false)) }
+    {
+        Refusal::unless(1 <= items.len() && items.len() <= MOST_WANTS, BAD_COUNT)?;
+        Ok(Wants { items })
+    }
+
+    /// The wants in order.
+    pub fn items(&self) -> &[Want]
+        ensures items { result.now ≡ self.now }
+        ensures some { 1 ≤ length self.now }
+        ensures few { length self.now ≤ most_wants }
+    {
+        self.items.as_slice()
+    }
+
+    /// Equal wants.
+    pub fn copy(&self) -> Result<Wants, AllocError>
+        ensures { IfOk result (λ wants. wants ≡ self.now) }
+    {
+        let mut items = Vec::new(*self.items.allocator());
+        for want in self.items.as_slice() {
+            items.push(want.copy()?)?;
+        }
+        Ok(Wants { items })
+    }
+}
+
+/// A role, or none, for each want.
+#[derive(Debug, Drop)]
+pub struct Roles {
+    items: Vec<Option<Name>>,
+}
+
+impl Model for Roles {
+    ghost use Rattle.std.specs.Prelude.{List, ℕ, Option};
+
+    ghost Value = { List (Option (List ℕ)) };
+
+    ghost view = { λ t. t.items.items };
+}
+
+impl Roles {
+    /// The roles of a list.
+    pub fn of(items: Vec<Option<Name>>) -> Roles
+        ensures { result ≡ items.items }
+    {
+        Roles { items }
+    }
+
+    /// The roles in order.
+    pub fn items(&self) -> &[Option<Name>]
+        ensures { result.now ≡ self.now }
+    {
+        self.items.as_slice()
+    }
+}
 
 /// One of the fourteen commands.
 #[derive(Debug, Drop)]
@@ -28,8 +112,12 @@ pub enum Cmd {
     Pass,
 }
 
+// Each word is read before it goes into a command or a call: what `as_str`, `items` and `get` ensure is
+// how its rule is known there.
 impl Cmd {
+    ghost use Rattle.farm_types.specs.Proper.{is_proper_cmd, is_frequency, has_no_name_tag};
     ghost use Rattle.farm_types.specs.Refuse.{kind_of};
+    ghost use Rattle.farm_types.specs.declared.calls.Cmd.{Cmd};
 
     /// The number of the command.
     pub fn kind(&self) -> u64
@@ -52,13 +140,6 @@ impl Cmd {
             Cmd::Pass => 14,
         }
     }
-}
-
-// Each word is read before it goes into a command or a call: what `as_str`, `items` and `get` ensure is
-// how its rule is known there.
-impl Cmd {
-    ghost use Rattle.farm_types.specs.Proper.{is_proper_cmd, is_frequency, has_no_name_tag};
-    ghost use Rattle.farm_types.specs.declared.calls.Cmd.{Cmd};
 
     /// The command that adds a type; its check's frequency is 1 to 10,000.
     #[tactic(auto, unfolding(crate::specs::Proper::is_proper_cmd))]
@@ -140,9 +221,7 @@ impl Call {
         ensures cmd { result.cmd ≡ cmd }
     {
         let _caller = caller.as_str();
-        if let Some(key) = &key {
-            let _key = key.as_str();
-        }
+        let _key = key.as_ref().map(|key| key.as_str());
         Call {
             caller,
             key,

@@ -7,24 +7,19 @@
 mod called;
 mod calls;
 mod claims;
-mod codes;
 mod fault;
 mod laws;
 mod limits;
-mod priority;
 mod refusal;
 mod rows;
 mod table;
 mod tags;
-mod wants;
 mod words;
 
 // The words that callers hand in: texts and numbers that keep a rule of their own.
 pub use fault::WordFault;
-pub use priority::Priority;
 pub use tags::{Tag, Tags};
-pub use wants::{Roles, Wants};
-pub use words::{Body, Key, Name, Word};
+pub use words::{Body, Key, Name, Priority, Word};
 
 // The rows of a farm, and what stands in their columns.
 pub use rows::{
@@ -33,7 +28,7 @@ pub use rows::{
 };
 
 // Calls of the machine, their answers, and what is seen of a farm.
-pub use calls::{Answer, Call, Changes, Cmd, Rows};
+pub use calls::{Answer, Call, Changes, Cmd, Roles, Rows, Wants};
 pub use claims::{Claim, ClaimKind, Status};
 
 // Rows kept in strict order of their keys.

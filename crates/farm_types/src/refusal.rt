@@ -1,7 +1,6 @@
 //! The one table of refusals and faults: number, HTTP status and text.
-ghost use Rattle.std.specs.Prelude.{◌≡◌};
-ghost use Rattle.std.specs.Option.{option_map};
-ghost use Rattle.farm_types.specs.Refusals.{line_of, refusal_text, http_status_of, reason_of};
+ghost use Rattle.std.specs.Prelude.{◌≡◌, MatchResult, true, false};
+ghost use Rattle.farm_types.specs.Refusals.{refusal_text, http_status_of, reason_of};
 
 use std::fmt;
 
@@ -78,57 +77,50 @@ pub const READ: u16 = 80;
 /// The output failed.
 pub const WRITE: u16 = 81;
 
-/// A line of the table: the HTTP status of a refusal's answer (RFC 9110), where it has one, and its
-/// text.
-#[derive(Clone, Copy, Debug)]
-struct Line {
-    status: Option<u16>,
-    text: &'static str,
-}
-
-/// The line of a number.
+/// The line of a number: the HTTP status of its answer (RFC 9110), where it has one, and its text.
 #[rattlefmt::skip]
-fn line_of(code: u16) -> Option<Line>
-    ensures { option_map (λ line. (line.status, line.text.now)) result ≡ line_of code }
+fn line_of(code: u16) -> (Option<u16>, &'static str)
+    ensures status { result.0 ≡ http_status_of code }
+    ensures text { result.1.now ≡ refusal_text code }
 {
     match code {
-        NO_MEMORY => Some(Line { status: Some(503), text: "no memory" }),
-        BAD_MOMENT => Some(Line { status: Some(400), text: "bad moment" }),
-        FORBIDDEN => Some(Line { status: Some(403), text: "forbidden" }),
-        FULL => Some(Line { status: Some(409), text: "full" }),
-        BAD_NAME => Some(Line { status: Some(400), text: "bad name" }),
-        BAD_TAG => Some(Line { status: Some(400), text: "bad tag" }),
-        BAD_COUNT => Some(Line { status: Some(400), text: "bad count" }),
-        NO_TYPE => Some(Line { status: Some(404), text: "no such type" }),
-        TYPE_EXISTS => Some(Line { status: Some(409), text: "type exists" }),
-        NO_BOARD => Some(Line { status: Some(404), text: "no such board" }),
-        BOARD_EXISTS => Some(Line { status: Some(409), text: "board exists" }),
-        HELD => Some(Line { status: Some(409), text: "board is held" }),
-        RETIRED => Some(Line { status: Some(409), text: "board is retired" }),
-        NO_JOB => Some(Line { status: Some(404), text: "no such job" }),
-        WRONG_STATE => Some(Line { status: Some(409), text: "wrong job state" }),
-        NO_SUCH_BOARDS => Some(Line { status: Some(409), text: "no such boards" }),
-        BAD_PRIORITY => Some(Line { status: Some(400), text: "bad priority" }),
-        NO_RESERVATION => Some(Line { status: Some(404), text: "no such reservation" }),
-        EXPIRED => Some(Line { status: Some(409), text: "reservation expired" }),
-        WRONG_RESERVATION_STATE => Some(Line { status: Some(409), text: "wrong reservation state" }),
-        KEY_REUSED => Some(Line { status: Some(409), text: "key reused" }),
-        BAD_KEY => Some(Line { status: Some(400), text: "bad key" }),
-        BAD_REQUEST => Some(Line { status: Some(400), text: "bad request" }),
-        TOO_LARGE => Some(Line { status: Some(413), text: "too large" }),
-        NO_ROUTE => Some(Line { status: Some(404), text: "no such route" }),
-        WRONG_METHOD => Some(Line { status: Some(405), text: "wrong method" }),
-        BAD_CODING => Some(Line { status: Some(501), text: "bad coding" }),
-        STORE => Some(Line { status: Some(503), text: "store fault" }),
-        CLOSED => Some(Line { status: Some(503), text: "closed" }),
-        BAD_STORE => Some(Line { status: None, text: "bad store" }),
-        OLD_SCHEMA => Some(Line { status: None, text: "old schema" }),
-        NEW_SCHEMA => Some(Line { status: None, text: "new schema" }),
-        BAD_JOB_FILE => Some(Line { status: Some(400), text: "bad job file" }),
-        BAD_LAB_FILE => Some(Line { status: None, text: "bad lab file" }),
-        READ => Some(Line { status: None, text: "read fault" }),
-        WRITE => Some(Line { status: None, text: "write fault" }),
-        _ => None,
+        NO_MEMORY => (Some(503), "no memory"),
+        BAD_MOMENT => (Some(400), "bad moment"),
+        FORBIDDEN => (Some(403), "forbidden"),
+        FULL => (Some(409), "full"),
+        BAD_NAME => (Some(400), "bad name"),
+        BAD_TAG => (Some(400), "bad tag"),
+        BAD_COUNT => (Some(400), "bad count"),
+        NO_TYPE => (Some(404), "no such type"),
+        TYPE_EXISTS => (Some(409), "type exists"),
+        NO_BOARD => (Some(404), "no such board"),
+        BOARD_EXISTS => (Some(409), "board exists"),
+        HELD => (Some(409), "board is held"),
+        RETIRED => (Some(409), "board is retired"),
+        NO_JOB => (Some(404), "no such job"),
+        WRONG_STATE => (Some(409), "wrong job state"),
+        NO_SUCH_BOARDS => (Some(409), "no such boards"),
+        BAD_PRIORITY => (Some(400), "bad priority"),
+        NO_RESERVATION => (Some(404), "no such reservation"),
+        EXPIRED => (Some(409), "reservation expired"),
+        WRONG_RESERVATION_STATE => (Some(409), "wrong reservation state"),
+        KEY_REUSED => (Some(409), "key reused"),
+        BAD_KEY => (Some(400), "bad key"),
+        BAD_REQUEST => (Some(400), "bad request"),
+        TOO_LARGE => (Some(413), "too large"),
+        NO_ROUTE => (Some(404), "no such route"),
+        WRONG_METHOD => (Some(405), "wrong method"),
+        BAD_CODING => (Some(501), "bad coding"),
+        STORE => (Some(503), "store fault"),
+        CLOSED => (Some(503), "closed"),
+        BAD_STORE => (None, "bad store"),
+        OLD_SCHEMA => (None, "old schema"),
+        NEW_SCHEMA => (None, "new schema"),
+        BAD_JOB_FILE => (Some(400), "bad job file"),
+        BAD_LAB_FILE => (None, "bad lab file"),
+        READ => (None, "read fault"),
+        WRITE => (None, "write fault"),
+        _ => (None, ""),
     }
 }
 
@@ -140,24 +132,26 @@ pub struct Refusal {
 }
 
 impl Refusal {
+    /// Refuses what is not so.
+    pub(crate) fn unless(holds: bool, code: u16) -> Result<(), Refusal>
+        ensures { MatchResult result (λ _. holds ≡ true)
+            (λ refusal. (refusal.code ≡ code) × (holds ≡ false)) }
+    {
+        if holds { Ok(()) } else { Err(Refusal { code }) }
+    }
+
     /// What went wrong, in two or three words; empty for a number that the table lacks.
     pub fn text(self) -> &'static str
         ensures { result.now ≡ refusal_text self.code }
     {
-        match line_of(self.code) {
-            Some(line) => line.text,
-            None => "",
-        }
+        line_of(self.code).1
     }
 
     /// The HTTP status of its answer, if it is ever answered over HTTP.
     pub fn status(self) -> Option<u16>
         ensures { result ≡ http_status_of self.code }
     {
-        match line_of(self.code) {
-            Some(line) => line.status,
-            None => None,
-        }
+        line_of(self.code).0
     }
 }
 

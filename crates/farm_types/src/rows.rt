@@ -1,9 +1,7 @@
 //! The rows of the six tables.
 ghost use Rattle.std.specs.Prelude.{◌≡◌, IfOk};
 ghost use Rattle.farm_types.specs.Change.{new_board};
-ghost use Rattle.farm_types.specs.Proper.{is_frequency};
 
-use crate::called::is_every;
 use crate::words::{Body, Key, Name, Priority, Tags};
 use std::alloc::AllocError;
 
@@ -186,27 +184,11 @@ pub struct MetaRow {
     pub next: u64,
 }
 
-impl Check {
-    /// Whether its frequency, if it has one, is 1 to 10,000.
-    pub fn is_frequency(self) -> bool
-        ensures { result ≡ is_frequency self }
-    {
-        match self {
-            Check::Never => true,
-            Check::Hours(n) => is_every(n),
-            Check::Jobs(n) => is_every(n),
-        }
-    }
-}
-
 /// An equal name, if there is one.
 pub fn copy_name(name: &Option<Name>) -> Result<Option<Name>, AllocError>
     ensures { IfOk result (λ copy. copy ≡ name.now) }
 {
-    match name {
-        None => Ok(None),
-        Some(name) => Ok(Some(name.copy()?)),
-    }
+    name.as_ref().map(|name| name.copy()).transpose()
 }
 
 impl Want {
@@ -214,10 +196,9 @@ impl Want {
     pub fn copy(&self) -> Result<Want, AllocError>
         ensures { IfOk result (λ copy. copy ≡ self.now) }
     {
-        Ok(Want {
-            kind: copy_name(&self.kind)?,
-            tags: self.tags.copy()?,
-        })
+        let kind = copy_name(&self.kind)?;
+        let tags = self.tags.copy()?;
+        Ok(Want { kind, tags })
     }
 }
 
@@ -226,10 +207,8 @@ impl TypeRow {
     pub fn copy(&self) -> Result<TypeRow, AllocError>
         ensures { IfOk result (λ copy. copy ≡ self.now) }
     {
-        Ok(TypeRow {
-            name: self.name.copy()?,
-            check: self.check,
-        })
+        let name = self.name.copy()?;
+        Ok(TypeRow { name, ..*self })
     }
 }
 
@@ -241,8 +220,7 @@ impl KeptRow {
         Ok(KeptRow {
             caller: self.caller.copy()?,
             key: self.key.copy()?,
-            kind: self.kind,
-            reply: self.reply,
+            ..*self
         })
     }
 }
@@ -272,11 +250,7 @@ impl BoardRow {
             name: self.name.copy()?,
             kind: self.kind.copy()?,
             tags: self.tags.copy()?,
-            health: self.health,
-            state: self.state,
-            holder: self.holder,
-            jobs_since: self.jobs_since,
-            last_check: self.last_check,
+            ..*self
         })
     }
 }
@@ -287,17 +261,12 @@ impl JobRow {
         ensures { IfOk result (λ copy. copy ≡ self.now) }
     {
         Ok(JobRow {
-            number: self.number,
-            group: self.group,
-            checking: self.checking,
             owner: self.owner.copy()?,
-            priority: self.priority,
             want: self.want.copy()?,
             role: copy_name(&self.role)?,
-            state: self.state,
-            outcome: self.outcome,
             board: copy_name(&self.board)?,
             body: self.body.copy()?,
+            ..*self
         })
     }
 }
@@ -308,13 +277,10 @@ impl ResRow {
         ensures { IfOk result (λ copy. copy ≡ self.now) }
     {
         Ok(ResRow {
-            number: self.number,
             owner: self.owner.copy()?,
-            priority: self.priority,
             want: self.want.copy()?,
-            state: self.state,
-            deadline: self.deadline,
             board: copy_name(&self.board)?,
+            ..*self
         })
     }
 }

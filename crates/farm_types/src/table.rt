@@ -107,16 +107,9 @@ pub fn upsert<R: Keyed + Drop>(rows: &mut Vec<R>, row: R) -> Result<(), AllocErr
     ensures rows { OnOk result (rows.new.items ≡ put R.cmp rows.old.items row) }
     ensures sorted { OnOk result (IsStrictlySortedBy R.cmp rows.new.items) }
 {
-    let found = rows.binary_search_by(
-        |r: &R| -> Ordering
-            ensures { result ≡ R.cmp r.now row }
-        { r.key_cmp(&row) },
-    );
-    match found {
-        Ok(at) => {
-            rows[at] = row;
-            Ok(())
-        }
-        Err(at) => Ok(rows.insert(at, row)?),
+    match rows.binary_search_by(|r| r.key_cmp(&row)) {
+        Ok(at) => rows[at] = row,
+        Err(at) => rows.insert(at, row)?,
     }
+    Ok(())
 }

@@ -1,10 +1,10 @@
 //! Tags, as labgrid's places have them: a key alone, or a key and a value.
-ghost use Rattle.std.specs.Prelude.{◌≡◌, ◌↔◌, ◌==◌, ◌&&◌, ◌+◌, ◌++◌, ◌∷◌, [], length, take, drop};
-ghost use Rattle.std.specs.Prelude.{IsTrue, IfOk, IfErr, OnOk, Ok, Err, codes, not, map};
-ghost use Rattle.std.specs.Prelude.{MatchResult, ◌<◌, ◌≤◌, if◌then◌else◌, nat_lt, string_bytes};
-ghost use Rattle.std.specs.List.{list_any, list_all, position, slice_split};
+ghost use Rattle.std.specs.Prelude.{◌≡◌, ◌↔◌, ◌==◌, ◌&&◌, ◌+◌, ◌∷◌, [], length, take, drop};
+ghost use Rattle.std.specs.Prelude.{IsTrue, IfOk, Ok, Err, codes, map};
+ghost use Rattle.std.specs.Prelude.{◌<◌, ◌≤◌, if◌then◌else◌, string_bytes};
+ghost use Rattle.std.specs.List.{list_any, position};
 ghost use Rattle.std.specs.Str.{bytes_eq};
-ghost use Rattle.farm_types.specs.Limits.{longest_tag_key, longest_tag_value, most_tags};
+ghost use Rattle.farm_types.specs.Limits.{longest_tag_key, longest_tag_value};
 ghost use Rattle.farm_types.specs.Words.{IsTag, IsTags, is_word, is_tag, is_tags, tag_key, rise};
 ghost use Rattle.farm_types.specs.Words.{text_cmp, word_or};
 ghost use Rattle.farm_types.specs.Tags.{tags_text, tags_read, tags_of, tags_among, tag_parts};
@@ -16,7 +16,7 @@ use crate::fault::WordFault;
 use crate::limits::{LONGEST_TAG_KEY, LONGEST_TAG_VALUE, MOST_TAGS};
 use crate::refusal::{BAD_COUNT, BAD_TAG, Refusal};
 use crate::table::{Keyed, is_sorted, upsert};
-use crate::words::{is_word, owned_text};
+use crate::words::is_word;
 use std::alloc::{AllocError, Global};
 use std::cmp::Ordering;
 use std::fmt;
@@ -28,17 +28,6 @@ fn key_end(text: &[u8]) -> Option<usize>
     ensures { result ≡ position (λ byte. byte == 61) text.now }
 {
     text.iter().position(|byte| *byte == b'=')
-}
-
-/// What stands before the first '='.
-#[tactic(auto, using(crate::proofs::TagLemmas::key_at, crate::proofs::TagLemmas::key_whole))]
-fn key_of(text: &[u8]) -> &[u8]
-    ensures { result.now ≡ tag_key text.now }
-{
-    match key_end(text) {
-        None => text,
-        Some(end) => &text[..end],
-    }
 }
 
 /// Whether what stands before and behind a place is a key and a value.
@@ -86,12 +75,9 @@ impl Tag {
             (word_or (is_tag text.now) text.now BAD_TAG) }
         ensures memory { result ≡ Err WordFault.NoMemory → IsTrue (is_tag text.now) }
     {
-        if !is_tag(text) {
-            return Err(WordFault::Refused(Refusal { code: BAD_TAG }));
-        }
-        Ok(Tag {
-            text: owned_text(alloc, text)?,
-        })
+        Refusal::unless(is_tag(text), BAD_TAG)?;
+        let text = String::from_str(alloc, std::str::from_utf8(text).unwrap())?;
+        Ok(Tag { text })
     }
 
     /// The bytes of the tag.
@@ -102,11 +88,13 @@ impl Tag {
         self.text.as_str()
     }
 
-    /// The bytes of its key.
+    /// The bytes of its key: what stands before the first '='.
+    #[tactic(auto, using(crate::proofs::TagLemmas::key_at, crate::proofs::TagLemmas::key_whole))]
     pub fn key(&self) -> &[u8]
         ensures { result.now ≡ tag_key self.now }
     {
-        key_of(self.text.as_bytes())
+        let text = self.text.as_bytes();
+        &text[..key_end(text).unwrap_or(text.len())]
     }
 
     /// Whether its key is `name`, which stands for the name that each board carries by itself.
@@ -120,9 +108,8 @@ impl Tag {
     pub fn copy(&self) -> Result<Tag, AllocError>
         ensures same { IfOk result (λ tag. tag ≡ self.now) }
     {
-        Ok(Tag {
-            text: self.text.clone()?,
-        })
+        let text = self.text.clone()?;
+        Ok(Tag { text })
     }
 }
 
@@ -140,14 +127,10 @@ impl Keyed for Tag {
 }
 
 /// A comma before each tag but the first.
-fn separate(text: &mut String, at: usize) -> Result<(), AllocError>
-    ensures { OnOk result (string_bytes text.new ≡ (if at == 0 then string_bytes text.old
-        else string_bytes text.old ++ 44 ∷ [])) }
+fn comma_before(at: usize) -> &'static str
+    ensures { result.now ≡ (if at == 0 then [] else 44 ∷ []) }
 {
-    if at > 0 {
-        text.push(',')?;
-    }
-    Ok(())
+    if at > 0 { "," } else { "" }
 }
 
 /// What stands between the commas; nothing in an empty text.
@@ -157,13 +140,6 @@ fn parts_of(alloc: Global, text: &[u8]) -> Result<Vec<&[u8]>, AllocError>
     if text.is_empty() {
         return Ok(Vec::new(alloc));
     }
-    cut_at_commas(alloc, text)
-}
-
-fn cut_at_commas(alloc: Global, text: &[u8]) -> Result<Vec<&[u8]>, AllocError>
-    ensures { IfOk result (λ parts. map (λ part. part.now) parts.items ≡ slice_split
-        (λ byte. byte == 44) text.now) }
-{
     text.split(|byte| *byte == b',').collect(alloc)
 }
 
@@ -243,10 +219,7 @@ impl Tags {
         ensures items { result.now ≡ self.now }
         ensures tags { IsTags self.now }
     {
-        match &self.shared {
-            None => &[],
-            Some(tags) => tags.as_slice(),
-        }
+        self.shared.as_ref().map_or(&[], |tags| tags.as_slice())
     }
 
     /// No tags.
@@ -265,13 +238,10 @@ impl Tags {
         requires { IsTags items.items }
         ensures { IfOk result (λ tags. tags ≡ items.items) }
     {
-        if items.is_empty() {
-            return Ok(Tags::none(alloc));
-        }
-        Ok(Tags {
-            alloc,
-            shared: Some(Rc::new(alloc, items)?),
-        })
+        let shared = (!items.is_empty())
+            .then(|| Rc::new(alloc, items))
+            .transpose()?;
+        Ok(Tags { alloc, shared })
     }
 
     /// Whether there are none.
@@ -308,9 +278,7 @@ impl Tags {
         ensures reads { OrNoMemory refused_code (λ tags. tags) result (tags_of tags.now) }
         ensures memory { result ≡ Err WordFault.NoMemory → length tags.now ≤ MOST_TAGS }
     {
-        if tags.len() > MOST_TAGS {
-            return Err(WordFault::Refused(Refusal { code: BAD_COUNT }));
-        }
+        Refusal::unless(tags.len() <= MOST_TAGS, BAD_COUNT)?;
         let mut items = Vec::with_capacity(alloc, tags.len())?;
         for tag in tags {
             let _tag = tag.as_str();
@@ -326,9 +294,7 @@ impl Tags {
         ensures { OrNoMemory refused_code (λ tags. tags) result
             (tags_among (map (λ text. text.now) texts.now)) }
     {
-        if texts.len() > MOST_TAGS {
-            return Err(WordFault::Refused(Refusal { code: BAD_COUNT }));
-        }
+        Refusal::unless(texts.len() <= MOST_TAGS, BAD_COUNT)?;
         Tags::of(alloc, tags_in(alloc, texts)?.as_slice())
     }
 
@@ -339,16 +305,9 @@ impl Tags {
         ensures { OrNoMemory refused_code (λ tags. tags) result (tags_read text.now) }
     {
         let parts = parts_of(alloc, text)?;
-        if parts.len() > MOST_TAGS {
-            return Err(WordFault::Refused(Refusal { code: BAD_COUNT }));
-        }
-        let items = match tags_in(alloc, parts.as_slice()) {
-            Ok(items) => items,
-            Err(fault) => return Err(fault),
-        };
-        if !rise(items.as_slice()) {
-            return Err(WordFault::Refused(Refusal { code: BAD_TAG }));
-        }
+        Refusal::unless(parts.len() <= MOST_TAGS, BAD_COUNT)?;
+        let items = tags_in(alloc, parts.as_slice())?;
+        Refusal::unless(rise(items.as_slice()), BAD_TAG)?;
         Ok(Tags::sharing(alloc, items)?)
     }
 
@@ -358,7 +317,7 @@ impl Tags {
     {
         let mut text = String::new(self.alloc);
         for (at, tag) in self.items().iter().enumerate() {
-            separate(&mut text, at)?;
+            text.push_str(comma_before(at))?;
             text.push_str(tag.as_str())?;
         }
         Ok(text)
@@ -368,12 +327,7 @@ impl Tags {
     pub fn copy(&self) -> Result<Tags, AllocError>
         ensures same { IfOk result (λ tags. tags ≡ self.now) }
     {
-        match &self.shared {
-            None => Ok(Tags::none(self.alloc)),
-            Some(tags) => Ok(Tags {
-                alloc: self.alloc,
-                shared: Some(tags.clone()?),
-            }),
-        }
+        let shared = self.shared.clone()?;
+        Ok(Tags { shared, ..*self })
     }
 }

@@ -1,16 +1,17 @@
-//! Words: texts that keep a rule of their own.
-ghost use Rattle.std.specs.Prelude.{◌≡◌, ◌↔◌, [], length, IsTrue, IfOk, Err};
+//! Words: texts and numbers that keep a rule of their own.
+ghost use Rattle.std.specs.Prelude.{◌≡◌, ◌↔◌, ◌≤◌, ◌<◌, [], length, IsTrue, IfOk, Err, MatchResult};
 ghost use Rattle.std.specs.List.{list_all};
-ghost use Rattle.std.specs.Str.{IsUtf8, bytes_eq, is_utf8};
+ghost use Rattle.std.specs.Str.{bytes_eq};
 ghost use Rattle.std.specs.String.{string_bytes};
 ghost use Rattle.farm_types.specs.Words.{IsText, is_word, is_name_byte, text_cmp};
 ghost use Rattle.farm_types.specs.Words.{word_or};
 ghost use Rattle.farm_types.specs.Reads.{OrNoMemory, refused_code};
+ghost use Rattle.farm_types.specs.Limits.{highest_priority, is_priority};
+ghost use Rattle.farm_types.specs.Called.{medium_priority, priority_called};
 
 use crate::fault::WordFault;
-use crate::limits::{LONGEST_KEY, LONGEST_NAME};
-pub use crate::priority::Priority;
-use crate::refusal::{BAD_KEY, BAD_NAME, Refusal};
+use crate::limits::{HIGHEST_PRIORITY, LONGEST_KEY, LONGEST_NAME};
+use crate::refusal::{BAD_KEY, BAD_NAME, BAD_PRIORITY, Refusal};
 pub use crate::tags::{Tag, Tags};
 use arrayvec::ArrayString;
 use std::alloc::{AllocError, Global};
@@ -21,12 +22,7 @@ use std::marker::Model;
 pub fn is_name_byte(byte: u8) -> bool
     ensures { result ≡ is_name_byte byte }
 {
-    (b'a' <= byte && byte <= b'z')
-        || (b'A' <= byte && byte <= b'Z')
-        || (b'0' <= byte && byte <= b'9')
-        || byte == b'-'
-        || byte == b'_'
-        || byte == b'.'
+    matches!(byte, b'a'..=b'z' | b'A'..=b'Z' | b'0'..=b'9' | b'-' | b'_' | b'.')
 }
 
 fn are_name_bytes(text: &[u8]) -> bool
@@ -41,17 +37,6 @@ pub fn is_word(most: usize, text: &[u8]) -> bool
     ensures { result ≡ is_word most text.now }
 {
     1 <= text.len() && text.len() <= most && are_name_bytes(text)
-}
-
-/// The text of bytes that are known to be UTF-8, in memory of its own.
-pub fn owned_text(alloc: Global, bytes: &[u8]) -> Result<String, AllocError>
-    requires { IsUtf8 bytes.now }
-    ensures { IfOk result (λ text. string_bytes text ≡ bytes.now) }
-{
-    match std::str::from_utf8(bytes) {
-        Ok(text) => String::from_str(alloc, text),
-        Err(_) => unreachable!(),
-    }
 }
 
 /// A word of at most `MOST` bytes: letters, digits, `-`, `_` or `.`. A text that is none is refused
@@ -86,10 +71,7 @@ impl<const MOST: usize, const CODE: u16> Word<MOST, CODE> {
         ensures { result ≡ text.now }
     {
         let mut word = ArrayString::new();
-        match std::str::from_utf8(text) {
-            Ok(text) => word.push_str(text),
-            Err(_) => unreachable!(),
-        }
+        word.push_str(std::str::from_utf8(text).unwrap());
         Word { text: word }
     }
 
@@ -99,9 +81,7 @@ impl<const MOST: usize, const CODE: u16> Word<MOST, CODE> {
             (word_or (is_word MOST text.now) text.now CODE) }
         ensures memory { result ≡ Err WordFault.NoMemory → IsTrue (is_word MOST text.now) }
     {
-        if !is_word(MOST, text) {
-            return Err(WordFault::Refused(Refusal { code: CODE }));
-        }
+        Refusal::unless(is_word(MOST, text), CODE)?;
         Ok(Word::of(text))
     }
 
@@ -168,9 +148,8 @@ impl Body {
     pub fn none(alloc: Global) -> Body
         ensures { result ≡ [] }
     {
-        Body {
-            text: String::new(alloc),
-        }
+        let text = String::new(alloc);
+        Body { text }
     }
 
     /// The bytes of the text.
@@ -199,8 +178,72 @@ impl Body {
     pub fn copy(&self) -> Result<Body, AllocError>
         ensures same { IfOk result (λ body. body ≡ self.now) }
     {
-        Ok(Body {
-            text: self.text.clone()?,
-        })
+        let text = self.text.clone()?;
+        Ok(Body { text })
+    }
+}
+
+/// The priorities that LAVA calls low, medium and high. Medium is also what an absent one means.
+const LOW: u64 = 0;
+
+const MEDIUM: u64 = 50;
+
+const HIGH: u64 = HIGHEST_PRIORITY;
+
+/// A priority from 0 to 100; the higher goes first.
+#[derive(Clone, Copy, Debug, PartialEq, Eq)]
+pub struct Priority {
+    number: u64,
+}
+
+impl Model for Priority {
+    ghost use Rattle.std.specs.Prelude.{ℕ, IsTrue};
+    ghost use Rattle.farm_types.specs.Limits.{is_priority};
+
+    ghost Value = { ℕ };
+
+    ghost view = { λ p. p.number };
+
+    ghost invariant = { λ p. IsTrue (is_priority p.number) };
+
+    ghost inverse = { λ n. record { number = n } };
+}
+
+impl Priority {
+    /// The priority of that number; refused above 100.
+    pub fn of(number: u64) -> Result<Priority, Refusal>
+        ensures { MatchResult result (λ p. (p ≡ number) × (number ≤ highest_priority))
+            (λ r. (r.code ≡ BAD_PRIORITY) × (highest_priority < number)) }
+    {
+        Refusal::unless(number <= HIGHEST_PRIORITY, BAD_PRIORITY)?;
+        Ok(Priority { number })
+    }
+
+    /// The priority of a claim that names none.
+    pub fn medium() -> Priority
+        ensures { result ≡ medium_priority }
+    {
+        Priority { number: MEDIUM }
+    }
+
+    /// The priority that one of LAVA's words `low`, `medium` and `high` names; none for other
+    /// words.
+    pub fn called(text: &str) -> Option<Priority>
+        ensures { result ≡ priority_called text.now }
+    {
+        match text {
+            "low" => Some(Priority { number: LOW }),
+            "medium" => Some(Priority::medium()),
+            "high" => Some(Priority { number: HIGH }),
+            _ => None,
+        }
+    }
+
+    /// The number.
+    pub fn get(self) -> u64
+        ensures number { result ≡ self }
+        ensures most { IsTrue (is_priority self) }
+    {
+        self.number
     }
 }

@@ -1,4 +1,5 @@
 use Rattle.std.proofs.Common.{sym, arith}
+use Rattle.std.proofs.lemmas.Bool.Decides.{nat_tests}
 use Rattle.farm_types.proofs.SortedTags.{none_put, one_put, tags_from}
 use Rattle.farm_types.proofs.tags.Tags.of.Goals as goal
 
@@ -14,4 +15,4 @@ loop-tag-preserved c =
     record { put = more.0; sorted = c.in_ok-upsert.ensures.sorted; each = more.1; few = more.2 }
 
 pub sharing-requires : goal.sharing-requires
-sharing-requires c = tags_from c.loop-tag.items.items (omega arith) c.loop-tag.invariant.each c.loop-tag.invariant.sorted
+sharing-requires c = tags_from c.loop-tag.items.items (grind (arith, nat_tests, c.in_ok-unless.ensures)) c.loop-tag.invariant.each c.loop-tag.invariant.sorted

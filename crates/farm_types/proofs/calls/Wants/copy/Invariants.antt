@@ -1,5 +1,5 @@
 use Rattle.std.proofs.Common.{◌≡◌, take}
-use Rattle.farm_types.proofs.wants.Wants.copy.Given as goal
+use Rattle.farm_types.proofs.calls.Wants.copy.Given as goal
 
 -- the first ones are copied
 abbrev pub invariant-loop-want : goal.invariant-loop-want
