@@ -113,11 +113,6 @@ module _ {R K : Type 0} (key : R → K) (c : K → K → Ordering) (total : IsTo
   found_place rows sorted (Ok i) within is = (within, found_at key c total eq ties k rows sorted (Ok i) within is)
   found_place rows sorted (Err i) within is = found_at key c total eq ties k rows sorted (Err i) within is
 
-  -- the row at a place has the key
-  pub found_here : (rows : List R) (i : ℕ) (row : R) → IsStrictlySortedBy (by_key key c) rows → i < length rows → row ≡ get_or rows i row → is_eq (c (key row) k) ≡ true → IsFoundAt rows (find (λ r. eq (key r) k) rows) (Ok i)
-  found_here rows i row sorted within is tie =
-      found_place rows sorted (Ok i) within (λ d. ap (λ r. c (key r) k) (at_any rows i row d within is) ∙ is_eq-Equal _ tie)
-
   -- the row that a search found is the one that changes
   pub found_changes : (f : R → R) (rows new : List R) (i : ℕ) → IsStrictlySortedBy (by_key key c) rows → i < length rows → ((d : R) → find (λ r. eq (key r) k) rows ≡ Some (get_or rows i d))
       → ((d : R) → new ≡ set rows i (f (get_or rows i d))) → new ≡ change_where (λ r. eq (key r) k) f rows

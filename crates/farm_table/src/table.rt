@@ -11,9 +11,7 @@ ghost use Rattle.farm_table.specs.Tabled.{by_key, put_in, IsFoundAt, IsPartly, K
 
 use crate::row::{Edit, Row};
 use std::alloc::{AllocError, Global};
-use std::cmp::Ordering;
 use std::marker::Model;
-use std::mem::replace;
 
 /// Rows in strict order of their keys, and the log: each row that was put or changed since the log
 /// began, as it then was.
@@ -40,12 +38,10 @@ fn put_in<R: Drop>(rows: &mut Vec<R>, place: Result<usize, usize>, row: R) -> Re
     ensures stays { OnErr result (rows.new.items ≡ rows.old.items) }
 {
     match place {
-        Ok(at) => {
-            rows[at] = row;
-            Ok(())
-        }
-        Err(at) => Ok(rows.insert(at, row)?),
+        Ok(at) => rows[at] = row,
+        Err(at) => rows.insert(at, row)?,
     }
+    Ok(())
 }
 
 impl<R: Row + Drop> Table<R> {
@@ -53,10 +49,7 @@ impl<R: Row + Drop> Table<R> {
     pub fn new(alloc: Global) -> Table<R>
         ensures { result ≡ record { rows = []; log = [] } }
     {
-        Table {
-            rows: Vec::new(alloc),
-            log: Vec::new(alloc),
-        }
+        Table::of(Vec::new(alloc))
     }
 
     /// The table of rows that stand in order.
@@ -65,11 +58,8 @@ impl<R: Row + Drop> Table<R> {
         requires fit { AllByRecursion R.Fits rows.items }
         ensures { result ≡ record { rows = rows.items; log = [] } }
     {
-        let alloc = *rows.allocator();
-        Table {
-            rows,
-            log: Vec::new(alloc),
-        }
+        let log = Vec::new(*rows.allocator());
+        Table { rows, log }
     }
 
     /// Makes room in the log for so many rows more, so that it isn't moved as they come.
@@ -118,11 +108,7 @@ impl<R: Row + Drop> Table<R> {
             result }
         ensures sorted { IsStrictlySortedBy (by_key R.key R.key_cmp) self.now.rows }
     {
-        self.rows.binary_search_by(
-            |r: &R| -> Ordering
-                ensures { result ≡ R.key_cmp (R.key r.now) key.entry.now }
-            { R::order(r.key(), key) },
-        )
+        self.rows.binary_search_by(|row| R::order(row.key(), key))
     }
 
     /// The row with that key, by binary search.
@@ -130,10 +116,8 @@ impl<R: Row + Drop> Table<R> {
         ensures found { option_copied result ≡ find (λ r. R.same (R.key r) key.now) self.now.rows }
         ensures fit { IfSome result (λ r. R.Fits r.now) }
     {
-        match self.place_of(key) {
-            Ok(at) => Some(&self.rows[at]),
-            Err(_) => None,
-        }
+        let at = self.place_of(key).ok()?;
+        Some(&self.rows[at])
     }
 
     /// Puts a row where a search for its key ended: in the place of the one with its key, or between
@@ -242,6 +226,6 @@ impl<R: Row + Drop> Table<R> {
         ensures rests { self.new ≡ record { rows = self.old.rows; log = [] } }
     {
         let none = Vec::new(*self.allocator());
-        replace(&mut self.log, none)
+        std::mem::replace(&mut self.log, none)
     }
 }
