@@ -8,18 +8,14 @@
 //! the code's numbers beside theirs.
 #![tactic(auto)]
 
-mod boards;
-mod claims;
 mod columns;
 mod fault;
 mod laws;
 mod moment;
-mod reservations;
+mod reports;
 
 // The reports.
-pub use boards::boards_text;
-pub use claims::{claims_text, queue_text};
-pub use reservations::reservations_text;
+pub use reports::{boards_text, claims_text, queue_text, reservations_text};
 
 // The offset from UTC at which moments show.
 pub use jiff::tz::Offset;

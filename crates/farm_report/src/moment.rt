@@ -37,9 +37,7 @@ pub(crate) fn moment_text(alloc: Global, moment: u64, zone: Offset) -> Result<St
     if moment > LAST_SECOND {
         return Err(ReportFault::BadMoment);
     }
-    let Ok(instant) = Timestamp::from_second(moment as i64) else {
-        return Err(ReportFault::BadMoment);
-    };
+    let instant = Timestamp::from_second(moment as i64).unwrap();
     let civil = zone.to_datetime(instant);
     let (date, time) = (civil.date(), civil.time());
     Ok(format!(in alloc; "{date} {time}")?)

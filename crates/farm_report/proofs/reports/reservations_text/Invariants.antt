@@ -1,7 +1,7 @@
 -- The text so far has the lines of the reservations so far.
 use Rattle.std.proofs.Common.{string_bytes, take}
 use Rattle.farm_report.specs.Lines.{AreLines, IsReservationLine}
-use Rattle.farm_report.proofs.reservations.reservation_lines.Given as goal
+use Rattle.farm_report.proofs.reports.reservations_text.Given as goal
 
 abbrev pub invariant-loop-row : goal.invariant-loop-row
-invariant-loop-row l = AreLines (IsReservationLine l.zone.seconds) (take l.row-index l.rows) (string_bytes l.text)
+invariant-loop-row l = AreLines (IsReservationLine l.zone.seconds) (take l.row-index l.row-items) (string_bytes l.text)
