@@ -5,7 +5,6 @@
 #![tactic(auto)]
 
 mod row;
-mod rows;
 mod table;
 
 // Rows in strict order of their keys, and the log of those that changed.

@@ -66,8 +66,7 @@ impl<R: Row + Drop> Table<R> {
     pub fn reserve(&mut self, additional: usize) -> Result<(), AllocError>
         ensures { self.new ≡ self.old }
     {
-        self.log.reserve(additional)?;
-        Ok(())
+        self.log.reserve(additional)
     }
 
     /// The rows in order of their keys.
